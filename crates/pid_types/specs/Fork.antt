@@ -1,0 +1,77 @@
+-- Fork: fork(2), and clone(2) with CLONE_NEWPID.
+use Rattle.std.specs.Prelude.{ℕ, ◌+◌, Bool, true, false, ◌&&◌, not, ◌==◌, nat_lt, nat_le, List, [], ◌∷◌, ◌++◌, map, reverse, Some, if◌then◌else◌, is_none, unwrap_or, find}
+use Rattle.std.specs.Option.{option_map_or}
+use Rattle.pid_types.specs.declared.plain.Row.{Row}
+use Rattle.pid_types.specs.declared.plain.Space.{Space}
+use Rattle.pid_types.specs.declared.plain.Life.TheVariants.{Live}
+use Rattle.pid_types.specs.declared.reply.Reply.TheVariants.{Forked}
+use Rattle.pid_types.specs.declared.reply.Refusal.TheVariants.{TooDeep, Elsewhere, SpaceFallen, NoNumber, PidsLimit}
+use Rattle.pid_types.specs.Chains.{contains}
+use Rattle.pid_types.specs.State.{State}
+use Rattle.pid_types.specs.Names.{space_at, path_up, level, root_number, number_or_zero}
+use Rattle.pid_types.specs.Draw.{draw}
+use Rattle.pid_types.specs.Controls.{passed_limit}
+use Rattle.pid_types.specs.Outcome.{Outcome, changed, refuse_if, unless_found, by_caller}
+
+-- the rows with one more, which stands by its root number
+abbrev pub insert_row : Row → List Row → List Row
+insert_row new [] = new ∷ []
+insert_row new (row ∷ rows) = if nat_lt (root_number new.name) (root_number row.name) then new ∷ row ∷ rows else row ∷ insert_row new rows
+
+-- the namespaces with one more under the parent
+abbrev pub with_space : State → ℕ → ℕ → State
+with_space state parent id = record state { spaces = state.spaces ++ record { id = id; parent = Some parent; cursor = 0; fallen = false } ∷ [] }
+
+-- the number that the namespace gives next, where it has one
+unfoldable pub drawn : State → ℕ → ℕ
+drawn state s = unwrap_or (draw state s) 0
+
+-- the namespace with its cursor behind the number that it gave, if it is on the path
+abbrev pub moved_cursor : State → List ℕ → Space → Space
+moved_cursor state path s = record s { cursor = if contains path s.id then drawn state s.id + 1 else s.cursor }
+
+-- the namespaces with the cursors of the path behind the numbers drawn
+unfoldable pub with_cursors : State → List ℕ → List Space
+with_cursors state path = map (moved_cursor state path) state.spaces
+
+-- the caller's child in the namespace t: it has the caller's group, session and control group, and one number for each namespace
+-- from t to the root
+abbrev pub child_of : State → Row → ℕ → Row
+child_of state caller t = record {
+  name = record { space = t; numbers = record { items = reverse (map (drawn state) (path_up state.spaces t)) } };
+  parent = Some caller.name;
+  group = caller.group;
+  session = caller.session;
+  executed = false;
+  life = Live;
+  home = caller.home;
+  children_space = t;
+  subreaper = false;
+}
+
+-- whether the namespace has fallen, or was dropped since
+abbrev pub is_gone : State → ℕ → Bool
+is_gone state s = option_map_or (λ t. t.fallen) (space_at state.spaces s) true
+
+-- the state with the child, whose numbers were drawn along the path
+abbrev pub with_child : State → Row → List ℕ → State
+with_child state child path = record state { rows = insert_row child state.rows; spaces = with_cursors state path }
+
+-- a child in the namespace t, or the first refusal for want of a number or of room under a limit
+unfoldable pub fork_into : State → State → Row → ℕ → Outcome
+fork_into old state caller t =
+    let path = path_up state.spaces t in
+    let child = child_of state caller t in
+    unless_found old (find (λ s. is_none (draw state s)) path) NoNumber
+    (unless_found old (passed_limit state caller.home) PidsLimit
+    (changed (with_child state child path) (Forked (number_or_zero state.spaces child.name caller.name.space) (root_number child.name))))
+
+-- a child in the namespace for the caller's children, or in a new one below it, in which it is the init
+unfoldable pub fork : State → ℕ → ℕ → Bool → Outcome
+fork state stamp n new_space =
+    by_caller state n (λ caller.
+    let p = caller.children_space in
+    refuse_if state (new_space && nat_le 32 (level state.spaces p)) TooDeep
+    (refuse_if state (new_space && not (p == caller.name.space)) Elsewhere
+    (refuse_if state (is_gone state p) SpaceFallen
+    (if new_space then fork_into state (with_space state p stamp) caller stamp else fork_into state state caller p))))

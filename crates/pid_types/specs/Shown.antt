@@ -1,0 +1,31 @@
+-- What a snapshot shows of a state.
+use Rattle.std.specs.Prelude.{◌≡◌, ℕ, map}
+use Rattle.pid_types.specs.declared.plain.Control.{Control}
+use Rattle.pid_types.specs.declared.plain.ControlRow.{ControlRow}
+use Rattle.pid_types.specs.declared.plain.Plain.{Plain}
+use Rattle.pid_types.specs.State.{State}
+use Rattle.pid_types.specs.Controls.{count}
+
+-- the control group with its count
+abbrev pub with_count : State → Control → ControlRow
+with_count state c = record { id = c.id; parent = c.parent; limit = c.limit; count = count state c.id }
+
+-- the snapshot shows the state: its tasks, its namespaces, and its control groups with their counts
+pub record Shows (state : State) (plain : Plain) : Type 0 where
+  pub pid_max : plain.pid_max ≡ state.pid_max
+  pub rows : plain.rows.items ≡ state.rows
+  pub spaces : plain.spaces.items ≡ state.spaces
+  pub controls : plain.controls.items ≡ map (with_count state) state.controls
+
+-- the control group without its count
+abbrev pub without_count : ControlRow → Control
+without_count c = record { id = c.id; parent = c.parent; limit = c.limit }
+
+-- the state that the snapshot shows
+abbrev pub state_of : Plain → State
+state_of plain = record {
+  rows = plain.rows.items;
+  spaces = plain.spaces.items;
+  controls = map without_count plain.controls.items;
+  pid_max = plain.pid_max;
+}

@@ -1,0 +1,76 @@
+//! What may be asked of the table.
+
+/// The children that a [`Call::Wait`] selects, after `waitpid(2)`.
+#[derive(Clone, Copy, Debug, PartialEq, Eq, Hash)]
+pub enum Which {
+    /// Any child (`pid` -1 of `waitpid`).
+    Any,
+    /// The child with this number in the caller's namespace. 0 matches no child.
+    Pid(u32),
+    /// The children in the caller's own process group (`pid` 0 of `waitpid`).
+    OwnGroup,
+    /// The children in the process group with this number in the caller's namespace. 0 matches no
+    /// child.
+    Group(u32),
+}
+
+/// What a number may be in use as.
+#[derive(Clone, Copy, Debug, PartialEq, Eq, Hash)]
+pub enum Kind {
+    /// As the number of a task, zombies among them.
+    Task,
+    /// As the number of a process group.
+    Group,
+    /// As the number of a session.
+    Session,
+}
+
+/// One call.
+///
+/// `caller`, and the `task` of [`Call::Move`], are root numbers and must name a live task. All other
+/// process numbers are those of the caller's namespace. Namespaces and control groups go by their
+/// ids, of which 0 is the root's.
+#[derive(Clone, Copy, Debug, PartialEq, Eq, Hash)]
+pub enum Call {
+    /// `fork(2)`; with `new_space`, `clone(2)` with `CLONE_NEWPID`.
+    Fork { caller: u32, new_space: bool },
+    /// `getpid(2)`.
+    GetPid { caller: u32 },
+    /// The target's numbers from the caller's namespace inwards: `NSpid` of `proc_pid_status(5)`.
+    /// A `target` of 0 names nobody.
+    NsPid { caller: u32, target: u32 },
+    /// `execve(2)`, as far as `setpgid(2)` minds it.
+    Exec { caller: u32 },
+    /// `_exit(2)`.
+    Exit { caller: u32, status: u8 },
+    /// `waitpid(2)` with `WNOHANG`.
+    Wait { caller: u32, which: Which },
+    /// `getppid(2)`.
+    GetPpid { caller: u32 },
+    /// `setpgid(2)`. A `pid` of 0 is the caller, a negative one names nobody; a `pgid` of 0 is the
+    /// target.
+    SetPgid { caller: u32, pid: i32, pgid: i32 },
+    /// `setsid(2)`.
+    SetSid { caller: u32 },
+    /// A new control group below `parent`: `mkdir(2)` in a control group file system.
+    MakeControl { parent: u64 },
+    /// `rmdir(2)` of a control group.
+    RemoveControl { id: u64 },
+    /// A write to `pids.max`. No limit is `max`.
+    SetLimit { id: u64, limit: Option<u32> },
+    /// A write of the task to `cgroup.procs`.
+    Move { task: u32, id: u64 },
+    /// A read of `pids.current`.
+    Count { id: u64 },
+    /// `getpgid(2)`. A `pid` of 0 is the caller.
+    GetPgid { caller: u32, pid: u32 },
+    /// `getsid(2)`. A `pid` of 0 is the caller.
+    GetSid { caller: u32, pid: u32 },
+    /// The least number at or above `from` that is in use as the kind, in the caller's namespace.
+    Next { caller: u32, kind: Kind, from: u32 },
+    /// `setns(2)` with `CLONE_NEWPID`: later children go into the target's namespace. A `target` of
+    /// 0 names nobody.
+    Join { caller: u32, target: u32 },
+    /// `prctl(2)` with `PR_SET_CHILD_SUBREAPER`.
+    SetSubreaper { caller: u32, on: bool },
+}

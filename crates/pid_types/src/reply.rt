@@ -1,0 +1,82 @@
+//! What the table answers.
+
+use crate::plain::Ended;
+use arrayvec::ArrayVec;
+
+/// Why a call is refused. `S` and `C` are the ids of the namespace and the control group that
+/// refused it.
+#[derive(Clone, Copy, Debug, PartialEq, Eq, Hash)]
+pub enum Refusal {
+    /// No live task has the caller's root number.
+    NoCaller,
+    /// No task is there, or none that the call may be made on.
+    NoTask,
+    /// No child matches.
+    NoChild,
+    /// The namespace has no free number.
+    NoNumber(u64),
+    /// The control group has as many tasks as its limit allows.
+    PidsLimit(u64),
+    /// The namespace for the caller's children has fallen.
+    SpaceFallen,
+    /// A namespace below one of level 32, the deepest.
+    TooDeep,
+    /// A new namespace from a caller whose children go into a namespace that is not its own.
+    Elsewhere,
+    /// A negative process group.
+    BadGroup,
+    /// A child that is in another session.
+    OtherSession,
+    /// A session leader, or a process group leader.
+    IsLeader,
+    /// No such process group in the caller's session.
+    NoGroup,
+    /// A child that has executed.
+    Executed,
+    /// The exit of the root namespace's init.
+    RootInit,
+    /// No control group has the id.
+    NoControl,
+    /// A control group with live tasks or children.
+    ControlBusy,
+    /// The root control group, which has no limit and stays.
+    RootControl,
+    /// A limit above 4194304.
+    BadLimit,
+    /// A control group below one of level 64, the deepest.
+    ControlDepth,
+}
+
+/// The reply to a call. It owns no memory.
+#[derive(Clone, Debug, Drop, PartialEq, Eq)]
+pub enum Reply {
+    /// The new task's numbers in the caller's namespace and in the root.
+    Forked { child: u32, root: u32 },
+    /// The change was made.
+    Done,
+    /// A process number, 0 for one that the caller cannot see.
+    Number(u32),
+    /// A task's numbers from the caller's namespace inwards, outermost first.
+    Levels(ArrayVec<u32, 33>),
+    /// The ended child's number in the caller's namespace, and how it ended.
+    Reaped { child: u32, ended: Ended },
+    /// Children match, and none has ended.
+    NoneYet,
+    /// How many tasks the control group and those below it have.
+    Counted(u64),
+    /// The new control group's id.
+    Control(u64),
+    /// No number follows.
+    End,
+    /// The call was refused, and nothing has changed.
+    Refused(Refusal),
+}
+
+/// Why a call has no reply. Nothing has changed, and nothing is recorded.
+#[derive(Clone, Copy, Debug, PartialEq, Eq, Hash)]
+pub enum CallFault {
+    /// There was no memory for it.
+    NoMemory,
+    /// The stamps are used up: the call would need the stamp `u64::MAX`.
+    Spent,
+}
