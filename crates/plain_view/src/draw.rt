@@ -1,0 +1,104 @@
+//! Which numbers are in use, and which comes next.
+ghost use Rattle.std.specs.Prelude.{◌≡◌, ◌==◌, nat_lt, length, Some, None, if◌then◌else◌};
+ghost use Rattle.pid_types.specs.Chains.{contains};
+ghost use Rattle.pid_types.specs.Names.{taken};
+ghost use Rattle.std.specs.List.{list_any, list_all};
+ghost use Rattle.plain_view.specs.Uses.{uses_number, uses_none};
+ghost use Rattle.pid_types.specs.Draw.{least_free, restart as restart_of, draw as draw_of, cursor_of};
+ghost use Rattle.pid_types.specs.Outcome.{is_dead as is_dead_of};
+
+use crate::view::View;
+use pid_types::plain::{Row, Space};
+
+/// Where a draw starts again.
+fn restart(cursor: u32) -> u32
+    ensures { result ≡ restart_of cursor }
+{
+    if cursor > 300 { 300 } else { 1 }
+}
+
+impl View<'_> {
+    /// Whether the row's task, group or session has the number in the namespace.
+    fn uses_number(&self, row: &Row, space: u64, number: u32) -> bool
+        ensures { result ≡ uses_number self.now.spaces space number row.now }
+    {
+        self.is_numbered(&row.name, space, number)
+            || self.is_numbered(&row.group, space, number)
+            || self.is_numbered(&row.session, space, number)
+    }
+
+    /// Whether none of the row's task, group and session has a number in the namespace.
+    fn uses_none(&self, row: &Row, space: u64) -> bool
+        ensures { result ≡ uses_none self.now.spaces space row.now }
+    {
+        self.number(&row.name, space).is_none()
+            && self.number(&row.group, space).is_none()
+            && self.number(&row.session, space).is_none()
+    }
+
+    fn some_row_uses(&self, space: u64, number: u32) -> bool
+        ensures { result ≡ list_any (uses_number self.now.spaces space number) self.now.rows }
+    {
+        self.rows
+            .iter()
+            .any(|row| self.uses_number(row, space, number))
+    }
+
+    fn all_rows_use_none(&self, space: u64) -> bool
+        ensures { result ≡ list_all (uses_none self.now.spaces space) self.now.rows }
+    {
+        self.rows.iter().all(|row| self.uses_none(row, space))
+    }
+
+    /// Whether the number is in use in the namespace, as task, group or session.
+    pub fn is_taken(&self, space: u64, number: u32) -> bool
+        ensures { result ≡ contains (taken self.now space) number }
+    {
+        self.some_row_uses(space, number)
+    }
+
+    /// Whether no number is in use in the namespace.
+    pub fn is_unused(&self, space: u64) -> bool
+        ensures { result ≡ (length (taken self.now space) == 0) }
+    {
+        self.all_rows_use_none(space)
+    }
+
+    /// Whether the namespace has fallen and nothing has a number in it any more.
+    pub fn is_dead(&self, space: &Space) -> bool
+        ensures { result ≡ is_dead_of self.now space.now }
+    {
+        space.fallen && self.is_unused(space.id)
+    }
+
+    /// The least number from the given one on that is below the bound and not in use.
+    fn find_free(&self, space: u64, from: u32) -> Option<u32>
+        ensures { result ≡ (if nat_lt (least_free (taken self.now space) from) self.now.pid_max then Some (least_free (taken self.now space) from) else None) }
+    {
+        for number in from..self.pid_max {
+            if !self.is_taken(space, number) {
+                return Some(number);
+            }
+        }
+        None
+    }
+
+    /// The cursor of the namespace, 0 where there is none.
+    fn cursor(&self, space: u64) -> u32
+        ensures { result ≡ cursor_of self.now space }
+    {
+        self.find_space(space).map_or(0, |s| s.cursor)
+    }
+
+    /// The number that the namespace gives next.
+    pub fn draw(&self, space: u64) -> Option<u32>
+        ensures { result ≡ draw_of self.now space }
+    {
+        let cursor = self.cursor(space);
+        let low = restart(cursor);
+        match self.find_free(space, cursor.max(low)) {
+            Some(number) => Some(number),
+            None => self.find_free(space, low),
+        }
+    }
+}

@@ -1,0 +1,44 @@
+//! The tasks that a number names.
+ghost use Rattle.std.specs.Prelude.{◌≡◌, option_copied};
+ghost use Rattle.pid_types.specs.Names.{row_at as row_with, live_row as live_row_with, task_at as task_with, is_member as is_member_of};
+
+use crate::names::{is_live, root_number};
+use crate::view::View;
+use pid_types::plain::Row;
+
+impl View<'_> {
+    /// The task with the root number, zombies among them.
+    pub fn row_at(&self, number: u32) -> Option<&Row>
+        ensures { option_copied result ≡ row_with self.now.rows number }
+    {
+        self.rows
+            .iter()
+            .find(|row| root_number(&row.name) == number)
+    }
+
+    /// The live task with the root number.
+    pub fn live_row(&self, number: u32) -> Option<&Row>
+        ensures { option_copied result ≡ live_row_with self.now.rows number }
+    {
+        self.rows
+            .iter()
+            .find(|row| root_number(&row.name) == number && is_live(row))
+    }
+
+    /// The task with the number in the namespace, zombies among them.
+    #[tactic(auto, unfolding(pid_types::specs::Names::task_at))]
+    pub fn task_at(&self, space: u64, number: u32) -> Option<&Row>
+        ensures { option_copied result ≡ task_with self.now space number }
+    {
+        self.rows
+            .iter()
+            .find(|row| self.is_numbered(&row.name, space, number))
+    }
+
+    /// Whether the task is visible in the namespace.
+    pub fn is_member(&self, space: u64, row: &Row) -> bool
+        ensures { result ≡ is_member_of self.now.spaces space row.now }
+    {
+        self.number(&row.name, space).is_some()
+    }
+}
