@@ -6,6 +6,7 @@ use std::marker::Model;
 
 /// The plain lists of a table, and perhaps a namespace that is about to be added to them: a fork
 /// into a new namespace is planned before there is room for that namespace.
+#[derive(Drop)]
 pub struct View<'a> {
     pub(crate) rows: &'a [Row],
     pub(crate) spaces: &'a [Space],

@@ -1,0 +1,150 @@
+//! Changes of each element of a list.
+ghost use Rattle.std.specs.Prelude.{◌≡◌, map, Bool, true, false, if◌then◌else◌};
+ghost use Rattle.std.specs.Option.{option_map_or};
+ghost use Rattle.pid_types.specs.Changes.{executed_by, moved_home, rehomed, joined, marked, limited};
+ghost use Rattle.pid_types.specs.Groups.{in_group, leading};
+
+use pid_types::plain::{Control, Name, Row};
+use plain_view::names::{copy_name, is_same};
+
+/// A change of one element.
+pub trait Edit<T> {
+    // What the element becomes.
+    ghost gives: { Self → T → T };
+
+    fn edit(&self, element: &mut T)
+        ensures { element.new ≡ gives self.now element.old };
+}
+
+/// Changes each element.
+#[tactic(auto, using(std::proofs::lemmas::List::Edits::map_over_more))]
+pub fn edit_all<T, E: Edit<T>>(elements: &mut [T], change: &E)
+    ensures { elements.new ≡ map (E.gives change.now) elements.old }
+{
+    for element in elements.iter_mut() {
+        change.edit(element);
+    }
+}
+
+/// The named task has executed.
+pub struct Executes<'a>(pub &'a Name);
+
+impl Edit<Row> for Executes<'_> {
+    ghost gives = { λ e row. executed_by e.0.now row };
+
+    fn edit(&self, row: &mut Row) {
+        if is_same(&row.name, self.0) {
+            row.executed = true;
+        }
+    }
+}
+
+/// The named task goes into the group.
+pub struct EntersGroup<'a> {
+    pub name: &'a Name,
+    pub group: &'a Name,
+}
+
+impl Edit<Row> for EntersGroup<'_> {
+    ghost gives = { λ e row. in_group e.name.now e.group.now row };
+
+    fn edit(&self, row: &mut Row) {
+        if is_same(&row.name, self.name) {
+            row.group = copy_name(self.group);
+        }
+    }
+}
+
+/// The named task leads a new group and a new session.
+pub struct Leads<'a>(pub &'a Name);
+
+impl Edit<Row> for Leads<'_> {
+    ghost gives = { λ e row. leading e.0.now row };
+
+    fn edit(&self, row: &mut Row) {
+        if is_same(&row.name, self.0) {
+            row.group = copy_name(&row.name);
+            row.session = copy_name(&row.name);
+        }
+    }
+}
+
+/// The named task goes into the control group.
+pub struct MovesHome<'a> {
+    pub name: &'a Name,
+    pub home: u64,
+}
+
+impl Edit<Row> for MovesHome<'_> {
+    ghost gives = { λ e row. moved_home e.name.now e.home row };
+
+    fn edit(&self, row: &mut Row) {
+        if is_same(&row.name, self.name) {
+            row.home = self.home;
+        }
+    }
+}
+
+/// All tasks of one control group go into another.
+pub struct Rehomes {
+    pub from: u64,
+    pub to: u64,
+}
+
+impl Edit<Row> for Rehomes {
+    ghost gives = { λ e row. rehomed e.from e.to row };
+
+    fn edit(&self, row: &mut Row) {
+        if row.home == self.from {
+            row.home = self.to;
+        }
+    }
+}
+
+/// The named task's children go into the namespace.
+pub struct Joins<'a> {
+    pub name: &'a Name,
+    pub space: u64,
+}
+
+impl Edit<Row> for Joins<'_> {
+    ghost gives = { λ e row. joined e.name.now e.space row };
+
+    fn edit(&self, row: &mut Row) {
+        if is_same(&row.name, self.name) {
+            row.children_space = self.space;
+        }
+    }
+}
+
+/// The named task has the subreaper's mark, or not.
+pub struct Marks<'a> {
+    pub name: &'a Name,
+    pub on: bool,
+}
+
+impl Edit<Row> for Marks<'_> {
+    ghost gives = { λ e row. marked e.name.now e.on row };
+
+    fn edit(&self, row: &mut Row) {
+        if is_same(&row.name, self.name) {
+            row.subreaper = self.on;
+        }
+    }
+}
+
+/// The control group has the limit.
+pub struct Limits {
+    pub id: u64,
+    pub limit: Option<u32>,
+}
+
+impl Edit<Control> for Limits {
+    ghost gives = { λ e control. limited e.id e.limit control };
+
+    fn edit(&self, control: &mut Control) {
+        if control.id == self.id {
+            control.limit = self.limit;
+        }
+    }
+}
