@@ -90,8 +90,8 @@ with_home state name home = record state { rows = map (moved_home name home) sta
 
 -- a write of a task to cgroup.procs. It is never blocked by a limit: the cgroup-v2 document, "Organisational operations are not
 -- blocked by cgroup policies"
-unfoldable pub move : State → ℕ → ℕ → Outcome
-move state n id =
+unfoldable pub move_task : State → ℕ → ℕ → Outcome
+move_task state n id =
     for_found state (live_row state.rows n) NoTask (λ task.
     on_control state id (λ c.
     changed (with_home state task.name id) Done))

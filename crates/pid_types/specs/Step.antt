@@ -9,7 +9,7 @@ use Rattle.pid_types.specs.Exit.{exit}
 use Rattle.pid_types.specs.Wait.{wait}
 use Rattle.pid_types.specs.Groups.{set_pgid, set_sid}
 use Rattle.pid_types.specs.Queries.{get_pid, get_ppid, get_pgid, get_sid, ns_pid, next}
-use Rattle.pid_types.specs.Changes.{exec, make_control, remove_control, set_limit, move, count_tasks, join, set_subreaper}
+use Rattle.pid_types.specs.Changes.{exec, make_control, remove_control, set_limit, move_task, count_tasks, join, set_subreaper}
 
 -- what the call at the stamp comes to. The stamp is the id of what the call makes
 unfoldable pub step : State → ℕ → Call → Outcome
@@ -25,7 +25,7 @@ step state stamp (SetSid caller) = set_sid state caller
 step state stamp (MakeControl parent) = make_control state stamp parent
 step state stamp (RemoveControl id) = remove_control state id
 step state stamp (SetLimit id limit) = set_limit state id limit
-step state stamp (Move task id) = move state task id
+step state stamp (Move task id) = move_task state task id
 step state stamp (Count id) = count_tasks state id
 step state stamp (GetPgid caller pid) = answered state (get_pgid state caller pid)
 step state stamp (GetSid caller pid) = answered state (get_sid state caller pid)

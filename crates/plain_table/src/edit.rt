@@ -27,6 +27,7 @@ pub fn edit_all<T, E: Edit<T>>(elements: &mut [T], change: &E)
 }
 
 /// The named task has executed.
+#[derive(Drop)]
 pub struct Executes<'a>(pub &'a Name);
 
 impl Edit<Row> for Executes<'_> {
@@ -40,6 +41,7 @@ impl Edit<Row> for Executes<'_> {
 }
 
 /// The named task goes into the group.
+#[derive(Drop)]
 pub struct EntersGroup<'a> {
     pub name: &'a Name,
     pub group: &'a Name,
@@ -56,6 +58,7 @@ impl Edit<Row> for EntersGroup<'_> {
 }
 
 /// The named task leads a new group and a new session.
+#[derive(Drop)]
 pub struct Leads<'a>(pub &'a Name);
 
 impl Edit<Row> for Leads<'_> {
@@ -70,6 +73,7 @@ impl Edit<Row> for Leads<'_> {
 }
 
 /// The named task goes into the control group.
+#[derive(Drop)]
 pub struct MovesHome<'a> {
     pub name: &'a Name,
     pub home: u64,
@@ -86,6 +90,7 @@ impl Edit<Row> for MovesHome<'_> {
 }
 
 /// All tasks of one control group go into another.
+#[derive(Drop)]
 pub struct Rehomes {
     pub from: u64,
     pub to: u64,
@@ -102,6 +107,7 @@ impl Edit<Row> for Rehomes {
 }
 
 /// The named task's children go into the namespace.
+#[derive(Drop)]
 pub struct Joins<'a> {
     pub name: &'a Name,
     pub space: u64,
@@ -118,6 +124,7 @@ impl Edit<Row> for Joins<'_> {
 }
 
 /// The named task has the subreaper's mark, or not.
+#[derive(Drop)]
 pub struct Marks<'a> {
     pub name: &'a Name,
     pub on: bool,
@@ -134,6 +141,7 @@ impl Edit<Row> for Marks<'_> {
 }
 
 /// The control group has the limit.
+#[derive(Drop)]
 pub struct Limits {
     pub id: u64,
     pub limit: Option<u32>,

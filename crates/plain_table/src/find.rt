@@ -1,0 +1,36 @@
+//! Tasks found, as copies that outlive a change of the table.
+ghost use Rattle.std.specs.Prelude.{◌≡◌};
+ghost use Rattle.pid_types.specs.Names.{live_row, task_at};
+
+use crate::table::PlainTable;
+use pid_types::plain::Row;
+
+/// A copy, which needs no memory.
+pub(crate) fn copy_row(row: &Row) -> Row
+    ensures { result ≡ row.now }
+{
+    match row.clone() {
+        Ok(copy) => copy,
+        Err(_) => unreachable!(),
+    }
+}
+
+impl PlainTable {
+    /// The live task with the root number.
+    pub(crate) fn find_live(&self, number: u32) -> Option<Row>
+        ensures { result ≡ live_row self.now.rows number }
+    {
+        let view = self.view();
+        let row = view.live_row(number)?;
+        Some(copy_row(row))
+    }
+
+    /// The task with the number in the namespace, zombies among them.
+    pub(crate) fn find_task(&self, space: u64, number: u32) -> Option<Row>
+        ensures { result ≡ task_at self.now space number }
+    {
+        let view = self.view();
+        let row = view.task_at(space, number)?;
+        Some(copy_row(row))
+    }
+}
