@@ -1,8 +1,11 @@
 //! Control groups.
-ghost use Rattle.std.specs.Prelude.{◌≡◌, OnErr, OnOk, IfOk};
+ghost use Rattle.std.specs.Prelude.{◌≡◌, ◌==◌, ◌&&◌, Some, OnErr, OnOk, IfOk};
+ghost use Rattle.std.specs.Option.{option_eq};
+ghost use Rattle.std.specs.List.{list_any};
+ghost use Rattle.pid_types.specs.Names.{is_live as is_live_row};
 ghost use Rattle.pid_types.specs.Changes.{without_control, with_limit, with_control, is_busy as is_busy_of, make_control as make_control_of, remove_control as remove_control_of, set_limit as set_limit_of, count_tasks};
 
-use crate::edit::{Limits, Rehomes, edit_all};
+use crate::edit::{AllButControl, Limits, Rehomes, edit_all, keep};
 use crate::table::PlainTable;
 use pid_types::plain::Control;
 use pid_types::reply::{Refusal, Reply};
@@ -18,6 +21,84 @@ impl PlainTable {
         ensures { self.new ≡ with_limit self.old id limit }
     {
         edit_all(&mut self.controls, &Limits { id, limit });
+    }
+
+    fn has_live_task(&self, id: u64) -> bool
+        ensures { result ≡ list_any (λ row. (row.home == id) && is_live_row row) self.now.rows }
+    {
+        self.rows.iter().any(|row| row.home == id && is_live(row))
+    }
+
+    fn has_child_control(&self, id: u64) -> bool
+        ensures { result ≡ list_any (λ c. option_eq ◌==◌ c.parent (Some id)) self.now.controls }
+    {
+        self.controls.iter().any(|c| c.parent == Some(id))
+    }
+
+    /// Whether a live task or a control group is directly in it.
+    #[tactic(auto, unfolding(pid_types::specs::Changes::is_busy))]
+    fn is_busy(&self, id: u64) -> bool
+        ensures { result ≡ is_busy_of self.now id }
+    {
+        self.has_live_task(id) || self.has_child_control(id)
+    }
+
+    /// Drops the control group, whose zombies go to the parent.
+    #[tactic(auto, unfolding(pid_types::specs::Changes::without_control))]
+    fn drop_control(&mut self, id: u64, parent: u64)
+        ensures { self.new ≡ without_control self.old id parent }
+    {
+        edit_all(
+            &mut self.rows,
+            &Rehomes {
+                from: id,
+                to: parent,
+            },
+        );
+        keep(&mut self.controls, &AllButControl(id));
+    }
+
+    /// `mkdir(2)` in a control group file system: a new control group, without a limit, whose id is
+    /// the stamp.
+    #[tactic(auto, unfolding(pid_types::specs::Changes::make_control, pid_types::specs::Changes::with_control))]
+    pub fn make_control(&mut self, parent: u64, stamp: u64) -> Result<Reply, AllocError>
+        ensures state { OnOk result (self.new ≡ (make_control_of self.old stamp parent).state) }
+        ensures reply { IfOk result (λ reply. reply ≡ (make_control_of self.old stamp parent).reply) }
+        ensures err { OnErr result (self.new ≡ self.old) }
+    {
+        if self.view().find_control(parent).is_none() {
+            return Ok(Reply::Refused(Refusal::NoControl));
+        }
+        if self.view().control_path(parent).len() > 64 {
+            return Ok(Reply::Refused(Refusal::ControlDepth));
+        }
+        self.controls.push(Control {
+            id: stamp,
+            parent: Some(parent),
+            limit: None,
+        })?;
+        self.sweep();
+        Ok(Reply::Control(stamp))
+    }
+
+    /// `rmdir(2)` of a control group: one without live tasks and children.
+    #[tactic(auto, unfolding(pid_types::specs::Changes::remove_control))]
+    pub fn remove_control(&mut self, id: u64) -> Reply
+        ensures state { self.new ≡ (remove_control_of self.old id).state }
+        ensures reply { result ≡ (remove_control_of self.old id).reply }
+    {
+        let Some(control) = self.view().find_control(id).copied() else {
+            return Reply::Refused(Refusal::NoControl);
+        };
+        let Some(parent) = control.parent else {
+            return Reply::Refused(Refusal::RootControl);
+        };
+        if self.is_busy(id) {
+            return Reply::Refused(Refusal::ControlBusy);
+        }
+        self.drop_control(id, parent);
+        self.sweep();
+        Reply::Done
     }
 
     /// A write to `pids.max`: a limit of at most 4194304, or none.

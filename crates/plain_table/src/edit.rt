@@ -1,6 +1,6 @@
 //! Changes of each element of a list.
-ghost use Rattle.std.specs.Prelude.{◌≡◌, map, Bool, true, false, if◌then◌else◌};
-ghost use Rattle.std.specs.Option.{option_map_or};
+ghost use Rattle.std.specs.Prelude.{◌≡◌, ◌≤◌, ◌==◌, map, filter, Bool, not, vec_len, vec_capacity};
+ghost use Rattle.pid_types.specs.Names.{same_name};
 ghost use Rattle.pid_types.specs.Changes.{executed_by, moved_home, rehomed, joined, marked, limited};
 ghost use Rattle.pid_types.specs.Groups.{in_group, leading};
 
@@ -154,5 +154,47 @@ impl Edit<Control> for Limits {
         if control.id == self.id {
             control.limit = self.limit;
         }
+    }
+}
+
+/// A test of one element.
+pub trait Test<T> {
+    // Whether the element passes.
+    ghost passes: { Self → T → Bool };
+
+    fn test(&self, element: &T) -> bool
+        ensures { result ≡ passes self.now element.now };
+}
+
+/// Keeps the elements that pass.
+pub fn keep<T: Drop, P: Test<T>>(elements: &mut Vec<T>, passing: &P)
+    ensures kept { elements.new.items ≡ filter (P.passes passing.now) elements.old.items }
+    ensures fewer { vec_len elements.new ≤ vec_len elements.old }
+    ensures capacity { vec_capacity elements.new ≡ vec_capacity elements.old }
+{
+    elements.retain(|element| passing.test(element));
+}
+
+/// All rows but the named one.
+#[derive(Drop)]
+pub struct AllBut<'a>(pub &'a Name);
+
+impl Test<Row> for AllBut<'_> {
+    ghost passes = { λ t row. not (same_name row.name t.0.now) };
+
+    fn test(&self, row: &Row) -> bool {
+        !is_same(&row.name, self.0)
+    }
+}
+
+/// All control groups but the one with the id.
+#[derive(Drop)]
+pub struct AllButControl(pub u64);
+
+impl Test<Control> for AllButControl {
+    ghost passes = { λ t control. not (control.id == t.0) };
+
+    fn test(&self, control: &Control) -> bool {
+        control.id != self.0
     }
 }

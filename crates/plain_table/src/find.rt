@@ -1,5 +1,5 @@
 //! Tasks found, as copies that outlive a change of the table.
-ghost use Rattle.std.specs.Prelude.{◌≡◌};
+ghost use Rattle.std.specs.Prelude.{◌≡◌, option_copied};
 ghost use Rattle.pid_types.specs.Names.{live_row, task_at};
 
 use crate::table::PlainTable;
@@ -15,22 +15,28 @@ pub(crate) fn copy_row(row: &Row) -> Row
     }
 }
 
+/// A copy of the row that was found.
+pub(crate) fn copy_found(found: Option<&Row>) -> Option<Row>
+    ensures { result ≡ option_copied found.entry }
+{
+    match found {
+        Some(row) => Some(copy_row(row)),
+        None => None,
+    }
+}
+
 impl PlainTable {
     /// The live task with the root number.
     pub(crate) fn find_live(&self, number: u32) -> Option<Row>
         ensures { result ≡ live_row self.now.rows number }
     {
-        let view = self.view();
-        let row = view.live_row(number)?;
-        Some(copy_row(row))
+        copy_found(self.view().live_row(number))
     }
 
     /// The task with the number in the namespace, zombies among them.
     pub(crate) fn find_task(&self, space: u64, number: u32) -> Option<Row>
         ensures { result ≡ task_at self.now space number }
     {
-        let view = self.view();
-        let row = view.task_at(space, number)?;
-        Some(copy_row(row))
+        copy_found(self.view().task_at(space, number))
     }
 }

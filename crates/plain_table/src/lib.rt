@@ -12,3 +12,4 @@ pub mod groups;
 pub mod queries;
 pub mod table;
 pub mod tasks;
+pub mod wait;
