@@ -3,9 +3,11 @@ ghost use Rattle.std.specs.Prelude.{◌≡◌, ◌≤◌, ◌==◌, map, filter,
 ghost use Rattle.pid_types.specs.Names.{same_name};
 ghost use Rattle.pid_types.specs.Changes.{executed_by, moved_home, rehomed, joined, marked, limited};
 ghost use Rattle.pid_types.specs.Groups.{in_group, leading};
+ghost use Rattle.pid_types.specs.Exit.{row_after_exit, row_after_fall, goes_in_fall, has_parent_within};
 
-use pid_types::plain::{Control, Name, Row};
-use plain_view::names::{copy_name, is_same};
+use pid_types::plain::{Control, Ended, Life, Name, Row};
+use plain_view::names::{copy_name, is_live, is_parent, is_same};
+use plain_view::view::View;
 
 /// A change of one element.
 pub trait Edit<T> {
@@ -157,6 +159,58 @@ impl Edit<Control> for Limits {
     }
 }
 
+/// A task has ended, and its children go to the heir.
+#[derive(Drop)]
+pub struct Ends<'a> {
+    pub task: &'a Row,
+    pub heir: &'a Option<Name>,
+    pub ended: Ended,
+}
+
+impl Edit<Row> for Ends<'_> {
+    ghost gives = { λ e row. row_after_exit e.task.now e.heir.now e.ended row };
+
+    fn edit(&self, row: &mut Row) {
+        if is_parent(&self.task.name, row) {
+            row.parent = copy_parent(self.heir);
+        }
+        if is_same(&row.name, &self.task.name) {
+            row.life = Life::Zombie(self.ended);
+        }
+    }
+}
+
+/// A copy, which needs no memory.
+fn copy_parent(parent: &Option<Name>) -> Option<Name>
+    ensures { result ≡ parent.now }
+{
+    match parent {
+        Some(name) => Some(copy_name(name)),
+        None => None,
+    }
+}
+
+/// A namespace falls by the end of its init: the init has ended by its exit, and every other live
+/// member is killed.
+#[derive(Drop)]
+pub struct Falls<'a> {
+    pub view: &'a View<'a>,
+    pub init: &'a Row,
+    pub status: u8,
+}
+
+impl Edit<Row> for Falls<'_> {
+    ghost gives = { λ e row. row_after_fall e.view.now e.init.now e.status row };
+
+    fn edit(&self, row: &mut Row) {
+        if is_same(&row.name, &self.init.name) {
+            row.life = Life::Zombie(Ended::Exited(self.status));
+        } else if self.view.is_member(self.init.name.space, row) && is_live(row) {
+            row.life = Life::Zombie(Ended::Killed);
+        }
+    }
+}
+
 /// A test of one element.
 pub trait Test<T> {
     // Whether the element passes.
@@ -196,5 +250,34 @@ impl Test<Control> for AllButControl {
 
     fn test(&self, control: &Control) -> bool {
         control.id != self.0
+    }
+}
+
+/// The rows that a fall by the end of the init leaves.
+#[derive(Drop)]
+pub struct Stays<'a> {
+    pub view: &'a View<'a>,
+    pub init: &'a Row,
+}
+
+impl Stays<'_> {
+    /// Whether the row's parent is a member of the init's namespace.
+    fn has_parent_within(&self, row: &Row) -> bool
+        ensures { result ≡ has_parent_within self.now.view.now self.now.init.now.name.space row.now }
+    {
+        match &row.parent {
+            Some(parent) => self.view.is_within(parent.space, self.init.name.space),
+            None => false,
+        }
+    }
+}
+
+impl Test<Row> for Stays<'_> {
+    ghost passes = { λ t row. not (goes_in_fall t.view.now t.init.now row) };
+
+    fn test(&self, row: &Row) -> bool {
+        is_same(&row.name, &self.init.name)
+            || !self.view.is_member(self.init.name.space, row)
+            || !self.has_parent_within(row)
     }
 }

@@ -7,6 +7,7 @@
 
 pub mod control_groups;
 pub mod edit;
+pub mod exit;
 pub mod find;
 pub mod groups;
 pub mod queries;

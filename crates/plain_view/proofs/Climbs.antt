@@ -5,7 +5,7 @@ use Rattle.std.specs.Option.{option_map_or}
 use Rattle.pid_types.specs.Chains.{climb}
 
 -- one step of a climb
-climb-suc : (f : ℕ → Option ℕ) (most n id : ℕ) → most ≡ n + 1 → climb f most id ≡ id ∷ option_map_or (climb f n) (f id) []
+pub climb-suc : (f : ℕ → Option ℕ) (most n id : ℕ) → most ≡ n + 1 → climb f most id ≡ id ∷ option_map_or (climb f n) (f id) []
 unfolding climb
 climb-suc f zero n id e = absurd (omega arith)
 climb-suc f (suc most) n id e = let same : most ≡ n = omega arith in ap (λ m. id ∷ option_map_or (climb f m) (f id) []) same

@@ -1,0 +1,165 @@
+//! Exit, new parents, and the fall of a namespace.
+ghost use Rattle.std.specs.Prelude.{◌≡◌, ◌≤◌, [], length, map, filter, not, vec_capacity};
+ghost use Rattle.pid_types.specs.Exit.{parent_number as parent_number_of, is_subreaper_in as is_subreaper_of, nearest_subreaper as nearest_subreaper_of, new_parent as new_parent_of, rows_after_exit, rows_after_fall, row_after_fall, goes_in_fall, fallen_below, fall as fall_of, exit as exit_of};
+
+use crate::edit::{Ends, Falls, Stays, edit_all, keep};
+use crate::table::PlainTable;
+use pid_types::plain::{Ended, Name, Row, Space};
+use pid_types::reply::{Refusal, Reply};
+use plain_view::names::{copy_name, root_number};
+use plain_view::view::View;
+use std::mem;
+
+/// The root number of the parent of the task with the root number.
+fn parent_number(view: &View<'_>, number: u32) -> Option<u32>
+    ensures { result ≡ parent_number_of view.now.rows number }
+{
+    let row = view.row_at(number)?;
+    match &row.parent {
+        Some(parent) => Some(root_number(parent)),
+        None => None,
+    }
+}
+
+/// Whether the task with the root number is a subreaper whose own namespace this is.
+fn is_subreaper_in(view: &View<'_>, space: u64, number: u32) -> bool
+    ensures { result ≡ is_subreaper_of view.now.rows space number }
+{
+    match view.row_at(number) {
+        Some(row) => row.subreaper && row.name.space == space,
+        None => false,
+    }
+}
+
+/// The namespaces, fallen from the given one inwards.
+fn push_fallen(kept: &mut Vec<Space>, view: &View<'_>, spaces: &[Space], fallen: u64)
+    requires empty { kept.old.items ≡ [] }
+    requires room { length spaces.now ≤ vec_capacity kept.old }
+    ensures fallen { kept.new.items ≡ map (fallen_below view.now.spaces fallen) spaces.now }
+    ensures room { vec_capacity kept.old ≤ vec_capacity kept.new }
+{
+    for space in spaces {
+        let Ok(()) = kept.push(Space {
+            id: space.id,
+            parent: space.parent,
+            cursor: space.cursor,
+            fallen: space.fallen || view.is_within(space.id, fallen),
+        }) else {
+            unreachable!()
+        };
+    }
+}
+
+/// Ends the members of the init's namespace, of which only those whose parent is outside stay.
+fn end_in_fall(rows: &mut Vec<Row>, view: &View<'_>, init: &Row, status: u8)
+    ensures { rows.new.items ≡ map (row_after_fall view.now init.now status) (filter (λ row. not (goes_in_fall view.now init.now row)) rows.old.items) }
+{
+    keep(rows, &Stays { view, init });
+    edit_all(rows, &Falls { view, init, status });
+}
+
+impl PlainTable {
+    fn task_count(&self) -> usize
+        ensures { result ≡ length self.now.rows }
+    {
+        self.rows.len()
+    }
+
+    /// The root number of the task's nearest ancestor in its own namespace that is a subreaper.
+    fn nearest_subreaper(&self, task: &Row) -> Option<u32>
+        ensures { result ≡ nearest_subreaper_of self.now.rows task.now }
+    {
+        let view = self.view();
+        let mut number = root_number(&task.name);
+        for _ in 0..self.task_count() {
+            number = parent_number(&view, number)?;
+            if is_subreaper_in(&view, task.name.space, number) {
+                return Some(number);
+            }
+        }
+        None
+    }
+
+    /// Who takes the children of the task: its nearest subreaper, or else the init of its own
+    /// namespace.
+    #[tactic(auto, unfolding(pid_types::specs::Exit::new_parent))]
+    fn new_parent(&self, task: &Row) -> Option<Name>
+        ensures { result ≡ new_parent_of self.now task.now }
+    {
+        let view = self.view();
+        let heir = match self.nearest_subreaper(task) {
+            Some(number) => view.row_at(number),
+            None => view.task_at(task.name.space, 1),
+        };
+        match heir {
+            Some(row) => Some(copy_name(&row.name)),
+            None => None,
+        }
+    }
+
+    /// The task has ended, and its children have a new parent.
+    #[tactic(auto, unfolding(pid_types::specs::Exit::rows_after_exit))]
+    fn end(&mut self, task: &Row, status: u8)
+        ensures { self.new ≡ record self.old { rows = rows_after_exit self.old task.now status } }
+    {
+        let heir = self.new_parent(task);
+        edit_all(
+            &mut self.rows,
+            &Ends {
+                task,
+                heir: &heir,
+                ended: Ended::Exited(status),
+            },
+        );
+    }
+
+    /// The members of the init's namespace have ended.
+    #[tactic(auto, unfolding(pid_types::specs::Exit::rows_after_fall))]
+    fn end_members(&mut self, init: &Row, status: u8)
+        ensures { self.new ≡ record self.old { rows = rows_after_fall self.old init.now status } }
+    {
+        let view = View::new(&[], &self.spaces, &self.controls, self.pid_max);
+        end_in_fall(&mut self.rows, &view, init, status);
+    }
+
+    /// The namespace and those below it have fallen.
+    fn fall_from(&mut self, fallen: u64)
+        ensures { self.new ≡ record self.old { spaces = map (fallen_below self.old.spaces fallen) self.old.spaces } }
+    {
+        let view = View::new(&[], &self.spaces, &self.controls, self.pid_max);
+        push_fallen(&mut self.kept, &view, &self.spaces, fallen);
+        mem::swap(&mut self.spaces, &mut self.kept);
+        self.kept.clear();
+    }
+
+    /// The namespace of the init has fallen.
+    #[tactic(auto, unfolding(pid_types::specs::Exit::fall))]
+    fn fall(&mut self, init: &Row, status: u8)
+        ensures { self.new ≡ fall_of self.old init.now status }
+    {
+        self.end_members(init, status);
+        self.fall_from(init.name.space);
+    }
+
+    /// `_exit(2)`: the task is a zombie until its parent waits, and its children have a new parent.
+    /// The exit of a namespace's init ends all its members, and the namespace falls.
+    #[tactic(auto, unfolding(pid_types::specs::Exit::exit))]
+    pub fn exit(&mut self, caller: u32, status: u8) -> Reply
+        ensures state { self.new ≡ (exit_of self.old caller status).state }
+        ensures reply { result ≡ (exit_of self.old caller status).reply }
+    {
+        let Some(task) = self.find_live(caller) else {
+            return Reply::Refused(Refusal::NoCaller);
+        };
+        if root_number(&task.name) == 1 {
+            return Reply::Refused(Refusal::RootInit);
+        }
+        if self.view().is_numbered(&task.name, task.name.space, 1) {
+            self.fall(&task, status);
+        } else {
+            self.end(&task, status);
+        }
+        self.sweep();
+        Reply::Done
+    }
+}
