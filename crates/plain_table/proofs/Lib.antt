@@ -1,2 +1,4 @@
 pub mod Ancestors
+pub mod Drawn
+pub mod InsertedRow
 pub mod LeastRow

@@ -1,1 +1,3 @@
 pub mod Least
+pub mod Moved
+pub mod Planned

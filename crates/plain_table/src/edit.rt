@@ -3,10 +3,12 @@ ghost use Rattle.std.specs.Prelude.{◌≡◌, ◌≤◌, ◌==◌, map, filter,
 ghost use Rattle.pid_types.specs.Names.{same_name};
 ghost use Rattle.pid_types.specs.Changes.{executed_by, moved_home, rehomed, joined, marked, limited};
 ghost use Rattle.pid_types.specs.Groups.{in_group, leading};
+ghost use Rattle.plain_table.specs.Moved.{moved_by};
 ghost use Rattle.pid_types.specs.Exit.{row_after_exit, row_after_fall, goes_in_fall, has_parent_within};
 
-use pid_types::plain::{Control, Ended, Life, Name, Row};
+use pid_types::plain::{Control, Ended, Life, Name, Row, Space};
 use plain_view::names::{copy_name, is_live, is_parent, is_same};
+use plain_view::spaces::beside;
 use plain_view::view::View;
 
 /// A change of one element.
@@ -207,6 +209,23 @@ impl Edit<Row> for Falls<'_> {
             row.life = Life::Zombie(Ended::Exited(self.status));
         } else if self.view.is_member(self.init.name.space, row) && is_live(row) {
             row.life = Life::Zombie(Ended::Killed);
+        }
+    }
+}
+
+/// The namespaces of the path have the cursors beside them.
+#[derive(Drop)]
+pub struct MovesCursors<'a> {
+    pub path: &'a [u64],
+    pub cursors: &'a [u32],
+}
+
+impl Edit<Space> for MovesCursors<'_> {
+    ghost gives = { λ e space. moved_by e.path.now e.cursors.now space };
+
+    fn edit(&self, space: &mut Space) {
+        if let Some(cursor) = beside(space.id, self.path, self.cursors) {
+            space.cursor = cursor;
         }
     }
 }

@@ -9,6 +9,7 @@ pub mod control_groups;
 pub mod edit;
 pub mod exit;
 pub mod find;
+pub mod fork;
 pub mod groups;
 pub mod queries;
 pub mod table;

@@ -1,5 +1,5 @@
 //! Which numbers are in use, and which comes next.
-ghost use Rattle.std.specs.Prelude.{◌≡◌, ◌==◌, nat_lt, length, Some, None, if◌then◌else◌};
+ghost use Rattle.std.specs.Prelude.{◌≡◌, ◌<◌, ◌+◌, ◌^◌, ◌==◌, IfSome, nat_lt, length, Some, None, if◌then◌else◌};
 ghost use Rattle.pid_types.specs.Chains.{contains};
 ghost use Rattle.pid_types.specs.Names.{taken};
 ghost use Rattle.std.specs.List.{list_any, list_all};
@@ -73,7 +73,9 @@ impl View<'_> {
 
     /// The least number from the given one on that is below the bound and not in use.
     fn find_free(&self, space: u64, from: u32) -> Option<u32>
-        ensures { result ≡ (if nat_lt (least_free (taken self.now space) from) self.now.pid_max then Some (least_free (taken self.now space) from) else None) }
+        ensures value { result ≡ (if nat_lt (least_free (taken self.now space) from) self.now.pid_max then Some (least_free (taken self.now space) from) else None) }
+        ensures below { IfSome result (λ n. n < self.now.pid_max) }
+        ensures fits { IfSome result (λ n. n + 1 < 2 ^ 32) }
     {
         for number in from..self.pid_max {
             if !self.is_taken(space, number) {
@@ -92,7 +94,9 @@ impl View<'_> {
 
     /// The number that the namespace gives next.
     pub fn draw(&self, space: u64) -> Option<u32>
-        ensures { result ≡ draw_of self.now space }
+        ensures value { result ≡ draw_of self.now space }
+        ensures below { IfSome result (λ n. n < self.now.pid_max) }
+        ensures fits { IfSome result (λ n. n + 1 < 2 ^ 32) }
     {
         let cursor = self.cursor(space);
         let low = restart(cursor);

@@ -25,7 +25,7 @@ fn find_added(added: &Option<Space>, id: u64) -> Option<&Space>
 }
 
 /// The number that stands where the id does.
-fn beside(id: u64, ids: &[u64], numbers: &[u32]) -> Option<u32>
+pub fn beside(id: u64, ids: &[u64], numbers: &[u32]) -> Option<u32>
     ensures { result ≡ beside_of id ids.now numbers.now }
 {
     let [at, inner_ids @ ..] = ids else {

@@ -1,0 +1,73 @@
+-- What a fork draws, and the state that it makes.
+use Rattle.std.proofs.Common.{◌≡◌, ℕ, ◌+◌, ◌<◌, Bool, true, false, cond, List, [], ◌∷◌, ◌++◌, length, map, take, drop, get_or, Option, Some, None, refl, sym, ap, ◌∙◌, subst, inl, inr, arith, add-one, drop-cons, append_assoc}
+use Rattle.std.specs.Prelude.{find, is_none, unwrap_or, ◌==◌, if◌then◌else◌}
+use Rattle.std.specs.Option.{option_or}
+use Rattle.std.proofs.Math.Path.{fun_ext}
+use Rattle.std.proofs.lemmas.Bool.{cases_Bool, eqb-true}
+use Rattle.std.proofs.lemmas.List.{take-append-drop, take_more, map-append}
+use Rattle.std.proofs.lemmas.List.Folds.{find-append}
+use Rattle.pid_types.specs.declared.plain.Row.{Row}
+use Rattle.pid_types.specs.declared.plain.Space.{Space}
+use Rattle.pid_types.specs.declared.reply.Reply.TheVariants.{Forked}
+use Rattle.pid_types.specs.declared.reply.Refusal.TheVariants.{NoNumber, PidsLimit}
+use Rattle.pid_types.specs.Chains.{contains}
+use Rattle.pid_types.specs.State.{State}
+use Rattle.pid_types.specs.Names.{path_up, beside, number_or_zero, root_number}
+use Rattle.pid_types.specs.Draw.{draw}
+use Rattle.pid_types.specs.Controls.{passed_limit}
+use Rattle.pid_types.specs.Outcome.{Outcome, refused, changed}
+use Rattle.pid_types.specs.Fork.{drawn, moved_cursor, with_cursors, insert_row, child_of, fork_into}
+use Rattle.plain_table.specs.Moved.{moved_by}
+
+-- where nothing before it passes, what passes is found
+pub find-here : (p : ℕ → Bool) (xs : List ℕ) (i : ℕ) → i < length xs → find p (take i xs) ≡ None → p (get_or xs i 0) ≡ true → find p xs ≡ Some (get_or xs i 0)
+find-here p xs i below before passes =
+    ap (find p) (sym (take-append-drop i xs)) ∙ find-append p (take i xs) (drop i xs) ∙ rw (before, drop-cons xs i 0, passes) refl
+
+-- nothing is found among one more that does not pass
+pub find-further : (p : ℕ → Bool) (xs : List ℕ) (i : ℕ) → i < length xs → find p (take i xs) ≡ None → p (get_or xs i 0) ≡ false → find p (take (i + 1) xs) ≡ None
+find-further p xs i below before fails = rw (take_more xs i 0 below, find-append, before, fails) refl
+
+-- one more value is pushed
+pub map-further : (f : ℕ → ℕ) (xs : List ℕ) (i : ℕ) (ys : List ℕ) (y : ℕ) → i < length xs → ys ≡ map f (take i xs) → y ≡ f (get_or xs i 0) → ys ++ y ∷ [] ≡ map f (take (i + 1) xs)
+map-further f xs i ys y below before is = rw (before, is, take_more xs i 0 below, map-append) refl
+
+-- the number that a namespace gives is the one drawn
+pub drawn-Some : (state : State) (s n : ℕ) → draw state s ≡ Some n → n ≡ drawn state s
+unfolding drawn
+drawn-Some state s n h = rw h refl
+
+-- a namespace without a number
+pub fork_into-full : (old state : State) (caller : Row) (t s : ℕ) → find (λ s. is_none (draw state s)) (path_up state.spaces t) ≡ Some s
+  → fork_into old state caller t ≡ refused old (NoNumber s)
+unfolding fork_into
+fork_into-full old state caller t s full = rw full refl
+
+-- a control group at its limit
+pub fork_into-limited : (old state : State) (caller : Row) (t c : ℕ) → find (λ s. is_none (draw state s)) (path_up state.spaces t) ≡ None → passed_limit state caller.home ≡ Some c
+  → fork_into old state caller t ≡ refused old (PidsLimit c)
+unfolding fork_into
+fork_into-limited old state caller t c given limited = rw (given, limited) refl
+
+-- what stands beside an id of the path is its value
+beside-values : (d : ℕ → ℕ) (path : List ℕ) (s k : ℕ) → unwrap_or (beside s path (map d path)) k ≡ (if contains path s then d s else k)
+beside-values d [] s k = refl
+beside-values d (t ∷ path) s k = elim (cases_Bool (t == s)) [
+  | inl e ↦ rw e (ap d (eqb-true t s e))
+  | inr e ↦ rw e (beside-values d path s k)
+]
+
+-- the cursors beside the path are those behind the numbers drawn
+with_cursors-moved : (state : State) (path : List ℕ) → with_cursors state path ≡ map (moved_by path (map (λ s. drawn state s + 1) path)) state.spaces
+unfolding with_cursors
+with_cursors-moved state path = ap (λ f. map f state.spaces) (fun_ext (λ s. let same : (if contains path s.id then drawn state s.id + 1 else s.cursor) ≡ unwrap_or (beside s.id path (map (λ s. drawn state s + 1) path)) s.cursor = sym (beside-values (λ s. drawn state s + 1) path s.id s.cursor) in let build : ℕ → Space = λ n. record s { cursor = n } in ap build same))
+
+-- the child is there, and the cursors have moved
+pub fork_into-planned : (old state : State) (caller : Row) (t : ℕ) (path cursors : List ℕ) (child : Row) (inner root : ℕ)
+  → find (λ s. is_none (draw state s)) (path_up state.spaces t) ≡ None → passed_limit state caller.home ≡ None
+  → path ≡ path_up state.spaces t → cursors ≡ map (λ s. drawn state s + 1) path → child ≡ child_of state caller t
+  → inner ≡ number_or_zero state.spaces child.name caller.name.space → root ≡ root_number child.name
+  → fork_into old state caller t ≡ changed (record state { rows = insert_row child state.rows; spaces = map (moved_by path cursors) state.spaces }) (Forked inner root)
+unfolding fork_into
+fork_into-planned old state caller t path cursors child inner root given room is_path is_cursors is_child is_inner is_root =
+    rw (is_inner, is_root, is_child, is_cursors, is_path, given, room, with_cursors-moved) refl

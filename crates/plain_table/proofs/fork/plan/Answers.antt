@@ -1,0 +1,25 @@
+use Rattle.std.proofs.Common.{◌≡◌, ◌+◌, map, None, refl, sym, ap, ◌∙◌}
+use Rattle.std.specs.Prelude.{find, is_none, Some}
+use Rattle.pid_types.specs.Names.{path_up}
+use Rattle.pid_types.specs.Draw.{draw}
+use Rattle.pid_types.specs.Controls.{passed_limit}
+use Rattle.pid_types.specs.Fork.{drawn}
+use Rattle.plain_table.proofs.Drawn.{fork_into-full, fork_into-limited, fork_into-planned}
+use Rattle.plain_table.proofs.fork.plan.Goals as goal
+
+pub returns-in-Err : goal.returns-in-Err
+returns-in-Err c old =
+    let path = c.as_slice.ensures.value ∙ c.path_up-path.ensures in
+    fork_into-full old c.args.view.now c.args.caller.now c.args.space c.in-Err.full (rw path at c.in-Err.ensures)
+
+pub returns-in-Some : goal.returns-in-Some
+returns-in-Some c old =
+    let path = c.as_slice.ensures.value ∙ c.path_up-path.ensures in
+    fork_into-limited old c.args.view.now c.args.caller.now c.args.space c.in-Some.control (rw path at c.in-Ok.ensures.0) (sym c.passed_limit.ensures ∙ c.in-Some.is)
+
+pub returns : goal.returns
+returns c = (refl, λ old.
+    let path = c.as_slice.ensures.value ∙ c.path_up-path.ensures in
+    let child = c.child_of-child.ensures c.args.view.now (rw path at c.in-Ok.ensures.1) in
+    fork_into-planned old c.args.view.now c.args.caller.now c.args.space c.path_up-path.result.items c.in-Ok.draws.cursors.items c.child_of-child.result c.number_or_zero.result c.root_number.result
+    (rw path at c.in-Ok.ensures.0) (sym c.passed_limit.ensures ∙ c.in_default.is) c.path_up-path.ensures (rw c.as_slice.ensures.value at c.in-Ok.ensures.2) child c.number_or_zero.ensures c.root_number.ensures)
