@@ -1,5 +1,5 @@
 -- One call, as one step from state to state.
-use Rattle.std.specs.Prelude.{ℕ}
+use Rattle.std.specs.Prelude.{ℕ, Bool, true, false}
 use Rattle.pid_types.specs.declared.call.Call.{Call}
 use Rattle.pid_types.specs.declared.call.Call.TheVariants.{Fork, GetPid, NsPid, Exec, Exit, Wait, GetPpid, SetPgid, SetSid, MakeControl, RemoveControl, SetLimit, Move, Count, GetPgid, GetSid, Next, Join, SetSubreaper}
 use Rattle.pid_types.specs.State.{State}
@@ -32,3 +32,9 @@ step state stamp (GetSid caller pid) = answered state (get_sid state caller pid)
 step state stamp (Next caller kind from) = answered state (next state caller kind from)
 step state stamp (Join caller target) = join state caller target
 step state stamp (SetSubreaper caller on) = set_subreaper state caller on
+
+-- whether the call may need memory for what it makes
+abbrev pub may_grow : Call → Bool
+may_grow (Fork caller new_space) = true
+may_grow (MakeControl parent) = true
+may_grow _ = false

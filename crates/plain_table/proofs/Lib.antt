@@ -1,4 +1,5 @@
 pub mod Ancestors
 pub mod Drawn
 pub mod InsertedRow
+pub mod LeastNumber
 pub mod LeastRow

@@ -1,10 +1,12 @@
--- The ended child with the least number.
-use Rattle.std.specs.Prelude.{ℕ, Bool, ◌&&◌, not, nat_lt, Option, Some, None, if◌then◌else◌}
+-- The lesser of two.
+use Rattle.std.specs.Prelude.{ℕ, Bool, ◌&&◌, not, nat_lt, nat_le, option_and_then, Option, Some, None, if◌then◌else◌}
 use Rattle.std.specs.Option.{option_map_or}
+use Rattle.pid_types.specs.declared.call.Kind.{Kind}
 use Rattle.pid_types.specs.declared.call.Which.{Which}
 use Rattle.pid_types.specs.declared.plain.Row.{Row}
 use Rattle.pid_types.specs.State.{State}
-use Rattle.pid_types.specs.Names.{number_or_zero, is_parent, is_live}
+use Rattle.pid_types.specs.Names.{number, number_or_zero, is_parent, is_live}
+use Rattle.pid_types.specs.Queries.{name_by}
 use Rattle.pid_types.specs.Wait.{is_selected}
 
 -- the row with the lesser number in the namespace: the one found before, or this one if its number is less
@@ -15,3 +17,11 @@ lesser_of state s least row =
 -- whether the row is a child that the caller's wait selects, and has ended
 abbrev pub is_ended_match : State → Row → Which → Row → Bool
 is_ended_match state caller which row = (is_parent caller.name row && is_selected state caller which row) && not (is_live row)
+
+-- the row's number in the namespace, if it is not below the given one
+abbrev pub number_from : State → Kind → ℕ → ℕ → Row → Option ℕ
+number_from state kind s from row = option_and_then (λ n. if nat_le from n then Some n else None) (number state.spaces (name_by kind row) s)
+
+-- the lesser of the number found before, if there is one, and this one
+abbrev pub lesser_number : Option ℕ → ℕ → ℕ
+lesser_number least n = option_map_or (λ m. if nat_lt n m then n else m) least n

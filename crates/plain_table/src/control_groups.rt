@@ -124,7 +124,8 @@ impl PlainTable {
     /// A read of `pids.current`.
     #[tactic(auto, unfolding(pid_types::specs::Changes::count_tasks))]
     pub fn count(&self, id: u64) -> Reply
-        ensures { result ≡ (count_tasks self.now id).reply }
+        ensures state { (count_tasks self.now id).state ≡ self.now }
+        ensures reply { result ≡ (count_tasks self.now id).reply }
     {
         if self.view().find_control(id).is_none() {
             return Reply::Refused(Refusal::NoControl);
