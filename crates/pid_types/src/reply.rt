@@ -2,6 +2,7 @@
 
 use crate::plain::Ended;
 use arrayvec::ArrayVec;
+use std::alloc::AllocError;
 
 /// Why a call is refused. `S` and `C` are the ids of the namespace and the control group that
 /// refused it.
@@ -79,4 +80,15 @@ pub enum CallFault {
     NoMemory,
     /// The stamps are used up: the call would need the stamp `u64::MAX`.
     Spent,
+}
+
+impl From<AllocError> for CallFault {
+    ghost use Rattle.std.specs.Prelude.{◌≡◌};
+    ghost use Rattle.pid_types.specs.declared.reply.CallFault.TheVariants.{NoMemory};
+
+    ghost from_gives = { λ _ fault. fault ≡ NoMemory };
+
+    fn from(_refused: AllocError) -> CallFault {
+        CallFault::NoMemory
+    }
 }

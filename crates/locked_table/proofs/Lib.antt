@@ -1,0 +1,3 @@
+pub mod Along
+pub mod Counts
+pub mod Kept

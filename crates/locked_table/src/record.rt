@@ -1,0 +1,278 @@
+//! The record: the present state, the history of its calls, and the ledger's book.
+ghost use Rattle.std.specs.Prelude.{◌≡◌, ℕ, ◌+◌, ◌^◌, ◌<◌, ◌≤◌, ◌==◌, [], ◌∷◌, ◌++◌, ◌↔◌, length, All, IsTrue, sum, slice_index, replicate, IfOk, OnOk, OnErr, IsOk, Err};
+ghost use Rattle.std.specs.Option.{option_copied};
+ghost use Rattle.pid_types.specs.State.{root_state};
+ghost use Rattle.pid_types.specs.declared.entry.Entry.{Entry};
+ghost use Rattle.pid_types.specs.Shown.{Shows};
+ghost use Rattle.pid_types.specs.Step.{step, may_grow};
+ghost use Rattle.locked_table.specs.Chronicle.{Chronicle, total, next_stamp, recorded, recorded_by_all, entry_at, by_worker, IsKept};
+ghost use Rattle.locked_table.specs.Place.{AreSeats, AreNew, calls_of_seats};
+
+use crate::seat::Seat;
+use pid_types::call::Call;
+use pid_types::config::Config;
+use pid_types::entry::{Entry, Receipt};
+use pid_types::plain::Plain;
+use pid_types::reply::{CallFault, Reply};
+use plain_table::table::PlainTable;
+use std::alloc::{AllocError, Global};
+use std::marker::Model;
+use std::sync::ledger::{Blank, Book, Ledger, Share};
+
+/// The record of a process table with N workers. Contracts see its configuration, the opening and
+/// the present state, the kept history, what was cut away before it, and the room for more entries.
+#[derive(Drop)]
+pub struct Record<L: Ledger, const N: usize> {
+    config: Config,
+    opening: Plain,
+    first_kept: u64,
+    cut: Vec<u64>,
+    history: Vec<Entry>,
+    table: PlainTable,
+    book: Book<L>,
+}
+
+impl<L: Ledger, const N: usize> Model for Record<L, N> {
+    ghost use Rattle.std.specs.Prelude.{◌-◌, vec_len, vec_capacity};
+    ghost use Rattle.pid_types.specs.Shown.{state_of};
+    ghost use Rattle.locked_table.specs.Chronicle.{Chronicle, IsKept};
+
+    ghost Value = { Chronicle };
+
+    ghost view = { λ a. record { config = a.config; opening = state_of a.opening; first_kept = a.first_kept; cut = a.cut.items; entries = a.history.items; present = a.table; booked = a.book.total; room = vec_capacity a.history - vec_len a.history } };
+
+    ghost invariant = { λ a. IsKept N (record { config = a.config; opening = state_of a.opening; first_kept = a.first_kept; cut = a.cut.items; entries = a.history.items; present = a.table; booked = a.book.total; room = vec_capacity a.history - vec_len a.history }) };
+}
+
+/// A copy, which needs no memory.
+fn copy_reply(reply: &Reply) -> Reply
+    ensures { result ≡ reply.now }
+{
+    match reply.clone() {
+        Ok(copy) => copy,
+        Err(_) => unreachable!(),
+    }
+}
+
+impl<L: Ledger, const N: usize> Record<L, N> {
+    /// A table with the root init alone, an empty history, and the seats of its workers, worker w's
+    /// at place w. The blank has one part for each worker.
+    pub fn new(
+        alloc: Global,
+        blank: Blank,
+        config: &Config,
+    ) -> Result<(Record<L, N>, Vec<Seat<L, N>>), AllocError>
+        requires name { blank.name ≡ L.name }
+        requires parts { (blank.parts ≡ L.parts) × (L.parts ≡ N) }
+        ensures record { IfOk result (λ r. r.0 ≡ record { config = config.now; opening = root_state config.now.pid_max; first_kept = 0; cut = replicate N 0; entries = []; present = root_state config.now.pid_max; booked = 0; room = r.0.room }) }
+        ensures seats { IfOk result (λ r. AreSeats N r.1.items × AreNew r.1.items) }
+    {
+        // Stamp 0 is the id of what the table begins with.
+        prove!(config.first_stamp() > 0);
+        let (book, rest) = blank.open::<L>();
+        let seats = take_seats::<L, N>(alloc, rest)?;
+        let cut = vec![in alloc; 0u64; N]?;
+        let table = PlainTable::new(alloc, config)?;
+        let opening = table.snapshot()?;
+        let record = Record {
+            config: *config,
+            opening,
+            first_kept: 0,
+            cut,
+            history: Vec::new(alloc),
+            table,
+            book,
+        };
+        Ok((record, seats))
+    }
+
+    /// What the record was made with.
+    pub fn config(&self) -> Config
+        ensures { result ≡ self.now.config }
+    {
+        self.config
+    }
+
+    /// How many calls were recorded, the cut ones among them.
+    pub fn total(&self) -> u64
+        ensures value { result ≡ total self.now }
+        ensures kept { IsKept N self.now }
+        ensures workers { result ≡ recorded_by_all N self.now }
+    {
+        self.first_kept + self.history.len() as u64
+    }
+
+    /// How many calls were recorded before the kept ones: the ordinal of the first kept entry.
+    pub fn first_kept(&self) -> u64
+        ensures { result ≡ self.now.first_kept }
+    {
+        self.first_kept
+    }
+
+    /// How many calls of the worker were recorded, the cut ones among them.
+    pub fn recorded(&self, worker: usize) -> u64
+        requires { worker < N }
+        ensures { result ≡ recorded self.now worker }
+    {
+        let kept = self.history.iter().filter(|e| e.worker == worker).count();
+        self.cut[worker] + kept as u64
+    }
+
+    /// The entry with the ordinal; none where it was cut away, or is not reached yet.
+    pub fn entry(&self, ordinal: u64) -> Option<&Entry>
+        ensures { option_copied result ≡ entry_at self.now ordinal }
+    {
+        if ordinal < self.first_kept {
+            return None;
+        }
+        let place = ordinal - self.first_kept;
+        self.history.as_slice().get(place as usize)
+    }
+
+    /// The present state. It costs a copy of the whole table.
+    pub fn snapshot(&self) -> Result<Plain, AllocError>
+        ensures { IfOk result (Shows self.now.present) }
+    {
+        self.table.snapshot()
+    }
+
+    /// Makes room for the entries of n more calls. Each recorded call uses up one of them.
+    pub fn reserve_calls(&mut self, n: usize) -> Result<(), AllocError>
+        ensures ok { OnOk result (n ≤ self.new.room) }
+        ensures others { self.new ≡ record self.old { room = self.new.room } }
+        ensures room { self.old.room ≤ self.new.room }
+        ensures enough { n ≤ self.old.room → IsOk result }
+    {
+        self.history.reserve(n)
+    }
+
+    /// Takes all seats back, and tells that their calls are the recorded ones.
+    pub(crate) fn settle(&mut self, seats: Vec<Seat<L, N>>)
+        requires seats { AreSeats N seats.items }
+        requires parts { (L.parts ≡ N) × (0 < N) }
+        ensures total { total self.new ≡ calls_of_seats seats.items }
+        ensures same { self.new ≡ self.old }
+    {
+        let mut all = merge_seats(seats);
+        self.book.audit(&mut all);
+    }
+
+    /// Makes the present state the opening, and empties the history. Stamps and ordinals go on, and
+    /// the room for entries stays. It costs a copy of the whole table.
+    pub fn checkpoint(&mut self) -> Result<(), AllocError>
+        ensures ok { OnOk result (self.new ≡ record self.old { opening = self.old.present; first_kept = total self.old; cut = self.new.cut; entries = []; room = self.new.room }) }
+        ensures recorded { OnOk result ((worker : ℕ) → worker < N → recorded self.new worker ≡ recorded self.old worker) }
+        ensures room { self.old.room ≤ self.new.room }
+        ensures err { OnErr result (self.new ≡ self.old) }
+    {
+        let opening = self.table.snapshot()?;
+        count_entries(&mut self.cut, self.history.as_slice());
+        self.first_kept += self.history.len() as u64;
+        self.history.clear();
+        self.opening = opening;
+        Ok(())
+    }
+
+    /// Makes a call of the seat's worker, and records it with its reply, whatever that is. `Spent`
+    /// is answered first, where the call's stamp would be `u64::MAX`. A call that finds no memory, for
+    /// what it makes or for its entry, changes nothing and is not recorded.
+    pub fn act(&mut self, seat: &mut Seat<L, N>, call: Call) -> Result<Receipt, CallFault>
+        ensures step { IfOk result (λ r. record { state = self.new.present; reply = r.reply } ≡ step self.old.present (next_stamp self.old) call) }
+        ensures history { IfOk result (λ r. self.new.entries ≡ self.old.entries ++ record { worker = seat.old.worker; call = call; reply = r.reply } ∷ []) }
+        ensures receipt { IfOk result (λ r. r ≡ record { ordinal = total self.old; worker = seat.old.worker; call = call; reply = r.reply }) }
+        ensures others { OnOk result (self.new ≡ record self.old { entries = self.new.entries; present = self.new.present; booked = self.old.booked + 1; room = self.new.room }) }
+        ensures seat { OnOk result (seat.new ≡ record seat.old { calls = seat.old.calls + 1 }) }
+        ensures room { self.old.room ≤ self.new.room + 1 }
+
+        ensures spent { (result ≡ Err CallFault.Spent) ↔ (next_stamp self.old ≡ u64.MAX) }
+        ensures err { OnErr result (self.new ≡ record self.old { room = self.new.room }) }
+        ensures err_seat { OnErr result (seat.new ≡ seat.old) }
+        ensures err_room { OnErr result (self.old.room ≤ self.new.room) }
+        ensures no_memory { result ≡ Err CallFault.NoMemory → 0 < self.old.room → IsTrue (may_grow call) }
+    {
+        let ordinal = self.first_kept + self.history.len() as u64;
+        let stamp = self.config.first_stamp() + ordinal;
+        if stamp == u64::MAX {
+            return Err(CallFault::Spent);
+        }
+        self.history.reserve(1)?;
+        let reply = self.table.step(stamp, call)?;
+        self.book.audit(&mut seat.share);
+        self.book.add(&mut seat.share, 1);
+        seat.calls += 1;
+        let worker = seat.worker;
+        self.history.push_reserved(Entry {
+            worker,
+            call,
+            reply: copy_reply(&reply),
+        });
+        Ok(Receipt {
+            ordinal,
+            worker,
+            call,
+            reply,
+        })
+    }
+}
+
+/// A seat for each worker, with one part of the ledger each.
+fn take_seats<L: Ledger, const N: usize>(
+    alloc: Global,
+    rest: Share<L>,
+) -> Result<Vec<Seat<L, N>>, AllocError>
+    requires { (rest.parts ≡ N) × (rest.amount ≡ 0) }
+    ensures { IfOk result (λ seats. AreSeats N seats.items × AreNew seats.items) }
+{
+    let mut rest = rest;
+    let mut seats = Vec::with_capacity(alloc, N)?;
+    for worker in 0..N {
+        let share = rest.split_off(1, 0);
+        seats.push_reserved(Seat {
+            worker,
+            calls: 0,
+            share,
+        });
+    }
+    Ok(seats)
+}
+
+/// All parts of the ledger, from the seats.
+fn merge_seats<L: Ledger, const N: usize>(seats: Vec<Seat<L, N>>) -> Share<L>
+    requires seats { length seats.items ≡ N }
+    requires some { 0 < N }
+    ensures parts { result.parts ≡ N }
+    ensures amount { result.amount ≡ calls_of_seats seats.items }
+{
+    let mut seats = seats;
+    let Some(last) = seats.pop() else {
+        unreachable!()
+    };
+    let Seat {
+        worker: _,
+        calls: _,
+        share,
+    } = last;
+    let mut all = share;
+    while let Some(seat) = seats.pop() {
+        let Seat {
+            worker: _,
+            calls: _,
+            share,
+        } = seat;
+        all.merge(share);
+    }
+    all
+}
+
+/// Counts each entry for its worker.
+fn count_entries(cut: &mut Vec<u64>, entries: &[Entry])
+    requires known { All (λ (e : Entry). e.worker < length cut.old.items) entries.now }
+    requires fits { sum cut.old.items + length entries.now < 2 ^ 64 }
+    ensures each { (worker : ℕ) → worker < length cut.old.items → slice_index cut.new.items worker ≡ slice_index cut.old.items worker + by_worker worker entries.now }
+    ensures all { sum cut.new.items ≡ sum cut.old.items + length entries.now }
+    ensures len { length cut.new.items ≡ length cut.old.items }
+{
+    for e in entries {
+        cut[e.worker] += 1;
+    }
+}
