@@ -28,13 +28,13 @@ outcome-of present reply o is said = rw (is, said) refl
 
 -- one recorded call more
 kept-push : (workers : ℕ) (c : Chronicle) (e : Entry) (present : State) (booked room : ℕ) → IsKept workers c → e.worker < workers → (next_stamp c + 1) < 2 ^ 64
-  → (let o : Outcome = record { state = present; reply = e.reply } in o) ≡ step c.present (next_stamp c) e.call → booked ≡ c.booked + 1
-  → IsKept workers (record c { entries = c.entries ++ e ∷ []; present = present; booked = booked; room = room })
+    → (let o : Outcome = record { state = present; reply = e.reply } in o) ≡ step c.present (next_stamp c) e.call → booked ≡ c.booked + 1
+    → IsKept workers (record c { entries = c.entries ++ e ∷ []; present = present; booked = booked; room = room })
 kept-push workers c e present booked room k known fits is more =
     let now : next_stamp c ≡ first_kept_stamp c + length c.entries = omega arith in
     let len : length (c.entries ++ e ∷ []) ≡ length c.entries + 1 = length-append c.entries (e ∷ []) in
     let stepped : (let o : Outcome = record { state = present; reply = e.reply } in o) ≡ step (state_after c.opening (first_kept_stamp c) (calls_of c.entries)) (next_stamp c) e.call =
-      is ∙ ap (λ s. step s (next_stamp c) e.call) k.replayed.run.ends in
+    is ∙ ap (λ s. step s (next_stamp c) e.call) k.replayed.run.ends in
     record {
       replayed = record {
         run = record {
@@ -54,13 +54,13 @@ kept-push workers c e present booked room k known fits is more =
 
 -- the same, as the fields give it
 pub kept-entry : (workers : ℕ) (c : Chronicle) (e : Entry) (entries : List Entry) (present : State) (booked room : ℕ) → IsKept workers c → entries ≡ c.entries ++ e ∷ [] → e.worker < workers → (next_stamp c + 1) < 2 ^ 64
-  → (let o : Outcome = record { state = present; reply = e.reply } in o) ≡ step c.present (next_stamp c) e.call → booked ≡ c.booked + 1
-  → IsKept workers (record c { entries = entries; present = present; booked = booked; room = room })
+    → (let o : Outcome = record { state = present; reply = e.reply } in o) ≡ step c.present (next_stamp c) e.call → booked ≡ c.booked + 1
+    → IsKept workers (record c { entries = entries; present = present; booked = booked; room = room })
 kept-entry workers c e entries present booked room k are known fits is more =
     subst (λ (es : List Entry). IsKept workers (record c { entries = es; present = present; booked = booked; room = room })) (sym are) (kept-push workers c e present booked room k known fits is more)
 
 kept-root : (workers : ℕ) (config : Settings) (cut : List ℕ) (booked room : ℕ) → config.first_stamp < 2 ^ 64 → length cut ≡ workers → sum cut ≡ 0 → booked ≡ 0
-  → IsKept workers (record { config = config; opening = root_state config.pid_max; first_kept = 0; cut = cut; entries = []; present = root_state config.pid_max; booked = booked; room = room })
+    → IsKept workers (record { config = config; opening = root_state config.pid_max; first_kept = 0; cut = cut; entries = []; present = root_state config.pid_max; booked = booked; room = room })
 kept-root workers config cut booked room fits len none empty = record {
   replayed = record { run = record { replays = tt; ends = refl }; starts = λ _. refl };
   counted = record { booked = empty; places = len; cut = none; known = λ k d below. absurd (omega arith); fits = omega arith };
@@ -68,7 +68,7 @@ kept-root workers config cut booked room fits len none empty = record {
 
 -- a new record
 pub kept-new : (workers : ℕ) (config : Settings) (opening present : State) (cut : List ℕ) (entries : List Entry) (booked room : ℕ) → config.first_stamp < 2 ^ 64 → opening ≡ root_state config.pid_max → present ≡ root_state config.pid_max → entries ≡ [] → length cut ≡ workers → sum cut ≡ 0 → booked ≡ 0
-  → IsKept workers (record { config = config; opening = opening; first_kept = 0; cut = cut; entries = entries; present = present; booked = booked; room = room })
+    → IsKept workers (record { config = config; opening = opening; first_kept = 0; cut = cut; entries = entries; present = present; booked = booked; room = room })
 kept-new workers config opening present cut entries booked room fits from is none len zero empty =
     subst (λ (s : State). IsKept workers (record { config = config; opening = s; first_kept = 0; cut = cut; entries = entries; present = present; booked = booked; room = room })) (sym from)
     (subst (λ (s : State). IsKept workers (record { config = config; opening = root_state config.pid_max; first_kept = 0; cut = cut; entries = entries; present = s; booked = booked; room = room })) (sym is)
@@ -80,7 +80,7 @@ state_after-none state stamp [] h = refl
 state_after-none state stamp (e ∷ entries) h = absurd (omega arith)
 
 kept-opened : (workers : ℕ) (c : Chronicle) (first : ℕ) (cut : List ℕ) (room : ℕ) → IsKept workers c → first ≡ total c → length cut ≡ workers → sum cut ≡ total c
-  → IsKept workers (record c { opening = c.present; first_kept = first; cut = cut; entries = []; room = room })
+    → IsKept workers (record c { opening = c.present; first_kept = first; cut = cut; entries = []; room = room })
 kept-opened workers c first cut room k is len all = record {
   replayed = record {
     run = record { replays = tt; ends = refl };
@@ -97,7 +97,7 @@ kept-opened workers c first cut room k is len all = record {
 
 -- the present state becomes the opening
 pub kept-checkpoint : (workers : ℕ) (c : Chronicle) (opening : State) (entries : List Entry) (first : ℕ) (cut : List ℕ) (room : ℕ) → IsKept workers c → opening ≡ c.present → entries ≡ [] → first ≡ total c → length cut ≡ workers → sum cut ≡ total c
-  → IsKept workers (record c { opening = opening; first_kept = first; cut = cut; entries = entries; room = room })
+    → IsKept workers (record c { opening = opening; first_kept = first; cut = cut; entries = entries; room = room })
 kept-checkpoint workers c opening entries first cut room k from none is len all =
     subst (λ (s : State). IsKept workers (record c { opening = s; first_kept = first; cut = cut; entries = entries; room = room })) (sym from)
     (subst (λ (es : List Entry). IsKept workers (record c { opening = c.present; first_kept = first; cut = cut; entries = es; room = room })) (sym none) (kept-opened workers c first cut room k is len all))

@@ -11,18 +11,18 @@ found_above parent_of test most number = find test (option_map_or (climb parent_
 
 -- one step up
 step_up : (parent_of : ℕ → Option ℕ) (test : ℕ → Bool) (limit count number up : ℕ) → count < limit → parent_of number ≡ Some up
-  → found_above parent_of test (limit - count) number ≡ cond (test up) (Some up) (found_above parent_of test (limit - (count + 1)) up)
+    → found_above parent_of test (limit - count) number ≡ cond (test up) (Some up) (found_above parent_of test (limit - (count + 1)) up)
 step_up parent_of test limit count number up below is =
     rw (is, climb-suc parent_of (limit - count) (limit - (count + 1)) up (omega arith)) refl
 
 -- the next ancestor passes
 pub found_above-here : (parent_of : ℕ → Option ℕ) (test : ℕ → Bool) (limit count number up : ℕ) (whole : Option ℕ) → count < limit → parent_of number ≡ Some up → test up ≡ true
-  → found_above parent_of test (limit - count) number ≡ whole → Some up ≡ whole
+    → found_above parent_of test (limit - count) number ≡ whole → Some up ≡ whole
 found_above-here parent_of test limit count number up whole below is passes h = rw passes at (sym (step_up parent_of test limit count number up below is)) ∙ h
 
 -- it does not, so the search goes on above it
 pub found_above-further : (parent_of : ℕ → Option ℕ) (test : ℕ → Bool) (limit count number up : ℕ) (whole : Option ℕ) → count < limit → parent_of number ≡ Some up → test up ≡ false
-  → found_above parent_of test (limit - count) number ≡ whole → found_above parent_of test (limit - (count + 1)) up ≡ whole
+    → found_above parent_of test (limit - count) number ≡ whole → found_above parent_of test (limit - (count + 1)) up ≡ whole
 found_above-further parent_of test limit count number up whole below is fails h = rw fails at (sym (step_up parent_of test limit count number up below is)) ∙ h
 
 -- there is no further ancestor

@@ -39,13 +39,13 @@ drawn-Some state s n h = rw h refl
 
 -- a namespace without a number
 pub fork_into-full : (old state : State) (caller : Row) (t s : ℕ) → find (λ s. is_none (draw state s)) (path_up state.spaces t) ≡ Some s
-  → fork_into old state caller t ≡ refused old (NoNumber s)
+    → fork_into old state caller t ≡ refused old (NoNumber s)
 unfolding fork_into
 fork_into-full old state caller t s full = rw full refl
 
 -- a control group at its limit
 pub fork_into-limited : (old state : State) (caller : Row) (t c : ℕ) → find (λ s. is_none (draw state s)) (path_up state.spaces t) ≡ None → passed_limit state caller.home ≡ Some c
-  → fork_into old state caller t ≡ refused old (PidsLimit c)
+    → fork_into old state caller t ≡ refused old (PidsLimit c)
 unfolding fork_into
 fork_into-limited old state caller t c given limited = rw (given, limited) refl
 
@@ -64,10 +64,10 @@ with_cursors-moved state path = ap (λ f. map f state.spaces) (fun_ext (λ s. le
 
 -- the child is there, and the cursors have moved
 pub fork_into-planned : (old state : State) (caller : Row) (t : ℕ) (path cursors : List ℕ) (child : Row) (inner root : ℕ)
-  → find (λ s. is_none (draw state s)) (path_up state.spaces t) ≡ None → passed_limit state caller.home ≡ None
-  → path ≡ path_up state.spaces t → cursors ≡ map (λ s. drawn state s + 1) path → child ≡ child_of state caller t
-  → inner ≡ number_or_zero state.spaces child.name caller.name.space → root ≡ root_number child.name
-  → fork_into old state caller t ≡ changed (record state { rows = insert_row child state.rows; spaces = map (moved_by path cursors) state.spaces }) (Forked inner root)
+    → find (λ s. is_none (draw state s)) (path_up state.spaces t) ≡ None → passed_limit state caller.home ≡ None
+    → path ≡ path_up state.spaces t → cursors ≡ map (λ s. drawn state s + 1) path → child ≡ child_of state caller t
+    → inner ≡ number_or_zero state.spaces child.name caller.name.space → root ≡ root_number child.name
+    → fork_into old state caller t ≡ changed (record state { rows = insert_row child state.rows; spaces = map (moved_by path cursors) state.spaces }) (Forked inner root)
 unfolding fork_into
 fork_into-planned old state caller t path cursors child inner root given room is_path is_cursors is_child is_inner is_root =
     rw (is_inner, is_root, is_child, is_cursors, is_path, given, room, with_cursors-moved) refl

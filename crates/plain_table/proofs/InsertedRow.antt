@@ -31,7 +31,7 @@ place-prefix k n within = elim (cases_Bool (nat_lt k n)) [
 
 -- the place in front of the first row with a greater root number is its place
 pub insert_row-place : (new : Row) (rows : List Row)
-  → insert_row new rows ≡ insert rows (unwrap_or (position (λ row. nat_lt (root_number new.name) (root_number row.name)) rows) (length rows)) new
+    → insert_row new rows ≡ insert rows (unwrap_or (position (λ row. nat_lt (root_number new.name) (root_number row.name)) rows) (length rows)) new
 insert_row-place new rows =
     insert_row-prefix new rows
     ∙ ap (λ k. insert rows k new) (sym (place-prefix (prefix_len (is_not_above (root_number new.name)) rows) (length rows) (prefix_len-le-length (is_not_above (root_number new.name)) rows)))

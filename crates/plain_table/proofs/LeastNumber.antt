@@ -13,7 +13,7 @@ use Rattle.plain_table.specs.Least.{lesser_number}
 
 -- the least of three is the same whichever two are compared first
 lesser_number-three : (m y n : ℕ)
-  → option_map_or (λ k. if nat_lt k y then k else y) (Some (lesser_number (Some m) n)) y ≡ lesser_number (Some (if nat_lt m y then m else y)) n
+    → option_map_or (λ k. if nat_lt k y then k else y) (Some (lesser_number (Some m) n)) y ≡ lesser_number (Some (if nat_lt m y then m else y)) n
 lesser_number-three m y n = elim (cases_Bool (nat_lt n m)) [
   | inl nm ↦ elim (cases_Bool (nat_lt m y)) [
     | inl my ↦ let ny : nat_lt n y ≡ true = grind (arith, nat_tests) in rw (nm, my, ny, nm) refl
@@ -36,12 +36,12 @@ least_of-snoc (y ∷ ns) n = rw (least_of-snoc ns n) (ap Some (cases (least_of n
 
 -- a walk over a row that gives a number, and over one that gives none
 pub least_of-gives : (f : Row → Option ℕ) (rows : List Row) (i : ℕ) (row : Row) (n : ℕ) → i < length rows → row ≡ get_or rows i row → f row ≡ Some n
-  → least_of (filter_map f (take (i + 1) rows)) ≡ Some (lesser_number (least_of (filter_map f (take i rows))) n)
+    → least_of (filter_map f (take (i + 1) rows)) ≡ Some (lesser_number (least_of (filter_map f (take i rows))) n)
 least_of-gives f rows i row n below is gives =
     rw (take_more rows i row below, ← is, filter_map-append, gives) (least_of-snoc (filter_map f (take i rows)) n)
 
 pub least_of-skips : (f : Row → Option ℕ) (rows : List Row) (i : ℕ) (row : Row) → i < length rows → row ≡ get_or rows i row → f row ≡ None
-  → least_of (filter_map f (take (i + 1) rows)) ≡ least_of (filter_map f (take i rows))
+    → least_of (filter_map f (take (i + 1) rows)) ≡ least_of (filter_map f (take i rows))
 least_of-skips f rows i row below is gives = rw (take_more rows i row below, ← is, filter_map-append, gives, append-nil) refl
 
 filter-cons_option : (p : ℕ → Bool) (o : Option ℕ) (ns : List ℕ) → filter p (cons_option o ns) ≡ cons_option (option_and_then (λ n. if p n then Some n else None) o) (filter p ns)

@@ -109,8 +109,7 @@ fn first_above(rows: &[Row], number: u32) -> Option<usize>
     ensures place { result ≡ position (λ row. nat_lt number (root_of row.name)) rows.now }
     ensures within { IfSome result (λ place. place < length rows.now) }
 {
-    rows.iter()
-        .position(|row| number < root_number(&row.name))
+    rows.iter().position(|row| number < root_number(&row.name))
 }
 
 /// The place of a row with the root number among the rows.

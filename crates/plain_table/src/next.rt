@@ -22,13 +22,7 @@ fn name_by(kind: Kind, row: &Row) -> &Name
 }
 
 /// The row's number in the namespace, if it is not below the given one.
-fn number_at_or_above(
-    view: &View<'_>,
-    kind: Kind,
-    space: u64,
-    from: u32,
-    row: &Row,
-) -> Option<u32>
+fn number_at_or_above(view: &View<'_>, kind: Kind, space: u64, from: u32, row: &Row) -> Option<u32>
     ensures { result ≡ number_from view.now kind space from row.now }
 {
     match view.number(name_by(kind, row), space) {

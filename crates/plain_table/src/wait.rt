@@ -117,8 +117,7 @@ fn lesser<'a>(view: &View<'_>, space: u64, least: Option<&'a Row>, row: &'a Row)
 {
     match least {
         Some(other)
-            if view.number_or_zero(&other.name, space) <= view.number_or_zero(&row.name, space) =>
-        {
+            if view.number_or_zero(&other.name, space) <= view.number_or_zero(&row.name, space) => {
             Some(other)
         }
         _ => Some(row),

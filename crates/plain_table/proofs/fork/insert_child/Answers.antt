@@ -7,5 +7,5 @@ use Rattle.plain_table.proofs.fork.insert_child.Goals as goal
 pub returns : goal.returns
 returns c =
     let place : c.place_of-place.result ≡ unwrap_or (position (λ row. nat_lt (root_number c.args.child.name) (root_number row.name)) c.args.rows.now.items) (length c.args.rows.now.items) =
-      rw (← c.root_number.ensures, ← c.deref.ensures.value) c.place_of-place.ensures.place in
+    rw (← c.root_number.ensures, ← c.deref.ensures.value) c.place_of-place.ensures.place in
     c.in-Ok.ensures.items ∙ ap (λ k. insert c.args.rows.now.items k c.args.child) place ∙ sym (insert_row-place c.args.child c.args.rows.now.items)

@@ -18,8 +18,11 @@ returns-in-Some c old =
     fork_into-limited old c.args.view.now c.args.caller.now c.args.space c.in-Some.control (rw path at c.in-Ok.ensures.0) (sym c.passed_limit.ensures ∙ c.in-Some.is)
 
 pub returns : goal.returns
-returns c = (refl, λ old.
-    let path = c.as_slice.ensures.value ∙ c.path_up-path.ensures in
-    let child = c.child_of-child.ensures c.args.view.now (rw path at c.in-Ok.ensures.1) in
-    fork_into-planned old c.args.view.now c.args.caller.now c.args.space c.path_up-path.result.items c.in-Ok.draws.cursors.items c.child_of-child.result c.number_or_zero.result c.root_number.result
-    (rw path at c.in-Ok.ensures.0) (sym c.passed_limit.ensures ∙ c.in_default.is) c.path_up-path.ensures (rw c.as_slice.ensures.value at c.in-Ok.ensures.2) child c.number_or_zero.ensures c.root_number.ensures)
+returns c = (
+  refl,
+  λ old.
+      let path = c.as_slice.ensures.value ∙ c.path_up-path.ensures in
+      let child = c.child_of-child.ensures c.args.view.now (rw path at c.in-Ok.ensures.1) in
+      fork_into-planned old c.args.view.now c.args.caller.now c.args.space c.path_up-path.result.items c.in-Ok.draws.cursors.items c.child_of-child.result c.number_or_zero.result c.root_number.result
+      (rw path at c.in-Ok.ensures.0) (sym c.passed_limit.ensures ∙ c.in_default.is) c.path_up-path.ensures (rw c.as_slice.ensures.value at c.in-Ok.ensures.2) child c.number_or_zero.ensures c.root_number.ensures,
+)

@@ -9,7 +9,7 @@ pub invariant_of-self-2 : goal.invariant_of-self-2
 invariant_of-self-2 g c =
     let e : Entry = record { worker = c.seat.inside.worker; call = c.args.call; reply = c.copy_reply.result } in
     let stamp : c.first_stamp.result + (c.self.inside.first_kept + c.len.result) ≡ c.self.inside.config.first_stamp + (c.self.inside.first_kept + length c.self.inside.history.items) =
-      omega (arith, c.first_stamp.ensures.value, c.len.ensures, c.self.inside.history.ok.0) in
+    omega (arith, c.first_stamp.ensures.value, c.len.ensures, c.self.inside.history.ok.0) in
     kept-entry _ _ e _ _ _ _ c.self.invariant
     (search rules)
     (search rules)

@@ -10,12 +10,12 @@ use Rattle.plain_table.proofs.table.PlainTable.ended_child.Goals.{then-is_ended_
 pub loop-row-preserved : goal.loop-row-preserved
 loop-row-preserved c = elim c.if-is_ended_match.branch [
   | then-is_ended_match w ↦
-    ap option_copied w.least-is ∙ w.lesser-least.ensures
-    ∙ ap (λ o. Some (lesser_of c.view-view.result c.args.caller.now.name.space o c.row-item.result)) c.loop-row.invariant
-    ∙ sym (least_row-passes c.view-view.result c.args.caller.now.name.space (is_ended_match c.view-view.result c.args.caller.now c.args.which) c.deref-row-items.result.now c.loop-row.row-index c.row-item.result c.loop-row-test.true c.row-item.is (sym c.is_ended_match.ensures ∙ w.if-is_ended_match.true))
+      ap option_copied w.least-is ∙ w.lesser-least.ensures
+      ∙ ap (λ o. Some (lesser_of c.view-view.result c.args.caller.now.name.space o c.row-item.result)) c.loop-row.invariant
+      ∙ sym (least_row-passes c.view-view.result c.args.caller.now.name.space (is_ended_match c.view-view.result c.args.caller.now c.args.which) c.deref-row-items.result.now c.loop-row.row-index c.row-item.result c.loop-row-test.true c.row-item.is (sym c.is_ended_match.ensures ∙ w.if-is_ended_match.true))
   | else-is_ended_match w ↦
-    ap option_copied w.least-is ∙ c.loop-row.invariant
-    ∙ sym (least_row-skips c.view-view.result c.args.caller.now.name.space (is_ended_match c.view-view.result c.args.caller.now c.args.which) c.deref-row-items.result.now c.loop-row.row-index c.row-item.result c.loop-row-test.true c.row-item.is (sym c.is_ended_match.ensures ∙ w.if-is_ended_match.false))
+      ap option_copied w.least-is ∙ c.loop-row.invariant
+      ∙ sym (least_row-skips c.view-view.result c.args.caller.now.name.space (is_ended_match c.view-view.result c.args.caller.now c.args.which) c.deref-row-items.result.now c.loop-row.row-index c.row-item.result c.loop-row-test.true c.row-item.is (sym c.is_ended_match.ensures ∙ w.if-is_ended_match.false))
 ]
 
 pub returns : goal.returns
