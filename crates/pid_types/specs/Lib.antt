@@ -1,3 +1,4 @@
+pub mod Refusals
 pub mod Settings
 pub mod Chains
 pub mod State

@@ -12,4 +12,5 @@ pub mod device;
 pub mod entry;
 pub mod key;
 pub mod plain;
+pub mod refusal;
 pub mod reply;
