@@ -16,3 +16,6 @@ pub use difference::Audit;
 pub use jobs::work;
 pub use result::Work;
 pub use run::{Finished, RunFault, run_workers};
+
+#[cfg(test)]
+mod tests;

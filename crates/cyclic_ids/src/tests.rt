@@ -1,0 +1,65 @@
+//! Worked draws.
+
+ghost use Rattle.std.specs.Prelude.{◌≡◌, ◌<◌, OnOk};
+
+use crate::{CyclicIds, GROUP_MARK, SESSION_MARK, TASK_MARK};
+use std::process::Abort;
+
+/// Draws a number, and tries again where there was no memory; then the next number has to stay.
+fn draw(rt: &impl Abort, ids: &mut CyclicIds<u32>) -> Option<u32> {
+    let n = ids.plan()?;
+    if ids.prepare(n).is_err() {
+        assert_eq!(rt; ids.plan(), Some(n));
+        if ids.prepare(n).is_err() {
+            return None;
+        }
+    }
+    ids.commit(n, n);
+    Some(n)
+}
+
+#[test]
+fn draws_in_turn(rt: HostRuntime) {
+    let mut ids = CyclicIds::new(rt.alloc(), 301);
+    for n in 1..=300 {
+        assert_eq!(rt; draw(&rt, &mut ids), Some(n));
+    }
+    assert_eq!(rt; ids.cursor(), 301);
+    assert_eq!(rt; draw(&rt, &mut ids), None);
+    assert_eq!(rt; ids.release(7), Some(7));
+    assert_eq!(rt; draw(&rt, &mut ids), None);
+    assert_eq!(rt; ids.release(300), Some(300));
+    assert_eq!(rt; ids.cursor(), 301);
+    assert_eq!(rt; draw(&rt, &mut ids), Some(300));
+    assert_eq!(rt; ids.find(300).copied(), Some(300));
+}
+
+#[test]
+fn restarts_at_300(rt: HostRuntime) {
+    let mut ids = CyclicIds::new(rt.alloc(), 303);
+    for n in 1..=302 {
+        assert_eq!(rt; draw(&rt, &mut ids), Some(n));
+    }
+    assert_eq!(rt; ids.release(5), Some(5));
+    assert_eq!(rt; ids.release(301), Some(301));
+    assert_eq!(rt; ids.release(302), Some(302));
+    assert_eq!(rt; draw(&rt, &mut ids), Some(301));
+    assert_eq!(rt; ids.release(300), Some(300));
+    assert_eq!(rt; draw(&rt, &mut ids), Some(302));
+    assert_eq!(rt; draw(&rt, &mut ids), Some(300));
+    assert_eq!(rt; draw(&rt, &mut ids), None);
+}
+
+#[test]
+fn marks_numbers(rt: HostRuntime) {
+    let mut ids = CyclicIds::new(rt.alloc(), 301);
+    assert_eq!(rt; draw(&rt, &mut ids), Some(1));
+    assert_eq!(rt; draw(&rt, &mut ids), Some(2));
+    assert_eq!(rt; ids.next_marked(0, TASK_MARK), None);
+    assert!(rt; ids.set_mark(2, GROUP_MARK));
+    assert!(rt; !ids.set_mark(3, GROUP_MARK));
+    assert_eq!(rt; ids.next_marked(0, GROUP_MARK), Some(2));
+    assert!(rt; !ids.has_mark(2, SESSION_MARK));
+    assert!(rt; ids.clear_mark(2, GROUP_MARK));
+    assert_eq!(rt; ids.next_marked(0, GROUP_MARK), None);
+}

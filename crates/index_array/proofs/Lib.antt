@@ -1,0 +1,10 @@
+pub mod Blocks
+pub mod Changes
+pub mod Descent
+pub mod Empty
+pub mod Finding
+pub mod Indexes
+pub mod Leaves
+pub mod OneBit
+pub mod Powers
+pub mod WordBits

@@ -1,0 +1,3 @@
+pub mod Place
+pub mod Tree
+pub mod Words
