@@ -1,6 +1,6 @@
 # What a person does with this repository. It needs the Rattle toolchain, whose command is `rt`.
 
-.PHONY: run list work try test clean
+.PHONY: run list try test clean
 
 # Answers the first script. The first time it proves and builds what the program stands on.
 run:
@@ -9,10 +9,6 @@ run:
 # Shows the table that the first script leaves.
 list:
 	@cd crates/pidtab && rt run -- list < ../../examples/first.script
-
-# Runs two workers over one table, each on a file of its own.
-work:
-	@cd crates/pidtab && rt run -- work ../../examples/worker0.script ../../examples/worker1.script
 
 # Answers the first script at once, with nothing proved: for a look, and for no more.
 try:

@@ -9,9 +9,9 @@
 //! it, and `commit` gives it. Only `prepare` takes memory.
 #![tactic(auto)]
 
-ghost use Rattle.std.specs.Prelude.{◌≡◌, ℕ, ◌+◌, ◌<◌, ◌≤◌, Option, Some, None, OnOk, IfSome, true, false, is_some, [], ◌∷◌};
+ghost use Rattle.std.specs.Prelude.{◌≡◌, ℕ, ◌+◌, ◌<◌, Option, Some, None, OnOk, IfSome, true, false, is_some, [], ◌∷◌};
 ghost use Rattle.std.specs.Option.{option_copied};
-ghost use Rattle.index_array.specs.Place.{Place, entry_at, is_prepared, value_at, is_marked, with_mark, IsLeastIndex, WritesEntry, KeepsEntries, KeepsPrepared};
+ghost use Rattle.index_array.specs.Place.{entry_at, is_prepared, value_at, is_marked, with_mark, IsLeastIndex, WritesEntry, KeepsEntries, KeepsPrepared};
 ghost use Rattle.pid_types.specs.Draw.{restart};
 ghost use Rattle.pid_types.specs.Settings.{HasGoodPidMax};
 ghost use Rattle.cyclic_ids.specs.Ids.{Ids, planned};

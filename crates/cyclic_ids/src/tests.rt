@@ -1,6 +1,6 @@
 //! Worked draws.
 
-ghost use Rattle.std.specs.Prelude.{◌≡◌, ◌<◌, OnOk};
+ghost use Rattle.std.specs.Prelude.{◌<◌};
 
 use crate::{CyclicIds, GROUP_MARK, SESSION_MARK, TASK_MARK};
 use std::process::Abort;

@@ -1,6 +1,6 @@
 //! The bits of a word, one for each of a node's 64 slots.
 
-ghost use Rattle.std.specs.Prelude.{◌≡◌, ◌≢◌, ℕ, ◌<◌, ◌≤◌, MatchOption, true, false, not, nat_eq};
+ghost use Rattle.std.specs.Prelude.{◌≡◌, ◌≢◌, ℕ, ◌<◌};
 ghost use Rattle.index_array.specs.Words.{has_bit, word_of, bit_of, IsFirstBit, IsAnyBit, IsSought, is_absent};
 ghost use Rattle.index_array.specs.declared.bits.Sought.{Sought};
 

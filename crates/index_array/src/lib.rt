@@ -8,9 +8,9 @@
 //! Memory is taken by `prepare` (and by `store`, which calls it) and by nothing else.
 #![tactic(auto)]
 
-ghost use Rattle.std.specs.Prelude.{◌≡◌, ◌≢◌, ℕ, ◌<◌, ◌≤◌, min, length, Option, Some, None, MatchOption, IfOk, IfErr, OnOk, OnErr, Err, ◌↔◌, true, false, not, is_some, List, [], Bool};
+ghost use Rattle.std.specs.Prelude.{◌≡◌, ◌≢◌, ℕ, ◌<◌, ◌≤◌, min, Option, Some, None, MatchOption, IfOk, IfErr, OnOk, OnErr, Err, ◌↔◌, true, false, not, is_some, List};
 ghost use Rattle.std.specs.Option.{option_copied};
-ghost use Rattle.index_array.specs.Place.{Place, Entry, bare, place_at, entry_at, is_prepared, value_at, is_marked, with_mark, carries, IsLeastIndex, IsFirst, WritesEntry, KeepsEntries, KeepsPrepared};
+ghost use Rattle.index_array.specs.Place.{Place, bare, place_at, entry_at, is_prepared, value_at, is_marked, with_mark, IsLeastIndex, IsFirst, WritesEntry, KeepsEntries, KeepsPrepared};
 ghost use Rattle.index_array.specs.Tree.{IsLeaf};
 ghost use Rattle.index_array.specs.Words.{IsSought};
 ghost use Rattle.index_array.specs.declared.bits.Sought.{Sought};

@@ -1,10 +1,10 @@
 //! The nodes of the array: 64 slots each, entries in a leaf and children above.
 
-ghost use Rattle.std.specs.Prelude.{◌≡◌, ◌≢◌, ℕ, ◌<◌, ◌≤◌, ◌+◌, ◌^◌, ◌/◌, ◌%◌, ◌*◌, length, Option, MatchOption, IsSome, IsNone, IsTrue, ◌↔◌, IfOk, OnOk, replicate, true, false, not, nat_eq, is_some, List, [], ◌∷◌, Bool};
+ghost use Rattle.std.specs.Prelude.{◌≡◌, ℕ, ◌<◌, ◌≤◌, ◌+◌, ◌^◌, ◌/◌, ◌%◌, ◌*◌, length, Option, MatchOption, IsSome, IsNone, IfOk, OnOk, replicate, true, false, is_some, [], ◌∷◌};
 ghost use Rattle.std.specs.List.{list_any};
 ghost use Rattle.std.specs.Option.{option_copied};
-ghost use Rattle.index_array.specs.Words.{has_bit, word_of, bit_of, IsSought};
-ghost use Rattle.index_array.specs.Place.{Place, Entry, bare, place_at, entry_at, is_prepared, value_at, is_marked, entry_with, with_mark, carries, IsFirst, WritesEntry, KeepsEntries, KeepsPrepared};
+ghost use Rattle.index_array.specs.Words.{has_bit, bit_of, IsSought};
+ghost use Rattle.index_array.specs.Place.{bare, place_at, entry_at, is_prepared, value_at, is_marked, entry_with, with_mark, carries, IsFirst, WritesEntry, KeepsEntries, KeepsPrepared};
 ghost use Rattle.index_array.specs.Tree.{IsChild, IsLeaf, IsNew, IsWhole, Grows};
 ghost use Rattle.index_array.specs.declared.bits.Sought.{Sought};
 

@@ -1,10 +1,11 @@
 -- Counts of workers, added up.
-use Rattle.std.proofs.Common.{◌≡◌, ℕ, zero, suc, ◌+◌, ◌<◌, ◌≤◌, List, [], ◌∷◌, length, get_or, set, length-set, take, sum, Bool, true, false, cond, eqb, refl, sym, ap, ◌∙◌, subst, arith, inl, inr}
+use Rattle.std.proofs.Common.{◌≡◌, ℕ, zero, suc, ◌+◌, ◌<◌, ◌≤◌, List, [], ◌∷◌, length, get_or, set, length-set, take, replicate, sum, Option, None, slice_get, ◌-◌, Bool, true, false, cond, eqb, refl, sym, ap, ◌∙◌, subst, arith, inl, inr}
+use Rattle.std.proofs.lemmas.Bool.{le-ltb}
 use Rattle.std.proofs.lemmas.Bool.Decides.{eqb_tells}
 use Rattle.std.proofs.lemmas.List.Sums.{sum_by_more, sum_by-cons, sum_by-set, count_by_more_yes, count_by_more_no}
 use Rattle.std.proofs.lemmas.List.{take_all, get_or-set_same, get_or-set_other}
 use Rattle.std.proofs.lemmas.List.Elements.{All-head, All-tail}
-use Rattle.std.specs.Prelude.{All, slice_index, ◌==◌}
+use Rattle.std.specs.Prelude.{All, slice_index, ◌==◌, nat_lt, if◌then◌else◌}
 use Rattle.pid_types.specs.declared.entry.Entry.{Entry}
 use Rattle.locked_table.specs.Chronicle.{Chronicle, IsCounted, by_worker, sum_below, recorded_by_all, total}
 
@@ -113,3 +114,13 @@ pub counted_entry : (k : ℕ) (es : List Entry) (old cut : List ℕ) (e : Entry)
 counted_entry k es old cut e v below same known is len h =
     subst (λ (x : Entry). ((w : ℕ) → w < length old → slice_index (set cut x.worker (v + 1)) w ≡ slice_index old w + by_worker w (take (k + 1) es)) × (sum (set cut x.worker (v + 1)) ≡ sum old + (k + 1)) × (length (set cut x.worker (v + 1)) ≡ length old)) (sym same)
     (counted_and_summed k es old cut e v below (subst (λ (x : Entry). x.worker < length cut) same known) (is ∙ ap (λ (x : Entry). slice_index cut x.worker) same) len h)
+
+-- noughts add up to nought
+pub sum_of_noughts : (n : ℕ) → sum (replicate n 0) ≡ 0
+sum_of_noughts zero = refl
+sum_of_noughts (suc n) = sum_of_noughts n
+
+-- an ordinal from the first kept one on is that of a kept entry, if of any
+pub entry_at-kept : (first : ℕ) (entries : List Entry) (ordinal : ℕ) → first ≤ ordinal
+    → (if nat_lt ordinal first then None else slice_get entries (ordinal - first)) ≡ slice_get entries (ordinal - first)
+entry_at-kept first entries ordinal h = ap (λ (b : Bool). cond {A = Option Entry} b None (slice_get entries (ordinal - first))) (le-ltb ordinal first h)

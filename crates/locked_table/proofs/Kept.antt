@@ -1,16 +1,20 @@
 -- The record's invariant, over plain values.
-use Rattle.std.proofs.Common.{◌≡◌, ℕ, ◌+◌, ◌^◌, ◌<◌, List, [], ◌∷◌, ◌++◌, length, map, sum, refl, sym, ap, ◌∙◌, subst, arith, length-append}
+use Rattle.std.proofs.Common.{◌≡◌, ℕ, ◌+◌, ◌^◌, ◌<◌, true, List, [], ◌∷◌, ◌++◌, length, map, sum, refl, sym, ap, ◌∙◌, subst, arith, length-append}
+use Rattle.std.proofs.lemmas.List.{length-map}
 use Rattle.std.proofs.lemmas.List.Elements.{All-push}
 use Rattle.pid_types.specs.declared.entry.Entry.{Entry}
 use Rattle.pid_types.specs.declared.plain.Control.{Control}
 use Rattle.pid_types.specs.declared.plain.Plain.{Plain}
 use Rattle.pid_types.specs.declared.reply.Reply.{Reply}
-use Rattle.pid_types.specs.Settings.{Settings}
+use Rattle.pid_types.specs.Settings.{Settings, HasGoodPidMax}
 use Rattle.pid_types.specs.State.{State, root_state}
 use Rattle.pid_types.specs.Outcome.{Outcome}
 use Rattle.pid_types.specs.Shown.{Shows, state_of, with_count, without_count}
 use Rattle.pid_types.specs.Step.{step}
 use Rattle.pid_types.specs.Replay.{state_after, calls_of, RepliesAsOne}
+use Rattle.pid_types.specs.Sound.{is_sound}
+use Rattle.model_laws.specs.Soundness.{IsBelow}
+use Rattle.model_laws.specs.StepLaws.{BoundStays, RootStateIsSound, RunsKeepSoundness}
 use Rattle.locked_table.specs.Chronicle.{Chronicle, IsKept, next_stamp, first_kept_stamp, total}
 use Rattle.locked_table.proofs.Along.{state_after-push, Along-push}
 
@@ -50,6 +54,7 @@ kept-push workers c e present booked room k known fits is more =
         known = All-push (λ (x : Entry). x.worker < workers) c.entries e k.counted.known known;
         fits = omega (arith, len, fits);
       };
+      opened = record { sound = k.opened.sound; below = k.opened.below; bound = k.opened.bound };
     }
 
 -- the same, as the fields give it
@@ -59,29 +64,49 @@ pub kept-entry : (workers : ℕ) (c : Chronicle) (e : Entry) (entries : List Ent
 kept-entry workers c e entries present booked room k are known fits is more =
     subst (λ (es : List Entry). IsKept workers (record c { entries = es; present = present; booked = booked; room = room })) (sym are) (kept-push workers c e present booked room k known fits is more)
 
-kept-root : (workers : ℕ) (config : Settings) (cut : List ℕ) (booked room : ℕ) → config.first_stamp < 2 ^ 64 → length cut ≡ workers → sum cut ≡ 0 → booked ≡ 0
+kept-root : RootStateIsSound → (workers : ℕ) (config : Settings) (cut : List ℕ) (booked room : ℕ) → HasGoodPidMax config.pid_max → 0 < config.first_stamp → config.first_stamp < 2 ^ 64 → length cut ≡ workers → sum cut ≡ 0 → booked ≡ 0
     → IsKept workers (record { config = config; opening = root_state config.pid_max; first_kept = 0; cut = cut; entries = []; present = root_state config.pid_max; booked = booked; room = room })
-kept-root workers config cut booked room fits len none empty = record {
+kept-root law workers config cut booked room good some fits len none empty = record {
   replayed = record { run = record { replays = tt; ends = refl }; starts = λ _. refl };
   counted = record { booked = empty; places = len; cut = none; known = λ k d below. absurd (omega arith); fits = omega arith };
+  opened = record {
+    sound = (law config.pid_max config.first_stamp good some).0;
+    below = subst (λ (stamp : ℕ). IsBelow stamp (root_state config.pid_max)) (omega arith) (law config.pid_max config.first_stamp good some).1;
+    bound = refl;
+  };
 }
 
 -- a new record
-pub kept-new : (workers : ℕ) (config : Settings) (opening present : State) (cut : List ℕ) (entries : List Entry) (booked room : ℕ) → config.first_stamp < 2 ^ 64 → opening ≡ root_state config.pid_max → present ≡ root_state config.pid_max → entries ≡ [] → length cut ≡ workers → sum cut ≡ 0 → booked ≡ 0
+pub kept-new : RootStateIsSound → (workers : ℕ) (config : Settings) (opening present : State) (cut : List ℕ) (entries : List Entry) (booked room : ℕ) → HasGoodPidMax config.pid_max → 0 < config.first_stamp → config.first_stamp < 2 ^ 64 → opening ≡ root_state config.pid_max → present ≡ root_state config.pid_max → entries ≡ [] → length cut ≡ workers → sum cut ≡ 0 → booked ≡ 0
     → IsKept workers (record { config = config; opening = opening; first_kept = 0; cut = cut; entries = entries; present = present; booked = booked; room = room })
-kept-new workers config opening present cut entries booked room fits from is none len zero empty =
+kept-new law workers config opening present cut entries booked room good some fits from is none len zero empty =
     subst (λ (s : State). IsKept workers (record { config = config; opening = s; first_kept = 0; cut = cut; entries = entries; present = present; booked = booked; room = room })) (sym from)
     (subst (λ (s : State). IsKept workers (record { config = config; opening = root_state config.pid_max; first_kept = 0; cut = cut; entries = entries; present = s; booked = booked; room = room })) (sym is)
     (subst (λ (es : List Entry). IsKept workers (record { config = config; opening = root_state config.pid_max; first_kept = 0; cut = cut; entries = es; present = root_state config.pid_max; booked = booked; room = room })) (sym none)
-    (kept-root workers config cut booked room fits len zero empty)))
+    (kept-root law workers config cut booked room good some fits len zero empty)))
 
 state_after-none : (state : State) (stamp : ℕ) (entries : List Entry) → length entries ≡ 0 → state_after state stamp (calls_of entries) ≡ state
 state_after-none state stamp [] h = refl
 state_after-none state stamp (e ∷ entries) h = absurd (omega arith)
 
-kept-opened : (workers : ℕ) (c : Chronicle) (first : ℕ) (cut : List ℕ) (room : ℕ) → IsKept workers c → first ≡ total c → length cut ≡ workers → sum cut ≡ total c
+-- the present state is sound, and the ids in it are below the next stamp
+pub present-sound : RunsKeepSoundness → (workers : ℕ) (c : Chronicle) → IsKept workers c → (is_sound c.present ≡ true) × IsBelow (next_stamp c) c.present
+present-sound law workers c k =
+    let after = law c.opening (first_kept_stamp c) (calls_of c.entries) k.opened.sound k.opened.below in
+    let now : first_kept_stamp c + length (calls_of c.entries) ≡ next_stamp c = omega (arith, length-map c.entries (λ (e : Entry). e.call)) in (
+      ap is_sound k.replayed.run.ends ∙ after.0,
+      subst (λ (state : State). IsBelow (next_stamp c) state) (sym k.replayed.run.ends)
+          (subst (λ (stamp : ℕ). IsBelow stamp (state_after c.opening (first_kept_stamp c) (calls_of c.entries))) now after.1),
+    )
+
+-- and the bound of all numbers is the configuration's
+pub present-bound : BoundStays → (workers : ℕ) (c : Chronicle) → IsKept workers c → c.present.pid_max ≡ c.config.pid_max
+present-bound law workers c k =
+    ap (λ (s : State). s.pid_max) k.replayed.run.ends ∙ law c.opening (first_kept_stamp c) (calls_of c.entries) ∙ k.opened.bound
+
+kept-opened : RunsKeepSoundness → BoundStays → (workers : ℕ) (c : Chronicle) (first : ℕ) (cut : List ℕ) (room : ℕ) → IsKept workers c → first ≡ total c → length cut ≡ workers → sum cut ≡ total c
     → IsKept workers (record c { opening = c.present; first_kept = first; cut = cut; entries = []; room = room })
-kept-opened workers c first cut room k is len all = record {
+kept-opened law stays workers c first cut room k is len all = record {
   replayed = record {
     run = record { replays = tt; ends = refl };
     starts = λ none. k.replayed.run.ends ∙ state_after-none c.opening (first_kept_stamp c) c.entries (omega (arith, none, is)) ∙ k.replayed.starts (omega (arith, none, is));
@@ -93,11 +118,16 @@ kept-opened workers c first cut room k is len all = record {
     known = λ i d below. absurd (omega arith);
     fits = omega (arith, k.counted.fits, is);
   };
+  opened = record {
+    sound = (present-sound law workers c k).0;
+    below = subst (λ (stamp : ℕ). IsBelow stamp c.present) (omega (arith, is)) (present-sound law workers c k).1;
+    bound = present-bound stays workers c k;
+  };
 }
 
 -- the present state becomes the opening
-pub kept-checkpoint : (workers : ℕ) (c : Chronicle) (opening : State) (entries : List Entry) (first : ℕ) (cut : List ℕ) (room : ℕ) → IsKept workers c → opening ≡ c.present → entries ≡ [] → first ≡ total c → length cut ≡ workers → sum cut ≡ total c
+pub kept-checkpoint : RunsKeepSoundness → BoundStays → (workers : ℕ) (c : Chronicle) (opening : State) (entries : List Entry) (first : ℕ) (cut : List ℕ) (room : ℕ) → IsKept workers c → opening ≡ c.present → entries ≡ [] → first ≡ total c → length cut ≡ workers → sum cut ≡ total c
     → IsKept workers (record c { opening = opening; first_kept = first; cut = cut; entries = entries; room = room })
-kept-checkpoint workers c opening entries first cut room k from none is len all =
+kept-checkpoint law stays workers c opening entries first cut room k from none is len all =
     subst (λ (s : State). IsKept workers (record c { opening = s; first_kept = first; cut = cut; entries = entries; room = room })) (sym from)
-    (subst (λ (es : List Entry). IsKept workers (record c { opening = c.present; first_kept = first; cut = cut; entries = es; room = room })) (sym none) (kept-opened workers c first cut room k is len all))
+    (subst (λ (es : List Entry). IsKept workers (record c { opening = c.present; first_kept = first; cut = cut; entries = es; room = room })) (sym none) (kept-opened law stays workers c first cut room k is len all))

@@ -1,3 +1,4 @@
 pub mod Along
 pub mod Counts
 pub mod Kept
+mod Promise

@@ -1,9 +1,11 @@
 -- The record, as contracts see it.
-use Rattle.std.specs.Prelude.{◌≡◌, ℕ, ◌+◌, ◌^◌, ◌<◌, List, length, All, sum, count_by, ◌==◌, ◌-◌, slice_index, slice_get, nat_lt, zero, suc, Option, None, if◌then◌else◌}
+use Rattle.std.specs.Prelude.{◌≡◌, ℕ, ◌+◌, ◌^◌, ◌<◌, true, List, length, All, sum, count_by, ◌==◌, ◌-◌, slice_index, slice_get, nat_lt, zero, suc, Option, None, if◌then◌else◌}
 use Rattle.pid_types.specs.declared.entry.Entry.{Entry}
 use Rattle.pid_types.specs.Settings.{Settings}
 use Rattle.pid_types.specs.State.{State, root_state}
 use Rattle.pid_types.specs.Replay.{IsRun}
+use Rattle.pid_types.specs.Sound.{is_sound}
+use Rattle.model_laws.specs.Soundness.{IsBelow}
 
 -- the configuration, the state before the kept entries, the ordinal of the first kept entry, how many entries of each worker were cut
 -- away before it, the kept entries, the present state, what the ledger's book has, and for how many entries there is room
@@ -64,7 +66,14 @@ pub record IsCounted (workers : ℕ) (c : Chronicle) : Type 0 where
   pub known : All (λ (e : Entry). e.worker < workers) c.entries
   pub fits : next_stamp c < 2 ^ 64
 
--- what is true of a record whenever nobody works on it
+-- the opening is sound and has the configuration's bound, and the ids in it are below the stamps of the kept calls
+pub record IsSoundlyOpened (c : Chronicle) : Type 0 where
+  pub sound : is_sound c.opening ≡ true
+  pub below : IsBelow (first_kept_stamp c) c.opening
+  pub bound : c.opening.pid_max ≡ c.config.pid_max
+
+-- what the type keeps
 pub record IsKept (workers : ℕ) (c : Chronicle) : Type 0 where
   pub replayed : IsReplayed c
   pub counted : IsCounted workers c
+  pub opened : IsSoundlyOpened c

@@ -1,14 +1,17 @@
 //! The record: the present state, the history of its calls, and the ledger's book.
-ghost use Rattle.std.specs.Prelude.{◌≡◌, ℕ, ◌+◌, ◌^◌, ◌<◌, ◌≤◌, ◌==◌, [], ◌∷◌, ◌++◌, ◌↔◌, length, All, IsTrue, sum, slice_index, replicate, IfOk, OnOk, OnErr, IsOk, Err};
+ghost use Rattle.std.specs.Prelude.{◌≡◌, ℕ, ◌+◌, ◌^◌, ◌<◌, ◌≤◌, ◌==◌, [], ◌∷◌, ◌++◌, ◌↔◌, length, All, IsTrue, sum, slice_index, slice_get, replicate, IfOk, OnOk, OnErr, IsOk, Err};
 ghost use Rattle.std.specs.Option.{option_copied};
 ghost use Rattle.pid_types.specs.State.{root_state};
 ghost use Rattle.pid_types.specs.declared.entry.Entry.{Entry};
 ghost use Rattle.pid_types.specs.Shown.{Shows};
 ghost use Rattle.pid_types.specs.Step.{step, may_grow};
-ghost use Rattle.locked_table.specs.Chronicle.{Chronicle, total, next_stamp, recorded, recorded_by_all, entry_at, by_worker, IsKept};
+ghost use Rattle.locked_table.specs.Chronicle.{Chronicle, total, next_stamp, recorded, recorded_by_all, entry_at, by_worker};
+ghost use Rattle.locked_table.specs.Promise.{KeepsPromise};
 ghost use Rattle.locked_table.specs.Place.{AreSeats, AreNew, calls_of_seats};
 
 use crate::seat::Seat;
+use model_laws::laws::{forks_keep_limits, numbers_are_apart};
+use model_laws::soundness::{bound_stays, root_state_is_sound, soundness_is_kept};
 use pid_types::call::Call;
 use pid_types::config::Config;
 use pid_types::entry::{Entry, Receipt};
@@ -67,8 +70,10 @@ impl<L: Ledger, const N: usize> Record<L, N> {
         ensures record { IfOk result (λ r. r.0 ≡ record { config = config.now; opening = root_state config.now.pid_max; first_kept = 0; cut = replicate N 0; entries = []; present = root_state config.now.pid_max; booked = 0; room = r.0.room }) }
         ensures seats { IfOk result (λ r. AreSeats N r.1.items × AreNew r.1.items) }
     {
+        root_state_is_sound();
         // Stamp 0 is the id of what the table begins with.
         prove!(config.first_stamp() > 0);
+        prove!(config.pid_max() >= 301 && config.pid_max() <= 4_194_304);
         let (book, rest) = blank.open::<L>();
         let seats = take_seats::<L, N>(alloc, rest)?;
         let cut = vec![in alloc; 0u64; N]?;
@@ -94,11 +99,18 @@ impl<L: Ledger, const N: usize> Record<L, N> {
     }
 
     /// How many calls were recorded, the cut ones among them.
+    ///
+    /// Its contract tells what the record promises whenever nobody works on it: for a record behind a
+    /// lock, whenever the lock is free.
     pub fn total(&self) -> u64
         ensures value { result ≡ total self.now }
-        ensures kept { IsKept N self.now }
+        ensures promise { KeepsPromise self.now }
         ensures workers { result ≡ recorded_by_all N self.now }
     {
+        soundness_is_kept();
+        bound_stays();
+        forks_keep_limits();
+        numbers_are_apart();
         self.first_kept + self.history.len() as u64
     }
 
@@ -125,8 +137,7 @@ impl<L: Ledger, const N: usize> Record<L, N> {
         if ordinal < self.first_kept {
             return None;
         }
-        let place = ordinal - self.first_kept;
-        self.history.as_slice().get(place as usize)
+        entry_in(self.history.as_slice(), ordinal - self.first_kept)
     }
 
     /// The present state. It costs a copy of the whole table.
@@ -165,6 +176,8 @@ impl<L: Ledger, const N: usize> Record<L, N> {
         ensures room { self.old.room ≤ self.new.room }
         ensures err { OnErr result (self.new ≡ self.old) }
     {
+        soundness_is_kept();
+        bound_stays();
         let opening = self.table.snapshot()?;
         count_entries(&mut self.cut, self.history.as_slice());
         self.first_kept += self.history.len() as u64;
@@ -213,6 +226,13 @@ impl<L: Ledger, const N: usize> Record<L, N> {
             reply,
         })
     }
+}
+
+/// The entry at a place.
+fn entry_in(entries: &[Entry], place: u64) -> Option<&Entry>
+    ensures { option_copied result ≡ slice_get entries.now place }
+{
+    entries.get(place as usize)
 }
 
 /// A seat for each worker, with one part of the ledger each.

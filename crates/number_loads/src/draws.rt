@@ -1,6 +1,6 @@
 //! Draws and releases of numbers.
 
-ghost use Rattle.std.specs.Prelude.{◌≡◌, ◌≤◌, ◌<◌, vec_len, OnOk};
+ghost use Rattle.std.specs.Prelude.{◌<◌};
 ghost use Rattle.pid_types.specs.Settings.{HasGoodPidMax};
 
 use crate::random::Random;

@@ -1,7 +1,7 @@
 -- The least free number of a list, and the draw.
 use Rattle.std.proofs.Common.{◌≡◌, ℕ, zero, suc, ◌+◌, ◌<◌, ◌≤◌, max, Bool, true, false, cond, leb, List, [], ◌∷◌, length, Some, None, refl, subst, arith, ◌⊎◌, inl, inr}
 use Rattle.std.specs.Prelude.{nat_lt, ◌==◌}
-use Rattle.std.proofs.lemmas.Bool.{ltb-true, cases_Bool, or_cases, cond_both, cases_eq, cases_lt, cases_order}
+use Rattle.std.proofs.lemmas.Bool.{ltb-true, cases_Bool, or_cases, cond_both, cases_eq, cases_order}
 use Rattle.std.proofs.lemmas.Bool.Decides.{nat_tests}
 use Rattle.pid_types.specs.Chains.{contains, first_absent}
 use Rattle.pid_types.specs.Draw.{least_free, restart, cyclic_draw}

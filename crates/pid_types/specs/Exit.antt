@@ -1,5 +1,5 @@
 -- Exit, new parents, and the fall of a namespace.
-use Rattle.std.specs.Prelude.{ℕ, ◌+◌, Bool, false, ◌&&◌, ◌||◌, not, ◌==◌, List, map, length, drop, Option, Some, None, if◌then◌else◌, find, filter, option_and_then, option_map}
+use Rattle.std.specs.Prelude.{ℕ, ◌+◌, Bool, false, ◌&&◌, ◌||◌, not, ◌==◌, List, map, length, drop, Option, if◌then◌else◌, find, filter, option_and_then, option_map}
 use Rattle.std.specs.Option.{option_map_or}
 use Rattle.pid_types.specs.declared.plain.Name.{Name}
 use Rattle.pid_types.specs.declared.plain.Row.{Row}

@@ -1,5 +1,5 @@
 -- What a table is made with.
-use Rattle.std.specs.Prelude.{ℕ, ◌<◌, ◌≤◌}
+use Rattle.std.specs.Prelude.{ℕ, ◌≤◌}
 
 -- the bound of all numbers, and the stamp of the first call
 pub record Settings : Type 0 where

@@ -1,5 +1,5 @@
 -- What a snapshot shows of a state.
-use Rattle.std.specs.Prelude.{◌≡◌, ℕ, map}
+use Rattle.std.specs.Prelude.{◌≡◌, map}
 use Rattle.pid_types.specs.declared.plain.Control.{Control}
 use Rattle.pid_types.specs.declared.plain.ControlRow.{ControlRow}
 use Rattle.pid_types.specs.declared.plain.Plain.{Plain}

@@ -53,9 +53,9 @@ abbrev pub has_sound_children_space : State → Row → Bool
 has_sound_children_space state row =
     is_none (space_at state.spaces row.children_space) || is_within state.spaces row.children_space row.name.space
 
--- the live tasks that are number 1 in the namespace
+-- the live tasks of the namespace that are number 1 in it
 abbrev pub live_inits : State → ℕ → List Row
-live_inits state s = filter (λ row. is_live row && is_numbered state.spaces row.name s 1) state.rows
+live_inits state s = filter (λ row. is_live row && (row.name.space == s) && is_numbered state.spaces row.name s 1) state.rows
 
 -- nothing lives in the namespace, some number there is in use, and all namespaces below it have fallen
 abbrev pub is_sound_fallen : State → ℕ → Bool
@@ -75,10 +75,16 @@ has_sound_groups state =
     all_pairs (λ a b. not (same_name a.group b.group) || same_name a.session b.session) state.rows
     && all_pairs (λ a b. not (same_name a.group b.name) || same_name a.session b.session) state.rows
 
--- the ids rise, each chain ends at the root in time, and homes are there
+-- whether the root namespace and the root control group are there, and have no parent
+abbrev pub has_roots : State → Bool
+has_roots state =
+    option_map_or (λ s. is_none s.parent) (space_at state.spaces 0) false && option_map_or (λ c. is_none c.parent) (control_at state.controls 0) false
+
+-- the roots are there, the ids rise, each chain ends at the root in time, and homes are there
 abbrev pub has_sound_ids : State → Bool
 has_sound_ids state =
-    is_strictly_rising (map (λ row. root_number row.name) state.rows)
+    has_roots state
+    && is_strictly_rising (map (λ row. root_number row.name) state.rows)
     && is_strictly_rising (map (λ s. s.id) state.spaces)
     && is_strictly_rising (map (λ c. c.id) state.controls)
     && list_all (λ s. contains (path_up state.spaces s.id) 0) state.spaces

@@ -2,6 +2,7 @@
 ghost use Rattle.std.specs.Prelude.{◌≡◌, ◌≢◌, ◌<◌, ◌≤◌, IfOk, OnErr, Err};
 
 use std::marker::Model;
+use thiserror::Error;
 
 /// The least and the greatest `pid_max`, after `proc_sys_kernel(5)`: below 301 a namespace that has
 /// passed number 300 would have none left to give.
@@ -17,11 +18,13 @@ pub struct Config {
 }
 
 /// Why there is no such configuration.
-#[derive(Clone, Copy, Debug, PartialEq, Eq, Hash)]
+#[derive(Clone, Copy, Debug, PartialEq, Eq, Hash, Error)]
 pub enum ConfigFault {
     /// `pid_max` is outside 301 to 4194304.
+    #[error("pid_max outside 301 to 4194304")]
     BadPidMax,
     /// `first_stamp` is 0, which is the id of the root namespace and of the root control group.
+    #[error("first_stamp is 0")]
     BadFirst,
 }
 

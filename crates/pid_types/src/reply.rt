@@ -3,6 +3,7 @@
 use crate::plain::Ended;
 use arrayvec::ArrayVec;
 use std::alloc::AllocError;
+use thiserror::Error;
 
 /// Why a call is refused. `S` and `C` are the ids of the namespace and the control group that
 /// refused it.
@@ -74,11 +75,13 @@ pub enum Reply {
 }
 
 /// Why a call has no reply. Nothing has changed, and nothing is recorded.
-#[derive(Clone, Copy, Debug, PartialEq, Eq, Hash)]
+#[derive(Clone, Copy, Debug, PartialEq, Eq, Hash, Error)]
 pub enum CallFault {
     /// There was no memory for it.
+    #[error("no memory")]
     NoMemory,
     /// The stamps are used up: the call would need the stamp `u64::MAX`.
+    #[error("spent")]
     Spent,
 }
 

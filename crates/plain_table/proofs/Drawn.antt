@@ -1,7 +1,6 @@
 -- What a fork draws, and the state that it makes.
-use Rattle.std.proofs.Common.{◌≡◌, ℕ, ◌+◌, ◌<◌, Bool, true, false, cond, List, [], ◌∷◌, ◌++◌, length, map, take, drop, get_or, Option, Some, None, refl, sym, ap, ◌∙◌, subst, inl, inr, arith, add-one, drop-cons, append_assoc}
+use Rattle.std.proofs.Common.{◌≡◌, ℕ, ◌+◌, ◌<◌, Bool, true, false, List, [], ◌∷◌, ◌++◌, length, map, take, drop, get_or, Some, None, refl, sym, ap, ◌∙◌, inl, inr, drop-cons}
 use Rattle.std.specs.Prelude.{find, is_none, unwrap_or, ◌==◌, if◌then◌else◌}
-use Rattle.std.specs.Option.{option_or}
 use Rattle.std.proofs.Math.Path.{fun_ext}
 use Rattle.std.proofs.lemmas.Bool.{cases_Bool, eqb-true}
 use Rattle.std.proofs.lemmas.List.{take-append-drop, take_more, map-append}
@@ -15,8 +14,8 @@ use Rattle.pid_types.specs.State.{State}
 use Rattle.pid_types.specs.Names.{path_up, beside, number_or_zero, root_number}
 use Rattle.pid_types.specs.Draw.{draw}
 use Rattle.pid_types.specs.Controls.{passed_limit}
-use Rattle.pid_types.specs.Outcome.{Outcome, refused, changed}
-use Rattle.pid_types.specs.Fork.{drawn, moved_cursor, with_cursors, insert_row, child_of, fork_into}
+use Rattle.pid_types.specs.Outcome.{refused, changed}
+use Rattle.pid_types.specs.Fork.{drawn, with_cursors, insert_row, child_of, fork_into}
 use Rattle.plain_table.specs.Moved.{moved_by}
 
 -- where nothing before it passes, what passes is found

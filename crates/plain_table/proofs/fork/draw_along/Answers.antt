@@ -1,5 +1,5 @@
-use Rattle.std.proofs.Common.{◌≡◌, ◌+◌, true, false, sym, ap, ◌∙◌, arith}
-use Rattle.std.specs.Prelude.{is_none, None, Some}
+use Rattle.std.proofs.Common.{◌≡◌, ◌+◌, sym, ap, ◌∙◌, arith}
+use Rattle.std.specs.Prelude.{is_none, Some}
 use Rattle.pid_types.specs.Draw.{draw}
 use Rattle.pid_types.specs.Fork.{drawn}
 use Rattle.plain_table.proofs.Drawn.{find-here, find-further, map-further, drawn-Some}

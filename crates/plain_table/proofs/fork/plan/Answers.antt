@@ -1,9 +1,4 @@
-use Rattle.std.proofs.Common.{◌≡◌, ◌+◌, map, None, refl, sym, ap, ◌∙◌}
-use Rattle.std.specs.Prelude.{find, is_none, Some}
-use Rattle.pid_types.specs.Names.{path_up}
-use Rattle.pid_types.specs.Draw.{draw}
-use Rattle.pid_types.specs.Controls.{passed_limit}
-use Rattle.pid_types.specs.Fork.{drawn}
+use Rattle.std.proofs.Common.{refl, sym, ◌∙◌}
 use Rattle.plain_table.proofs.Drawn.{fork_into-full, fork_into-limited, fork_into-planned}
 use Rattle.plain_table.proofs.fork.plan.Goals as goal
 

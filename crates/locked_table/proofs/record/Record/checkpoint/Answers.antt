@@ -4,7 +4,7 @@ use Rattle.locked_table.proofs.record.Record.checkpoint.Goals as goal
 
 pub invariant_of-self : goal.invariant_of-self
 invariant_of-self g c =
-    kept-checkpoint g.row.N _ _ c.clear.new.self.items (c.self.inside.first_kept + c.len.result) c.count_entries.new.cut.items _ c.self.invariant
+    kept-checkpoint c.soundness_is_kept.ensures.run c.bound_stays.ensures g.row.N _ _ c.clear.new.self.items (c.self.inside.first_kept + c.len.result) c.count_entries.new.cut.items _ c.self.invariant
     (state_of-shows _ _ c.in_ok-opening.ensures)
     (search rules)
     (search rules)

@@ -1,4 +1,4 @@
-use Rattle.std.proofs.Common.{◌≡◌, sym, ap, ◌∙◌, filter, take}
+use Rattle.std.proofs.Common.{sym, ap, ◌∙◌, filter}
 use Rattle.std.specs.Prelude.{option_copied, Some}
 use Rattle.std.proofs.lemmas.List.{take_all}
 use Rattle.pid_types.specs.Wait.{least_row}

@@ -1,4 +1,4 @@
-use Rattle.std.proofs.Common.{◌≡◌, sym, ap, ◌∙◌}
+use Rattle.std.proofs.Common.{sym, ap, ◌∙◌}
 use Rattle.std.specs.Prelude.{Some, filter_map, nat_le}
 use Rattle.std.proofs.lemmas.List.{take_all}
 use Rattle.pid_types.specs.Chains.{least_of}

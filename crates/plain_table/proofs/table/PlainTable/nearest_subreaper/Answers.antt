@@ -1,4 +1,4 @@
-use Rattle.std.proofs.Common.{◌≡◌, ◌+◌, ◌-◌, length, true, false, Some, sym, ap, ◌∙◌, refl, arith}
+use Rattle.std.proofs.Common.{◌≡◌, ◌+◌, ◌-◌, length, true, false, Some, sym, ◌∙◌, refl, arith}
 use Rattle.pid_types.specs.Exit.{parent_number, is_subreaper_in}
 use Rattle.pid_types.specs.Names.{root_number}
 use Rattle.plain_view.proofs.Climbs.{climb-suc}

@@ -1,4 +1,4 @@
-use Rattle.std.proofs.Common.{◌≡◌, sym, ◌∙◌}
+use Rattle.std.proofs.Common.{sym, ◌∙◌}
 use Rattle.pid_types.specs.Draw.{draw}
 use Rattle.plain_view.proofs.Draws.{draw-upper, draw-lower}
 use Rattle.plain_view.proofs.view.View.draw.Goals as goal

@@ -1,4 +1,4 @@
-use Rattle.std.proofs.Common.{◌≡◌, false, sym, ap, ◌∙◌}
+use Rattle.std.proofs.Common.{◌≡◌, sym, ap, ◌∙◌}
 use Rattle.std.proofs.Common.{arith}
 use Rattle.plain_view.proofs.Draws.{free_below-found, free_below-none}
 use Rattle.plain_view.proofs.view.View.find_free.Goals as goal

@@ -1,5 +1,4 @@
-use Rattle.std.proofs.Common.{◌≡◌}
-use Rattle.pid_types.specs.Names.{number, beside}
+use Rattle.pid_types.specs.Names.{number}
 use Rattle.plain_view.proofs.view.View.number.Goals as goal
 
 pub returns : goal.returns

@@ -1,0 +1,39 @@
+-- What is true of a record whenever nobody works on it.
+use Rattle.std.specs.Prelude.{◌≡◌, ◌↔◌, ℕ, true, length, filter, is_some}
+use Rattle.pid_types.specs.declared.plain.Name.{Name}
+use Rattle.pid_types.specs.Names.{path_up, number, names_in_use}
+use Rattle.pid_types.specs.Controls.{is_below, count}
+use Rattle.pid_types.specs.State.{State}
+use Rattle.pid_types.specs.Replay.{calls_of}
+use Rattle.pid_types.specs.Sound.{is_sound, HasDistinctNumbers, forks_within_limits}
+use Rattle.model_laws.specs.Membership.{IsIn}
+use Rattle.model_laws.specs.Soundness.{IsBelow}
+use Rattle.locked_table.specs.Chronicle.{Chronicle, total, first_kept_stamp, next_stamp, IsReplayed}
+
+-- each identifier in use has a number in each namespace from its own to the root, and in no other
+abbrev pub HasAllNumbers : State → Type 0
+HasAllNumbers state =
+    (name : Name) (s : ℕ) → IsIn name (names_in_use state.rows)
+    → IsIn s (path_up state.spaces name.space) ↔ (is_some (number state.spaces name s) ≡ true)
+
+-- a control group's count is the number of the tasks in its subtree
+abbrev pub CountsSubtrees : State → Type 0
+CountsSubtrees state = (id : ℕ) → count state id ≡ length (filter (λ row. is_below state.controls row.home id) state.rows)
+
+-- the headline
+pub record KeepsPromise (c : Chronicle) : Type 0 where
+  pub numbered : HasAllNumbers c.present
+  -- no number of a namespace names two
+  pub distinct : HasDistinctNumbers c.present
+  pub counts : CountsSubtrees c.present
+  -- no fork raised a count above its limit
+  pub limits : forks_within_limits c.opening (first_kept_stamp c) (calls_of c.entries) ≡ true
+  -- the kept history replays, reply for reply, as one thread's
+  pub replayed : IsReplayed c
+  -- the ledger's book, and so all shares together, is the number of recorded calls
+  pub booked : c.booked ≡ total c
+  pub sound : is_sound c.present ≡ true
+  -- no id is ever given again
+  pub below : IsBelow (next_stamp c) c.present
+  -- the bound of all numbers is the configuration's
+  pub bound : c.present.pid_max ≡ c.config.pid_max

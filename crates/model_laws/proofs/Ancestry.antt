@@ -1,0 +1,228 @@
+-- Chains of parents among the rows.
+use Rattle.std.proofs.Common.{◌≡◌, ℕ, zero, suc, ◌+◌, ◌-◌, ◌<◌, ◌≤◌, Bool, true, false, not, ◌==◌, List, [], ◌∷◌, ◌++◌, map, reverse, length, Option, Some, None, cond, refl, sym, ap, ◌∙◌, subst, inl, inr, arith}
+use Rattle.std.specs.Prelude.{filter, option_map, option_and_then, slice_index}
+use Rattle.std.proofs.lemmas.Bool.{eq-eqb, ne_eqb, not_from_false, not_from_true}
+use Rattle.std.proofs.lemmas.List.{length-map, reverse-append, length-reverse}
+use Rattle.pid_types.specs.declared.plain.Name.{Name}
+use Rattle.pid_types.specs.declared.plain.Row.{Row}
+use Rattle.pid_types.specs.declared.plain.Space.{Space}
+use Rattle.pid_types.specs.Chains.{climb}
+use Rattle.pid_types.specs.State.{State}
+use Rattle.pid_types.specs.Names.{parent_space, path_up, beside, number, root_number, is_live, row_at}
+use Rattle.pid_types.specs.Exit.{parent_number}
+use Rattle.model_laws.specs.Membership.{IsIn}
+use Rattle.model_laws.specs.Soundness.{IsWellNumbered, IsTreeOfSpaces, IsCoherent}
+use Rattle.model_laws.proofs.Lists.{IsIn-map, IsIn-filter}
+use Rattle.model_laws.proofs.Chains.{Stops-at_root, climb-None, climb_cases, climb_suffix, IsIn-climb_first, IsIn-climb_parent, IsIn-climb_more}
+use Rattle.model_laws.proofs.Names.{own_name_in_use}
+use Rattle.model_laws.proofs.Rising.{unique_key}
+use Rattle.model_laws.proofs.Trees.{IsOnTree, IsOnTree-name, root_space_parent, space_at-Some, row_at-Some}
+
+-- ---- how far number 1 is
+
+-- number 1 is k parents above n
+abbrev pub Far : (ℕ → Option ℕ) → ℕ → ℕ → Type 0
+Far f zero n = n ≡ 1
+Far f (suc k) n = (p : ℕ) × (f n ≡ Some p) × Far f k p
+
+-- a chain that meets number 1 says how far it is
+pub Far-from_chain : (f : ℕ → Option ℕ) (k n : ℕ) → IsIn 1 (climb f k n) → (m : ℕ) × Far f m n
+unfolding climb
+Far-from_chain f zero n i = elim i [ ]
+Far-from_chain f (suc k) n i = elim (climb_cases f k n 1 i) [
+  | inl e ↦ (0, sym e)
+  | inr r ↦ let q = Far-from_chain f k r.0 r.2 in (suc q.0, (r.0, r.1, q.1))
+]
+
+-- and a number that is so far has a chain that meets it
+chain-from_Far : (f : ℕ → Option ℕ) (k n : ℕ) → Far f k n → IsIn 1 (climb f (suc k) n)
+chain-from_Far f zero n e = subst (λ x. IsIn 1 (climb f 1 x)) (sym e) (IsIn-climb_first f 0 1)
+chain-from_Far f (suc k) n r = IsIn-climb_parent f (suc k) n r.0 1 r.1 (chain-from_Far f k r.0 r.2)
+
+-- a chain that is cut off later has what it had
+chain_longer : (f : ℕ → Option ℕ) (k more n x : ℕ) → IsIn x (climb f k n) → IsIn x (climb f (more + k) n)
+chain_longer f k zero n x i = subst (λ m. IsIn x (climb f m n)) (omega arith) i
+chain_longer f k (suc more) n x i = subst (λ m. IsIn x (climb f m n)) (omega arith) (IsIn-climb_more f (more + k) n x (chain_longer f k more n x i))
+
+-- number 1, which has no parent, is as far as it is
+pub Far-unique : (f : ℕ → Option ℕ) → f 1 ≡ None → (j k n : ℕ) → Far f j n → Far f k n → j ≡ k
+Far-unique f top zero zero n a b = refl
+Far-unique f top zero (suc k) n a b = let none : f n ≡ None = subst (λ x. f x ≡ None) (sym a) top in let some : f n ≡ Some b.0 = b.1 in absurd (cc)
+Far-unique f top (suc j) zero n a b = let none : f n ≡ None = subst (λ x. f x ≡ None) (sym b) top in let some : f n ≡ Some a.0 = a.1 in absurd (cc)
+Far-unique f top (suc j) (suc k) n a b =
+    let ea : f n ≡ Some a.0 = a.1 in
+    let eb : f n ≡ Some b.0 = b.1 in
+    let same : b.0 ≡ a.0 = cc in
+    ap suc (Far-unique f top j k a.0 a.2 (subst (Far f k) same b.2))
+
+-- a filter that leaves an element out is shorter
+length-filter_less : {X : Type 0} (p : X → Bool) (xs : List X) → length (filter p xs) ≤ length xs
+length-filter_less p [] = omega arith
+length-filter_less {X} p (x ∷ xs) = go (length-filter_less p xs) (p x)
+  where
+    go : length (filter p xs) ≤ length xs → (b : Bool) → length (cond b (x ∷ filter p xs) (filter p xs)) ≤ suc (length xs)
+    go h true = omega arith
+    go h false = omega arith
+
+-- and by one element less at least, where one does not pass
+length-filter_out : {X : Type 0} (p : X → Bool) (xs : List X) (x : X) → IsIn x xs → p x ≡ false → length (filter p xs) < length xs
+length-filter_out p [] x i e = elim i [ ]
+length-filter_out p (y ∷ xs) x (inl same) e =
+    rw (ap p (sym same) ∙ e) (let l : length (filter p xs) ≤ length xs = length-filter_less p xs in omega arith)
+length-filter_out {X} p (y ∷ xs) x (inr i) e = go (length-filter_out p xs x i e) (p y)
+  where
+    go : length (filter p xs) < length xs → (b : Bool) → length (cond b (y ∷ filter p xs) (filter p xs)) < suc (length xs)
+    go h true = omega arith
+    go h false = omega arith
+
+-- the numbers from which number 1 is reached are at least as many as the steps
+steps_below_length : (f : ℕ → Option ℕ) → f 1 ≡ None → (k n : ℕ) (ns : List ℕ) → Far f k n → ((j x : ℕ) → j ≤ k → Far f j x → IsIn x ns)
+    → k < length ns
+steps_below_length f top zero n ns far all = go ns (all 0 1 (omega arith) refl)
+  where
+    go : (ms : List ℕ) → IsIn 1 ms → 0 < length ms
+    go [] i = elim i [ ]
+    go (m ∷ ms) i = omega arith
+steps_below_length f top (suc k) n ns far all =
+    let out : length (filter (λ m. not (m == n)) ns) < length ns = length-filter_out (λ m. not (m == n)) ns n (all (suc k) n (omega arith) far) (not_from_true (n == n) (eq-eqb n n refl)) in
+    let rest : k < length (filter (λ m. not (m == n)) ns) = steps_below_length f top k far.0 (filter (λ m. not (m == n)) ns) far.2 (λ j x l g.
+    IsIn-filter (λ m. not (m == n)) x ns (all j x (omega arith) g) (not_from_false (x == n) (ne_eqb x n (λ same.
+    let e : j ≡ suc k = Far-unique f top j (suc k) x g (subst (Far f (suc k)) (sym same) far) in omega arith)))) in
+    omega arith
+
+-- ---- among the rows
+
+-- the row at a number, and its parent
+parent_number-row : (rows : List Row) (n p : ℕ) → parent_number rows n ≡ Some p
+    → (r : Row) × (a : Name) × (row_at rows n ≡ Some r) × (r.parent ≡ Some a) × (root_number a ≡ p)
+parent_number-row rows n p h = go (row_at rows n) refl h
+  where
+    named : (r : Row) (o : Option Name) → row_at rows n ≡ Some r → r.parent ≡ o → option_map root_number o ≡ Some p
+        → (r : Row) × (a : Name) × (row_at rows n ≡ Some r) × (r.parent ≡ Some a) × (root_number a ≡ p)
+    named r None e f g = absurd (cc)
+    named r (Some a) e f g = (r, a, e, f, (let same : root_number a ≡ p = cc in same))
+
+    go : (o : Option Row) → row_at rows n ≡ o → option_and_then (λ (r : Row). option_map root_number r.parent) o ≡ Some p
+        → (r : Row) × (a : Name) × (row_at rows n ≡ Some r) × (r.parent ≡ Some a) × (root_number a ≡ p)
+    go None e g = absurd (cc)
+    go (Some r) e g = named r r.parent e refl g
+
+-- the number of the parent of the row that stands there
+pub parent_number-at : (rows : List Row) (n : ℕ) (r : Row) → row_at rows n ≡ Some r → parent_number rows n ≡ option_map root_number r.parent
+parent_number-at rows n r e = ap (option_and_then (λ (x : Row). option_map root_number x.parent)) e
+
+-- the rows' root numbers
+abbrev pub roots : List Row → List ℕ
+roots rows = map (λ r. root_number r.name) rows
+
+-- a number at which a row stands is among them
+pub IsIn-roots : (rows : List Row) (n : ℕ) (r : Row) → row_at rows n ≡ Some r → IsIn n (roots rows)
+IsIn-roots rows n r e = let q = row_at-Some rows n r e in subst (λ x. IsIn x (roots rows)) q.1 (IsIn-map (λ (x : Row). root_number x.name) r rows q.0)
+
+-- a number from which number 1 is reached has a chain that is long enough
+pub chain-in_rows : (rows : List Row) → parent_number rows 1 ≡ None → IsIn 1 (roots rows) → (k n : ℕ) → Far (parent_number rows) k n
+    → IsIn 1 (climb (parent_number rows) (length rows) n)
+chain-in_rows rows top one k n far =
+    let l : k < length (roots rows) = steps_below_length (parent_number rows) top k n (roots rows) far (λ j x h g. there j x g) in
+    let m : length (roots rows) ≡ length rows = length-map rows (λ (r : Row). root_number r.name) in
+    let d : (length rows - suc k) + suc k ≡ length rows = omega arith in
+    subst (λ x. IsIn 1 (climb (parent_number rows) x n)) d (chain_longer (parent_number rows) (suc k) (length rows - suc k) n 1 (chain-from_Far (parent_number rows) k n far))
+  where
+    there : (j x : ℕ) → Far (parent_number rows) j x → IsIn x (roots rows)
+    there zero x e = subst (λ y. IsIn y (roots rows)) (sym e) one
+    there (suc j) x r = let q = parent_number-row rows x r.0 r.1 in IsIn-roots rows x q.0 q.2
+
+-- number 1 stays as far where the parents stay
+pub Far-same : (f g : ℕ → Option ℕ) (G : ℕ → Type 0) → ((n : ℕ) → G n → g n ≡ f n) → ((n p : ℕ) → G n → f n ≡ Some p → G p) → (k n : ℕ)
+    → Far f k n → G n → Far g k n × G 1
+Far-same f g G same up zero n far good = (far, subst G far good)
+Far-same f g G same up (suc k) n far good =
+    let r = Far-same f g G same up k far.0 far.2 (up n far.0 good far.1) in
+    ((far.0, same n good ∙ far.1, r.0), r.1)
+
+-- ---- in a coherent state
+
+-- the number of a name in the root namespace is its root number
+pub number-root : (spaces : List Space) (pid_max : ℕ) (a : Name) → IsTreeOfSpaces spaces → IsWellNumbered spaces pid_max a
+    → number spaces a 0 ≡ Some (root_number a)
+unfolding number path_up
+number-root spaces pid_max a tree well =
+    let f : ℕ → Option ℕ = parent_space spaces in
+    let on : IsIn 0 (climb f 33 a.space) = IsOnTree-name spaces pid_max tree a well in
+    let t = climb_suffix f 33 a.space 0 (Stops-at_root f 33 a.space (root_space_parent spaces tree) on) on in
+    let path : climb f 33 a.space ≡ t.0 ++ 0 ∷ [] = t.1 ∙ ap (λ xs. t.0 ++ xs) (climb-None f 32 0 (root_space_parent spaces tree)) in
+    let back : reverse (climb f 33 a.space) ≡ 0 ∷ reverse t.0 = ap reverse path ∙ reverse-append t.0 (0 ∷ []) in
+    ap (λ xs. beside 0 xs a.numbers.items) back ∙ first a.numbers.items (reverse t.0) (λ e. let n : length a.numbers.items ≡ 0 = ap length e in
+    let m : length (climb f 33 a.space) ≡ suc (length (reverse t.0)) = sym (length-reverse (climb f 33 a.space)) ∙ ap length back in
+    let o : length a.numbers.items ≡ length (climb f 33 a.space) = well.one_each in omega arith)
+  where
+    first : (ns ts : List ℕ) → (ns ≡ [] → ⊥) → beside 0 (0 ∷ ts) ns ≡ Some (slice_index ns 0)
+    first [] ts h = absurd (h refl)
+    first (n ∷ ns) ts h = refl
+
+module _ (state : State) (sound : IsCoherent state) where
+  -- the same of a row
+  pub number-root_of_row : (r : Row) → IsIn r state.rows → number state.spaces r.name 0 ≡ Some (root_number r.name)
+  number-root_of_row r i = number-root state.spaces state.pid_max r.name sound.spaces (sound.numbered r.name (own_name_in_use state.rows r i))
+
+  -- a row's own namespace is on the tree
+  pub row_on_tree : (r : Row) → IsIn r state.rows → IsOnTree state.spaces r.name.space
+  row_on_tree r i = IsOnTree-name state.spaces state.pid_max sound.spaces r.name (sound.numbered r.name (own_name_in_use state.rows r i))
+
+  -- nothing but the root is around the root
+  pub root_path : (x : ℕ) → IsIn x (path_up state.spaces 0) → x ≡ 0
+  unfolding path_up
+  root_path x i = elim (subst (IsIn x) (climb-None (parent_space state.spaces) 32 0 (root_space_parent state.spaces sound.spaces)) i) [ inl e ↦ e | inr none ↦ elim none [ ] ]
+
+  -- where something lives, the root namespace has its init, a row of number 1
+  pub root_init_row : (live : Row) → IsIn live state.rows → is_live live ≡ true
+      → (r : Row) × IsIn r state.rows × (is_live r ≡ true) × (r.name.space ≡ 0) × (root_number r.name ≡ 1)
+  root_init_row live i lives = go root.fallen refl
+    where
+      root : Space
+      root = sound.spaces.root.0
+
+      at : IsIn root state.spaces × (root.id ≡ 0)
+      at = space_at-Some state.spaces 0 root sound.spaces.root.1
+
+      go : (b : Bool) → root.fallen ≡ b → (r : Row) × IsIn r state.rows × (is_live r ≡ true) × (r.name.space ≡ 0) × (root_number r.name ≡ 1)
+      go true e =
+          let none : number state.spaces live.name 0 ≡ None = subst (λ x. number state.spaces live.name x ≡ None) at.1 ((sound.fallen root at.0 e).ended live i lives) in
+          let some : number state.spaces live.name 0 ≡ Some (root_number live.name) = number-root_of_row live i in
+          absurd (cc)
+      go false e =
+          let r = sound.standing root at.0 e in
+          let here : number state.spaces r.0.name 0 ≡ Some 1 = subst (λ x. number state.spaces r.0.name x ≡ Some 1) at.1 r.4 in
+          let some : number state.spaces r.0.name 0 ≡ Some (root_number r.0.name) = number-root_of_row r.0 r.1 in
+          (r.0, r.1, r.2, r.3 ∙ at.1, (let one : root_number r.0.name ≡ 1 = cc in one))
+
+  -- number 1 has no parent
+  pub top_row : parent_number state.rows 1 ≡ None
+  top_row = go (row_at state.rows 1) refl
+    where
+      parentless : (r : Row) (o : Option Name) → IsIn r state.rows → root_number r.name ≡ 1 → r.parent ≡ o → option_map root_number o ≡ None
+      parentless r None i one e = refl
+      parentless r (Some a) i one e =
+          let g = (sound.parents r i).good a e in
+          let top = root_init_row g.lives.0 g.lives.1 g.lives.3 in
+          let same : r ≡ top.0 = unique_key (λ (x : Row). root_number x.name) state.rows sound.rows_rise r top.0 i top.1 (one ∙ sym top.4) in
+          let here : r.name.space ≡ 0 = ap (λ (x : Row). x.name.space) same ∙ top.3 in
+          let up : a.space ≡ 0 = root_path a.space (subst (λ x. IsIn a.space (path_up state.spaces x)) here g.around) in
+          absurd (g.outside (subst (λ x. number state.spaces r.name x ≡ Some 1) (sym here) (number-root_of_row r i ∙ ap Some one)) (up ∙ sym here))
+
+      go : (o : Option Row) → row_at state.rows 1 ≡ o → option_and_then (λ (r : Row). option_map root_number r.parent) o ≡ None
+      go None e = refl
+      go (Some r) e = let q = row_at-Some state.rows 1 r e in parentless r r.parent q.0 q.1 refl
+
+  -- each row is so far from number 1
+  pub row_far : (r : Row) → IsIn r state.rows → (k : ℕ) × Far (parent_number state.rows) k (root_number r.name)
+  row_far r i = Far-from_chain (parent_number state.rows) (length state.rows) (root_number r.name) (sound.parents r i).chain
+
+  -- the parent of the row at a number is a live row
+  pub parent_row : (n p : ℕ) → parent_number state.rows n ≡ Some p
+      → (r : Row) × (q : Row) × IsIn r state.rows × (root_number r.name ≡ n) × IsIn q state.rows × (root_number q.name ≡ p) × (is_live q ≡ true) × (r.parent ≡ Some q.name)
+  parent_row n p e =
+      let u = parent_number-row state.rows n p e in
+      let at = row_at-Some state.rows n u.0 u.2 in
+      let g = (sound.parents u.0 at.0).good u.1 u.3 in
+      (u.0, g.lives.0, at.0, at.1, g.lives.1, ap root_number g.lives.2 ∙ u.4, g.lives.3, u.3 ∙ ap Some (sym g.lives.2))

@@ -1,0 +1,253 @@
+-- Calls on control groups leave a sound state.
+use Rattle.std.proofs.Common.{◌≡◌, ℕ, ◌+◌, ◌<◌, ◌≤◌, true, false, ◌&&◌, not, ◌==◌, List, [], ◌∷◌, ◌++◌, map, length, Option, Some, None, refl, sym, ap, ◌∙◌, subst, inl, inr, arith}
+use Rattle.std.specs.Prelude.{filter, option_map, option_and_then}
+use Rattle.std.specs.Option.{option_eq}
+use Rattle.std.specs.List.{list_any}
+use Rattle.std.proofs.lemmas.Bool.{cond_both, eqb-true, eq-eqb, ne_eqb, eqb-false, ltb-false, or_parts, not_from_false, not-true}
+use Rattle.pid_types.specs.declared.plain.Row.{Row}
+use Rattle.pid_types.specs.declared.plain.Control.{Control}
+use Rattle.pid_types.specs.Chains.{climb}
+use Rattle.pid_types.specs.State.{State}
+use Rattle.pid_types.specs.Names.{is_live}
+use Rattle.pid_types.specs.Controls.{control_at, parent_control, control_path}
+use Rattle.pid_types.specs.Changes.{with_control, make_control, is_busy, rehomed, without_control, remove_control, limited, with_limit, set_limit}
+use Rattle.model_laws.specs.Membership.{IsIn}
+use Rattle.model_laws.specs.Soundness.{IsTreeOfControls, IsCoherent, IsSound, IsBelow}
+use Rattle.model_laws.proofs.Lists.{IsIn-append, IsIn-from_filter, IsIn-from_map, find-filter, list_any-from_one}
+use Rattle.model_laws.proofs.Chains.{Stops, Stops-at_root, climb_trans, climb_cases, IsIn-climb_first, IsIn-climb_parent, IsIn-climb_more, climb-same, climb_child}
+use Rattle.model_laws.proofs.Names.{group_in_use, session_in_use}
+use Rattle.model_laws.proofs.Rising.{IsRising-filter}
+use Rattle.model_laws.proofs.Trees.{control_to_root, control_at-Some, root_control_parent, control_path_listed}
+use Rattle.model_laws.proofs.Forests.{at-map, chain-map, IsTree-map, at-push_old, chain-push, IsIn-chain_new, IsTree-push}
+use Rattle.model_laws.proofs.RowMaps.{IsCoherent-map_rows, HasGoodGroups-map, each_of_map}
+use Rattle.model_laws.proofs.Kept.{Keeps, Keeps-same, Keeps-changed}
+use Rattle.model_laws.proofs.Calls.{make_control_cases, remove_control_cases, set_limit_cases}
+
+-- a coherent state with other control groups, where each home is
+IsCoherent-controls : (state : State) (controls : List Control) → IsCoherent state → IsTreeOfControls controls
+    → ((r : Row) → IsIn r state.rows → (c : Control) × (control_at controls r.home ≡ Some c)) → IsCoherent (record state { controls = controls })
+IsCoherent-controls state controls sound tree homes = record {
+  distinct = sound.distinct;
+  numbered = sound.numbered;
+  parents = sound.parents;
+  children = sound.children;
+  standing = sound.standing;
+  fallen = sound.fallen;
+  groups = sound.groups;
+  rows_rise = sound.rows_rise;
+  spaces = sound.spaces;
+  controls = tree;
+  homes = homes;
+  peopled = sound.peopled;
+}
+
+-- a control group's path is the same where each control group on it is
+control_path-same : (controls others : List Control) (id : ℕ)
+    → ((x : ℕ) → IsIn x (control_path controls id) → control_at others x ≡ control_at controls x)
+    → control_path others id ≡ control_path controls id
+unfolding control_path
+control_path-same controls others id same =
+    climb-same (parent_control controls) (parent_control others) 65 id (λ x i. ap (option_and_then (λ c. c.parent)) (same x i))
+
+-- ---- a new control group
+
+module _ (controls : List Control) (tree : IsTreeOfControls controls) (stamp parent : ℕ) (above : (c : Control) → IsIn c controls → c.id < stamp) where
+  -- the new control group
+  abbrev pub made : Control
+  made = record { id = stamp; parent = Some parent; limit = None }
+
+  -- the control groups with it
+  abbrev pub with_made : List Control
+  with_made = controls ++ made ∷ []
+
+  -- those from before are found as before
+  at_old : (x : ℕ) (c : Control) → control_at controls x ≡ Some c → control_at with_made x ≡ Some c
+  at_old x c h = at-push_old Control (λ d. d.id) (λ d. d.parent) controls made above x c h
+
+  -- the paths from before stay
+  pub path_old : (id : ℕ) → IsIn 0 (control_path controls id) → control_path with_made id ≡ control_path controls id
+  unfolding control_path
+  path_old id on = chain-push Control (λ d. d.id) (λ d. d.parent) controls made above (control_path controls) tree 65 id on
+
+  -- the new one's path meets the root
+  path_new : IsIn 0 (control_path controls parent) → length (control_path controls parent) ≤ 64 → IsIn 0 (control_path with_made stamp)
+  unfolding control_path
+  path_new on short = IsIn-chain_new Control (λ d. d.id) (λ d. d.parent) controls made above (control_path controls) tree 64 parent 0 refl on short on
+
+  -- the control groups with the new one are a tree
+  IsTreeOfControls-made : IsIn 0 (control_path controls parent) → length (control_path controls parent) ≤ 64 → IsTreeOfControls with_made
+  IsTreeOfControls-made on short =
+      IsTree-push Control (λ d. d.id) (λ d. d.parent) controls made above (control_path controls) (control_path with_made)
+      (λ c i. path_old c.id (tree.chains c i)) (path_new on short) tree
+
+-- a new control group leaves a sound state
+pub make_control_keeps : (state : State) (stamp parent : ℕ) → IsSound state → IsBelow stamp state → Keeps stamp (make_control state stamp parent)
+unfolding with_control
+make_control_keeps state stamp parent sound below =
+    make_control_cases (Keeps stamp) state stamp parent (λ r. Keeps-same stamp state _ sound below) (λ c found shallow.
+    let tree : IsTreeOfControls state.controls = sound.coherent.controls in
+    let on : IsIn 0 (control_path state.controls parent) = control_to_root state.controls tree parent c found in
+    Keeps-changed stamp (with_control state parent stamp) _
+    (IsCoherent-controls state (with_made state.controls tree stamp parent below.controls) sound.coherent
+    (IsTreeOfControls-made state.controls tree stamp parent below.controls on (ltb-false 64 (length (control_path state.controls parent)) shallow))
+    (λ r i. let h = sound.coherent.homes r i in (h.0, at_old state.controls tree stamp parent below.controls r.home h.0 h.1)))
+    (record {
+      spaces = λ s i. omega (arith, below.spaces s i);
+      controls = λ d i. elim (IsIn-append d state.controls (made state.controls tree stamp parent below.controls ∷ []) i) [
+        | inl j ↦ omega (arith, below.controls d j)
+        | inr j ↦ elim j [ inl e ↦ let same : d.id ≡ stamp = ap (λ (x : Control). x.id) e in omega arith | inr none ↦ elim none [ ] ]
+      ];
+      children = λ r i. omega (arith, below.children r i);
+    }))
+
+-- ---- the end of a control group
+
+module _ (controls : List Control) (tree : IsTreeOfControls controls) (id : ℕ) (childless : (c : Control) → IsIn c controls → c.parent ≡ Some id → ⊥) where
+  -- the control groups but the one that goes
+  abbrev pub others : List Control
+  others = filter (λ c. not (c.id == id)) controls
+
+  -- they are found as before
+  other_at : (x : ℕ) → (x ≡ id → ⊥) → control_at others x ≡ control_at controls x
+  other_at x differs =
+      find-filter (λ c. c.id == x) (λ c. not (c.id == id)) controls (λ c i e. not_from_false (c.id == id) (ne_eqb c.id id (λ same. differs (sym (eqb-true c.id x e) ∙ same))))
+
+  -- nothing is below the one that goes
+  pub not_below : (x : ℕ) → (x ≡ id → ⊥) → IsIn id (control_path controls x) → ⊥
+  unfolding control_path
+  not_below x differs i = elim (climb_child (parent_control controls) 65 x id i) [
+    | inl e ↦ differs (sym e)
+    | inr r ↦ go r.0 (control_at controls r.0) refl r.2
+  ]
+    where
+      go : (y : ℕ) (o : Option Control) → control_at controls y ≡ o → option_and_then (λ c. c.parent) o ≡ Some id → ⊥
+      go y None e f = cc
+      go y (Some c) e f = childless c (control_at-Some controls y c e).0 f
+
+  -- their paths stay
+  pub other_path : (x : ℕ) → (x ≡ id → ⊥) → control_path others x ≡ control_path controls x
+  other_path x differs =
+      control_path-same controls others x (λ y i. other_at y (λ same. not_below x differs (subst (λ z. IsIn z (control_path controls x)) same i)))
+
+  -- they are a tree
+  IsTreeOfControls-others : (id ≡ 0 → ⊥) → IsTreeOfControls others
+  IsTreeOfControls-others below = record {
+    rising = IsRising-filter (λ (c : Control). c.id) (λ c. not (c.id == id)) controls tree.rising;
+    root = (tree.root.0, other_at 0 (λ e. below (sym e)) ∙ tree.root.1, tree.root.2);
+    chains = λ c i.
+        let r = IsIn-from_filter (λ c. not (c.id == id)) c controls i in
+        let differs : c.id ≡ id → ⊥ = eqb-false c.id id (not-true (c.id == id) r.1) in
+        subst (IsIn 0) (sym (other_path c.id differs)) (tree.chains c r.0);
+  }
+
+-- the parent of a control group is there
+pub parent_listed : (controls : List Control) → IsTreeOfControls controls → (id parent : ℕ) (c : Control) → control_at controls id ≡ Some c
+    → c.parent ≡ Some parent
+    → (d : Control) × (control_at controls parent ≡ Some d)
+unfolding control_path
+parent_listed controls tree id parent c found below =
+    control_path_listed controls tree id parent (control_to_root controls tree id c found)
+    (IsIn-climb_parent (parent_control controls) 64 id parent parent (ap (option_and_then (λ (c : Control). c.parent)) found ∙ below) (IsIn-climb_first (parent_control controls) 63 parent))
+
+-- a control group that is not busy is no parent
+pub no_child : (state : State) (id : ℕ) → is_busy state id ≡ false → (d : Control) → IsIn d state.controls → d.parent ≡ Some id → ⊥
+unfolding is_busy
+no_child state id idle d i e =
+    let r = or_parts (list_any (λ row. (row.home == id) && is_live row) state.rows) (list_any (λ c. option_eq ◌==◌ c.parent (Some id)) state.controls) idle in
+    let some : option_eq ◌==◌ d.parent (Some id) ≡ true = rw e (eq-eqb id id refl) in
+    let yes : list_any (λ c. option_eq ◌==◌ c.parent (Some id)) state.controls ≡ true = list_any-from_one (λ c. option_eq ◌==◌ c.parent (Some id)) state.controls d i some in
+    let never : list_any (λ c. option_eq ◌==◌ c.parent (Some id)) state.controls ≡ false = r.1 in
+    cc
+
+-- what is above the parent is above the child
+pub path_of_parent : (controls : List Control) → IsTreeOfControls controls → (id parent : ℕ) (g : Control) → control_at controls id ≡ Some g
+    → g.parent ≡ Some parent
+    → (c : ℕ) → IsIn c (control_path controls parent) → IsIn c (control_path controls id)
+unfolding control_path
+path_of_parent controls tree id parent g found under c i =
+    let f : ℕ → Option ℕ = parent_control controls in
+    let stops : Stops f 65 id = Stops-at_root f 65 id (root_control_parent controls tree) (control_to_root controls tree id g found) in
+    climb_trans f 65 id parent c stops (IsIn-climb_parent f 64 id parent parent (ap (option_and_then (λ (x : Control). x.parent)) found ∙ under) (IsIn-climb_first f 63 parent)) i
+
+-- and what is above the child, but for itself, is above the parent
+pub path_of_child : (controls : List Control) (id parent : ℕ) (g : Control) → control_at controls id ≡ Some g → g.parent ≡ Some parent
+    → (c : ℕ) → (c ≡ id → ⊥) → IsIn c (control_path controls id) → IsIn c (control_path controls parent)
+unfolding control_path
+path_of_child controls id parent g found under c differs i = elim (climb_cases (parent_control controls) 64 id c i) [
+  | inl e ↦ absurd (differs e)
+  | inr r ↦
+      let a : parent_control controls id ≡ Some r.0 = r.1 in
+      let b : parent_control controls id ≡ Some parent = ap (option_and_then (λ (x : Control). x.parent)) found ∙ under in
+      let same : r.0 ≡ parent = cc in
+      IsIn-climb_more (parent_control controls) 64 parent c (subst (λ x. IsIn c (climb (parent_control controls) 64 x)) same r.2)
+]
+
+-- the end of a control group leaves a sound state
+pub remove_control_keeps : (state : State) (stamp id : ℕ) → IsSound state → IsBelow stamp state → Keeps stamp (remove_control state id)
+unfolding without_control is_busy
+remove_control_keeps state stamp id sound below =
+    remove_control_cases (Keeps stamp) state id (λ r. Keeps-same stamp state _ sound below) (λ c parent found under idle.
+    let tree : IsTreeOfControls state.controls = sound.coherent.controls in
+    let childless : (d : Control) → IsIn d state.controls → d.parent ≡ Some id → ⊥ = no_child state id idle in
+    let root : id ≡ 0 → ⊥ = λ e.
+    let none : option_and_then (λ (c : Control). c.parent) (control_at state.controls id) ≡ None = subst (λ x. parent_control state.controls x ≡ None) (sym e) (root_control_parent state.controls tree) in
+    let some : option_and_then (λ (c : Control). c.parent) (control_at state.controls id) ≡ Some parent = ap (option_and_then (λ (c : Control). c.parent)) found ∙ under in cc in
+    let up = parent_listed state.controls tree id parent c found under in
+    let differs : parent ≡ id → ⊥ = λ e. childless c (control_at-Some state.controls id c found).0 (under ∙ ap Some e) in
+    Keeps-changed stamp (without_control state id parent) _
+    (IsCoherent-controls (record state { rows = map (rehomed id parent) state.rows }) (others state.controls tree id childless)
+    (IsCoherent-map_rows state (rehomed id parent) sound.coherent (record {
+      names = λ r. refl;
+      parents = λ r. refl;
+      lives = λ r. refl;
+      group = λ r i. group_in_use state.rows r i;
+      session = λ r i. session_in_use state.rows r i;
+      children = sound.coherent.children;
+      groups = HasGoodGroups-map state.rows (rehomed id parent) (λ r. refl) (λ r. refl) (λ r. refl) sound.coherent.groups;
+      homes =
+          λ r i. cond_both (r.home == id) parent r.home (λ x. (d : Control) × (control_at state.controls x ≡ Some d)) (λ e. up) (λ e. sound.coherent.homes r i);
+    }))
+    (IsTreeOfControls-others state.controls tree id childless root)
+    (each_of_map (λ r. (d : Control) × (control_at (others state.controls tree id childless) r.home ≡ Some d)) (rehomed id parent) state.rows (λ r i.
+    cond_both (r.home == id) parent r.home (λ x. (d : Control) × (control_at (others state.controls tree id childless) x ≡ Some d))
+    (λ e. (up.0, other_at state.controls tree id childless parent differs ∙ up.1))
+    (λ e. let h = sound.coherent.homes r i in (h.0, other_at state.controls tree id childless r.home (eqb-false r.home id e) ∙ h.1)))))
+    (record {
+      spaces = λ s i. omega (arith, below.spaces s i);
+      controls = λ d i. omega (arith, below.controls d (IsIn-from_filter (λ c. not (c.id == id)) d state.controls i).0);
+      children = each_of_map (λ r. r.children_space < stamp + 1) (rehomed id parent) state.rows (λ r i. omega (arith, below.children r i));
+    }))
+
+-- ---- a limit
+
+module _ (controls : List Control) (f : Control → Control) (ids : (c : Control) → (f c).id ≡ c.id) (parents : (c : Control) → (f c).parent ≡ c.parent) where
+  -- what is found is changed
+  control_at-map : (x : ℕ) → control_at (map f controls) x ≡ option_map f (control_at controls x)
+  control_at-map x = at-map Control (λ d. d.id) (λ d. d.parent) controls f ids parents x
+
+  -- paths stay
+  pub control_path-map : (x : ℕ) → control_path (map f controls) x ≡ control_path controls x
+  unfolding control_path
+  control_path-map x = chain-map Control (λ d. d.id) (λ d. d.parent) controls f ids parents 65 x
+
+  -- the tree stays
+  IsTreeOfControls-map : IsTreeOfControls controls → IsTreeOfControls (map f controls)
+  IsTreeOfControls-map tree =
+      IsTree-map Control (λ d. d.id) (λ d. d.parent) controls f ids parents (control_path controls) (control_path (map f controls)) control_path-map tree
+
+-- a limit leaves a sound state
+pub set_limit_keeps : (state : State) (stamp id : ℕ) (limit : Option ℕ) → IsSound state → IsBelow stamp state → Keeps stamp (set_limit state id limit)
+unfolding with_limit
+set_limit_keeps state stamp id limit sound below =
+    set_limit_cases (Keeps stamp) state id limit (λ r. Keeps-same stamp state _ sound below)
+    (Keeps-changed stamp (with_limit state id limit) _
+    (IsCoherent-controls state (map (limited id limit) state.controls) sound.coherent
+    (IsTreeOfControls-map state.controls (limited id limit) (λ c. refl) (λ c. refl) sound.coherent.controls)
+    (λ r i.
+    let h = sound.coherent.homes r i in
+    (limited id limit h.0, control_at-map state.controls (limited id limit) (λ c. refl) (λ c. refl) r.home ∙ ap (option_map (limited id limit)) h.1)))
+    (record {
+      spaces = λ s i. omega (arith, below.spaces s i);
+      controls = λ c i. let r = IsIn-from_map (limited id limit) c state.controls i in omega (arith, below.controls r.0 r.1, ap (λ (d : Control). d.id) r.2);
+      children = λ r i. omega (arith, below.children r i);
+    }))

@@ -1,0 +1,245 @@
+-- Wait and the fall of a namespace leave a sound state.
+use Rattle.std.proofs.Common.{◌≡◌, ℕ, ◌+◌, ◌<◌, Bool, true, false, ◌&&◌, not, List, [], ◌∷◌, map, Option, Some, None, refl, sym, ap, ◌∙◌, subst, inl, inr, arith}
+use Rattle.std.specs.Prelude.{filter, nat_lt, if◌then◌else◌}
+use Rattle.std.specs.Option.{option_map_or}
+use Rattle.std.proofs.lemmas.List.{map-id}
+use Rattle.std.proofs.lemmas.Bool.{or_cases, or_parts, or_left, or_right, not-true, not_from_false, false_from_ne_true}
+use Rattle.pid_types.specs.declared.call.Which.{Which}
+use Rattle.pid_types.specs.declared.plain.Name.{Name}
+use Rattle.pid_types.specs.declared.plain.Row.{Row}
+use Rattle.pid_types.specs.declared.plain.Space.{Space}
+use Rattle.pid_types.specs.declared.plain.Life.{Life}
+use Rattle.pid_types.specs.declared.plain.Life.TheVariants.{Live, Zombie}
+use Rattle.pid_types.specs.declared.plain.Ended.TheVariants.{Exited, Killed}
+use Rattle.pid_types.specs.State.{State}
+use Rattle.pid_types.specs.Names.{path_up, is_within, number, number_or_zero, same_name, is_parent, is_live, is_member}
+use Rattle.pid_types.specs.Wait.{is_selected, matching, least_row, without_row, ended_children, wait}
+use Rattle.pid_types.specs.Exit.{has_parent_within, goes_in_fall, row_after_fall, rows_after_fall, fallen_below, fall}
+use Rattle.model_laws.specs.Membership.{IsIn}
+use Rattle.model_laws.specs.Soundness.{IsCoherent, IsSound, IsBelow}
+use Rattle.model_laws.proofs.Lists.{IsIn-from_filter, IsIn-from_map, IsIn-from_contains, contains-from_IsIn}
+use Rattle.model_laws.proofs.Names.{same_name-true, same_name-refl, own_name_in_use, number-on_path, number-off_path}
+use Rattle.model_laws.proofs.Trees.{same_row, live_row-Some, path_first, path_trans, path_antisym}
+use Rattle.model_laws.proofs.RowMaps.{each_of_map}
+use Rattle.model_laws.proofs.Survivors.{KeepsSurvivors, IsCoherent-survivors}
+use Rattle.model_laws.proofs.Ancestry.{row_on_tree}
+use Rattle.model_laws.proofs.Kept.{Keeps, Keeps-same, Keeps-changed}
+use Rattle.model_laws.proofs.Calls.{wait_cases}
+
+-- ---- wait
+
+-- the row with the least number is one of them
+pub least_row-IsIn : (state : State) (s : ℕ) (rows : List Row) (row : Row) → least_row state s rows ≡ Some row → IsIn row rows
+least_row-IsIn state s [] row h = absurd (cc)
+least_row-IsIn state s (r ∷ rows) row h = go (λ e. least_row-IsIn state s rows row e) (least_row state s rows) refl h
+  where
+    less : Row → Bool
+    less other = nat_lt (number_or_zero state.spaces other.name s) (number_or_zero state.spaces r.name s)
+
+    pick : (other : Row) (b : Bool) → (if b then other else r) ≡ row → (other ≡ row → IsIn row rows) → IsIn row (r ∷ rows)
+    pick other true e k = inr (k e)
+    pick other false e k = inl (sym e)
+
+    go : (least_row state s rows ≡ Some row → IsIn row rows) → (o : Option Row) → least_row state s rows ≡ o
+        → Some (option_map_or (λ other. if less other then other else r) o r) ≡ Some row → IsIn row (r ∷ rows)
+    go rest None e k = inl (let same : row ≡ r = cc in same)
+    go rest (Some other) e k =
+        pick other (less other) (let same : (if less other then other else r) ≡ row = cc in same) (λ same. rest (e ∙ ap Some same))
+
+-- what a wait reaps is a row that has ended
+pub reaped_row : (state : State) (caller row : Row) (which : Which) → least_row state caller.name.space (ended_children state caller which) ≡ Some row
+    → IsIn row state.rows × (is_live row ≡ false)
+unfolding matching
+reaped_row state caller row which h =
+    let f = IsIn-from_filter (λ r. not (is_live r)) row (matching state caller which) (least_row-IsIn state caller.name.space (ended_children state caller which) row h) in
+    ((IsIn-from_filter (λ r. is_parent caller.name r && is_selected state caller which r) row state.rows f.0).0, not-true (is_live row) f.1)
+
+-- the rows without one that has ended
+IsCoherent-without_row : (state : State) → IsCoherent state → (gone caller : Row) → IsIn gone state.rows → is_live gone ≡ false
+    → IsIn caller state.rows → is_live caller ≡ true
+    → IsCoherent (without_row state gone)
+unfolding without_row
+IsCoherent-without_row state sound gone caller i ended j lives =
+    subst IsCoherent same (IsCoherent-survivors state p (λ r. r) (λ s. s) sound (record {
+      rows = λ r. (refl, refl, refl, refl, refl, refl);
+      spaces = λ s. (refl, refl);
+      parents = λ r q k l e there live. (stays q l live, live);
+      standing = λ s k e. (e, λ r l live here. (stays r l live, live));
+      fallen = λ s k e. let em = sound.fallen s k e in (λ r l stay live. em.ended r l live, em.below);
+      someone = (caller, j, stays caller j lives);
+    }))
+  where
+    p : Row → Bool
+    p r = not (same_name r.name gone.name)
+
+    same : ◌≡◌ {A = State} (record state { rows = map (λ (r : Row). r) (filter p state.rows); spaces = map (λ (s : Space). s) state.spaces }) (record state { rows = filter p state.rows })
+    same = λ i. record state { rows = map-id (filter p state.rows) i; spaces = map-id state.spaces i }
+
+    stays : (r : Row) → IsIn r state.rows → is_live r ≡ true → p r ≡ true
+    stays r k live = not_from_false (same_name r.name gone.name) (false_from_ne_true (same_name r.name gone.name) (λ e.
+        let one : r ≡ gone = same_row state.rows sound.rows_rise r gone k i (same_name-true r.name gone.name e) in
+        let dead : is_live r ≡ false = ap (λ (x : Row). is_live x) one ∙ ended in cc))
+
+-- a wait leaves a sound state
+pub wait_keeps : (state : State) (stamp n : ℕ) (which : Which) → IsSound state → IsBelow stamp state → Keeps stamp (wait state n which)
+unfolding without_row
+wait_keeps state stamp n which sound below =
+    wait_cases (Keeps stamp) state n which (λ r. Keeps-same stamp state _ sound below) (Keeps-same stamp state _ sound below) (λ caller row found least.
+    let c = live_row-Some state.rows n caller found in
+    let r = reaped_row state caller row which least in
+    Keeps-changed stamp (without_row state row) _ (IsCoherent-without_row state sound.coherent row caller r.0 r.1 c.0 c.2) (record {
+      spaces = λ s i. omega (arith, below.spaces s i);
+      controls = λ d i. omega (arith, below.controls d i);
+      children = λ x i. omega (arith, below.children x (IsIn-from_filter (λ r. not (same_name r.name row.name)) x state.rows i).0);
+    }))
+
+-- ---- the fall
+
+module _ (state : State) (sound : IsCoherent state) (init : Row) (status : ℕ) (there : IsIn init state.rows) (one : number state.spaces init.name init.name.space ≡ Some 1) where
+  -- the namespace that falls
+  abbrev space : ℕ
+  space = init.name.space
+
+  -- whether the row stays
+  abbrev stays_in_fall : Row → Bool
+  stays_in_fall r = not (goes_in_fall state init r)
+
+  -- the row after the fall
+  abbrev after_fall : Row → Row
+  after_fall = row_after_fall state init status
+
+  -- the namespace after the fall
+  abbrev after_fall_space : Space → Space
+  after_fall_space = fallen_below state.spaces space
+
+  -- the row's own namespace is the one that falls, or below it
+  abbrev Within : Row → Type 0
+  Within r = IsIn space (path_up state.spaces r.name.space)
+
+  -- such a row is a member
+  member-from_within : (r : Row) → IsIn r state.rows → Within r → is_member state.spaces space r ≡ true
+  member-from_within r i w =
+      let n = number-on_path state.spaces r.name space (sound.numbered r.name (own_name_in_use state.rows r i)).one_each w in
+      rw n.1 refl
+
+  -- any other is none
+  outsider : (r : Row) → (Within r → ⊥) → is_member state.spaces space r ≡ false
+  outsider r off = rw (number-off_path state.spaces r.name space off) refl
+
+  -- nor is it the init
+  not_init : (r : Row) → (Within r → ⊥) → same_name r.name init.name ≡ false
+  not_init r off =
+      false_from_ne_true (same_name r.name init.name) (λ e. off (subst (λ (a : Name). IsIn space (path_up state.spaces a.space)) (sym (same_name-true r.name init.name e)) (path_first state.spaces space)))
+
+  -- a row outside stays, and lives on
+  outsider_stays : (r : Row) → (Within r → ⊥) → is_live r ≡ true → (stays_in_fall r ≡ true) × (is_live (after_fall r) ≡ true)
+  outsider_stays r off live = (
+    go (not (same_name r.name init.name)) (is_member state.spaces space r) (has_parent_within state space r) (outsider r off),
+    subst (λ l. alive l ≡ true) (sym (life (same_name r.name init.name) (is_member state.spaces space r) (not_init r off) (outsider r off))) live,
+  )
+    where
+      go : (a b c : Bool) → b ≡ false → not (a && b && c) ≡ true
+      go true true c e = absurd (cc)
+      go true false c e = refl
+      go false true c e = absurd (cc)
+      go false false c e = refl
+
+      alive : Life → Bool
+      alive l = elim l [ Live ↦ true | Zombie ended ↦ false ]
+
+      life : (a b : Bool) → a ≡ false → b ≡ false
+          → (if a then Zombie (Exited status) else (if b && is_live r then Zombie Killed else r.life)) ≡ r.life
+      life a b e f = rw (e, f) refl
+
+  -- what lives after the fall lived before, and is not within
+  lives_after : (r : Row) → IsIn r state.rows → is_live (after_fall r) ≡ true → (is_live r ≡ true) × (Within r → ⊥)
+  lives_after r i live = go (same_name r.name init.name) (is_member state.spaces space r) r.life refl live (λ w. member-from_within r i w)
+    where
+      alive : Life → Bool
+      alive l = elim l [ Live ↦ true | Zombie ended ↦ false ]
+
+      go : (a b : Bool) (l : Life) → r.life ≡ l
+          → alive (if a then Zombie (Exited status) else (if b && alive l then Zombie Killed else l)) ≡ true → (Within r → b ≡ true)
+          → (alive l ≡ true) × (Within r → ⊥)
+      go true b l e h m = absurd (cc)
+      go false true Live e h m = absurd (cc)
+      go false true (Zombie ended) e h m = absurd (cc)
+      go false false Live e h m = (refl, λ w. let k : false ≡ true = m w in cc)
+      go false false (Zombie ended) e h m = absurd (cc)
+
+  -- the parent of a row that stays is outside
+  parent_outside : (r q : Row) → IsIn r state.rows → IsIn q state.rows → stays_in_fall r ≡ true → r.parent ≡ Some q.name → Within q → ⊥
+  parent_outside r q i j stays up w =
+      go (same_name r.name init.name) refl (and_three _ _ _ (not-true (goes_in_fall state init r) stays) member inside)
+    where
+      good : IsIn q.name.space (path_up state.spaces r.name.space)
+      good = ((sound.parents r i).good q.name up).around
+
+      member : is_member state.spaces space r ≡ true
+      member = member-from_within r i (path_trans state.spaces sound.spaces r.name.space q.name.space space (row_on_tree state sound r i) good w)
+
+      inside : has_parent_within state space r ≡ true
+      inside = rw up (contains-from_IsIn (path_up state.spaces q.name.space) space w)
+
+      and_three : (a b c : Bool) → (a && b && c) ≡ false → b ≡ true → c ≡ true → a ≡ false
+      and_three true true true e f g = absurd (cc)
+      and_three true true false e f g = absurd (cc)
+      and_three true false c e f g = absurd (cc)
+      and_three false b c e f g = refl
+
+      go : (b : Bool) → same_name r.name init.name ≡ b → not b ≡ false → ⊥
+      go false e f = cc
+      go true e f =
+          let same : r ≡ init = same_row state.rows sound.rows_rise r init i there (same_name-true r.name init.name e) in
+          let g = (sound.parents init there).good q.name (ap (λ (x : Row). x.parent) (sym same) ∙ up) in
+          g.outside one (path_antisym state.spaces sound.spaces space q.name.space (row_on_tree state sound init there) g.around w)
+
+  -- what the fall keeps
+  KeepsSurvivors-fall : KeepsSurvivors state stays_in_fall after_fall after_fall_space
+  KeepsSurvivors-fall = record {
+    rows = λ r. (refl, refl, refl, refl, refl, refl);
+    spaces = λ s. (refl, refl);
+    parents = λ r q i j stays up live. outsider_stays q (parent_outside r q i j stays up) live;
+    standing = λ s i e.
+        let o = or_parts s.fallen (is_within state.spaces s.id space) e in (
+          o.0,
+          λ r j live here. outsider_stays r (λ w.
+              let yes : is_within state.spaces s.id space ≡ true = contains-from_IsIn (path_up state.spaces s.id) space (subst (λ x. IsIn space (path_up state.spaces x)) here w) in
+              let never : is_within state.spaces s.id space ≡ false = o.1 in cc) live,
+        );
+    fallen = λ s i e. elim (or_cases s.fallen (is_within state.spaces s.id space) e) [
+      | inl fell ↦
+          let em = sound.fallen s i fell in
+          (λ r j stays live. em.ended r j (lives_after r j live).0, λ t j k. or_left t.fallen (is_within state.spaces t.id space) (em.below t j k))
+      | inr within ↦
+          let w : IsIn space (path_up state.spaces s.id) = IsIn-from_contains (path_up state.spaces s.id) space within in (
+            λ r j stays live. number-off_path state.spaces r.name s.id (λ k. (lives_after r j live).1 (path_trans state.spaces sound.spaces r.name.space s.id space (row_on_tree state sound r j) k w)),
+            λ t j k. or_right t.fallen (is_within state.spaces t.id space) (contains-from_IsIn (path_up state.spaces t.id) space
+                (path_trans state.spaces sound.spaces t.id s.id space (sound.spaces.chains t j) k w)),
+          )
+    ];
+    someone =
+        (init, there, not_from_false (goes_in_fall state init init) (stays_itself (same_name init.name init.name) (is_member state.spaces space init) (has_parent_within state space init) (same_name-refl init.name init.name refl)));
+  }
+    where
+      stays_itself : (a b c : Bool) → a ≡ true → (not a && b && c) ≡ false
+      stays_itself true b c e = refl
+      stays_itself false b c e = absurd (cc)
+
+  -- a fall leaves a coherent state
+  pub IsCoherent-fall : IsCoherent (fall state init status)
+  unfolding fall rows_after_fall
+  IsCoherent-fall = IsCoherent-survivors state stays_in_fall after_fall after_fall_space sound KeepsSurvivors-fall
+
+  -- and its ids below the next stamp
+  pub IsBelow-fall : (stamp : ℕ) → IsBelow stamp state → IsBelow (stamp + 1) (fall state init status)
+  unfolding fall rows_after_fall
+  IsBelow-fall stamp below = record {
+    spaces = each_of_map_space;
+    controls = λ c i. omega (arith, below.controls c i);
+    children =
+        each_of_map (λ r. r.children_space < stamp + 1) after_fall (filter stays_in_fall state.rows) (λ r i. omega (arith, below.children r (IsIn-from_filter stays_in_fall r state.rows i).0));
+  }
+    where
+      each_of_map_space : (s : Space) → IsIn s (map after_fall_space state.spaces) → s.id < stamp + 1
+      each_of_map_space s i = let q = IsIn-from_map after_fall_space s state.spaces i in omega (arith, below.spaces q.0 q.1, ap (λ (t : Space). t.id) q.2)

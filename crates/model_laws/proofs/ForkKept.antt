@@ -1,0 +1,538 @@
+-- Fork leaves a sound state.
+use Rattle.std.proofs.Common.{◌≡◌, ℕ, suc, ◌+◌, ◌<◌, ◌≤◌, Bool, true, false, List, [], ◌∷◌, ◌++◌, map, length, Option, Some, None, refl, sym, ap, ◌∙◌, subst, ◌⊎◌, inl, inr, arith}
+use Rattle.std.specs.Prelude.{option_map, nat_le, unwrap_or}
+use Rattle.std.specs.Option.{option_map_or}
+use Rattle.std.proofs.lemmas.List.{length-map, length-reverse}
+use Rattle.std.proofs.lemmas.Bool.{cases_order, eqb-true, leb-false}
+use Rattle.pid_types.specs.declared.plain.Name.{Name}
+use Rattle.pid_types.specs.declared.plain.Row.{Row}
+use Rattle.pid_types.specs.declared.plain.Space.{Space}
+use Rattle.pid_types.specs.declared.plain.Control.{Control}
+use Rattle.pid_types.specs.Chains.{climb, contains}
+use Rattle.pid_types.specs.State.{State}
+use Rattle.pid_types.specs.Names.{space_at, parent_space, path_up, level, number, root_number, is_live, row_at, names_in_use, taken}
+use Rattle.pid_types.specs.Draw.{cyclic_draw, cursor_of, draw}
+use Rattle.pid_types.specs.Controls.{control_at}
+use Rattle.pid_types.specs.Exit.{parent_number}
+use Rattle.pid_types.specs.Fork.{insert_row, with_space, drawn, moved_cursor, with_cursors, child_of, is_gone, with_child, fork}
+use Rattle.model_laws.specs.Membership.{IsIn}
+use Rattle.model_laws.specs.Draws.{IsCyclicDraw, IsLeastFree}
+use Rattle.model_laws.specs.Soundness.{IsRising, IsWellNumbered, IsGoodParent, HasGoodParents, HasGoodChildrenSpace, HasLiveInit, IsEmptied, IsTreeOfSpaces, IsCoherent, IsSound, IsBelow}
+use Rattle.model_laws.proofs.Lists.{IsIn-append, IsIn-append_right, IsIn-from_map, IsIn-reverse, contains-from_IsIn}
+use Rattle.model_laws.proofs.Names.{Uses, user_of_name, IsIn-names_in_use, own_name_in_use, group_in_use, number-within, number-off_path, number-same_path, IsIn-taken, user_of_number}
+use Rattle.model_laws.proofs.Draws.{cyclic_draw-IsCyclicDraw}
+use Rattle.model_laws.proofs.Trees.{IsOnTree, IsOnTree-listed, IsOnTree-name, space_at-Some, path_first, path_listed, live_row-Some, row_at-listed}
+use Rattle.model_laws.proofs.Forests.{at-push_old, at-push_none, at-push_new, not_there, chain-push, chain-new_cases, IsIn-chain_new, IsTree-push}
+use Rattle.model_laws.proofs.SpaceMaps.{path_up-map, number-map_spaces, IsTreeOfSpaces-map, IsWellNumbered-map, HasGoodChildrenSpace-map}
+use Rattle.model_laws.proofs.Ancestry.{Far, Far-same, roots, IsIn-roots, parent_number-at, chain-in_rows, number-root, top_row, row_far, parent_row}
+use Rattle.model_laws.proofs.Inserts.{IsIn-from_insert, IsIn-insert_new, IsIn-insert_old, IsRising-insert, number-child_of, number-child_of_at, drawn-free}
+use Rattle.model_laws.proofs.Kept.{Keeps, Keeps-same, Keeps-changed}
+use Rattle.model_laws.proofs.Calls.{MayFork, fork_cases}
+
+-- the namespaces are ready for a child of the caller in t: those of a coherent state, perhaps with t new among them
+pub record IsReady (old : State) (spaces : List Space) (caller : Row) (t : ℕ) : Type 0 where
+  pub paths : (a : Name) → IsIn a (names_in_use old.rows) → path_up spaces a.space ≡ path_up old.spaces a.space
+  pub listed : (x : ℕ) (s : Space) → space_at old.spaces x ≡ Some s → space_at spaces x ≡ Some s
+  pub tree : IsTreeOfSpaces spaces
+  pub children : (r : Row) → IsIn r old.rows → HasGoodChildrenSpace spaces r
+  pub standing : (s : Space) → IsIn s spaces → s.fallen ≡ false
+      → HasLiveInit old.rows spaces s.id ⊎ ((s.id ≡ t) × (drawn (record old { spaces = spaces }) t ≡ 1))
+  pub fallen : (s : Space) → IsIn s spaces → s.fallen ≡ true → IsEmptied old.rows spaces s.id
+  pub target : (s : Space) × IsIn s spaces × (s.id ≡ t) × (s.fallen ≡ false)
+  pub around : IsIn caller.name.space (path_up spaces t)
+  pub outside : drawn (record old { spaces = spaces }) t ≡ 1 → caller.name.space ≡ t → ⊥
+
+module _ (old : State) (sound : IsCoherent old) (spaces : List Space) (caller : Row) (t : ℕ) (ready : IsReady old spaces caller t)
+    (there : IsIn caller old.rows) (lives : is_live caller ≡ true) (may : MayFork (record old { spaces = spaces }) caller t) where
+  -- the state in which the numbers are drawn
+  abbrev state : State
+  state = record old { spaces = spaces }
+
+  -- the namespaces that give a number
+  abbrev path : List ℕ
+  path = path_up spaces t
+
+  -- the new task
+  abbrev child : Row
+  child = child_of state caller t
+
+  -- the rows with it
+  abbrev rows_after : List Row
+  rows_after = insert_row child old.rows
+
+  -- a namespace after the draw
+  abbrev cursor_after : Space → Space
+  cursor_after = moved_cursor state path
+
+  -- the namespaces after the draw
+  abbrev spaces_after : List Space
+  spaces_after = map cursor_after spaces
+
+  -- the path ends at the root
+  on_tree : IsOnTree spaces t
+  on_tree = subst (IsOnTree spaces) ready.target.2 (ready.tree.chains ready.target.0 ready.target.1)
+
+  -- the numbers in use are those of the state before
+  number_kept : (a : Name) → IsIn a (names_in_use old.rows) → (s : ℕ) → number spaces a s ≡ number old.spaces a s
+  number_kept a i s = number-same_path old.spaces spaces a s (ready.paths a i)
+
+  -- moved cursors change no number
+  pub number_after : (a : Name) (s : ℕ) → number spaces_after a s ≡ number spaces a s
+  number_after a s = number-map_spaces spaces cursor_after (λ s. refl) (λ s. refl) a s
+
+  -- the names in use stay well numbered
+  well_kept : (a : Name) → IsIn a (names_in_use old.rows) → IsWellNumbered spaces old.pid_max a
+  well_kept a i = let w = sound.numbered a i in record {
+    listed = λ x j. let l = w.listed x (subst (IsIn x) (ready.paths a i) j) in (l.0, ready.listed x l.0 l.1);
+    one_each = w.one_each ∙ ap length (sym (ready.paths a i));
+    in_range = w.in_range;
+  }
+
+  -- ---- the new name
+
+  -- a number of the new name is no number of a name in use
+  pub fresh : (a : Name) → IsIn a (names_in_use old.rows) → (s n : ℕ) → number spaces child.name s ≡ Some n → number spaces a s ≡ Some n → ⊥
+  fresh a i s n new seen =
+      let r = number-child_of state caller t s n new in
+      let free : contains (taken state s) n ≡ false = subst (λ x. contains (taken state s) x ≡ false) r.0 (drawn-free state path may.numbers s r.1).0 in
+      let used : contains (taken state s) n ≡ true = contains-from_IsIn (taken state s) n (IsIn-taken state a s n i seen) in
+      cc
+
+  -- the new name was in no use
+  new_name : IsIn child.name (names_in_use old.rows) → ⊥
+  new_name i = let n = number-child_of_at state caller t t (path_first spaces t) in fresh child.name i t (drawn state t) n n
+
+  -- the new name is well numbered
+  well_child : IsWellNumbered spaces old.pid_max child.name
+  well_child = record {
+    listed = λ x i. path_listed spaces ready.tree t x on_tree i;
+    one_each = length-reverse (map (drawn state) path) ∙ length-map path (drawn state);
+    in_range = λ n i.
+        let q = IsIn-from_map (drawn state) n path (IsIn-reverse n (map (drawn state) path) i) in
+        let f = drawn-free state path may.numbers q.0 q.1 in
+        (subst (λ x. 0 < x) (sym q.2) f.1, subst (λ x. x < old.pid_max) (sym q.2) f.2);
+  }
+
+  -- and so is its root number
+  new_root : (r : Row) → IsIn r old.rows → root_number r.name ≡ root_number child.name → ⊥
+  new_root r i e =
+      let own = own_name_in_use old.rows r i in
+      fresh r.name own 0 (root_number child.name) (number-root spaces old.pid_max child.name ready.tree well_child)
+      (number-root spaces old.pid_max r.name ready.tree (well_kept r.name own) ∙ ap Some e)
+
+  -- a name in use after the fork is the new one, or was in use
+  pub used_before : (a : Name) → IsIn a (names_in_use rows_after) → (a ≡ child.name) ⊎ IsIn a (names_in_use old.rows)
+  used_before a i = let u = user_of_name rows_after a i in go u.0 (IsIn-from_insert child old.rows u.0 u.1) u.2
+    where
+      of_child : Uses child a → (a ≡ child.name) ⊎ IsIn a (names_in_use old.rows)
+      of_child (inl e) = inl e
+      of_child (inr (inl e)) = inr (IsIn-names_in_use old.rows caller a there (inr (inl e)))
+      of_child (inr (inr (inl e))) = inr (IsIn-names_in_use old.rows caller a there (inr (inr (inl e))))
+      of_child (inr (inr (inr none))) = elim none [ ]
+
+      go : (r : Row) → (r ≡ child) ⊎ IsIn r old.rows → Uses r a → (a ≡ child.name) ⊎ IsIn a (names_in_use old.rows)
+      go r (inl e) u = of_child (subst (λ (x : Row). Uses x a) e u)
+      go r (inr j) u = inr (IsIn-names_in_use old.rows r a j u)
+
+  -- no two names share a number
+  distinct_after : (a b : Name) → IsIn a (names_in_use rows_after) → IsIn b (names_in_use rows_after) → (s n : ℕ)
+      → number spaces_after a s ≡ Some n → number spaces_after b s ≡ Some n → a ≡ b
+  distinct_after a b i j s n e f = go (used_before a i) (used_before b j) (sym (number_after a s) ∙ e) (sym (number_after b s) ∙ f)
+    where
+      go : (a ≡ child.name) ⊎ IsIn a (names_in_use old.rows) → (b ≡ child.name) ⊎ IsIn b (names_in_use old.rows)
+          → number spaces a s ≡ Some n → number spaces b s ≡ Some n → a ≡ b
+      go (inl p) (inl q) x y = p ∙ sym q
+      go (inl p) (inr q) x y = absurd (fresh b q s n (subst (λ c. number spaces c s ≡ Some n) p x) y)
+      go (inr p) (inl q) x y = absurd (fresh a p s n (subst (λ c. number spaces c s ≡ Some n) q y) x)
+      go (inr p) (inr q) x y = sound.distinct a b p q s n (sym (number_kept a p s) ∙ x) (sym (number_kept b q s) ∙ y)
+
+  -- all names are well numbered
+  well_after : (a : Name) → IsIn a (names_in_use rows_after) → IsWellNumbered spaces_after old.pid_max a
+  well_after a i = IsWellNumbered-map spaces cursor_after (λ s. refl) (λ s. refl) old.pid_max a (go (used_before a i))
+    where
+      go : (a ≡ child.name) ⊎ IsIn a (names_in_use old.rows) → IsWellNumbered spaces old.pid_max a
+      go (inl e) = subst (IsWellNumbered spaces old.pid_max) (sym e) well_child
+      go (inr j) = well_kept a j
+
+  -- ---- chains of parents
+
+  -- the rows rise
+  rise_after : IsRising (roots rows_after)
+  rise_after = IsRising-insert child old.rows sound.rows_rise new_root
+
+  -- each row is found by its root number
+  row_after : (r : Row) → IsIn r rows_after → row_at rows_after (root_number r.name) ≡ Some r
+  row_after r i = row_at-listed rows_after rise_after r i
+
+  -- the number is that of a row from before
+  IsOld : ℕ → Type 0
+  IsOld n = (r : Row) × IsIn r old.rows × (root_number r.name ≡ n)
+
+  -- a row from before keeps its parent
+  parent_kept : (n : ℕ) → IsOld n → parent_number rows_after n ≡ parent_number old.rows n
+  unfolding IsOld
+  parent_kept n o =
+      parent_number-at rows_after n o.0 (subst (λ m. row_at rows_after m ≡ Some o.0) o.2 (row_after o.0 (IsIn-insert_old child old.rows o.0 o.1)))
+      ∙ sym (parent_number-at old.rows n o.0 (subst (λ m. row_at old.rows m ≡ Some o.0) o.2 (row_at-listed old.rows sound.rows_rise o.0 o.1)))
+
+  -- which is a row from before
+  old_parent : (n p : ℕ) → IsOld n → parent_number old.rows n ≡ Some p → IsOld p
+  unfolding IsOld
+  old_parent n p o e = let u = parent_row old sound n p e in (u.1, u.4, u.5)
+
+  -- each row from before reaches number 1 as before
+  old_far : (r : Row) → IsIn r old.rows → ((k : ℕ) × Far (parent_number rows_after) k (root_number r.name)) × IsOld 1
+  unfolding IsOld
+  old_far r i =
+      let far = row_far old sound r i in
+      let f = Far-same (parent_number old.rows) (parent_number rows_after) IsOld parent_kept old_parent far.0 (root_number r.name) far.1 (r, i, refl) in
+      ((far.0, f.0), f.1)
+
+  -- chains are long enough
+  chain_after : (n k : ℕ) → Far (parent_number rows_after) k n → IsIn 1 (climb (parent_number rows_after) (length rows_after) n)
+  unfolding IsOld
+  chain_after n k far =
+      let one = (old_far caller there).1 in
+      chain-in_rows rows_after (parent_kept 1 one ∙ top_row old sound)
+      (IsIn-roots rows_after 1 one.0 (subst (λ m. row_at rows_after m ≡ Some one.0) one.2 (row_after one.0 (IsIn-insert_old child old.rows one.0 one.1)))) k n far
+
+  -- the rows from before have good parents
+  parents_old : (r : Row) → IsIn r old.rows → HasGoodParents rows_after spaces_after r
+  parents_old r i =
+      let p = sound.parents r i in
+      let own = own_name_in_use old.rows r i in
+      let far = (old_far r i).0 in
+      record {
+        first = p.first;
+        good = λ parent e.
+            let g = p.good parent e in
+            record {
+              lives = (g.lives.0, IsIn-insert_old child old.rows g.lives.0 g.lives.1, g.lives.2, g.lives.3);
+              around =
+                  subst (IsIn parent.space) (sym (path_up-map spaces cursor_after (λ s. refl) (λ s. refl) r.name.space ∙ ready.paths r.name own)) g.around;
+              outside = λ one. g.outside (sym (number_after r.name r.name.space ∙ number_kept r.name own r.name.space) ∙ one);
+            };
+        chain = chain_after (root_number r.name) far.0 far.1;
+      }
+
+  -- and so has the child
+  parents_child : HasGoodParents rows_after spaces_after child
+  parents_child =
+      let far = (old_far caller there).0 in
+      let up : parent_number rows_after (root_number child.name) ≡ Some (root_number caller.name) = parent_number-at rows_after (root_number child.name) child (row_after child (IsIn-insert_new child old.rows)) in
+      record {
+        first = λ none. absurd (cc);
+        good = λ parent e. let same : caller.name ≡ parent = cc in
+            subst (IsGoodParent rows_after spaces_after child) same (record {
+              lives = (caller, IsIn-insert_old child old.rows caller there, refl, lives);
+              around = subst (IsIn caller.name.space) (sym (path_up-map spaces cursor_after (λ s. refl) (λ s. refl) t)) ready.around;
+              outside = λ one here. ready.outside (number-child_of state caller t t 1 (sym (number_after child.name t) ∙ one)).0 here;
+            });
+        chain = chain_after (root_number child.name) (suc far.0) (root_number caller.name, up, far.1);
+      }
+
+  -- what holds of the child and of each row from before holds of each
+  each_after : (P : Row → Type 0) → P child → ((r : Row) → IsIn r old.rows → P r) → (r : Row) → IsIn r rows_after → P r
+  each_after P new before r i = elim (IsIn-from_insert child old.rows r i) [ inl e ↦ subst P (sym e) new | inr j ↦ before r j ]
+
+  -- ---- namespaces and groups
+
+  -- the child is in no namespace that has fallen
+  child_outside : (s : Space) → IsIn s spaces → s.fallen ≡ true → number spaces child.name s.id ≡ None
+  child_outside s i e = number-off_path spaces child.name s.id (λ j.
+      let fell : ready.target.0.fallen ≡ true = (ready.fallen s i e).below ready.target.0 ready.target.1 (subst (λ x. IsIn s.id (path_up spaces x)) (sym ready.target.2) j) in
+      let stands : ready.target.0.fallen ≡ false = ready.target.3 in cc)
+
+  -- a namespace that stands has its live init, perhaps the child
+  standing_after : (s : Space) → IsIn s spaces → s.fallen ≡ false → HasLiveInit rows_after spaces_after s.id
+  standing_after s i e = elim (ready.standing s i e) [
+    | inl r ↦ (r.0, IsIn-insert_old child old.rows r.0 r.1, r.2, r.3, number_after r.0.name s.id ∙ r.4)
+    | inr new ↦ (
+      child,
+      IsIn-insert_new child old.rows,
+      refl,
+      sym new.0,
+      subst (λ x. number spaces_after child.name x ≡ Some 1) (sym new.0) (number_after child.name t ∙ number-child_of_at state caller t t (path_first spaces t) ∙ ap Some new.1),
+    )
+  ]
+
+  -- a fallen one stays without a live task
+  fallen_after : (s : Space) → IsIn s spaces → s.fallen ≡ true → IsEmptied rows_after spaces_after s.id
+  fallen_after s i e =
+      let em = ready.fallen s i e in
+      record {
+        ended = each_after (λ r. is_live r ≡ true → number spaces_after r.name s.id ≡ None)
+            (λ live. number_after child.name s.id ∙ child_outside s i e) (λ r j live. number_after r.name s.id ∙ em.ended r j live);
+        below = λ u j k.
+            let q = IsIn-from_map cursor_after u spaces j in
+            ap (λ (x : Space). x.fallen) q.2 ∙ em.below q.0 q.1 (subst (IsIn s.id) (path_up-map spaces cursor_after (λ s. refl) (λ s. refl) q.0.id) (subst (λ (x : Space). IsIn s.id (path_up spaces_after x.id)) q.2 k));
+      }
+
+  -- one group, one session
+  together_after : (a b : Row) → (a ≡ child) ⊎ IsIn a old.rows → (b ≡ child) ⊎ IsIn b old.rows → a.group ≡ b.group → a.session ≡ b.session
+  together_after a b (inl p) (inl q) e = ap (λ (r : Row). r.session) (p ∙ sym q)
+  together_after a b (inl p) (inr j) e =
+      ap (λ (r : Row). r.session) p ∙ sound.groups.together caller b there j (ap (λ (r : Row). r.group) (sym p) ∙ e)
+  together_after a b (inr i) (inl q) e =
+      sound.groups.together a caller i there (e ∙ ap (λ (r : Row). r.group) q) ∙ ap (λ (r : Row). r.session) (sym q)
+  together_after a b (inr i) (inr j) e = sound.groups.together a b i j e
+
+  -- that of the task which the group is named after
+  leader_after : (a b : Row) → (a ≡ child) ⊎ IsIn a old.rows → (b ≡ child) ⊎ IsIn b old.rows → a.group ≡ b.name → a.session ≡ b.session
+  leader_after a b (inl p) (inl q) e = ap (λ (r : Row). r.session) (p ∙ sym q)
+  leader_after a b (inl p) (inr j) e = ap (λ (r : Row). r.session) p ∙ sound.groups.leader caller b there j (ap (λ (r : Row). r.group) (sym p) ∙ e)
+  leader_after a b (inr i) (inl q) e =
+      absurd (new_name (subst (λ x. IsIn x (names_in_use old.rows)) (e ∙ ap (λ (r : Row). r.name) q) (group_in_use old.rows a i)))
+  leader_after a b (inr i) (inr j) e = sound.groups.leader a b i j e
+
+  -- a fork that is made leaves a coherent state
+  pub IsCoherent-forked : IsCoherent (with_child state child path)
+  unfolding with_cursors
+  IsCoherent-forked = record {
+    distinct = distinct_after;
+    numbered = well_after;
+    parents = each_after (HasGoodParents rows_after spaces_after) parents_child parents_old;
+    children = each_after (HasGoodChildrenSpace spaces_after) (inr (path_first spaces_after t))
+        (λ r i. HasGoodChildrenSpace-map spaces cursor_after (λ s. refl) (λ s. refl) r (ready.children r i));
+    standing = λ s i e. let q = IsIn-from_map cursor_after s spaces i in
+        subst (HasLiveInit rows_after spaces_after) (sym (ap (λ (x : Space). x.id) q.2)) (standing_after q.0 q.1 (sym (ap (λ (x : Space). x.fallen) q.2) ∙ e));
+    fallen = λ s i e. let q = IsIn-from_map cursor_after s spaces i in
+        subst (IsEmptied rows_after spaces_after) (sym (ap (λ (x : Space). x.id) q.2)) (fallen_after q.0 q.1 (sym (ap (λ (x : Space). x.fallen) q.2) ∙ e));
+    groups = record {
+      together = λ a b i j. together_after a b (IsIn-from_insert child old.rows a i) (IsIn-from_insert child old.rows b j);
+      leader = λ a b i j. leader_after a b (IsIn-from_insert child old.rows a i) (IsIn-from_insert child old.rows b j);
+    };
+    rows_rise = rise_after;
+    spaces = IsTreeOfSpaces-map spaces cursor_after (λ s. refl) (λ s. refl) ready.tree;
+    controls = sound.controls;
+    homes = each_after (λ r. (c : Control) × (control_at old.controls r.home ≡ Some c)) (sound.homes caller there) sound.homes;
+    peopled = (child, IsIn-insert_new child old.rows);
+  }
+
+  -- and its ids below the next stamp
+  pub IsBelow-forked : (stamp : ℕ) → IsBelow stamp old → ((s : Space) → IsIn s spaces → s.id < stamp + 1)
+      → IsBelow (stamp + 1) (with_child state child path)
+  unfolding with_cursors
+  IsBelow-forked stamp below ids = record {
+    spaces = λ s i. let q = IsIn-from_map cursor_after s spaces i in let l = ids q.0 q.1 in omega (arith, l, ap (λ (x : Space). x.id) q.2);
+    controls = λ c i. omega (arith, below.controls c i);
+    children =
+        each_after (λ r. r.children_space < stamp + 1) (let l = ids ready.target.0 ready.target.1 in omega (arith, l, ready.target.2)) (λ r i. omega (arith, below.children r i));
+  }
+
+-- ---- a child in the children's namespace
+
+-- the namespace that a fork goes into is there, and stands
+pub standing_space : (state : State) (s : ℕ) → is_gone state s ≡ false → (t : Space) × (space_at state.spaces s ≡ Some t) × (t.fallen ≡ false)
+standing_space state s h = go (space_at state.spaces s) refl h
+  where
+    go : (o : Option Space) → space_at state.spaces s ≡ o → option_map_or (λ t. t.fallen) o true ≡ false
+        → (t : Space) × (space_at state.spaces s ≡ Some t) × (t.fallen ≡ false)
+    go None e f = absurd (cc)
+    go (Some t) e f = (t, e, f)
+
+-- a namespace that stands is ready for a child
+pub IsReady-old : (state : State) → IsCoherent state → (caller : Row) → IsIn caller state.rows → is_gone state caller.children_space ≡ false
+    → MayFork state caller caller.children_space
+    → IsReady state state.spaces caller caller.children_space
+IsReady-old state sound caller there stands may =
+    let s = standing_space state caller.children_space stands in
+    let at = space_at-Some state.spaces caller.children_space s.0 s.1 in
+    record {
+      paths = λ a i. refl;
+      listed = λ x t e. e;
+      tree = sound.spaces;
+      children = sound.children;
+      standing = λ t i e. inl (sound.standing t i e);
+      fallen = sound.fallen;
+      target = (s.0, at.0, at.1, s.2);
+      around = elim (sound.children caller there) [ inl none ↦ (let some : space_at state.spaces caller.children_space ≡ Some s.0 = s.1 in absurd (cc)) | inr i ↦ i ];
+      outside = λ one here.
+          let r = sound.standing s.0 at.0 s.2 in
+          let has : number state.spaces r.0.name caller.children_space ≡ Some 1 = subst (λ x. number state.spaces r.0.name x ≡ Some 1) at.1 r.4 in
+          let used : contains (taken state caller.children_space) 1 ≡ true = contains-from_IsIn (taken state caller.children_space) 1 (IsIn-taken state r.0.name caller.children_space 1 (own_name_in_use state.rows r.0 r.1) has) in
+          let free : contains (taken state caller.children_space) 1 ≡ false = subst (λ x. contains (taken state caller.children_space) x ≡ false) one
+          (drawn-free state (path_up state.spaces caller.children_space) may.numbers caller.children_space (path_first state.spaces caller.children_space)).0 in
+          cc;
+    }
+
+-- ---- a child in a new namespace
+
+module _ (state : State) (sound : IsCoherent state) (stamp : ℕ) (below : IsBelow stamp state) (p : ℕ) (stands : is_gone state p ≡ false) (shallow : nat_le 32 (level state.spaces p) ≡ false) where
+  -- the new namespace
+  abbrev pub new : Space
+  new = record { id = stamp; parent = Some p; cursor = 0; fallen = false }
+
+  -- the namespaces with it
+  abbrev pub with_new : List Space
+  with_new = state.spaces ++ new ∷ []
+
+  -- its parent is there, and stands
+  parent_there : (t : Space) × (space_at state.spaces p ≡ Some t) × (t.fallen ≡ false)
+  parent_there = standing_space state p stands
+
+  -- those from before are found as before
+  at_old : (x : ℕ) (s : Space) → space_at state.spaces x ≡ Some s → space_at with_new x ≡ Some s
+  at_old x s e = at-push_old Space (λ t. t.id) (λ t. t.parent) state.spaces new below.spaces x s e
+
+  -- the paths from before stay
+  path_old : (id : ℕ) → IsOnTree state.spaces id → path_up with_new id ≡ path_up state.spaces id
+  unfolding path_up
+  path_old id on = chain-push Space (λ t. t.id) (λ t. t.parent) state.spaces new below.spaces (path_up state.spaces) sound.spaces 33 id on
+
+  -- its parent's path ends at the root
+  on_parent : IsOnTree state.spaces p
+  on_parent = IsOnTree-listed state.spaces sound.spaces p parent_there.0 parent_there.1
+
+  -- what is around the new namespace is it, or around its parent
+  path_new_cases : (x : ℕ) → IsIn x (path_up with_new stamp) → (x ≡ stamp) ⊎ IsIn x (path_up state.spaces p)
+  unfolding path_up
+  path_new_cases x i = chain-new_cases Space (λ t. t.id) (λ t. t.parent) state.spaces new below.spaces (path_up state.spaces) sound.spaces 32 p x refl on_parent i
+
+  -- and what is around its parent is around it
+  path_new : (x : ℕ) → IsIn x (path_up state.spaces p) → IsIn x (path_up with_new stamp)
+  unfolding path_up level
+  path_new x i =
+      let l : level state.spaces p < 32 = leb-false 32 (level state.spaces p) shallow in
+      let room : length (climb (parent_space state.spaces) 33 p) ≤ 32 = omega arith in
+      IsIn-chain_new Space (λ t. t.id) (λ t. t.parent) state.spaces new below.spaces (path_up state.spaces) sound.spaces 32 p x refl on_parent room i
+
+  -- the names in use are on the tree as before
+  name_on_tree : (a : Name) → IsIn a (names_in_use state.rows) → IsOnTree state.spaces a.space
+  name_on_tree a i = IsOnTree-name state.spaces state.pid_max sound.spaces a (sound.numbered a i)
+
+  -- their paths stay
+  name_path_old : (a : Name) → IsIn a (names_in_use state.rows) → path_up with_new a.space ≡ path_up state.spaces a.space
+  name_path_old a i = path_old a.space (name_on_tree a i)
+
+  -- and their numbers
+  number_old : (a : Name) → IsIn a (names_in_use state.rows) → (s : ℕ) → number with_new a s ≡ number state.spaces a s
+  number_old a i s = number-same_path state.spaces with_new a s (name_path_old a i)
+
+  -- the namespaces with the new one are a tree
+  tree_new : IsTreeOfSpaces with_new
+  tree_new =
+      IsTree-push Space (λ t. t.id) (λ t. t.parent) state.spaces new below.spaces (path_up state.spaces) (path_up with_new)
+      (λ s i. path_old s.id (sound.spaces.chains s i)) (path_new 0 on_parent) sound.spaces
+
+  -- the children's namespaces stay good
+  children_new : (r : Row) → IsIn r state.rows → HasGoodChildrenSpace with_new r
+  children_new r i = go (space_at state.spaces r.children_space) refl (sound.children r i)
+    where
+      go : (o : Option Space) → space_at state.spaces r.children_space ≡ o → HasGoodChildrenSpace state.spaces r → HasGoodChildrenSpace with_new r
+      go None e g = inl (at-push_none Space (λ t. t.id) (λ t. t.parent) state.spaces new below.spaces r.children_space (below.children r i) e)
+      go (Some s) e (inl none) = absurd (cc)
+      go (Some s) e (inr j) =
+          inr (subst (IsIn r.name.space) (sym (path_old r.children_space (IsOnTree-listed state.spaces sound.spaces r.children_space s e))) j)
+
+  -- nothing has a number in the new namespace yet
+  nothing_taken : taken (with_space state p stamp) stamp ≡ []
+  nothing_taken = go (taken (with_space state p stamp) stamp) refl
+    where
+      go : (ns : List ℕ) → taken (with_space state p stamp) stamp ≡ ns → taken (with_space state p stamp) stamp ≡ []
+      go [] e = e
+      go (n ∷ ns) e =
+          let u = user_of_number (with_space state p stamp) stamp n (subst (IsIn n) (sym e) (inl refl)) in
+          let w : IsIn stamp (path_up with_new u.0.space) = (number-within with_new u.0 stamp n u.2).0 in
+          let l = path_listed state.spaces sound.spaces u.0.space stamp (name_on_tree u.0 u.1) (subst (IsIn stamp) (name_path_old u.0 u.1) w) in
+          let some : space_at state.spaces stamp ≡ Some l.0 = l.1 in
+          let none : space_at state.spaces stamp ≡ None = not_there Space (λ t. t.id) (λ t. t.parent) state.spaces new below.spaces in
+          absurd (cc)
+
+  -- the new namespace has drawn no number
+  new_cursor : cursor_of (with_space state p stamp) stamp ≡ 0
+  new_cursor = ap (λ o. unwrap_or (option_map (λ (t : Space). t.cursor) o) 0) (at-push_new Space (λ t. t.id) (λ t. t.parent) state.spaces new below.spaces)
+
+  -- so it gives 1
+  first_drawn : (caller : Row) → MayFork (with_space state p stamp) caller stamp → drawn (with_space state p stamp) stamp ≡ 1
+  unfolding draw
+  first_drawn caller may =
+      let n : ℕ = drawn (with_space state p stamp) stamp in
+      let f = drawn-free (with_space state p stamp) (path_up with_new stamp) may.numbers stamp (path_first with_new stamp) in
+      let c : IsCyclicDraw state.pid_max 0 [] (cyclic_draw state.pid_max 0 []) = cyclic_draw-IsCyclicDraw state.pid_max 0 [] in
+      let d : cyclic_draw state.pid_max 0 [] ≡ Some n = ap (λ k. cyclic_draw state.pid_max k []) (sym new_cursor) ∙ ap (cyclic_draw state.pid_max (cursor_of (with_space state p stamp) stamp)) (sym nothing_taken) ∙ f.3 in
+      least n (subst (IsCyclicDraw state.pid_max 0 []) d c)
+    where
+      one : (low n : ℕ) → low ≡ 1 → IsLeastFree [] low state.pid_max n → n ≡ 1
+      one low n is_one is = elim (cases_one n) [
+        | inl e ↦ e
+        | inr l ↦ elim l [
+          | inl small ↦ absurd (let k : low ≤ n = is.from in omega arith)
+          | inr large ↦ absurd (let t : contains [] low ≡ true = is.least low (omega arith) (omega arith) in cc)
+        ]
+      ]
+        where
+          cases_one : (m : ℕ) → (m ≡ 1) ⊎ ((m < 1) ⊎ (1 < m))
+          cases_one m = cases_order m 1
+
+      least : (n : ℕ) → IsCyclicDraw state.pid_max 0 [] (Some n) → n ≡ 1
+      least n (inl is) = one 1 n refl is
+      least n (inr r) = one 1 n refl r.1
+
+  -- the new namespace is ready for its init
+  pub IsReady-new : (caller : Row) → IsIn caller state.rows → (p ≡ caller.name.space) → MayFork (with_space state p stamp) caller stamp
+      → IsReady state with_new caller stamp
+  IsReady-new caller there here may = record {
+    paths = name_path_old;
+    listed = at_old;
+    tree = tree_new;
+    children = children_new;
+    standing = λ s i e. elim (IsIn-append s state.spaces (new ∷ []) i) [
+      | inl j ↦ inl (let r = sound.standing s j e in (r.0, r.1, r.2, r.3, number_old r.0.name (own_name_in_use state.rows r.0 r.1) s.id ∙ r.4))
+      | inr j ↦ elim j [ inl same ↦ inr (ap (λ (t : Space). t.id) same, first_drawn caller may) | inr none ↦ elim none [ ] ]
+    ];
+    fallen = λ s i e. elim (IsIn-append s state.spaces (new ∷ []) i) [
+      | inl j ↦ emptied s j e
+      | inr j ↦ elim j [ inl same ↦ (let no : s.fallen ≡ false = ap (λ (t : Space). t.fallen) same in absurd (cc)) | inr none ↦ elim none [ ] ]
+    ];
+    target = (new, IsIn-append_right new state.spaces (new ∷ []) (inl refl), refl, refl);
+    around = path_new caller.name.space (subst (λ x. IsIn x (path_up state.spaces p)) here (path_first state.spaces p));
+    outside = λ one same.
+        let at = space_at-Some state.spaces p parent_there.0 parent_there.1 in
+        let l : parent_there.0.id < stamp = below.spaces parent_there.0 at.0 in omega (arith, at.1);
+  }
+    where
+      emptied : (s : Space) → IsIn s state.spaces → s.fallen ≡ true → IsEmptied state.rows with_new s.id
+      emptied s j e =
+          let em = sound.fallen s j e in
+          record {
+            ended = λ r k live. number_old r.name (own_name_in_use state.rows r k) s.id ∙ em.ended r k live;
+            below = λ u k w. elim (IsIn-append u state.spaces (new ∷ []) k) [
+              | inl old ↦ em.below u old (subst (IsIn s.id) (path_old u.id (sound.spaces.chains u old)) w)
+              | inr fresh ↦ elim fresh [ inl same ↦ absurd (below_new s j e (subst (λ (t : Space). IsIn s.id (path_up with_new t.id)) same w)) | inr none ↦ elim none [ ] ]
+            ];
+          }
+        where
+          below_new : (s : Space) → IsIn s state.spaces → s.fallen ≡ true → IsIn s.id (path_up with_new stamp) → ⊥
+          below_new s j e w = elim (path_new_cases s.id w) [
+            | inl same ↦ (let l : s.id < stamp = below.spaces s j in omega arith)
+            | inr up ↦
+                let at = space_at-Some state.spaces p parent_there.0 parent_there.1 in
+                let fell : parent_there.0.fallen ≡ true = (sound.fallen s j e).below parent_there.0 at.0 (subst (λ x. IsIn s.id (path_up state.spaces x)) (sym at.1) up) in
+                let still : parent_there.0.fallen ≡ false = parent_there.2 in cc
+          ]
+
+-- ---- the call
+
+-- a fork leaves a sound state
+pub fork_keeps : (state : State) (stamp n : ℕ) (new_space : Bool) → IsSound state → IsBelow stamp state → Keeps stamp (fork state stamp n new_space)
+fork_keeps state stamp n new_space sound below =
+    fork_cases (Keeps stamp) state stamp n new_space (λ r. Keeps-same stamp state _ sound below)
+    (λ caller found stands may.
+    let c = live_row-Some state.rows n caller found in
+    let ready : IsReady state state.spaces caller caller.children_space = IsReady-old state sound.coherent caller c.0 stands may in
+    Keeps-changed stamp (with_child state (child_of state caller caller.children_space) (path_up state.spaces caller.children_space)) _
+    (IsCoherent-forked state sound.coherent state.spaces caller caller.children_space ready c.0 c.2 may)
+    (IsBelow-forked state sound.coherent state.spaces caller caller.children_space ready c.0 c.2 may stamp below (λ s i. omega (arith, below.spaces s i))))
+    (λ caller found stands shallow here may.
+    let c = live_row-Some state.rows n caller found in
+    let p : ℕ = caller.children_space in
+    let spaces : List Space = with_new state sound.coherent stamp below p stands shallow in
+    let ready : IsReady state spaces caller stamp = IsReady-new state sound.coherent stamp below p stands shallow caller c.0 (eqb-true p caller.name.space here) may in
+    Keeps-changed stamp (with_child (with_space state p stamp) (child_of (with_space state p stamp) caller stamp) (path_up spaces stamp)) _
+    (IsCoherent-forked state sound.coherent spaces caller stamp ready c.0 c.2 may)
+    (IsBelow-forked state sound.coherent spaces caller stamp ready c.0 c.2 may stamp below (λ s i.
+    elim (IsIn-append s state.spaces (new state sound.coherent stamp below p stands shallow ∷ []) i) [
+      | inl j ↦ omega (arith, below.spaces s j)
+      | inr j ↦ elim j [ inl e ↦ (let same : s.id ≡ stamp = ap (λ (t : Space). t.id) e in omega arith) | inr none ↦ elim none [ ] ]
+    ])))

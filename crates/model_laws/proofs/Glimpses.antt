@@ -1,0 +1,352 @@
+-- Queries are answered from what the caller's namespace sees.
+use Rattle.std.proofs.Common.{◌≡◌, ℕ, zero, suc, Bool, true, false, cond, ◌||◌, ◌&&◌, ◌==◌, ◌<◌, ◌≤◌, List, [], ◌∷◌, map, reverse, Option, Some, None, refl, sym, ap, ◌∙◌, subst, arith, inl, inr}
+use Rattle.std.specs.Prelude.{nat_lt, nat_le, find, filter, filter_map, is_some, unwrap_or, option_map, slice_index, if◌then◌else◌}
+use Rattle.std.specs.List.{cons_option}
+use Rattle.std.specs.Option.{option_eq, option_map_or}
+use Rattle.std.proofs.Math.Path.{fun_ext}
+use Rattle.std.proofs.lemmas.Bool.{cases_Bool, lt-ltb, ltb-true, ltb-false, eqb-true, ne_eqb, eqb-false, and_parts}
+use Rattle.pid_types.specs.declared.plain.Name.{Name}
+use Rattle.pid_types.specs.declared.plain.Row.{Row}
+use Rattle.pid_types.specs.declared.call.Kind.{Kind}
+use Rattle.pid_types.specs.declared.call.Kind.TheVariants.{Task, Group, Session}
+use Rattle.pid_types.specs.declared.reply.Reply.{Reply}
+use Rattle.pid_types.specs.declared.reply.Reply.TheVariants.{Number, Levels as LevelList, End}
+use Rattle.pid_types.specs.Chains.{least_of}
+use Rattle.pid_types.specs.State.{State}
+use Rattle.pid_types.specs.Names.{number, number_or_zero, numbers_from, beside, beside_from, is_numbered, live_row, task_at, path_up, names_in_use}
+use Rattle.pid_types.specs.Queries.{of_task, self_or_task, name_by, numbers_by, get_pid, get_ppid, get_pgid, get_sid, ns_pid, next}
+use Rattle.pid_types.specs.Sight.{Glimpse, sight, seen, is_seen, glimpse_of, glimpse_at, self_or_glimpse, number_by, of_glimpse}
+use Rattle.pid_types.specs.Step.{step}
+use Rattle.model_laws.specs.Membership.{IsIn}
+use Rattle.model_laws.specs.Soundness.{IsCoherent}
+use Rattle.model_laws.specs.SightLaws.{Query, IsQuery, own_number, parent_number, group_of, session_of, numbers_of, next_from, IsCaller, SeesSame}
+use Rattle.model_laws.proofs.Lists.{IsIn-map, IsIn-from_map, IsIn-filter, IsIn-from_filter, find-Some, find-None, find-none, find-only}
+use Rattle.model_laws.proofs.Names.{number-within, is_numbered-true, is_numbered-from, own_name_in_use, group_in_use, session_in_use}
+use Rattle.model_laws.proofs.Trees.{same_row, live_row-Some}
+use Rattle.model_laws.proofs.SoundTest.{IsSound-from_test}
+
+-- ---- the glimpse of a number
+
+-- a search among what some rows look like is one among those rows
+find-map-filter : (p : Glimpse → Bool) (f : Row → Glimpse) (q : Row → Bool) (rows : List Row)
+    → find p (map f (filter q rows)) ≡ option_map f (find (λ row. q row && p (f row)) rows)
+find-map-filter p f q [] = refl
+find-map-filter p f q (row ∷ rows) = elim (cases_Bool (q row)) [
+  | inl e ↦ elim (cases_Bool (p (f row))) [ inl g ↦ rw (e, g) refl | inr g ↦ rw (e, g) (find-map-filter p f q rows) ]
+  | inr e ↦ rw e (find-map-filter p f q rows)
+]
+
+-- the first of the numbers from the namespace inwards is the number there
+first-beside_from : (s : ℕ) (ts ns : List ℕ) → slice_index (beside_from s ts ns) 0 ≡ unwrap_or (beside s ts ns) 0
+first-beside_from s [] ns = refl
+first-beside_from s (t ∷ ts) [] = refl
+first-beside_from s (t ∷ ts) (n ∷ ns) = elim (cases_Bool (t == s)) [ inl e ↦ rw e refl | inr e ↦ rw e (first-beside_from s ts ns) ]
+
+-- the same of a row's numbers
+first-numbers_from : (state : State) (s : ℕ) (row : Row)
+    → slice_index (numbers_from state.spaces row.name s) 0 ≡ number_or_zero state.spaces row.name s
+unfolding number numbers_from
+first-numbers_from state s row = first-beside_from s (reverse (path_up state.spaces row.name.space)) row.name.numbers.items
+
+-- with a test that fails both fail
+and-false : (b : Bool) → (b && false) ≡ false
+and-false true = refl
+and-false false = refl
+
+-- a glimpse has the number where its task has it
+one_test : (a b : Bool) (o : Option ℕ) (n : ℕ) → 0 < n → ((is_some o || a || b) && (nat_lt 0 n && (unwrap_or o 0 == n))) ≡ option_eq ◌==◌ o (Some n)
+one_test a b None n h = rw (ne_eqb 0 n (λ e. omega arith)) (rw (and-false (nat_lt 0 n)) (and-false (a || b)))
+one_test a b (Some m) n h = rw (lt-ltb 0 n h) refl
+
+-- what is seen under a number is what is seen of the task with the number
+glimpse_at-sight : (state : State) (s n : ℕ) → 0 < n → glimpse_at (sight state s) n ≡ option_map (glimpse_of state s) (task_at state s n)
+unfolding sight task_at
+glimpse_at-sight state s n h =
+    find-map-filter (λ g. nat_lt 0 n && (slice_index g.numbers 0 == n)) (glimpse_of state s) (is_seen state s) state.rows
+    ∙ ap (λ p. option_map (glimpse_of state s) (find p state.rows)) (fun_ext (λ row.
+    ap (λ m. is_seen state s row && (nat_lt 0 n && (m == n))) (first-numbers_from state s row)
+    ∙ one_test (is_some (number state.spaces row.group s)) (is_some (number state.spaces row.session s)) (number state.spaces row.name s) n h))
+
+-- nothing is seen under 0
+glimpse_at-zero : (gs : List Glimpse) → glimpse_at gs 0 ≡ None
+glimpse_at-zero gs = find-none (λ g. nat_lt 0 0 && (slice_index g.numbers 0 == 0)) gs (λ g i. refl)
+
+-- an answer about a row is one about its glimpse
+of_glimpse-map : (f : Glimpse → Reply) (h : Row → Reply) (g : Row → Glimpse) → ((row : Row) → h row ≡ f (g row)) → (o : Option Row)
+    → of_task o h ≡ of_glimpse (option_map g o) f
+of_glimpse-map f h g same None = refl
+of_glimpse-map f h g same (Some row) = same row
+
+module _ (state : State) (sound : IsCoherent state) (root : ℕ) (caller : Row) (n : ℕ) (live : live_row state.rows root ≡ Some caller)
+    (own : number state.spaces caller.name caller.name.space ≡ Some n) where
+  -- the caller is one of the rows
+  there : IsIn caller state.rows
+  there = (live_row-Some state.rows root caller live).0
+
+  -- no name in use has number 0
+  above_zero : (a : Name) → IsIn a (names_in_use state.rows) → (s m : ℕ) → number state.spaces a s ≡ Some m → 0 < m
+  above_zero a i s m e = ((sound.numbered a i).in_range m (number-within state.spaces a s m e).1).0
+
+  -- nor has the caller
+  own_above_zero : 0 < n
+  own_above_zero = above_zero caller.name (own_name_in_use state.rows caller there) caller.name.space n own
+
+  -- the caller's own number names the caller
+  own_task : task_at state caller.name.space n ≡ Some caller
+  unfolding task_at
+  own_task =
+      find-only (λ row. is_numbered state.spaces row.name caller.name.space n) state.rows caller there (is_numbered-from state.spaces caller.name caller.name.space n own) (λ row j e.
+      same_row state.rows sound.rows_rise row caller j there (sound.distinct row.name caller.name (own_name_in_use state.rows row j) (own_name_in_use state.rows caller there) caller.name.space n
+      (is_numbered-true state.spaces row.name caller.name.space n e) own))
+
+  -- no task has number 0
+  no_task : task_at state caller.name.space 0 ≡ None
+  unfolding task_at
+  no_task = go (find (λ row. is_numbered state.spaces row.name caller.name.space 0) state.rows) refl
+    where
+      go : (o : Option Row) → find (λ row. is_numbered state.spaces row.name caller.name.space 0) state.rows ≡ o
+          → find (λ row. is_numbered state.spaces row.name caller.name.space 0) state.rows ≡ None
+      go None e = e
+      go (Some row) e =
+          let r = find-Some (λ row. is_numbered state.spaces row.name caller.name.space 0) state.rows row e in
+          absurd (let l : 0 < 0 = above_zero row.name (own_name_in_use state.rows row r.0) caller.name.space 0 (is_numbered-true state.spaces row.name caller.name.space 0 r.1) in omega arith)
+
+  -- whom a number names, 0 being the caller, is seen so
+  self_seen : (pid : ℕ)
+      → self_or_glimpse (sight state caller.name.space) n pid ≡ option_map (glimpse_of state caller.name.space) (self_or_task state caller pid)
+  self_seen pid = go (pid == 0) refl
+    where
+      go : (b : Bool) → (pid == 0) ≡ b
+          → glimpse_at (sight state caller.name.space) (if b then n else pid) ≡ option_map (glimpse_of state caller.name.space) (if b then Some caller else task_at state caller.name.space pid)
+      go true e = glimpse_at-sight state caller.name.space n own_above_zero ∙ ap (option_map (glimpse_of state caller.name.space)) own_task
+      go false e = let differs : pid ≡ 0 → ⊥ = eqb-false pid 0 e in glimpse_at-sight state caller.name.space pid (omega arith)
+
+  -- whom a number names is seen so
+  target_seen : (target : ℕ)
+      → glimpse_at (sight state caller.name.space) target ≡ option_map (glimpse_of state caller.name.space) (task_at state caller.name.space target)
+  target_seen zero = glimpse_at-zero (sight state caller.name.space) ∙ ap (option_map (glimpse_of state caller.name.space)) (sym no_task)
+  target_seen (suc target) = glimpse_at-sight state caller.name.space (suc target) (omega arith)
+
+  -- ---- the next number in use
+
+  -- what a row is named by is in use
+  kind_in_use : (kind : Kind) (row : Row) → IsIn row state.rows → IsIn (name_by kind row) (names_in_use state.rows)
+  kind_in_use Task row i = own_name_in_use state.rows row i
+  kind_in_use Group row i = group_in_use state.rows row i
+  kind_in_use Session row i = session_in_use state.rows row i
+
+  -- its number is the one that is seen
+  kind_number : (kind : Kind) (row : Row)
+      → number_by kind (glimpse_of state caller.name.space row) ≡ number_or_zero state.spaces (name_by kind row) caller.name.space
+  kind_number Task row = first-numbers_from state caller.name.space row
+  kind_number Group row = refl
+  kind_number Session row = refl
+
+  -- and where it has one, something is seen of the row
+  kind_seen : (kind : Kind) (row : Row) (m : ℕ) → number state.spaces (name_by kind row) caller.name.space ≡ Some m
+      → is_seen state caller.name.space row ≡ true
+  kind_seen Task row m e = rw e refl
+  kind_seen Group row m e =
+      rw e (or_true (is_some (number state.spaces row.name caller.name.space)) (is_some (number state.spaces row.session caller.name.space)))
+    where
+      or_true : (a b : Bool) → (a || true || b) ≡ true
+      or_true true b = refl
+      or_true false b = refl
+  kind_seen Session row m e =
+      rw e (or_true (is_some (number state.spaces row.name caller.name.space)) (is_some (number state.spaces row.group caller.name.space)))
+    where
+      or_true : (a b : Bool) → (a || b || true) ≡ true
+      or_true true b = refl
+      or_true false true = refl
+      or_true false false = refl
+
+  -- the numbers in use as the kind are those that are seen so, but for 0
+  next_seen : (kind : Kind) (from : ℕ) (rows : List Row) → ((row : Row) → IsIn row rows → IsIn row state.rows)
+      → filter (nat_le from) (filter_map (λ row. number state.spaces (name_by kind row) caller.name.space) rows)
+      ≡ filter (λ m. nat_lt 0 m && nat_le from m) (map (number_by kind) (map (glimpse_of state caller.name.space) (filter (is_seen state caller.name.space) rows)))
+  next_seen kind from [] all = refl
+  next_seen kind from (row ∷ rows) all =
+      go (number state.spaces (name_by kind row) caller.name.space) refl (is_seen state caller.name.space row) refl (next_seen kind from rows (λ r i. all r (inr i)))
+    where
+      rest : List Row → List ℕ
+      rest rs = map (number_by kind) (map (glimpse_of state caller.name.space) rs)
+
+      test : ℕ → Bool
+      test m = nat_lt 0 m && nat_le from m
+
+      same_test : (m : ℕ) → 0 < m → test m ≡ nat_le from m
+      same_test m l = rw (lt-ltb 0 m l) refl
+
+      seen_row : (m : ℕ) → number_by kind (glimpse_of state caller.name.space row) ≡ m → (ns : List ℕ)
+          → filter test (number_by kind (glimpse_of state caller.name.space row) ∷ ns) ≡ cond (test m) (m ∷ filter test ns) (filter test ns)
+      seen_row m e ns = ap (λ k. cond (test k) (k ∷ filter test ns) (filter test ns)) e
+
+      go : (o : Option ℕ) → number state.spaces (name_by kind row) caller.name.space ≡ o → (b : Bool) → is_seen state caller.name.space row ≡ b
+          → filter (nat_le from) (filter_map (λ r. number state.spaces (name_by kind r) caller.name.space) rows) ≡ filter test (rest (filter (is_seen state caller.name.space) rows))
+          → filter (nat_le from) (cons_option o (filter_map (λ r. number state.spaces (name_by kind r) caller.name.space) rows))
+          ≡ filter test (rest (cond b (row ∷ filter (is_seen state caller.name.space) rows) (filter (is_seen state caller.name.space) rows)))
+      go None e false f h = h
+      go None e true f h =
+          h ∙ sym (seen_row 0 (kind_number kind row ∙ ap (λ o. unwrap_or o 0) e) (rest (filter (is_seen state caller.name.space) rows)))
+      go (Some m) e false f h = let yes : is_seen state caller.name.space row ≡ true = kind_seen kind row m e in absurd (cc)
+      go (Some m) e true f h =
+          let l : 0 < m = above_zero (name_by kind row) (kind_in_use kind row (all row (inl refl))) caller.name.space m e in
+          ap (λ ns. cond (nat_le from m) (m ∷ ns) ns) h
+          ∙ ap (λ b. cond b (m ∷ filter test (rest (filter (is_seen state caller.name.space) rows))) (filter test (rest (filter (is_seen state caller.name.space) rows)))) (sym (same_test m l))
+          ∙ sym (seen_row m (kind_number kind row ∙ ap (λ o. unwrap_or o 0) e) (rest (filter (is_seen state caller.name.space) rows)))
+
+  -- ---- the six queries
+
+  -- the answer about the parent
+  parent_reply : (g : Row → Reply)
+      → ((row : Row) → g row ≡ Number (option_map_or (λ parent. number_or_zero state.spaces parent caller.name.space) row.parent 0))
+      → g caller ≡ of_glimpse (glimpse_at (sight state caller.name.space) n) (λ x. Number x.parent)
+  parent_reply g same =
+      same caller ∙ sym (ap (λ o. of_glimpse o (λ x. Number x.parent)) (glimpse_at-sight state caller.name.space n own_above_zero ∙ ap (option_map (glimpse_of state caller.name.space)) own_task))
+
+  -- each query is answered from what is seen
+  pub query_seen : (stamp : ℕ) (query : Query) → IsQuery query
+      → (step state stamp (query root)).reply ≡ seen (sight state caller.name.space) n (query root)
+  unfolding step seen sight get_pid get_ppid get_pgid get_sid ns_pid next
+  query_seen stamp query own_number = rw live (ap (λ o. Number (unwrap_or o 0)) own)
+  query_seen stamp query parent_number =
+      rw live (parent_reply (λ row. Number (option_map_or (λ parent. number_or_zero state.spaces parent caller.name.space) row.parent 0)) (λ row. refl))
+  query_seen stamp query (group_of pid) = rw live
+      (of_glimpse-map (λ g. Number g.group) (λ row. Number (number_or_zero state.spaces row.group caller.name.space)) (glimpse_of state caller.name.space) (λ row. refl) (self_or_task state caller pid)
+      ∙ ap (λ o. of_glimpse o (λ g. Number g.group)) (sym (self_seen pid)))
+  query_seen stamp query (session_of pid) = rw live
+      (of_glimpse-map (λ g. Number g.session) (λ row. Number (number_or_zero state.spaces row.session caller.name.space)) (glimpse_of state caller.name.space) (λ row. refl) (self_or_task state caller pid)
+      ∙ ap (λ o. of_glimpse o (λ g. Number g.session)) (sym (self_seen pid)))
+  query_seen stamp query (numbers_of target) = rw live
+      (of_glimpse-map (λ g. LevelList (record { items = g.numbers })) (λ row. LevelList (record { items = numbers_from state.spaces row.name caller.name.space })) (glimpse_of state caller.name.space) (λ row. refl) (task_at state caller.name.space target)
+      ∙ ap (λ o. of_glimpse o (λ g. LevelList (record { items = g.numbers }))) (sym (target_seen target)))
+  query_seen stamp query (next_from kind from) = rw live (next_reply kind from)
+    where
+      next_reply : (kind : Kind) (from : ℕ) → option_map_or Number (least_of (filter (nat_le from) (numbers_by state kind caller.name.space))) End
+          ≡ option_map_or Number (least_of (filter (λ m. nat_lt 0 m && nat_le from m) (map (number_by kind) (sight state caller.name.space)))) End
+      next_reply kind from = ap (λ ns. option_map_or Number (least_of ns) End) (next_seen kind from state.rows (λ row i. i))
+
+  -- a number above 0 is seen of one glimpse alone
+  pub glimpse_once : (g h : Glimpse) (m : ℕ) → IsIn g (sight state caller.name.space) → IsIn h (sight state caller.name.space) → 0 < m
+      → slice_index g.numbers 0 ≡ m → slice_index h.numbers 0 ≡ m → g ≡ h
+  unfolding sight
+  glimpse_once g h m i j l e f =
+      let p = IsIn-from_map (glimpse_of state caller.name.space) g (filter (is_seen state caller.name.space) state.rows) i in
+      let q = IsIn-from_map (glimpse_of state caller.name.space) h (filter (is_seen state caller.name.space) state.rows) j in
+      let a = IsIn-from_filter (is_seen state caller.name.space) p.0 state.rows p.1 in
+      let b = IsIn-from_filter (is_seen state caller.name.space) q.0 state.rows q.1 in
+      let x : number state.spaces p.0.name caller.name.space ≡ Some m = has p.0 (sym (first-numbers_from state caller.name.space p.0) ∙ ap (λ (k : Glimpse). slice_index k.numbers 0) (sym p.2) ∙ e) in
+      let y : number state.spaces q.0.name caller.name.space ≡ Some m = has q.0 (sym (first-numbers_from state caller.name.space q.0) ∙ ap (λ (k : Glimpse). slice_index k.numbers 0) (sym q.2) ∙ f) in
+      let same : p.0 ≡ q.0 = same_row state.rows sound.rows_rise p.0 q.0 a.0 b.0 (sound.distinct p.0.name q.0.name (own_name_in_use state.rows p.0 a.0) (own_name_in_use state.rows q.0 b.0) caller.name.space m x y) in
+      p.2 ∙ ap (glimpse_of state caller.name.space) same ∙ sym q.2
+    where
+      has : (row : Row) → number_or_zero state.spaces row.name caller.name.space ≡ m → number state.spaces row.name caller.name.space ≡ Some m
+      has row k = go (number state.spaces row.name caller.name.space) refl k
+        where
+          go : (o : Option ℕ) → number state.spaces row.name caller.name.space ≡ o → unwrap_or o 0 ≡ m
+              → number state.spaces row.name caller.name.space ≡ Some m
+          go None d t = absurd (let z : 0 ≡ m = t in omega arith)
+          go (Some v) d t = d ∙ ap Some t
+
+-- ---- what is seen as a set
+
+-- the least of a list is in it, and no more than any
+least_of-Some : (ns : List ℕ) (m : ℕ) → least_of ns ≡ Some m → IsIn m ns × ((k : ℕ) → IsIn k ns → m ≤ k)
+least_of-Some [] m h = absurd (cc)
+least_of-Some (n ∷ ns) m h = go (least_of ns) refl (λ l e. least_of-Some ns l e) h
+  where
+    pick : (l : ℕ) → IsIn l ns × ((k : ℕ) → IsIn k ns → l ≤ k) → (b : Bool) → nat_lt l n ≡ b → (if b then l else n) ≡ m
+        → IsIn m (n ∷ ns) × ((k : ℕ) → IsIn k (n ∷ ns) → m ≤ k)
+    pick l r true e f =
+        (inr (subst (λ x. IsIn x ns) f r.0), λ k i. elim i [ inl same ↦ (let a : l < n = ltb-true l n e in omega arith) | inr j ↦ (let a : l ≤ k = r.1 k j in omega arith) ])
+    pick l r false e f =
+        (inl (sym f), λ k i. elim i [ inl same ↦ omega arith | inr j ↦ (let a : l ≤ k = r.1 k j in let b : n ≤ l = ltb-false l n e in omega arith) ])
+
+    none_in : (ms : List ℕ) → least_of ms ≡ None → (k : ℕ) → IsIn k ms → ⊥
+    none_in [] e k i = i
+    none_in (x ∷ ms) e k i = cc
+
+    go : (o : Option ℕ) → least_of ns ≡ o → ((l : ℕ) → least_of ns ≡ Some l → IsIn l ns × ((k : ℕ) → IsIn k ns → l ≤ k))
+        → Some (option_map_or (λ l. if nat_lt l n then l else n) o n) ≡ Some m → IsIn m (n ∷ ns) × ((k : ℕ) → IsIn k (n ∷ ns) → m ≤ k)
+    go None e rest f = let same : m ≡ n = cc in (inl same, λ k i. elim i [ inl here ↦ omega arith | inr j ↦ absurd (none_in ns e k j) ])
+    go (Some l) e rest f = pick l (rest l e) (nat_lt l n) refl (let same : (if nat_lt l n then l else n) ≡ m = cc in same)
+
+-- lists with the same elements have the same least
+least_of-same : (ns ms : List ℕ) → ((k : ℕ) → IsIn k ns → IsIn k ms) → ((k : ℕ) → IsIn k ms → IsIn k ns) → least_of ns ≡ least_of ms
+least_of-same [] [] to from = refl
+least_of-same [] (m ∷ ms) to from = elim (from m (inl refl)) [ ]
+least_of-same (n ∷ ns) [] to from = elim (to n (inl refl)) [ ]
+least_of-same (n ∷ ns) (m ∷ ms) to from = go (least_of (n ∷ ns)) refl (least_of (m ∷ ms)) refl
+  where
+    go : (o : Option ℕ) → least_of (n ∷ ns) ≡ o → (p : Option ℕ) → least_of (m ∷ ms) ≡ p → least_of (n ∷ ns) ≡ least_of (m ∷ ms)
+    go None e p f = absurd (cc)
+    go (Some a) e None f = absurd (cc)
+    go (Some a) e (Some b) f =
+        let x = least_of-Some (n ∷ ns) a e in
+        let y = least_of-Some (m ∷ ms) b f in
+        let l : a ≤ b = x.1 b (from b y.0) in
+        let r : b ≤ a = y.1 a (to a x.0) in
+        let same : a ≡ b = omega arith in
+        e ∙ ap Some same ∙ sym f
+
+-- the same is seen under a number
+glimpse_at-same : (a b : List Glimpse) → SeesSame a b
+    → ((g h : Glimpse) (m : ℕ) → IsIn g b → IsIn h b → 0 < m → slice_index g.numbers 0 ≡ m → slice_index h.numbers 0 ≡ m → g ≡ h)
+    → (m : ℕ) → glimpse_at a m ≡ glimpse_at b m
+glimpse_at-same a b same once m = go (glimpse_at a m) refl
+  where
+    p : Glimpse → Bool
+    p g = nat_lt 0 m && (slice_index g.numbers 0 == m)
+
+    parts : (g : Glimpse) → p g ≡ true → (0 < m) × (slice_index g.numbers 0 ≡ m)
+    parts g e = let r = and_parts (nat_lt 0 m) (slice_index g.numbers 0 == m) e in (ltb-true 0 m r.0, eqb-true (slice_index g.numbers 0) m r.1)
+
+    go : (o : Option Glimpse) → find p a ≡ o → find p a ≡ find p b
+    go None e = e ∙ sym (find-none p b (λ g i. find-None p a e g ((same g).1 i)))
+    go (Some g) e =
+        let r = find-Some p a g e in
+        let t = parts g r.1 in
+        e ∙ sym (find-only p b g ((same g).0 r.0) r.1 (λ h i f. let u = parts h f in once h g m i ((same g).0 r.0) t.0 u.1 t.1))
+
+-- so the answers are the same
+seen-same : (a b : List Glimpse) → SeesSame a b
+    → ((g h : Glimpse) (m : ℕ) → IsIn g b → IsIn h b → 0 < m → slice_index g.numbers 0 ≡ m → slice_index h.numbers 0 ≡ m → g ≡ h)
+    → (n root elsewhere : ℕ) (query : Query) → IsQuery query → seen a n (query root) ≡ seen b n (query elsewhere)
+unfolding seen
+seen-same a b same once n root elsewhere query own_number = refl
+seen-same a b same once n root elsewhere query parent_number = ap (λ o. of_glimpse o (λ g. Number g.parent)) (glimpse_at-same a b same once n)
+seen-same a b same once n root elsewhere query (group_of pid) =
+    ap (λ o. of_glimpse o (λ g. Number g.group)) (glimpse_at-same a b same once (if pid == 0 then n else pid))
+seen-same a b same once n root elsewhere query (session_of pid) =
+    ap (λ o. of_glimpse o (λ g. Number g.session)) (glimpse_at-same a b same once (if pid == 0 then n else pid))
+seen-same a b same once n root elsewhere query (numbers_of target) =
+    ap (λ o. of_glimpse o (λ g. LevelList (record { items = g.numbers }))) (glimpse_at-same a b same once target)
+seen-same a b same once n root elsewhere query (next_from kind from) =
+    ap (λ o. option_map_or Number o End) (least_of-same (filter test (map (number_by kind) a)) (filter test (map (number_by kind) b)) (move a b (λ g. (same g).0)) (move b a (λ g. (same g).1)))
+  where
+    test : ℕ → Bool
+    test m = nat_lt 0 m && nat_le from m
+
+    move : (x y : List Glimpse) → ((g : Glimpse) → IsIn g x → IsIn g y) → (k : ℕ) → IsIn k (filter test (map (number_by kind) x))
+        → IsIn k (filter test (map (number_by kind) y))
+    move x y to k i =
+        let f = IsIn-from_filter test k (map (number_by kind) x) i in
+        let g = IsIn-from_map (number_by kind) k x f.0 in
+        IsIn-filter test k (map (number_by kind) y) (subst (λ m. IsIn m (map (number_by kind) y)) (sym g.2) (IsIn-map (number_by kind) g.0 y (to g.0 g.1))) f.1
+
+-- ---- the laws
+
+-- the same, from the test of soundness
+pub caller_seen : (state : State) (stamp root : ℕ) (caller : Row) (n : ℕ) (query : Query) → IsCaller state root caller n → IsQuery query
+    → (step state stamp (query root)).reply ≡ seen (sight state caller.name.space) n (query root)
+caller_seen state stamp root caller n query c q = query_seen state (IsSound-from_test state c.sound).coherent root caller n c.live c.own stamp query q
+
+-- so callers that see the same get the same answers
+pub same_sight : (one other : State) (stamp later root elsewhere n : ℕ) (caller like : Row) (query : Query) → IsCaller one root caller n
+    → IsCaller other elsewhere like n
+    → SeesSame (sight one caller.name.space) (sight other like.name.space) → IsQuery query
+    → (step one stamp (query root)).reply ≡ (step other later (query elsewhere)).reply
+same_sight one other stamp later root elsewhere n caller like query c d same q =
+    caller_seen one stamp root caller n query c q
+    ∙ seen-same (sight one caller.name.space) (sight other like.name.space) same (glimpse_once other (IsSound-from_test other d.sound).coherent elsewhere like n d.live d.own) n root elsewhere query q
+    ∙ sym (caller_seen other later elsewhere like n query d q)

@@ -1,0 +1,138 @@
+-- Rows with one more, and the numbers that a new name is made of.
+use Rattle.std.proofs.Common.{◌≡◌, ℕ, ◌<◌, Bool, true, false, ◌==◌, List, [], ◌∷◌, ◌++◌, map, reverse, Option, Some, None, cond, refl, sym, ap, ◌∙◌, subst, ◌⊎◌, inl, inr, arith}
+use Rattle.std.specs.Prelude.{nat_lt, is_none, unwrap_or, find}
+use Rattle.std.proofs.lemmas.List.{reverse-append, map-append}
+use Rattle.std.proofs.lemmas.Bool.{eqb-true, eq-eqb, ltb-true, ltb-false}
+use Rattle.pid_types.specs.declared.plain.Row.{Row}
+use Rattle.pid_types.specs.Chains.{contains}
+use Rattle.pid_types.specs.State.{State}
+use Rattle.pid_types.specs.Names.{path_up, beside, number, root_number, taken}
+use Rattle.pid_types.specs.Draw.{cursor_of, draw}
+use Rattle.pid_types.specs.Fork.{insert_row, drawn, child_of}
+use Rattle.model_laws.specs.Membership.{IsIn}
+use Rattle.model_laws.specs.Soundness.{IsRising}
+use Rattle.model_laws.proofs.Lists.{IsIn-map, IsIn-from_map, IsIn-reverse, IsIn-to_reverse, find-None}
+use Rattle.model_laws.proofs.Draws.{draw-Some}
+
+-- ---- one row more
+
+-- a row after the insertion is the new one, or was there
+pub IsIn-from_insert : (new : Row) (rows : List Row) (r : Row) → IsIn r (insert_row new rows) → (r ≡ new) ⊎ IsIn r rows
+IsIn-from_insert new [] r (inl e) = inl e
+IsIn-from_insert new [] r (inr none) = elim none [ ]
+IsIn-from_insert new (row ∷ rows) r i = go (λ j. IsIn-from_insert new rows r j) (nat_lt (root_number new.name) (root_number row.name)) i
+  where
+    go : (IsIn r (insert_row new rows) → (r ≡ new) ⊎ IsIn r rows) → (b : Bool)
+        → IsIn r (cond b (new ∷ row ∷ rows) (row ∷ insert_row new rows)) → (r ≡ new) ⊎ IsIn r (row ∷ rows)
+    go rest true (inl e) = inl e
+    go rest true (inr j) = inr j
+    go rest false (inl e) = inr (inl e)
+    go rest false (inr j) = elim (rest j) [ inl e ↦ inl e | inr k ↦ inr (inr k) ]
+
+-- the new one is there
+pub IsIn-insert_new : (new : Row) (rows : List Row) → IsIn new (insert_row new rows)
+IsIn-insert_new new [] = inl refl
+IsIn-insert_new new (row ∷ rows) = go (IsIn-insert_new new rows) (nat_lt (root_number new.name) (root_number row.name))
+  where
+    go : IsIn new (insert_row new rows) → (b : Bool) → IsIn new (cond b (new ∷ row ∷ rows) (row ∷ insert_row new rows))
+    go rest true = inl refl
+    go rest false = inr rest
+
+-- and so is each that was there
+pub IsIn-insert_old : (new : Row) (rows : List Row) (r : Row) → IsIn r rows → IsIn r (insert_row new rows)
+IsIn-insert_old new [] r i = elim i [ ]
+IsIn-insert_old new (row ∷ rows) r i = go (λ j. IsIn-insert_old new rows r j) (nat_lt (root_number new.name) (root_number row.name)) i
+  where
+    go : (IsIn r rows → IsIn r (insert_row new rows)) → (b : Bool) → IsIn r (row ∷ rows)
+        → IsIn r (cond b (new ∷ row ∷ rows) (row ∷ insert_row new rows))
+    go rest true j = inr j
+    go rest false (inl e) = inl e
+    go rest false (inr j) = inr (rest j)
+
+-- the rows rise with one of another root number
+pub IsRising-insert : (new : Row) (rows : List Row) → IsRising (map (λ r. root_number r.name) rows)
+    → ((r : Row) → IsIn r rows → root_number r.name ≡ root_number new.name → ⊥)
+    → IsRising (map (λ r. root_number r.name) (insert_row new rows))
+IsRising-insert new [] rise differs = (λ m i. elim i [ ], tt)
+IsRising-insert new (row ∷ rows) rise differs =
+    go (IsRising-insert new rows rise.1 (λ r i. differs r (inr i))) (nat_lt (root_number new.name) (root_number row.name)) refl
+  where
+    above : root_number new.name < root_number row.name → (m : ℕ) → IsIn m (map (λ r. root_number r.name) (row ∷ rows)) → root_number new.name < m
+    above l m (inl e) = omega arith
+    above l m (inr i) = let k : root_number row.name < m = rise.0 m i in omega arith
+
+    below : root_number row.name < root_number new.name → (m : ℕ) → IsIn m (map (λ r. root_number r.name) (insert_row new rows))
+        → root_number row.name < m
+    below l m i =
+        let q = IsIn-from_map (λ (r : Row). root_number r.name) m (insert_row new rows) i in
+        elim (IsIn-from_insert new rows q.0 q.1) [
+          | inl e ↦ let k : m ≡ root_number new.name = q.2 ∙ ap (λ (r : Row). root_number r.name) e in omega arith
+          | inr j ↦ subst (λ n. root_number row.name < n) (sym q.2) (rise.0 (root_number q.0.name) (IsIn-map (λ (r : Row). root_number r.name) q.0 rows j))
+        ]
+
+    go : IsRising (map (λ r. root_number r.name) (insert_row new rows)) → (b : Bool) → nat_lt (root_number new.name) (root_number row.name) ≡ b
+        → IsRising (map (λ r. root_number r.name) (cond b (new ∷ row ∷ rows) (row ∷ insert_row new rows)))
+    go rest true e = (above (ltb-true _ _ e), rise)
+    go rest false e =
+        let apart : root_number row.name ≡ root_number new.name → ⊥ = differs row (inl refl) in
+        let l = ltb-false (root_number new.name) (root_number row.name) e in
+        (below (omega arith), rest)
+
+-- ---- the new name
+
+-- a list turned round and changed
+map-reverse : (f : ℕ → ℕ) (xs : List ℕ) → map f (reverse xs) ≡ reverse (map f xs)
+map-reverse f [] = refl
+map-reverse f (x ∷ xs) =
+    ap (map f) (reverse-append (x ∷ []) xs) ∙ map-append f (reverse xs) (x ∷ []) ∙ ap (λ ys. ys ++ f x ∷ []) (map-reverse f xs) ∙ sym (reverse-append (f x ∷ []) (map f xs))
+
+-- the number beside an id in a list of numbers drawn for each id
+beside-map : (d : ℕ → ℕ) (ts : List ℕ) (s n : ℕ) → beside s ts (map d ts) ≡ Some n → (d s ≡ n) × IsIn s ts
+beside-map d [] s n h = absurd (cc)
+beside-map d (t ∷ ts) s n h = go (λ e. beside-map d ts s n e) (t == s) refl h
+  where
+    go : (beside s ts (map d ts) ≡ Some n → (d s ≡ n) × IsIn s ts) → (b : Bool) → (t == s) ≡ b
+        → cond b (Some (d t)) (beside s ts (map d ts)) ≡ Some n → (d s ≡ n) × IsIn s (t ∷ ts)
+    go rest true e f = let same : t ≡ s = eqb-true t s e in let here : d t ≡ n = cc in (ap d (sym same) ∙ here, inl (sym same))
+    go rest false e f = ((rest f).0, inr (rest f).1)
+
+-- each id has its own drawn number beside it
+beside-map_at : (d : ℕ → ℕ) (ts : List ℕ) (s : ℕ) → IsIn s ts → beside s ts (map d ts) ≡ Some (d s)
+beside-map_at d [] s i = elim i [ ]
+beside-map_at d (t ∷ ts) s i = go (λ j. beside-map_at d ts s j) (t == s) refl i
+  where
+    go : (IsIn s ts → beside s ts (map d ts) ≡ Some (d s)) → (b : Bool) → (t == s) ≡ b → IsIn s (t ∷ ts)
+        → cond b (Some (d t)) (beside s ts (map d ts)) ≡ Some (d s)
+    go rest true e j = ap (λ x. Some (d x)) (eqb-true t s e)
+    go rest false e (inl same) = let yes : (t == s) ≡ true = eq-eqb t s (sym same) in absurd (cc)
+    go rest false e (inr j) = rest j
+
+-- the number of the new name in a namespace is what that gives, and the namespace is on its path
+pub number-child_of : (state : State) (caller : Row) (t s n : ℕ) → number state.spaces (child_of state caller t).name s ≡ Some n
+    → (drawn state s ≡ n) × IsIn s (path_up state.spaces t)
+unfolding number
+number-child_of state caller t s n h =
+    let r = beside-map (drawn state) (reverse (path_up state.spaces t)) s n (ap (λ ns. beside s (reverse (path_up state.spaces t)) ns) (map-reverse (drawn state) (path_up state.spaces t)) ∙ h) in
+    (r.0, IsIn-reverse s (path_up state.spaces t) r.1)
+
+-- each namespace on the path gives the number that it has drawn
+pub number-child_of_at : (state : State) (caller : Row) (t s : ℕ) → IsIn s (path_up state.spaces t)
+    → number state.spaces (child_of state caller t).name s ≡ Some (drawn state s)
+unfolding number
+number-child_of_at state caller t s i =
+    sym (ap (λ ns. beside s (reverse (path_up state.spaces t)) ns) (map-reverse (drawn state) (path_up state.spaces t)))
+    ∙ beside-map_at (drawn state) (reverse (path_up state.spaces t)) s (IsIn-to_reverse s (path_up state.spaces t) i)
+
+-- where each namespace on the path has a number to give, it gives one that is not taken, above 0 and below the bound
+pub drawn-free : (state : State) (path : List ℕ) → find (λ s. is_none (draw state s)) path ≡ None → (s : ℕ) → IsIn s path
+    → (contains (taken state s) (drawn state s) ≡ false) × (0 < drawn state s) × (drawn state s < state.pid_max) × (draw state s ≡ Some (drawn state s))
+unfolding drawn draw
+drawn-free state path none s i = go (draw state s) refl (find-None (λ u. is_none (draw state u)) path none s i)
+  where
+    go : (o : Option ℕ) → draw state s ≡ o → is_none o ≡ false
+        → (contains (taken state s) (unwrap_or (draw state s) 0) ≡ false) × (0 < unwrap_or (draw state s) 0) × (unwrap_or (draw state s) 0 < state.pid_max) × (draw state s ≡ Some (unwrap_or (draw state s) 0))
+    go None e f = absurd (cc)
+    go (Some m) e f =
+        let d = draw-Some state.pid_max (cursor_of state s) (taken state s) m e in
+        let same : unwrap_or (draw state s) 0 ≡ m = ap (λ o. unwrap_or o 0) e in
+        (subst (λ x. contains (taken state s) x ≡ false) (sym same) d.0, subst (λ x. 0 < x) (sym same) d.1, subst (λ x. x < state.pid_max) (sym same) d.2, e ∙ ap Some (sym same))

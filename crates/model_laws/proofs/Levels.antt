@@ -1,0 +1,109 @@
+-- A name's number in a namespace is the entry at the namespace's level.
+use Rattle.std.proofs.Common.{◌≡◌, ◌≤◌, ◌↔◌, ℕ, zero, suc, ◌+◌, ◌-◌, ◌<◌, Bool, true, false, not, ◌==◌, List, [], ◌∷◌, ◌++◌, reverse, length, Option, Some, None, refl, sym, ap, ◌∙◌, inl, inr, arith, length-append}
+use Rattle.std.specs.Prelude.{slice_get, slice_index_or, is_some, Contains}
+use Rattle.std.proofs.lemmas.List.{reverse-append, length-reverse, append_assoc}
+use Rattle.std.proofs.lemmas.Bool.{eq-eqb, ne_eqb, and_left, not_from_false}
+use Rattle.pid_types.specs.declared.plain.Name.{Name}
+use Rattle.pid_types.specs.declared.plain.Space.{Space}
+use Rattle.pid_types.specs.declared.plain.Control.{Control}
+use Rattle.pid_types.specs.State.{State}
+use Rattle.pid_types.specs.Chains.{climb}
+use Rattle.pid_types.specs.Names.{parent_space, path_up, level, beside, number, names_in_use, taken}
+use Rattle.pid_types.specs.Controls.{parent_control, control_path}
+use Rattle.pid_types.specs.Outcome.{is_dead, sweep}
+use Rattle.pid_types.specs.Sound.{HasDistinctNumbers}
+use Rattle.model_laws.specs.Membership.{IsIn}
+use Rattle.model_laws.specs.Soundness.{IsSound}
+use Rattle.model_laws.proofs.Lists.{IsIn-reverse, filter-all}
+use Rattle.model_laws.proofs.Names.{number-within, number-on_path}
+use Rattle.model_laws.proofs.Chains.{Stops, Stops-at_root, climb-None, climb-Some, climb-stopped, climb_suffix, length-climb}
+use Rattle.model_laws.proofs.Sweeps.{kept-by_name, to_kept}
+
+-- beside an id stands the number that has as many before it
+beside-place : (s : ℕ) (ts us ns : List ℕ) → (IsIn s ts → ⊥) → beside s (ts ++ s ∷ us) ns ≡ slice_get ns (length ts)
+beside-place s [] us [] off = refl
+beside-place s [] us (n ∷ ns) off = rw (eq-eqb s s refl) refl
+beside-place s (t ∷ ts) us [] off = refl
+beside-place s (t ∷ ts) us (n ∷ ns) off = rw (ne_eqb t s (λ e. off (inl (sym e)))) (beside-place s ts us ns (λ i. off (inr i)))
+
+-- a chain that stops begins with its id, which stands there once
+climb_once : (f : ℕ → Option ℕ) (k id : ℕ) → Stops f k id → (rest : List ℕ) × (climb f k id ≡ id ∷ rest) × (IsIn id rest → ⊥)
+climb_once f zero id s = elim s [ ]
+climb_once f (suc k) id (inl none) = ([], climb-None f k id none, λ i. i)
+climb_once f (suc k) id (inr r) = (
+  climb f k r.0,
+  climb-Some f k id r.0 r.1,
+  λ i.
+      let t = climb_suffix f k r.0 id r.2 i in
+      let a : length (climb f k r.0) ≡ length t.0 + length (climb f k id) = ap length t.1 ∙ length-append t.0 (climb f k id) in
+      let b : length (climb f (suc k) id) ≡ length (climb f k id) = ap length (climb-stopped f k id t.2) in
+      let c : length (climb f (suc k) id) ≡ suc (length (climb f k r.0)) = ap length (climb-Some f k id r.0 r.1) in
+      omega arith,
+)
+
+-- a name's number in a namespace on its path is the entry at the level of that namespace
+pub number-level : (spaces : List Space) (name : Name) (s : ℕ) → parent_space spaces 0 ≡ None → IsIn 0 (path_up spaces name.space)
+    → IsIn s (path_up spaces name.space)
+    → number spaces name s ≡ slice_get name.numbers.items (level spaces s)
+unfolding number level path_up
+number-level spaces name s root on i =
+    let f : ℕ → Option ℕ = parent_space spaces in
+    let t = climb_suffix f 33 name.space s (Stops-at_root f 33 name.space root on) i in
+    let o = climb_once f 33 s t.2 in
+    let path : climb f 33 name.space ≡ t.0 ++ s ∷ o.0 = t.1 ∙ ap (λ xs. t.0 ++ xs) o.1 in
+    let back : reverse (climb f 33 name.space) ≡ reverse o.0 ++ s ∷ reverse t.0 =
+    ap reverse path ∙ reverse-append t.0 (s ∷ o.0) ∙ ap (λ xs. xs ++ reverse t.0) (reverse-append (s ∷ []) o.0) ∙ append_assoc (reverse o.0) (s ∷ []) (reverse t.0) in
+    let depth : length (reverse o.0) ≡ length (climb f 33 s) - 1 = let a : length (climb f 33 s) ≡ suc (length o.0) = ap length o.1 in let b : length (reverse o.0) ≡ length o.0 = length-reverse o.0 in omega arith in
+    ap (λ xs. beside s xs name.numbers.items) back
+    ∙ beside-place s (reverse o.0) (reverse t.0) name.numbers.items (λ j. o.2 (IsIn-reverse s o.0 j))
+    ∙ ap (slice_get name.numbers.items) depth
+
+-- the sweep takes no namespace in which a name in use has a number
+pub sweep-numbered : (state : State) (s : Space) (name : Name) (n : ℕ) → IsIn s state.spaces → IsIn name (names_in_use state.rows)
+    → number state.spaces name s.id ≡ Some n → IsIn s (sweep state).spaces
+sweep-numbered state s name n i used e = to_kept state s i (kept-by_name state name s.id n used e s i refl)
+
+-- a name in use has a number exactly on its path
+pub number-iff_on_path : (state : State) (name : Name) (s : ℕ) → IsSound state → IsIn name (names_in_use state.rows)
+    → IsIn s (path_up state.spaces name.space) ↔ (is_some (number state.spaces name s) ≡ true)
+number-iff_on_path state name s sound used =
+    (λ i. let n = number-on_path state.spaces name s (sound.coherent.numbered name used).one_each i in rw n.1 refl, λ h. back (number state.spaces name s) refl h)
+  where
+    back : (o : Option ℕ) → number state.spaces name s ≡ o → is_some o ≡ true → IsIn s (path_up state.spaces name.space)
+    back None e h = absurd (cc)
+    back (Some n) e h = (number-within state.spaces name s n e).0
+
+-- an element by its place is an element
+IsIn-from_Contains : {X : Type 0} (xs : List X) (x : X) → Contains xs x → IsIn x xs
+IsIn-from_Contains [] x c = let l : c.0 < 0 = c.1 in absurd (omega arith)
+IsIn-from_Contains {X} (y ∷ xs) x c = go c.0 c.1 c.2 (λ k l e. IsIn-from_Contains xs x (k, l, e))
+  where
+    go : (k : ℕ) → k < suc (length xs) → slice_index_or (y ∷ xs) k x ≡ x → ((j : ℕ) → j < length xs → slice_index_or xs j x ≡ x → IsIn x xs)
+        → IsIn x (y ∷ xs)
+    go zero l e rest = inl (sym e)
+    go (suc k) l e rest = inr (rest k (omega arith) e)
+
+-- two names in use with one number in one namespace are one
+pub HasDistinctNumbers-sound : (state : State) → IsSound state → HasDistinctNumbers state
+HasDistinctNumbers-sound state sound a b i j =
+    sound.coherent.distinct a b (IsIn-from_Contains (names_in_use state.rows) a i) (IsIn-from_Contains (names_in_use state.rows) b j)
+
+-- a sound state has no dead namespace
+pub sweep-sound : (state : State) → IsSound state → sweep state ≡ state
+unfolding sweep
+sweep-sound state sound =
+    ap (λ spaces. record state { spaces = spaces }) (filter-all (λ s. not (is_dead state s)) state.spaces (λ s i. not_from_false (is_dead state s) (alive s i s.fallen refl)))
+  where
+    alive : (s : Space) → IsIn s state.spaces → (b : Bool) → s.fallen ≡ b → is_dead state s ≡ false
+    alive s i false e = and_left s.fallen (length (taken state s.id) == 0) e
+    alive s i true e = let u = sound.named s i e in kept-by_name state u.0 s.id u.1 u.2 u.3 s i refl
+
+-- the root is at most so many levels above each namespace and each control group
+pub levels_bounded : (state : State) → IsSound state
+    → ((s : Space) → IsIn s state.spaces → IsIn 0 (path_up state.spaces s.id) × (level state.spaces s.id ≤ 32))
+    × ((c : Control) → IsIn c state.controls → IsIn 0 (control_path state.controls c.id) × (length (control_path state.controls c.id) ≤ 65))
+unfolding level path_up control_path
+levels_bounded state sound = (
+  λ s i. (sound.coherent.spaces.chains s i, (let l : length (climb (parent_space state.spaces) 33 s.id) ≤ 33 = length-climb (parent_space state.spaces) 33 s.id in omega arith)),
+  λ c i. (sound.coherent.controls.chains c i, length-climb (parent_control state.controls) 65 c.id),
+)

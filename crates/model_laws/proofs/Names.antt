@@ -1,0 +1,134 @@
+-- Names and their numbers.
+use Rattle.std.proofs.Common.{◌≡◌, ℕ, Bool, true, false, ◌==◌, ◌≤◌, List, [], ◌∷◌, reverse, length, Option, Some, None, cond, refl, sym, ap, ◌∙◌, inl, inr, arith}
+use Rattle.std.specs.Option.{option_eq}
+use Rattle.std.specs.Cmp.Lexicographic.{pointwise}
+use Rattle.std.proofs.lemmas.Slice.Eq.{bytes_eq-Decides}
+use Rattle.std.proofs.lemmas.List.{length-reverse}
+use Rattle.std.proofs.lemmas.Bool.{eqb-true, eq-eqb, and_parts, and_from}
+use Rattle.pid_types.specs.declared.plain.Name.{Name}
+use Rattle.pid_types.specs.declared.plain.Row.{Row}
+use Rattle.pid_types.specs.declared.plain.Space.{Space}
+use Rattle.pid_types.specs.State.{State}
+use Rattle.pid_types.specs.Names.{beside, path_up, number, is_numbered, same_name, names_in_use, taken}
+use Rattle.model_laws.specs.Membership.{IsIn}
+use Rattle.model_laws.proofs.Lists.{IsIn-reverse, IsIn-to_reverse, IsIn-flat_map, IsIn-from_flat_map, IsIn-filter_map, IsIn-from_filter_map}
+
+-- ---- when two names are one
+
+-- names that the test takes for one are one
+pub same_name-true : (a b : Name) → same_name a b ≡ true → a ≡ b
+same_name-true a b h =
+    let r = and_parts (a.space == b.space) (pointwise ◌==◌ a.numbers.items b.numbers.items) h in
+    let p : a.space ≡ b.space = eqb-true a.space b.space r.0 in
+    let q : a.numbers.items ≡ b.numbers.items = (bytes_eq-Decides a.numbers.items b.numbers.items).0 r.1 in
+    λ i. record { space = p i; numbers = record { items = q i } }
+
+-- a name is taken for itself
+pub same_name-refl : (a b : Name) → a ≡ b → same_name a b ≡ true
+same_name-refl a b e =
+    and_from (a.space == b.space) (pointwise ◌==◌ a.numbers.items b.numbers.items)
+    (eq-eqb a.space b.space (ap (λ x. x.space) e)) ((bytes_eq-Decides a.numbers.items b.numbers.items).1 (ap (λ x. x.numbers.items) e))
+
+-- ---- the number beside an id
+
+-- an id that has a number beside it is in the list, and the number is in the other
+pub beside-IsIn : (s : ℕ) (ts ns : List ℕ) (n : ℕ) → beside s ts ns ≡ Some n → IsIn s ts × IsIn n ns
+beside-IsIn s [] ns n h = absurd (cc)
+beside-IsIn s (t ∷ ts) [] n h = absurd (cc)
+beside-IsIn s (t ∷ ts) (m ∷ ns) n h = go (λ e. beside-IsIn s ts ns n e) (t == s) refl h
+  where
+    go : (beside s ts ns ≡ Some n → IsIn s ts × IsIn n ns) → (b : Bool) → (t == s) ≡ b → cond b (Some m) (beside s ts ns) ≡ Some n
+        → IsIn s (t ∷ ts) × IsIn n (m ∷ ns)
+    go rest true e f = let same : n ≡ m = cc in (inl (sym (eqb-true t s e)), inl same)
+    go rest false e f = (inr (rest f).0, inr (rest f).1)
+
+-- where there is a number for each id, there is one beside each
+pub beside-Some : (s : ℕ) (ts ns : List ℕ) → length ts ≤ length ns → IsIn s ts → (n : ℕ) × (beside s ts ns ≡ Some n)
+beside-Some s [] ns h i = elim i [ ]
+beside-Some s (t ∷ ts) [] h i = absurd (omega arith)
+beside-Some s (t ∷ ts) (m ∷ ns) h i = go (λ j. beside-Some s ts ns (omega arith) j) (t == s) refl i
+  where
+    go : (IsIn s ts → (n : ℕ) × (beside s ts ns ≡ Some n)) → (b : Bool) → (t == s) ≡ b → IsIn s (t ∷ ts)
+        → (n : ℕ) × (cond b (Some m) (beside s ts ns) ≡ Some n)
+    go rest true e j = (m, refl)
+    go rest false e (inl same) = let yes : (t == s) ≡ true = eq-eqb t s (sym same) in absurd (cc)
+    go rest false e (inr j) = rest j
+
+-- ---- the number of a name in a namespace
+
+-- a name has a number only on its path, one of its own
+pub number-within : (spaces : List Space) (a : Name) (s n : ℕ) → number spaces a s ≡ Some n → IsIn s (path_up spaces a.space) × IsIn n a.numbers.items
+unfolding number
+number-within spaces a s n h = let r = beside-IsIn s (reverse (path_up spaces a.space)) a.numbers.items n h in (IsIn-reverse s (path_up spaces a.space) r.0, r.1)
+
+-- a name with a number for each level has one in each namespace on its path
+pub number-on_path : (spaces : List Space) (a : Name) (s : ℕ) → length a.numbers.items ≡ length (path_up spaces a.space)
+    → IsIn s (path_up spaces a.space)
+    → (n : ℕ) × (number spaces a s ≡ Some n)
+unfolding number
+number-on_path spaces a s h i =
+    let long : length (reverse (path_up spaces a.space)) ≡ length (path_up spaces a.space) = length-reverse (path_up spaces a.space) in
+    beside-Some s (reverse (path_up spaces a.space)) a.numbers.items (omega arith) (IsIn-to_reverse s (path_up spaces a.space) i)
+
+-- off its path a name has no number
+pub number-off_path : (spaces : List Space) (a : Name) (s : ℕ) → (IsIn s (path_up spaces a.space) → ⊥) → number spaces a s ≡ None
+number-off_path spaces a s off = go (number spaces a s) refl
+  where
+    go : (o : Option ℕ) → number spaces a s ≡ o → number spaces a s ≡ None
+    go None e = e
+    go (Some n) e = absurd (off (number-within spaces a s n e).0)
+
+-- a name's numbers are the same where its path is
+pub number-same_path : (spaces others : List Space) (a : Name) (s : ℕ) → path_up others a.space ≡ path_up spaces a.space
+    → number others a s ≡ number spaces a s
+unfolding number
+number-same_path spaces others a s e = ap (λ path. beside s (reverse path) a.numbers.items) e
+
+-- a name that has the number by the test has it
+pub is_numbered-true : (spaces : List Space) (a : Name) (s n : ℕ) → is_numbered spaces a s n ≡ true → number spaces a s ≡ Some n
+is_numbered-true spaces a s n h = go (number spaces a s) refl h
+  where
+    go : (o : Option ℕ) → number spaces a s ≡ o → option_eq ◌==◌ o (Some n) ≡ true → number spaces a s ≡ Some n
+    go None e f = absurd (cc)
+    go (Some m) e f = e ∙ ap Some (eqb-true m n f)
+
+-- and is found by the test
+pub is_numbered-from : (spaces : List Space) (a : Name) (s n : ℕ) → number spaces a s ≡ Some n → is_numbered spaces a s n ≡ true
+is_numbered-from spaces a s n h = rw h (eq-eqb n n refl)
+
+-- ---- the names in use
+
+-- the row has the name as its own, its group's or its session's
+abbrev pub Uses : Row → Name → Type 0
+Uses row a = IsIn a (row.name ∷ row.group ∷ row.session ∷ [])
+
+-- a name that a row uses is in use
+pub IsIn-names_in_use : (rows : List Row) (row : Row) (a : Name) → IsIn row rows → Uses row a → IsIn a (names_in_use rows)
+IsIn-names_in_use rows row a i u = IsIn-flat_map (λ (r : Row). r.name ∷ r.group ∷ r.session ∷ []) row a rows i u
+
+-- a name in use is used by a row
+pub user_of_name : (rows : List Row) (a : Name) → IsIn a (names_in_use rows) → (row : Row) × IsIn row rows × Uses row a
+user_of_name rows a i = IsIn-from_flat_map (λ (r : Row). r.name ∷ r.group ∷ r.session ∷ []) a rows i
+
+-- a row's own name is in use
+pub own_name_in_use : (rows : List Row) (row : Row) → IsIn row rows → IsIn row.name (names_in_use rows)
+own_name_in_use rows row i = IsIn-names_in_use rows row row.name i (inl refl)
+
+-- and its group's
+pub group_in_use : (rows : List Row) (row : Row) → IsIn row rows → IsIn row.group (names_in_use rows)
+group_in_use rows row i = IsIn-names_in_use rows row row.group i (inr (inl refl))
+
+-- and its session's
+pub session_in_use : (rows : List Row) (row : Row) → IsIn row rows → IsIn row.session (names_in_use rows)
+session_in_use rows row i = IsIn-names_in_use rows row row.session i (inr (inr (inl refl)))
+
+-- a number of a name in use is taken
+pub IsIn-taken : (state : State) (a : Name) (s n : ℕ) → IsIn a (names_in_use state.rows) → number state.spaces a s ≡ Some n → IsIn n (taken state s)
+unfolding taken
+IsIn-taken state a s n i e = IsIn-filter_map (λ name. number state.spaces name s) a n (names_in_use state.rows) i e
+
+-- a taken number is that of a name in use
+pub user_of_number : (state : State) (s n : ℕ) → IsIn n (taken state s)
+    → (a : Name) × IsIn a (names_in_use state.rows) × (number state.spaces a s ≡ Some n)
+unfolding taken
+user_of_number state s n i = IsIn-from_filter_map (λ name. number state.spaces name s) n (names_in_use state.rows) i

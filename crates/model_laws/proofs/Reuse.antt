@@ -1,0 +1,141 @@
+-- No number is handed out twice.
+use Rattle.std.proofs.Common.{◌≡◌, ℕ, zero, suc, ◌+◌, ◌<◌, Bool, true, List, [], ◌∷◌, length, take, Some, refl, sym, ap, ◌∙◌, subst, inl, inr, arith, add-one}
+use Rattle.std.specs.Prelude.{slice_get}
+use Rattle.std.proofs.lemmas.Bool.{eqb-true}
+use Rattle.std.proofs.lemmas.List.{length-map, length-take-le}
+use Rattle.std.proofs.lemmas.Option.{slice_get_within}
+use Rattle.pid_types.specs.declared.call.Call.{Call}
+use Rattle.pid_types.specs.declared.call.Call.TheVariants.{Fork}
+use Rattle.pid_types.specs.declared.plain.Name.{Name}
+use Rattle.pid_types.specs.declared.plain.Row.{Row}
+use Rattle.pid_types.specs.declared.plain.Space.{Space}
+use Rattle.pid_types.specs.declared.reply.Reply.TheVariants.{Forked}
+use Rattle.pid_types.specs.declared.entry.Entry.{Entry}
+use Rattle.pid_types.specs.State.{State}
+use Rattle.pid_types.specs.Names.{path_up, number, root_number, is_live, row_at, names_in_use}
+use Rattle.pid_types.specs.Outcome.{Outcome, sweep}
+use Rattle.pid_types.specs.Fork.{child_of, with_child, with_cursors, fork}
+use Rattle.pid_types.specs.Step.{step}
+use Rattle.pid_types.specs.Replay.{calls_of, Along, RepliesAsOne, Replays}
+use Rattle.model_laws.specs.Membership.{IsIn}
+use Rattle.model_laws.specs.Soundness.{IsCoherent, IsSound, IsBelow}
+use Rattle.model_laws.specs.ReuseLaws.{state_at, IsInUse, ShareNumber}
+use Rattle.model_laws.proofs.Names.{user_of_name, IsIn-names_in_use}
+use Rattle.model_laws.proofs.Trees.{row_at-listed, live_row-Some}
+use Rattle.model_laws.proofs.Inserts.{IsIn-insert_new, IsIn-insert_old}
+use Rattle.model_laws.proofs.Sweeps.{name_number}
+use Rattle.model_laws.proofs.Calls.{MayFork, forked, fork_cases}
+use Rattle.model_laws.proofs.ForkKept.{IsReady, IsReady-old, IsReady-new, with_new, fresh, number_after, IsCoherent-forked}
+use Rattle.model_laws.proofs.Limits.{fork_or_not}
+use Rattle.model_laws.proofs.StepKept.{step_keeps, run_keeps}
+
+-- ---- one fork
+
+-- the row found under the root number that the reply tells shares no number with the name
+record IsFresh (name : Name) (o : Outcome) : Type 0 where
+  apart : (child root : ℕ) (row : Row) → o.reply ≡ Forked child root → IsSound o.state → row_at o.state.rows root ≡ Some row
+      → ShareNumber o.state name row.name → ⊥
+
+module _ (old : State) (sound : IsCoherent old) (spaces : List Space) (caller : Row) (t : ℕ) (ready : IsReady old spaces caller t)
+    (there : IsIn caller old.rows) (live : is_live caller ≡ true) (may : MayFork (record old { spaces = spaces }) caller t) where
+  -- the state in which the numbers are drawn
+  abbrev state : State
+  state = record old { spaces = spaces }
+
+  -- the new task
+  abbrev child : Row
+  child = child_of state caller t
+
+  -- the state with it
+  abbrev made : State
+  made = with_child state child (path_up spaces t)
+
+  -- which is coherent
+  made_coherent : IsCoherent made
+  made_coherent = IsCoherent-forked old sound spaces caller t ready there live may
+
+  -- what was in use still is
+  in_use_after : (a : Name) → IsIn a (names_in_use old.rows) → IsIn a (names_in_use made.rows)
+  in_use_after a i = let u = user_of_name old.rows a i in IsIn-names_in_use made.rows u.0 a (IsIn-insert_old child old.rows u.0 u.1) u.2
+
+  -- the new name is in use
+  child_in_use : IsIn child.name (names_in_use made.rows)
+  child_in_use = IsIn-names_in_use made.rows child child.name (IsIn-insert_new child old.rows) (inl refl)
+
+  -- and shares no number with another
+  IsFresh-forked : (name : Name) → IsIn name (names_in_use old.rows) → IsFresh name (forked state caller t)
+  unfolding sweep with_cursors
+  IsFresh-forked name i = record {
+    apart = λ c root row told after found share.
+        let o : Outcome = forked state caller t in
+        let told_root : root ≡ root_number child.name = cc in
+        let at : row_at o.state.rows (root_number child.name) ≡ Some child = row_at-listed o.state.rows after.coherent.rows_rise child (IsIn-insert_new child old.rows) in
+        let at_root : row_at o.state.rows root ≡ Some child = subst (λ m. row_at o.state.rows m ≡ Some child) (sym told_root) at in
+        let same : row ≡ child = cc in
+        let s : ℕ = share.0 in
+        let n : ℕ = share.1 in
+        let swept : (a : Name) → IsIn a (names_in_use made.rows) → number o.state.spaces a s ≡ number spaces a s =
+        λ a j. name_number made made_coherent a j s ∙ number_after old sound spaces caller t ready there live may a s in
+        fresh old sound spaces caller t ready there live may name i s n
+        (sym (swept child.name child_in_use) ∙ subst (λ (r : Row). number o.state.spaces r.name s ≡ Some n) same share.3)
+        (sym (swept name (in_use_after name i)) ∙ share.2);
+  }
+
+-- after a call in a sound state a new task shares no number with a name that was in use
+step_fresh : (state : State) (stamp : ℕ) (call : Call) → IsSound state → IsBelow stamp state → (name : Name) → IsInUse name state
+    → (child root : ℕ) (row : Row) → (step state stamp call).reply ≡ Forked child root → row_at (step state stamp call).state.rows root ≡ Some row
+    → ShareNumber (step state stamp call).state name row.name → ⊥
+unfolding step
+step_fresh state stamp call sound below name i child root row told found share = elim (fork_or_not state stamp call) [
+  | inl f ↦ (of_fork f.0 f.1).apart child root row
+      (subst (λ c. (step state stamp c).reply ≡ Forked child root) f.2 told)
+      (step_keeps state stamp (Fork f.0 f.1) sound below).sound
+      (subst (λ c. row_at (step state stamp c).state.rows root ≡ Some row) f.2 found)
+      (subst (λ c. ShareNumber (step state stamp c).state name row.name) f.2 share)
+  | inr h ↦ h.never child root told
+]
+  where
+    of_fork : (n : ℕ) (new_space : Bool) → IsFresh name (fork state stamp n new_space)
+    of_fork n new_space =
+        fork_cases (IsFresh name) state stamp n new_space (λ r. record { apart = λ c m x e. absurd (cc) })
+        (λ caller seen stands may.
+        let c = live_row-Some state.rows n caller seen in
+        IsFresh-forked state sound.coherent state.spaces caller caller.children_space (IsReady-old state sound.coherent caller c.0 stands may) c.0 c.2 may name i)
+        (λ caller seen stands shallow here may.
+        let c = live_row-Some state.rows n caller seen in
+        let p : ℕ = caller.children_space in
+        IsFresh-forked state sound.coherent (with_new state sound.coherent stamp below p stands shallow) caller stamp
+        (IsReady-new state sound.coherent stamp below p stands shallow caller c.0 (eqb-true p caller.name.space here) may) c.0 c.2 may name i)
+
+-- ---- replays
+
+-- what holds along a replay holds of each entry, at the state and the stamp that the entries before it leave
+Along-at : (P : State → ℕ → Entry → Type 0) (opening : State) (first : ℕ) (entries : List Entry) → Along P opening first entries
+    → (k : ℕ) (e : Entry) → slice_get entries k ≡ Some e → P (state_at opening first entries k) (first + k) e
+Along-at P opening first [] all k e at = absurd (cc)
+Along-at P opening first (x ∷ entries) all zero e at = let same : x ≡ e = cc in subst (λ n. P opening n e) (let z : first ≡ first + 0 = omega arith in z) (subst (P opening first) same all.0)
+Along-at P opening first (x ∷ entries) all (suc k) e at =
+    subst (λ n. P (state_at (step opening first x.call).state (first + 1) entries k) n e) (let z : first + 1 + k ≡ first + suc k = omega arith in z)
+    (Along-at P (step opening first x.call).state (first + 1) entries all.1 k e at)
+
+-- the state after one entry more is that of one step more
+state_at-suc : (opening : State) (first : ℕ) (entries : List Entry) (k : ℕ) (e : Entry) → slice_get entries k ≡ Some e
+    → state_at opening first entries (suc k) ≡ (step (state_at opening first entries k) (first + k) e.call).state
+state_at-suc opening first [] k e at = absurd (cc)
+state_at-suc opening first (x ∷ entries) zero e at = let same : x ≡ e = cc in ap (λ (y : Entry). (step opening first y.call).state) same ∙ ap (λ n. (step opening n e.call).state) (let z : first ≡ first + 0 = omega arith in z)
+state_at-suc opening first (x ∷ entries) (suc k) e at =
+    state_at-suc (step opening first x.call).state (first + 1) entries k e at
+    ∙ ap (λ n. (step (state_at (step opening first x.call).state (first + 1) entries k) n e.call).state) (let z : first + 1 + k ≡ first + suc k = omega arith in z)
+
+-- while a name is in use, no fork makes a row that has one of its numbers in the same namespace
+pub no_reuse : (opening : State) (first : ℕ) (entries : List Entry) → IsSound opening → IsBelow first opening → Replays opening first entries
+    → (k : ℕ) (e : Entry) (child root : ℕ) (row : Row) (name : Name) → slice_get entries k ≡ Some e → IsInUse name (state_at opening first entries k)
+    → e.reply ≡ Forked child root → row_at (state_at opening first entries (k + 1)).rows root ≡ Some row
+    → ShareNumber (state_at opening first entries (k + 1)) name row.name → ⊥
+no_reuse opening first entries sound below run k e child root row name at used told found share =
+    let now : State = state_at opening first entries k in
+    let kept = run_keeps opening first (calls_of (take k entries)) sound below in
+    let long : length (calls_of (take k entries)) ≡ k = length-map (take k entries) (λ (x : Entry). x.call) ∙ length-take-le k entries (let l : k < length entries = slice_get_within entries k e at in omega arith) in
+    let next : state_at opening first entries (k + 1) ≡ (step now (first + k) e.call).state = ap (state_at opening first entries) (add-one k) ∙ state_at-suc opening first entries k e at in
+    step_fresh now (first + k) e.call kept.0 (subst (λ n. IsBelow (first + n) now) long kept.1) name used child root row (Along-at RepliesAsOne opening first entries run k e at ∙ told)
+    (subst (λ (x : State). row_at x.rows root ≡ Some row) next found) (subst (λ (x : State). ShareNumber x name row.name) next share)

@@ -1,0 +1,65 @@
+-- Lists that rise by a key.
+use Rattle.std.proofs.Common.{◌≡◌, ℕ, ◌<◌, Bool, true, false, ◌==◌, List, [], ◌∷◌, ◌++◌, map, Some, cond, refl, sym, ap, ◌∙◌, subst, inl, inr, arith}
+use Rattle.std.specs.Prelude.{filter, nat_lt, find}
+use Rattle.std.specs.List.{list_all}
+use Rattle.std.proofs.lemmas.Bool.{eqb-true, eq-eqb, and_parts, and_from, ltb-true, lt-ltb}
+use Rattle.pid_types.specs.Sound.{is_strictly_rising}
+use Rattle.model_laws.specs.Membership.{IsIn}
+use Rattle.model_laws.specs.Soundness.{IsRising}
+use Rattle.model_laws.proofs.Lists.{IsIn-map, IsIn-from_map, IsIn-from_filter, each_passes, list_all-from_each, find-Some, find-only, IsIn-append}
+
+-- a list that the test takes for rising rises
+pub IsRising-from_test : (ns : List ℕ) → is_strictly_rising ns ≡ true → IsRising ns
+IsRising-from_test [] h = tt
+IsRising-from_test (n ∷ ns) h =
+    let r = and_parts (list_all (nat_lt n) ns) (is_strictly_rising ns) h in
+    (λ m i. ltb-true n m (each_passes (nat_lt n) ns r.0 m i), IsRising-from_test ns r.1)
+
+-- and back
+pub test-from_IsRising : (ns : List ℕ) → IsRising ns → is_strictly_rising ns ≡ true
+test-from_IsRising [] h = refl
+test-from_IsRising (n ∷ ns) h =
+    and_from (list_all (nat_lt n) ns) (is_strictly_rising ns) (list_all-from_each (nat_lt n) ns (λ m i. lt-ltb n m (h.0 m i))) (test-from_IsRising ns h.1)
+
+-- what is left out of a rising list leaves it rising
+pub IsRising-filter : {X : Type 0} (key : X → ℕ) (p : X → Bool) (xs : List X) → IsRising (map key xs) → IsRising (map key (filter p xs))
+IsRising-filter key p [] h = tt
+IsRising-filter {X} key p (x ∷ xs) h = go (IsRising-filter key p xs h.1) (p x)
+  where
+    below : (m : ℕ) → IsIn m (map key (filter p xs)) → key x < m
+    below m i = let r = IsIn-from_map key m (filter p xs) i in subst (λ n. key x < n) (sym r.2) (h.0 (key r.0) (IsIn-map key r.0 xs (IsIn-from_filter p r.0 xs r.1).0))
+
+    go : IsRising (map key (filter p xs)) → (b : Bool) → IsRising (map key (cond b (x ∷ filter p xs) (filter p xs)))
+    go rest true = (below, rest)
+    go rest false = rest
+
+-- a list goes on rising by what is above it
+pub IsRising-push : {X : Type 0} (key : X → ℕ) (xs : List X) (y : X) → IsRising (map key xs) → ((x : X) → IsIn x xs → key x < key y)
+    → IsRising (map key (xs ++ y ∷ []))
+IsRising-push key [] y h above = (λ m i. elim i [ ], tt)
+IsRising-push {X} key (x ∷ xs) y h above = (below, IsRising-push key xs y h.1 (λ z i. above z (inr i)))
+  where
+    below : (m : ℕ) → IsIn m (map key (xs ++ y ∷ [])) → key x < m
+    below m i =
+        let r = IsIn-from_map key m (xs ++ y ∷ []) i in
+        elim (IsIn-append r.0 xs (y ∷ []) r.1) [
+          | inl j ↦ subst (λ n. key x < n) (sym r.2) (h.0 (key r.0) (IsIn-map key r.0 xs j))
+          | inr j ↦ elim j [ inl e ↦ subst (λ n. key x < n) (sym (r.2 ∙ ap key e)) (above x (inl refl)) | inr none ↦ elim none [ ] ]
+        ]
+
+-- two elements of a rising list with one key are one
+pub unique_key : {X : Type 0} (key : X → ℕ) (xs : List X) → IsRising (map key xs) → (a b : X) → IsIn a xs → IsIn b xs → key a ≡ key b → a ≡ b
+unique_key key [] h a b i j e = elim i [ ]
+unique_key key (x ∷ xs) h a b (inl p) (inl q) e = p ∙ sym q
+unique_key key (x ∷ xs) h a b (inl p) (inr j) e = let l : key x < key b = h.0 (key b) (IsIn-map key b xs j) in absurd (omega (arith, ap key p))
+unique_key key (x ∷ xs) h a b (inr i) (inl q) e = let l : key x < key a = h.0 (key a) (IsIn-map key a xs i) in absurd (omega (arith, ap key q))
+unique_key key (x ∷ xs) h a b (inr i) (inr j) e = unique_key key xs h.1 a b i j e
+
+-- a search by the key finds the element
+pub find-key : {X : Type 0} (key : X → ℕ) (xs : List X) → IsRising (map key xs) → (x : X) → IsIn x xs → find (λ y. key y == key x) xs ≡ Some x
+find-key key xs h x i =
+    find-only (λ y. key y == key x) xs x i (eq-eqb (key x) (key x) refl) (λ y j e. unique_key key xs h y x j i (eqb-true (key y) (key x) e))
+
+-- what is found by its key has it
+pub find-key_at : {X : Type 0} (key : X → ℕ) (xs : List X) (n : ℕ) (x : X) → find (λ y. key y == n) xs ≡ Some x → IsIn x xs × (key x ≡ n)
+find-key_at key xs n x h = let r = find-Some (λ y. key y == n) xs x h in (r.0, eqb-true (key x) n r.1)

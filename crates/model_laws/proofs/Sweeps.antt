@@ -1,0 +1,178 @@
+-- The sweep takes away no namespace in which a name in use has a number, and leaves a sound state.
+use Rattle.std.proofs.Common.{◌≡◌, ℕ, Bool, true, false, not, ◌==◌, List, [], ◌∷◌, length, Option, Some, None, refl, sym, ap, ◌∙◌, subst, inl, inr, arith}
+use Rattle.std.specs.Prelude.{option_and_then}
+use Rattle.std.proofs.lemmas.Bool.{eqb-true, ne_eqb, and_right, not_from_false, not-true}
+use Rattle.pid_types.specs.declared.plain.Name.{Name}
+use Rattle.pid_types.specs.declared.plain.Row.{Row}
+use Rattle.pid_types.specs.declared.plain.Space.{Space}
+use Rattle.pid_types.specs.State.{State}
+use Rattle.pid_types.specs.Names.{space_at, parent_space, path_up, number, names_in_use, taken}
+use Rattle.pid_types.specs.Outcome.{is_dead, sweep}
+use Rattle.model_laws.specs.Membership.{IsIn}
+use Rattle.model_laws.specs.Soundness.{HasGoodChildrenSpace, IsTreeOfSpaces, IsCoherent, IsSound}
+use Rattle.model_laws.proofs.Lists.{IsIn-filter, IsIn-from_filter, find-filter}
+use Rattle.model_laws.proofs.Chains.{climb-same}
+use Rattle.model_laws.proofs.Names.{number-on_path, number-within, number-same_path, own_name_in_use, IsIn-taken, user_of_number}
+use Rattle.model_laws.proofs.Rising.{IsRising-filter}
+use Rattle.model_laws.proofs.Trees.{space_at-Some, space_at-listed, IsOnTree, IsOnTree-name, path_trans}
+
+-- no namespace with the id is dead
+abbrev pub IsKept : State → ℕ → Type 0
+IsKept state x = (s : Space) → IsIn s state.spaces → s.id ≡ x → is_dead state s ≡ false
+
+-- a namespace in which a name in use has a number is not dead
+pub kept-by_name : (state : State) (a : Name) (x n : ℕ) → IsIn a (names_in_use state.rows) → number state.spaces a x ≡ Some n → IsKept state x
+kept-by_name state a x n i e s j same =
+    let here : number state.spaces a s.id ≡ Some n = subst (λ y. number state.spaces a y ≡ Some n) (sym same) e in
+    and_right s.fallen (length (taken state s.id) == 0) (ne_eqb (length (taken state s.id)) 0 (some_long (taken state s.id) n (IsIn-taken state a s.id n i here)))
+  where
+    some_long : (ns : List ℕ) (m : ℕ) → IsIn m ns → length ns ≡ 0 → ⊥
+    some_long [] m k e = elim k [ ]
+    some_long (l ∷ ns) m k e = omega arith
+
+-- the spaces that are kept
+abbrev pub kept_spaces : State → List Space
+kept_spaces state = (sweep state).spaces
+
+-- a namespace that is kept is found as before
+space_at-kept : (state : State) (x : ℕ) → IsKept state x → space_at (kept_spaces state) x ≡ space_at state.spaces x
+unfolding sweep
+space_at-kept state x k =
+    find-filter (λ s. s.id == x) (λ s. not (is_dead state s)) state.spaces (λ s i e. not_from_false (is_dead state s) (k s i (eqb-true s.id x e)))
+
+-- a path that is kept is as before
+path-kept : (state : State) (id : ℕ) → ((x : ℕ) → IsIn x (path_up state.spaces id) → IsKept state x)
+    → path_up (kept_spaces state) id ≡ path_up state.spaces id
+unfolding path_up
+path-kept state id k =
+    climb-same (parent_space state.spaces) (parent_space (kept_spaces state)) 33 id (λ x i. ap (option_and_then (λ s. s.parent)) (space_at-kept state x (k x i)))
+
+-- what the sweep keeps is there before, and is not dead
+pub from_kept : (state : State) (s : Space) → IsIn s (kept_spaces state) → IsIn s state.spaces × (is_dead state s ≡ false)
+unfolding sweep
+from_kept state s i = let r = IsIn-from_filter (λ t. not (is_dead state t)) s state.spaces i in (r.0, not-true (is_dead state s) r.1)
+
+-- what is there and not dead is kept
+pub to_kept : (state : State) (s : Space) → IsIn s state.spaces → is_dead state s ≡ false → IsIn s (kept_spaces state)
+unfolding sweep
+to_kept state s i e = IsIn-filter (λ t. not (is_dead state t)) s state.spaces i (not_from_false (is_dead state s) e)
+
+module _ (state : State) (sound : IsCoherent state) where
+  -- a name in use keeps its path
+  pub name_kept : (a : Name) → IsIn a (names_in_use state.rows) → (x : ℕ) → IsIn x (path_up state.spaces a.space) → IsKept state x
+  name_kept a i x j = let n = number-on_path state.spaces a x (sound.numbered a i).one_each j in kept-by_name state a x n.0 i n.1
+
+  -- its path is as before
+  pub name_path : (a : Name) → IsIn a (names_in_use state.rows) → path_up (kept_spaces state) a.space ≡ path_up state.spaces a.space
+  name_path a i = path-kept state a.space (name_kept a i)
+
+  -- and its numbers
+  pub name_number : (a : Name) → IsIn a (names_in_use state.rows) → (s : ℕ) → number (kept_spaces state) a s ≡ number state.spaces a s
+  name_number a i s = number-same_path state.spaces (kept_spaces state) a s (name_path a i)
+
+  -- a name in use has a number in each namespace that is not dead
+  pub user_of_kept : (s : Space) → IsIn s state.spaces → is_dead state s ≡ false
+      → (a : Name) × (n : ℕ) × IsIn a (names_in_use state.rows) × (number state.spaces a s.id ≡ Some n)
+  user_of_kept s i alive = go s.fallen refl
+    where
+      some : (ns : List ℕ) → (length ns == 0) ≡ false → (n : ℕ) × IsIn n ns
+      some [] e = absurd (cc)
+      some (n ∷ ns) e = (n, inl refl)
+
+      go : (b : Bool) → s.fallen ≡ b → (a : Name) × (n : ℕ) × IsIn a (names_in_use state.rows) × (number state.spaces a s.id ≡ Some n)
+      go true e =
+          let m = some (taken state s.id) (rw e at alive) in
+          let u = user_of_number state s.id m.0 m.1 in
+          (u.0, m.0, u.1, u.2)
+      go false e = let r = sound.standing s i e in (r.0.name, 1, own_name_in_use state.rows r.0 r.1, r.4)
+
+  -- a namespace that is kept keeps its path
+  pub space_path : (s : Space) → IsIn s state.spaces → is_dead state s ≡ false → path_up (kept_spaces state) s.id ≡ path_up state.spaces s.id
+  space_path s i alive =
+      let u = user_of_kept s i alive in
+      let on : IsOnTree state.spaces u.0.space = IsOnTree-name state.spaces state.pid_max sound.spaces u.0 (sound.numbered u.0 u.2) in
+      path-kept state s.id (λ x j. name_kept u.0 u.2 x (path_trans state.spaces sound.spaces u.0.space s.id x on (number-within state.spaces u.0 s.id u.1 u.3).0 j))
+
+  -- what is kept is a tree
+  IsTreeOfSpaces-kept : IsTreeOfSpaces (kept_spaces state)
+  unfolding sweep
+  IsTreeOfSpaces-kept = record {
+    rising = IsRising-filter (λ s. s.id) (λ s. not (is_dead state s)) state.spaces sound.spaces.rising;
+    root = (sound.spaces.root.0, space_at-kept state 0 root_kept ∙ sound.spaces.root.1, sound.spaces.root.2);
+    chains = λ s i. let r = from_kept state s i in subst (IsIn 0) (sym (space_path s r.0 r.1)) (sound.spaces.chains s r.0);
+  }
+    where
+      someone : Name
+      someone = sound.peopled.0.name
+
+      used : IsIn someone (names_in_use state.rows)
+      used = own_name_in_use state.rows sound.peopled.0 sound.peopled.1
+
+      root_kept : IsKept state 0
+      root_kept =
+          name_kept someone used 0 (IsOnTree-name state.spaces state.pid_max sound.spaces someone (sound.numbered someone used))
+
+  -- children's namespaces stay good, or are dropped
+  children_kept : (r : Row) → HasGoodChildrenSpace state.spaces r → HasGoodChildrenSpace (kept_spaces state) r
+  children_kept r h = go (space_at (kept_spaces state) r.children_space) refl h
+    where
+      go : (o : Option Space) → space_at (kept_spaces state) r.children_space ≡ o → HasGoodChildrenSpace state.spaces r
+          → HasGoodChildrenSpace (kept_spaces state) r
+      go None e g = inl e
+      go (Some s) e g =
+          let q = space_at-Some (kept_spaces state) r.children_space s e in
+          let f = from_kept state s q.0 in
+          let there : space_at state.spaces r.children_space ≡ Some s = subst (λ x. space_at state.spaces x ≡ Some s) q.1 (space_at-listed state.spaces sound.spaces s f.0) in
+          elim g [
+            | inl none ↦ let n : space_at state.spaces r.children_space ≡ None = none in absurd (cc)
+            | inr i ↦ inr (subst (IsIn r.name.space) (sym (subst (λ x. path_up (kept_spaces state) x ≡ path_up state.spaces x) q.1 (space_path s f.0 f.1))) i)
+          ]
+
+  -- what the sweep leaves of a coherent state is sound
+  pub IsSound-sweep : IsSound (sweep state)
+  unfolding sweep
+  IsSound-sweep = record {
+    coherent = record {
+      distinct = λ a b i j s n e f. sound.distinct a b i j s n (sym (name_number a i s) ∙ e) (sym (name_number b j s) ∙ f);
+      numbered = λ a i. record {
+        listed = λ x j.
+            let k : IsIn x (path_up state.spaces a.space) = subst (IsIn x) (name_path a i) j in
+            let l = (sound.numbered a i).listed x k in
+            (l.0, space_at-kept state x (name_kept a i x k) ∙ l.1);
+        one_each = (sound.numbered a i).one_each ∙ ap length (sym (name_path a i));
+        in_range = (sound.numbered a i).in_range;
+      };
+      parents = λ r i. record {
+        first = (sound.parents r i).first;
+        good = λ parent e.
+            let g = (sound.parents r i).good parent e in
+            let own = own_name_in_use state.rows r i in
+            record {
+              lives = g.lives;
+              around = subst (IsIn parent.space) (sym (name_path r.name own)) g.around;
+              outside = λ one. g.outside (sym (name_number r.name own r.name.space) ∙ one);
+            };
+        chain = (sound.parents r i).chain;
+      };
+      children = λ r i. children_kept r (sound.children r i);
+      standing = λ s i e.
+          let r = sound.standing s (from_kept state s i).0 e in
+          (r.0, r.1, r.2, r.3, name_number r.0.name (own_name_in_use state.rows r.0 r.1) s.id ∙ r.4);
+      fallen = λ s i e.
+          let em = sound.fallen s (from_kept state s i).0 e in
+          record {
+            ended = λ r j lives. name_number r.name (own_name_in_use state.rows r j) s.id ∙ em.ended r j lives;
+            below = λ t j k. let f = from_kept state t j in em.below t f.0 (subst (IsIn s.id) (space_path t f.0 f.1) k);
+          };
+      groups = sound.groups;
+      rows_rise = sound.rows_rise;
+      spaces = IsTreeOfSpaces-kept;
+      controls = sound.controls;
+      homes = sound.homes;
+      peopled = sound.peopled;
+    };
+    named = λ s i e.
+        let f = from_kept state s i in
+        let u = user_of_kept s f.0 f.1 in
+        (u.0, u.1, u.2, name_number u.0 u.2 s.id ∙ u.3);
+  }

@@ -1,0 +1,20 @@
+-- Each answer is computed.
+use Rattle.std.proofs.Common.{refl}
+use Rattle.model_laws.proofs.Computed.{computed}
+use Rattle.model_laws.proofs.scripts.join_scripts.Goals as goal
+
+pub returns-clause-join_and_fall : goal.returns-clause-join_and_fall
+unfolding computed
+returns-clause-join_and_fall c = refl
+
+pub returns-clause-join_and_fall_end : goal.returns-clause-join_and_fall_end
+unfolding computed
+returns-clause-join_and_fall_end c = record { ends = refl; sound = refl }
+
+pub returns-clause-no_fork_into_dropped : goal.returns-clause-no_fork_into_dropped
+unfolding computed
+returns-clause-no_fork_into_dropped c = refl
+
+pub returns-clause-orphan_of_joined : goal.returns-clause-orphan_of_joined
+unfolding computed
+returns-clause-orphan_of_joined c = refl

@@ -1,0 +1,99 @@
+-- What a sound state is, as facts.
+use Rattle.std.specs.Prelude.{◌≡◌, ◌⊎◌, ℕ, ◌<◌, true, false, List, [], ◌∷◌, map, length, Some, None, ◌==◌, find, Option}
+use Rattle.pid_types.specs.declared.plain.Name.{Name}
+use Rattle.pid_types.specs.declared.plain.Row.{Row}
+use Rattle.pid_types.specs.declared.plain.Space.{Space}
+use Rattle.pid_types.specs.declared.plain.Control.{Control}
+use Rattle.pid_types.specs.Chains.{climb}
+use Rattle.pid_types.specs.State.{State}
+use Rattle.pid_types.specs.Names.{space_at, path_up, number, root_number, is_live, names_in_use}
+use Rattle.pid_types.specs.Controls.{control_at, control_path}
+use Rattle.pid_types.specs.Exit.{parent_number}
+use Rattle.model_laws.specs.Membership.{IsIn}
+
+-- each number is below all that follow
+abbrev pub IsRising : List ℕ → Type 0
+IsRising [] = Unit {0}
+IsRising (n ∷ ns) = ((m : ℕ) → IsIn m ns → n < m) × IsRising ns
+
+-- two names in use with one number in one namespace are one
+abbrev pub AreDistinct : List Row → List Space → Type 0
+AreDistinct rows spaces =
+    (a b : Name) → IsIn a (names_in_use rows) → IsIn b (names_in_use rows)
+    → (s n : ℕ) → number spaces a s ≡ Some n → number spaces b s ≡ Some n → a ≡ b
+
+-- the namespaces on the name's path are there, and it has one number in range for each
+pub record IsWellNumbered (spaces : List Space) (pid_max : ℕ) (name : Name) : Type 0 where
+  pub listed : (x : ℕ) → IsIn x (path_up spaces name.space) → (s : Space) × (space_at spaces x ≡ Some s)
+  pub one_each : length name.numbers.items ≡ length (path_up spaces name.space)
+  pub in_range : (n : ℕ) → IsIn n name.numbers.items → (0 < n) × (n < pid_max)
+
+-- the parent lives, in the row's namespace or around it, and outside it if the row is its init
+pub record IsGoodParent (rows : List Row) (spaces : List Space) (row : Row) (parent : Name) : Type 0 where
+  pub lives : (r : Row) × IsIn r rows × (r.name ≡ parent) × (is_live r ≡ true)
+  pub around : IsIn parent.space (path_up spaces row.name.space)
+  pub outside : number spaces row.name row.name.space ≡ Some 1 → parent.space ≡ row.name.space → ⊥
+
+-- a row without a parent is number 1, each other row's parent is a good one, and the chain of parents ends at number 1
+pub record HasGoodParents (rows : List Row) (spaces : List Space) (row : Row) : Type 0 where
+  pub first : row.parent ≡ None → root_number row.name ≡ 1
+  pub good : (parent : Name) → row.parent ≡ Some parent → IsGoodParent rows spaces row parent
+  pub chain : IsIn 1 (climb (parent_number rows) (length rows) (root_number row.name))
+
+-- the children's namespace was dropped, or is the row's own or below it
+abbrev pub HasGoodChildrenSpace : List Space → Row → Type 0
+HasGoodChildrenSpace spaces row = (space_at spaces row.children_space ≡ None) ⊎ IsIn row.name.space (path_up spaces row.children_space)
+
+-- a live task of the namespace is number 1 in it
+abbrev pub HasLiveInit : List Row → List Space → ℕ → Type 0
+HasLiveInit rows spaces s = (r : Row) × IsIn r rows × (is_live r ≡ true) × (r.name.space ≡ s) × (number spaces r.name s ≡ Some 1)
+
+-- nothing lives in the namespace, and those below it have fallen too
+pub record IsEmptied (rows : List Row) (spaces : List Space) (s : ℕ) : Type 0 where
+  pub ended : (r : Row) → IsIn r rows → is_live r ≡ true → number spaces r.name s ≡ None
+  pub below : (t : Space) → IsIn t spaces → IsIn s (path_up spaces t.id) → t.fallen ≡ true
+
+-- the tasks of one group are in one session, that of the task which the group is named after
+pub record HasGoodGroups (rows : List Row) : Type 0 where
+  pub together : (a b : Row) → IsIn a rows → IsIn b rows → a.group ≡ b.group → a.session ≡ b.session
+  pub leader : (a b : Row) → IsIn a rows → IsIn b rows → a.group ≡ b.name → a.session ≡ b.session
+
+-- the ids rise, the root is there without a parent, and each path ends at it
+pub record IsTree (X : Type 0) (id : X → ℕ) (parent : X → Option ℕ) (path : ℕ → List ℕ) (xs : List X) : Type 0 where
+  pub rising : IsRising (map id xs)
+  pub root : (x : X) × (find (λ y. id y == 0) xs ≡ Some x) × (parent x ≡ None)
+  pub chains : (x : X) → IsIn x xs → IsIn 0 (path (id x))
+
+-- the namespaces are a tree
+abbrev pub IsTreeOfSpaces : List Space → Type 0
+IsTreeOfSpaces spaces = IsTree Space (λ s. s.id) (λ s. s.parent) (path_up spaces) spaces
+
+-- and so are the control groups
+abbrev pub IsTreeOfControls : List Control → Type 0
+IsTreeOfControls controls = IsTree Control (λ c. c.id) (λ c. c.parent) (control_path controls) controls
+
+-- all that a sound state is, but that a fallen namespace has a number in use
+pub record IsCoherent (state : State) : Type 0 where
+  pub distinct : AreDistinct state.rows state.spaces
+  pub numbered : (a : Name) → IsIn a (names_in_use state.rows) → IsWellNumbered state.spaces state.pid_max a
+  pub parents : (r : Row) → IsIn r state.rows → HasGoodParents state.rows state.spaces r
+  pub children : (r : Row) → IsIn r state.rows → HasGoodChildrenSpace state.spaces r
+  pub standing : (s : Space) → IsIn s state.spaces → s.fallen ≡ false → HasLiveInit state.rows state.spaces s.id
+  pub fallen : (s : Space) → IsIn s state.spaces → s.fallen ≡ true → IsEmptied state.rows state.spaces s.id
+  pub groups : HasGoodGroups state.rows
+  pub rows_rise : IsRising (map (λ r. root_number r.name) state.rows)
+  pub spaces : IsTreeOfSpaces state.spaces
+  pub controls : IsTreeOfControls state.controls
+  pub homes : (r : Row) → IsIn r state.rows → (c : Control) × (control_at state.controls r.home ≡ Some c)
+  pub peopled : (r : Row) × IsIn r state.rows
+
+-- a sound state, as facts
+pub record IsSound (state : State) : Type 0 where
+  pub coherent : IsCoherent state
+  pub named : (s : Space) → IsIn s state.spaces → s.fallen ≡ true → (a : Name) × (n : ℕ) × IsIn a (names_in_use state.rows) × (number state.spaces a s.id ≡ Some n)
+
+-- all ids of the state, each children's namespace among them, are below the stamp
+pub record IsBelow (stamp : ℕ) (state : State) : Type 0 where
+  pub spaces : (s : Space) → IsIn s state.spaces → s.id < stamp
+  pub controls : (c : Control) → IsIn c state.controls → c.id < stamp
+  pub children : (r : Row) → IsIn r state.rows → r.children_space < stamp

@@ -1,0 +1,57 @@
+//! Laws of single calls: numbers, refusals, limits, and that no number is handed out twice.
+ghost use Rattle.model_laws.specs.Draws.{DrawIsLeast};
+ghost use Rattle.model_laws.specs.LimitLaws.{ForkKeepsLimits, RunsKeepLimits};
+ghost use Rattle.model_laws.specs.NumberLaws.{LevelsAreBounded, NamesHaveNumbers, NoNumberNamesTwo, NumberIsAtLevel, SoundNeedsNoSweep, SweepKeepsNumbered};
+ghost use Rattle.model_laws.specs.Refusals.{FirstRefusalAnswers, NoneYetChangesNothing, QueryChangesNothing, RefusalChangesNothing};
+ghost use Rattle.model_laws.specs.ReuseLaws.{NoReuse};
+
+/// A namespace gives the least free number from its cursor on, or else from the restart on.
+pub fn draw_is_least()
+    ensures { DrawIsLeast }
+{}
+
+/// A name's number in a namespace on its path is its entry at the level of that namespace.
+pub fn number_is_at_level()
+    ensures { NumberIsAtLevel }
+{}
+
+/// In a sound state each name in use has one number in each namespace from its own to the root, and
+/// no number there names two.
+pub fn numbers_are_apart()
+    ensures each { NamesHaveNumbers }
+    ensures apart { NoNumberNamesTwo }
+{}
+
+/// In a sound state no path to the root is longer than namespaces and control groups may be deep.
+pub fn levels_are_bounded()
+    ensures { LevelsAreBounded }
+{}
+
+/// The sweep takes no namespace in which a name in use has a number, and in a sound state nothing.
+pub fn sweep_keeps_numbered()
+    ensures numbered { SweepKeepsNumbered }
+    ensures sound { SoundNeedsNoSweep }
+{}
+
+/// A call is refused exactly where a refusal applies, by the first one in its order.
+pub fn first_refusal_answers()
+    ensures { FirstRefusalAnswers }
+{}
+
+/// A refused call, a query and a wait that reaps nothing leave the state as it was.
+pub fn nothing_changes()
+    ensures refusal { RefusalChangesNothing }
+    ensures query { QueryChangesNothing }
+    ensures none_yet { NoneYetChangesNothing }
+{}
+
+/// No fork raises a count above its limit, in one call and in every run.
+pub fn forks_keep_limits()
+    ensures call { ForkKeepsLimits }
+    ensures run { RunsKeepLimits }
+{}
+
+/// While a name is in use, no fork makes a task with one of its numbers in the same namespace.
+pub fn no_reuse()
+    ensures { NoReuse }
+{}

@@ -1,0 +1,72 @@
+//! Worked scripts. The checker computes each answer from the definitions.
+ghost use Rattle.model_laws.specs.ForkScripts.{ForkAndGetPid, ThreeForks, ForkIntoNewSpace, ForkIntoNewSpaceEnd, OneWorld, OtherWorld, WorldsSeenAlike};
+ghost use Rattle.model_laws.specs.GroupScripts.{SetPgidInOrder, SetSidOnce};
+ghost use Rattle.model_laws.specs.WaitScripts.{WaitSelects, OrphansGoToInit};
+ghost use Rattle.model_laws.specs.FallScripts.{FallTakesMembers, FallTakesMembersEnd, GroupKeepsSpace, GroupKeepsSpaceEnd, GroupLetsSpaceGo, GroupLetsSpaceGoEnd, FallUncharges};
+ghost use Rattle.model_laws.specs.ControlScripts.{LimitsAndMoves, ZombiesGoUp, ControlRefusals, NearestLimitFirst};
+ghost use Rattle.model_laws.specs.DepthScripts.{ControlDepthIs64};
+ghost use Rattle.model_laws.specs.JoinScripts.{JoinAndFall, JoinAndFallEnd, NoForkIntoDropped, OrphanOfJoined};
+ghost use Rattle.model_laws.specs.SubreaperScripts.{SubreaperTakesChildren, MarkKeptOverExec, MarkOfOtherSpace, MarkOfJoined};
+
+/// Worked scripts of fork and the queries of numbers.
+pub fn fork_scripts()
+    ensures fork_and_get_pid { ForkAndGetPid }
+    ensures three_forks { ThreeForks }
+    ensures fork_into_new_space { ForkIntoNewSpace }
+    ensures fork_into_new_space_end { ForkIntoNewSpaceEnd }
+    ensures one_world { OneWorld }
+    ensures other_world { OtherWorld }
+    ensures worlds_seen_alike { WorldsSeenAlike }
+{}
+
+/// Worked scripts of process groups and sessions.
+pub fn group_scripts()
+    ensures set_pgid_in_order { SetPgidInOrder }
+    ensures set_sid_once { SetSidOnce }
+{}
+
+/// Worked scripts of exit and wait.
+pub fn wait_scripts()
+    ensures wait_selects { WaitSelects }
+    ensures orphans_go_to_init { OrphansGoToInit }
+{}
+
+/// Worked scripts of the fall of a namespace.
+pub fn fall_scripts()
+    ensures fall_takes_members { FallTakesMembers }
+    ensures fall_takes_members_end { FallTakesMembersEnd }
+    ensures group_keeps_space { GroupKeepsSpace }
+    ensures group_keeps_space_end { GroupKeepsSpaceEnd }
+    ensures group_lets_space_go { GroupLetsSpaceGo }
+    ensures group_lets_space_go_end { GroupLetsSpaceGoEnd }
+    ensures fall_uncharges { FallUncharges }
+{}
+
+/// Worked scripts of control groups.
+pub fn control_scripts()
+    ensures limits_and_moves { LimitsAndMoves }
+    ensures zombies_go_up { ZombiesGoUp }
+    ensures control_refusals { ControlRefusals }
+    ensures nearest_limit_first { NearestLimitFirst }
+{}
+
+/// A worked script of the depth of control groups.
+pub fn depth_scripts()
+    ensures { ControlDepthIs64 }
+{}
+
+/// Worked scripts of join.
+pub fn join_scripts()
+    ensures join_and_fall { JoinAndFall }
+    ensures join_and_fall_end { JoinAndFallEnd }
+    ensures no_fork_into_dropped { NoForkIntoDropped }
+    ensures orphan_of_joined { OrphanOfJoined }
+{}
+
+/// Worked scripts of child subreapers.
+pub fn subreaper_scripts()
+    ensures subreaper_takes_children { SubreaperTakesChildren }
+    ensures mark_kept_over_exec { MarkKeptOverExec }
+    ensures mark_of_other_space { MarkOfOtherSpace }
+    ensures mark_of_joined { MarkOfJoined }
+{}

@@ -1,0 +1,13 @@
+//! A query is answered from what the caller's namespace sees.
+ghost use Rattle.model_laws.specs.SightLaws.{QueriesAnswerSeen, SameSightSameAnswers};
+
+/// Each query of a live task is answered from its own number and what its namespace sees.
+pub fn queries_answer_seen()
+    ensures { QueriesAnswerSeen }
+{}
+
+/// Two live tasks whose namespaces see the same, and whose own numbers are equal, get the same
+/// answers.
+pub fn same_sight_same_answers()
+    ensures { SameSightSameAnswers }
+{}

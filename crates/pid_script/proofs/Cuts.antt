@@ -1,0 +1,72 @@
+-- What a cut finds.
+use Rattle.std.proofs.Common.{◌≡◌, ℕ, suc, ◌+◌, ◌<◌, ◌≤◌, Bool, true, false, cond, eqb, List, [], ◌∷◌, ◌++◌, length, get_or, take, drop, Option, Some, None, refl, sym, ap, ◌∙◌, arith, position, ltb-false, length-take-le, get_or-take, eqb-true, subst, option_map}
+use Rattle.std.specs.List.{AllByRecursion}
+use Rattle.std.proofs.lemmas.List.Elements.{All-from_get_or, recursion_from_All}
+use Rattle.std.proofs.lemmas.List.Sums.{fails_before_first}
+use Rattle.std.proofs.lemmas.List.Quantifiers.{position-Some}
+use Rattle.std.proofs.Math.Seq.{split_at}
+use Rattle.std.proofs.lemmas.Option.{none-some, same_Some}
+use Rattle.pid_script.specs.Reading.{cut}
+
+-- no byte of the list is this one
+abbrev pub Lacks : ℕ → List ℕ → Type 0
+Lacks byte bs = AllByRecursion (λ b. eqb b byte ≡ false) bs
+
+same_eqb : (b : ℕ) → eqb b b ≡ true
+same_eqb b = grind (arith)
+
+-- a cut ends at the first such byte
+pub cut-append : (byte : ℕ) (w rest : List ℕ) → Lacks byte w → cut byte (w ++ byte ∷ rest) ≡ Some (w, rest)
+cut-append byte [] rest lacks = rw (same_eqb byte)
+cut-append byte (b ∷ w) rest lacks = rw (lacks.0, cut-append byte w rest lacks.1)
+
+-- without such a byte there is no cut
+pub cut-lacks : (byte : ℕ) (w : List ℕ) → Lacks byte w → cut byte w ≡ None
+cut-lacks byte [] lacks = refl
+cut-lacks byte (b ∷ w) lacks = rw (lacks.0, cut-lacks byte w lacks.1)
+
+cond_none : {A : Type 0} (b : Bool) (x : A) → cond b (Some x) None ≡ None → b ≡ false
+cond_none true x e = absurd (none-some x (sym e))
+cond_none false x e = refl
+
+-- the bytes before the first such byte lack it
+lacks_before : (byte : ℕ) (bs : List ℕ) (i : ℕ) → i ≤ length bs → ((k : ℕ) → k < i → eqb (get_or bs k 0) byte ≡ false) → Lacks byte (take i bs)
+lacks_before byte bs i within before =
+    recursion_from_All (λ b. eqb b byte ≡ false) (take i bs)
+    (All-from_get_or (λ b. eqb b byte ≡ false) (take i bs) 0 (λ k lt.
+    let in_front : k < i = omega (arith, length-take-le i bs within) in
+    rw (get_or-take i bs k 0) (before k in_front)))
+
+-- where there is no such byte, there is no cut
+pub cut-missed : (byte : ℕ) (bs : List ℕ) → position (λ b. eqb b byte) bs ≡ None → cut byte bs ≡ None
+cut-missed byte bs missed =
+    let past = ltb-false _ _ (cond_none _ _ missed) in
+    cut-lacks byte bs (recursion_from_All (λ b. eqb b byte ≡ false) bs
+    (All-from_get_or (λ b. eqb b byte ≡ false) bs 0 (λ k lt. fails_before_first (λ b. eqb b byte) bs k 0 (omega (arith, past)))))
+
+-- what a cut at the first such byte finds
+pub cut-found : (byte : ℕ) (bs : List ℕ) (i : ℕ) → position (λ b. eqb b byte) bs ≡ Some i → cut byte bs ≡ Some (take i bs, drop (i + 1) bs)
+cut-found byte bs i found =
+    let at = position-Some (λ b. eqb b byte) bs i 0 found in
+    let lt : i < length bs = at.0 in
+    let is : get_or bs i 0 ≡ byte = eqb-true _ _ at.1 in
+    let next : suc i ≡ i + 1 = omega arith in
+    let parts : bs ≡ take i bs ++ byte ∷ drop (i + 1) bs = subst (λ n. bs ≡ take i bs ++ byte ∷ drop n bs) next (subst (λ b. bs ≡ take i bs ++ b ∷ drop (suc i) bs) is (split_at bs i 0 lt)) in
+    ap (cut byte) parts ∙ cut-append byte (take i bs) (drop (i + 1) bs) (lacks_before byte bs i (omega arith) at.2)
+
+pub option_map_some : {A B P : Type 0} (f : A → B) (o : Option A) (y : B) → option_map f o ≡ Some y → ((x : A) → o ≡ Some x → f x ≡ y → P) → P
+option_map_some f None y is go = absurd (none-some y is)
+option_map_some f (Some x) y is go = go x refl (same_Some _ y is)
+
+cut_at_head : (byte b : ℕ) (bs : List ℕ) (p : List ℕ × List ℕ) (t : Bool)
+    → ((q : List ℕ × List ℕ) → cut byte bs ≡ Some q → bs ≡ q.0 ++ byte ∷ q.1)
+    → eqb b byte ≡ t → cond t (Some ([], bs)) (option_map (λ q. (b ∷ q.0, q.1)) (cut byte bs)) ≡ Some p → b ∷ bs ≡ p.0 ++ byte ∷ p.1
+cut_at_head byte b bs p true later same is =
+    let parts = same_Some _ p is in ap (λ x. x ∷ bs) (eqb-true _ _ same) ∙ ap (λ q. q.0 ++ byte ∷ q.1) parts
+cut_at_head byte b bs p false later other is =
+    option_map_some _ (cut byte bs) p is (λ q found same. ap (λ rest. b ∷ rest) (later q found) ∙ ap (λ r. r.0 ++ byte ∷ r.1) same)
+
+-- what a cut found, put together again
+pub cut-Some : (byte : ℕ) (bs : List ℕ) (p : List ℕ × List ℕ) → cut byte bs ≡ Some p → bs ≡ p.0 ++ byte ∷ p.1
+cut-Some byte [] p found = absurd (none-some p found)
+cut-Some byte (b ∷ bs) p found = cut_at_head byte b bs p (eqb b byte) (λ q later. cut-Some byte bs q later) refl found

@@ -1,0 +1,12 @@
+pub mod Cuts
+pub mod Numbers
+pub mod Printed
+pub mod Read
+pub mod Room
+pub mod Joined
+pub mod Kept
+pub mod Sent
+pub mod Progress
+pub mod Within
+pub mod Said
+pub mod Ends

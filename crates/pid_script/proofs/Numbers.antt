@@ -1,0 +1,215 @@
+-- Numbers, and the words that they are written as.
+use Rattle.std.proofs.Common.{◌≡◌, ◌≢◌, ℕ, ◌+◌, ◌^◌, ◌<◌, ◌≤◌, Bool, true, false, cond, ◌&&◌, eqb, ltb, List, [], ◌∷◌, length, get_or, Option, Some, None, Result, Ok, Err, OkIff, decimal, refl, sym, ap, ◌∙◌, subst, arith, bytes_eq, MatchResult, IsUtf8, lt-ltb, ltb-true, zero, suc, lit<, lit≤, drop, ℤ, pos, neg_ℤ, ◌-ℤ◌, FitsSigned, SomeIff, option_map, eq-eqb, eqb-true, ⊎_elim}
+use Rattle.std.specs.Result.{result_ok}
+use Rattle.std.specs.Int.{w32}
+use Rattle.std.specs.Fmt.{signed_decimal}
+use lib.IntN.{negsuc, +ℤ_idl}
+use Rattle.std.proofs.lemmas.Bool.{cases_lt}
+use Rattle.std.proofs.lemmas.Bool.Decides.{nat_tests}
+use Rattle.std.specs.Str.Parse.{AllDigits, digits_value, ParsesUnsigned}
+use Rattle.std.proofs.lemmas.Slice.Eq.{bytes_eq-Decides}
+use Rattle.std.proofs.lemmas.Str.Parse.{IsNumeralModel, numerals_by_value, tells_digits, parse_plain, not_in_digits}
+use Rattle.std.proofs.lemmas.Str.{IsUtf8-from_ascii}
+use Rattle.std.proofs.lemmas.Option.{none-some, same_Some, option_and_then_some}
+use Rattle.pid_script.proofs.Cuts.{option_map_some}
+use Rattle.std.proofs.lemmas.Fmt.{digits_decimal, digits_value-decimal, decimal-digits_value, decimal_nonempty, first_decimal, decimal_digit, IsAscii-decimal}
+use Rattle.pid_script.specs.Reading.{IsPlain, number_below, negative_of, signed_of}
+
+-- std's words for digits and their value
+pub numerals : IsNumeralModel (AllDigits 10) (digits_value 10)
+numerals = numerals_by_value (AllDigits 10) tells_digits
+
+-- a number is what its word says
+pub number_below-decimal : (bound n : ℕ) → n < bound → n < 2 ^ 64 → number_below bound (decimal n) ≡ Some n
+unfolding number_below
+number_below-decimal bound n below small =
+    let value : digits_value 10 (decimal n) ≡ n = digits_value-decimal numerals n small in
+    rw (value, lt-ltb n bound below, (bytes_eq-Decides (decimal n) (decimal n)).1 refl)
+
+guarded : (a b : Bool) (n m : ℕ) → cond (a && b) (Some n) None ≡ Some m → (a ≡ true) × (b ≡ true) × (n ≡ m)
+guarded true true n m e = (refl, refl, (cc))
+guarded true false n m e = cc
+guarded false b n m e = cc
+
+-- a word that says a number is how that number is written
+pub number_below-Some : (bound : ℕ) (word : List ℕ) (n : ℕ) → number_below bound word ≡ Some n → (n < bound) × (decimal n ≡ word)
+unfolding number_below
+number_below-Some bound word n e =
+    let parts = guarded (ltb (digits_value 10 word) bound) (bytes_eq (decimal (digits_value 10 word)) word) _ _ e in
+    (subst (λ m. m < bound) parts.2 (ltb-true _ _ parts.0), subst (λ m. decimal m ≡ word) parts.2 ((bytes_eq-Decides _ _).0 parts.1))
+
+-- a word that is not how a number is written says none
+pub number_below-None : (bound : ℕ) (word : List ℕ) → ((n : ℕ) → n < bound → decimal n ≢ word) → number_below bound word ≡ None
+number_below-None bound word none =
+    elim (number_below bound word) as (λ r. number_below bound word ≡ r → r ≡ None) [
+      | None ↦ λ e. refl
+      | Some n ↦ λ e. let is = number_below-Some bound word n e in absurd (none n is.0 is.1)
+    ] refl
+
+-- how a number is written
+plain_decimal : (n : ℕ) → n < 2 ^ 64 → IsPlain (decimal n)
+plain_decimal zero small = subst IsPlain (sym (decimal_digit 0 (lit< tt))) (lit< tt, (λ e. absurd (omega (arith, e))), λ e. refl)
+plain_decimal (suc n) small =
+    let first = first_decimal (suc n) (omega arith) small in
+    (decimal_nonempty (suc n) small, (λ e. absurd (omega (arith, e, first))), λ e. absurd (omega (arith, e, first)))
+
+-- a word that is not plain says no number
+pub number_below-not_plain : (word : List ℕ) → (IsPlain word → ⊥) → number_below (2 ^ 64) word ≡ None
+number_below-not_plain word not_plain =
+    number_below-None (2 ^ 64) word (λ n below is. not_plain (subst IsPlain is (plain_decimal n below)))
+
+-- nor does one that is no text
+pub number_below-not_text : (word : List ℕ) → (IsUtf8 word → ⊥) → number_below (2 ^ 64) word ≡ None
+number_below-not_text word not_text =
+    number_below-None (2 ^ 64) word (λ n below is. not_text (subst IsUtf8 is (IsUtf8-from_ascii _ (IsAscii-decimal n below))))
+
+-- std reads what a plain word says
+pub number_below-parsed : (E : Type 0) (word : List ℕ) (r : Result ℕ E) → IsPlain word → ParsesUnsigned 64 10 word r → result_ok r ≡ number_below (2 ^ 64) word
+number_below-parsed E word (Ok n) plain parses =
+    let read = parse_plain numerals {E = E} 64 word (Ok n) parses plain.1 in
+    let small : n < 2 ^ 64 = subst (λ m. m < 2 ^ 64) (sym read.1) read.0.2 in
+    let written = decimal-digits_value numerals word read.0.0 plain.0 plain.2 read.0.2 in
+    sym (subst (λ w. number_below (2 ^ 64) w ≡ Some n) written (subst (λ m. number_below (2 ^ 64) (decimal m) ≡ Some n) read.1 (number_below-decimal (2 ^ 64) n small small)))
+number_below-parsed E word (Err e) plain parses =
+    let read = parse_plain numerals 64 word (Err e) parses plain.1 in
+    sym (number_below-None (2 ^ 64) word (λ n below is. read (
+      subst (AllDigits 10) is (digits_decimal numerals n below),
+      subst (λ w. 0 < length w) is (decimal_nonempty n below),
+      subst (λ w. digits_value 10 w < 2 ^ 64) is (subst (λ m. m < 2 ^ 64) (sym (digits_value-decimal numerals n below)) below),
+    )))
+
+-- what a `Result` holds, from the `Option` that `ok` makes of it
+pub err_part : (T E : Type 0) (r : Result T E) (P : T → Type 0) (Q : E → Type 0) → None ≡ result_ok r → MatchResult r P Q → (e : E) × Q e
+err_part T E (Ok x) P Q none h = absurd (none-some x none)
+err_part T E (Err e) P Q none h = (e, h)
+
+pub ok_part : (T E : Type 0) (r : Result T E) (P : T → Type 0) (Q : E → Type 0) (x : T) → Some x ≡ result_ok r → MatchResult r P Q → P x
+ok_part T E (Ok y) P Q x some h = subst P (sym (same_Some x y some)) h
+ok_part T E (Err e) P Q x some h = absurd (none-some x (sym some))
+
+-- two bounds, of which the second is no larger
+module _ (wide bound : ℕ) (word : List ℕ) (fits : wide ≤ 2 ^ 64) (le : bound ≤ wide) where
+  said : (n : ℕ) → n < bound → decimal n ≡ word → number_below wide word ≡ Some n
+  said n below is = subst (λ w. number_below wide w ≡ Some n) is (number_below-decimal wide n (omega arith) (omega arith))
+
+  -- a word that says no number below the larger bound says none below the smaller
+  pub number_below-missing : number_below wide word ≡ None → number_below bound word ≡ None
+  number_below-missing none = number_below-None bound word (λ n below is. none-some n (sym none ∙ said n below is))
+
+  -- a number that is below the smaller bound too is what the word says there
+  pub number_below-within : (n : ℕ) → number_below wide word ≡ Some n → n < bound → number_below bound word ≡ Some n
+  number_below-within n some below =
+      let is = number_below-Some wide word n some in
+      subst (λ w. number_below bound w ≡ Some n) is.1 (number_below-decimal bound n below (omega arith))
+
+  -- a number that is not, is not
+  pub number_below-beyond : (n : ℕ) → number_below wide word ≡ Some n → bound ≤ n → number_below bound word ≡ None
+  number_below-beyond n some past =
+      number_below-None bound word (λ m below is.
+      let same = same_Some m n (sym (said m below is) ∙ some) in absurd (omega arith))
+
+  -- what a conversion to the smaller type makes of the number
+  pub number_below-narrowed : (E : Type 0) (n : ℕ) (r : Result ℕ E) → Some n ≡ number_below wide word → OkIff r (n < bound) n → result_ok r ≡ number_below bound word
+  number_below-narrowed E n (Ok x) some is = ap Some is.1 ∙ sym (number_below-within n (sym some) is.0)
+  number_below-narrowed E n (Err e) some not_below = sym (number_below-beyond n (sym some) (omega (arith, not_below)))
+
+-- where there is no number, there is none with a minus sign
+pub negative_of-missing : (digits : List ℕ) → number_below (2 ^ 32) digits ≡ None → negative_of digits ≡ None
+unfolding negative_of
+negative_of-missing digits none = rw (number_below-missing (2 ^ 32) (2 ^ 31 + 1) digits (lit≤ tt) (lit≤ tt) none)
+
+-- nor for 0
+pub negative_of-zero : (digits : List ℕ) → number_below (2 ^ 32) digits ≡ Some 0 → negative_of digits ≡ None
+unfolding negative_of
+negative_of-zero digits none = rw (number_below-within (2 ^ 32) (2 ^ 31 + 1) digits (lit≤ tt) (lit≤ tt) 0 none (lit< tt))
+
+zero_minus : (n : ℕ) → pos 0 -ℤ pos n ≡ neg_ℤ (pos n)
+zero_minus n = +ℤ_idl (neg_ℤ (pos n))
+
+not_zero : (n : ℕ) → eqb (suc n) 0 ≡ false
+not_zero n = grind (arith, nat_tests)
+
+-- the difference from 0 is the number with a minus sign
+pub negative_of-some : (digits : List ℕ) (n : ℕ) (r : Option ℤ) → number_below (2 ^ 32) digits ≡ Some n → n ≢ 0 → SomeIff r (FitsSigned w32 (pos 0 -ℤ pos n)) (pos 0 -ℤ pos n) → r ≡ negative_of digits
+unfolding negative_of
+negative_of-some digits zero r some nonzero is = absurd (nonzero refl)
+negative_of-some digits (suc m) (Some z) some nonzero is =
+    let fits : FitsSigned w32 (negsuc m) = subst (FitsSigned w32) (zero_minus (suc m)) is.0 in
+    let small : m < 2 ^ 31 = fits.sfits in
+    rw (number_below-within (2 ^ 32) (2 ^ 31 + 1) digits (lit≤ tt) (lit≤ tt) (suc m) some (omega arith), not_zero m) (ap Some (is.1 ∙ zero_minus (suc m)))
+negative_of-some digits (suc m) None some nonzero not_fits =
+    ⊎_elim
+    (λ below.
+    let small : m < 2 ^ 31 = omega arith in
+    let fits : FitsSigned w32 (negsuc m) = record { sfits = small } in
+    absurd (not_fits (subst (FitsSigned w32) (sym (zero_minus (suc m))) fits)))
+    (λ past. rw (number_below-beyond (2 ^ 32) (2 ^ 31 + 1) digits (lit≤ tt) (lit≤ tt) (suc m) some past))
+    (cases_lt (suc m) (2 ^ 31 + 1))
+
+pub eqb-false_from : (a b : ℕ) → a ≢ b → eqb a b ≡ false
+eqb-false_from a b differ = grind (arith, nat_tests)
+
+negative_of-decimal : (n : ℕ) → n < 2 ^ 31 → negative_of (decimal (suc n)) ≡ Some (negsuc n)
+unfolding negative_of
+negative_of-decimal n small = rw (number_below-decimal (2 ^ 31 + 1) (suc n) (omega arith) (omega arith), not_zero n)
+
+-- behind a minus sign
+pub signed_of-minus : (word : List ℕ) → 0 < length word → get_or word 0 0 ≡ 45 → signed_of word ≡ negative_of (drop 1 word)
+unfolding signed_of
+signed_of-minus [] long minus = absurd (omega arith)
+signed_of-minus (b ∷ bs) long minus = rw (eq-eqb b 45 minus)
+
+-- with no minus sign
+pub signed_of-plain : (word : List ℕ) → (0 < length word → get_or word 0 0 ≢ 45) → signed_of word ≡ option_map pos (number_below (2 ^ 31) word)
+unfolding signed_of
+signed_of-plain [] no_minus = rw (number_below-None (2 ^ 31) [] (λ n below is. let long = decimal_nonempty n (omega arith) in let empty = ap length is in absurd (omega arith)))
+signed_of-plain (b ∷ bs) no_minus = rw (eqb-false_from b 45 (no_minus (omega arith)))
+
+-- a number with no sign
+pub plain_some : (E : Type 0) (word : List ℕ) (n : ℕ) (r : Result ℤ E) → number_below (2 ^ 32) word ≡ Some n → OkIff r (FitsSigned w32 (pos n)) (pos n) → result_ok r ≡ option_map pos (number_below (2 ^ 31) word)
+plain_some E word n (Ok z) some is =
+    rw (number_below-within (2 ^ 32) (2 ^ 31) word (lit≤ tt) (lit≤ tt) n some is.0.sfits) (ap Some is.1)
+plain_some E word n (Err e) some not_fits =
+    ⊎_elim (λ below. absurd (not_fits (record { sfits = below })))
+    (λ past. rw (number_below-beyond (2 ^ 32) (2 ^ 31) word (lit≤ tt) (lit≤ tt) n some past))
+    (cases_lt n (2 ^ 31))
+
+no_minus : (n : ℕ) → n < 2 ^ 64 → 0 < length (decimal n) → get_or (decimal n) 0 0 ≢ 45
+no_minus n small long minus =
+    let digits = digits_decimal numerals n small in
+    not_in_digits numerals (decimal n) 45 digits (λ range. absurd (omega (arith, range))) 0 long minus
+
+-- a number with its sign is what its word says
+pub signed_of-decimal : (z : ℤ) → FitsSigned w32 z → signed_of (signed_decimal z) ≡ Some z
+signed_of-decimal (pos n) fits =
+    let small : n < 2 ^ 31 = fits.sfits in
+    signed_of-plain (decimal n) (no_minus n (omega arith)) ∙ ap (option_map pos) (number_below-decimal (2 ^ 31) n small (omega arith))
+signed_of-decimal (negsuc n) fits =
+    let small : n < 2 ^ 31 = fits.sfits in
+    signed_of-minus (45 ∷ decimal (suc n)) (omega arith) refl
+    ∙ negative_of-decimal n small
+
+negated_Some : (n : ℕ) (z : ℤ) (digits : List ℕ) → n < 2 ^ 31 + 1 → decimal n ≡ digits → cond (eqb n 0) None (Some (neg_ℤ (pos n))) ≡ Some z → FitsSigned w32 z × (signed_decimal z ≡ 45 ∷ digits)
+negated_Some zero z digits below written is = absurd (none-some z is)
+negated_Some (suc m) z digits below written is =
+    let some : Some (negsuc m) ≡ Some z = subst (λ t. cond t None (Some (negsuc m)) ≡ Some z) (not_zero m) is in
+    let small : m < 2 ^ 31 = omega arith in
+    subst (λ y. FitsSigned w32 y × (signed_decimal y ≡ 45 ∷ digits)) (same_Some _ z some) (record { sfits = small }, ap (λ ds. 45 ∷ ds) written)
+
+signed_at_head : (b : ℕ) (bs : List ℕ) (z : ℤ) (t : Bool) → eqb b 45 ≡ t → cond t (negative_of bs) (option_map pos (number_below (2 ^ 31) (b ∷ bs))) ≡ Some z
+    → FitsSigned w32 z × (signed_decimal z ≡ b ∷ bs)
+unfolding negative_of
+signed_at_head b bs z true minus is =
+    option_and_then_some _ (number_below (2 ^ 31 + 1) bs) z is (λ n number negated.
+    let parts = number_below-Some (2 ^ 31 + 1) bs n number in
+    subst (λ x. FitsSigned w32 z × (signed_decimal z ≡ x ∷ bs)) (sym (eqb-true _ _ minus)) (negated_Some n z bs parts.0 parts.1 negated))
+signed_at_head b bs z false other is =
+    option_map_some pos (number_below (2 ^ 31) (b ∷ bs)) z is (λ n number same.
+    let parts = number_below-Some (2 ^ 31) (b ∷ bs) n number in
+    subst (λ y. FitsSigned w32 y × (signed_decimal y ≡ b ∷ bs)) same (record { sfits = parts.0 }, parts.1))
+
+-- a word that says a number with its sign is how that number is written
+pub signed_of-Some : (word : List ℕ) (z : ℤ) → signed_of word ≡ Some z → FitsSigned w32 z × (signed_decimal z ≡ word)
+unfolding signed_of
+signed_of-Some [] z is = absurd (none-some z is)
+signed_of-Some (b ∷ bs) z is = signed_at_head b bs z (eqb b 45) refl is

@@ -1,0 +1,236 @@
+-- How far a script has come.
+use Rattle.std.proofs.Common.{◌≡◌, ℕ, ◌+◌, ◌-◌, ◌^◌, ◌<◌, Bool, true, false, cond, eqb, List, [], ◌∷◌, ◌++◌, length, length-append, map, Option, Result, Ok, Err, is_ok, refl, sym, ap, ◌∙◌, subst, append_assoc, append-nil, codes, arith, fold, eq-eqb}
+use Rattle.std.specs.Io.KnownBytes.{Appends}
+use Rattle.std.proofs.lemmas.List.Sums.{fold-append}
+use Rattle.std.proofs.lemmas.List.{map-append}
+use Rattle.std.proofs.lemmas.List.{map-append}
+use Rattle.pid_types.specs.declared.call.Call.{Call}
+use Rattle.pid_types.specs.declared.entry.Receipt.{Receipt}
+use Rattle.pid_types.specs.declared.reply.CallFault.{CallFault}
+use Rattle.pid_types.specs.declared.reply.CallFault.TheVariants.{NoMemory, Spent}
+use Rattle.pid_types.specs.State.{State}
+use Rattle.pid_script.specs.declared.line.Line.{Line}
+use Rattle.pid_script.specs.declared.line.Line.TheVariants as says
+use Rattle.pid_script.specs.declared.tally.Tally.{Tally}
+use Rattle.pid_script.specs.Answers.{reply_text, fault_text, answer_of}
+use Rattle.pid_script.specs.Script.{Progress, begun, with_newline, told, stepped, after_call, after_saying, after_line, after_script}
+use Rattle.pid_script.specs.Session.{Acts, Leads, progress_of, Answers, StopsShort}
+use Rattle.pid_script.proofs.Numbers.{eqb-false_from}
+use Rattle.pid_script.proofs.Sent.{Appends-nothing, Appends-more, StopsAt}
+
+-- two ways are as far if each of their parts is
+same_progress : (s s' : State) (n n' : ℕ) (t t' : List ℕ) (l l' r r' b b' : ℕ) → s ≡ s' → n ≡ n' → t ≡ t' → l ≡ l' → r ≡ r' → b ≡ b'
+    → ◌≡◌ {A = Progress} (record { state = s; stamp = n; text = t; lines = l; recorded = r; bad = b }) (record { state = s'; stamp = n'; text = t'; lines = l'; recorded = r'; bad = b' })
+same_progress s s' n n' t t' l l' r r' b b' es en et el er eb =
+    λ i. record { state = es i; stamp = en i; text = et i; lines = el i; recorded = er i; bad = eb i }
+
+-- what a call of a table makes of a script
+pub call_leads : (state : State) (stamp : ℕ) (tally : Tally) (call : Call) (r : Result Receipt CallFault) (state' : State) (stamp' : ℕ) (tally' : Tally)
+    → Acts state stamp call r state' stamp' → tally'.lines ≡ tally.lines + 1 → tally'.recorded ≡ cond (is_ok r) (tally.recorded + 1) tally.recorded → tally'.bad ≡ tally.bad
+    → Leads state stamp tally (says.Call call) (with_newline (answer_of r)) state' stamp' tally'
+unfolding after_call
+call_leads state stamp tally call (Ok receipt) state' stamp' tally' acts lines recorded bad = (
+  false,
+  λ held. (rw (eqb-false_from stamp (2 ^ 64 - 1) acts.0)
+      (same_progress _ _ _ _ _ _ _ _ _ _ _ _ (sym acts.2) (sym acts.3) (ap (λ reply. held ++ with_newline (reply_text reply)) (sym acts.1)) (sym lines) (sym recorded) (sym bad))),
+)
+call_leads state stamp tally call (Err NoMemory) state' stamp' tally' acts lines recorded bad = (
+  true,
+  λ held. same_progress _ _ _ _ _ _ _ _ _ _ _ _ (sym acts.0) (sym acts.1) refl (sym lines) (sym recorded) (sym bad),
+)
+call_leads state stamp tally call (Err Spent) state' stamp' tally' acts lines recorded bad = (
+  false,
+  λ held. (rw (eq-eqb stamp (2 ^ 64 - 1) acts.0)
+      (same_progress _ _ _ _ _ _ _ _ _ _ _ _ (sym acts.1) (sym acts.2) refl (sym lines) (sym recorded) (sym bad))),
+)
+
+-- an empty line, and a bad one
+pub empty_leads : (state : State) (stamp : ℕ) (tally tally' : Tally) → tally'.lines ≡ tally.lines + 1 → tally'.recorded ≡ tally.recorded → tally'.bad ≡ tally.bad
+    → Leads state stamp tally says.Empty [] state stamp tally'
+empty_leads state stamp tally tally' lines recorded bad = (
+  false,
+  λ held. same_progress _ _ _ _ _ _ _ _ _ _ _ _ refl refl (sym (append-nil held)) (sym lines) (sym recorded) (sym bad),
+)
+
+pub bad_leads : (state : State) (stamp : ℕ) (tally tally' : Tally) → tally'.lines ≡ tally.lines + 1 → tally'.recorded ≡ tally.recorded → tally'.bad ≡ tally.bad + 1
+    → Leads state stamp tally says.Bad (with_newline (codes "bad line")) state stamp tally'
+bad_leads state stamp tally tally' lines recorded bad = (
+  false,
+  λ held. same_progress _ _ _ _ _ _ _ _ _ _ _ _ refl refl refl (sym lines) (sym recorded) (sym bad),
+)
+
+-- a line whose answer was sent or waits
+pub answered : (state : State) (stamp : ℕ) (tally : Tally) (held : List ℕ) (line : Line) (text : List ℕ) (state' : State) (stamp' : ℕ) (tally' : Tally) (held' sent : List ℕ)
+    (a b : Option (List ℕ)) → Leads state stamp tally line text state' stamp' tally' → Appends a b sent → held ++ text ≡ sent ++ held'
+    → Answers (progress_of state stamp tally held) (progress_of state' stamp' tally' held') a b (line ∷ [])
+unfolding after_script
+answered state stamp tally held line text state' stamp' tally' held' sent a b leads appended split = record {
+  sent = sent;
+  script = (line, leads.0) ∷ [];
+  says = refl;
+  appended = appended;
+  reached = ap (λ waiting. progress_of state' stamp' tally' waiting) (sym split) ∙ sym (leads.1 held);
+}
+
+-- a line whose answer could not be sent
+pub stopped : (state : State) (stamp : ℕ) (tally : Tally) (held : List ℕ) (line : Line) (text : List ℕ) (state' : State) (stamp' : ℕ) (tally' : Tally) (sent left : List ℕ)
+    (a b : Option (List ℕ)) → Leads state stamp tally line text state' stamp' tally' → Appends a b sent → held ++ text ≡ sent ++ left → 0 < length left
+    → StopsShort (progress_of state stamp tally held) a b (line ∷ [])
+unfolding after_script
+stopped state stamp tally held line text state' stamp' tally' sent left a b leads appended split some_left = record {
+  sent = sent;
+  left = left;
+  script = (line, leads.0) ∷ [];
+  says = refl;
+  appended = appended;
+  short = ap (λ p. p.text) (leads.1 held) ∙ split;
+  some_left = some_left;
+}
+
+-- the same, with these answers in front
+abbrev fronted : List ℕ → Progress → Progress
+fronted front p = record p { text = front ++ p.text }
+
+told-fronted : (front : List ℕ) (p : Progress) (answer : List ℕ) → told (fronted front p) answer ≡ fronted front (told p answer)
+told-fronted front p answer =
+    same_progress _ _ _ _ _ _ _ _ _ _ _ _ refl refl (append_assoc front p.text (with_newline answer)) refl refl refl
+
+after_call-fronted : (front : List ℕ) (p : Progress) (starved : Bool) (call : Call) → after_call (fronted front p) starved call ≡ fronted front (after_call p starved call)
+unfolding after_call
+after_call-fronted front p true call = told-fronted front p (fault_text NoMemory)
+after_call-fronted front p false call = at (eqb p.stamp (2 ^ 64 - 1))
+  where
+    at : (t : Bool) → cond t (told (fronted front p) (fault_text Spent)) (stepped (fronted front p) call) ≡ fronted front (cond t (told p (fault_text Spent)) (stepped p call))
+    at true = told-fronted front p (fault_text Spent)
+    at false = same_progress _ _ _ _ _ _ _ _ _ _ _ _ refl refl (append_assoc front p.text _) refl refl refl
+
+after_line-fronted : (front : List ℕ) (p : Progress) (line : Line) (starved : Bool) → after_saying (fronted front p) starved line ≡ fronted front (after_saying p starved line)
+after_line-fronted front p says.Empty starved = refl
+after_line-fronted front p (says.Call call) starved = after_call-fronted front p starved call
+after_line-fronted front p says.Bad starved =
+    same_progress _ _ _ _ _ _ _ _ _ _ _ _ refl refl (append_assoc front p.text (with_newline (codes "bad line"))) refl refl refl
+
+-- what stands in front stays in front
+after_script-fronted : (front : List ℕ) (p : Progress) (script : List (Line × Bool)) → after_script (fronted front p) script ≡ fronted front (after_script p script)
+unfolding after_script
+after_script-fronted front p [] = refl
+after_script-fronted front p (l ∷ ls) =
+    ap (λ q. fold after_line q ls) (after_line-fronted front p l.0 l.1) ∙ after_script-fronted front (after_line p l) ls
+
+after_script-append : (p : Progress) (xs ys : List (Line × Bool)) → after_script p (xs ++ ys) ≡ after_script (after_script p xs) ys
+unfolding after_script
+after_script-append p xs ys = fold-append after_line p xs ys
+
+-- no line leads nowhere
+pub Answers-nothing : (p : Progress) (a : Option (List ℕ)) → Answers p p a a []
+unfolding after_script
+Answers-nothing p a = record { sent = []; script = []; says = refl; appended = Appends-nothing a; reached = refl }
+
+-- some lines, and then others
+pub Answers-more : (p q r : Progress) (a b c : Option (List ℕ)) (xs ys : List Line) → Answers p q a b xs → Answers q r b c ys → Answers p r a c (xs ++ ys)
+Answers-more p q r a b c xs ys first second = record {
+  sent = first.sent ++ second.sent;
+  script = first.script ++ second.script;
+  says = map-append (λ l. l.0) first.script second.script ∙ (λ i. first.says i ++ second.says i);
+  appended = Appends-more a b c first.sent second.sent first.appended second.appended;
+  reached =
+      same_progress _ _ _ _ _ _ _ _ _ _ _ _ refl refl (append_assoc first.sent second.sent r.text) refl refl refl
+      ∙ ap (fronted first.sent) second.reached
+      ∙ sym (after_script-fronted first.sent q second.script)
+      ∙ ap (λ s. after_script s second.script) first.reached
+      ∙ sym (after_script-append p first.script second.script);
+}
+
+-- some lines, and then others whose answers could not all be sent
+pub StopsShort-more : (p q : Progress) (a b c : Option (List ℕ)) (xs ys : List Line) → Answers p q a b xs → StopsShort q b c ys → StopsShort p a c (xs ++ ys)
+StopsShort-more p q a b c xs ys first second = record {
+  sent = first.sent ++ second.sent;
+  left = second.left;
+  script = first.script ++ second.script;
+  says = map-append (λ l. l.0) first.script second.script ∙ (λ i. first.says i ++ second.says i);
+  appended = Appends-more a b c first.sent second.sent first.appended second.appended;
+  short =
+      ap (λ s. s.text) (after_script-append p first.script second.script ∙ ap (λ s. after_script s second.script) (sym first.reached) ∙ after_script-fronted first.sent q second.script)
+      ∙ ap (λ text. first.sent ++ text) second.short
+      ∙ sym (append_assoc first.sent second.sent second.left);
+  some_left = second.some_left;
+}
+
+-- the lines, none of which finds no memory
+with_memory : List Line → List (Line × Bool)
+with_memory lines = map (λ l. (l, false)) lines
+
+said-with_memory : (lines : List Line) → map (λ l. l.0) (with_memory lines) ≡ lines
+unfolding with_memory
+said-with_memory [] = refl
+said-with_memory (l ∷ ls) = ap (λ rest. l ∷ rest) (said-with_memory ls)
+
+-- lines only add to the answers
+text-grows : (p : Progress) (script : List (Line × Bool)) → (more : List ℕ) × ((after_script p script).text ≡ p.text ++ more)
+text-grows p script =
+    let bare : Progress = record p { text = [] } in
+    let same : p ≡ fronted p.text bare = same_progress _ _ _ _ _ _ _ _ _ _ _ _ refl refl (sym (append-nil p.text)) refl refl refl in
+    ((after_script bare script).text, ap (λ q. (after_script q script).text) same ∙ ap (λ q. q.text) (after_script-fronted p.text bare script))
+
+-- where sending stopped, it stopped before the answers to later lines
+pub StopsShort-later : (p : Progress) (a b : Option (List ℕ)) (xs ys : List Line) → StopsShort p a b xs → StopsShort p a b (xs ++ ys)
+StopsShort-later p a b xs ys stops =
+    let more = text-grows (after_script p stops.script) (with_memory ys) in
+    record {
+      sent = stops.sent;
+      left = stops.left ++ more.0;
+      script = stops.script ++ with_memory ys;
+      says = map-append (λ l. l.0) stops.script (with_memory ys) ∙ (λ i. stops.says i ++ said-with_memory ys i);
+      appended = stops.appended;
+      short = ap (λ q. q.text) (after_script-append p stops.script (with_memory ys)) ∙ more.1 ∙ ap (λ text. text ++ more.0) stops.short
+          ∙ append_assoc stops.sent stops.left more.0;
+      some_left = omega (arith, stops.some_left, length-append stops.left more.0);
+    }
+
+-- the same lines
+pub Answers-same : (p q : Progress) (a b : Option (List ℕ)) (xs ys : List Line) → xs ≡ ys → Answers p q a b xs → Answers p q a b ys
+Answers-same p q a b xs ys same answers = subst (Answers p q a b) same answers
+
+pub StopsShort-same : (p : Progress) (a b : Option (List ℕ)) (xs ys : List Line) → xs ≡ ys → StopsShort p a b xs → StopsShort p a b ys
+StopsShort-same p a b xs ys same stops = subst (StopsShort p a b) same stops
+
+-- what waits is sent
+pub Answers-sent : (state : State) (stamp : ℕ) (tally : Tally) (held : List ℕ) (a b : Option (List ℕ)) → Appends a b held
+    → Answers (progress_of state stamp tally held) (progress_of state stamp tally []) a b []
+unfolding after_script
+Answers-sent state stamp tally held a b appended = record {
+  sent = held;
+  script = [];
+  says = refl;
+  appended = appended;
+  reached = ap (λ text. progress_of state stamp tally text) (append-nil held);
+}
+
+-- what waits is sent in part
+pub StopsShort-sent : (state : State) (stamp : ℕ) (tally : Tally) (held : List ℕ) (a b : Option (List ℕ)) → StopsAt a b held
+    → StopsShort (progress_of state stamp tally held) a b []
+unfolding after_script
+StopsShort-sent state stamp tally held a b stops = record {
+  sent = stops.0;
+  left = stops.1;
+  script = [];
+  says = refl;
+  appended = stops.2;
+  short = stops.3;
+  some_left = stops.4;
+}
+
+-- a script that begins
+pub Answers-begun : (state : State) (stamp : ℕ) (tally : Tally) (held : List ℕ) (a : Option (List ℕ)) → tally ≡ record { lines = 0; recorded = 0; bad = 0 } → held ≡ []
+    → Answers (begun state stamp) (progress_of state stamp tally held) a a []
+Answers-begun state stamp tally held a zero empty =
+    subst (λ q. Answers (begun state stamp) q a a [])
+    ((λ i. progress_of state stamp (sym zero i) (sym empty i)))
+    (Answers-nothing (begun state stamp) a)
+
+-- what waited was sent, and nothing waits
+pub Answers-flushed : (state : State) (stamp : ℕ) (tally : Tally) (held held' : List ℕ) (a b : Option (List ℕ)) → Appends a b held → held' ≡ []
+    → Answers (progress_of state stamp tally held) (progress_of state stamp tally held') a b []
+Answers-flushed state stamp tally held held' a b appended empty =
+    subst (λ waits. Answers (progress_of state stamp tally held) (progress_of state stamp tally waits) a b []) (sym empty)
+    (Answers-sent state stamp tally held a b appended)

@@ -1,0 +1,6 @@
+pub mod Lines
+pub mod Reading
+pub mod Answers
+pub mod Script
+pub mod Lists
+pub mod Session

@@ -1,0 +1,129 @@
+-- What a script comes to.
+use Rattle.std.specs.Prelude.{ℕ, ◌+◌, ◌-◌, ◌^◌, Bool, true, false, List, [], ◌∷◌, ◌++◌, length, map, fold, codes, Option, Some, None, if◌then◌else◌, ◌==◌, nat_le}
+use Rattle.std.specs.List.{onto_first}
+use Rattle.pid_types.specs.declared.call.Call.{Call}
+use Rattle.pid_types.specs.declared.reply.CallFault.TheVariants.{NoMemory, Spent}
+use Rattle.pid_types.specs.Settings.{Settings}
+use Rattle.pid_types.specs.State.{State, root_state}
+use Rattle.pid_types.specs.Step.{step}
+use Rattle.pid_script.specs.declared.line.Line.{Line}
+use Rattle.pid_script.specs.declared.line.Line.TheVariants as says
+use Rattle.pid_script.specs.Reading.{parsed}
+use Rattle.pid_script.specs.Answers.{reply_text, fault_text}
+
+-- the lines of a script: a line ends at a newline, and what follows the last newline is a line if it has a byte
+abbrev pub lines_of : List ℕ → List (List ℕ)
+lines_of [] = []
+lines_of (b ∷ bs) = if b == 10 then [] ∷ lines_of bs else onto_first b (lines_of bs)
+
+-- the byte at the front of the first line, if there is one
+abbrev pub onto_whole : ℕ → List (List ℕ) → List (List ℕ)
+onto_whole b [] = []
+onto_whole b (line ∷ lines) = (b ∷ line) ∷ lines
+
+-- the lines that have ended: those before a newline
+abbrev pub whole_lines_of : List ℕ → List (List ℕ)
+whole_lines_of [] = []
+whole_lines_of (b ∷ bs) = if b == 10 then [] ∷ whole_lines_of bs else onto_whole b (whole_lines_of bs)
+
+-- what the lines say: all of them, and those that have ended
+abbrev pub said_of : List ℕ → List Line
+said_of bytes = map parsed (lines_of bytes)
+
+abbrev pub said_whole : List ℕ → List Line
+said_whole bytes = map parsed (whole_lines_of bytes)
+
+-- a line with its newline
+abbrev pub with_newline : List ℕ → List ℕ
+with_newline line = line ++ 10 ∷ []
+
+-- what is kept of a line: its bytes, if there are at most 200
+abbrev pub kept_of : List ℕ → Option (List ℕ)
+kept_of line = if nat_le (length line) 200 then Some line else None
+
+-- what is said by what was kept: a line that was too long is bad
+abbrev pub said_by : Option (List ℕ) → Line
+said_by None = says.Bad
+said_by (Some line) = parsed line
+
+-- what is kept of a line with more bytes
+abbrev pub kept_more : Option (List ℕ) → List ℕ → Option (List ℕ)
+kept_more kept [] = kept
+kept_more None (b ∷ bs) = None
+kept_more (Some line) (b ∷ bs) = kept_of (line ++ b ∷ bs)
+
+-- what the lines say that end within the bytes, the first of which was begun before
+abbrev pub said_within : Option (List ℕ) → List ℕ → List Line
+said_within kept [] = []
+said_within kept (b ∷ bs) = if b == 10 then said_by kept ∷ said_within (Some []) bs else said_within (kept_more kept (b ∷ [])) bs
+
+-- what is kept of the line that the bytes leave
+abbrev pub kept_after : Option (List ℕ) → List ℕ → Option (List ℕ)
+kept_after kept [] = kept
+kept_after kept (b ∷ bs) = if b == 10 then kept_after (Some []) bs else kept_after (kept_more kept (b ∷ [])) bs
+
+-- what the bytes after the last newline say, if there are any
+abbrev pub last_said : Option (List ℕ) → List Line
+last_said None = says.Bad ∷ []
+last_said (Some []) = []
+last_said (Some (b ∷ bs)) = parsed (b ∷ bs) ∷ []
+
+-- how far a script has come: the table's state and the stamp of its next call, the answers, each with its newline, and how many
+-- lines there were, how many calls were recorded and how many lines were bad
+pub record Progress : Type 0 where
+  pub state : State
+  pub stamp : ℕ
+  pub text : List ℕ
+  pub lines : ℕ
+  pub recorded : ℕ
+  pub bad : ℕ
+
+-- before the first line, at this state and stamp
+abbrev pub begun : State → ℕ → Progress
+begun state stamp = record {
+  state = state;
+  stamp = stamp;
+  text = [];
+  lines = 0;
+  recorded = 0;
+  bad = 0;
+}
+
+-- before the first line of a script: the root state of the configuration, and its first stamp
+abbrev pub start_of : Settings → Progress
+start_of config = begun (root_state config.pid_max) config.first_stamp
+
+-- one line more, with this answer
+abbrev pub told : Progress → List ℕ → Progress
+told p answer = record p { text = p.text ++ with_newline answer; lines = p.lines + 1 }
+
+-- a call that is recorded: one step, which uses a stamp
+abbrev pub stepped : Progress → Call → Progress
+stepped p call =
+    let o = step p.state p.stamp call in
+    record p {
+      state = o.state;
+      stamp = p.stamp + 1;
+      text = p.text ++ with_newline (reply_text o.reply);
+      lines = p.lines + 1;
+      recorded = p.recorded + 1;
+    }
+
+-- a call that finds no memory, or no stamp below the greatest number of 64 bits, changes nothing
+unfoldable pub after_call : Progress → Bool → Call → Progress
+after_call p true call = told p (fault_text NoMemory)
+after_call p false call = if p.stamp == 2 ^ 64 - 1 then told p (fault_text Spent) else stepped p call
+
+-- what one line adds
+abbrev pub after_saying : Progress → Bool → Line → Progress
+after_saying p starved says.Empty = record p { lines = p.lines + 1 }
+after_saying p starved (says.Call call) = after_call p starved call
+after_saying p starved says.Bad = record (told p (codes "bad line")) { bad = p.bad + 1 }
+
+-- the next line, and whether its call finds no memory
+abbrev pub after_line : Progress → Line × Bool → Progress
+after_line p line = after_saying p line.1 line.0
+
+-- what the lines of a script come to, one after another
+unfoldable pub after_script : Progress → List (Line × Bool) → Progress
+after_script p script = fold after_line p script

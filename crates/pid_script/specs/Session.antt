@@ -1,0 +1,99 @@
+-- What running a script does to a table, a source and a sink.
+use Rattle.std.specs.Prelude.{ℕ, ◌≡◌, ◌≢◌, ◌+◌, ◌-◌, ◌^◌, ◌<◌, ◌≤◌, Bool, List, ◌++◌, length, map, Option, Result, Ok, Err, IsTrue}
+use Rattle.std.specs.Io.KnownBytes.{Appends, Consumes, IsAtEnd}
+use Rattle.pid_types.specs.declared.call.Call.{Call}
+use Rattle.pid_types.specs.declared.entry.Receipt.{Receipt}
+use Rattle.pid_types.specs.declared.reply.CallFault.{CallFault}
+use Rattle.pid_types.specs.declared.reply.CallFault.TheVariants.{NoMemory, Spent}
+use Rattle.pid_types.specs.State.{State}
+use Rattle.pid_types.specs.Step.{step}
+use Rattle.pid_script.specs.declared.line.Line.{Line}
+use Rattle.pid_script.specs.declared.tally.Tally.{Tally}
+use Rattle.pid_script.specs.declared.tally.RunScriptFault.{RunScriptFault}
+use Rattle.pid_script.specs.declared.tally.RunScriptFault.TheVariants as fault
+use Rattle.pid_script.specs.Script.{Progress, said_of, said_whole, after_saying, after_script}
+
+-- a call of a table: one step at the stamp, which is used up then; or nothing has changed
+abbrev pub Acts : State → ℕ → Call → Result Receipt CallFault → State → ℕ → Type 0
+Acts state stamp call (Ok receipt) state' stamp' =
+    let o = step state stamp call in
+    (stamp ≢ 2 ^ 64 - 1) × (receipt.reply ≡ o.reply) × (state' ≡ o.state) × (stamp' ≡ stamp + 1)
+Acts state stamp call (Err NoMemory) state' stamp' = (state' ≡ state) × (stamp' ≡ stamp)
+Acts state stamp call (Err Spent) state' stamp' = (stamp ≡ 2 ^ 64 - 1) × (state' ≡ state) × (stamp' ≡ stamp)
+
+-- how far a script has come, with the answers that are not sent yet
+abbrev pub progress_of : State → ℕ → Tally → List ℕ → Progress
+progress_of state stamp tally held = record {
+  state = state;
+  stamp = stamp;
+  text = held;
+  lines = tally.lines;
+  recorded = tally.recorded;
+  bad = tally.bad;
+}
+
+-- whatever answers wait, the line leads from here to there, and this text waits behind them
+abbrev pub Leads : State → ℕ → Tally → Line → List ℕ → State → ℕ → Tally → Type 0
+Leads state stamp tally line text state' stamp' tally' =
+    (starved : Bool)
+    × ((held : List ℕ) → after_saying (progress_of state stamp tally held) starved line ≡ progress_of state' stamp' tally' (held ++ text))
+
+-- the lines took the script from p to q, and what is sent of their answers stands at the end of what the sink holds
+pub record Answers (p q : Progress) (before after : Option (List ℕ)) (lines : List Line) : Type 0 where
+  pub sent : List ℕ
+  pub script : List (Line × Bool)
+  pub says : map (λ l. l.0) script ≡ lines
+  pub appended : Appends before after sent
+  pub reached : record q { text = sent ++ q.text } ≡ after_script p script
+
+-- what is sent of the answers to the lines is not all of them
+pub record StopsShort (p : Progress) (before after : Option (List ℕ)) (lines : List Line) : Type 0 where
+  pub sent : List ℕ
+  pub left : List ℕ
+  pub script : List (Line × Bool)
+  pub says : map (λ l. l.0) script ≡ lines
+  pub appended : Appends before after sent
+  pub short : (after_script p script).text ≡ sent ++ left
+  pub some_left : 0 < length left
+
+-- there are at least as many lines as recorded calls, and as bad ones
+abbrev pub IsCounted : Tally → Type 0
+IsCounted tally = (tally.recorded ≤ tally.lines) × (tally.bad ≤ tally.lines)
+
+-- the source is at its end, and what was written is the meaning of the lines of all that was read
+pub record Finishes (start end : Progress) (from to before after : Option (List ℕ)) : Type 0 where
+  pub read : List ℕ
+  pub script : List (Line × Bool)
+  pub consumed : Consumes from to read
+  pub at_end : IsAtEnd to
+  pub says : map (λ l. l.0) script ≡ said_of read
+  pub reached : end ≡ after_script start script
+  pub written : Appends before after end.text
+
+-- at least so many bytes were read, and what was written is the meaning of the lines that had ended
+pub record Halts (least : ℕ) (start : Progress) (from to before after : Option (List ℕ)) : Type 0 where
+  pub read : List ℕ
+  pub script : List (Line × Bool)
+  pub consumed : Consumes from to read
+  pub long : least ≤ length read
+  pub says : map (λ l. l.0) script ≡ said_whole read
+  pub written : Appends before after (after_script start script).text
+
+-- what was written is not all of the meaning of the lines that were read, but its front
+pub record Breaks (start : Progress) (from to before after : Option (List ℕ)) : Type 0 where
+  pub read : List ℕ
+  pub script : List (Line × Bool)
+  pub sent : List ℕ
+  pub left : List ℕ
+  pub consumed : Consumes from to read
+  pub says : map (λ l. l.0) script ≡ said_of read
+  pub text : (after_script start script).text ≡ sent ++ left
+  pub some_left : 0 < length left
+  pub written : Appends before after sent
+
+-- what each fault of a script means
+abbrev pub Leaves : ℕ → Progress → Option (List ℕ) → Option (List ℕ) → Option (List ℕ) → Option (List ℕ) → Bool → RunScriptFault → Type 0
+Leaves turns start from to before after failed fault.NoMemory = (to ≡ from) × (after ≡ before)
+Leaves turns start from to before after failed fault.Read = Halts 0 start from to before after × IsTrue failed
+Leaves turns start from to before after failed fault.Write = Breaks start from to before after
+Leaves turns start from to before after failed fault.TooManyTurns = Halts turns start from to before after

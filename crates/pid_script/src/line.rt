@@ -1,0 +1,417 @@
+//! Lines to calls.
+ghost use Rattle.std.specs.Prelude.{◌≡◌, ◌^◌};
+ghost use Rattle.pid_script.specs.Reading.{pair_of, fork_of, exit_of, numbered_of, which_of, wait_of, set_pgid_of, kind_of, next_of, limit_of, move_of, switch_of, subreaper_of, command_of, call_of, parsed};
+ghost use Rattle.pid_script.specs.Lines.{Says};
+
+use crate::bytes::split_at_first;
+use crate::number::{read_i32, read_u8, read_u32, read_u64};
+use pid_types::call::{Call, Kind, Which};
+
+/// What a line of a script says.
+#[derive(Clone, Copy, Debug, PartialEq, Eq, Hash)]
+pub enum Line {
+    /// Nothing: it has no bytes.
+    Empty,
+    /// One call.
+    Call(Call),
+    /// No call: no call is written so.
+    Bad,
+}
+
+#[tactic(auto, unfolding(crate::specs::Reading::pair_of))]
+fn read_pair(words: &[u8]) -> Option<(u32, u32)>
+    ensures { result ≡ pair_of words.now }
+{
+    let (first, second) = split_at_first(words, b' ')?;
+    Some((read_u32(first)?, read_u32(second)?))
+}
+
+#[tactic(auto, unfolding(crate::specs::Reading::fork_of))]
+fn read_fork(words: &[u8]) -> Option<Call>
+    ensures { result ≡ fork_of words.now }
+{
+    let (caller, new_space) = match split_at_first(words, b' ') {
+        None => (words, false),
+        Some((caller, b"new")) => (caller, true),
+        Some(_) => return None,
+    };
+    Some(Call::Fork {
+        caller: read_u32(caller)?,
+        new_space,
+    })
+}
+
+#[tactic(auto, unfolding(crate::specs::Reading::exit_of))]
+fn read_exit(words: &[u8]) -> Option<Call>
+    ensures { result ≡ exit_of words.now }
+{
+    let (caller, status) = split_at_first(words, b' ')?;
+    Some(Call::Exit {
+        caller: read_u32(caller)?,
+        status: read_u8(status)?,
+    })
+}
+
+#[tactic(auto, unfolding(crate::specs::Reading::numbered_of))]
+fn read_numbered(words: &[u8]) -> Option<Which>
+    ensures { result ≡ numbered_of words.now }
+{
+    let (selector, number) = split_at_first(words, b' ')?;
+    let number = read_u32(number)?;
+    match selector {
+        b"pid" => Some(Which::Pid(number)),
+        b"group" => Some(Which::Group(number)),
+        _ => None,
+    }
+}
+
+#[tactic(auto, unfolding(crate::specs::Reading::which_of))]
+fn read_which(words: &[u8]) -> Option<Which>
+    ensures { result ≡ which_of words.now }
+{
+    match words {
+        b"any" => Some(Which::Any),
+        b"own" => Some(Which::OwnGroup),
+        _ => read_numbered(words),
+    }
+}
+
+#[tactic(auto, unfolding(crate::specs::Reading::wait_of))]
+fn read_wait(words: &[u8]) -> Option<Call>
+    ensures { result ≡ wait_of words.now }
+{
+    let (caller, which) = split_at_first(words, b' ')?;
+    Some(Call::Wait {
+        caller: read_u32(caller)?,
+        which: read_which(which)?,
+    })
+}
+
+#[tactic(auto, unfolding(crate::specs::Reading::set_pgid_of))]
+fn read_set_pgid(words: &[u8]) -> Option<Call>
+    ensures { result ≡ set_pgid_of words.now }
+{
+    let (caller, ids) = split_at_first(words, b' ')?;
+    let (pid, pgid) = split_at_first(ids, b' ')?;
+    Some(Call::SetPgid {
+        caller: read_u32(caller)?,
+        pid: read_i32(pid)?,
+        pgid: read_i32(pgid)?,
+    })
+}
+
+#[tactic(auto, unfolding(crate::specs::Reading::kind_of))]
+fn read_kind(word: &[u8]) -> Option<Kind>
+    ensures { result ≡ kind_of word.now }
+{
+    match word {
+        b"task" => Some(Kind::Task),
+        b"group" => Some(Kind::Group),
+        b"session" => Some(Kind::Session),
+        _ => None,
+    }
+}
+
+#[tactic(auto, unfolding(crate::specs::Reading::next_of))]
+fn read_next(words: &[u8]) -> Option<Call>
+    ensures { result ≡ next_of words.now }
+{
+    let (caller, place) = split_at_first(words, b' ')?;
+    let (kind, from) = split_at_first(place, b' ')?;
+    Some(Call::Next {
+        caller: read_u32(caller)?,
+        kind: read_kind(kind)?,
+        from: read_u32(from)?,
+    })
+}
+
+#[tactic(auto, unfolding(crate::specs::Reading::limit_of))]
+fn read_limit(words: &[u8]) -> Option<Call>
+    ensures { result ≡ limit_of words.now }
+{
+    let (id, limit) = split_at_first(words, b' ')?;
+    let id = read_u64(id)?;
+    let limit = match limit {
+        b"max" => None,
+        _ => Some(read_u32(limit)?),
+    };
+    Some(Call::SetLimit { id, limit })
+}
+
+#[tactic(auto, unfolding(crate::specs::Reading::move_of))]
+fn read_move(words: &[u8]) -> Option<Call>
+    ensures { result ≡ move_of words.now }
+{
+    let (task, id) = split_at_first(words, b' ')?;
+    Some(Call::Move {
+        task: read_u32(task)?,
+        id: read_u64(id)?,
+    })
+}
+
+#[tactic(auto, unfolding(crate::specs::Reading::switch_of))]
+fn read_switch(word: &[u8]) -> Option<bool>
+    ensures { result ≡ switch_of word.now }
+{
+    match word {
+        b"on" => Some(true),
+        b"off" => Some(false),
+        _ => None,
+    }
+}
+
+#[tactic(auto, unfolding(crate::specs::Reading::subreaper_of))]
+fn read_subreaper(words: &[u8]) -> Option<Call>
+    ensures { result ≡ subreaper_of words.now }
+{
+    let (caller, on) = split_at_first(words, b' ')?;
+    Some(Call::SetSubreaper {
+        caller: read_u32(caller)?,
+        on: read_switch(on)?,
+    })
+}
+
+#[tactic(auto, unfolding(crate::specs::Reading::command_of))]
+fn read_command(command: &[u8], words: &[u8]) -> Option<Call>
+    ensures { result ≡ command_of command.now words.now }
+{
+    match command {
+        b"fork" => read_fork(words),
+        b"exec" => read_u32(words).map(|caller| Call::Exec { caller }),
+        b"exit" => read_exit(words),
+        b"wait" => read_wait(words),
+        b"setpgid" => read_set_pgid(words),
+        b"setsid" => read_u32(words).map(|caller| Call::SetSid { caller }),
+        b"getpid" => read_u32(words).map(|caller| Call::GetPid { caller }),
+        b"getppid" => read_u32(words).map(|caller| Call::GetPpid { caller }),
+        b"getpgid" => read_pair(words).map(|(caller, pid)| Call::GetPgid { caller, pid }),
+        b"getsid" => read_pair(words).map(|(caller, pid)| Call::GetSid { caller, pid }),
+        b"nspid" => read_pair(words).map(|(caller, target)| Call::NsPid { caller, target }),
+        b"next" => read_next(words),
+        b"mk" => read_u64(words).map(|parent| Call::MakeControl { parent }),
+        b"rm" => read_u64(words).map(|id| Call::RemoveControl { id }),
+        b"limit" => read_limit(words),
+        b"move" => read_move(words),
+        b"count" => read_u64(words).map(|id| Call::Count { id }),
+        b"join" => read_pair(words).map(|(caller, target)| Call::Join { caller, target }),
+        b"subreaper" => read_subreaper(words),
+        _ => None,
+    }
+}
+
+/// What the line says, its bytes without the newline.
+///
+/// A line is a command and its arguments, with one space between and none around them. Numbers are
+/// in decimal digits with no leading zero and within the range of their type; only the two numbers of
+/// `setpgid` may have a minus sign, directly before a number that is not 0.
+///
+/// | Line | Call |
+/// |---|---|
+/// | `fork P`, `fork P new` | [`Call::Fork`] |
+/// | `exec P` | [`Call::Exec`] |
+/// | `exit P S` | [`Call::Exit`] |
+/// | `wait P any`, `wait P pid P`, `wait P own`, `wait P group P` | [`Call::Wait`] |
+/// | `setpgid P G G` | [`Call::SetPgid`] |
+/// | `setsid P` | [`Call::SetSid`] |
+/// | `getpid P`, `getppid P` | [`Call::GetPid`], [`Call::GetPpid`] |
+/// | `getpgid P P`, `getsid P P`, `nspid P P` | [`Call::GetPgid`], [`Call::GetSid`], [`Call::NsPid`] |
+/// | `next P task P`, `next P group P`, `next P session P` | [`Call::Next`] |
+/// | `mk I`, `rm I` | [`Call::MakeControl`], [`Call::RemoveControl`] |
+/// | `limit I P`, `limit I max` | [`Call::SetLimit`] |
+/// | `move P I` | [`Call::Move`] |
+/// | `count I` | [`Call::Count`] |
+/// | `join P P` | [`Call::Join`] |
+/// | `subreaper P on`, `subreaper P off` | [`Call::SetSubreaper`] |
+///
+/// `P` is a `u32`, `S` a `u8`, `I` a `u64` and `G` an `i32`. The cost is linear in the line.
+pub fn parse_line(line: &[u8]) -> Line
+    ensures value { result ≡ parsed line.now }
+    ensures table { Says result line.now }
+{
+    if line.is_empty() {
+        return Line::Empty;
+    }
+    let call = split_at_first(line, b' ').and_then(|(command, words)| read_command(command, words));
+    match call {
+        Some(call) => Line::Call(call),
+        None => Line::Bad,
+    }
+}
+
+#[cfg(test)]
+mod tests {
+    use super::*;
+
+    #[test]
+    fn reads_each_command(rt: HostRuntime) {
+        let lines: [(&[u8], Call); 27] = [
+            (
+                b"fork 5",
+                Call::Fork {
+                    caller: 5,
+                    new_space: false,
+                },
+            ),
+            (
+                b"fork 4294967295 new",
+                Call::Fork {
+                    caller: 4_294_967_295,
+                    new_space: true,
+                },
+            ),
+            (b"exec 0", Call::Exec { caller: 0 }),
+            (
+                b"exit 2 255",
+                Call::Exit {
+                    caller: 2,
+                    status: 255,
+                },
+            ),
+            (
+                b"wait 1 any",
+                Call::Wait {
+                    caller: 1,
+                    which: Which::Any,
+                },
+            ),
+            (
+                b"wait 1 pid 7",
+                Call::Wait {
+                    caller: 1,
+                    which: Which::Pid(7),
+                },
+            ),
+            (
+                b"wait 1 own",
+                Call::Wait {
+                    caller: 1,
+                    which: Which::OwnGroup,
+                },
+            ),
+            (
+                b"wait 1 group 9",
+                Call::Wait {
+                    caller: 1,
+                    which: Which::Group(9),
+                },
+            ),
+            (
+                b"setpgid 2 99 -1",
+                Call::SetPgid {
+                    caller: 2,
+                    pid: 99,
+                    pgid: -1,
+                },
+            ),
+            (
+                b"setpgid 2 -2147483648 2147483647",
+                Call::SetPgid {
+                    caller: 2,
+                    pid: -2_147_483_648,
+                    pgid: 2_147_483_647,
+                },
+            ),
+            (b"setsid 3", Call::SetSid { caller: 3 }),
+            (b"getpid 1", Call::GetPid { caller: 1 }),
+            (b"getppid 1", Call::GetPpid { caller: 1 }),
+            (b"getpgid 2 4", Call::GetPgid { caller: 2, pid: 4 }),
+            (b"getsid 1 3", Call::GetSid { caller: 1, pid: 3 }),
+            (
+                b"nspid 1 33",
+                Call::NsPid {
+                    caller: 1,
+                    target: 33,
+                },
+            ),
+            (
+                b"next 1 task 2",
+                Call::Next {
+                    caller: 1,
+                    kind: Kind::Task,
+                    from: 2,
+                },
+            ),
+            (
+                b"next 1 group 2",
+                Call::Next {
+                    caller: 1,
+                    kind: Kind::Group,
+                    from: 2,
+                },
+            ),
+            (
+                b"next 1 session 2",
+                Call::Next {
+                    caller: 1,
+                    kind: Kind::Session,
+                    from: 2,
+                },
+            ),
+            (
+                b"mk 18446744073709551615",
+                Call::MakeControl {
+                    parent: 18_446_744_073_709_551_615,
+                },
+            ),
+            (b"rm 0", Call::RemoveControl { id: 0 }),
+            (
+                b"limit 4 4194305",
+                Call::SetLimit {
+                    id: 4,
+                    limit: Some(4_194_305),
+                },
+            ),
+            (b"limit 4 max", Call::SetLimit { id: 4, limit: None }),
+            (b"move 9 8", Call::Move { task: 9, id: 8 }),
+            (b"count 1", Call::Count { id: 1 }),
+            (
+                b"join 2 3",
+                Call::Join {
+                    caller: 2,
+                    target: 3,
+                },
+            ),
+            (
+                b"subreaper 2 off",
+                Call::SetSubreaper {
+                    caller: 2,
+                    on: false,
+                },
+            ),
+        ];
+        for (line, call) in lines {
+            assert_eq!(rt; parse_line(line), Line::Call(call));
+        }
+        assert_eq!(rt; parse_line(b""), Line::Empty);
+    }
+
+    #[test]
+    fn refuses_other_forms(rt: HostRuntime) {
+        let lines: [&[u8]; 21] = [
+            b"fork",
+            b"fork ",
+            b" fork 1",
+            b"fork 1 ",
+            b"fork  1",
+            b"fork 01",
+            b"fork +1",
+            b"fork 4294967296",
+            b"fork 1\r",
+            b"fo\0rk 1",
+            b"fork 1 newer",
+            b"Fork 1",
+            b"exit 2 256",
+            b"setpgid 2 -0 0",
+            b"setpgid 2 0 2147483648",
+            b"setpgid 2 -2147483649 0",
+            b"setpgid -2 0 0",
+            b"mk 18446744073709551616",
+            b"limit 4 -1",
+            b"subreaper 2 no",
+            &[b'a'; 201],
+        ];
+        for line in lines {
+            assert_eq!(rt; parse_line(line), Line::Bad, "{line:?}");
+        }
+    }
+}

@@ -1,0 +1,316 @@
+//! Snapshots to lists.
+ghost use Rattle.std.specs.Prelude.{◌≡◌, ◌++◌, ◌∷◌, [], OnOk, IfOk, codes, decimal};
+ghost use Rattle.std.specs.List.{flat_map};
+ghost use Rattle.pid_types.specs.Names.{root_number};
+ghost use Rattle.pid_script.specs.Lists.{field, marked, parent_text, limit_text, life_text, children_text, name_text, relatives_text, marks_text, task_line, space_line, control_line, list_of};
+
+use crate::answer::joined_numbers;
+use itoa::Buffer;
+use pid_types::plain::{ControlRow, Ended, Life, Name, Plain, Row, Space};
+use std::alloc::{AllocError, Global};
+
+fn push_number(text: &mut Vec<u8>, number: u64) -> Result<(), AllocError>
+    ensures { OnOk result (text.new.items ≡ text.old.items ++ decimal number) }
+{
+    let mut buffer = Buffer::new();
+    text.extend_from_slice(buffer.format(number).as_bytes())
+}
+
+fn push_field(text: &mut Vec<u8>, label: &[u8], number: u64) -> Result<(), AllocError>
+    ensures { OnOk result (text.new.items ≡ text.old.items ++ field label.now number) }
+{
+    text.extend_from_slice(label)?;
+    push_number(text, number)
+}
+
+fn push_mark(text: &mut Vec<u8>, holds: bool, word: &[u8]) -> Result<(), AllocError>
+    ensures { OnOk result (text.new.items ≡ text.old.items ++ marked holds word.now) }
+{
+    if holds {
+        text.extend_from_slice(word)?;
+    }
+    Ok(())
+}
+
+fn push_parent(text: &mut Vec<u8>, parent: Option<u64>) -> Result<(), AllocError>
+    ensures { OnOk result (text.new.items ≡ text.old.items ++ codes " parent " ++ parent_text parent) }
+{
+    match parent {
+        Some(id) => push_field(text, b" parent ", id),
+        None => text.extend_from_slice(b" parent -"),
+    }
+}
+
+fn push_limit(text: &mut Vec<u8>, limit: Option<u32>) -> Result<(), AllocError>
+    ensures { OnOk result (text.new.items ≡ text.old.items ++ codes " limit " ++ limit_text limit) }
+{
+    match limit {
+        Some(limit) => push_field(text, b" limit ", u64::from(limit)),
+        None => text.extend_from_slice(b" limit max"),
+    }
+}
+
+fn push_life(text: &mut Vec<u8>, life: Life) -> Result<(), AllocError>
+    ensures { OnOk result (text.new.items ≡ text.old.items ++ codes " " ++ life_text life) }
+{
+    match life {
+        Life::Live => text.extend_from_slice(b" live"),
+        Life::Zombie(Ended::Exited(status)) => push_field(text, b" exit ", u64::from(status)),
+        Life::Zombie(Ended::Killed) => text.extend_from_slice(b" killed"),
+    }
+}
+
+// The number in the root namespace, or 0 for a name without numbers.
+fn root_number(name: &Name) -> u64
+    ensures { result ≡ root_number name.now }
+{
+    match name.numbers.as_slice() {
+        [number, ..] => u64::from(*number),
+        [] => 0,
+    }
+}
+
+#[tactic(auto, unfolding(crate::specs::Lists::name_text))]
+fn push_name(text: &mut Vec<u8>, row: &Row) -> Result<(), AllocError>
+    ensures { OnOk result (text.new.items ≡ text.old.items ++ name_text row.now) }
+{
+    text.extend_from_slice(b"task ")?;
+    text.extend_from_slice(joined_numbers(&row.name.numbers, b',').as_slice())?;
+    push_field(text, b" space ", row.name.space)
+}
+
+#[tactic(auto, unfolding(crate::specs::Lists::relatives_text))]
+fn push_relatives(text: &mut Vec<u8>, row: &Row) -> Result<(), AllocError>
+    ensures { OnOk result (text.new.items ≡ text.old.items ++ relatives_text row.now) }
+{
+    let parent = match &row.parent {
+        Some(parent) => root_number(parent),
+        None => 0,
+    };
+    push_field(text, b" parent ", parent)?;
+    push_field(text, b" group ", root_number(&row.group))?;
+    push_field(text, b" session ", root_number(&row.session))?;
+    push_field(text, b" control ", row.home)
+}
+
+fn push_children(text: &mut Vec<u8>, row: &Row) -> Result<(), AllocError>
+    ensures { OnOk result (text.new.items ≡ text.old.items ++ children_text row.now) }
+{
+    if row.children_space == row.name.space {
+        return Ok(());
+    }
+    push_field(text, b" children ", row.children_space)
+}
+
+#[tactic(auto, unfolding(crate::specs::Lists::marks_text))]
+fn push_marks(text: &mut Vec<u8>, row: &Row) -> Result<(), AllocError>
+    ensures { OnOk result (text.new.items ≡ text.old.items ++ marks_text row.now) }
+{
+    push_life(text, row.life)?;
+    push_mark(text, row.executed, b" executed")?;
+    push_children(text, row)?;
+    push_mark(text, row.subreaper, b" subreaper")
+}
+
+fn push_task(text: &mut Vec<u8>, row: &Row) -> Result<(), AllocError>
+    ensures { OnOk result (text.new.items ≡ text.old.items ++ task_line row.now) }
+{
+    push_name(text, row)?;
+    push_relatives(text, row)?;
+    push_marks(text, row)?;
+    text.extend_from_slice(b"\n")
+}
+
+#[tactic(auto, unfolding(crate::specs::Lists::space_line))]
+fn push_space(text: &mut Vec<u8>, space: &Space) -> Result<(), AllocError>
+    ensures { OnOk result (text.new.items ≡ text.old.items ++ space_line space.now) }
+{
+    push_field(text, b"space ", space.id)?;
+    push_parent(text, space.parent)?;
+    push_field(text, b" cursor ", u64::from(space.cursor))?;
+    push_mark(text, space.fallen, b" fallen")?;
+    text.extend_from_slice(b"\n")
+}
+
+#[tactic(auto, unfolding(crate::specs::Lists::control_line))]
+fn push_control(text: &mut Vec<u8>, control: &ControlRow) -> Result<(), AllocError>
+    ensures { OnOk result (text.new.items ≡ text.old.items ++ control_line control.now) }
+{
+    push_field(text, b"control ", control.id)?;
+    push_parent(text, control.parent)?;
+    push_limit(text, control.limit)?;
+    push_field(text, b" count ", control.count)?;
+    text.extend_from_slice(b"\n")
+}
+
+/// Appends the lines of the tasks. After an `Err` the text has some of their bytes.
+pub fn push_tasks(text: &mut Vec<u8>, rows: &[Row]) -> Result<(), AllocError>
+    ensures { OnOk result (text.new.items ≡ text.old.items ++ flat_map task_line rows.now) }
+{
+    for row in rows {
+        push_task(text, row)?;
+    }
+    Ok(())
+}
+
+/// Appends the lines of the namespaces. After an `Err` the text has some of their bytes.
+pub fn push_spaces(text: &mut Vec<u8>, spaces: &[Space]) -> Result<(), AllocError>
+    ensures { OnOk result (text.new.items ≡ text.old.items ++ flat_map space_line spaces.now) }
+{
+    for space in spaces {
+        push_space(text, space)?;
+    }
+    Ok(())
+}
+
+/// Appends the lines of the control groups. After an `Err` the text has some of their bytes.
+pub fn push_controls(text: &mut Vec<u8>, controls: &[ControlRow]) -> Result<(), AllocError>
+    ensures { OnOk result (text.new.items ≡ text.old.items ++ flat_map control_line controls.now) }
+{
+    for control in controls {
+        push_control(text, control)?;
+    }
+    Ok(())
+}
+
+/// The list of a snapshot: one line for each task, then for each namespace, then for each control
+/// group, in the snapshot's order, each with its newline.
+///
+/// - `task NUMBERS space S parent P group G session T control C STATE`, the numbers root first with a
+///   comma between, and the root numbers of parent, group and session, 0 where there is none. The
+///   state is `live`, `exit S` or `killed`. Then, where they hold, ` executed`, ` children J` for
+///   another namespace than its own, and ` subreaper`.
+/// - `space ID parent P cursor K`, with `-` for the root's parent, then ` fallen` where it holds.
+/// - `control ID parent P limit L count N`, with `-` for the root's parent and `max` for no limit.
+///
+/// The only error is want of memory.
+pub fn list_text(alloc: Global, plain: &Plain) -> Result<Vec<u8>, AllocError>
+    ensures { IfOk result (λ text. text.items ≡ list_of plain.now) }
+{
+    let mut text = Vec::new(alloc);
+    push_tasks(&mut text, &plain.rows)?;
+    push_spaces(&mut text, &plain.spaces)?;
+    push_controls(&mut text, &plain.controls)?;
+    Ok(text)
+}
+
+#[cfg(test)]
+mod tests {
+    use super::*;
+    use arrayvec::ArrayVec;
+    use std::test::Fail;
+
+    fn name(space: u64, numbers: &[u32]) -> Name {
+        let mut all = ArrayVec::new();
+        for number in numbers {
+            let _ = all.try_push(*number);
+        }
+        Name {
+            space,
+            numbers: all,
+        }
+    }
+
+    fn task(of: Name, parent: Option<Name>) -> Row {
+        let space = of.space;
+        Row {
+            name: of,
+            parent,
+            group: name(0, &[1]),
+            session: name(0, &[1]),
+            executed: false,
+            life: Life::Live,
+            home: 0,
+            children_space: space,
+            subreaper: false,
+        }
+    }
+
+    #[test]
+    fn lists_nested_namespaces(rt: HostRuntime) -> Result<(), Fail> {
+        let alloc = rt.alloc();
+        let plain = Plain {
+            pid_max: 32768,
+            rows: vec![in alloc;
+                task(name(0, &[1]), None),
+                task(name(1, &[2, 1]), Some(name(0, &[1]))),
+                task(name(1, &[3, 2]), Some(name(1, &[2, 1]))),
+            ]?,
+            spaces: vec![in alloc;
+                Space {
+                    id: 0,
+                    parent: None,
+                    cursor: 4,
+                    fallen: false
+                },
+                Space {
+                    id: 1,
+                    parent: Some(0),
+                    cursor: 3,
+                    fallen: false
+                },
+            ]?,
+            controls: vec![in alloc;
+                ControlRow {
+                    id: 0,
+                    parent: None,
+                    limit: None,
+                    count: 3
+                },
+            ]?,
+        };
+        let text = list_text(alloc, &plain)?;
+        let lines: &[u8] = b"task 1 space 0 parent 0 group 1 session 1 control 0 live
+task 2,1 space 1 parent 1 group 1 session 1 control 0 live
+task 3,2 space 1 parent 2 group 1 session 1 control 0 live
+space 0 parent - cursor 4
+space 1 parent 0 cursor 3
+control 0 parent - limit max count 3
+";
+        assert_eq!(rt; text.as_slice(), lines);
+        Ok(())
+    }
+
+    #[test]
+    fn lists_marks(rt: HostRuntime) -> Result<(), Fail> {
+        let alloc = rt.alloc();
+        let mut row = task(name(0, &[2]), Some(name(0, &[1])));
+        row.group = name(0, &[]);
+        row.executed = true;
+        row.life = Life::Zombie(Ended::Exited(7));
+        row.home = 13;
+        row.children_space = 5;
+        row.subreaper = true;
+        let mut killed = task(name(0, &[5]), Some(name(0, &[2])));
+        killed.life = Life::Zombie(Ended::Killed);
+        let plain = Plain {
+            pid_max: 301,
+            rows: vec![in alloc; row, killed]?,
+            spaces: vec![in alloc;
+                Space {
+                    id: 2,
+                    parent: Some(0),
+                    cursor: 2,
+                    fallen: true
+                },
+            ]?,
+            controls: vec![in alloc;
+                ControlRow {
+                    id: 13,
+                    parent: Some(1),
+                    limit: Some(2),
+                    count: 18_446_744_073_709_551_615
+                },
+            ]?,
+        };
+        let text = list_text(alloc, &plain)?;
+        let lines: &[u8] =
+            b"task 2 space 0 parent 1 group 0 session 1 control 13 exit 7 executed children 5 subreaper
+task 5 space 0 parent 2 group 1 session 1 control 0 killed
+space 2 parent 0 cursor 2 fallen
+control 13 parent 1 limit 2 count 18446744073709551615
+";
+        assert_eq!(rt; text.as_slice(), lines);
+        Ok(())
+    }
+}

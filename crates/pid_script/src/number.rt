@@ -1,0 +1,58 @@
+//! Numbers as scripts write them: decimal digits without a leading zero.
+ghost use Rattle.std.specs.Prelude.{◌≡◌, ◌^◌, ◌↔◌, IsTrue};
+ghost use Rattle.pid_script.specs.Reading.{IsPlain, number_below, negative_of, signed_of};
+
+use std::str;
+
+// Whether the word begins with no plus sign and no leading zero, both of which std reads.
+fn is_plain(word: &[u8]) -> bool
+    ensures { IsTrue result ↔ IsPlain word.now }
+{
+    !matches!(word, [] | [b'+', ..] | [b'0', _, ..])
+}
+
+/// The number of a word, where it is one below 2^64.
+pub fn read_u64(word: &[u8]) -> Option<u64>
+    ensures { result ≡ number_below (2 ^ 64) word.now }
+{
+    if !is_plain(word) {
+        return None;
+    }
+    str::from_utf8(word).ok()?.parse().ok()
+}
+
+/// The number of a word, where it is one below 2^32.
+pub fn read_u32(word: &[u8]) -> Option<u32>
+    ensures { result ≡ number_below (2 ^ 32) word.now }
+{
+    u32::try_from(read_u64(word)?).ok()
+}
+
+/// The number of a word, where it is one below 2^8.
+pub fn read_u8(word: &[u8]) -> Option<u8>
+    ensures { result ≡ number_below (2 ^ 8) word.now }
+{
+    u8::try_from(read_u64(word)?).ok()
+}
+
+// The number with a minus sign before these digits, which are not those of 0.
+fn read_negative(digits: &[u8]) -> Option<i32>
+    ensures { result ≡ negative_of digits.now }
+{
+    let magnitude = read_u32(digits)?;
+    if magnitude == 0 {
+        return None;
+    }
+    0_i32.checked_sub_unsigned(magnitude)
+}
+
+/// The number of a word with its sign, where it is one of 32 bits. A minus sign stands directly before a
+/// number that is not 0.
+pub fn read_i32(word: &[u8]) -> Option<i32>
+    ensures { result ≡ signed_of word.now }
+{
+    match word {
+        [b'-', digits @ ..] => read_negative(digits),
+        _ => i32::try_from(read_u32(word)?).ok(),
+    }
+}

@@ -1,0 +1,79 @@
+//! Answers that wait to be written.
+ghost use Rattle.std.specs.Prelude.{◌≡◌, ◌<◌, ◌≤◌, ◌++◌, [], List, ℕ, length, OnOk, OnErr, IfErr};
+ghost use Rattle.std.specs.Io.KnownBytes.{Appends};
+ghost use Rattle.pid_script.specs.declared.tally.RunScriptFault.TheVariants.{Write};
+ghost use Rattle.pid_script.specs.Script.{with_newline};
+
+use crate::tally::RunScriptFault;
+use arrayvec::ArrayVec;
+use pid_types::device::Sink;
+use std::marker::Model;
+
+const ROOM: usize = 8192;
+
+// Writes all of the bytes.
+pub fn write_all<K: Sink>(sink: &mut K, bytes: &[u8]) -> Result<(), RunScriptFault>
+    ensures ok { OnOk result (Appends (K.contents sink.old) (K.contents sink.new) bytes.now) }
+    ensures err { OnErr result ((sent left : List ℕ) × Appends (K.contents sink.old) (K.contents sink.new) sent × (bytes.now ≡ sent ++ left) × (0 < length left)) }
+    ensures fault { IfErr result (λ e. e ≡ Write) }
+{
+    let mut left = bytes;
+    while !left.is_empty() {
+        match sink.write(left) {
+            Ok(0) | Err(_) => return Err(RunScriptFault::Write),
+            Ok(count) => left = &left[count..],
+        }
+    }
+    Ok(())
+}
+
+// Answers that wait to be written, so that a short answer does not cost a write of its own.
+#[derive(Drop)]
+pub struct Outbox {
+    held: ArrayVec<u8, ROOM>,
+}
+
+impl Model for Outbox {
+    ghost use Rattle.std.specs.Prelude.{List, ℕ};
+
+    ghost Value = { List ℕ };
+
+    ghost view = { λ a. a.held.items };
+}
+
+impl Outbox {
+    pub fn new() -> Outbox
+        ensures { result ≡ [] }
+    {
+        Outbox {
+            held: ArrayVec::new(),
+        }
+    }
+
+    // Writes what is held.
+    pub fn flush<K: Sink>(&mut self, sink: &mut K) -> Result<(), RunScriptFault>
+        ensures ok { OnOk result (Appends (K.contents sink.old) (K.contents sink.new) self.old) }
+        ensures empty { OnOk result (self.new ≡ []) }
+        ensures err { OnErr result ((sent left : List ℕ) × Appends (K.contents sink.old) (K.contents sink.new) sent × (self.old ≡ sent ++ left) × (0 < length left)) }
+        ensures fault { IfErr result (λ e. e ≡ Write) }
+    {
+        write_all(sink, self.held.as_slice())?;
+        self.held.clear();
+        Ok(())
+    }
+
+    // Holds the line and its newline, and makes room for them first.
+    pub fn push_line<K: Sink>(&mut self, sink: &mut K, line: &[u8]) -> Result<(), RunScriptFault>
+        requires { length line.now < 8192 }
+        ensures ok { OnOk result ((sent : List ℕ) × Appends (K.contents sink.old) (K.contents sink.new) sent × (self.old ++ with_newline line.now ≡ sent ++ self.new)) }
+        ensures err { OnErr result ((sent left : List ℕ) × Appends (K.contents sink.old) (K.contents sink.new) sent × (self.old ++ with_newline line.now ≡ sent ++ left) × (0 < length left)) }
+        ensures fault { IfErr result (λ e. e ≡ Write) }
+    {
+        if self.held.remaining_capacity() <= line.len() {
+            self.flush(sink)?;
+        }
+        self.held.try_extend_from_slice(line).unwrap();
+        self.held.push(b'\n');
+        Ok(())
+    }
+}

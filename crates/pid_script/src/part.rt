@@ -1,0 +1,110 @@
+//! Lines that come in parts.
+ghost use Rattle.std.specs.Prelude.{◌≡◌, ◌↔◌, Some, [], ◌++◌, List, ℕ, IsTrue};
+ghost use Rattle.pid_script.specs.Reading.{parsed};
+ghost use Rattle.pid_script.specs.Script.{kept_of, kept_more, said_by};
+
+use crate::line::{Line, parse_line};
+use arrayvec::ArrayVec;
+use std::marker::Model;
+
+/// The length of the longest line that is kept, without its newline. No call is written longer, so
+/// a longer line is bad, and only that is remembered of it.
+pub const LONGEST_LINE: usize = 200;
+
+/// What has come so far of a line that has not ended.
+#[derive(Drop)]
+pub struct PartLine {
+    kept: ArrayVec<u8, LONGEST_LINE>,
+    is_long: bool,
+}
+
+impl Model for PartLine {
+    ghost use Rattle.std.specs.Prelude.{Option, Some, None, List, ℕ, if◌then◌else◌};
+
+    ghost Value = { Option (List ℕ) };
+
+    ghost view = { λ p. if p.is_long then None else Some p.kept.items };
+}
+
+impl PartLine {
+    /// A line of which nothing has come.
+    pub fn new() -> PartLine
+        ensures { result ≡ Some [] }
+    {
+        PartLine {
+            kept: ArrayVec::new(),
+            is_long: false,
+        }
+    }
+
+    /// Whether nothing has come.
+    pub fn is_empty(&self) -> bool
+        ensures { IsTrue result ↔ (self.now ≡ Some []) }
+    {
+        !self.is_long && self.kept.is_empty()
+    }
+
+    /// Adds bytes that do not end the line.
+    pub fn push(&mut self, bytes: &[u8])
+        ensures value { self.new ≡ kept_more self.old bytes.now }
+        ensures kept { (part : List ℕ) → self.old ≡ kept_of part → self.new ≡ kept_of (part ++ bytes.now) }
+    {
+        if self.kept.remaining_capacity() < bytes.len() {
+            self.is_long = true;
+        } else {
+            self.kept.try_extend_from_slice(bytes).unwrap();
+        }
+    }
+
+    // What the line says if it ends here.
+    fn said(&self) -> Line
+        ensures { result ≡ said_by self.now }
+    {
+        if self.is_long {
+            return Line::Bad;
+        }
+        parse_line(self.kept.as_slice())
+    }
+
+    /// Ends the line with these bytes, and says what it says. The next line begins.
+    #[tactic(auto, using(crate::proofs::Kept::said_by_kept))]
+    pub fn finish(&mut self, end: &[u8]) -> Line
+        ensures value { result ≡ said_by (kept_more self.old end.now) }
+        ensures line { (part : List ℕ) → self.old ≡ kept_of part → result ≡ parsed (part ++ end.now) }
+        ensures next { self.new ≡ Some [] }
+    {
+        if self.is_empty() {
+            return parse_line(end);
+        }
+        self.push(end);
+        let line = self.said();
+        *self = PartLine::new();
+        line
+    }
+}
+
+#[cfg(test)]
+mod tests {
+    use super::*;
+    use pid_types::call::Call;
+
+    #[test]
+    fn joins_parts_and_forgets_long_lines(rt: HostRuntime) {
+        let mut part = PartLine::new();
+        assert!(rt; part.is_empty());
+        part.push(b"fo");
+        assert!(rt; !part.is_empty());
+        let fork = Call::Fork {
+            caller: 1,
+            new_space: false,
+        };
+        assert_eq!(rt; part.finish(b"rk 1"), Line::Call(fork));
+        assert!(rt; part.is_empty());
+        part.push(&[b'a'; 200]);
+        part.push(b"a");
+        part.push(b"fork 1");
+        assert_eq!(rt; part.finish(b""), Line::Bad);
+        assert_eq!(rt; part.finish(b"fork 1"), Line::Call(fork));
+        assert_eq!(rt; part.finish(b""), Line::Empty);
+    }
+}

@@ -1,0 +1,225 @@
+//! Scripts answered line by line.
+ghost use Rattle.std.specs.Prelude.{◌≡◌, ◌≢◌, Some, ◌+◌, ◌^◌, ◌<◌, ◌≤◌, ◌++◌, ◌∷◌, [], List, ℕ, length, OnOk, OnErr, IfOk, IfErr};
+ghost use Rattle.pid_types.specs.State.{State};
+ghost use Rattle.pid_script.specs.declared.tally.RunScriptFault.TheVariants.{NoMemory, Write};
+ghost use Rattle.pid_script.specs.Script.{begun, with_newline, said_within, kept_after, last_said};
+ghost use Rattle.pid_script.specs.Answers.{answer_of};
+ghost use Rattle.pid_script.specs.Session.{Acts, Leads, progress_of, Answers, StopsShort, IsCounted, Finishes, Leaves};
+
+use crate::answer::answer_text;
+use crate::bytes::split_at_first;
+use crate::line::Line;
+use crate::outbox::Outbox;
+use crate::part::PartLine;
+use crate::tally::{RunScriptFault, Tally};
+use pid_types::call::Call;
+use pid_types::device::{Sink, Source};
+use pid_types::entry::Receipt;
+use pid_types::reply::CallFault;
+
+// The most bytes that a read asks for.
+const CHUNK: usize = 4096;
+
+/// A table that answers one call after another.
+pub trait Table {
+    // Its plain state.
+    ghost state: { Self → State };
+    // The stamp of the next call.
+    ghost stamp: { Self → ℕ };
+
+    /// Makes the call. After a fault the table is as it was.
+    fn act(&mut self, call: Call) -> Result<Receipt, CallFault>
+        ensures { Acts (state self.old) (stamp self.old) call result (state self.new) (stamp self.new) };
+}
+
+// A script on its way: the line that has not ended, the answers that are not written, and the counts.
+#[derive(Drop)]
+pub struct Session {
+    pub part: PartLine,
+    pub outbox: Outbox,
+    pub tally: Tally,
+}
+
+// Makes a call, and counts it.
+fn make_call<T: Table>(table: &mut T, tally: &mut Tally, call: Call) -> Result<Receipt, CallFault>
+    requires counted { IsCounted tally.old }
+    requires room { tally.old.lines + 1 < 2 ^ 64 }
+    ensures leads { Leads (T.state table.old) (T.stamp table.old) tally.old (Line.Call call) (with_newline (answer_of result))
+        (T.state table.new) (T.stamp table.new) tally.new }
+    ensures counted { IsCounted tally.new }
+    ensures lines { tally.new.lines ≡ tally.old.lines + 1 }
+{
+    let answer = table.act(call);
+    tally.lines += 1;
+    if answer.is_ok() {
+        tally.recorded += 1;
+    }
+    answer
+}
+
+// Answers a line.
+fn answer_line<T: Table, K: Sink>(
+    session: &mut Session,
+    table: &mut T,
+    sink: &mut K,
+    line: Line,
+) -> Result<(), RunScriptFault>
+    requires counted { IsCounted session.old.tally }
+    requires room { session.old.tally.lines + 1 < 2 ^ 64 }
+    ensures ok { OnOk result (Answers (progress_of (T.state table.old) (T.stamp table.old) session.old.tally session.old.outbox)
+        (progress_of (T.state table.new) (T.stamp table.new) session.new.tally session.new.outbox)
+        (K.contents sink.old) (K.contents sink.new) (line ∷ [])) }
+    ensures err { OnErr result (StopsShort (progress_of (T.state table.old) (T.stamp table.old) session.old.tally session.old.outbox)
+        (K.contents sink.old) (K.contents sink.new) (line ∷ [])) }
+    ensures fault { IfErr result (λ e. e ≡ Write) }
+    ensures part { session.new.part ≡ session.old.part }
+    ensures counted { IsCounted session.new.tally }
+    ensures lines { session.new.tally.lines ≡ session.old.tally.lines + 1 }
+{
+    match line {
+        Line::Empty => {
+            session.tally.lines += 1;
+            Ok(())
+        }
+        Line::Call(call) => {
+            let answer = make_call(table, &mut session.tally, call);
+            let text = answer_text(&answer);
+            session.outbox.push_line(sink, text.as_slice())
+        }
+        Line::Bad => {
+            session.tally.lines += 1;
+            session.tally.bad += 1;
+            session.outbox.push_line(sink, b"bad line")
+        }
+    }
+}
+
+// Answers the lines that end within the chunk.
+fn answer_chunk<T: Table, K: Sink>(
+    session: &mut Session,
+    table: &mut T,
+    sink: &mut K,
+    chunk: &[u8],
+) -> Result<(), RunScriptFault>
+    requires counted { IsCounted session.old.tally }
+    requires room { session.old.tally.lines + length chunk.now < 2 ^ 64 }
+    ensures ok { OnOk result (Answers (progress_of (T.state table.old) (T.stamp table.old) session.old.tally session.old.outbox)
+        (progress_of (T.state table.new) (T.stamp table.new) session.new.tally session.new.outbox)
+        (K.contents sink.old) (K.contents sink.new) (said_within session.old.part chunk.now)) }
+    ensures part { OnOk result (session.new.part ≡ kept_after session.old.part chunk.now) }
+    ensures err { OnErr result (StopsShort (progress_of (T.state table.old) (T.stamp table.old) session.old.tally session.old.outbox)
+        (K.contents sink.old) (K.contents sink.new) (said_within session.old.part chunk.now)) }
+    ensures fault { IfErr result (λ e. e ≡ Write) }
+    ensures counted { IsCounted session.new.tally }
+    ensures lines { session.new.tally.lines ≤ session.old.tally.lines + length chunk.now }
+{
+    let mut rest = chunk;
+    while let Some((end, after)) = split_at_first(rest, b'\n') {
+        let line = session.part.finish(end);
+        answer_line(session, table, sink, line)?;
+        rest = after;
+    }
+    session.part.push(rest);
+    Ok(())
+}
+
+// Answers the last line, if it has no newline.
+fn answer_last<T: Table, K: Sink>(
+    session: &mut Session,
+    table: &mut T,
+    sink: &mut K,
+) -> Result<(), RunScriptFault>
+    requires counted { IsCounted session.old.tally }
+    requires room { session.old.tally.lines + 1 < 2 ^ 64 }
+    ensures ok { OnOk result (Answers (progress_of (T.state table.old) (T.stamp table.old) session.old.tally session.old.outbox)
+        (progress_of (T.state table.new) (T.stamp table.new) session.new.tally session.new.outbox)
+        (K.contents sink.old) (K.contents sink.new) (last_said session.old.part)) }
+    ensures err { OnErr result (StopsShort (progress_of (T.state table.old) (T.stamp table.old) session.old.tally session.old.outbox)
+        (K.contents sink.old) (K.contents sink.new) (last_said session.old.part)) }
+    ensures fault { IfErr result (λ e. e ≡ Write) }
+{
+    if session.part.is_empty() {
+        return Ok(());
+    }
+    let line = session.part.finish(b"");
+    answer_line(session, table, sink, line)
+}
+
+// Answers what is left of a script that has ended, and writes all answers.
+fn finish<T: Table, K: Sink>(
+    session: &mut Session,
+    table: &mut T,
+    sink: &mut K,
+) -> Result<(), RunScriptFault>
+    requires counted { IsCounted session.old.tally }
+    requires room { session.old.tally.lines + 1 < 2 ^ 64 }
+    ensures ok { OnOk result (Answers (progress_of (T.state table.old) (T.stamp table.old) session.old.tally session.old.outbox)
+        (progress_of (T.state table.new) (T.stamp table.new) session.new.tally [])
+        (K.contents sink.old) (K.contents sink.new) (last_said session.old.part)) }
+    ensures err { OnErr result (StopsShort (progress_of (T.state table.old) (T.stamp table.old) session.old.tally session.old.outbox)
+        (K.contents sink.old) (K.contents sink.new) (last_said session.old.part)) }
+    ensures fault { IfErr result (λ e. e ≡ Write) }
+{
+    answer_last(session, table, sink)?;
+    session.outbox.flush(sink)
+}
+
+impl Session {
+    // Nothing has come, nothing waits, nothing was counted.
+    fn new() -> Session
+        ensures part { result.part ≡ Some [] }
+        ensures outbox { result.outbox ≡ [] }
+        ensures tally { result.tally ≡ record { lines = 0; recorded = 0; bad = 0 } }
+    {
+        Session {
+            part: PartLine::new(),
+            outbox: Outbox::new(),
+            tally: Tally {
+                lines: 0,
+                recorded: 0,
+                bad: 0,
+            },
+        }
+    }
+}
+
+/// Reads a script to its end, and writes the answer to each line.
+///
+/// A line ends at a newline; what follows the last newline is a line if it has a byte. An empty line
+/// is answered with nothing, a call with [`answer_text`], and each other line, also one of more than
+/// [`crate::part::LONGEST_LINE`] bytes, with `bad line`. The answers of all lines that have ended are
+/// written before the next read. A read asks for at most 4096 bytes, and there are at most `turns`.
+///
+/// `Read` comes where the source has failed, `Write` where the sink has failed or took nothing of a
+/// write, and `TooManyTurns` where the source did not end within the bound on reads; what is written
+/// then is the meaning of the lines that had ended, and for `Write` the front of it. Nothing is read
+/// or written after a fault. `NoMemory` does not come.
+pub fn run_script<T: Table, S: Source, K: Sink>(
+    table: &mut T,
+    source: &mut S,
+    sink: &mut K,
+    turns: u32,
+) -> Result<Tally, RunScriptFault>
+    ensures ok { IfOk result (λ tally. (text : List ℕ) × Finishes (begun (T.state table.old) (T.stamp table.old))
+        (progress_of (T.state table.new) (T.stamp table.new) tally text)
+        (S.remaining source.old) (S.remaining source.new) (K.contents sink.old) (K.contents sink.new)) }
+    ensures err { IfErr result (Leaves turns (begun (T.state table.old) (T.stamp table.old))
+        (S.remaining source.old) (S.remaining source.new) (K.contents sink.old) (K.contents sink.new) (S.has_failed source.new)) }
+    ensures made { IfErr result (λ e. e ≢ NoMemory) }
+{
+    let mut session = Session::new();
+    let mut chunk = [0_u8; CHUNK];
+    for _turn in 0..turns {
+        let count = match source.read(&mut chunk) {
+            Ok(count) => count,
+            Err(_) => return Err(RunScriptFault::Read),
+        };
+        if count == 0 {
+            finish(&mut session, table, sink)?;
+            return Ok(session.tally);
+        }
+        answer_chunk(&mut session, table, sink, &chunk[..count])?;
+        session.outbox.flush(sink)?;
+    }
+    Err(RunScriptFault::TooManyTurns)
+}

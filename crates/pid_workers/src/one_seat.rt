@@ -1,0 +1,48 @@
+//! A record for one worker, as a table that answers one call after another.
+ghost use Rattle.std.specs.Prelude.{◌≡◌, [], IfOk};
+ghost use Rattle.locked_table.specs.Chronicle.{next_stamp};
+ghost use Rattle.pid_types.specs.State.{root_state};
+
+use locked_table::{Receipt, Record, Seat};
+use pid_script::session::Table;
+use pid_types::call::Call;
+use pid_types::config::Config;
+use pid_types::reply::CallFault;
+use std::alloc::{AllocError, Global};
+use std::sync::ledger::{Blank, Ledger};
+
+// A record and its one seat.
+#[derive(Drop)]
+pub struct OneSeat<L: Ledger> {
+    pub record: Record<L, 1>,
+    pub seat: Seat<L, 1>,
+}
+
+impl<L: Ledger> OneSeat<L> {
+    // The table with the root init alone.
+    pub fn new(alloc: Global, blank: Blank, config: &Config) -> Result<OneSeat<L>, AllocError>
+        requires name { blank.name ≡ L.name }
+        requires parts { (blank.parts ≡ L.parts) × (L.parts ≡ 1) }
+        ensures present { IfOk result (λ t. t.record.present ≡ root_state config.now.pid_max) }
+        ensures stamp { IfOk result (λ t. next_stamp t.record ≡ config.now.first_stamp) }
+    {
+        let (record, seats) = Record::<L, 1>::new(alloc, blank, config)?;
+        let mut seats = seats;
+        let Some(seat) = seats.pop() else {
+            unreachable!()
+        };
+        Ok(OneSeat { record, seat })
+    }
+}
+
+impl<L: Ledger> Table for OneSeat<L> {
+    ghost use Rattle.locked_table.specs.Chronicle.{next_stamp};
+
+    ghost state = { λ t. t.record.present };
+
+    ghost stamp = { λ t. next_stamp t.record };
+
+    fn act(&mut self, call: Call) -> Result<Receipt, CallFault> {
+        self.record.act(&mut self.seat, call)
+    }
+}

@@ -1,0 +1,111 @@
+//! Scripts run on a table of their own.
+ghost use Rattle.std.specs.Prelude.{◌≡◌, ℕ, List, IfOk, IfErr};
+ghost use Rattle.locked_table.specs.Chronicle.{next_stamp};
+ghost use Rattle.pid_types.specs.State.{State};
+ghost use Rattle.pid_script.specs.Script.{start_of};
+ghost use Rattle.pid_script.specs.Session.{progress_of, Finishes, Leaves};
+
+use crate::one_seat::OneSeat;
+use locked_table::Record;
+use pid_script::session::run_script;
+use pid_script::tally::{RunScriptFault, Tally};
+use pid_types::config::Config;
+use pid_types::device::{Sink, Source};
+use std::alloc::Global;
+use std::sync::ledger::{Blank, Ledger};
+
+/// The most reads of one [`run`].
+pub const MOST_READS: u32 = 1_000_000_000;
+
+// Runs a script on a new table, and hands back the table.
+fn run_table<L: Ledger, S: Source, K: Sink>(
+    alloc: Global,
+    blank: Blank,
+    source: &mut S,
+    sink: &mut K,
+    config: &Config,
+    turns: u32,
+) -> Result<(Tally, OneSeat<L>), RunScriptFault>
+    requires name { blank.name ≡ L.name }
+    requires parts { (blank.parts ≡ L.parts) × (L.parts ≡ 1) }
+    ensures ok { IfOk result (λ r. (text : List ℕ) × Finishes (start_of config.now)
+        (progress_of r.1.record.present (next_stamp r.1.record) r.0 text)
+        (S.remaining source.old) (S.remaining source.new) (K.contents sink.old) (K.contents sink.new)) }
+    ensures err { IfErr result (Leaves turns (start_of config.now)
+        (S.remaining source.old) (S.remaining source.new) (K.contents sink.old) (K.contents sink.new) (S.has_failed source.new)) }
+{
+    let mut table = match OneSeat::<L>::new(alloc, blank, config) {
+        Ok(table) => table,
+        Err(_) => return Err(RunScriptFault::NoMemory),
+    };
+    let tally = run_script(&mut table, source, sink, turns)?;
+    Ok((tally, table))
+}
+
+/// Runs a script on a new table: reads the source to its end, and writes the answer to each line to
+/// the sink, as [`run_script`] says. There are at most `turns` reads.
+///
+/// `NoMemory` comes where no table could be made, and then nothing is read or written. A call that
+/// finds no memory later is answered `no memory`, and the script goes on.
+pub fn run_limited<L: Ledger, S: Source, K: Sink>(
+    alloc: Global,
+    blank: Blank,
+    source: &mut S,
+    sink: &mut K,
+    config: &Config,
+    turns: u32,
+) -> Result<Tally, RunScriptFault>
+    requires name { blank.name ≡ L.name }
+    requires parts { (blank.parts ≡ L.parts) × (L.parts ≡ 1) }
+    ensures ok { IfOk result (λ tally. (present : State) × (stamp : ℕ) × (text : List ℕ) × Finishes (start_of config.now)
+        (progress_of present stamp tally text)
+        (S.remaining source.old) (S.remaining source.new) (K.contents sink.old) (K.contents sink.new)) }
+    ensures err { IfErr result (Leaves turns (start_of config.now)
+        (S.remaining source.old) (S.remaining source.new) (K.contents sink.old) (K.contents sink.new) (S.has_failed source.new)) }
+{
+    let (tally, _table) = run_table::<L, S, K>(alloc, blank, source, sink, config, turns)?;
+    Ok(tally)
+}
+
+/// The same with at most [`MOST_READS`] reads.
+pub fn run<L: Ledger, S: Source, K: Sink>(
+    alloc: Global,
+    blank: Blank,
+    source: &mut S,
+    sink: &mut K,
+    config: &Config,
+) -> Result<Tally, RunScriptFault>
+    requires name { blank.name ≡ L.name }
+    requires parts { (blank.parts ≡ L.parts) × (L.parts ≡ 1) }
+    ensures ok { IfOk result (λ tally. (present : State) × (stamp : ℕ) × (text : List ℕ) × Finishes (start_of config.now)
+        (progress_of present stamp tally text)
+        (S.remaining source.old) (S.remaining source.new) (K.contents sink.old) (K.contents sink.new)) }
+    ensures err { IfErr result (Leaves MOST_READS (start_of config.now)
+        (S.remaining source.old) (S.remaining source.new) (K.contents sink.old) (K.contents sink.new) (S.has_failed source.new)) }
+{
+    run_limited::<L, S, K>(alloc, blank, source, sink, config, MOST_READS)
+}
+
+/// The same, and hands back the record that the lines leave.
+pub fn run_state<L: Ledger, S: Source, K: Sink>(
+    alloc: Global,
+    blank: Blank,
+    source: &mut S,
+    sink: &mut K,
+    config: &Config,
+) -> Result<(Tally, Record<L, 1>), RunScriptFault>
+    requires name { blank.name ≡ L.name }
+    requires parts { (blank.parts ≡ L.parts) × (L.parts ≡ 1) }
+    ensures ok { IfOk result (λ r. (text : List ℕ) × Finishes (start_of config.now)
+        (progress_of r.1.present (next_stamp r.1) r.0 text)
+        (S.remaining source.old) (S.remaining source.new) (K.contents sink.old) (K.contents sink.new)) }
+    ensures err { IfErr result (Leaves MOST_READS (start_of config.now)
+        (S.remaining source.old) (S.remaining source.new) (K.contents sink.old) (K.contents sink.new) (S.has_failed source.new)) }
+{
+    let (tally, table) = run_table::<L, S, K>(alloc, blank, source, sink, config, MOST_READS)?;
+    let OneSeat {
+        record,
+        seat: _seat,
+    } = table;
+    Ok((tally, record))
+}
