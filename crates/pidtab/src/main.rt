@@ -8,21 +8,17 @@ mod words;
 
 use crate::fault::fault_line;
 use crate::serve::serve;
-use crate::words::{WordsFault, read_words};
+use crate::words::{Command, WordsFault, read_words};
 use pid_workers::RunScriptFault;
 use std::env;
+use std::io::ErrorKind;
 use std::marker::Brand;
 use std::process::ExitCode;
+use std::rt::Env;
 use std::sync::ledger::Blank;
 
 fn main(rt: HostRuntime) -> ExitCode {
-    let words: Vec<String> = match env::args(&rt).and_then(|words| Ok(
-        words.skip(1).collect(rt.alloc())?,
-    )) {
-        Ok(words) => words,
-        Err(_) => return usage(&rt),
-    };
-    let command = match read_words(rt.alloc(), words.as_slice()) {
+    let command = match given_command(&rt) {
         Ok(command) => command,
         Err(WordsFault::Usage) => return usage(&rt),
         Err(WordsFault::NoMemory) => return fail(&rt, RunScriptFault::NoMemory),
@@ -31,6 +27,16 @@ fn main(rt: HostRuntime) -> ExitCode {
         Ok(()) => ExitCode::SUCCESS,
         Err(fault) => fail(&rt, fault),
     }
+}
+
+/// The command of the program's words, which must be UTF-8.
+fn given_command<R: Env + AllocGlobal>(rt: &R) -> Result<Command, WordsFault> {
+    let words: Vec<String> = match env::args(rt) {
+        Ok(words) => words.skip(1).collect(rt.alloc())?,
+        Err(error) if error.kind() == ErrorKind::OutOfMemory => return Err(WordsFault::NoMemory),
+        Err(_) => return Err(WordsFault::Usage),
+    };
+    read_words(rt.alloc(), words.as_slice())
 }
 
 /// Says how the program is called. The status is 2.
