@@ -10,3 +10,4 @@ pub mod Progress
 pub mod Within
 pub mod Said
 pub mod Ends
+pub mod Jobs

@@ -4,3 +4,4 @@ pub mod Answers
 pub mod Script
 pub mod Lists
 pub mod Session
+pub mod Job

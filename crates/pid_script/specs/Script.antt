@@ -1,5 +1,5 @@
 -- What a script comes to.
-use Rattle.std.specs.Prelude.{ℕ, ◌+◌, ◌-◌, ◌^◌, Bool, true, false, List, [], ◌∷◌, ◌++◌, length, map, fold, codes, Option, Some, None, if◌then◌else◌, ◌==◌, nat_le}
+use Rattle.std.specs.Prelude.{ℕ, ◌+◌, ◌-◌, ◌^◌, Bool, true, false, List, [], ◌∷◌, ◌++◌, length, map, fold, codes, Option, Some, None, if◌then◌else◌, ◌==◌, nat_le, IsTrue, ◌⊎◌}
 use Rattle.std.specs.List.{onto_first}
 use Rattle.pid_types.specs.declared.call.Call.{Call}
 use Rattle.pid_types.specs.declared.reply.CallFault.TheVariants.{NoMemory, Spent}
@@ -67,6 +67,10 @@ abbrev pub last_said : Option (List ℕ) → List Line
 last_said None = says.Bad ∷ []
 last_said (Some []) = []
 last_said (Some (b ∷ bs)) = parsed (b ∷ bs) ∷ []
+
+-- why a sink takes no more: a write has failed, or has taken nothing
+abbrev pub HasStopped : Bool → Bool → Type 0
+HasStopped failed full = IsTrue failed ⊎ IsTrue full
 
 -- how far a script has come: the table's state and the stamp of its next call, the answers, each with its newline, and how many
 -- lines there were, how many calls were recorded and how many lines were bad

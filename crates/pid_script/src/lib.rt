@@ -3,6 +3,7 @@
 
 pub mod answer;
 mod bytes;
+pub mod job;
 pub mod laws;
 pub mod line;
 pub mod list;

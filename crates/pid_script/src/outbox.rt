@@ -2,7 +2,7 @@
 ghost use Rattle.std.specs.Prelude.{◌≡◌, ◌<◌, ◌≤◌, ◌++◌, [], List, ℕ, length, OnOk, OnErr, IfErr};
 ghost use Rattle.std.specs.Io.KnownBytes.{Appends};
 ghost use Rattle.pid_script.specs.declared.tally.RunScriptFault.TheVariants.{Write};
-ghost use Rattle.pid_script.specs.Script.{with_newline};
+ghost use Rattle.pid_script.specs.Script.{with_newline, HasStopped};
 
 use crate::tally::RunScriptFault;
 use arrayvec::ArrayVec;
@@ -16,6 +16,7 @@ pub fn write_all<K: Sink>(sink: &mut K, bytes: &[u8]) -> Result<(), RunScriptFau
     ensures ok { OnOk result (Appends (K.contents sink.old) (K.contents sink.new) bytes.now) }
     ensures err { OnErr result ((sent left : List ℕ) × Appends (K.contents sink.old) (K.contents sink.new) sent × (bytes.now ≡ sent ++ left) × (0 < length left)) }
     ensures fault { IfErr result (λ e. e ≡ Write) }
+    ensures stopped { OnErr result (HasStopped (K.has_failed sink.new) (K.is_full sink.new)) }
 {
     let mut left = bytes;
     while !left.is_empty() {
@@ -56,6 +57,7 @@ impl Outbox {
         ensures empty { OnOk result (self.new ≡ []) }
         ensures err { OnErr result ((sent left : List ℕ) × Appends (K.contents sink.old) (K.contents sink.new) sent × (self.old ≡ sent ++ left) × (0 < length left)) }
         ensures fault { IfErr result (λ e. e ≡ Write) }
+        ensures stopped { OnErr result (HasStopped (K.has_failed sink.new) (K.is_full sink.new)) }
     {
         write_all(sink, self.held.as_slice())?;
         self.held.clear();
@@ -68,6 +70,7 @@ impl Outbox {
         ensures ok { OnOk result ((sent : List ℕ) × Appends (K.contents sink.old) (K.contents sink.new) sent × (self.old ++ with_newline line.now ≡ sent ++ self.new)) }
         ensures err { OnErr result ((sent left : List ℕ) × Appends (K.contents sink.old) (K.contents sink.new) sent × (self.old ++ with_newline line.now ≡ sent ++ left) × (0 < length left)) }
         ensures fault { IfErr result (λ e. e ≡ Write) }
+        ensures stopped { OnErr result (HasStopped (K.has_failed sink.new) (K.is_full sink.new)) }
     {
         if self.held.remaining_capacity() <= line.len() {
             self.flush(sink)?;

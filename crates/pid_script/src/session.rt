@@ -1,8 +1,8 @@
 //! Scripts answered line by line.
-ghost use Rattle.std.specs.Prelude.{◌≡◌, ◌≢◌, Some, ◌+◌, ◌^◌, ◌<◌, ◌≤◌, ◌++◌, ◌∷◌, [], List, ℕ, length, OnOk, OnErr, IfOk, IfErr};
+ghost use Rattle.std.specs.Prelude.{◌≡◌, ◌≢◌, Some, ◌+◌, ◌^◌, ◌<◌, ◌≤◌, ◌++◌, ◌∷◌, [], List, ℕ, length, OnOk, OnErr, IfOk, IfErr, Err};
 ghost use Rattle.pid_types.specs.State.{State};
 ghost use Rattle.pid_script.specs.declared.tally.RunScriptFault.TheVariants.{NoMemory, Write};
-ghost use Rattle.pid_script.specs.Script.{begun, with_newline, said_within, kept_after, last_said};
+ghost use Rattle.pid_script.specs.Script.{begun, with_newline, HasStopped, said_within, kept_after, last_said};
 ghost use Rattle.pid_script.specs.Answers.{answer_of};
 ghost use Rattle.pid_script.specs.Session.{Acts, Leads, progress_of, Answers, StopsShort, IsCounted, Finishes, Leaves};
 
@@ -18,7 +18,7 @@ use pid_types::entry::Receipt;
 use pid_types::reply::CallFault;
 
 // The most bytes that a read asks for.
-const CHUNK: usize = 4096;
+pub const CHUNK: usize = 4096;
 
 /// A table that answers one call after another.
 pub trait Table {
@@ -72,6 +72,7 @@ fn answer_line<T: Table, K: Sink>(
     ensures err { OnErr result (StopsShort (progress_of (T.state table.old) (T.stamp table.old) session.old.tally session.old.outbox)
         (K.contents sink.old) (K.contents sink.new) (line ∷ [])) }
     ensures fault { IfErr result (λ e. e ≡ Write) }
+    ensures stopped { OnErr result (HasStopped (K.has_failed sink.new) (K.is_full sink.new)) }
     ensures part { session.new.part ≡ session.old.part }
     ensures counted { IsCounted session.new.tally }
     ensures lines { session.new.tally.lines ≡ session.old.tally.lines + 1 }
@@ -110,6 +111,7 @@ fn answer_chunk<T: Table, K: Sink>(
     ensures err { OnErr result (StopsShort (progress_of (T.state table.old) (T.stamp table.old) session.old.tally session.old.outbox)
         (K.contents sink.old) (K.contents sink.new) (said_within session.old.part chunk.now)) }
     ensures fault { IfErr result (λ e. e ≡ Write) }
+    ensures stopped { OnErr result (HasStopped (K.has_failed sink.new) (K.is_full sink.new)) }
     ensures counted { IsCounted session.new.tally }
     ensures lines { session.new.tally.lines ≤ session.old.tally.lines + length chunk.now }
 {
@@ -137,6 +139,7 @@ fn answer_last<T: Table, K: Sink>(
     ensures err { OnErr result (StopsShort (progress_of (T.state table.old) (T.stamp table.old) session.old.tally session.old.outbox)
         (K.contents sink.old) (K.contents sink.new) (last_said session.old.part)) }
     ensures fault { IfErr result (λ e. e ≡ Write) }
+    ensures stopped { OnErr result (HasStopped (K.has_failed sink.new) (K.is_full sink.new)) }
 {
     if session.part.is_empty() {
         return Ok(());
@@ -159,6 +162,7 @@ fn finish<T: Table, K: Sink>(
     ensures err { OnErr result (StopsShort (progress_of (T.state table.old) (T.stamp table.old) session.old.tally session.old.outbox)
         (K.contents sink.old) (K.contents sink.new) (last_said session.old.part)) }
     ensures fault { IfErr result (λ e. e ≡ Write) }
+    ensures stopped { OnErr result (HasStopped (K.has_failed sink.new) (K.is_full sink.new)) }
 {
     answer_last(session, table, sink)?;
     session.outbox.flush(sink)
@@ -206,6 +210,7 @@ pub fn run_script<T: Table, S: Source, K: Sink>(
     ensures err { IfErr result (Leaves turns (begun (T.state table.old) (T.stamp table.old))
         (S.remaining source.old) (S.remaining source.new) (K.contents sink.old) (K.contents sink.new) (S.has_failed source.new)) }
     ensures made { IfErr result (λ e. e ≢ NoMemory) }
+    ensures stopped { result ≡ Err Write → HasStopped (K.has_failed sink.new) (K.is_full sink.new) }
 {
     let mut session = Session::new();
     let mut chunk = [0_u8; CHUNK];

@@ -4,10 +4,11 @@ ghost use Rattle.std.specs.Prelude.{◌≡◌, ◌≢◌, ◌<◌, ◌≤◌, If
 use std::marker::Model;
 use thiserror::Error;
 
-/// The least and the greatest `pid_max`, after `proc_sys_kernel(5)`: below 301 a namespace that has
-/// passed number 300 would have none left to give.
+/// The least `pid_max`, after `proc_sys_kernel(5)`: below 301 a namespace that has passed number 300
+/// would have none left to give.
 pub const LEAST_PID_MAX: u32 = 301;
 
+/// The greatest `pid_max`, 2^22, as on a 64-bit kernel (`proc_sys_kernel(5)`).
 pub const GREATEST_PID_MAX: u32 = 4_194_304;
 
 /// What a table is made with: the bound of all numbers, and the stamp of the first call.

@@ -1,5 +1,5 @@
 //! Where scripts come from and where answers go.
-ghost use Rattle.std.specs.Prelude.{◌≡◌, ◌≤◌, Bool, false, Option, List, ℕ, length, IfOk, OnOk, OnErr, IsTrue};
+ghost use Rattle.std.specs.Prelude.{◌≡◌, ◌<◌, ◌≤◌, Bool, false, Option, List, ℕ, length, IfOk, OnOk, OnErr, IsTrue};
 ghost use Rattle.std.specs.Io.KnownBytes.{ReadConsumes, WriteAppends};
 
 use std::io::{Read, Write};
@@ -36,11 +36,16 @@ pub trait Sink {
     ghost contents: { Self → Option (List ℕ) };
     // Whether a write has failed.
     ghost has_failed: { Self → Bool };
+    // Whether a write has taken nothing of a buffer that was not empty.
+    ghost is_full: { Self → Bool };
 
-    /// Writes from the front of the buffer. `Ok(n)` took the first `n` bytes. A fault takes none.
+    /// Writes from the front of the buffer. `Ok(n)` took the first `n` bytes; `Ok(0)` of a buffer that
+    /// is not empty says that the sink is full. A fault takes none.
     fn write(&mut self, buffer: &[u8]) -> Result<usize, DeviceFault>
         ensures bound { IfOk result (λ n. n ≤ length buffer.now) }
         ensures bytes { WriteAppends (contents self.old) (contents self.new) result buffer.now }
+        ensures full { IfOk result (λ n. n ≡ 0 → 0 < length buffer.now → IsTrue (is_full self.new)) }
+        ensures room { IfOk result (λ n. 0 < n → is_full self.new ≡ is_full self.old) }
         ensures unchanged { OnOk result (has_failed self.new ≡ has_failed self.old) }
         ensures fails { OnErr result (IsTrue (has_failed self.new)) };
 
@@ -94,17 +99,20 @@ impl<R: Read + Drop> Source for FromReader<R> {
 pub struct ToWriter<W: Write + Drop> {
     writer: W,
     failed: bool,
+    full: bool,
 }
 
 impl<W: Write + Drop> ToWriter<W> {
-    /// The writer, which has not failed.
+    /// The writer, which has not failed and is not full.
     pub fn new(writer: W) -> Self
         ensures bytes { ⟦<ToWriter<W> as Sink>⟧.contents result ≡ W.contents writer }
         ensures whole { ⟦<ToWriter<W> as Sink>⟧.has_failed result ≡ false }
+        ensures room { ⟦<ToWriter<W> as Sink>⟧.is_full result ≡ false }
     {
         ToWriter {
             writer,
             failed: false,
+            full: false,
         }
     }
 }
@@ -114,9 +122,16 @@ impl<W: Write + Drop> Sink for ToWriter<W> {
 
     ghost has_failed = { λ s. s.failed };
 
+    ghost is_full = { λ s. s.full };
+
     fn write(&mut self, buffer: &[u8]) -> Result<usize, DeviceFault> {
         match self.writer.write(buffer) {
-            Ok(count) => Ok(count),
+            Ok(count) => {
+                if count == 0 && !buffer.is_empty() {
+                    self.full = true;
+                }
+                Ok(count)
+            }
             Err(_) => {
                 self.failed = true;
                 Err(DeviceFault)

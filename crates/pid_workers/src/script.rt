@@ -1,8 +1,9 @@
 //! Scripts run on a table of their own.
-ghost use Rattle.std.specs.Prelude.{◌≡◌, ℕ, List, IfOk, IfErr};
+ghost use Rattle.std.specs.Prelude.{◌≡◌, ℕ, List, IfOk, IfErr, Err};
 ghost use Rattle.locked_table.specs.Chronicle.{next_stamp};
 ghost use Rattle.pid_types.specs.State.{State};
-ghost use Rattle.pid_script.specs.Script.{start_of};
+ghost use Rattle.pid_script.specs.Script.{start_of, HasStopped};
+ghost use Rattle.pid_script.specs.declared.tally.RunScriptFault.TheVariants.{Write};
 ghost use Rattle.pid_script.specs.Session.{progress_of, Finishes, Leaves};
 
 use crate::one_seat::OneSeat;
@@ -33,6 +34,7 @@ fn run_table<L: Ledger, S: Source, K: Sink>(
         (S.remaining source.old) (S.remaining source.new) (K.contents sink.old) (K.contents sink.new)) }
     ensures err { IfErr result (Leaves turns (start_of config.now)
         (S.remaining source.old) (S.remaining source.new) (K.contents sink.old) (K.contents sink.new) (S.has_failed source.new)) }
+    ensures stopped { result ≡ Err Write → HasStopped (K.has_failed sink.new) (K.is_full sink.new) }
 {
     let mut table = match OneSeat::<L>::new(alloc, blank, config) {
         Ok(table) => table,
@@ -62,6 +64,7 @@ pub fn run_limited<L: Ledger, S: Source, K: Sink>(
         (S.remaining source.old) (S.remaining source.new) (K.contents sink.old) (K.contents sink.new)) }
     ensures err { IfErr result (Leaves turns (start_of config.now)
         (S.remaining source.old) (S.remaining source.new) (K.contents sink.old) (K.contents sink.new) (S.has_failed source.new)) }
+    ensures stopped { result ≡ Err Write → HasStopped (K.has_failed sink.new) (K.is_full sink.new) }
 {
     let (tally, _table) = run_table::<L, S, K>(alloc, blank, source, sink, config, turns)?;
     Ok(tally)
@@ -82,6 +85,7 @@ pub fn run<L: Ledger, S: Source, K: Sink>(
         (S.remaining source.old) (S.remaining source.new) (K.contents sink.old) (K.contents sink.new)) }
     ensures err { IfErr result (Leaves MOST_READS (start_of config.now)
         (S.remaining source.old) (S.remaining source.new) (K.contents sink.old) (K.contents sink.new) (S.has_failed source.new)) }
+    ensures stopped { result ≡ Err Write → HasStopped (K.has_failed sink.new) (K.is_full sink.new) }
 {
     run_limited::<L, S, K>(alloc, blank, source, sink, config, MOST_READS)
 }
@@ -101,6 +105,7 @@ pub fn run_state<L: Ledger, S: Source, K: Sink>(
         (S.remaining source.old) (S.remaining source.new) (K.contents sink.old) (K.contents sink.new)) }
     ensures err { IfErr result (Leaves MOST_READS (start_of config.now)
         (S.remaining source.old) (S.remaining source.new) (K.contents sink.old) (K.contents sink.new) (S.has_failed source.new)) }
+    ensures stopped { result ≡ Err Write → HasStopped (K.has_failed sink.new) (K.is_full sink.new) }
 {
     let (tally, table) = run_table::<L, S, K>(alloc, blank, source, sink, config, MOST_READS)?;
     let OneSeat {

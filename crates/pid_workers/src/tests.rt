@@ -46,6 +46,7 @@ struct Paper {
     room: usize,
     breaks: bool,
     failed: bool,
+    full: bool,
 }
 
 impl Sink for Paper {
@@ -53,12 +54,17 @@ impl Sink for Paper {
 
     ghost has_failed = { λ s. s.failed };
 
+    ghost is_full = { λ s. s.full };
+
     fn write(&mut self, buffer: &[u8]) -> Result<usize, DeviceFault> {
         let room = self.room.min(self.held.remaining_capacity());
         let count = buffer.len().min(room);
         if count == 0 && self.breaks {
             self.failed = true;
             return Err(DeviceFault);
+        }
+        if count == 0 {
+            self.full = true;
         }
         self.held.try_extend_from_slice(&buffer[..count]).unwrap();
         self.room -= count;
@@ -85,6 +91,7 @@ fn make_paper(room: usize, breaks: bool) -> Paper {
         room,
         breaks,
         failed: false,
+        full: false,
     }
 }
 

@@ -19,6 +19,8 @@ impl Sink for Discard {
 
     ghost has_failed = { λ _. false };
 
+    ghost is_full = { λ _. false };
+
     fn write(&mut self, buffer: &[u8]) -> Result<usize, DeviceFault> {
         Ok(buffer.len())
     }

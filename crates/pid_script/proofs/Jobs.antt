@@ -1,0 +1,150 @@
+-- Jobs, read piece by piece.
+use Rattle.std.proofs.Common.{◌≡◌, ℕ, ◌+◌, ◌^◌, ◌<◌, ◌≤◌, inl, inr, Bool, true, false, List, [], ◌∷◌, ◌++◌, length, length-append, take, take_all, take-take, length-take-le, min, leb, leb-true, leb-false, ◌≢◌, Option, Some, refl, sym, ap, ◌∙◌, subst, append_assoc, append-nil, arith, IsTrue}
+use Rattle.std.proofs.lemmas.List.Elements.{All-append, All-nil}
+use Rattle.std.proofs.Math.Seq.{take-append-add}
+use Rattle.std.specs.Io.KnownBytes.{Consumes, IsAtEnd}
+use Rattle.pid_types.specs.declared.call.Call.{Call}
+use Rattle.pid_script.specs.declared.job.JobFault.{JobFault}
+use Rattle.pid_script.specs.declared.job.JobFault.TheVariants as fault
+use Rattle.pid_script.specs.declared.line.Line.{Line}
+use Rattle.pid_script.specs.declared.line.Line.TheVariants as says
+use Rattle.pid_script.specs.Script.{said_of, said_within}
+use Rattle.pid_script.specs.Job.{calls_of, AreGood, IsFirstBad, Yields, Refuses, Adds, IsStopped}
+use Rattle.pid_script.proofs.Said.{said_within-whole}
+
+calls_of-append : (xs ys : List Line) → calls_of (xs ++ ys) ≡ calls_of xs ++ calls_of ys
+calls_of-append [] ys = refl
+calls_of-append (says.Empty ∷ xs) ys = calls_of-append xs ys
+calls_of-append (says.Call call ∷ xs) ys = ap (λ calls. call ∷ calls) (calls_of-append xs ys)
+calls_of-append (says.Bad ∷ xs) ys = calls_of-append xs ys
+
+AreGood-append : (xs ys : List Line) → AreGood xs → AreGood ys → AreGood (xs ++ ys)
+AreGood-append xs ys first second = All-append (λ (line : Line). line ≢ says.Bad) xs ys first second
+
+-- no line
+pub Adds-nothing : (calls : List Call) (number : ℕ) → Adds calls number calls number []
+Adds-nothing calls number = record { good = All-nil _; said = sym (append-nil calls); counted = omega arith }
+
+-- lines, and more lines
+pub Adds-more : {cs cs' cs'' : List Call} {n n' n'' : ℕ} (xs ys : List Line) → Adds cs n cs' n' xs → Adds cs' n' cs'' n'' ys → Adds cs n cs'' n'' (xs ++ ys)
+Adds-more {cs} xs ys first second = record {
+  good = AreGood-append xs ys first.good second.good;
+  said = second.said ∙ ap (λ calls. calls ++ calls_of ys) first.said ∙ append_assoc cs (calls_of xs) (calls_of ys) ∙ ap (λ calls. cs ++ calls) (sym (calls_of-append xs ys));
+  counted = omega (arith, first.counted, second.counted, length-append xs ys);
+}
+
+IsFirstBad-sooner : (number : ℕ) (xs ys : List Line) → IsFirstBad number xs → IsFirstBad number (xs ++ ys)
+IsFirstBad-sooner number xs ys bad = record {
+  before = bad.before;
+  after = bad.after ++ ys;
+  cut = ap (λ lines. lines ++ ys) bad.cut ∙ append_assoc bad.before (says.Bad ∷ bad.after) ys;
+  good = bad.good;
+  place = bad.place;
+}
+
+IsFirstBad-later : (number : ℕ) (xs ys : List Line) → AreGood xs → IsFirstBad number ys → IsFirstBad (length xs + number) (xs ++ ys)
+IsFirstBad-later number xs ys good bad = record {
+  before = xs ++ bad.before;
+  after = bad.after;
+  cut = ap (λ lines. xs ++ lines) bad.cut ∙ sym (append_assoc xs bad.before (says.Bad ∷ bad.after));
+  good = AreGood-append xs bad.before good bad.good;
+  place = omega (arith, bad.place, length-append xs bad.before);
+}
+
+-- the line itself is bad
+pub bad_itself : IsFirstBad 1 (says.Bad ∷ [])
+bad_itself = record { before = []; after = []; cut = refl; good = All-nil _; place = refl }
+
+-- more lines come behind the fault
+pub IsStopped-sooner : (number : ℕ) (xs ys : List Line) (e : JobFault) → IsStopped number xs e → IsStopped number (xs ++ ys) e
+IsStopped-sooner number xs ys fault.Read stops = stops
+IsStopped-sooner number xs ys fault.TooLong stops = stops
+IsStopped-sooner number xs ys (fault.BadLine k) stops = (stops.0, stops.1, IsFirstBad-sooner stops.0 xs ys stops.2)
+IsStopped-sooner number xs ys fault.NoMemory stops = tt
+
+-- good lines come before it
+pub IsStopped-later : {cs cs' : List Call} {n n' : ℕ} (xs ys : List Line) (e : JobFault) → Adds cs n cs' n' xs → IsStopped n' ys e → IsStopped n (xs ++ ys) e
+IsStopped-later xs ys fault.Read adds stops = stops
+IsStopped-later xs ys fault.TooLong adds stops = stops
+IsStopped-later xs ys (fault.BadLine k) adds stops =
+    (length xs + stops.0, omega (arith, stops.1, adds.counted), IsFirstBad-later stops.0 xs ys adds.good stops.2)
+IsStopped-later xs ys fault.NoMemory adds stops = tt
+
+-- what is within reach of a piece of which some bytes were read
+take_piece : (count room : ℕ) (chunk : List ℕ) → count ≤ length chunk → take room (take count chunk) ≡ take (min count room) chunk
+take_piece count room chunk within = at (leb count room) refl
+  where
+    at : (t : Bool) → leb count room ≡ t → take room (take count chunk) ≡ take (min count room) chunk
+    at true below =
+        let fits : count ≤ room = leb-true count room below in
+        let least : min count room ≡ count = omega (arith, fits) in
+        take_all room (take count chunk) (omega (arith, fits, length-take-le count chunk within)) ∙ ap (λ n. take n chunk) (sym least)
+    at false above =
+        let long : room < count = leb-false count room above in
+        let least : min count room ≡ room = omega (arith, long) in
+        take-take room count chunk (omega (arith, long)) ∙ ap (λ n. take n chunk) (sym least)
+
+-- and what is of all bytes that were read
+pub take_most : (most count room : ℕ) (read chunk : List ℕ) → room + length read ≡ most → count ≤ length chunk
+    → take most (read ++ take count chunk) ≡ read ++ take (min count room) chunk
+take_most most count room read chunk is within =
+    let all : length read + room ≡ most = omega (arith, is) in
+    ap (λ n. take n (read ++ take count chunk)) (sym all) ∙ take-append-add read (take count chunk) room
+    ∙ ap (λ piece. read ++ piece) (take_piece count room chunk within)
+
+from_start : (k : ℕ) (lines : List Line) → IsStopped 0 lines (fault.BadLine k) → IsFirstBad k lines
+from_start k lines stops = let same : stops.0 ≡ k = omega (arith, stops.1) in subst (λ j. IsFirstBad j lines) same stops.2
+
+-- all lines are good
+pub yields : {from to : Option (List ℕ)} {n' : ℕ} (read : List ℕ) (calls : List Call) → Adds [] 0 calls n' (said_of read) → length read ≤ 2 ^ 20
+    → Consumes from to read → IsAtEnd to → Yields from to calls
+yields read calls adds short consumed at_end = record {
+  read = read;
+  consumed = consumed;
+  at_end = at_end;
+  short = short;
+  good = adds.good;
+  said = adds.said;
+}
+
+module _ {from to : Option (List ℕ)} {failed : Bool} where
+  -- a fault among the lines that end within the most bytes
+  pub refuses_within : (read : List ℕ) (e : JobFault) → IsStopped 0 (said_within (Some []) (take (2 ^ 20) read)) e → Consumes from to read → Refuses from to failed e
+  refuses_within read fault.Read stops consumed = absurd stops
+  refuses_within read fault.TooLong stops consumed = absurd stops
+  refuses_within read (fault.BadLine k) stops consumed = record {
+    read = read;
+    consumed = consumed;
+    met = inl (subst (IsFirstBad k) (said_within-whole (take (2 ^ 20) read)) (from_start k _ stops));
+  }
+  refuses_within read fault.NoMemory stops consumed = record { read = read; consumed = consumed; met = tt }
+
+  -- a fault at the last line, which has no newline
+  pub refuses_last : (read : List ℕ) (e : JobFault) → IsStopped 0 (said_of read) e → length read ≤ 2 ^ 20 → Consumes from to read → IsAtEnd to
+      → Refuses from to failed e
+  refuses_last read fault.Read stops short consumed at_end = absurd stops
+  refuses_last read fault.TooLong stops short consumed at_end = absurd stops
+  refuses_last read (fault.BadLine k) stops short consumed at_end = record {
+    read = read;
+    consumed = consumed;
+    met = inr (short, at_end, from_start k (said_of read) stops);
+  }
+  refuses_last read fault.NoMemory stops short consumed at_end = record { read = read; consumed = consumed; met = tt }
+
+  -- a source that fails
+  pub refuses_read : {cs cs' : List Call} {n n' : ℕ} (read : List ℕ) → Adds cs n cs' n' (said_within (Some []) read) → length read ≤ 2 ^ 20
+      → Consumes from to read → IsTrue failed → Refuses from to failed fault.Read
+  refuses_read read adds short consumed fails = record {
+    read = read;
+    consumed = consumed;
+    met = (short, subst AreGood (said_within-whole read) adds.good, fails);
+  }
+
+  -- one byte too many
+  pub refuses_long : {cs cs' : List Call} {n n' : ℕ} (read : List ℕ) → Adds cs n cs' n' (said_within (Some []) (take (2 ^ 20) read)) → 2 ^ 20 < length read
+      → Consumes from to read → Refuses from to failed fault.TooLong
+  refuses_long read adds long consumed = record {
+    read = read;
+    consumed = consumed;
+    met = (long, subst AreGood (said_within-whole (take (2 ^ 20) read)) adds.good);
+  }

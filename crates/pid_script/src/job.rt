@@ -1,0 +1,247 @@
+//! Jobs: scripts that are read to their end before any call is made.
+ghost use Rattle.std.specs.Prelude.{◌≡◌, Some, ◌+◌, ◌^◌, ◌<◌, ◌≤◌, [], ◌∷◌, length, OnOk, IfOk, IfErr};
+ghost use Rattle.pid_script.specs.Script.{said_within, kept_after, last_said};
+ghost use Rattle.pid_script.specs.Job.{Adds, IsStopped, Yields, Refuses};
+
+use crate::bytes::split_at_first;
+use crate::line::Line;
+use crate::part::PartLine;
+use crate::session::CHUNK;
+use pid_types::call::Call;
+use pid_types::device::Source;
+use std::alloc::Global;
+use thiserror::Error;
+
+/// The most bytes of a job.
+pub const MOST_JOB_BYTES: usize = 1_048_576;
+
+/// Why a job has no calls: the first fault that was met, reading forwards.
+#[derive(Clone, Copy, Debug, PartialEq, Eq, Hash, Error)]
+pub enum JobFault {
+    /// The source failed.
+    #[error("read fault")]
+    Read,
+    /// There are more than [`MOST_JOB_BYTES`] bytes.
+    #[error("too long")]
+    TooLong,
+    /// The line with the number, counted from 1, is bad.
+    #[error("line {0}: bad line")]
+    BadLine(u64),
+    /// There was no memory for the calls.
+    #[error("no memory")]
+    NoMemory,
+}
+
+/// A job on its way: the line that has not ended, the calls of those that have, and their number.
+#[derive(Drop)]
+struct Job {
+    part: PartLine,
+    calls: Vec<Call>,
+    lines: u64,
+}
+
+impl Job {
+    /// Nothing has come.
+    fn new(alloc: Global) -> Job
+        ensures part { result.part ≡ Some [] }
+        ensures calls { result.calls.items ≡ [] }
+        ensures lines { result.lines ≡ 0 }
+    {
+        Job {
+            part: PartLine::new(),
+            calls: Vec::new(alloc),
+            lines: 0,
+        }
+    }
+
+    /// Adds what a line says.
+    fn push(&mut self, line: Line) -> Result<(), JobFault>
+        requires room { self.old.lines + 1 < 2 ^ 64 }
+        ensures ok { OnOk result (Adds self.old.calls.items self.old.lines self.new.calls.items self.new.lines (line ∷ [])) }
+        ensures err { IfErr result (IsStopped self.old.lines (line ∷ [])) }
+        ensures part { self.new.part ≡ self.old.part }
+    {
+        self.lines += 1;
+        match line {
+            Line::Empty => Ok(()),
+            Line::Call(call) => self.calls.push(call).map_err(|_| JobFault::NoMemory),
+            Line::Bad => Err(JobFault::BadLine(self.lines)),
+        }
+    }
+
+    /// Adds the lines that end within the bytes, and keeps what comes behind them.
+    fn push_bytes(&mut self, bytes: &[u8]) -> Result<(), JobFault>
+        requires room { self.old.lines + length bytes.now < 2 ^ 64 }
+        ensures ok { OnOk result (Adds self.old.calls.items self.old.lines self.new.calls.items self.new.lines (said_within self.old.part bytes.now)) }
+        ensures err { IfErr result (IsStopped self.old.lines (said_within self.old.part bytes.now)) }
+        ensures part { OnOk result (self.new.part ≡ kept_after self.old.part bytes.now) }
+        ensures few { OnOk result (self.new.lines ≤ self.old.lines + length bytes.now) }
+    {
+        let mut rest = bytes;
+        while let Some((end, after)) = split_at_first(rest, b'\n') {
+            let line = self.part.finish(end);
+            self.push(line)?;
+            rest = after;
+        }
+        self.part.push(rest);
+        Ok(())
+    }
+
+    /// Adds the last line, if it has no newline.
+    fn push_last(&mut self) -> Result<(), JobFault>
+        requires room { self.old.lines + 1 < 2 ^ 64 }
+        ensures ok { OnOk result (Adds self.old.calls.items self.old.lines self.new.calls.items self.new.lines (last_said self.old.part)) }
+        ensures err { IfErr result (IsStopped self.old.lines (last_said self.old.part)) }
+    {
+        if self.part.is_empty() {
+            return Ok(());
+        }
+        let line = self.part.finish(b"");
+        self.push(line)
+    }
+}
+
+/// Reads a job to its end: the calls of its lines, in order. Lines are those of a script; an empty one
+/// counts and says no call.
+///
+/// A line is judged at its end, so a bad line is met before the byte behind it, and the byte behind the
+/// [`MOST_JOB_BYTES`]th is [`JobFault::TooLong`] whatever its line would say. After a fault nothing more is
+/// read. The cost is linear in the bytes, and so is the memory, in the calls.
+pub fn read_job<S: Source>(alloc: Global, source: &mut S) -> Result<Vec<Call>, JobFault>
+    ensures ok { IfOk result (λ calls. Yields (S.remaining source.old) (S.remaining source.new) calls.items) }
+    ensures err { IfErr result (Refuses (S.remaining source.old) (S.remaining source.new) (S.has_failed source.new)) }
+{
+    let mut job = Job::new(alloc);
+    let mut room = MOST_JOB_BYTES;
+    let mut chunk = [0_u8; CHUNK];
+    for _turn in 0..MOST_JOB_BYTES + 1 {
+        let count = match source.read(&mut chunk) {
+            Ok(count) => count,
+            Err(_) => return Err(JobFault::Read),
+        };
+        if count == 0 {
+            job.push_last()?;
+            return Ok(job.calls);
+        }
+        job.push_bytes(&chunk[..count.min(room)])?;
+        if count > room {
+            return Err(JobFault::TooLong);
+        }
+        room -= count;
+    }
+    unreachable!()
+}
+
+#[cfg(test)]
+mod tests {
+    ghost use Rattle.std.specs.Prelude.{Some};
+
+    use super::*;
+    use pid_types::device::{DeviceFault, FromReader};
+    use std::test::Fail;
+
+    /// A source that gives its bytes and then fails.
+    #[derive(Drop)]
+    struct Broken<'a> {
+        left: &'a [u8],
+        failed: bool,
+    }
+
+    impl Source for Broken<'_> {
+        ghost remaining = { λ s. Some s.left.now };
+
+        ghost has_failed = { λ s. s.failed };
+
+        fn read(&mut self, buffer: &mut [u8]) -> Result<usize, DeviceFault> {
+            let count = self.left.len().min(buffer.len());
+            if count == 0 {
+                self.failed = true;
+                return Err(DeviceFault);
+            }
+            buffer[..count].copy_from_slice(&self.left[..count]);
+            self.left = &self.left[count..];
+            Ok(count)
+        }
+
+        fn failed(&self) -> bool {
+            self.failed
+        }
+    }
+
+    /// The number of calls, or the fault.
+    fn count_calls(alloc: Global, bytes: &[u8]) -> Result<usize, JobFault> {
+        let calls = read_job(alloc, &mut FromReader::new(bytes))?;
+        Ok(calls.len())
+    }
+
+    #[test]
+    fn reads_calls_in_order(rt: HostRuntime) -> Result<(), Fail> {
+        let bytes: &[u8] = b"\nfork 1 new\n\nexit 2 7\ngetpid 1";
+        let calls = read_job(rt.alloc(), &mut FromReader::new(bytes))?;
+        let expected = [
+            Call::Fork {
+                caller: 1,
+                new_space: true,
+            },
+            Call::Exit {
+                caller: 2,
+                status: 7,
+            },
+            Call::GetPid { caller: 1 },
+        ];
+        assert_eq!(rt; calls.as_slice(), expected.as_slice());
+        Ok(())
+    }
+
+    #[test]
+    fn names_the_first_fault(rt: HostRuntime) {
+        let jobs: [(&[u8], Result<usize, JobFault>); 6] = [
+            (b"", Ok(0)),
+            (
+                b"mk 5\nlimit 0 5\nrm 0\nmk 0\nlimit 4 4194305\nlimit 4 4194304\nlimit 4 max\nmove 9 9\nmove 1 9\nmove 1 4\nrm 4\nlimit 4 0\nfork 1\n",
+                Ok(13),
+            ),
+            (b"fork\nmk 5\nlimit 0 5\n", Err(JobFault::BadLine(1))),
+            (b"fork 1\nfork", Err(JobFault::BadLine(2))),
+            (b"fork 1\n\nfork\nfork 1\n", Err(JobFault::BadLine(3))),
+            (&[b'a'; 201], Err(JobFault::BadLine(1))),
+        ];
+        for (bytes, expected) in jobs {
+            assert_eq!(rt; count_calls(rt.alloc(), bytes), expected, "{bytes:?}");
+        }
+        let mut source = Broken {
+            left: b"fork 1\nfork",
+            failed: false,
+        };
+        assert_eq!(rt;
+            read_job(rt.alloc(), &mut source).err(),
+            Some(JobFault::Read)
+        );
+        assert!(rt; source.failed());
+    }
+
+    #[test]
+    fn takes_so_many_bytes(rt: HostRuntime) -> Result<(), Fail> {
+        let mut bytes = vec![in rt.alloc(); b'\n'; MOST_JOB_BYTES]?;
+        assert_eq!(rt; count_calls(rt.alloc(), bytes.as_slice()), Ok(0));
+        bytes[MOST_JOB_BYTES - 1] = b'a';
+        let last = JobFault::BadLine(1_048_576);
+        assert_eq!(rt; count_calls(rt.alloc(), bytes.as_slice()), Err(last));
+        bytes.push(b'\n')?;
+        assert_eq!(rt;
+            count_calls(rt.alloc(), bytes.as_slice()),
+            Err(JobFault::TooLong)
+        );
+        let newlines = vec![in rt.alloc(); b'\n'; MOST_JOB_BYTES + 1]?;
+        assert_eq!(rt;
+            count_calls(rt.alloc(), newlines.as_slice()),
+            Err(JobFault::TooLong)
+        );
+        let letters = vec![in rt.alloc(); b'a'; MOST_JOB_BYTES + 1]?;
+        assert_eq!(rt;
+            count_calls(rt.alloc(), letters.as_slice()),
+            Err(JobFault::TooLong)
+        );
+        Ok(())
+    }
+}
