@@ -29,7 +29,7 @@ fn push_number(text: &mut ArrayVec<u8, LONGEST_ANSWER>, number: u64)
     push_bytes(text, buffer.format(number).as_bytes());
 }
 
-// The label, and the number behind it.
+/// The label, and the number behind it.
 #[tactic(auto, using(crate::proofs::Room::room))]
 fn labelled(label: &[u8], number: u64) -> ArrayVec<u8, LONGEST_ANSWER>
     requires { length label.now ≤ 30 }
@@ -167,28 +167,28 @@ pub fn answer_text(answer: &Result<Receipt, CallFault>) -> ArrayVec<u8, LONGEST_
 mod tests {
     use super::*;
     use pid_types::call::Call;
-    use std::test::Fail;
+
+    fn text_of(reply: Reply) -> ArrayVec<u8, LONGEST_ANSWER> {
+        answer_text(&Ok(Receipt {
+            ordinal: 0,
+            worker: 0,
+            call: Call::GetPid { caller: 1 },
+            reply,
+        }))
+    }
+
+    fn reaped(child: u32, ended: Ended) -> Reply {
+        Reply::Reaped { child, ended }
+    }
 
     #[test]
-    fn writes_each_answer(rt: HostRuntime) -> Result<(), Fail> {
-        let replies: [(Reply, &[u8]); 14] = [
+    fn writes_each_answer(rt: HostRuntime) {
+        let replies: [(Reply, &[u8]); 9] = [
             (Reply::Forked { child: 2, root: 3 }, b"child 2 root 3"),
             (Reply::Done, b"ok"),
             (Reply::Number(0), b"0"),
-            (
-                Reply::Reaped {
-                    child: 2,
-                    ended: Ended::Exited(5),
-                },
-                b"reaped 2 exit 5",
-            ),
-            (
-                Reply::Reaped {
-                    child: 5,
-                    ended: Ended::Killed,
-                },
-                b"reaped 5 killed",
-            ),
+            (reaped(2, Ended::Exited(5)), b"reaped 2 exit 5"),
+            (reaped(5, Ended::Killed), b"reaped 5 killed"),
             (Reply::NoneYet, b"none"),
             (
                 Reply::Counted(18_446_744_073_709_551_615),
@@ -196,40 +196,29 @@ mod tests {
             ),
             (Reply::Control(8), b"control 8"),
             (Reply::End, b"end"),
-            (Reply::Refused(Refusal::NoCaller), b"ESRCH no-caller"),
-            (Reply::Refused(Refusal::NoNumber(0)), b"EAGAIN no-number 0"),
-            (
-                Reply::Refused(Refusal::PidsLimit(1)),
-                b"EAGAIN pids-limit 1",
-            ),
-            (Reply::Refused(Refusal::SpaceFallen), b"ENOMEM space-fallen"),
-            (Reply::Refused(Refusal::TooDeep), b"ENOSPC too-deep"),
         ];
         for (reply, text) in replies {
-            let receipt = Receipt {
-                ordinal: 0,
-                worker: 0,
-                call: Call::GetPid { caller: 1 },
-                reply,
-            };
-            assert_eq!(rt; answer_text(&Ok(receipt)).as_slice(), text);
+            assert_eq!(rt; text_of(reply).as_slice(), text);
         }
-        assert_eq!(rt;
-            answer_text(&Err(CallFault::NoMemory)).as_slice(),
-            b"no memory".as_slice()
-        );
-        assert_eq!(rt;
-            answer_text(&Err(CallFault::Spent)).as_slice(),
-            b"spent".as_slice()
-        );
-        Ok(())
+        let faults: [(CallFault, &[u8]); 2] = [
+            (CallFault::NoMemory, b"no memory"),
+            (CallFault::Spent, b"spent"),
+        ];
+        for (fault, text) in faults {
+            assert_eq!(rt; answer_text(&Err(fault)).as_slice(), text);
+        }
     }
 
     #[test]
     fn writes_each_refusal(rt: HostRuntime) {
-        let refusals: [(Refusal, &[u8]); 14] = [
+        let refusals: [(Refusal, &[u8]); 19] = [
+            (Refusal::NoCaller, b"ESRCH no-caller"),
             (Refusal::NoTask, b"ESRCH no-task"),
             (Refusal::NoChild, b"ECHILD no-child"),
+            (Refusal::NoNumber(0), b"EAGAIN no-number 0"),
+            (Refusal::PidsLimit(1), b"EAGAIN pids-limit 1"),
+            (Refusal::SpaceFallen, b"ENOMEM space-fallen"),
+            (Refusal::TooDeep, b"ENOSPC too-deep"),
             (Refusal::Elsewhere, b"EINVAL elsewhere"),
             (Refusal::BadGroup, b"EINVAL bad-group"),
             (Refusal::OtherSession, b"EPERM other-session"),
@@ -244,7 +233,7 @@ mod tests {
             (Refusal::ControlDepth, b"EAGAIN control-depth"),
         ];
         for (refusal, text) in refusals {
-            assert_eq!(rt; refusal_text(refusal).as_slice(), text);
+            assert_eq!(rt; text_of(Reply::Refused(refusal)).as_slice(), text);
         }
     }
 
@@ -254,7 +243,7 @@ mod tests {
         for _ in 0..33 {
             let _ = numbers.try_push(4_294_967_295_u32);
         }
-        let text = reply_text(&Reply::Levels(numbers));
+        let text = text_of(Reply::Levels(numbers));
         assert_eq!(rt; text.len(), 362);
         assert!(rt; text.as_slice().starts_with(b"4294967295 4294967295 "));
     }

@@ -134,8 +134,6 @@ pub fn read_job<S: Source>(alloc: Global, source: &mut S) -> Result<Vec<Call>, J
 
 #[cfg(test)]
 mod tests {
-    ghost use Rattle.std.specs.Prelude.{Some};
-
     use super::*;
     use pid_types::device::{DeviceFault, FromReader};
     use std::test::Fail;

@@ -60,7 +60,7 @@ fn push_life(text: &mut Vec<u8>, life: Life) -> Result<(), AllocError>
     }
 }
 
-// The number in the root namespace, or 0 for a name without numbers.
+/// The number in the root namespace, or 0 for a name without numbers.
 fn root_number(name: &Name) -> u64
     ensures { result ≡ root_number name.now }
 {
@@ -226,6 +226,24 @@ mod tests {
         }
     }
 
+    fn standing(id: u64, parent: Option<u64>, cursor: u32) -> Space {
+        Space {
+            id,
+            parent,
+            cursor,
+            fallen: false,
+        }
+    }
+
+    fn unlimited_root(count: u64) -> ControlRow {
+        ControlRow {
+            id: 0,
+            parent: None,
+            limit: None,
+            count,
+        }
+    }
+
     #[test]
     fn lists_nested_namespaces(rt: HostRuntime) -> Result<(), Fail> {
         let alloc = rt.alloc();
@@ -236,28 +254,8 @@ mod tests {
                 task(name(1, &[2, 1]), Some(name(0, &[1]))),
                 task(name(1, &[3, 2]), Some(name(1, &[2, 1]))),
             ]?,
-            spaces: vec![in alloc;
-                Space {
-                    id: 0,
-                    parent: None,
-                    cursor: 4,
-                    fallen: false
-                },
-                Space {
-                    id: 1,
-                    parent: Some(0),
-                    cursor: 3,
-                    fallen: false
-                },
-            ]?,
-            controls: vec![in alloc;
-                ControlRow {
-                    id: 0,
-                    parent: None,
-                    limit: None,
-                    count: 3
-                },
-            ]?,
+            spaces: vec![in alloc; standing(0, None, 4), standing(1, Some(0), 3)]?,
+            controls: vec![in alloc; unlimited_root(3)]?,
         };
         let text = list_text(alloc, &plain)?;
         let lines: &[u8] = b"task 1 space 0 parent 0 group 1 session 1 control 0 live
@@ -271,9 +269,8 @@ control 0 parent - limit max count 3
         Ok(())
     }
 
-    #[test]
-    fn lists_marks(rt: HostRuntime) -> Result<(), Fail> {
-        let alloc = rt.alloc();
+    /// One zombie with all marks and a group without numbers, and one that was killed.
+    fn marked_rows(alloc: Global) -> Result<Vec<Row>, Fail> {
         let mut row = task(name(0, &[2]), Some(name(0, &[1])));
         row.group = name(0, &[]);
         row.executed = true;
@@ -283,25 +280,25 @@ control 0 parent - limit max count 3
         row.subreaper = true;
         let mut killed = task(name(0, &[5]), Some(name(0, &[2])));
         killed.life = Life::Zombie(Ended::Killed);
+        Ok(vec![in alloc; row, killed]?)
+    }
+
+    #[test]
+    fn lists_marks(rt: HostRuntime) -> Result<(), Fail> {
+        let alloc = rt.alloc();
+        let mut space = standing(2, Some(0), 2);
+        space.fallen = true;
+        let control = ControlRow {
+            id: 13,
+            parent: Some(1),
+            limit: Some(2),
+            count: 18_446_744_073_709_551_615,
+        };
         let plain = Plain {
             pid_max: 301,
-            rows: vec![in alloc; row, killed]?,
-            spaces: vec![in alloc;
-                Space {
-                    id: 2,
-                    parent: Some(0),
-                    cursor: 2,
-                    fallen: true
-                },
-            ]?,
-            controls: vec![in alloc;
-                ControlRow {
-                    id: 13,
-                    parent: Some(1),
-                    limit: Some(2),
-                    count: 18_446_744_073_709_551_615
-                },
-            ]?,
+            rows: marked_rows(alloc)?,
+            spaces: vec![in alloc; space]?,
+            controls: vec![in alloc; control]?,
         };
         let text = list_text(alloc, &plain)?;
         let lines: &[u8] =

@@ -4,7 +4,7 @@ ghost use Rattle.pid_script.specs.Reading.{IsPlain, number_below, negative_of, s
 
 use std::str;
 
-// Whether the word begins with no plus sign and no leading zero, both of which std reads.
+/// Whether the word begins with no plus sign and no leading zero, both of which std reads.
 fn is_plain(word: &[u8]) -> bool
     ensures { IsTrue result ↔ IsPlain word.now }
 {
@@ -35,7 +35,7 @@ pub fn read_u8(word: &[u8]) -> Option<u8>
     u8::try_from(read_u64(word)?).ok()
 }
 
-// The number with a minus sign before these digits, which are not those of 0.
+/// The number with a minus sign before these digits, which are not those of 0.
 fn read_negative(digits: &[u8]) -> Option<i32>
     ensures { result ≡ negative_of digits.now }
 {

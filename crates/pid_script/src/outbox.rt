@@ -11,7 +11,7 @@ use std::marker::Model;
 
 const ROOM: usize = 8192;
 
-// Writes all of the bytes.
+/// Writes all of the bytes.
 pub fn write_all<K: Sink>(sink: &mut K, bytes: &[u8]) -> Result<(), RunScriptFault>
     ensures ok { OnOk result (Appends (K.contents sink.old) (K.contents sink.new) bytes.now) }
     ensures err { OnErr result ((sent left : List ℕ) × Appends (K.contents sink.old) (K.contents sink.new) sent × (bytes.now ≡ sent ++ left) × (0 < length left)) }
@@ -28,7 +28,7 @@ pub fn write_all<K: Sink>(sink: &mut K, bytes: &[u8]) -> Result<(), RunScriptFau
     Ok(())
 }
 
-// Answers that wait to be written, so that a short answer does not cost a write of its own.
+/// Answers that wait to be written, so that a short answer does not cost a write of its own.
 #[derive(Drop)]
 pub struct Outbox {
     held: ArrayVec<u8, ROOM>,
@@ -51,7 +51,7 @@ impl Outbox {
         }
     }
 
-    // Writes what is held.
+    /// Writes what is held.
     pub fn flush<K: Sink>(&mut self, sink: &mut K) -> Result<(), RunScriptFault>
         ensures ok { OnOk result (Appends (K.contents sink.old) (K.contents sink.new) self.old) }
         ensures empty { OnOk result (self.new ≡ []) }
@@ -64,7 +64,7 @@ impl Outbox {
         Ok(())
     }
 
-    // Holds the line and its newline, and makes room for them first.
+    /// Holds the line and its newline, and makes room for them first.
     pub fn push_line<K: Sink>(&mut self, sink: &mut K, line: &[u8]) -> Result<(), RunScriptFault>
         requires { length line.now < 8192 }
         ensures ok { OnOk result ((sent : List ℕ) × Appends (K.contents sink.old) (K.contents sink.new) sent × (self.old ++ with_newline line.now ≡ sent ++ self.new)) }

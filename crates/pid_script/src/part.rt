@@ -56,7 +56,7 @@ impl PartLine {
         }
     }
 
-    // What the line says if it ends here.
+    /// What the line says if it ends here.
     fn said(&self) -> Line
         ensures { result ≡ said_by self.now }
     {

@@ -17,7 +17,7 @@ use pid_types::device::{Sink, Source};
 use pid_types::entry::Receipt;
 use pid_types::reply::CallFault;
 
-// The most bytes that a read asks for.
+/// The most bytes that a read asks for.
 pub const CHUNK: usize = 4096;
 
 /// A table that answers one call after another.
@@ -32,7 +32,7 @@ pub trait Table {
         ensures { Acts (state self.old) (stamp self.old) call result (state self.new) (stamp self.new) };
 }
 
-// A script on its way: the line that has not ended, the answers that are not written, and the counts.
+/// A script on its way: the line that has not ended, the answers that are not written, and the counts.
 #[derive(Drop)]
 pub struct Session {
     pub part: PartLine,
@@ -40,7 +40,7 @@ pub struct Session {
     pub tally: Tally,
 }
 
-// Makes a call, and counts it.
+/// Makes a call, and counts it.
 fn make_call<T: Table>(table: &mut T, tally: &mut Tally, call: Call) -> Result<Receipt, CallFault>
     requires counted { IsCounted tally.old }
     requires room { tally.old.lines + 1 < 2 ^ 64 }
@@ -57,7 +57,7 @@ fn make_call<T: Table>(table: &mut T, tally: &mut Tally, call: Call) -> Result<R
     answer
 }
 
-// Answers a line.
+/// Answers a line.
 fn answer_line<T: Table, K: Sink>(
     session: &mut Session,
     table: &mut T,
@@ -95,7 +95,7 @@ fn answer_line<T: Table, K: Sink>(
     }
 }
 
-// Answers the lines that end within the chunk.
+/// Answers the lines that end within the chunk.
 fn answer_chunk<T: Table, K: Sink>(
     session: &mut Session,
     table: &mut T,
@@ -125,7 +125,7 @@ fn answer_chunk<T: Table, K: Sink>(
     Ok(())
 }
 
-// Answers the last line, if it has no newline.
+/// Answers the last line, if it has no newline.
 fn answer_last<T: Table, K: Sink>(
     session: &mut Session,
     table: &mut T,
@@ -148,7 +148,7 @@ fn answer_last<T: Table, K: Sink>(
     answer_line(session, table, sink, line)
 }
 
-// Answers what is left of a script that has ended, and writes all answers.
+/// Answers what is left of a script that has ended, and writes all answers.
 fn finish<T: Table, K: Sink>(
     session: &mut Session,
     table: &mut T,
@@ -169,7 +169,7 @@ fn finish<T: Table, K: Sink>(
 }
 
 impl Session {
-    // Nothing has come, nothing waits, nothing was counted.
+    /// Nothing has come, nothing waits, nothing was counted.
     fn new() -> Session
         ensures part { result.part ≡ Some [] }
         ensures outbox { result.outbox ≡ [] }

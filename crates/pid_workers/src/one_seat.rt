@@ -11,7 +11,7 @@ use pid_types::reply::CallFault;
 use std::alloc::{AllocError, Global};
 use std::sync::ledger::{Blank, Ledger};
 
-// A record and its one seat.
+/// A record and its one seat.
 #[derive(Drop)]
 pub struct OneSeat<L: Ledger> {
     pub record: Record<L, 1>,
@@ -19,7 +19,7 @@ pub struct OneSeat<L: Ledger> {
 }
 
 impl<L: Ledger> OneSeat<L> {
-    // The table with the root init alone.
+    /// The table with the root init alone.
     pub fn new(alloc: Global, blank: Blank, config: &Config) -> Result<OneSeat<L>, AllocError>
         requires name { blank.name ≡ L.name }
         requires parts { (blank.parts ≡ L.parts) × (L.parts ≡ 1) }

@@ -18,7 +18,7 @@ use std::sync::ledger::{Blank, Ledger};
 /// The most reads of one [`run`].
 pub const MOST_READS: u32 = 1_000_000_000;
 
-// Runs a script on a new table, and hands back the table.
+/// Runs a script on a new table, and hands back the table.
 fn run_table<L: Ledger, S: Source, K: Sink>(
     alloc: Global,
     blank: Blank,
