@@ -159,12 +159,109 @@ fn stops_at_faults(rt: HostRuntime) {
         assert_eq!(rt; sink.held.as_slice(), b"chi".as_slice());
         assert_eq!(rt; sink.failed(), breaks);
     }
-    let mut source = whole(b"fork 1\n");
-    source.most = 1;
+}
+
+#[test]
+fn stops_at_its_last_turn(rt: HostRuntime) {
+    let usual = Config::default_values();
+    let one = Tally {
+        lines: 1,
+        recorded: 1,
+        bad: 0,
+    };
+    let late = Err(RunScriptFault::TooManyTurns);
+    let answer: &[u8] = b"child 2 root 2\n";
+    let runs: [(u32, Result<Tally, RunScriptFault>, &[u8]); 4] = [
+        (8, Ok(one), answer),
+        (7, late, answer),
+        (3, late, b""),
+        (0, late, b""),
+    ];
+    for (turns, expected, text) in runs {
+        let mut source = whole(b"fork 1\n");
+        source.most = 1;
+        let mut sink = make_paper(512, false);
+        let outcome = run_here(rt.alloc(), &mut source, &mut sink, &usual, turns);
+        assert_eq!(rt; outcome, expected, "{turns} turns");
+        assert_eq!(rt; sink.held.as_slice(), text, "{turns} turns");
+    }
+}
+
+/// A namespace below the root, and who sees whom.
+const NESTED: &[u8] =
+    b"fork 1 new\nfork 2\nnspid 1 3\nnspid 2 2\nnspid 2 3\ngetppid 2\ngetpgid 2 0\ngetsid 1 3\n";
+
+const NESTED_ANSWERS: [&[u8]; 8] = [
+    b"child 2 root 2\n",
+    b"child 2 root 3\n",
+    b"3 2\n",
+    b"2\n",
+    b"ESRCH no-task\n",
+    b"0\n",
+    b"0\n",
+    b"1\n",
+];
+
+/// The first answers to the nested script.
+fn first_answers(count: usize) -> ArrayVec<u8, 512> {
+    let mut text = ArrayVec::new();
+    for answer in NESTED_ANSWERS.iter().take(count) {
+        let _ = text.try_extend_from_slice(answer);
+    }
+    text
+}
+
+#[test]
+fn answers_whole_lines_before_a_read_fault(rt: HostRuntime) {
+    let usual = Config::default_values();
+    for count in 0..=NESTED.len() {
+        let mut source = whole(&NESTED[..count]);
+        source.breaks = true;
+        let mut sink = make_paper(512, false);
+        let outcome = run_here(rt.alloc(), &mut source, &mut sink, &usual, 1000);
+        assert_eq!(rt; outcome, Err(RunScriptFault::Read), "after {count} bytes");
+        let ended = NESTED[..count].iter().filter(|b| **b == b'\n').count();
+        let text = first_answers(ended);
+        assert_eq!(rt;
+            sink.held.as_slice(),
+            text.as_slice(),
+            "after {count} bytes"
+        );
+    }
+}
+
+#[test]
+fn writes_what_fits_before_a_write_fault(rt: HostRuntime) {
+    let usual = Config::default_values();
+    let all = first_answers(8);
+    for room in 0..all.len() {
+        let mut sink = make_paper(room, true);
+        let outcome = run_here(rt.alloc(), &mut whole(NESTED), &mut sink, &usual, 1000);
+        assert_eq!(rt; outcome, Err(RunScriptFault::Write), "room for {room}");
+        assert_eq!(rt; sink.held.as_slice(), &all[..room], "room for {room}");
+    }
+    let mut sink = make_paper(all.len(), true);
+    let outcome = run_here(rt.alloc(), &mut whole(NESTED), &mut sink, &usual, 1000);
+    assert!(rt; outcome.is_ok());
+    assert_eq!(rt; sink.held.as_slice(), all.as_slice());
+}
+
+#[test]
+fn answers_a_very_long_line_once(rt: HostRuntime) -> Result<(), Fail> {
+    let letters = vec![in rt.alloc(); b'a'; 1_000_000]?;
     let mut sink = make_paper(512, false);
-    let outcome = run_here(rt.alloc(), &mut source, &mut sink, &usual, 3);
-    assert_eq!(rt; outcome, Err(RunScriptFault::TooManyTurns));
-    assert!(rt; sink.held.is_empty());
+    let usual = Config::default_values();
+    let tally = run_here(
+        rt.alloc(),
+        &mut whole(letters.as_slice()),
+        &mut sink,
+        &usual,
+        1000,
+    )?;
+    assert_eq!(rt; sink.held.as_slice(), b"bad line\n".as_slice());
+    assert_eq!(rt; tally.lines, 1);
+    assert_eq!(rt; tally.bad, 1);
+    Ok(())
 }
 
 #[test]
