@@ -1,5 +1,5 @@
 -- A line that says a call is that call's line.
-use Rattle.std.proofs.Common.{◌≡◌, ℕ, ◌^◌, ◌<◌, Bool, true, false, cond, List, [], ◌∷◌, ◌++◌, Option, Some, None, decimal, codes, refl, sym, ap, ◌∙◌, subst}
+use Rattle.std.proofs.Common.{◌≡◌, ℕ, ◌^◌, ◌<◌, Bool, true, false, cond, List, [], ◌∷◌, ◌++◌, Option, Some, None, decimal, codes, refl, sym, ap, ◌∙◌, subst, option_map, option_and_then}
 use Rattle.std.specs.Fmt.{signed_decimal}
 use Rattle.std.specs.List.{join_with_byte}
 use Rattle.std.proofs.lemmas.Option.{none-some, same_Some, option_and_then_some}
@@ -11,7 +11,7 @@ use Rattle.pid_types.specs.declared.call.Which.TheVariants.{Any, Pid, OwnGroup, 
 use Rattle.pid_types.specs.declared.call.Kind.{Kind}
 use Rattle.pid_script.specs.declared.line.Line.TheVariants as says
 use Rattle.pid_script.specs.Lines.{word_of_kind, words_of_which, line_of, Fits, FitsWhich, IsLineOf, Says}
-use Rattle.pid_script.specs.Reading.{cut, number_below, signed_of, pair_of, is_word, forked_by, fork_of, exit_of, numbered_of, which_of, wait_of, set_pgid_of, kind_of, next_of, limit_of, move_of, switch_of, subreaper_of, command_of, by_caller, by_pair, by_control, call_of, call_or_bad, parsed}
+use Rattle.pid_script.specs.Reading.{cut, number_below, signed_of, pair_of, is_word, forked_by, fork_of, exit_of, numbered_of, which_of, wait_of, set_pgid_of, kind_of, next_of, limit_of, move_of, switch_of, subreaper_of, command_of, by_pair, call_of, call_or_bad, parsed}
 use Rattle.pid_script.proofs.Cuts.{cut-Some, option_map_some}
 use Rattle.pid_script.proofs.Printed.{parsed-line_of}
 use Rattle.pid_script.proofs.Numbers.{number_below-Some, signed_of-Some}
@@ -28,18 +28,26 @@ branch word bytes x y z P then otherwise = go (is_word word bytes) refl
     go true same is = subst P (sym ((bytes_eq-Decides bytes word).0 same)) (then is)
     go false other is = otherwise is
 
+-- a number, and what stands behind it and a space
+number_first : {A : Type 0} (most : ℕ) (words : List ℕ) (then : ℕ → List ℕ → Option A) (x : A) (P : Type 0)
+    → ((n : ℕ) (rest : List ℕ) → words ≡ decimal n ++ 32 ∷ rest → n < most → then n rest ≡ Some x → P)
+    → option_and_then (λ (p : List ℕ × List ℕ). option_and_then (λ n. then n p.1) (number_below most p.0)) (cut 32 words) ≡ Some x → P
+number_first most words then x P found is =
+    option_and_then_some _ (cut 32 words) x is (λ p cuts rest.
+    option_and_then_some _ (number_below most p.0) x rest (λ n number last.
+    let a = number_below-Some most p.0 n number in
+    found n p.1 (cut-Some 32 words p cuts ∙ ap (λ w. w ++ 32 ∷ p.1) (sym a.1)) a.0 last))
+
 read_exit : (words : List ℕ) (c : Call) → exit_of words ≡ Some c → Spells (codes "exit") words c
 unfolding exit_of line_of
 read_exit words c is =
-    option_and_then_some _ (cut 32 words) c is (λ p cuts rest.
-    option_and_then_some _ (number_below (2 ^ 32) p.0) c rest (λ caller first rest.
-    option_and_then_some _ (number_below (2 ^ 8) p.1) c rest (λ status second last.
-    let a = number_below-Some (2 ^ 32) p.0 caller first in
-    let b = number_below-Some (2 ^ 8) p.1 status second in
+    number_first (2 ^ 32) words _ c _ (λ caller rest front below then.
+    option_and_then_some _ (number_below (2 ^ 8) rest) c then (λ status second last.
+    let b = number_below-Some (2 ^ 8) rest status second in
     subst (Spells (codes "exit") words) (same_Some _ c last) (record {
-      written = ap (λ ws. codes "exit" ++ 32 ∷ ws) (cut-Some 32 words p cuts ∙ ap (λ w. w ++ 32 ∷ p.1) (sym a.1) ∙ ap (λ w. decimal caller ++ 32 ∷ w) (sym b.1));
-      fits = (a.0, b.0);
-    }))))
+      written = ap (λ ws. codes "exit" ++ 32 ∷ ws) (front ∙ ap (λ w. decimal caller ++ 32 ∷ w) (sym b.1));
+      fits = (below, b.0);
+    }))) is
 
 read_forked : (words : List ℕ) (c : Call) (o : Option (List ℕ × List ℕ)) → cut 32 words ≡ o → forked_by words o ≡ Some c → Spells (codes "fork") words c
 unfolding line_of
@@ -90,14 +98,11 @@ wait_line caller (Group number) words parts below fits = record { written = ap (
 read_wait : (words : List ℕ) (c : Call) → wait_of words ≡ Some c → Spells (codes "wait") words c
 unfolding wait_of line_of
 read_wait words c is =
-    option_and_then_some _ (cut 32 words) c is (λ p cuts rest.
-    option_and_then_some _ (number_below (2 ^ 32) p.0) c rest (λ caller first rest.
-    option_and_then_some _ (which_of p.1) c rest (λ which second last.
-    let a = number_below-Some (2 ^ 32) p.0 caller first in
-    let b = read_which p.1 which second in
-    let parts : words ≡ decimal caller ++ 32 ∷ join_with_byte 32 (words_of_which which) =
-    cut-Some 32 words p cuts ∙ ap (λ w. w ++ 32 ∷ p.1) (sym a.1) ∙ ap (λ w. decimal caller ++ 32 ∷ w) b.0 in
-    subst (Spells (codes "wait") words) (same_Some _ c last) (wait_line caller which words parts a.0 b.1))))
+    number_first (2 ^ 32) words _ c _ (λ caller rest front below then.
+    option_and_then_some _ (which_of rest) c then (λ which second last.
+    let b = read_which rest which second in
+    subst (Spells (codes "wait") words) (same_Some _ c last)
+    (wait_line caller which words (front ∙ ap (λ w. decimal caller ++ 32 ∷ w) b.0) below b.1))) is
 
 read_set_pgid : (words : List ℕ) (c : Call) → set_pgid_of words ≡ Some c → Spells (codes "setpgid") words c
 unfolding set_pgid_of line_of
@@ -146,33 +151,28 @@ read_next words c is =
 read_limit : (words : List ℕ) (c : Call) → limit_of words ≡ Some c → Spells (codes "limit") words c
 unfolding limit_of line_of
 read_limit words c is =
-    option_and_then_some _ (cut 32 words) c is (λ p cuts rest.
-    option_and_then_some _ (number_below (2 ^ 64) p.0) c rest (λ id first rest.
-    let a = number_below-Some (2 ^ 64) p.0 id first in
-    let front : words ≡ decimal id ++ 32 ∷ p.1 = cut-Some 32 words p cuts ∙ ap (λ w. w ++ 32 ∷ p.1) (sym a.1) in
+    number_first (2 ^ 64) words _ c _ (λ id rest front below then.
     subst (λ ws. Spells (codes "limit") ws c) (sym front)
-    (branch (codes "max") p.1 _ _ c (λ w. Spells (codes "limit") (decimal id ++ 32 ∷ w) c)
-    (λ none. subst (Spells (codes "limit") (decimal id ++ 32 ∷ codes "max")) (same_Some _ c none) (record { written = refl; fits = (a.0, tt) }))
-    (λ some. option_map_some _ (number_below (2 ^ 32) p.1) c some (λ limit second same.
-    let b = number_below-Some (2 ^ 32) p.1 limit second in
-    subst (Spells (codes "limit") (decimal id ++ 32 ∷ p.1)) same (record {
+    (branch (codes "max") rest _ _ c (λ w. Spells (codes "limit") (decimal id ++ 32 ∷ w) c)
+    (λ none. subst (Spells (codes "limit") (decimal id ++ 32 ∷ codes "max")) (same_Some _ c none) (record { written = refl; fits = (below, tt) }))
+    (λ some. option_map_some _ (number_below (2 ^ 32) rest) c some (λ limit second same.
+    let b = number_below-Some (2 ^ 32) rest limit second in
+    subst (Spells (codes "limit") (decimal id ++ 32 ∷ rest)) same (record {
       written = ap (λ w. codes "limit" ++ 32 ∷ (decimal id ++ 32 ∷ w)) (sym b.1);
-      fits = (a.0, b.0);
+      fits = (below, b.0);
     })))
-    rest)))
+    then)) is
 
 read_move : (words : List ℕ) (c : Call) → move_of words ≡ Some c → Spells (codes "move") words c
 unfolding move_of line_of
 read_move words c is =
-    option_and_then_some _ (cut 32 words) c is (λ p cuts rest.
-    option_and_then_some _ (number_below (2 ^ 32) p.0) c rest (λ task first rest.
-    option_and_then_some _ (number_below (2 ^ 64) p.1) c rest (λ id second last.
-    let a = number_below-Some (2 ^ 32) p.0 task first in
-    let b = number_below-Some (2 ^ 64) p.1 id second in
+    number_first (2 ^ 32) words _ c _ (λ task rest front below then.
+    option_and_then_some _ (number_below (2 ^ 64) rest) c then (λ id second last.
+    let b = number_below-Some (2 ^ 64) rest id second in
     subst (Spells (codes "move") words) (same_Some _ c last) (record {
-      written = ap (λ ws. codes "move" ++ 32 ∷ ws) (cut-Some 32 words p cuts ∙ ap (λ w. w ++ 32 ∷ p.1) (sym a.1) ∙ ap (λ w. decimal task ++ 32 ∷ w) (sym b.1));
-      fits = (a.0, b.0);
-    }))))
+      written = ap (λ ws. codes "move" ++ 32 ∷ ws) (front ∙ ap (λ w. decimal task ++ 32 ∷ w) (sym b.1));
+      fits = (below, b.0);
+    }))) is
 
 abbrev word_of_switch : Bool → List ℕ
 word_of_switch true = codes "on"
@@ -195,40 +195,27 @@ subreaper_line caller false words parts below = record { written = ap (λ ws. co
 read_subreaper : (words : List ℕ) (c : Call) → subreaper_of words ≡ Some c → Spells (codes "subreaper") words c
 unfolding subreaper_of
 read_subreaper words c is =
-    option_and_then_some _ (cut 32 words) c is (λ p cuts rest.
-    option_and_then_some _ (number_below (2 ^ 32) p.0) c rest (λ caller first rest.
-    option_and_then_some _ (switch_of p.1) c rest (λ on second last.
-    let a = number_below-Some (2 ^ 32) p.0 caller first in
-    let parts : words ≡ decimal caller ++ 32 ∷ word_of_switch on =
-    cut-Some 32 words p cuts ∙ ap (λ w. w ++ 32 ∷ p.1) (sym a.1) ∙ ap (λ w. decimal caller ++ 32 ∷ w) (read_switch p.1 on second) in
-    subst (Spells (codes "subreaper") words) (same_Some _ c last) (subreaper_line caller on words parts a.0))))
+    number_first (2 ^ 32) words _ c _ (λ caller rest front below then.
+    option_and_then_some _ (switch_of rest) c then (λ on second last.
+    subst (Spells (codes "subreaper") words) (same_Some _ c last)
+    (subreaper_line caller on words (front ∙ ap (λ w. decimal caller ++ 32 ∷ w) (read_switch rest on second)) below))) is
 
--- a command about one process
-read_one : (word : List ℕ) (call : ℕ → Call) → ((n : ℕ) → line_of (call n) ≡ word ++ 32 ∷ decimal n) → ((n : ℕ) → n < 2 ^ 32 → Fits (call n))
-    → (words : List ℕ) (c : Call) → by_caller call words ≡ Some c → Spells word words c
-read_one word call line fits words c is =
-    option_map_some call (number_below (2 ^ 32) words) c is (λ n number same.
-    let a = number_below-Some (2 ^ 32) words n number in
-    subst (Spells word words) same (record { written = ap (λ w. word ++ 32 ∷ w) (sym a.1) ∙ sym (line n); fits = fits n a.0 }))
-
--- a command about one control group
-read_id : (word : List ℕ) (call : ℕ → Call) → ((n : ℕ) → line_of (call n) ≡ word ++ 32 ∷ decimal n) → ((n : ℕ) → n < 2 ^ 64 → Fits (call n))
-    → (words : List ℕ) (c : Call) → by_control call words ≡ Some c → Spells word words c
-read_id word call line fits words c is =
-    option_map_some call (number_below (2 ^ 64) words) c is (λ n number same.
-    let a = number_below-Some (2 ^ 64) words n number in
+-- a command with one number, of a process or of a control group
+read_one : (most : ℕ) (word : List ℕ) (call : ℕ → Call) → ((n : ℕ) → line_of (call n) ≡ word ++ 32 ∷ decimal n) → ((n : ℕ) → n < most → Fits (call n))
+    → (words : List ℕ) (c : Call) → option_map call (number_below most words) ≡ Some c → Spells word words c
+read_one most word call line fits words c is =
+    option_map_some call (number_below most words) c is (λ n number same.
+    let a = number_below-Some most words n number in
     subst (Spells word words) same (record { written = ap (λ w. word ++ 32 ∷ w) (sym a.1) ∙ sym (line n); fits = fits n a.0 }))
 
 read_pair : (words : List ℕ) (pair : ℕ × ℕ) → pair_of words ≡ Some pair → (words ≡ decimal pair.0 ++ 32 ∷ decimal pair.1) × (pair.0 < 2 ^ 32) × (pair.1 < 2 ^ 32)
 unfolding pair_of
 read_pair words pair is =
-    option_and_then_some _ (cut 32 words) pair is (λ p cuts rest.
-    option_and_then_some _ (number_below (2 ^ 32) p.0) pair rest (λ first is_first rest.
-    option_and_then_some _ (number_below (2 ^ 32) p.1) pair rest (λ second is_second last.
-    let a = number_below-Some (2 ^ 32) p.0 first is_first in
-    let b = number_below-Some (2 ^ 32) p.1 second is_second in
+    number_first (2 ^ 32) words _ pair _ (λ first rest front below then.
+    option_and_then_some _ (number_below (2 ^ 32) rest) pair then (λ second is_second last.
+    let b = number_below-Some (2 ^ 32) rest second is_second in
     subst (λ q. (words ≡ decimal q.0 ++ 32 ∷ decimal q.1) × (q.0 < 2 ^ 32) × (q.1 < 2 ^ 32)) (same_Some _ pair last)
-    (cut-Some 32 words p cuts ∙ ap (λ w. w ++ 32 ∷ p.1) (sym a.1) ∙ ap (λ w. decimal first ++ 32 ∷ w) (sym b.1), a.0, b.0))))
+    (front ∙ ap (λ w. decimal first ++ 32 ∷ w) (sym b.1), below, b.0))) is
 
 -- a command about two processes
 read_two : (word : List ℕ) (call : ℕ → ℕ → Call) → ((a b : ℕ) → line_of (call a b) ≡ word ++ 32 ∷ (decimal a ++ 32 ∷ decimal b))
@@ -242,22 +229,22 @@ read_command : (command words : List ℕ) (c : Call) → command_of command word
 unfolding command_of line_of
 read_command command words c is =
     branch (codes "fork") command _ _ c (λ w. Spells w words c) (read_fork words c) (λ rest.
-    branch (codes "exec") command _ _ c (λ w. Spells w words c) (read_one (codes "exec") Exec (λ n. refl) (λ n h. h) words c) (λ rest.
+    branch (codes "exec") command _ _ c (λ w. Spells w words c) (read_one (2 ^ 32) (codes "exec") Exec (λ n. refl) (λ n h. h) words c) (λ rest.
     branch (codes "exit") command _ _ c (λ w. Spells w words c) (read_exit words c) (λ rest.
     branch (codes "wait") command _ _ c (λ w. Spells w words c) (read_wait words c) (λ rest.
     branch (codes "setpgid") command _ _ c (λ w. Spells w words c) (read_set_pgid words c) (λ rest.
-    branch (codes "setsid") command _ _ c (λ w. Spells w words c) (read_one (codes "setsid") SetSid (λ n. refl) (λ n h. h) words c) (λ rest.
-    branch (codes "getpid") command _ _ c (λ w. Spells w words c) (read_one (codes "getpid") GetPid (λ n. refl) (λ n h. h) words c) (λ rest.
-    branch (codes "getppid") command _ _ c (λ w. Spells w words c) (read_one (codes "getppid") GetPpid (λ n. refl) (λ n h. h) words c) (λ rest.
+    branch (codes "setsid") command _ _ c (λ w. Spells w words c) (read_one (2 ^ 32) (codes "setsid") SetSid (λ n. refl) (λ n h. h) words c) (λ rest.
+    branch (codes "getpid") command _ _ c (λ w. Spells w words c) (read_one (2 ^ 32) (codes "getpid") GetPid (λ n. refl) (λ n h. h) words c) (λ rest.
+    branch (codes "getppid") command _ _ c (λ w. Spells w words c) (read_one (2 ^ 32) (codes "getppid") GetPpid (λ n. refl) (λ n h. h) words c) (λ rest.
     branch (codes "getpgid") command _ _ c (λ w. Spells w words c) (read_two (codes "getpgid") GetPgid (λ a b. refl) (λ a b h k. (h, k)) words c) (λ rest.
     branch (codes "getsid") command _ _ c (λ w. Spells w words c) (read_two (codes "getsid") GetSid (λ a b. refl) (λ a b h k. (h, k)) words c) (λ rest.
     branch (codes "nspid") command _ _ c (λ w. Spells w words c) (read_two (codes "nspid") NsPid (λ a b. refl) (λ a b h k. (h, k)) words c) (λ rest.
     branch (codes "next") command _ _ c (λ w. Spells w words c) (read_next words c) (λ rest.
-    branch (codes "mk") command _ _ c (λ w. Spells w words c) (read_id (codes "mk") MakeControl (λ n. refl) (λ n h. h) words c) (λ rest.
-    branch (codes "rm") command _ _ c (λ w. Spells w words c) (read_id (codes "rm") RemoveControl (λ n. refl) (λ n h. h) words c) (λ rest.
+    branch (codes "mk") command _ _ c (λ w. Spells w words c) (read_one (2 ^ 64) (codes "mk") MakeControl (λ n. refl) (λ n h. h) words c) (λ rest.
+    branch (codes "rm") command _ _ c (λ w. Spells w words c) (read_one (2 ^ 64) (codes "rm") RemoveControl (λ n. refl) (λ n h. h) words c) (λ rest.
     branch (codes "limit") command _ _ c (λ w. Spells w words c) (read_limit words c) (λ rest.
     branch (codes "move") command _ _ c (λ w. Spells w words c) (read_move words c) (λ rest.
-    branch (codes "count") command _ _ c (λ w. Spells w words c) (read_id (codes "count") Count (λ n. refl) (λ n h. h) words c) (λ rest.
+    branch (codes "count") command _ _ c (λ w. Spells w words c) (read_one (2 ^ 64) (codes "count") Count (λ n. refl) (λ n h. h) words c) (λ rest.
     branch (codes "join") command _ _ c (λ w. Spells w words c) (read_two (codes "join") Join (λ a b. refl) (λ a b h k. (h, k)) words c) (λ rest.
     branch (codes "subreaper") command _ _ c (λ w. Spells w words c) (read_subreaper words c) (λ none. absurd (none-some c none))
     rest) rest) rest) rest) rest) rest) rest) rest) rest) rest) rest) rest) rest) rest) rest) rest) rest) rest) is
