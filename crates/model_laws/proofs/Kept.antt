@@ -7,7 +7,7 @@ use Rattle.pid_types.specs.declared.plain.Row.{Row}
 use Rattle.pid_types.specs.declared.plain.Control.{Control}
 use Rattle.pid_types.specs.declared.reply.Reply.{Reply}
 use Rattle.pid_types.specs.State.{State}
-use Rattle.pid_types.specs.Names.{space_at, path_up, is_numbered, same_name, is_parent, task_at, names_in_use}
+use Rattle.pid_types.specs.Names.{is_live, space_at, path_up, is_numbered, same_name, is_parent, task_at, names_in_use}
 use Rattle.pid_types.specs.Controls.{control_at}
 use Rattle.pid_types.specs.Outcome.{Outcome, sweep, answered, changed}
 use Rattle.pid_types.specs.Groups.{target_of, session_group, group_for, in_group, with_group, set_pgid, has_members, leading, with_session, set_sid}
@@ -64,6 +64,25 @@ Keeps-map_rows stamp state f reply sound below keeps children =
       children = each_of_map (λ r. r.children_space < stamp) f state.rows children;
     }))
 
+-- a change of rows that keeps whose they are: their names, parents, lives, groups and sessions
+Keeps-whose : (stamp : ℕ) (state : State) (f : Row → Row) (reply : Reply) → IsSound state → IsBelow stamp state
+    → ((r : Row) → (f r).name ≡ r.name) → ((r : Row) → (f r).parent ≡ r.parent) → ((r : Row) → is_live (f r) ≡ is_live r)
+    → ((r : Row) → (f r).group ≡ r.group) → ((r : Row) → (f r).session ≡ r.session)
+    → ((r : Row) → IsIn r state.rows → HasGoodChildrenSpace state.spaces (f r))
+    → ((r : Row) → IsIn r state.rows → (c : Control) × (control_at state.controls (f r).home ≡ Some c))
+    → ((r : Row) → IsIn r state.rows → (f r).children_space < stamp) → Keeps stamp (changed (record state { rows = map f state.rows }) reply)
+Keeps-whose stamp state f reply sound below names parents lives groups sessions children homes below_stamp =
+    Keeps-map_rows stamp state f reply sound below (record {
+      names = names;
+      parents = parents;
+      lives = lives;
+      group = λ r i. subst (λ a. IsIn a (names_in_use state.rows)) (sym (groups r)) (group_in_use state.rows r i);
+      session = λ r i. subst (λ a. IsIn a (names_in_use state.rows)) (sym (sessions r)) (session_in_use state.rows r i);
+      children = children;
+      groups = HasGoodGroups-map state.rows f names groups sessions sound.coherent.groups;
+      homes = homes;
+    }) below_stamp
+
 -- either the row has the name, or it has not
 name_cases : (r : Row) (name : Name) → ((same_name r.name name ≡ true) × (r.name ≡ name)) ⊎ (same_name r.name name ≡ false)
 name_cases r name = elim (cases_Bool (same_name r.name name)) [ inl e ↦ inl (e, same_name-true r.name name e) | inr e ↦ inr e ]
@@ -75,49 +94,24 @@ pub exec_keeps : (state : State) (stamp n : ℕ) → IsSound state → IsBelow s
 unfolding with_executed
 exec_keeps state stamp n sound below =
     exec_cases (Keeps stamp) state n (λ r. Keeps-same stamp state _ sound below) (λ caller found.
-    Keeps-map_rows stamp state (executed_by caller.name) _ sound below (record {
-      names = λ r. refl;
-      parents = λ r. refl;
-      lives = λ r. refl;
-      group = λ r i. group_in_use state.rows r i;
-      session = λ r i. session_in_use state.rows r i;
-      children = sound.coherent.children;
-      groups = HasGoodGroups-map state.rows (executed_by caller.name) (λ r. refl) (λ r. refl) (λ r. refl) sound.coherent.groups;
-      homes = sound.coherent.homes;
-    }) below.children)
+    Keeps-whose stamp state (executed_by caller.name) _ sound below (λ r. refl) (λ r. refl) (λ r. refl) (λ r. refl) (λ r. refl)
+    sound.coherent.children sound.coherent.homes below.children)
 
 -- and so does the subreaper's mark
 pub set_subreaper_keeps : (state : State) (stamp n : ℕ) (on : Bool) → IsSound state → IsBelow stamp state → Keeps stamp (set_subreaper state n on)
 unfolding with_subreaper
 set_subreaper_keeps state stamp n on sound below =
     set_subreaper_cases (Keeps stamp) state n on (λ r. Keeps-same stamp state _ sound below) (λ caller found.
-    Keeps-map_rows stamp state (marked caller.name on) _ sound below (record {
-      names = λ r. refl;
-      parents = λ r. refl;
-      lives = λ r. refl;
-      group = λ r i. group_in_use state.rows r i;
-      session = λ r i. session_in_use state.rows r i;
-      children = sound.coherent.children;
-      groups = HasGoodGroups-map state.rows (marked caller.name on) (λ r. refl) (λ r. refl) (λ r. refl) sound.coherent.groups;
-      homes = sound.coherent.homes;
-    }) below.children)
+    Keeps-whose stamp state (marked caller.name on) _ sound below (λ r. refl) (λ r. refl) (λ r. refl) (λ r. refl) (λ r. refl)
+    sound.coherent.children sound.coherent.homes below.children)
 
 -- a move does
 pub move_task_keeps : (state : State) (stamp n id : ℕ) → IsSound state → IsBelow stamp state → Keeps stamp (move_task state n id)
 unfolding with_home
 move_task_keeps state stamp n id sound below =
     move_task_cases (Keeps stamp) state n id (λ r. Keeps-same stamp state _ sound below) (λ task c found there.
-    Keeps-map_rows stamp state (moved_home task.name id) _ sound below (record {
-      names = λ r. refl;
-      parents = λ r. refl;
-      lives = λ r. refl;
-      group = λ r i. group_in_use state.rows r i;
-      session = λ r i. session_in_use state.rows r i;
-      children = sound.coherent.children;
-      groups = HasGoodGroups-map state.rows (moved_home task.name id) (λ r. refl) (λ r. refl) (λ r. refl) sound.coherent.groups;
-      homes =
-          λ r i. cond_both (same_name r.name task.name) id r.home (λ x. (d : Control) × (control_at state.controls x ≡ Some d)) (λ e. (c, there)) (λ e. sound.coherent.homes r i);
-    }) below.children)
+    Keeps-whose stamp state (moved_home task.name id) _ sound below (λ r. refl) (λ r. refl) (λ r. refl) (λ r. refl) (λ r. refl)
+    sound.coherent.children (λ r i. cond_both (same_name r.name task.name) id r.home (λ x. (d : Control) × (control_at state.controls x ≡ Some d)) (λ e. (c, there)) (λ e. sound.coherent.homes r i)) below.children)
 
 -- a join does
 pub join_keeps : (state : State) (stamp n target : ℕ) → IsSound state → IsBelow stamp state → Keeps stamp (join state n target)
@@ -128,16 +122,9 @@ join_keeps state stamp n target sound below =
     let within : IsIn caller.name.space (path_up state.spaces row.name.space) = (number-within state.spaces row.name caller.name.space target (is_numbered-true state.spaces row.name caller.name.space target seen.1)).0 in
     let listed = (sound.coherent.numbered row.name (own_name_in_use state.rows row seen.0)).listed row.name.space (path_first state.spaces row.name.space) in
     let at = space_at-Some state.spaces row.name.space listed.0 listed.1 in
-    Keeps-map_rows stamp state (joined caller.name row.name.space) _ sound below (record {
-      names = λ r. refl;
-      parents = λ r. refl;
-      lives = λ r. refl;
-      group = λ r i. group_in_use state.rows r i;
-      session = λ r i. session_in_use state.rows r i;
-      children = λ r i. space caller row r within (sound.coherent.children r i) (name_cases r caller.name);
-      groups = HasGoodGroups-map state.rows (joined caller.name row.name.space) (λ r. refl) (λ r. refl) (λ r. refl) sound.coherent.groups;
-      homes = sound.coherent.homes;
-    }) (λ r i. cond_both (same_name r.name caller.name) row.name.space r.children_space (λ x. x < stamp) (λ e. subst (λ x. x < stamp) at.1 (below.spaces listed.0 at.0)) (λ e. below.children r i)))
+    Keeps-whose stamp state (joined caller.name row.name.space) _ sound below (λ r. refl) (λ r. refl) (λ r. refl) (λ r. refl) (λ r. refl)
+    (λ r i. space caller row r within (sound.coherent.children r i) (name_cases r caller.name)) sound.coherent.homes
+    (λ r i. cond_both (same_name r.name caller.name) row.name.space r.children_space (λ x. x < stamp) (λ e. subst (λ x. x < stamp) at.1 (below.spaces listed.0 at.0)) (λ e. below.children r i)))
   where
     space : (caller row r : Row) → IsIn caller.name.space (path_up state.spaces row.name.space) → HasGoodChildrenSpace state.spaces r
         → ((same_name r.name caller.name ≡ true) × (r.name ≡ caller.name)) ⊎ (same_name r.name caller.name ≡ false)
