@@ -1,5 +1,5 @@
 //! One worker's job.
-ghost use Rattle.std.specs.Prelude.{◌≡◌, IfOk};
+ghost use Rattle.std.specs.Prelude.{◌≡◌, IfOk, OnErr};
 ghost use Rattle.pid_jobs.specs.Job.{Fulfils};
 
 use crate::desk::{Desk, Gate};
@@ -21,6 +21,7 @@ pub fn work<D: Desk, G: Gate, R: Wait + Clock>(
 ) -> Result<Work, AllocError>
     ensures done { IfOk result (λ w. Fulfils calls.now w.receipts.items w.refused) }
     ensures worker { D.worker desk.new ≡ D.worker desk.old }
+    ensures untouched { OnErr result (desk.new ≡ desk.old) }
 {
     let mut receipts = Vec::with_capacity(alloc, calls.len())?;
     let mut refused = 0u64;

@@ -1,12 +1,13 @@
 ghost use Rattle.std.specs.Prelude.{◌≡◌, ℕ};
 
 use super::*;
-use locked_table::{Record, Shared};
+use locked_table::Record;
 use pid_types::call::Call;
 use pid_types::config::Config;
 use pid_types::entry::Receipt;
+use pid_types::plain::Plain;
 use pid_types::reply::{CallFault, Refusal, Reply};
-use std::alloc::Global;
+use std::alloc::{AllocError, Global};
 use std::marker::Brand;
 use std::process::Abort;
 use std::sync::Wait;
@@ -85,35 +86,27 @@ fn two_workers<L: Ledger + Send + Sync, R: Threads + Wait + Clock + Abort + Sync
     requires parts { blank.parts ≡ L.parts }
     requires two { blank.parts ≡ 2 }
 {
-    let first = vec![in alloc; FORK, Call::GetPpid { caller: 3 }]?;
-    let second = vec![in alloc; FORK, Call::GetPpid { caller: 2 }]?;
-    let jobs = [first, second];
+    let jobs = [
+        vec![in alloc; FORK, Call::GetPpid { caller: 3 }]?,
+        vec![in alloc; FORK, Call::GetPpid { caller: 2 }]?,
+    ];
     let gate = TurnGate::new();
     let config = Config::default_values();
-    let finished = run_workers::<L, TurnGate, R, 2>(rt, alloc, blank, &config, &jobs, &gate).expect(
-        rt, "all ran",
-    );
-    let Finished { kept, works } = finished;
-    assert_eq!(rt; works.len(), 2);
-    assert_eq!(rt; works[0].receipts.len(), 2);
-    assert_eq!(rt; works[1].receipts.len(), 2);
-    assert_eq!(rt;
-        works[1].receipts[0].reply,
-        Reply::Forked { child: 2, root: 2 }
-    );
-    assert_eq!(rt; works[1].receipts[0].ordinal, 0);
-    assert_eq!(rt; works[1].receipts[1].reply, Reply::Number(1));
-    assert_eq!(rt;
-        works[0].receipts[0].reply,
-        Reply::Forked { child: 3, root: 3 }
-    );
-    assert_eq!(rt; works[0].receipts[0].ordinal, 1);
-    assert_eq!(rt; works[0].receipts[1].reply, Reply::Number(1));
-    assert_eq!(rt; works[0].refused, 0);
-    assert_eq!(rt; works[1].refused, 0);
+    let Finished { kept, works } = run_workers::<L, TurnGate, R, 2>(
+        rt, alloc, blank, &config, &jobs, &gate,
+    )?;
     assert!(rt; !gate.gave_up.load(Ordering::SeqCst), "a wait gave up");
-    assert_eq!(rt; kept.recorded(0), 2);
-    assert_eq!(rt; kept.recorded(1), 2);
+    assert_eq!(rt; works.len(), 2);
+    // Worker 1 goes first.
+    for (worker, ordinal, child) in [(1usize, 0u64, 2u32), (0, 1, 3)] {
+        let receipts = &works[worker].receipts;
+        assert_eq!(rt; receipts.len(), 2);
+        assert_eq!(rt; receipts[0].ordinal, ordinal);
+        assert_eq!(rt; receipts[0].reply, Reply::Forked { child, root: child });
+        assert_eq!(rt; receipts[1].reply, Reply::Number(1));
+        assert_eq!(rt; works[worker].refused, 0);
+        assert_eq!(rt; kept.recorded(worker), 2);
+    }
     assert_eq!(rt; kept.total(), 4);
     assert!(rt; audit(&kept, works.as_slice()).is_ok());
     Ok(())
@@ -122,6 +115,49 @@ fn two_workers<L: Ledger + Send + Sync, R: Threads + Wait + Clock + Abort + Sync
 #[test]
 fn two_run_at_once(rt: HostRuntime) -> Result<(), Fail> {
     two_workers::<Brand, HostRuntime>(&rt, rt.alloc(), Blank::new(2))
+}
+
+/// What a run of sixteen workers leaves, for any ledger.
+#[derive(Drop)]
+struct Ran {
+    works: Vec<Work>,
+    /// How many calls of each worker were recorded.
+    recorded: Vec<u64>,
+    total: u64,
+    plain: Plain,
+}
+
+/// Runs sixteen jobs.
+fn sixteen_workers<
+    L: Ledger + Send + Sync,
+    G: Gate + Sync,
+    R: Threads + Wait + Clock + Abort + Sync,
+>(
+    rt: &R,
+    alloc: Global,
+    blank: Blank,
+    config: &Config,
+    jobs: &[Vec<Call>],
+    gate: &G,
+) -> Result<Ran, Fail>
+    requires name { blank.name ≡ L.name }
+    requires parts { blank.parts ≡ L.parts }
+    requires sixteen { blank.parts ≡ 16 }
+{
+    assert_eq!(rt; jobs.len(), 16);
+    let Finished { kept, works } = run_workers::<L, G, R, 16>(
+        rt, alloc, blank, config, jobs, gate,
+    )?;
+    let mut recorded = Vec::new(alloc);
+    for worker in 0..16 {
+        recorded.push(kept.recorded(worker))?;
+    }
+    Ok(Ran {
+        works,
+        recorded,
+        total: kept.total(),
+        plain: kept.snapshot()?,
+    })
 }
 
 /// Holds each first call until as many are there as there are workers.
@@ -149,60 +185,59 @@ impl Gate for MeetingGate {
     fn after<R: Wait + Clock>(&self, _rt: &R, _worker: usize, _k: u64) {}
 }
 
-/// How many receipts were answered by a fork, and how many by the refusal.
-fn count_replies(works: &[Work], refusal: &Reply) -> (u64, u64) {
-    let mut forked = 0u64;
-    let mut refused = 0u64;
+/// The root numbers of all forks, in rising order.
+fn forked(alloc: Global, works: &[Work]) -> Result<Vec<u32>, AllocError> {
+    let mut roots = Vec::new(alloc);
     for work in works {
         for receipt in &work.receipts {
-            if let Reply::Forked { .. } = receipt.reply {
-                forked = forked.saturating_add(1);
-            }
-            if receipt.reply == *refusal {
-                refused = refused.saturating_add(1);
+            if let Reply::Forked { root, .. } = receipt.reply {
+                roots.push(root)?;
             }
         }
     }
-    (forked, refused)
+    roots.sort()?;
+    Ok(roots)
 }
 
-fn sixteen_meet<L: Ledger + Send + Sync, R: Threads + Wait + Clock + Abort + Sync>(
-    rt: &R,
-    alloc: Global,
-    blank: Blank,
-) -> Result<(), Fail>
-    requires name { blank.name ≡ L.name }
-    requires parts { blank.parts ≡ L.parts }
-    requires sixteen { blank.parts ≡ 16 }
-{
-    let mut jobs = Vec::new(alloc);
-    for _ in 0..16u32 {
-        jobs.push(vec![in alloc; FORK; 20]?)?;
+/// How many receipts have the reply.
+fn count_replies(works: &[Work], reply: &Reply) -> usize {
+    let mut count = 0usize;
+    for work in works {
+        let here = work.receipts.iter().filter(|r| r.reply == *reply).count();
+        count = count.saturating_add(here);
     }
-    assert_eq!(rt; jobs.len(), 16);
-    let gate = MeetingGate {
-        here: AtomicU64::new(0),
-        gave_up: AtomicBool::new(false),
-    };
-    let config = Config::new(301, 1).expect(rt, "a configuration");
-    let finished = run_workers::<L, MeetingGate, R, 16>(
-        rt, alloc, blank, &config, &jobs, &gate,
-    ).expect(rt, "all ran");
-    let Finished { kept, works } = finished;
-    assert!(rt; !gate.gave_up.load(Ordering::SeqCst), "a wait gave up");
-    assert_eq!(rt; kept.total(), 320);
-    for worker in 0..16 {
-        assert_eq!(rt; kept.recorded(worker), 20);
-    }
-    let full = Reply::Refused(Refusal::NoNumber(0));
-    assert_eq!(rt; count_replies(works.as_slice(), &full), (299, 21));
-    assert_eq!(rt; kept.snapshot()?.rows.len(), 300);
-    Ok(())
+    count
 }
 
 #[test]
 fn sixteen_share_the_numbers(rt: HostRuntime) -> Result<(), Fail> {
-    sixteen_meet::<Brand, HostRuntime>(&rt, rt.alloc(), Blank::new(16))
+    let alloc = rt.alloc();
+    let mut jobs = Vec::new(alloc);
+    for _ in 0..16u32 {
+        jobs.push(vec![in alloc; FORK; 20]?)?;
+    }
+    let gate = MeetingGate {
+        here: AtomicU64::new(0),
+        gave_up: AtomicBool::new(false),
+    };
+    let config = Config::new(301, 1)?;
+    let ran = sixteen_workers::<Brand, MeetingGate, HostRuntime>(
+        &rt,
+        alloc,
+        Blank::new(16),
+        &config,
+        &jobs,
+        &gate,
+    )?;
+    assert!(rt; !gate.gave_up.load(Ordering::SeqCst), "a wait gave up");
+    assert_eq!(rt; ran.total, 320);
+    assert_eq!(rt; ran.recorded.as_slice(), [20; 16].as_slice());
+    let roots = forked(alloc, ran.works.as_slice())?;
+    assert!(rt; roots.iter().copied().eq(2..=300));
+    let full = Reply::Refused(Refusal::NoNumber(0));
+    assert_eq!(rt; count_replies(ran.works.as_slice(), &full), 21);
+    assert_eq!(rt; ran.plain.rows.len(), 300);
+    Ok(())
 }
 
 /// Holds the first call of each worker but the first until that one's third call is answered.
@@ -226,15 +261,9 @@ impl Gate for LimitGate {
     }
 }
 
-fn sixteen_are_limited<L: Ledger + Send + Sync, R: Threads + Wait + Clock + Abort + Sync>(
-    rt: &R,
-    alloc: Global,
-    blank: Blank,
-) -> Result<(), Fail>
-    requires name { blank.name ≡ L.name }
-    requires parts { blank.parts ≡ L.parts }
-    requires sixteen { blank.parts ≡ 16 }
-{
+#[test]
+fn sixteen_share_a_limit(rt: HostRuntime) -> Result<(), Fail> {
+    let alloc = rt.alloc();
     let limit = Call::SetLimit {
         id: 1,
         limit: Some(9),
@@ -246,29 +275,27 @@ fn sixteen_are_limited<L: Ledger + Send + Sync, R: Threads + Wait + Clock + Abor
     for _ in 0..15u32 {
         jobs.push(vec![in alloc; FORK]?)?;
     }
-    assert_eq!(rt; jobs.len(), 16);
     let gate = LimitGate {
         limited: AtomicBool::new(false),
         gave_up: AtomicBool::new(false),
     };
     let config = Config::default_values();
-    let finished = run_workers::<L, LimitGate, R, 16>(
-        rt, alloc, blank, &config, &jobs, &gate,
-    ).expect(rt, "all ran");
-    let Finished { kept, works } = finished;
+    let ran = sixteen_workers::<Brand, LimitGate, HostRuntime>(
+        &rt,
+        alloc,
+        Blank::new(16),
+        &config,
+        &jobs,
+        &gate,
+    )?;
     assert!(rt; !gate.gave_up.load(Ordering::SeqCst), "a wait gave up");
-    assert_eq!(rt; kept.total(), 19);
+    assert_eq!(rt; ran.total, 19);
+    assert_eq!(rt; forked(alloc, ran.works.as_slice())?.len(), 8);
     let limited = Reply::Refused(Refusal::PidsLimit(1));
-    assert_eq!(rt; count_replies(works.as_slice(), &limited), (8, 8));
-    let plain = kept.snapshot()?;
-    assert_eq!(rt; plain.controls.len(), 2);
-    assert_eq!(rt; plain.controls[1].count, 9);
+    assert_eq!(rt; count_replies(ran.works.as_slice(), &limited), 8);
+    assert_eq!(rt; ran.plain.controls.len(), 2);
+    assert_eq!(rt; ran.plain.controls[1].count, 9);
     Ok(())
-}
-
-#[test]
-fn sixteen_share_a_limit(rt: HostRuntime) -> Result<(), Fail> {
-    sixteen_are_limited::<Brand, HostRuntime>(&rt, rt.alloc(), Blank::new(16))
 }
 
 /// A record with one call of each worker, and a checkpoint between them; and their receipts.
@@ -345,35 +372,12 @@ fn audits_what_is_kept(rt: HostRuntime) -> Result<(), Fail> {
     audit_after_checkpoint::<Brand>(&rt, rt.alloc(), Blank::new(2))
 }
 
-fn checkpoint_under_lock<L: Ledger, R: Wait + Abort>(
-    rt: &R,
-    alloc: Global,
-    blank: Blank,
-) -> Result<(), Fail>
-    requires name { blank.name ≡ L.name }
-    requires parts { blank.parts ≡ L.parts }
-    requires one { blank.parts ≡ 1 }
-{
-    let config = Config::default_values();
-    let (shared, mut seats) = Shared::<L, 1>::open(alloc, blank, &config)?;
-    assert_eq!(rt; seats.len(), 1);
-    assert!(rt; shared.call(rt, &mut seats[0], FORK).is_ok());
-    shared.lock(rt).checkpoint()?;
-    assert_eq!(rt; shared.lock(rt).first_kept(), 1);
-    assert_eq!(rt; shared.lock(rt).snapshot()?.rows.len(), 2);
-    assert_eq!(rt; seats[0].calls(), 1);
-    Ok(())
-}
-
-#[test]
-fn checkpoints_under_the_lock(rt: HostRuntime) -> Result<(), Fail> {
-    checkpoint_under_lock::<Brand, HostRuntime>(&rt, rt.alloc(), Blank::new(1))
-}
-
-/// A desk that answers each call by its place, and the second one with want of memory.
+/// A desk that answers each call by its place, and the second one with want of memory. It keeps what
+/// it answers.
 #[derive(Drop)]
 struct CountingDesk {
     calls: u64,
+    answers: Vec<Receipt>,
 }
 
 impl Desk for CountingDesk {
@@ -385,25 +389,32 @@ impl Desk for CountingDesk {
         if ordinal == 1 {
             return Err(CallFault::NoMemory);
         }
-        Ok(Receipt {
+        let answer = Receipt {
             ordinal,
             worker: 0,
             call,
             reply: Reply::Counted(ordinal),
-        })
+        };
+        if self.answers.push(answer.clone()?).is_err() {
+            return Err(CallFault::NoMemory);
+        }
+        Ok(answer)
     }
 }
 
 #[test]
-fn counts_refused_calls(rt: HostRuntime) -> Result<(), Fail> {
-    let mut desk = CountingDesk { calls: 0 };
+fn keeps_answers_in_order(rt: HostRuntime) -> Result<(), Fail> {
+    let mut desk = CountingDesk {
+        calls: 0,
+        answers: Vec::with_capacity(rt.alloc(), 2)?,
+    };
     let calls = [FORK, Call::SetSid { caller: 2 }, Call::Exec { caller: 2 }];
     let done = work(&rt, rt.alloc(), &mut desk, &OpenGate, 0, &calls)?;
+    assert_eq!(rt; desk.calls, 3);
     assert_eq!(rt; done.refused, 1);
+    assert_eq!(rt; done.receipts.as_slice(), desk.answers.as_slice());
     assert_eq!(rt; done.receipts.len(), 2);
-    assert_eq!(rt; done.receipts[0].ordinal, 0);
     assert_eq!(rt; done.receipts[0].call, FORK);
-    assert_eq!(rt; done.receipts[1].ordinal, 2);
     assert_eq!(rt; done.receipts[1].call, Call::Exec { caller: 2 });
     Ok(())
 }
