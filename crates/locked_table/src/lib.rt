@@ -15,3 +15,6 @@ pub use pid_types::entry::{Entry, Receipt};
 pub use record::Record;
 pub use seat::Seat;
 pub use shared::Shared;
+
+#[cfg(test)]
+mod tests;

@@ -1,0 +1,216 @@
+ghost use Rattle.std.specs.Prelude.{◌≡◌, true};
+ghost use Rattle.locked_table.specs.Place.{AreSeats};
+
+use super::*;
+use pid_types::call::Call;
+use pid_types::config::Config;
+use pid_types::reply::Reply;
+use std::alloc::Global;
+use std::marker::Brand;
+use std::process::Abort;
+use std::sync::Wait;
+use std::sync::ledger::{Blank, Ledger};
+use std::test::Fail;
+
+const FORK: Call = Call::Fork {
+    caller: 1,
+    new_space: false,
+};
+
+const MAKE: Call = Call::MakeControl { parent: 0 };
+
+/// The receipt of a call that is answered so.
+fn want(ordinal: u64, worker: usize, call: Call, reply: Reply) -> Receipt {
+    Receipt {
+        ordinal,
+        worker,
+        call,
+        reply,
+    }
+}
+
+/// The receipt of a fork in the root namespace.
+fn want_child(ordinal: u64, worker: usize, child: u32) -> Receipt {
+    want(ordinal, worker, FORK, Reply::Forked { child, root: child })
+}
+
+/// Makes each call by its worker's seat, and compares the receipts.
+fn act_all<L: Ledger, const N: usize>(
+    rt: &impl Abort,
+    record: &mut Record<L, N>,
+    seats: &mut [Seat<L, N>],
+    wanted: &[Receipt],
+) -> Result<(), Fail> {
+    for want in wanted {
+        let seat = seats.get_mut(want.worker).expect(rt, "a seat");
+        assert_eq!(rt; record.act(seat, want.call)?, *want);
+    }
+    Ok(())
+}
+
+/// Makes each call by its worker's seat, at the shared table, and compares the receipts.
+fn call_all<L: Ledger, R: Wait + Abort, const N: usize>(
+    rt: &R,
+    shared: &Shared<L, N>,
+    seats: &mut [Seat<L, N>],
+    wanted: &[Receipt],
+) -> Result<(), Fail> {
+    for want in wanted {
+        let seat = seats.get_mut(want.worker).expect(rt, "a seat");
+        assert_eq!(rt; shared.call(rt, seat, want.call)?, *want);
+    }
+    Ok(())
+}
+
+/// Whether worker w's seat is at place w.
+fn are_in_order<L: Ledger, const N: usize>(seats: &[Seat<L, N>]) -> bool
+    ensures { result ≡ true → AreSeats N seats.now }
+{
+    for (worker, seat) in seats.iter().enumerate() {
+        if seat.worker() != worker {
+            return false;
+        }
+    }
+    seats.len() == N
+}
+
+/// What is called before a checkpoint.
+fn before_checkpoint() -> [Receipt; 3] {
+    [
+        want_child(0, 0, 2),
+        want(1, 0, MAKE, Reply::Control(2)),
+        want(2, 0, Call::GetPid { caller: 2 }, Reply::Number(2)),
+    ]
+}
+
+/// What is called after it: stamps and ordinals have gone on.
+fn after_checkpoint() -> [Receipt; 2] {
+    [
+        want(3, 0, Call::Count { id: 0 }, Reply::Counted(2)),
+        want(4, 0, MAKE, Reply::Control(5)),
+    ]
+}
+
+/// What a record has when three calls were cut away and so many were recorded.
+fn assert_cut<L: Ledger>(rt: &impl Abort, record: &Record<L, 1>, total: u64) {
+    assert_eq!(rt; record.first_kept(), 3);
+    assert_eq!(rt; record.total(), total);
+    assert_eq!(rt; record.recorded(0), total);
+    assert!(rt; record.entry(2).is_none());
+    assert_eq!(rt; record.entry(3).is_some(), total > 3);
+}
+
+fn checkpoint_of_record<L: Ledger>(rt: &impl Abort, alloc: Global, blank: Blank) -> Result<(), Fail>
+    requires name { blank.name ≡ L.name }
+    requires parts { (blank.parts ≡ L.parts) × (L.parts ≡ 1) }
+{
+    let config = Config::default_values();
+    let (mut record, mut seats) = Record::<L, 1>::new(alloc, blank, &config)?;
+    act_all(rt, &mut record, &mut seats, &before_checkpoint())?;
+    record.checkpoint()?;
+    assert_cut(rt, &record, 3);
+    act_all(rt, &mut record, &mut seats, &after_checkpoint())?;
+    assert_cut(rt, &record, 5);
+    Ok(())
+}
+
+#[test]
+fn checkpoints_a_record(rt: HostRuntime) -> Result<(), Fail> {
+    checkpoint_of_record::<Brand>(&rt, rt.alloc(), Blank::new(1))
+}
+
+fn checkpoint_under_lock<L: Ledger, R: Wait + Abort>(
+    rt: &R,
+    alloc: Global,
+    blank: Blank,
+) -> Result<(), Fail>
+    requires name { blank.name ≡ L.name }
+    requires parts { (blank.parts ≡ L.parts) × (L.parts ≡ 1) }
+{
+    let config = Config::default_values();
+    let (shared, mut seats) = Shared::<L, 1>::open(alloc, blank, &config)?;
+    call_all(rt, &shared, &mut seats, &before_checkpoint())?;
+    shared.lock(rt).checkpoint()?;
+    call_all(rt, &shared, &mut seats, &after_checkpoint())?;
+    assert!(rt; are_in_order(seats.as_slice()));
+    assert_cut(rt, &shared.close(seats), 5);
+    Ok(())
+}
+
+#[test]
+fn checkpoints_under_the_lock(rt: HostRuntime) -> Result<(), Fail> {
+    checkpoint_under_lock::<Brand, HostRuntime>(&rt, rt.alloc(), Blank::new(1))
+}
+
+fn two_seats<L: Ledger, R: Wait + Abort>(rt: &R, alloc: Global, blank: Blank) -> Result<(), Fail>
+    requires name { blank.name ≡ L.name }
+    requires parts { (blank.parts ≡ L.parts) × (L.parts ≡ 2) }
+{
+    let config = Config::default_values();
+    let (shared, mut seats) = Shared::<L, 2>::open(alloc, blank, &config)?;
+    let wanted = [
+        want_child(0, 1, 2),
+        want_child(1, 0, 3),
+        want(2, 1, Call::GetPpid { caller: 2 }, Reply::Number(1)),
+        want(3, 0, Call::GetPpid { caller: 3 }, Reply::Number(1)),
+    ];
+    call_all(rt, &shared, &mut seats, &wanted)?;
+    assert_eq!(rt; shared.lock(rt).snapshot()?.rows.len(), 3);
+    assert_eq!(rt; shared.lock(rt).first_kept(), 0);
+    for seat in &seats {
+        assert_eq!(rt; seat.calls(), 2);
+    }
+    assert!(rt; are_in_order(seats.as_slice()));
+    let record = shared.close(seats);
+    assert_eq!(rt; record.total(), 4);
+    assert_eq!(rt; record.recorded(0), 2);
+    assert_eq!(rt; record.recorded(1), 2);
+    Ok(())
+}
+
+#[test]
+fn two_share_a_table(rt: HostRuntime) -> Result<(), Fail> {
+    two_seats::<Brand, HostRuntime>(&rt, rt.alloc(), Blank::new(2))
+}
+
+/// Makes the first call and room for two more, and then the other two.
+fn reserve_two<L: Ledger>(
+    rt: &impl Abort,
+    alloc: Global,
+    blank: Blank,
+    others: &[Receipt; 2],
+) -> Result<(), Fail>
+    requires name { blank.name ≡ L.name }
+    requires parts { (blank.parts ≡ L.parts) × (L.parts ≡ 1) }
+{
+    let config = Config::default_values();
+    let (mut record, mut seats) = Record::<L, 1>::new(alloc, blank, &config)?;
+    act_all(rt, &mut record, &mut seats, &[want_child(0, 0, 2)])?;
+    record.reserve_calls(2)?;
+    act_all(rt, &mut record, &mut seats, others)?;
+    assert_eq!(rt; record.total(), 3);
+    assert_eq!(rt; record.recorded(0), 3);
+    Ok(())
+}
+
+#[test]
+fn reserves_calls(rt: HostRuntime) -> Result<(), Fail> {
+    let ends = [
+        want(1, 0, Call::SetSid { caller: 2 }, Reply::Number(2)),
+        want(
+            2,
+            0,
+            Call::Exit {
+                caller: 2,
+                status: 0,
+            },
+            Reply::Done,
+        ),
+    ];
+    reserve_two::<Brand>(&rt, rt.alloc(), Blank::new(1), &ends)?;
+    let forks = [
+        want_child(1, 0, 3),
+        want(2, 0, Call::GetPid { caller: 3 }, Reply::Number(3)),
+    ];
+    reserve_two::<Brand>(&rt, rt.alloc(), Blank::new(1), &forks)
+}
