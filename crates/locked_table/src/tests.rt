@@ -194,23 +194,23 @@ fn reserve_two<L: Ledger>(
 }
 
 #[test]
-fn reserves_calls(rt: HostRuntime) -> Result<(), Fail> {
-    let ends = [
+fn ends_a_task_in_reserved_room(rt: HostRuntime) -> Result<(), Fail> {
+    let exit = Call::Exit {
+        caller: 2,
+        status: 0,
+    };
+    let others = [
         want(1, 0, Call::SetSid { caller: 2 }, Reply::Number(2)),
-        want(
-            2,
-            0,
-            Call::Exit {
-                caller: 2,
-                status: 0,
-            },
-            Reply::Done,
-        ),
+        want(2, 0, exit, Reply::Done),
     ];
-    reserve_two::<Brand>(&rt, rt.alloc(), Blank::new(1), &ends)?;
-    let forks = [
+    reserve_two::<Brand>(&rt, rt.alloc(), Blank::new(1), &others)
+}
+
+#[test]
+fn forks_in_reserved_room(rt: HostRuntime) -> Result<(), Fail> {
+    let others = [
         want_child(1, 0, 3),
         want(2, 0, Call::GetPid { caller: 3 }, Reply::Number(3)),
     ];
-    reserve_two::<Brand>(&rt, rt.alloc(), Blank::new(1), &forks)
+    reserve_two::<Brand>(&rt, rt.alloc(), Blank::new(1), &others)
 }
