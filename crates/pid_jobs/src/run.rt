@@ -42,6 +42,11 @@ pub enum RunFault {
 }
 
 impl From<AllocError> for RunFault {
+    ghost use Rattle.std.specs.Prelude.{◌≡◌};
+    ghost use Rattle.pid_jobs.specs.declared.run.RunFault.TheVariants.{NoMemory};
+
+    ghost from_gives = { λ _ fault. fault ≡ NoMemory };
+
     fn from(_e: AllocError) -> RunFault {
         RunFault::NoMemory
     }

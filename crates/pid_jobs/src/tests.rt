@@ -221,14 +221,7 @@ fn sixteen_share_the_numbers(rt: HostRuntime) -> Result<(), Fail> {
         gave_up: AtomicBool::new(false),
     };
     let config = Config::new(301, 1)?;
-    let ran = sixteen_workers::<Brand, MeetingGate, HostRuntime>(
-        &rt,
-        alloc,
-        Blank::new(16),
-        &config,
-        &jobs,
-        &gate,
-    )?;
+    let ran = sixteen_workers::<Brand, _, _>(&rt, alloc, Blank::new(16), &config, &jobs, &gate)?;
     assert!(rt; !gate.gave_up.load(Ordering::SeqCst), "a wait gave up");
     assert_eq!(rt; ran.total, 320);
     assert_eq!(rt; ran.recorded.as_slice(), [20; 16].as_slice());
@@ -280,14 +273,7 @@ fn sixteen_share_a_limit(rt: HostRuntime) -> Result<(), Fail> {
         gave_up: AtomicBool::new(false),
     };
     let config = Config::default_values();
-    let ran = sixteen_workers::<Brand, LimitGate, HostRuntime>(
-        &rt,
-        alloc,
-        Blank::new(16),
-        &config,
-        &jobs,
-        &gate,
-    )?;
+    let ran = sixteen_workers::<Brand, _, _>(&rt, alloc, Blank::new(16), &config, &jobs, &gate)?;
     assert!(rt; !gate.gave_up.load(Ordering::SeqCst), "a wait gave up");
     assert_eq!(rt; ran.total, 19);
     assert_eq!(rt; forked(alloc, ran.works.as_slice())?.len(), 8);
@@ -311,10 +297,10 @@ fn two_calls<L: Ledger>(
     let config = Config::default_values();
     let (mut record, mut seats) = Record::<L, 2>::new(alloc, blank, &config)?;
     assert_eq!(rt; seats.len(), 2);
-    let first = record.act(&mut seats[0], FORK).expect(rt, "recorded");
+    let first = record.act(&mut seats[0], FORK)?;
     record.checkpoint()?;
     let query = Call::GetPid { caller: 2 };
-    let second = record.act(&mut seats[1], query).expect(rt, "recorded");
+    let second = record.act(&mut seats[1], query)?;
     Ok((record, first, second))
 }
 
