@@ -11,6 +11,9 @@ mod record;
 mod seat;
 mod shared;
 
+/// The laws of the model, which hold of every history that a record keeps; `no_reuse` among them: while a
+/// name is in use, no fork makes a task with one of its numbers in the same namespace.
+pub use model_laws::laws;
 pub use pid_types::entry::{Entry, Receipt};
 pub use record::Record;
 pub use seat::Seat;
