@@ -173,9 +173,6 @@ module _ {T : Type 0} (w : Words) (h : ℕ) (es : List (Option T)) (cs : List (O
   pub read_slot : 0 < h → (k : ℕ) → k < 64 → (x y : Option (Box (Tree T) Global)) → x ≡ get_or cs k x → x ≡ y → get_or cs k None ≡ y
   read_slot up k b x y r e = get_or_default cs k None x (rw (node.inner up).0 b) ∙ sym r ∙ e
 
-  pub read_child : 0 < h → (i k : ℕ) → i < 64 ^ (h + 1) → k ≡ i / 64 ^ h → (x y : Option (Box (Tree T) Global)) → x ≡ get_or cs k x → x ≡ y → get_or cs (i / 64 ^ h) None ≡ y
-  read_child up i k b e x y r f = read_slot up (i / 64 ^ h) (slot_below h i node.low b) x y (subst (λ n. x ≡ get_or cs n x) e r) f
-
   -- the place of an index below a child, and below an empty slot
   pub place_child : 0 < h → (j : ℕ) (b : Box (Tree T) Global) → get_or cs (j / 64 ^ h) None ≡ Some b → place_at (places_of w h es cs) j ≡ place_at b.value.places (j % 64 ^ h)
   place_child up j b e = place_inner up j ∙ ap (λ o. place_at (below h o) (j % 64 ^ h)) e
@@ -183,10 +180,6 @@ module _ {T : Type 0} (w : Words) (h : ℕ) (es : List (Option T)) (cs : List (O
   pub place_empty : 0 < h → (j : ℕ) → get_or cs (j / 64 ^ h) None ≡ None → place_at (places_of w h es cs) j ≡ bare
   place_empty up j e =
       place_inner up j ∙ ap (λ o. place_at (below h o) (j % 64 ^ h)) e ∙ get_or-replicate (64 ^ h) (j % 64 ^ h) bare bare (mod-lt j (pow_pos_64 h node.low))
-
-  -- the rest of an index stands within the child
-  pub rest_below : (j k : ℕ) (b : Box (Tree T) Global) → get_or cs k None ≡ Some b → j % 64 ^ h < 64 ^ (b.value.height + 1)
-  rest_below j k b e = rw (node.children k b e).height (mod-lt j (pow_pos_64 h node.low))
 
   -- the bit of a leaf's slot says whether its place is what is sought
   pub leaf_bit : h ≡ 0 → (s : Sought) (j : ℕ) → j < 64 → carries s (place_at (places_of w h es cs) j) ≡ has_bit (word_of s w) j

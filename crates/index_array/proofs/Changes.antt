@@ -1,5 +1,5 @@
 -- A node of which one slot is replaced.
-use Rattle.std.proofs.Common.{ℕ, ◌≡◌, ◌≢◌, ◌+◌, ◌*◌, ◌/◌, ◌%◌, ◌^◌, ◌<◌, sym, ap, ◌∙◌, subst, arith, refl, List, length, get_or, replicate, Box, true, false, not, is_some, Option, Some, None, inl, inr}
+use Rattle.std.proofs.Common.{ℕ, ◌≡◌, ◌≢◌, ◌+◌, ◌*◌, ◌/◌, ◌%◌, ◌^◌, ◌<◌, sym, ap, ◌∙◌, subst, arith, refl, List, length, get_or, replicate, Box, Bool, true, false, not, is_some, Option, Some, None, inl, inr}
 use Rattle.std.specs.List.{list_any}
 use Rattle.std.proofs.Math.ListN.{set}
 use Rattle.std.proofs.Math.Nat.{div-add-mod'}
@@ -7,7 +7,7 @@ use Rattle.std.proofs.lemmas.List.{get_or-set_same, get_or-set_other, length-set
 use Rattle.std.proofs.lemmas.Bool.{cases_eq, cases_lt, false≢true}
 use Rattle.std.specs.declared.alloc.Global.{Global}
 use Rattle.index_array.specs.Words.{has_bit, word_of}
-use Rattle.index_array.specs.Place.{Place, Entry, bare, place_at, entry_at, is_marked, carries, WritesEntry, KeepsEntries, KeepsPrepared}
+use Rattle.index_array.specs.Place.{Place, Entry, bare, place_at, entry_at, is_marked, with_mark, carries, WritesEntry, KeepsEntries, KeepsPrepared}
 use Rattle.index_array.specs.Tree.{Tree, below, places_of, IsNode, IsChild}
 use Rattle.index_array.specs.declared.bits.Sought.{Sought}
 use Rattle.index_array.specs.declared.bits.Sought.TheVariants.{Present, Gap, Mark}
@@ -15,9 +15,18 @@ use Rattle.index_array.specs.declared.bits.Words.{Words}
 use Rattle.index_array.proofs.Blocks.{slot_inner, place_inner, length_places, same_any, none_any}
 
 -- two indexes of one slot differ in the rest
-pub rest_differs : (c i j : ℕ) → j / c ≡ i / c → j ≢ i → j % c ≢ i % c
+rest_differs : (c i j : ℕ) → j / c ≡ i / c → j ≢ i → j % c ≢ i % c
 rest_differs c i j e ne same =
     ne (sym (div-add-mod' j c) ∙ ap (λ n. n * c + j % c) e ∙ ap (λ n. i / c * c + n) same ∙ div-add-mod' i c)
+
+-- what a change below one slot is to the node: `old` and `new` are the places of the slot, and index i is below it
+pub record Changed {T : Type 0} (w w' : Words) (h : ℕ) (es : List (Option T)) (cs cs' : List (Option (Box (Tree T) Global))) (i : ℕ) (old new : List (Place T)) : Type 0 where
+  pub node : IsNode w' h es cs'
+  pub whole : length (places_of w' h es cs') ≡ length (places_of w h es cs)
+  pub writes : (e : Option (Entry T)) → WritesEntry old new (i % 64 ^ h) e → WritesEntry (places_of w h es cs) (places_of w' h es cs') i e
+  pub entries : KeepsEntries old new → KeepsEntries (places_of w h es cs) (places_of w' h es cs')
+  pub keeps : KeepsPrepared old new → KeepsPrepared (places_of w h es cs) (places_of w' h es cs')
+  pub here : place_at (places_of w' h es cs') i ≡ place_at new (i % 64 ^ h)
 
 -- a node of which one slot's content and that slot's bits are replaced
 module _ {T : Type 0} (w w' : Words) (h : ℕ) (es : List (Option T)) (cs : List (Option (Box (Tree T) Global))) (node : IsNode w h es cs) (up : 0 < h) (s : ℕ) (within : s < 64) (y : Option (Box (Tree T) Global)) where
@@ -67,19 +76,19 @@ module _ {T : Type 0} (w w' : Words) (h : ℕ) (es : List (Option T)) (cs : List
             subst (λ p. R (place_at (places_of w h es cs) j) p) (sym is) (same (place_at (places_of w h es cs) j)))
       ]
 
-  -- to write an entry below the slot is to write it in the node
-  pub writes_set : (new : IsNode w' h es (set cs s y)) (o : Option (Box (Tree T) Global)) → get_or cs s None ≡ o → (i : ℕ) → i / 64 ^ h ≡ s → (e : Option (Entry T)) → WritesEntry (below h o) (below h y) (i % 64 ^ h) e → WritesEntry (places_of w h es cs) (places_of w' h es (set cs s y)) i e
-  writes_set new o was i at e writes =
+  pub changed : IsNode w' h es (set cs s y) → (o : Option (Box (Tree T) Global)) → get_or cs s None ≡ o → (i : ℕ) → i / 64 ^ h ≡ s → Changed w w' h es cs (set cs s y) i (below h o) (below h y)
+  changed new o was i at =
       record {
-        here = ap (λ (p : Place T). p.entry) (place_set new i at) ∙ writes.here;
-        others = λ j ne. set_one new (λ p q. q.entry ≡ p.entry) (λ p. refl) o was j (λ inside. writes.others (j % 64 ^ h) (rest_differs (64 ^ h) i j (inside ∙ sym at) ne));
+        node = new;
+        whole = whole_set new;
+        writes = λ e writes. record {
+          here = ap (λ (p : Place T). p.entry) (place_set new i at) ∙ writes.here;
+          others = λ j ne. set_one new (λ p q. q.entry ≡ p.entry) (λ p. refl) o was j (λ inside. writes.others (j % 64 ^ h) (rest_differs (64 ^ h) i j (inside ∙ sym at) ne));
+        };
+        entries = λ kept j. set_one new (λ p q. q.entry ≡ p.entry) (λ p. refl) o was j (λ inside. kept (j % 64 ^ h));
+        keeps = λ kept j. set_one new (λ p q. p.prepared ≡ true → q.prepared ≡ true) (λ p on. on) o was j (λ inside. kept (j % 64 ^ h));
+        here = place_set new i at;
       }
-
-  pub keeps_set : (new : IsNode w' h es (set cs s y)) (o : Option (Box (Tree T) Global)) → get_or cs s None ≡ o → KeepsPrepared (below h o) (below h y) → KeepsPrepared (places_of w h es cs) (places_of w' h es (set cs s y))
-  keeps_set new o was keeps j = set_one new (λ p q. p.prepared ≡ true → q.prepared ≡ true) (λ p on. on) o was j (λ inside. keeps (j % 64 ^ h))
-
-  pub entries_set : (new : IsNode w' h es (set cs s y)) (o : Option (Box (Tree T) Global)) → get_or cs s None ≡ o → KeepsEntries (below h o) (below h y) → KeepsEntries (places_of w h es cs) (places_of w' h es (set cs s y))
-  entries_set new o was keeps j = set_one new (λ p q. q.entry ≡ p.entry) (λ p. refl) o was j (λ inside. keeps (j % 64 ^ h))
 
 -- a test sees the entry of a place alone
 pub carries_entry : {T : Type 0} (q : Sought) (a b : Place T) → a.entry ≡ b.entry → carries q a ≡ carries q b
@@ -130,3 +139,11 @@ below_unprepared {T = T} h ps j on =
       | inl b ↦ absurd (false≢true (sym (ap (λ p. p.prepared) (get_or-replicate (64 ^ h) j (bare {T = T}) bare b)) ∙ on))
       | inr past ↦ absurd (false≢true (sym (ap (λ p. p.prepared) (get_or_past (replicate (64 ^ h) (bare {T = T})) j bare (omega (arith, length-replicate (64 ^ h) (bare {T = T}), past)))) ∙ on))
     ]
+
+-- to mark where there is no entry changes nothing
+pub marks_nothing : {T : Type 0} (ps : List (Place T)) (i m : ℕ) (on : Bool) → is_some (entry_at ps i) ≡ false → WritesEntry ps ps i (with_mark m on (entry_at ps i))
+marks_nothing ps i m on e = record { here = none (entry_at ps i) e; others = λ j ne. refl }
+  where
+    none : {X : Type 0} (o : Option (Entry X)) → is_some o ≡ false → o ≡ with_mark m on o
+    none None h = refl
+    none (Some x) h = cc

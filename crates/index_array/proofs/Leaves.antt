@@ -1,10 +1,10 @@
 -- A leaf of which one slot is written.
-use Rattle.std.proofs.Common.{ℕ, ◌≡◌, ◌≢◌, ◌<◌, ◌≤◌, sym, ap, ◌∙◌, arith, refl, List, length, get_or, map, Box, Bool, true, false, not, is_some, Option, Some, None, inl, inr}
+use Rattle.std.proofs.Common.{ℕ, ◌≡◌, ◌≢◌, ◌<◌, ◌≤◌, sym, ap, ◌∙◌, subst, arith, refl, List, length, get_or, map, Box, Bool, true, false, not, is_some, Option, Some, None, inl, inr}
 use Rattle.std.specs.List.{list_any}
 use Rattle.std.specs.Option.{option_map}
 use Rattle.std.proofs.Math.ListN.{set}
 use Rattle.std.proofs.Math.ListN as listn
-use Rattle.std.proofs.lemmas.List.{get_or-set_same, get_or-set_other, length-set, get_or_past, length-map, ext_get_or}
+use Rattle.std.proofs.lemmas.List.{get_or-set_same, get_or-set_other, length-set, set-get_or, get_or_past, length-map, ext_get_or}
 use Rattle.std.proofs.lemmas.Bool.{cases_eq, cases_lt, false≢true}
 use Rattle.std.specs.declared.alloc.Global.{Global}
 use Rattle.index_array.specs.Words.{has_bit, word_of, bit_of}
@@ -18,24 +18,31 @@ use Rattle.index_array.proofs.OneBit.{has_bit-zero}
 use Rattle.index_array.proofs.Blocks.{slot_leaf, place_leaf, leaf_bit, length_places, or_false}
 
 -- mark m of a slot is a bit of word m
-pub marks_at : (w : Words) (k m : ℕ) → get_or (marks_of w k) m false ≡ has_bit (get_or w.marks m 0) k
+marks_at : (w : Words) (k m : ℕ) → get_or (marks_of w k) m false ≡ has_bit (get_or w.marks m 0) k
 marks_at w k m =
     ap (λ d. get_or (map (λ x. has_bit x k) w.marks) m d) (sym (has_bit-zero k)) ∙ listn.get_or-map (λ x. has_bit x k) w.marks m 0
 
 -- the marks of a slot by the bits
-pub marks_are : (w : Words) (k : ℕ) (ms : List Bool) → length w.marks ≡ length ms → ((m : ℕ) → has_bit (get_or w.marks m 0) k ≡ get_or ms m false) → marks_of w k ≡ ms
+marks_are : (w : Words) (k : ℕ) (ms : List Bool) → length w.marks ≡ length ms → ((m : ℕ) → has_bit (get_or w.marks m 0) k ≡ get_or ms m false) → marks_of w k ≡ ms
 marks_are w k ms n each =
     ext_get_or false (marks_of w k) ms (length-map w.marks (λ x. has_bit x k) ∙ n) (λ m b. marks_at w k m ∙ each m)
 
 -- a value with marks is an entry
-pub some_with : {X : Type 0} (o : Option X) (ms : List Bool) → is_some (entry_with o ms) ≡ is_some o
+some_with : {X : Type 0} (o : Option X) (ms : List Bool) → is_some (entry_with o ms) ≡ is_some o
 some_with None ms = refl
 some_with (Some x) ms = refl
 
 -- to change a mark of an entry
-pub mark_with : {X : Type 0} (o : Option X) (ms : List Bool) (m : ℕ) (on : Bool) → entry_with o (set ms m on) ≡ with_mark m on (entry_with o ms)
+mark_with : {X : Type 0} (o : Option X) (ms : List Bool) (m : ℕ) (on : Bool) → entry_with o (set ms m on) ≡ with_mark m on (entry_with o ms)
 mark_with None ms m on = refl
 mark_with (Some x) ms m on = refl
+
+-- what a write to a slot of a leaf is to the leaf
+pub record SlotWritten {T : Type 0} (w w' : Words) (h : ℕ) (es es' : List (Option T)) (cs : List (Option (Box (Tree T) Global))) (i : ℕ) (e : Option (Entry T)) : Type 0 where
+  pub node : IsNode w' h es' cs
+  pub whole : length (places_of w' h es' cs) ≡ length (places_of w h es cs)
+  pub writes : WritesEntry (places_of w h es cs) (places_of w' h es' cs) i e
+  pub keeps : KeepsPrepared (places_of w h es cs) (places_of w' h es' cs)
 
 -- a leaf of which one slot's entry and bits are replaced
 module _ {T : Type 0} (w w' : Words) (h : ℕ) (es : List (Option T)) (cs : List (Option (Box (Tree T) Global))) (node : IsNode w h es cs) (z : h ≡ 0) (i : ℕ) (b : i < 64) (v : Option T) (bits : SlotBits) (marks : length w.marks ≡ 3) (marks' : length w'.marks ≡ 3) (three : length bits.marks ≡ 3) (present : bits.present ≡ is_some v) (gap : bits.gap ≡ not (is_some v)) (unmarked : is_some v ≡ false → (m : ℕ) → get_or bits.marks m false ≡ false) (same : (q : Sought) → has_bit (word_of q w') i ≡ bit_of q bits) (others : (q : Sought) (j : ℕ) → j < 64 → j ≢ i → has_bit (word_of q w') j ≡ has_bit (word_of q w) j) where
@@ -66,7 +73,7 @@ module _ {T : Type 0} (w w' : Words) (h : ℕ) (es : List (Option T)) (cs : List
   slot_any : (q : Sought) (k : ℕ) → list_any (carries q) (slot_places w' h (set es i v) cs k) ≡ carries q (leaf_place w' k (get_or (set es i v) k None))
   slot_any q k = ap (list_any (carries q)) (slot_leaf w' h (set es i v) cs k z) ∙ or_false _
 
-  pub leaf_node : IsNode w' h (set es i v) cs
+  leaf_node : IsNode w' h (set es i v) cs
   leaf_node =
       record {
         low = node.low;
@@ -82,30 +89,29 @@ module _ {T : Type 0} (w w' : Words) (h : ℕ) (es : List (Option T)) (cs : List
             ];
       }
 
-  pub leaf_whole : length (places_of w' h (set es i v) cs) ≡ length (places_of w h es cs)
-  leaf_whole = length_places w' h (set es i v) cs leaf_node ∙ sym (length_places w h es cs node)
-
   past : (u : Words) (xs : List (Option T)) → IsNode u h xs cs → (j : ℕ) → 64 ≤ j → place_at (places_of u h xs cs) j ≡ bare
   past u xs is j far = get_or_past (places_of u h xs cs) j bare (rw (length_places u h xs cs is, z) far)
 
-  pub leaf_writes : WritesEntry (places_of w h es cs) (places_of w' h (set es i v) cs) i (entry_with v bits.marks)
-  leaf_writes =
+  pub leaf_written : SlotWritten w w' h es (set es i v) cs i (entry_with v bits.marks)
+  leaf_written =
       record {
-        here = ap (λ (p : Place T). p.entry) (place_leaf w' h (set es i v) cs leaf_node z i b ∙ new_slot);
-        others = λ j ne.
+        node = leaf_node;
+        whole = length_places w' h (set es i v) cs leaf_node ∙ sym (length_places w h es cs node);
+        writes = record {
+          here = ap (λ (p : Place T). p.entry) (place_leaf w' h (set es i v) cs leaf_node z i b ∙ new_slot);
+          others = λ j ne.
+              elim (cases_lt j 64) [
+                | inl below ↦
+                    ap (λ (p : Place T). p.entry) (place_leaf w' h (set es i v) cs leaf_node z j below ∙ old_slot j below ne ∙ sym (place_leaf w h es cs node z j below))
+                | inr far ↦ ap (λ (p : Place T). p.entry) (past w' (set es i v) leaf_node j far ∙ sym (past w es node j far))
+              ];
+        };
+        keeps = λ j on.
             elim (cases_lt j 64) [
-              | inl below ↦
-                  ap (λ (p : Place T). p.entry) (place_leaf w' h (set es i v) cs leaf_node z j below ∙ old_slot j below ne ∙ sym (place_leaf w h es cs node z j below))
-              | inr far ↦ ap (λ (p : Place T). p.entry) (past w' (set es i v) leaf_node j far ∙ sym (past w es node j far))
+              | inl below ↦ ap (λ (p : Place T). p.prepared) (place_leaf w' h (set es i v) cs leaf_node z j below)
+              | inr far ↦ absurd (false≢true (sym (ap (λ (p : Place T). p.prepared) (past w es node j far)) ∙ on))
             ];
       }
-
-  pub leaf_keeps : KeepsPrepared (places_of w h es cs) (places_of w' h (set es i v) cs)
-  leaf_keeps j on =
-      elim (cases_lt j 64) [
-        | inl below ↦ ap (λ (p : Place T). p.prepared) (place_leaf w' h (set es i v) cs leaf_node z j below)
-        | inr far ↦ absurd (false≢true (sym (ap (λ (p : Place T). p.prepared) (past w es node j far)) ∙ on))
-      ]
 
 -- the value of a leaf's slot
 pub leaf_value : {T : Type 0} (w : Words) (h : ℕ) (es : List (Option T)) (cs : List (Option (Box (Tree T) Global))) → IsNode w h es cs → h ≡ 0 → (i : ℕ) → i < 64 → value_at (places_of w h es cs) i ≡ get_or es i None
@@ -116,17 +122,20 @@ leaf_value w h es cs node z i b =
     value_with None ms = refl
     value_with (Some x) ms = refl
 
--- the entry of a leaf's slot, and that slot's bits
-module _ {T : Type 0} (w : Words) (h : ℕ) (es : List (Option T)) (cs : List (Option (Box (Tree T) Global))) (node : IsNode w h es cs) (z : h ≡ 0) (i : ℕ) (b : i < 64) where
-  pub leaf_entry : entry_at (places_of w h es cs) i ≡ entry_with (get_or es i None) (marks_of w i)
-  leaf_entry = ap (λ (p : Place T). p.entry) (place_leaf w h es cs node z i b)
+-- room is prepared at each index of a leaf
+pub leaf_prepared : {T : Type 0} (w : Words) (h : ℕ) (es : List (Option T)) (cs : List (Option (Box (Tree T) Global))) → IsNode w h es cs → h ≡ 0 → (i : ℕ) → i < 64 → is_prepared (places_of w h es cs) i ≡ true
+leaf_prepared w h es cs node z i b = ap (λ (p : Place _). p.prepared) (place_leaf w h es cs node z i b)
 
-  pub leaf_present : has_bit (word_of Present w) i ≡ is_some (get_or es i None)
-  leaf_present = sym (leaf_bit w h es cs node z Present i b) ∙ ap is_some leaf_entry ∙ some_with (get_or es i None) (marks_of w i)
-
-  pub leaf_gap : has_bit (word_of Gap w) i ≡ not (is_some (get_or es i None))
-  leaf_gap = sym (leaf_bit w h es cs node z Gap i b) ∙ ap (λ o. not (is_some o)) leaf_entry ∙ ap not (some_with (get_or es i None) (marks_of w i))
-
-  -- room is prepared at each index of a leaf
-  pub leaf_prepared : is_prepared (places_of w h es cs) i ≡ true
-  leaf_prepared = ap (λ (p : Place T). p.prepared) (place_leaf w h es cs node z i b)
+-- a leaf of which one mark of an entry is set or cleared
+pub leaf_marked : {T : Type 0} (w w' : Words) (h : ℕ) (es : List (Option T)) (cs : List (Option (Box (Tree T) Global))) → IsNode w h es cs → h ≡ 0 → (i : ℕ) → i < 64 → (m : ℕ) (on : Bool) (bits : SlotBits) → length w.marks ≡ 3 → length w'.marks ≡ 3 → length bits.marks ≡ 3 → ((q : Sought) → bit_of q bits ≡ has_bit (word_of q w) i) → bits.present ≡ true → ((q : Sought) → has_bit (word_of q w') i ≡ bit_of q (record { present = bits.present; gap = bits.gap; marks = set bits.marks m on })) → ((q : Sought) (j : ℕ) → j < 64 → j ≢ i → has_bit (word_of q w') j ≡ has_bit (word_of q w) j) → SlotWritten w w' h es es cs i (with_mark m on (entry_at (places_of w h es cs) i))
+leaf_marked {T} w w' h es cs node z i b m on bits n n' three was present same others =
+    let v : Option T = get_or es i None in
+    let entry : entry_at (places_of w h es cs) i ≡ entry_with v (marks_of w i) = ap (λ (p : Place T). p.entry) (place_leaf w h es cs node z i b) in
+    let there : is_some v ≡ is_some (entry_at (places_of w h es cs) i) = sym (ap is_some entry ∙ some_with v (marks_of w i)) in
+    let some : is_some v ≡ true = there ∙ leaf_bit w h es cs node z Present i b ∙ sym (was Present) ∙ present in
+    let gap : bits.gap ≡ not (is_some v) = was Gap ∙ sym (leaf_bit w h es cs node z Gap i b) ∙ ap not (sym there) in
+    let marks : marks_of w i ≡ bits.marks = marks_are w i bits.marks (n ∙ sym three) (λ k. sym (was (Mark k))) in
+    let new : SlotBits = record { present = bits.present; gap = bits.gap; marks = set bits.marks m on } in
+    let all = leaf_written w w' h es cs node z i b v new n n' (length-set _ _ _ ∙ three) (present ∙ sym some) gap (λ off. absurd (false≢true (sym off ∙ some))) same others in
+    let is : entry_with v (set bits.marks m on) ≡ with_mark m on (entry_at (places_of w h es cs) i) = mark_with v bits.marks m on ∙ ap (with_mark m on) (sym (entry ∙ ap (entry_with v) marks)) in
+    subst (λ xs. SlotWritten w w' h es xs cs i (with_mark m on (entry_at (places_of w h es cs) i))) (set-get_or es i None) (subst (λ e. SlotWritten w w' h es (set es i v) cs i e) is all)

@@ -7,4 +7,5 @@ pub mod Indexes
 pub mod Leaves
 pub mod OneBit
 pub mod Powers
+pub mod Ways
 pub mod WordBits

@@ -10,7 +10,8 @@ use std::alloc::{AllocError, Global};
 /// The numbers below this stay in use, as those of a system's first processes do.
 const RESERVED: u32 = 300;
 
-/// Draws one number, where there is one.
+/// Draws one number: `plan`, `prepare` and `commit`. None where all are in use; the error is want of
+/// memory, and then no number has changed.
 fn draw(ids: &mut CyclicIds<u32>) -> Result<Option<u32>, AllocError> {
     let Some(n) = ids.plan() else {
         return Ok(None);
@@ -20,7 +21,8 @@ fn draw(ids: &mut CyclicIds<u32>) -> Result<Option<u32>, AllocError> {
     Ok(Some(n))
 }
 
-/// Draws so many numbers, as far as there are.
+/// Draws `ops` numbers from an empty namespace, as far as there are, and adds them up modulo 2^64. A
+/// draw costs hardly more as they grow. The error is want of memory.
 pub fn fill(alloc: Global, pid_max: u32, ops: u32) -> Result<u64, AllocError>
     requires { HasGoodPidMax pid_max }
 {
@@ -34,8 +36,11 @@ pub fn fill(alloc: Global, pid_max: u32, ops: u32) -> Result<u64, AllocError>
     Ok(sum)
 }
 
-/// Draws all numbers, and releases so many of them at random; then releases one at random and draws
-/// the next, `ops` times.
+/// Draws all numbers and releases `spare` of them at random; then, `ops` times, releases one at random
+/// and draws the next. It answers the sum of those drawn last, modulo 2^64.
+///
+/// The preparation costs `pid_max` draws and 4 bytes a number beside the namespace. The error is want
+/// of memory.
 pub fn churn(alloc: Global, pid_max: u32, spare: u32, ops: u32) -> Result<u64, AllocError>
     requires { HasGoodPidMax pid_max }
 {
@@ -52,7 +57,7 @@ pub fn churn(alloc: Global, pid_max: u32, spare: u32, ops: u32) -> Result<u64, A
     Ok(sum)
 }
 
-/// Draws all numbers, and answers those that are not reserved.
+/// Draws all numbers, and answers those that are not reserved, in order.
 fn draw_all(alloc: Global, ids: &mut CyclicIds<u32>, pid_max: u32) -> Result<Vec<u32>, AllocError> {
     let mut used = Vec::new(alloc);
     for _ in 0..pid_max {
@@ -65,7 +70,7 @@ fn draw_all(alloc: Global, ids: &mut CyclicIds<u32>, pid_max: u32) -> Result<Vec
     Ok(used)
 }
 
-/// Releases one number at random.
+/// Releases one number at random, where one is left.
 fn release_one(ids: &mut CyclicIds<u32>, used: &mut Vec<u32>, random: &mut Random) {
     if used.len() > 0 {
         let place = random.below(used.len());
@@ -74,7 +79,7 @@ fn release_one(ids: &mut CyclicIds<u32>, used: &mut Vec<u32>, random: &mut Rando
     }
 }
 
-/// Releases one number at random and draws the next in its stead.
+/// Releases one number at random, draws the next in its stead and answers that; 0 where there is none.
 fn replace_one(
     ids: &mut CyclicIds<u32>,
     used: &mut Vec<u32>,

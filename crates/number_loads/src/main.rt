@@ -30,7 +30,7 @@ const NAMES: [&str; 13] = [
     "mark.set+clear.random",
 ];
 
-/// Runs a load and answers its checksum.
+/// Runs a load and answers its checksum. The error is want of memory, or a name that is not in `NAMES`.
 fn run_load(rt: &HostRuntime, name: &str, ops: u32) -> Result<u64> {
     let alloc = rt.alloc();
     let sum = match name {
@@ -46,7 +46,7 @@ fn run_load(rt: &HostRuntime, name: &str, ops: u32) -> Result<u64> {
     Ok(sum)
 }
 
-/// The same, of the loads over every third index.
+/// Runs a load over every third index, likewise.
 fn run_walk(rt: &HostRuntime, name: &str, ops: u32) -> Result<u64> {
     let walk = match name {
         "load.random.4194304" => Walk::Load,
@@ -61,6 +61,8 @@ fn run_walk(rt: &HostRuntime, name: &str, ops: u32) -> Result<u64> {
     Ok(sparse.run(walk, ops))
 }
 
+/// Reads the command line and prints the names or a checksum. The error is a word that is missing or
+/// not a number, an unknown name, or want of memory.
 fn main(rt: HostRuntime) -> Result<()> {
     let mut args = env::args(&rt)?;
     args.next();

@@ -1,19 +1,26 @@
-use Rattle.std.proofs.Common.{rules, arith, ap, sym, ◌∙◌, subst, ◌≡◌, ◌<◌, ◌+◌, ◌^◌, ◌/◌, get_or, None, Some, OnOk, Ok, Err, Result, ◌-◌}
+use Rattle.std.proofs.Common.{rules, arith, ap, sym, ◌∙◌, subst, ◌≡◌, ℕ, ◌<◌, ◌+◌, ◌^◌, None, Some, OnOk, Ok, Err, Result}
 use Rattle.std.proofs.lemmas.List.{set-set}
 use Rattle.std.specs.Box.{with_value}
-use Rattle.index_array.specs.Place.{KeepsEntries}
-use Rattle.index_array.specs.Tree.{IsChild, below}
-use Rattle.index_array.proofs.Powers.{slot_below}
-use Rattle.index_array.proofs.Blocks.{read_child, rest_below}
-use Rattle.index_array.proofs.Changes.{child_kept, below_none, below_unprepared}
-use Rattle.index_array.proofs.Descent.{kept_node, kept_whole, kept_entries, kept_keeps, kept_here}
+use Rattle.index_array.proofs.Ways.{Way, way, way_within, way_lower, way_rest}
+use Rattle.index_array.proofs.Changes.{below_unprepared}
+use Rattle.index_array.proofs.Descent.{child_kept_entries, child_made}
 use Rattle.index_array.proofs.Leaves.{leaf_prepared}
 use Rattle.index_array.proofs.tree.Node.+prepare.Goals as goal
+use Rattle.index_array.proofs.tree.Node.+prepare.Goals.{In-Some, In-None}
 
 -- what holds after an Ok, from another such fact
 ok_by : {A E : Type 0} (r : Result A E) {P Q : Type 0} → (P → Q) → OnOk r P → OnOk r Q
 ok_by (Ok x) f h = f h
 ok_by (Err x) f h = tt
+
+-- what stands at the slot of the index
+child : (g : _) (t : ℕ) (c : In-Some g t) → Way c.self.inside.height c.self.inside.children.items c.args.i c.slot_of-slot.result (Some c.in-Some.child)
+child g t c =
+    way _ _ _ _ c.self.invariant _ c.self.view_is (omega (arith, c.if-height-eq0.false)) _ _ c.requires c.slot_of-slot.ensures _ _ c.index_mut.ensures.value c.in-Some.is
+
+none : (g : _) (t : ℕ) (c : In-None g t) → Way c.self.inside.height c.self.inside.children.items c.args.i c.slot_of-slot.result None
+none g t c =
+    way _ _ _ _ c.self.invariant _ c.self.view_is (omega (arith, c.if-height-eq0.false)) _ _ c.requires c.slot_of-slot.ensures _ _ c.index_mut.ensures.value c.in-None.is
 
 pub returns-then-height-eq0-clause-ok : goal.returns-then-height-eq0-clause-ok
 returns-then-height-eq0-clause-ok g t c =
@@ -23,161 +30,53 @@ returns-then-height-eq0-clause-ok g t c =
 
 pub prepare-requires : goal.prepare-requires
 prepare-requires g t c κs within =
-    let h : c.self.inside.height ≡ c.args.self.now.height = ap (λ v. v.height) c.self.view_is in
-    let up : 0 < c.self.inside.height = omega (arith, c.if-height-eq0.false) in
-    let covered : c.args.i < 64 ^ (c.self.inside.height + 1) = rw h c.requires in
-    let e : get_or c.self.inside.children.items (c.args.i / 64 ^ c.self.inside.height) None ≡ Some c.in-Some.child = read_child _ _ _ _ c.self.invariant up c.args.i _ covered c.slot_of-slot.ensures _ _ c.index_mut.ensures.value c.in-Some.is in
-    let l : c.in-Some.child.value.height + 1 ≡ c.self.inside.height = (c.self.invariant.children _ _ e).height in
-    let m : c.deref_mut.result.now.height < c.args.self.now.height = rw (c.deref_mut.ensures.value, ← h) (omega (arith, l)) in
-    (search rules, (within, rw (c.deref_mut.ensures.value, c.rest_of-rest.ensures) (rest_below _ _ _ _ c.self.invariant c.args.i _ c.in-Some.child e)))
+    let way = child g t (goal.at.prepare-requires g t c).In-Some in
+    let is = c.deref_mut.ensures.value in
+    let lower : c.deref_mut.result.now.height < c.args.self.now.height = way_lower _ _ _ _ c.self.invariant _ _ _ way _ _ c.self.view_is is in
+    (search rules, (within, way_rest _ _ _ _ c.self.invariant _ _ _ way _ is _ c.rest_of-rest.ensures))
 
 pub invariant_of-self : goal.invariant_of-self
 invariant_of-self g t c =
-    let h : c.self.inside.height ≡ c.args.self.now.height = ap (λ v. v.height) c.self.view_is in
-    let up : 0 < c.self.inside.height = omega (arith, c.if-height-eq0.false) in
-    let covered : c.args.i < 64 ^ (c.self.inside.height + 1) = rw h c.requires in
-    let e : get_or c.self.inside.children.items (c.args.i / 64 ^ c.self.inside.height) None ≡ Some c.in-Some.child = read_child _ _ _ _ c.self.invariant up c.args.i _ covered c.slot_of-slot.ensures _ _ c.index_mut.ensures.value c.in-Some.is in
-    let kid = child_kept _ c.in-Some.child.value c.prepare.new.self (c.self.invariant.children _ _ e) (rw c.deref_mut.ensures.value at c.prepare.ensures.height) (rw c.deref_mut.ensures.value at c.prepare.ensures.whole) in
-    let entries = rw c.deref_mut.ensures.value at c.prepare.ensures.entries in
-    let box = with_value c.in-Some.child c.prepare.new.self in
-    kept_node _ _ _ _ c.self.invariant up c.args.i _ covered c.slot_of-slot.ensures (Some c.in-Some.child) box e kid entries
+    let way = child g t (goal.at.invariant_of-self g t c).In-Some in
+    let old = rw c.deref_mut.ensures.value at c.prepare.ensures in
+    (child_kept_entries _ _ _ _ c.self.invariant _ _ _ way (with_value c.in-Some.child c.prepare.new.self) old.height old.whole old.entries).node
 
 pub index_mut-requires-in-None : goal.index_mut-requires-in-None
 index_mut-requires-in-None g t c =
-    let h : c.self.inside.height ≡ c.args.self.now.height = ap (λ v. v.height) c.self.view_is in
-    let up : 0 < c.self.inside.height = omega (arith, c.if-height-eq0.false) in
-    let covered : c.args.i < 64 ^ (c.self.inside.height + 1) = rw h c.requires in
-    let e : get_or c.self.inside.children.items (c.args.i / 64 ^ c.self.inside.height) None ≡ None = read_child _ _ _ _ c.self.invariant up c.args.i _ covered c.slot_of-slot.ensures _ _ c.index_mut.ensures.value c.in-None.is in
-    let slot : c.slot_of-slot.result < 64 = rw c.slot_of-slot.ensures (slot_below _ _ c.self.invariant.low covered) in
-    omega (arith, (c.self.invariant.inner up).0, c.self.inside.children.ok.0)
+    let way = none g t (goal.at.index_mut-requires-in-None g t c).In-None in
+    let slot : c.slot_of-slot.result < 64 = way_within _ _ _ _ c.self.invariant _ _ _ way in
+    omega (arith, (c.self.invariant.inner way.up).0, c.self.inside.children.ok.0)
 
-pub returns-in-Some-clause-whole : goal.returns-in-Some-clause-whole
-returns-in-Some-clause-whole g t c =
-    let h : c.self.inside.height ≡ c.args.self.now.height = ap (λ v. v.height) c.self.view_is in
-    let up : 0 < c.self.inside.height = omega (arith, c.if-height-eq0.false) in
-    let covered : c.args.i < 64 ^ (c.self.inside.height + 1) = rw h c.requires in
-    let e : get_or c.self.inside.children.items (c.args.i / 64 ^ c.self.inside.height) None ≡ Some c.in-Some.child = read_child _ _ _ _ c.self.invariant up c.args.i _ covered c.slot_of-slot.ensures _ _ c.index_mut.ensures.value c.in-Some.is in
-    let kid = child_kept _ c.in-Some.child.value c.prepare.new.self (c.self.invariant.children _ _ e) (rw c.deref_mut.ensures.value at c.prepare.ensures.height) (rw c.deref_mut.ensures.value at c.prepare.ensures.whole) in
-    let entries = rw c.deref_mut.ensures.value at c.prepare.ensures.entries in
-    let box = with_value c.in-Some.child c.prepare.new.self in
-    rw (← c.self.view_is) (kept_whole _ _ _ _ c.self.invariant up c.args.i _ covered c.slot_of-slot.ensures (Some c.in-Some.child) box e kid entries)
-
-pub returns-in-Some-clause-entries : goal.returns-in-Some-clause-entries
-returns-in-Some-clause-entries g t c =
-    let h : c.self.inside.height ≡ c.args.self.now.height = ap (λ v. v.height) c.self.view_is in
-    let up : 0 < c.self.inside.height = omega (arith, c.if-height-eq0.false) in
-    let covered : c.args.i < 64 ^ (c.self.inside.height + 1) = rw h c.requires in
-    let e : get_or c.self.inside.children.items (c.args.i / 64 ^ c.self.inside.height) None ≡ Some c.in-Some.child = read_child _ _ _ _ c.self.invariant up c.args.i _ covered c.slot_of-slot.ensures _ _ c.index_mut.ensures.value c.in-Some.is in
-    let kid = child_kept _ c.in-Some.child.value c.prepare.new.self (c.self.invariant.children _ _ e) (rw c.deref_mut.ensures.value at c.prepare.ensures.height) (rw c.deref_mut.ensures.value at c.prepare.ensures.whole) in
-    let entries = rw c.deref_mut.ensures.value at c.prepare.ensures.entries in
-    let box = with_value c.in-Some.child c.prepare.new.self in
-    rw (← c.self.view_is) (kept_entries _ _ _ _ c.self.invariant up c.args.i _ covered c.slot_of-slot.ensures (Some c.in-Some.child) box e kid entries)
-
-pub returns-in-Some-clause-keeps : goal.returns-in-Some-clause-keeps
-returns-in-Some-clause-keeps g t c =
-    let h : c.self.inside.height ≡ c.args.self.now.height = ap (λ v. v.height) c.self.view_is in
-    let up : 0 < c.self.inside.height = omega (arith, c.if-height-eq0.false) in
-    let covered : c.args.i < 64 ^ (c.self.inside.height + 1) = rw h c.requires in
-    let e : get_or c.self.inside.children.items (c.args.i / 64 ^ c.self.inside.height) None ≡ Some c.in-Some.child = read_child _ _ _ _ c.self.invariant up c.args.i _ covered c.slot_of-slot.ensures _ _ c.index_mut.ensures.value c.in-Some.is in
-    let kid = child_kept _ c.in-Some.child.value c.prepare.new.self (c.self.invariant.children _ _ e) (rw c.deref_mut.ensures.value at c.prepare.ensures.height) (rw c.deref_mut.ensures.value at c.prepare.ensures.whole) in
-    let entries = rw c.deref_mut.ensures.value at c.prepare.ensures.entries in
-    let box = with_value c.in-Some.child c.prepare.new.self in
-    let keeps = rw c.deref_mut.ensures.value at c.prepare.ensures.keeps in
-    rw (← c.self.view_is) (kept_keeps _ _ _ _ c.self.invariant up c.args.i _ covered c.slot_of-slot.ensures (Some c.in-Some.child) box e kid entries keeps)
-
-pub returns-in-Some-clause-ok : goal.returns-in-Some-clause-ok
-returns-in-Some-clause-ok g t c =
-    let h : c.self.inside.height ≡ c.args.self.now.height = ap (λ v. v.height) c.self.view_is in
-    let up : 0 < c.self.inside.height = omega (arith, c.if-height-eq0.false) in
-    let covered : c.args.i < 64 ^ (c.self.inside.height + 1) = rw h c.requires in
-    let e : get_or c.self.inside.children.items (c.args.i / 64 ^ c.self.inside.height) None ≡ Some c.in-Some.child = read_child _ _ _ _ c.self.invariant up c.args.i _ covered c.slot_of-slot.ensures _ _ c.index_mut.ensures.value c.in-Some.is in
-    let kid = child_kept _ c.in-Some.child.value c.prepare.new.self (c.self.invariant.children _ _ e) (rw c.deref_mut.ensures.value at c.prepare.ensures.height) (rw c.deref_mut.ensures.value at c.prepare.ensures.whole) in
-    let entries = rw c.deref_mut.ensures.value at c.prepare.ensures.entries in
-    let box = with_value c.in-Some.child c.prepare.new.self in
-    let here = kept_here _ _ _ _ c.self.invariant up c.args.i _ covered c.slot_of-slot.ensures (Some c.in-Some.child) box e kid entries in
-    ok_by c.prepare.result (λ on. ap (λ p. p.prepared) here ∙ on) (rw c.rest_of-rest.ensures at c.prepare.ensures.ok)
+pub returns-in-Some : goal.returns-in-Some
+returns-in-Some g t c =
+    let way = child g t (goal.at.returns-in-Some g t c).In-Some in
+    let old = rw (c.deref_mut.ensures.value, c.rest_of-rest.ensures) at c.prepare.ensures in
+    let all = child_kept_entries _ _ _ _ c.self.invariant _ _ _ way (with_value c.in-Some.child c.prepare.new.self) old.height old.whole old.entries in
+    record {
+      height = search rules;
+      whole = rw (← c.self.view_is) all.whole;
+      entries = rw (← c.self.view_is) (all.entries old.entries);
+      keeps = rw (← c.self.view_is) (all.keeps old.keeps);
+      ok = ok_by c.prepare.result (λ on. ap (λ p. p.prepared) all.here ∙ on) old.ok;
+    }
 
 pub invariant_of-self-in-None : goal.invariant_of-self-in-None
 invariant_of-self-in-None g t c =
-    let h : c.self.inside.height ≡ c.args.self.now.height = ap (λ v. v.height) c.self.view_is in
-    let up : 0 < c.self.inside.height = omega (arith, c.if-height-eq0.false) in
-    let covered : c.args.i < 64 ^ (c.self.inside.height + 1) = rw h c.requires in
-    let e : get_or c.self.inside.children.items (c.args.i / 64 ^ c.self.inside.height) None ≡ None = read_child _ _ _ _ c.self.invariant up c.args.i _ covered c.slot_of-slot.ensures _ _ c.index_mut.ensures.value c.in-None.is in
-    let new = c.in_ok-child-in-None.ensures in
-    let level : c.self.inside.height - 1 + 1 ≡ c.self.inside.height = omega (arith, up) in
-    let child = c.in_ok-child-in-None.child in
-    let made : IsChild c.self.inside.height child.value = record { height = ap (λ n. n + 1) new.height ∙ level; whole = new.whole ∙ ap (λ n. 64 ^ n) level } in
-    let was = c.deref_mut-in-None.ensures.value in
-    let kid = child_kept _ child.value c.prepare-in-None.new.self made (rw was at c.prepare-in-None.ensures.height) (rw was at c.prepare-in-None.ensures.whole) in
-    let kept = rw was at c.prepare-in-None.ensures.entries in
-    let entries : KeepsEntries (below c.self.inside.height None) c.prepare-in-None.new.self.places = λ j. kept j ∙ new.empty j ∙ sym (below_none c.self.inside.height j) in
-    let box = with_value child c.prepare-in-None.new.self in
-    rw set-set (kept_node _ _ _ _ c.self.invariant up c.args.i _ covered c.slot_of-slot.ensures None box e kid entries)
+    let way = none g t (goal.at.invariant_of-self-in-None g t c).In-None in
+    let made = c.in_ok-child-in-None in
+    let old = rw c.deref_mut-in-None.ensures.value at c.prepare-in-None.ensures in
+    rw set-set (child_made _ _ _ _ c.self.invariant _ _ way made.child.value (with_value made.child c.prepare-in-None.new.self) made.ensures old.height old.whole old.entries).1.node
 
-pub returns-in_ok-prepare-in-None-clause-whole : goal.returns-in_ok-prepare-in-None-clause-whole
-returns-in_ok-prepare-in-None-clause-whole g t c =
-    let h : c.self.inside.height ≡ c.args.self.now.height = ap (λ v. v.height) c.self.view_is in
-    let up : 0 < c.self.inside.height = omega (arith, c.if-height-eq0.false) in
-    let covered : c.args.i < 64 ^ (c.self.inside.height + 1) = rw h c.requires in
-    let e : get_or c.self.inside.children.items (c.args.i / 64 ^ c.self.inside.height) None ≡ None = read_child _ _ _ _ c.self.invariant up c.args.i _ covered c.slot_of-slot.ensures _ _ c.index_mut.ensures.value c.in-None.is in
-    let new = c.in_ok-child-in-None.ensures in
-    let level : c.self.inside.height - 1 + 1 ≡ c.self.inside.height = omega (arith, up) in
-    let child = c.in_ok-child-in-None.child in
-    let made : IsChild c.self.inside.height child.value = record { height = ap (λ n. n + 1) new.height ∙ level; whole = new.whole ∙ ap (λ n. 64 ^ n) level } in
-    let was = c.deref_mut-in-None.ensures.value in
-    let kid = child_kept _ child.value c.prepare-in-None.new.self made (rw was at c.prepare-in-None.ensures.height) (rw was at c.prepare-in-None.ensures.whole) in
-    let kept = rw was at c.prepare-in-None.ensures.entries in
-    let entries : KeepsEntries (below c.self.inside.height None) c.prepare-in-None.new.self.places = λ j. kept j ∙ new.empty j ∙ sym (below_none c.self.inside.height j) in
-    let box = with_value child c.prepare-in-None.new.self in
-    rw (← c.self.view_is, set-set) (kept_whole _ _ _ _ c.self.invariant up c.args.i _ covered c.slot_of-slot.ensures None box e kid entries)
-
-pub returns-in_ok-prepare-in-None-clause-entries : goal.returns-in_ok-prepare-in-None-clause-entries
-returns-in_ok-prepare-in-None-clause-entries g t c =
-    let h : c.self.inside.height ≡ c.args.self.now.height = ap (λ v. v.height) c.self.view_is in
-    let up : 0 < c.self.inside.height = omega (arith, c.if-height-eq0.false) in
-    let covered : c.args.i < 64 ^ (c.self.inside.height + 1) = rw h c.requires in
-    let e : get_or c.self.inside.children.items (c.args.i / 64 ^ c.self.inside.height) None ≡ None = read_child _ _ _ _ c.self.invariant up c.args.i _ covered c.slot_of-slot.ensures _ _ c.index_mut.ensures.value c.in-None.is in
-    let new = c.in_ok-child-in-None.ensures in
-    let level : c.self.inside.height - 1 + 1 ≡ c.self.inside.height = omega (arith, up) in
-    let child = c.in_ok-child-in-None.child in
-    let made : IsChild c.self.inside.height child.value = record { height = ap (λ n. n + 1) new.height ∙ level; whole = new.whole ∙ ap (λ n. 64 ^ n) level } in
-    let was = c.deref_mut-in-None.ensures.value in
-    let kid = child_kept _ child.value c.prepare-in-None.new.self made (rw was at c.prepare-in-None.ensures.height) (rw was at c.prepare-in-None.ensures.whole) in
-    let kept = rw was at c.prepare-in-None.ensures.entries in
-    let entries : KeepsEntries (below c.self.inside.height None) c.prepare-in-None.new.self.places = λ j. kept j ∙ new.empty j ∙ sym (below_none c.self.inside.height j) in
-    let box = with_value child c.prepare-in-None.new.self in
-    rw (← c.self.view_is, set-set) (kept_entries _ _ _ _ c.self.invariant up c.args.i _ covered c.slot_of-slot.ensures None box e kid entries)
-
-pub returns-in_ok-prepare-in-None-clause-keeps : goal.returns-in_ok-prepare-in-None-clause-keeps
-returns-in_ok-prepare-in-None-clause-keeps g t c =
-    let h : c.self.inside.height ≡ c.args.self.now.height = ap (λ v. v.height) c.self.view_is in
-    let up : 0 < c.self.inside.height = omega (arith, c.if-height-eq0.false) in
-    let covered : c.args.i < 64 ^ (c.self.inside.height + 1) = rw h c.requires in
-    let e : get_or c.self.inside.children.items (c.args.i / 64 ^ c.self.inside.height) None ≡ None = read_child _ _ _ _ c.self.invariant up c.args.i _ covered c.slot_of-slot.ensures _ _ c.index_mut.ensures.value c.in-None.is in
-    let new = c.in_ok-child-in-None.ensures in
-    let level : c.self.inside.height - 1 + 1 ≡ c.self.inside.height = omega (arith, up) in
-    let child = c.in_ok-child-in-None.child in
-    let made : IsChild c.self.inside.height child.value = record { height = ap (λ n. n + 1) new.height ∙ level; whole = new.whole ∙ ap (λ n. 64 ^ n) level } in
-    let was = c.deref_mut-in-None.ensures.value in
-    let kid = child_kept _ child.value c.prepare-in-None.new.self made (rw was at c.prepare-in-None.ensures.height) (rw was at c.prepare-in-None.ensures.whole) in
-    let kept = rw was at c.prepare-in-None.ensures.entries in
-    let entries : KeepsEntries (below c.self.inside.height None) c.prepare-in-None.new.self.places = λ j. kept j ∙ new.empty j ∙ sym (below_none c.self.inside.height j) in
-    let box = with_value child c.prepare-in-None.new.self in
-    rw (← c.self.view_is, set-set) (kept_keeps _ _ _ _ c.self.invariant up c.args.i _ covered c.slot_of-slot.ensures None box e kid entries (below_unprepared c.self.inside.height _))
-
-pub returns-in_ok-prepare-in-None-clause-ok : goal.returns-in_ok-prepare-in-None-clause-ok
-returns-in_ok-prepare-in-None-clause-ok g t c =
-    let h : c.self.inside.height ≡ c.args.self.now.height = ap (λ v. v.height) c.self.view_is in
-    let up : 0 < c.self.inside.height = omega (arith, c.if-height-eq0.false) in
-    let covered : c.args.i < 64 ^ (c.self.inside.height + 1) = rw h c.requires in
-    let e : get_or c.self.inside.children.items (c.args.i / 64 ^ c.self.inside.height) None ≡ None = read_child _ _ _ _ c.self.invariant up c.args.i _ covered c.slot_of-slot.ensures _ _ c.index_mut.ensures.value c.in-None.is in
-    let new = c.in_ok-child-in-None.ensures in
-    let level : c.self.inside.height - 1 + 1 ≡ c.self.inside.height = omega (arith, up) in
-    let child = c.in_ok-child-in-None.child in
-    let made : IsChild c.self.inside.height child.value = record { height = ap (λ n. n + 1) new.height ∙ level; whole = new.whole ∙ ap (λ n. 64 ^ n) level } in
-    let was = c.deref_mut-in-None.ensures.value in
-    let kid = child_kept _ child.value c.prepare-in-None.new.self made (rw was at c.prepare-in-None.ensures.height) (rw was at c.prepare-in-None.ensures.whole) in
-    let kept = rw was at c.prepare-in-None.ensures.entries in
-    let entries : KeepsEntries (below c.self.inside.height None) c.prepare-in-None.new.self.places = λ j. kept j ∙ new.empty j ∙ sym (below_none c.self.inside.height j) in
-    let box = with_value child c.prepare-in-None.new.self in
-    rw set-set (ap (λ p. p.prepared) (kept_here _ _ _ _ c.self.invariant up c.args.i _ covered c.slot_of-slot.ensures None box e kid entries) ∙ rw c.rest_of-rest.ensures at c.in_ok-prepare-in-None.ensures.ok)
+pub returns-in_ok-prepare-in-None : goal.returns-in_ok-prepare-in-None
+returns-in_ok-prepare-in-None g t c =
+    let way = none g t (goal.at.returns-in_ok-prepare-in-None g t c).In-None in
+    let made = c.in_ok-child-in-None in
+    let old = rw c.deref_mut-in-None.ensures.value at c.prepare-in-None.ensures in
+    let new = child_made _ _ _ _ c.self.invariant _ _ way made.child.value (with_value made.child c.prepare-in-None.new.self) made.ensures old.height old.whole old.entries in
+    record {
+      height = search rules;
+      whole = rw (← c.self.view_is, set-set) new.1.whole;
+      entries = rw (← c.self.view_is, set-set) (new.1.entries new.0);
+      keeps = rw (← c.self.view_is, set-set) (new.1.keeps (below_unprepared c.self.inside.height _));
+      ok = rw set-set (ap (λ p. p.prepared) new.1.here ∙ rw c.rest_of-rest.ensures at c.in_ok-prepare-in-None.ensures.ok);
+    }
