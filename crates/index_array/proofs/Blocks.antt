@@ -1,5 +1,5 @@
 -- A node as blocks of equal length, one for each slot, and what its words say of them.
-use Rattle.std.proofs.Common.{ℕ, zero, suc, ◌≡◌, ◌+◌, ◌*◌, ◌/◌, ◌%◌, ◌^◌, ◌<◌, ◌≤◌, sym, ap, ◌∙◌, subst, arith, refl, List, [], ◌∷◌, ◌++◌, length, get_or, Box, Bool, true, false, ◌||◌, Option, Some, None, inl, inr}
+use Rattle.std.proofs.Common.{ℕ, zero, suc, ◌≡◌, ◌+◌, ◌*◌, ◌/◌, ◌%◌, ◌^◌, ◌<◌, ◌≤◌, sym, ap, ◌∙◌, subst, arith, refl, List, [], ◌∷◌, ◌++◌, length, get_or, replicate, Box, Bool, true, false, ◌||◌, Option, Some, None, inl, inr}
 use Rattle.std.specs.List.{flat_map, list_any}
 use Rattle.std.proofs.Math.Nat.{suc-mul, div-add-mod', mod-lt, le-div_iff_mul-le}
 use Rattle.std.proofs.lemmas.List.{get_or_append_left, get_or-append-add, get_or-replicate, length-replicate, length-append, get_or_past, get_or_default}
@@ -14,6 +14,14 @@ use Rattle.index_array.specs.Tree.{Tree, leaf_place, leaf_places, below, places_
 use Rattle.index_array.specs.declared.bits.Sought.{Sought}
 use Rattle.index_array.specs.declared.bits.Words.{Words}
 use Rattle.index_array.proofs.Powers.{pow_pos_64, pow_up_64, slot_below, place_below}
+
+-- copies of one element, which is also the default
+pub get_or-copies : {X : Type 0} (n j : ℕ) (x : X) → get_or (replicate n x) j x ≡ x
+get_or-copies n j x =
+    elim (cases_lt j n) [
+      | inl below ↦ get_or-replicate n j x x below
+      | inr past ↦ get_or_past (replicate n x) j x (omega (arith, length-replicate n x, past))
+    ]
 
 -- the r-th element of the q-th of blocks of c elements
 get_or-blocks : {X A : Type 0} (f : X → List A) (c : ℕ) (xs : List X) (e : X) (d : A) → ((k : ℕ) → k < length xs → length (f (get_or xs k e)) ≡ c) → (q r : ℕ) → r < c → q < length xs → get_or (flat_map f xs) (q * c + r) d ≡ get_or (f (get_or xs q e)) r d
@@ -106,7 +114,7 @@ module _ {T : Type 0} (w : Words) (h : ℕ) (es : List (Option T)) (cs : List (O
             ap (λ x. place_at (flat_map (below h) cs) x) split ∙ get_or-blocks (below h) (64 ^ h) cs None bare (λ k _. length_below (get_or cs k None) k refl) (j / 64 ^ h) (j % 64 ^ h) (mod-lt j above) (omega (arith, n, in_slot))
         | inr past ↦
             (let outside : 64 * 64 ^ h ≤ j = (le-div_iff_mul-le above).0 past in
-            get_or_past (flat_map (below h) cs) j bare (omega (arith, inner_length up, outside)) ∙ sym (ap (λ o. place_at (below h o) (j % 64 ^ h)) (get_or_past cs (j / 64 ^ h) None (omega (arith, n, past))) ∙ get_or-replicate (64 ^ h) (j % 64 ^ h) bare bare (mod-lt j above)))
+            get_or_past (flat_map (below h) cs) j bare (omega (arith, inner_length up, outside)) ∙ sym (ap (λ o. place_at (below h o) (j % 64 ^ h)) (get_or_past cs (j / 64 ^ h) None (omega (arith, n, past))) ∙ get_or-copies (64 ^ h) (j % 64 ^ h) bare))
       ]
 
   -- the slot of a leaf
@@ -179,7 +187,7 @@ module _ {T : Type 0} (w : Words) (h : ℕ) (es : List (Option T)) (cs : List (O
 
   pub place_empty : 0 < h → (j : ℕ) → get_or cs (j / 64 ^ h) None ≡ None → place_at (places_of w h es cs) j ≡ bare
   place_empty up j e =
-      place_inner up j ∙ ap (λ o. place_at (below h o) (j % 64 ^ h)) e ∙ get_or-replicate (64 ^ h) (j % 64 ^ h) bare bare (mod-lt j (pow_pos_64 h node.low))
+      place_inner up j ∙ ap (λ o. place_at (below h o) (j % 64 ^ h)) e ∙ get_or-copies (64 ^ h) (j % 64 ^ h) bare
 
   -- the bit of a leaf's slot says whether its place is what is sought
   pub leaf_bit : h ≡ 0 → (s : Sought) (j : ℕ) → j < 64 → carries s (place_at (places_of w h es cs) j) ≡ has_bit (word_of s w) j

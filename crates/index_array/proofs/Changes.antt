@@ -1,9 +1,9 @@
 -- A node of which one slot is replaced.
-use Rattle.std.proofs.Common.{ℕ, ◌≡◌, ◌≢◌, ◌+◌, ◌*◌, ◌/◌, ◌%◌, ◌^◌, ◌<◌, sym, ap, ◌∙◌, subst, arith, refl, List, length, get_or, replicate, Box, Bool, true, false, not, is_some, Option, Some, None, inl, inr}
+use Rattle.std.proofs.Common.{ℕ, ◌≡◌, ◌≢◌, ◌+◌, ◌*◌, ◌/◌, ◌%◌, ◌^◌, ◌<◌, sym, ap, ◌∙◌, subst, arith, refl, List, length, get_or, Box, Bool, true, false, not, is_some, Option, Some, None, inl, inr}
 use Rattle.std.specs.List.{list_any}
 use Rattle.std.proofs.Math.ListN.{set}
 use Rattle.std.proofs.Math.Nat.{div-add-mod'}
-use Rattle.std.proofs.lemmas.List.{get_or-set_same, get_or-set_other, length-set, get_or-replicate, length-replicate, get_or_past}
+use Rattle.std.proofs.lemmas.List.{get_or-set_same, get_or-set_other, length-set, get_or_past}
 use Rattle.std.proofs.lemmas.Bool.{cases_eq, cases_lt, false≢true}
 use Rattle.std.specs.declared.alloc.Global.{Global}
 use Rattle.index_array.specs.Words.{has_bit, word_of}
@@ -12,7 +12,7 @@ use Rattle.index_array.specs.Tree.{Tree, below, places_of, IsNode, IsChild}
 use Rattle.index_array.specs.declared.bits.Sought.{Sought}
 use Rattle.index_array.specs.declared.bits.Sought.TheVariants.{Present, Gap, Mark}
 use Rattle.index_array.specs.declared.bits.Words.{Words}
-use Rattle.index_array.proofs.Blocks.{slot_inner, place_inner, length_places, same_any, none_any}
+use Rattle.index_array.proofs.Blocks.{get_or-copies, slot_inner, place_inner, length_places, same_any, none_any}
 
 -- two indexes of one slot differ in the rest
 rest_differs : (c i j : ℕ) → j / c ≡ i / c → j ≢ i → j % c ≢ i % c
@@ -112,13 +112,12 @@ none_present ps e j =
     no_entry None h = refl
     no_entry (Some x) h = absurd (false≢true (sym h))
 
--- below an empty slot there is no entry
+-- below an empty slot there is no entry, and no room is prepared
 pub below_none : {T : Type 0} (h j : ℕ) → entry_at {T = T} (below h None) j ≡ None
-below_none {T = T} h j =
-    elim (cases_lt j (64 ^ h)) [
-      | inl b ↦ ap (λ p. p.entry) (get_or-replicate (64 ^ h) j (bare {T = T}) bare b)
-      | inr past ↦ ap (λ p. p.entry) (get_or_past (replicate (64 ^ h) (bare {T = T})) j bare (omega (arith, length-replicate (64 ^ h) (bare {T = T}), past)))
-    ]
+below_none {T} h j = ap (λ p. p.entry) (get_or-copies (64 ^ h) j (bare {T = T}))
+
+pub below_unprepared : {T : Type 0} (h : ℕ) (ps : List (Place T)) → KeepsPrepared (below h None) ps
+below_unprepared {T} h ps j on = absurd (false≢true (sym (ap (λ p. p.prepared) (get_or-copies (64 ^ h) j (bare {T = T}))) ∙ on))
 
 abbrev value_or : {X : Type 0} → X → Option X → X
 value_or d None = d
@@ -131,14 +130,6 @@ some_child h x kid b e = subst (λ z. IsChild h z.value) (ap (value_or x) e) kid
 -- a child that keeps its height and its length is a child still
 pub child_kept : {T : Type 0} (h : ℕ) (old new : Tree T) → IsChild h old → new.height ≡ old.height → length new.places ≡ length old.places → IsChild h new
 child_kept h old new kid same whole = record { height = ap (λ n. n + 1) same ∙ kid.height; whole = whole ∙ kid.whole }
-
--- and no room is prepared
-pub below_unprepared : {T : Type 0} (h : ℕ) (ps : List (Place T)) → KeepsPrepared (below h None) ps
-below_unprepared {T = T} h ps j on =
-    elim (cases_lt j (64 ^ h)) [
-      | inl b ↦ absurd (false≢true (sym (ap (λ p. p.prepared) (get_or-replicate (64 ^ h) j (bare {T = T}) bare b)) ∙ on))
-      | inr past ↦ absurd (false≢true (sym (ap (λ p. p.prepared) (get_or_past (replicate (64 ^ h) (bare {T = T})) j bare (omega (arith, length-replicate (64 ^ h) (bare {T = T}), past)))) ∙ on))
-    ]
 
 -- to mark where there is no entry changes nothing
 pub marks_nothing : {T : Type 0} (ps : List (Place T)) (i m : ℕ) (on : Bool) → is_some (entry_at ps i) ≡ false → WritesEntry ps ps i (with_mark m on (entry_at ps i))

@@ -1,12 +1,12 @@
 -- The same on the way back from the child of an index.
-use Rattle.std.proofs.Common.{ℕ, ◌≡◌, ◌≢◌, ◌+◌, ◌-◌, ◌/◌, ◌%◌, ◌^◌, ◌<◌, sym, ap, ◌∙◌, subst, arith, refl, not, is_some, ◌⊎◌, inl, inr, List, length, get_or, Box, Bool, false, Option, Some, None}
+use Rattle.std.proofs.Common.{ℕ, ◌≡◌, ◌≢◌, ◌+◌, ◌-◌, ◌/◌, ◌%◌, ◌^◌, ◌<◌, sym, ap, ◌∙◌, subst, arith, refl, ◌⊎◌, inl, inr, List, length, get_or, Box, Bool, true, false, Option, Some, None}
 use Rattle.std.specs.List.{list_any}
 use Rattle.std.proofs.Math.ListN.{set}
 use Rattle.std.proofs.lemmas.List.{length-replicate, get_or-set_other}
 use Rattle.std.proofs.lemmas.Bool.{cases_eq}
 use Rattle.std.specs.declared.alloc.Global.{Global}
 use Rattle.index_array.specs.Words.{has_bit, word_of}
-use Rattle.index_array.specs.Place.{Place, Entry, bare, place_at, entry_at, is_marked, with_mark, carries, WritesEntry, KeepsEntries}
+use Rattle.index_array.specs.Place.{Place, Entry, bare, place_at, entry_at, with_mark, carries, WritesEntry, KeepsEntries}
 use Rattle.index_array.specs.Tree.{Tree, below, places_of, IsNode, IsChild, IsNew}
 use Rattle.index_array.specs.declared.bits.Sought.{Sought}
 use Rattle.index_array.specs.declared.bits.Sought.TheVariants.{Present, Gap, Mark}
@@ -73,21 +73,20 @@ module _ {T : Type 0} (w : Words) (h : ℕ) (es : List (Option T)) (cs : List (O
       (none, slot_kept None way y (child_kept h made y.value child height whole) none)
 
 -- to set or clear mark m of one entry changes what else is sought nowhere
-other_marked : {T : Type 0} (m : ℕ) (on : Bool) (q : Sought) → q ≢ Mark m → (o : Option (Entry T)) (a b : Place T) → b.entry ≡ o → a.entry ≡ with_mark m on o → carries q a ≡ carries q b
-other_marked m on Present ne None a b f e = ap is_some e ∙ sym (ap is_some f)
-other_marked m on Present ne (Some x) a b f e = ap is_some e ∙ sym (ap is_some f)
-other_marked m on Gap ne None a b f e = ap (λ o. not (is_some o)) e ∙ sym (ap (λ o. not (is_some o)) f)
-other_marked m on Gap ne (Some x) a b f e = ap (λ o. not (is_some o)) e ∙ sym (ap (λ o. not (is_some o)) f)
-other_marked m on (Mark n) ne None a b f e = ap (is_marked n) e ∙ sym (ap (is_marked n) f)
-other_marked m on (Mark n) ne (Some x) a b f e =
-    ap (is_marked n) e ∙ get_or-set_other x.marks m n on false (λ same. ne (ap Mark same)) ∙ sym (ap (is_marked n) f)
+other_marked : {T : Type 0} (m : ℕ) (on p : Bool) (q : Sought) → q ≢ Mark m → (o : Option (Entry T)) → carries q (record { prepared = p; entry = with_mark m on o }) ≡ carries q (record { prepared = p; entry = o })
+other_marked m on p Present ne None = refl
+other_marked m on p Present ne (Some x) = refl
+other_marked m on p Gap ne None = refl
+other_marked m on p Gap ne (Some x) = refl
+other_marked m on p (Mark n) ne None = refl
+other_marked m on p (Mark n) ne (Some x) = get_or-set_other x.marks m n on false (λ same. ne (ap Mark same))
 
 any_marked : {T : Type 0} (m : ℕ) (on : Bool) (old new : List (Place T)) (r : ℕ) → length new ≡ length old → WritesEntry old new r (with_mark m on (entry_at old r)) → (q : Sought) → q ≢ Mark m → list_any (carries q) new ≡ list_any (carries q) old
 any_marked m on old new r n writes q ne =
     same_any (carries q) new old bare n (λ j.
     elim (cases_eq j r) [
       | inl same ↦
-          other_marked m on q ne (entry_at old r) (place_at new j) (place_at old j) (ap (entry_at old) same) (ap (entry_at new) same ∙ writes.here)
+          carries_entry q (place_at new j) (record { prepared = true; entry = with_mark m on (entry_at old j) }) (ap (entry_at new) same ∙ writes.here ∙ ap (λ n. with_mark m on (entry_at old n)) (sym same)) ∙ other_marked m on true q ne (entry_at old j) ∙ carries_entry q (record { prepared = true; entry = entry_at old j }) (place_at old j) refl
       | inr other ↦ carries_entry q (place_at new j) (place_at old j) (writes.others j other)
     ])
 

@@ -1,9 +1,9 @@
 -- A new node.
 use Rattle.std.proofs.Common.{ℕ, ◌≡◌, ◌^◌, ◌<◌, sym, ap, ◌∙◌, arith, refl, List, [], length, get_or, replicate, Box, Bool, false, Option, Some, None, inl, inr}
 use Rattle.std.specs.List.{list_any}
-use Rattle.std.proofs.lemmas.List.{get_or-replicate, length-replicate, get_or_past}
+use Rattle.std.proofs.lemmas.List.{get_or-replicate, length-replicate}
 use Rattle.std.proofs.lemmas.List.Folds.{list_any_at}
-use Rattle.std.proofs.lemmas.Bool.{cases_Bool, cases_lt}
+use Rattle.std.proofs.lemmas.Bool.{cases_Bool}
 use Rattle.std.specs.declared.alloc.Global.{Global}
 use Rattle.index_array.specs.Words.{has_bit, word_of, is_absent}
 use Rattle.index_array.specs.Place.{bare, entry_with, carries}
@@ -12,7 +12,7 @@ use Rattle.index_array.specs.declared.bits.Sought.{Sought}
 use Rattle.index_array.specs.declared.bits.Sought.TheVariants.{Present, Gap, Mark}
 use Rattle.index_array.specs.declared.bits.Words.{Words}
 use Rattle.index_array.proofs.Powers.{pow_pos_64}
-use Rattle.index_array.proofs.Blocks.{any_none, or_false, slot_inner, slot_leaf, together_is, length_places}
+use Rattle.index_array.proofs.Blocks.{get_or-copies, any_none, or_false, slot_inner, slot_leaf, together_is, length_places}
 use Rattle.index_array.proofs.Changes.{carries_entry, none_present}
 
 -- copies of one element pass a test as that element does
@@ -32,8 +32,7 @@ carries_bare T (Mark m) = refl
 
 -- a slot of 64 that are empty
 empty_slot : {X : Type 0} (xs : List (Option X)) (k : ℕ) → xs ≡ replicate 64 None → get_or xs k None ≡ None
-empty_slot {X = X} xs k e =
-    ap (λ l. get_or l k None) e ∙ elim (cases_lt k 64) [ inl b ↦ get_or-replicate 64 k None None b | inr past ↦ get_or_past (replicate 64 None) k None (omega (arith, length-replicate 64 (let o : Option X = None in o), past)) ]
+empty_slot xs k e = ap (λ l. get_or l k None) e ∙ get_or-copies 64 k None
 
 -- an empty slot has no child
 no_child : {X : Type 0} (k : ℕ) (b : X) {o : Option X} → o ≡ None → o ≡ Some b → ⊥

@@ -2,6 +2,7 @@
 use Rattle.std.proofs.Common.{ℕ, zero, suc, ◌≡◌, ◌^◌, ◌<◌, Bool, true, false, not, [], ◌∷◌, length, get_or, sym, ap, ◌∙◌, arith, refl, subst}
 use Rattle.std.specs.Prelude.{nat_eq}
 use Rattle.std.specs.Int.{bit_not, w64}
+use Rattle.std.proofs.Math.Bool.{not-not}
 use Rattle.std.proofs.lemmas.List.{get_or_past}
 use Rattle.std.proofs.lemmas.Bool.{false_from_ne_true}
 use Rattle.std.proofs.lemmas.Bool.Decides.{nat_tests}
@@ -12,10 +13,6 @@ use Rattle.index_array.specs.declared.bits.Words.{Words}
 use Rattle.index_array.specs.declared.bits.SlotBits.{SlotBits}
 use Rattle.index_array.proofs.OneBit.{has_bit-not, has_bit-zero, word_some}
 
-pub not-not : (b : Bool) → not (not b) ≡ b
-not-not true = refl
-not-not false = refl
-
 -- the bits of one slot in words of three marks
 pub words_same : (b : SlotBits) (p f x y z k : ℕ) → length b.marks ≡ 3 → f < 2 ^ 64 → k < 64 → has_bit p k ≡ b.present → has_bit f k ≡ not b.gap → has_bit x k ≡ get_or b.marks 0 false → has_bit y k ≡ get_or b.marks 1 false → has_bit z k ≡ get_or b.marks 2 false → (s : Sought) → has_bit (word_of s (record { present = p; full = f; marks = x ∷ y ∷ z ∷ [] })) k ≡ bit_of s b
 words_same b p f x y z k n small below hp hf hx hy hz Present = hp
@@ -25,16 +22,6 @@ words_same b p f x y z k n small below hp hf hx hy hz (Mark (suc zero)) = hy
 words_same b p f x y z k n small below hp hf hx hy hz (Mark (suc (suc zero))) = hz
 words_same b p f x y z k n small below hp hf hx hy hz (Mark (suc (suc (suc m)))) =
     has_bit-zero k ∙ sym (get_or_past b.marks (suc (suc (suc m))) false (omega (arith, n)))
-
--- another bit of words that agree there
-pub words_other : (w : Words) (p f x y z j : ℕ) → length w.marks ≡ 3 → f < 2 ^ 64 → w.full < 2 ^ 64 → j < 64 → has_bit p j ≡ has_bit w.present j → has_bit f j ≡ has_bit w.full j → has_bit x j ≡ has_bit (get_or w.marks 0 0) j → has_bit y j ≡ has_bit (get_or w.marks 1 0) j → has_bit z j ≡ has_bit (get_or w.marks 2 0) j → (s : Sought) → has_bit (word_of s (record { present = p; full = f; marks = x ∷ y ∷ z ∷ [] })) j ≡ has_bit (word_of s w) j
-words_other w p f x y z j n small was below hp hf hx hy hz Present = hp
-words_other w p f x y z j n small was below hp hf hx hy hz Gap = has_bit-not f j small below ∙ ap not hf ∙ sym (has_bit-not w.full j was below)
-words_other w p f x y z j n small was below hp hf hx hy hz (Mark zero) = hx
-words_other w p f x y z j n small was below hp hf hx hy hz (Mark (suc zero)) = hy
-words_other w p f x y z j n small was below hp hf hx hy hz (Mark (suc (suc zero))) = hz
-words_other w p f x y z j n small was below hp hf hx hy hz (Mark (suc (suc (suc m)))) =
-    ap (λ v. has_bit v j) (sym (get_or_past w.marks (suc (suc (suc m))) 0 (omega (arith, n))))
 
 -- a word is full exactly where its complement is 0
 pub full_word : (n : ℕ) → n < 2 ^ 64 → nat_eq n 18446744073709551615 ≡ nat_eq (bit_not w64 n) 0
@@ -73,6 +60,12 @@ words_slot w p f x y z k n small below hp hf hx hy hz (Mark (suc zero)) = hy
 words_slot w p f x y z k n small below hp hf hx hy hz (Mark (suc (suc zero))) = hz
 words_slot w p f x y z k n small below hp hf hx hy hz (Mark (suc (suc (suc m)))) =
     sym (ap (λ v. has_bit v k) (get_or_past w.marks (suc (suc (suc m))) 0 (omega (arith, n))) ∙ has_bit-zero k)
+
+-- another bit of words that agree there
+pub words_other : (w : Words) (p f x y z j : ℕ) → length w.marks ≡ 3 → f < 2 ^ 64 → w.full < 2 ^ 64 → j < 64 → has_bit p j ≡ has_bit w.present j → has_bit f j ≡ has_bit w.full j → has_bit x j ≡ has_bit (get_or w.marks 0 0) j → has_bit y j ≡ has_bit (get_or w.marks 1 0) j → has_bit z j ≡ has_bit (get_or w.marks 2 0) j → (s : Sought) → has_bit (word_of s (record { present = p; full = f; marks = x ∷ y ∷ z ∷ [] })) j ≡ has_bit (word_of s w) j
+words_other w p f x y z j n small was below hp hf hx hy hz s =
+    words_same (record { present = has_bit w.present j; gap = not (has_bit w.full j); marks = has_bit (get_or w.marks 0 0) j ∷ has_bit (get_or w.marks 1 0) j ∷ has_bit (get_or w.marks 2 0) j ∷ [] }) p f x y z j refl small below hp (hf ∙ sym (not-not (has_bit w.full j))) hx hy hz s
+    ∙ words_slot w _ _ _ _ _ j n was below refl refl refl refl refl s
 
 -- the words where nothing is present
 pub words_none : (s : Sought) (k : ℕ) → k < 64 → has_bit (word_of s (record { present = 0; full = 0; marks = 0 ∷ 0 ∷ 0 ∷ [] })) k ≡ is_absent s

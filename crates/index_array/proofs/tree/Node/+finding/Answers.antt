@@ -64,7 +64,7 @@ find_in_slot-returns-in-None g t c =
     let h : c.self.inside.height ≡ c.args.self.now.height = ap (λ v. v.height) c.self.view_is in
     let up : 0 < c.self.inside.height = rw h c.requires.inner in
     let on = rw c.word.ensures at (sym c.has_bit.ensures ∙ c.if-not-has_bit.false) in
-    let e = read_slot _ _ _ _ c.self.invariant up c.args.slot c.requires.slot _ _ c.index.ensures c.in-None.is in
+    let e : get_or c.self.inside.children.items c.args.slot None ≡ None = read_slot _ _ _ _ c.self.invariant up c.args.slot c.requires.slot _ _ c.index.ensures c.in-None.is in
     rw (← c.self.view_is, c.start_of-start.ensures.start) (first_empty _ _ _ _ c.self.invariant c.args.sought up c.args.slot c.args.rest c.requires.slot (rw h c.requires.rest) on e)
 
 pub find_in_slot-returns-in-None-find : goal.find_in_slot-returns-in-None-find
