@@ -1,5 +1,6 @@
-use Rattle.std.proofs.Common.{ℕ, ◌≡◌, ◌<◌, ◌≤◌, max, sym, ap, ◌∙◌, arith, refl, List, Bool, true, false, not, Option, Some, None, is_some, IfSome, cond}
+use Rattle.std.proofs.Common.{ℕ, ◌≡◌, ◌<◌, ◌≤◌, max, sym, ap, ◌∙◌, arith, List, true, false, not, Option, Some, None, is_some, IfSome, cond}
 use Rattle.std.specs.Prelude.{nat_lt}
+use Rattle.std.proofs.Math.Bool.{not-not}
 use Rattle.std.proofs.lemmas.Bool.{false_from_ne_true, true_from_ne_false, false≢true, ltb-true}
 use Rattle.std.proofs.lemmas.Bool.Decides.{nat_tests}
 use Rattle.index_array.specs.Place.{Place, entry_at, indexes, IsLeastIndex, KeepsEntries}
@@ -11,18 +12,10 @@ use Rattle.pid_types.proofs.LeastFree.{least_free-found, least_free-IsLeastFree,
 -- a gap that was found is the least free number
 module _ {T : Type 0} (ps : List (Place T)) where
   taken_at : (m : ℕ) → not (is_some (entry_at ps m)) ≡ false → contains (indexes ps) m ≡ true
-  taken_at m e = contains_indexes ps m ∙ not_false (is_some (entry_at ps m)) e
-    where
-      not_false : (b : Bool) → not b ≡ false → b ≡ true
-      not_false true h = refl
-      not_false false h = sym h
+  taken_at m e = contains_indexes ps m ∙ sym (not-not (is_some (entry_at ps m))) ∙ ap not e
 
   free_at : (m : ℕ) → not (is_some (entry_at ps m)) ≡ true → contains (indexes ps) m ≡ false
-  free_at m e = contains_indexes ps m ∙ not_true (is_some (entry_at ps m)) e
-    where
-      not_true : (b : Bool) → not b ≡ true → b ≡ false
-      not_true true h = sym h
-      not_true false h = refl
+  free_at m e = contains_indexes ps m ∙ sym (not-not (is_some (entry_at ps m))) ∙ ap not e
 
   pub gap_found : (from end b : ℕ) → IsLeastIndex (λ k. not (is_some (entry_at ps k))) from end (Some b) → b ≡ least_free (indexes ps) from
   gap_found from end b gap = least_free-found (indexes ps) from b gap.0 (λ m low high. taken_at m (gap.3 m low high)) (free_at b gap.2)

@@ -30,6 +30,9 @@ pub const GROUP_MARK: usize = 1;
 pub const SESSION_MARK: usize = 2;
 
 /// A finite map from numbers below a bound to values with marks, and a cursor for draws.
+///
+/// It owns its values. A call makes one call of an `IndexArray`, `plan` at most two, so its cost hardly
+/// grows with the numbers in use.
 #[derive(Drop)]
 pub struct CyclicIds<T: Drop> {
     ids: IndexArray<T>,
@@ -70,7 +73,8 @@ impl<T: Drop> CyclicIds<T> {
         self.cursor
     }
 
-    /// The number that is given next; none where all from the restart on are in use.
+    /// The number that is given next, by the rule above; none where all from the restart on are in use.
+    /// It changes nothing.
     pub fn plan(&self) -> Option<u32>
         ensures draw { result ≡ planned self.now }
         ensures below { IfSome result (λ n. n < self.now.pid_max) }
@@ -82,7 +86,8 @@ impl<T: Drop> CyclicIds<T> {
         }
     }
 
-    /// Where a draw starts again.
+    /// Where a draw starts again: 300 once the cursor has passed it, so that the low numbers stay with
+    /// the first processes, and else 1.
     fn restart(&self) -> u32
         ensures { result ≡ restart self.now.cursor }
     {
@@ -127,7 +132,7 @@ impl<T: Drop> CyclicIds<T> {
         self.cursor = n + 1;
     }
 
-    /// Makes a number free and answers its value. The cursor stays.
+    /// Makes a number free and answers its value, none where it was not in use. The cursor stays.
     pub fn release(&mut self, n: u32) -> Option<T>
         ensures writes { WritesEntry self.old.places self.new.places n None }
         ensures answer { result ≡ value_at self.old.places n }
@@ -137,7 +142,7 @@ impl<T: Drop> CyclicIds<T> {
         self.ids.erase(n)
     }
 
-    /// The value of a number that is in use.
+    /// The value of a number; none where it is not in use.
     pub fn find(&self, n: u32) -> Option<&T>
         ensures { option_copied result ≡ value_at self.now.places n }
     {
@@ -178,7 +183,7 @@ impl<T: Drop> CyclicIds<T> {
         self.ids.clear_mark(n, m)
     }
 
-    /// The least number at or above `from` that is in use and has mark `m`.
+    /// The least number at or above `from` that is in use and has mark `m`; none where there is none.
     pub fn next_marked(&self, from: u32, m: usize) -> Option<u32>
         requires { m < 3 }
         ensures { IsLeastIndex (λ k. is_marked m (entry_at self.now.places k)) from 16777216 result }

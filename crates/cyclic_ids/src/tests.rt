@@ -18,6 +18,7 @@ fn draw(rt: &impl Abort, ids: &mut CyclicIds<u32>) -> Option<u32> {
     Some(n)
 }
 
+/// 1 to 300, and then only what is freed from 300 on.
 #[test]
 fn draws_in_turn(rt: HostRuntime) {
     let mut ids = CyclicIds::new(rt.alloc(), 301);
@@ -34,6 +35,7 @@ fn draws_in_turn(rt: HostRuntime) {
     assert_eq!(rt; ids.find(300).copied(), Some(300));
 }
 
+/// Past the bound a draw starts again at 300: 5, which is free, is not drawn.
 #[test]
 fn restarts_at_300(rt: HostRuntime) {
     let mut ids = CyclicIds::new(rt.alloc(), 303);
@@ -50,6 +52,7 @@ fn restarts_at_300(rt: HostRuntime) {
     assert_eq!(rt; draw(&rt, &mut ids), None);
 }
 
+/// A mark is on a number that is in use, and on no other.
 #[test]
 fn marks_numbers(rt: HostRuntime) {
     let mut ids = CyclicIds::new(rt.alloc(), 301);

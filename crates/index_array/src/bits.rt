@@ -1,10 +1,11 @@
-//! The bits of a word, one for each of a node's 64 slots.
+//! The bits of a word, one for each of a node's 64 slots. Each function costs the same whatever is in
+//! the words, and takes no memory.
 
 ghost use Rattle.std.specs.Prelude.{◌≡◌, ◌≢◌, ℕ, ◌<◌};
 ghost use Rattle.index_array.specs.Words.{has_bit, word_of, bit_of, IsFirstBit, IsAnyBit, IsSought, is_absent};
 ghost use Rattle.index_array.specs.declared.bits.Sought.{Sought};
 
-/// Whether bit `k` is set.
+/// Whether bit `k` is set, of 0 to 63.
 pub fn has_bit(word: u64, k: u32) -> bool
     requires { k < 64 }
     ensures { result ≡ has_bit word k }
@@ -12,7 +13,7 @@ pub fn has_bit(word: u64, k: u32) -> bool
     (word >> k) & 1 == 1
 }
 
-/// The word with bit `k` as told.
+/// The word with bit `k` as told, of 0 to 63.
 pub fn with_bit(word: u64, k: u32, on: bool) -> u64
     requires { k < 64 }
     ensures same { has_bit result k ≡ on }
@@ -25,7 +26,7 @@ pub fn with_bit(word: u64, k: u32, on: bool) -> u64
     }
 }
 
-/// The least set bit at or above `from`.
+/// The least set bit at or above `from`, of 0 to 63; none where all from there on are clear.
 pub fn next_bit(word: u64, from: u32) -> Option<u32>
     requires { from < 64 }
     ensures { IsFirstBit word from result }
@@ -41,16 +42,22 @@ pub fn next_bit(word: u64, from: u32) -> Option<u32>
 /// What a search looks for: indexes that are present, that are absent, or that have a mark.
 #[derive(Clone, Copy)]
 pub enum Sought {
+    /// An index with an entry.
     Present,
+    /// An index with none.
     Gap,
+    /// An index whose entry has this mark, 0, 1 or 2.
     Mark(usize),
 }
 
 /// What is below one slot: whether any index is present, any absent, any marked.
 #[derive(Clone, Copy)]
 pub struct SlotBits {
+    /// Some index has an entry.
     pub present: bool,
+    /// Some index has none.
     pub gap: bool,
+    /// Some entry has mark 0, 1, 2.
     pub marks: [bool; 3],
 }
 
@@ -58,8 +65,11 @@ pub struct SlotBits {
 /// below it, is present or has the mark; bit k of `full` where no index below slot k is absent.
 #[derive(Clone, Copy)]
 pub struct Words {
+    /// The slots with an entry somewhere.
     pub present: u64,
+    /// The slots with an entry everywhere.
     pub full: u64,
+    /// For each mark the slots with an entry that has it.
     pub marks: [u64; 3],
 }
 

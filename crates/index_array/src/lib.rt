@@ -26,7 +26,7 @@ use tree::{Node, height_for, new_node, reach};
 /// The indexes are those below this.
 pub const INDEX_COUNT: u32 = 16_777_216;
 
-/// Why an index cannot be prepared.
+/// Why an index cannot be prepared, or an entry stored.
 #[derive(Clone, Copy, Debug, PartialEq, Eq)]
 pub enum IndexFault {
     /// The index is 2^24 or above.
@@ -130,7 +130,8 @@ impl<T: Drop> IndexArray<T> {
         }
     }
 
-    /// Makes the nodes on the way to an index.
+    /// Makes the nodes on the way to an index: levels above the root, and nodes below it. The error is
+    /// want of memory.
     fn make_nodes(&mut self, i: u32) -> Result<(), AllocError>
         requires { i < INDEX_COUNT }
         ensures ok { OnOk result (is_prepared self.new i ≡ true) }
@@ -232,7 +233,7 @@ impl<T: Drop> IndexArray<T> {
         self.put_mark(i, m, false)
     }
 
-    /// Sets or clears a mark.
+    /// Sets or clears a mark, and says whether there is an entry to have it.
     fn put_mark(&mut self, i: u32, m: usize, on: bool) -> bool
         requires { m < 3 }
         ensures writes { WritesEntry self.old self.new i (with_mark m on (entry_at self.old i)) }
@@ -266,7 +267,7 @@ impl<T: Drop> IndexArray<T> {
         self.first(from, Sought::Mark(m))
     }
 
-    /// The least index that is present, or has a mark.
+    /// The least index at or above `from` that is present, or has a mark.
     fn first(&self, from: u32, sought: Sought) -> Option<u32>
         requires mark { IsSought sought }
         requires entry { sought ≢ Sought.Gap }

@@ -1,4 +1,5 @@
-//! The nodes of the array: 64 slots each, entries in a leaf and children above.
+//! The nodes of the array: 64 slots each, entries in a leaf and children above. An index is read as
+//! up to four digits of 6 bits, the highest at the root.
 
 ghost use Rattle.std.specs.Prelude.{◌≡◌, ℕ, ◌<◌, ◌≤◌, ◌+◌, ◌^◌, ◌/◌, ◌%◌, ◌*◌, length, Option, MatchOption, IsSome, IsNone, IfOk, OnOk, replicate, true, false, is_some, [], ◌∷◌};
 ghost use Rattle.std.specs.List.{list_any};
@@ -13,7 +14,9 @@ use std::alloc::{AllocError, Global};
 use std::marker::Model;
 use std::mem;
 
-/// A node of height 0 has 64 entries, a node above it 64 children of the next lower height.
+/// A node of height 0, a leaf, has 64 entries; a node above it has 64 children of the next lower
+/// height, at most 3. An entry or a child may be missing. A node of height h covers the indexes below
+/// 64^(h + 1), as the kernel's `xa_node` does with its `shift`.
 #[derive(Drop)]
 pub struct Node<T: Drop> {
     words: Words,
@@ -119,7 +122,8 @@ impl<T: Drop> Node<T> {
         }
     }
 
-    /// The least index from `from` on that is what is sought.
+    /// The least index from `from` on that is what is sought. It looks at no more than two nodes of a
+    /// level: that of `from`, and that of the next slot whose bit is set.
     #[cycle(finding)]
     pub fn find(&self, from: u32, sought: Sought) -> Option<u32>
         requires covered { from < 64 ^ (self.now.height + 1) }
@@ -144,7 +148,7 @@ impl<T: Drop> Node<T> {
         }
     }
 
-    /// The same below one slot of an inner node, from the index `rest` of that slot on.
+    /// The search of `find` below one slot of an inner node, from the index `rest` of that slot on.
     #[cycle(finding)]
     fn find_in_slot(&self, slot: u32, rest: u32, sought: Sought) -> Option<u32>
         requires inner { 0 < self.now.height }
@@ -204,7 +208,7 @@ impl<T: Drop> Node<T> {
         }
     }
 
-    /// The same in a leaf.
+    /// What `put` does, in a leaf.
     fn put_here(&mut self, i: u32, value: Option<T>, marks: [bool; 3]) -> Option<T>
         requires leaf { self.old.height ≡ 0 }
         requires covered { i < 64 }
@@ -253,7 +257,7 @@ impl<T: Drop> Node<T> {
         }
     }
 
-    /// The same in a leaf.
+    /// What `put_mark` does, in a leaf.
     fn put_mark_here(&mut self, i: u32, mark: usize, on: bool) -> bool
         requires leaf { self.old.height ≡ 0 }
         requires covered { i < 64 }
@@ -274,7 +278,8 @@ impl<T: Drop> Node<T> {
         true
     }
 
-    /// Makes the nodes on the way to an index. On want of memory the entries stay as they are.
+    /// Makes the nodes on the way to an index, at most one on each lower level. On want of memory the
+    /// entries stay as they are.
     pub fn prepare(&mut self, alloc: Global, i: u32) -> Result<(), AllocError>
         requires { i < 64 ^ (self.old.height + 1) }
         ensures height { self.new.height ≡ self.old.height }
@@ -325,7 +330,7 @@ fn start_of(slot: u32, height: u32) -> u32
     slot << (6 * height)
 }
 
-/// 64 empty slots.
+/// 64 empty slots, at once; the error is want of memory.
 #[tactic(auto, using(std::proofs::lemmas::List::replicate_more))]
 fn empty_slots<X: Drop>(alloc: Global) -> Result<Vec<Option<X>>, AllocError>
     ensures { IfOk result (λ v. v.items ≡ replicate 64 None) }
@@ -337,7 +342,7 @@ fn empty_slots<X: Drop>(alloc: Global) -> Result<Vec<Option<X>>, AllocError>
     Ok(slots)
 }
 
-/// A node of a height with no entry.
+/// A node of a height with no entry, and its slots; the error is want of memory.
 fn empty_node<T: Drop>(alloc: Global, height: u32) -> Result<Node<T>, AllocError>
     requires { height < 4 }
     ensures { IfOk result (IsNew height) }
@@ -359,7 +364,7 @@ fn empty_node<T: Drop>(alloc: Global, height: u32) -> Result<Node<T>, AllocError
     })
 }
 
-/// The same in a box.
+/// The node of `empty_node`, in a box.
 pub fn new_node<T: Drop>(alloc: Global, height: u32) -> Result<Box<Node<T>>, AllocError>
     requires { height < 4 }
     ensures { IfOk result (λ b. IsNew height b.value) }
@@ -367,7 +372,7 @@ pub fn new_node<T: Drop>(alloc: Global, height: u32) -> Result<Box<Node<T>>, All
     Ok(Box::new(alloc, empty_node(alloc, height)?)?)
 }
 
-/// The height of a node that covers an index.
+/// The least height, of 0 to 3, of a node that covers an index.
 pub fn height_for(i: u32) -> u32
     requires { i < 16777216 }
     ensures low { result < 4 }
@@ -384,7 +389,8 @@ pub fn height_for(i: u32) -> u32
     }
 }
 
-/// Puts one level above a root. On want of memory nothing changes.
+/// Puts one level above a root, whose places become those of slot 0, as the kernel's `xas_expand`
+/// does. On want of memory nothing changes.
 fn raise<T: Drop>(root: &mut Box<Node<T>>, alloc: Global) -> Result<(), AllocError>
     requires whole { IsWhole root.old.value }
     requires low { root.old.value.height < 3 }
@@ -397,7 +403,8 @@ fn raise<T: Drop>(root: &mut Box<Node<T>>, alloc: Global) -> Result<(), AllocErr
     Ok(())
 }
 
-/// Puts as many levels above a root as an index needs. On want of memory the entries stay.
+/// Puts as many levels above a root as an index needs, at most three. On want of memory the entries
+/// stay, and so do the levels that were made.
 pub fn reach<T: Drop>(root: &mut Box<Node<T>>, alloc: Global, i: u32) -> Result<(), AllocError>
     requires whole { IsWhole root.old.value }
     requires index { i < 16777216 }

@@ -1,12 +1,13 @@
-use Rattle.std.proofs.Common.{rules, arith, ap, sym, ◌∙◌, subst, ◌≡◌, ℕ, ◌<◌, ◌+◌, ◌^◌, None, Some, OnOk, Ok, Err, Result}
+use Rattle.std.proofs.Common.{rules, arith, ap, sym, ◌∙◌, subst, ◌≡◌, ℕ, ◌<◌, ◌+◌, ◌^◌, None, Some, OnOk, Ok, Err, Result, refl}
+use Rattle.std.proofs.Math.ListN.{set}
 use Rattle.std.proofs.lemmas.List.{set-set}
 use Rattle.std.specs.Box.{with_value}
-use Rattle.index_array.proofs.Ways.{Way, way, way_within, way_lower, way_rest}
+use Rattle.index_array.proofs.Ways.{Way, way, way_within, way_lower, way_rest, same_slots}
 use Rattle.index_array.proofs.Changes.{below_unprepared}
 use Rattle.index_array.proofs.Descent.{child_kept_entries, child_made}
 use Rattle.index_array.proofs.Leaves.{leaf_prepared}
 use Rattle.index_array.proofs.tree.Node.+prepare.Goals as goal
-use Rattle.index_array.proofs.tree.Node.+prepare.Goals.{In-Some, In-None}
+use Rattle.index_array.proofs.tree.Node.+prepare.Goals.{After-index_mut, In-Some, In-None}
 
 -- what holds after an Ok, from another such fact
 ok_by : {A E : Type 0} (r : Result A E) {P Q : Type 0} → (P → Q) → OnOk r P → OnOk r Q
@@ -79,4 +80,30 @@ returns-in_ok-prepare-in-None g t c =
       entries = rw (← c.self.view_is, set-set) (new.1.entries new.0);
       keeps = rw (← c.self.view_is, set-set) (new.1.keeps (below_unprepared c.self.inside.height _));
       ok = rw set-set (ap (λ p. p.prepared) new.1.here ∙ rw c.rest_of-rest.ensures at c.in_ok-prepare-in-None.ensures.ok);
+    }
+
+-- where a node is not made, the slots are as they were
+same : (g : _) (t : ℕ) (c : After-index_mut g t) → set c.self.inside.children.items c.slot_of-slot.result c.index_mut.result.now ≡ c.self.inside.children.items
+same g t c = same_slots c.self.inside.children.items c.slot_of-slot.result c.index_mut.result.now c.index_mut.ensures.value
+
+pub returns-in_err-child-in-None : goal.returns-in_err-child-in-None
+returns-in_err-child-in-None g t c =
+    let old = same g t (goal.at.returns-in_err-child-in-None g t c).After-index_mut in
+    record {
+      height = search rules;
+      whole = rw (← c.self.view_is, old);
+      entries = rw (← c.self.view_is, old) (λ j. refl);
+      keeps = rw (← c.self.view_is, old) (λ j on. on);
+      ok = search rules;
+    }
+
+pub returns-in_err-prepare-in-None : goal.returns-in_err-prepare-in-None
+returns-in_err-prepare-in-None g t c =
+    let old = same g t (goal.at.returns-in_err-prepare-in-None g t c).After-index_mut in
+    record {
+      height = search rules;
+      whole = rw (← c.self.view_is, old);
+      entries = rw (← c.self.view_is, old) (λ j. refl);
+      keeps = rw (← c.self.view_is, old) (λ j on. on);
+      ok = search rules;
     }
