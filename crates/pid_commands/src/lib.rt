@@ -1,0 +1,20 @@
+//! The commands of `pidtab`, from the words of the command line to the exit status.
+//!
+//! [`run_words`] does all that the program does, over a reader and two writers of the caller's, so a
+//! program that plays commands from memory gets what the program itself writes.
+#![tactic(auto)]
+
+mod fault;
+mod jobs;
+mod serve;
+mod show;
+mod status;
+mod words;
+
+pub use fault::{Fault, write_fault_line};
+pub use serve::run_words;
+pub use status::{Status, say_fault, say_usage};
+pub use words::{Command, JobFiles, WordsFault, read_words};
+
+
+

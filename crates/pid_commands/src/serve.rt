@@ -1,0 +1,200 @@
+//! The commands.
+ghost use Rattle.std.specs.Prelude.{◌≡◌, ◌<◌, ◌≤◌, Option, List, ℕ, None, false, length};
+
+use crate::fault::Fault;
+use crate::jobs::read_jobs;
+use crate::show::write_finished;
+use crate::status::{Status, say_fault, say_usage};
+use crate::words::{Command, JobFiles, WordsFault, read_words};
+use pid_jobs::{OpenGate, run_workers};
+use pid_types::call::Call;
+use pid_types::config::Config;
+use pid_types::device::{DeviceFault, FromReader, Sink, Source, ToWriter};
+use pid_workers::{list_record, run, run_state};
+use std::alloc::Global;
+use std::io::{BufWriter, Read, Write};
+use std::marker::Brand;
+use std::rt::Files;
+use std::sync::Wait;
+use std::sync::ledger::{Blank, Ledger};
+use std::thread::Threads;
+use std::time::Clock;
+
+/// Runs the words after the program's name as the program does: reads the script from the input,
+/// writes the output, flushes it, and writes the line of a fault or the usage line to `errors`.
+///
+/// It may wait, for the workers of `work`. After a fault of `run` the output has the answers that were
+/// written before it; after one of `list` or `work` it has nothing, but where a write failed midway.
+pub fn run_words<R, I, O, E>(
+    rt: &R,
+    words: &[String],
+    input: I,
+    output: &mut O,
+    errors: &mut E,
+) -> Status
+where
+    R: Files + Threads + Wait + Clock + Sync + AllocGlobal,
+    I: Read + Drop,
+    O: Write,
+    E: Write,
+{
+    let command = match read_words(rt.alloc(), words) {
+        Ok(command) => command,
+        Err(WordsFault::Usage) => return say_usage(errors),
+        Err(WordsFault::NoMemory) => return say_fault(errors, &Fault::NoMemory),
+    };
+    match run_command(rt, command, input, output) {
+        Ok(()) => Status::Done,
+        Err(fault) => say_fault(errors, &fault),
+    }
+}
+
+/// Runs a command, and flushes the output.
+fn run_command<R, I, O>(
+    rt: &R,
+    command: Command,
+    input: I,
+    output: &mut O,
+) -> Result<(), Fault>
+where
+    R: Files + Threads + Wait + Clock + Sync + AllocGlobal,
+    I: Read + Drop,
+    O: Write,
+{
+    match command {
+        Command::Run(config) => run_script(rt.alloc(), &config, input, output)?,
+        Command::List(config) => list_script(rt.alloc(), &config, input, output)?,
+        Command::Work { config, files } => work(rt, &config, files, output)?,
+    }
+    output.flush().map_err(|_| Fault::Write)
+}
+
+/// Writes the answers to a script.
+fn run_script<I: Read + Drop, O: Write>(
+    alloc: Global,
+    config: &Config,
+    input: I,
+    output: &mut O,
+) -> Result<(), Fault> {
+    let mut source = FromReader::new(input);
+    let mut sink = ToWriter::new(output);
+    run::<Brand, _, _>(alloc, Blank::new(1), &mut source, &mut sink, config)?;
+    Ok(())
+}
+
+/// Writes the list of the table that a script leaves.
+fn list_script<I: Read + Drop, O: Write>(
+    alloc: Global,
+    config: &Config,
+    input: I,
+    output: &mut O,
+) -> Result<(), Fault> {
+    let mut source = FromReader::new(input);
+    let list = list_of_script::<Brand, _>(alloc, Blank::new(1), &mut source, config)?;
+    output.write_all(list.as_slice()).map_err(|_| Fault::Write)
+}
+
+/// A sink that takes all and keeps nothing.
+#[derive(Drop)]
+struct Discard;
+
+impl Sink for Discard {
+    ghost contents = { λ _. None };
+
+    ghost has_failed = { λ _. false };
+
+    ghost is_full = { λ _. false };
+
+    fn write(&mut self, buffer: &[u8]) -> Result<usize, DeviceFault> {
+        Ok(buffer.len())
+    }
+
+    fn failed(&self) -> bool {
+        false
+    }
+}
+
+/// The list of the table that a script leaves.
+fn list_of_script<L: Ledger, S: Source>(
+    alloc: Global,
+    blank: Blank,
+    source: &mut S,
+    config: &Config,
+) -> Result<Vec<u8>, Fault>
+    requires name { blank.name ≡ L.name }
+    requires parts { (blank.parts ≡ L.parts) × (L.parts ≡ 1) }
+{
+    let (_tally, record) = run_state::<L, _, _>(alloc, blank, source, &mut Discard, config)?;
+    Ok(list_record(alloc, &record)?)
+}
+
+/// Reads the job files, runs a worker for each, and writes what they had.
+fn work<R, O>(rt: &R, config: &Config, files: JobFiles, output: &mut O) -> Result<(), Fault>
+where
+    R: Files + Threads + Wait + Clock + Sync + AllocGlobal,
+    O: Write,
+{
+    let jobs = read_jobs(rt, files)?;
+    let blank = Blank::new(jobs.len() as u64);
+    run_jobs::<Brand, R, O>(rt, blank, config, jobs.as_slice(), output)
+}
+
+/// Runs a worker for each job. There are 2 to 16.
+
+fn run_jobs<L: Ledger + Send + Sync, R: Threads + Wait + Clock + Sync + AllocGlobal, O: Write>(
+    rt: &R,
+    blank: Blank,
+    config: &Config,
+    jobs: &[Vec<Call>],
+    output: &mut O,
+) -> Result<(), Fault>
+    requires name { blank.name ≡ L.name }
+    requires parts { (blank.parts ≡ L.parts) × (L.parts ≡ length jobs.now) }
+    requires count { (2 ≤ length jobs.now) × (length jobs.now ≤ 16) }
+{
+    match jobs.len() {
+        2 => run_all::<L, R, O, 2>(rt, blank, config, jobs, output),
+        3 => run_all::<L, R, O, 3>(rt, blank, config, jobs, output),
+        4 => run_all::<L, R, O, 4>(rt, blank, config, jobs, output),
+        5 => run_all::<L, R, O, 5>(rt, blank, config, jobs, output),
+        6 => run_all::<L, R, O, 6>(rt, blank, config, jobs, output),
+        7 => run_all::<L, R, O, 7>(rt, blank, config, jobs, output),
+        8 => run_all::<L, R, O, 8>(rt, blank, config, jobs, output),
+        9 => run_all::<L, R, O, 9>(rt, blank, config, jobs, output),
+        10 => run_all::<L, R, O, 10>(rt, blank, config, jobs, output),
+        11 => run_all::<L, R, O, 11>(rt, blank, config, jobs, output),
+        12 => run_all::<L, R, O, 12>(rt, blank, config, jobs, output),
+        13 => run_all::<L, R, O, 13>(rt, blank, config, jobs, output),
+        14 => run_all::<L, R, O, 14>(rt, blank, config, jobs, output),
+        15 => run_all::<L, R, O, 15>(rt, blank, config, jobs, output),
+        16 => run_all::<L, R, O, 16>(rt, blank, config, jobs, output),
+        _ => unreachable!(),
+    }
+}
+
+/// Runs N workers, one for each job, and writes what they had.
+fn run_all<
+    L: Ledger + Send + Sync,
+    R: Threads + Wait + Clock + Sync + AllocGlobal,
+    O: Write,
+    const N: usize,
+>(
+    rt: &R,
+    blank: Blank,
+    config: &Config,
+    jobs: &[Vec<Call>],
+    output: &mut O,
+) -> Result<(), Fault>
+    requires name { blank.name ≡ L.name }
+    requires parts { (blank.parts ≡ L.parts) × (L.parts ≡ N) × (0 < N) }
+    requires jobs { length jobs.now ≡ N }
+{
+    let finished = run_workers::<L, OpenGate, R, N>(
+        rt, rt.alloc(), blank, config, jobs, &OpenGate,
+    )?;
+    let Ok(mut writer) = BufWriter::new(rt.alloc(), output) else {
+        return Err(Fault::NoMemory);
+    };
+    write_finished(rt.alloc(), &mut writer, finished)?;
+    writer.flush().map_err(|_| Fault::Write)
+}

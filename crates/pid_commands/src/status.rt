@@ -1,0 +1,38 @@
+//! How a command ends.
+
+use crate::fault::{Fault, write_fault_line};
+use std::io::Write;
+
+/// How a command ended.
+#[derive(Clone, Copy, Debug, PartialEq, Eq)]
+pub enum Status {
+    /// It did all that it was asked for.
+    Done,
+    /// It met a fault, and wrote the fault's line.
+    Failed,
+    /// Its words ask for nothing, and it wrote the usage line.
+    Misused,
+}
+
+impl Status {
+    /// The exit status: 0, 1 or 2.
+    pub fn code(self) -> u8 {
+        match self {
+            Status::Done => 0,
+            Status::Failed => 1,
+            Status::Misused => 2,
+        }
+    }
+}
+
+/// Writes how the program is called. Where that cannot be written nothing more is done.
+pub fn say_usage<E: Write>(errors: &mut E) -> Status {
+    let _ = errors.write_all(b"pidtab: usage\n");
+    Status::Misused
+}
+
+/// Writes the line of the fault. Where that cannot be written nothing more is done.
+pub fn say_fault<E: Write>(errors: &mut E, fault: &Fault) -> Status {
+    let _ = write_fault_line(errors, fault);
+    Status::Failed
+}

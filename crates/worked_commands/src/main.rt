@@ -1,0 +1,52 @@
+//! Plays the commands of standard input, and writes what each of them writes.
+//!
+//! A line is `$ pidtab WORD ..`, and ` < FILE` at its end gives the command the file as its standard
+//! input, which is empty otherwise. Below the line stand the command's output, its line on standard
+//! error, if any, and a line `status K`, if its exit status K is not 0.
+#![tactic(auto)]
+
+use anyhow::{Context, Result};
+use pid_commands::run_words;
+use std::fs;
+use std::io;
+use std::io::Write;
+use std::rt::Files;
+use std::sync::Wait;
+use std::thread::Threads;
+use std::time::Clock;
+
+fn main(rt: HostRuntime) -> Result<()> {
+    let text = io::read_to_string(rt.alloc(), rt.reader())?;
+    for line in text.as_str().lines() {
+        println!(rt; "{line}")?;
+        let words = line.strip_prefix("$ pidtab").context("no command")?;
+        play(&rt, words)?;
+    }
+    Ok(())
+}
+
+/// Plays one command.
+fn play<R: Files + Print + Threads + Wait + Clock + Sync + AllocGlobal>(
+    rt: &R,
+    line: &str,
+) -> Result<()> {
+    let (words, input) = match line.split_once(" < ") {
+        Some((words, file)) => (words, fs::read(rt, file)?),
+        None => (line, Vec::new(rt.alloc())),
+    };
+    let words: Vec<String> = words
+        .split(' ')
+        .skip(1)
+        .map(|word| String::from_str(rt.alloc(), word))
+        .try_collect(rt.alloc())?;
+    let mut output = Vec::new(rt.alloc());
+    let mut errors = Vec::new(rt.alloc());
+    let status = run_words(rt, words.as_slice(), input.as_slice(), &mut output, &mut errors);
+    let mut writer = io::writer(rt);
+    writer.write_all(output.as_slice())?;
+    writer.write_all(errors.as_slice())?;
+    if status.code() != 0 {
+        println!(rt; "status {}", status.code())?;
+    }
+    Ok(())
+}
