@@ -16,5 +16,5 @@ pub use serve::run_words;
 pub use status::{Status, say_fault, say_usage};
 pub use words::{Command, JobFiles, WordsFault, read_words};
 
-
-
+#[cfg(test)]
+mod tests;

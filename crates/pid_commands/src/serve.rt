@@ -50,12 +50,7 @@ where
 }
 
 /// Runs a command, and flushes the output.
-fn run_command<R, I, O>(
-    rt: &R,
-    command: Command,
-    input: I,
-    output: &mut O,
-) -> Result<(), Fault>
+fn run_command<R, I, O>(rt: &R, command: Command, input: I, output: &mut O) -> Result<(), Fault>
 where
     R: Files + Threads + Wait + Clock + Sync + AllocGlobal,
     I: Read + Drop,
@@ -178,19 +173,18 @@ fn run_all<
     R: Threads + Wait + Clock + Sync + AllocGlobal,
     O: Write,
     const N: usize,
->(
-    rt: &R,
-    blank: Blank,
-    config: &Config,
-    jobs: &[Vec<Call>],
-    output: &mut O,
-) -> Result<(), Fault>
+>(rt: &R, blank: Blank, config: &Config, jobs: &[Vec<Call>], output: &mut O) -> Result<(), Fault>
     requires name { blank.name ≡ L.name }
     requires parts { (blank.parts ≡ L.parts) × (L.parts ≡ N) × (0 < N) }
     requires jobs { length jobs.now ≡ N }
 {
     let finished = run_workers::<L, OpenGate, R, N>(
-        rt, rt.alloc(), blank, config, jobs, &OpenGate,
+        rt,
+        rt.alloc(),
+        blank,
+        config,
+        jobs,
+        &OpenGate,
     )?;
     let Ok(mut writer) = BufWriter::new(rt.alloc(), output) else {
         return Err(Fault::NoMemory);

@@ -13,10 +13,10 @@ use std::sync::ledger::Ledger;
 /// table beside the text, and the only error is want of memory.
 pub fn list_record<L: Ledger, const N: usize>(
     alloc: Global,
-    record: &Record<L, N>,
+    kept: &Record<L, N>,
 ) -> Result<Vec<u8>, AllocError>
-    ensures { IfOk result (λ text. (plain : Plain) × Shows record.now.present plain × (text.items ≡ list_of plain)) }
+    ensures { IfOk result (λ text. (plain : Plain) × Shows kept.now.present plain × (text.items ≡ list_of plain)) }
 {
-    let plain = record.snapshot()?;
+    let plain = kept.snapshot()?;
     list_text(alloc, &plain)
 }

@@ -7,10 +7,9 @@
 ghost use Rattle.std.specs.Prelude.{◌≡◌};
 
 use anyhow::{Context, Result};
-use pid_script::list::list_text;
 use pid_types::config::Config;
 use pid_types::device::{FromReader, ToWriter};
-use pid_workers::{RunScriptFault, run_state};
+use pid_workers::{RunScriptFault, list_record, run_state};
 use std::io;
 use std::io::Write;
 use std::marker::Brand;
@@ -65,10 +64,7 @@ fn show<L: Ledger, R: Print + AllocGlobal>(
     if !listed {
         return Ok(());
     }
-    let Ok(plain) = record.snapshot() else {
-        return Err(RunScriptFault::NoMemory);
-    };
-    let Ok(text) = list_text(rt.alloc(), &plain) else {
+    let Ok(text) = list_record(rt.alloc(), &record) else {
         return Err(RunScriptFault::NoMemory);
     };
     io::writer(rt)
