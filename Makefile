@@ -1,6 +1,6 @@
 # What a person does with this repository. It needs the Rattle toolchain, whose command is `rt`.
 
-.PHONY: run list try test clean
+.PHONY: run list work try test clean
 
 # Answers the first script. The first time it proves and builds what the program stands on.
 run:
@@ -9,6 +9,10 @@ run:
 # Shows the table that the first script leaves.
 list:
 	@cd crates/pidtab && rt run -- list < ../../examples/first.script
+
+# Runs two workers on one table, each with a script of its own. Who comes first is the machine's choice.
+work:
+	@cd crates/pidtab && rt run -- work ../../examples/worker0.script ../../examples/worker1.script
 
 # Answers the first script at once, with nothing proved: for a look, and for no more.
 try:

@@ -1,4 +1,11 @@
 //! What `work` writes.
+ghost use Rattle.std.specs.Prelude.{◌≡◌, ◌++◌, OnOk};
+ghost use Rattle.std.specs.List.{flat_map};
+ghost use Rattle.std.specs.Io.KnownBytes.{Appends};
+ghost use Rattle.pid_types.specs.Shown.{Shows};
+ghost use Rattle.pid_types.specs.declared.plain.Plain.{Plain};
+ghost use Rattle.pid_script.specs.Lists.{list_of};
+ghost use Rattle.pid_commands.specs.Output.{receipt_line, work_lines, works_text};
 
 use crate::fault::Fault;
 use pid_jobs::{Finished, Work};
@@ -19,33 +26,63 @@ pub(crate) fn write_finished<L: Ledger, W: Write, const N: usize>(
     alloc: Global,
     writer: &mut W,
     finished: Finished<L, N>,
-) -> Result<(), Fault> {
+) -> Result<(), Fault>
+    ensures { OnOk result ((plain : Plain) × Shows finished.kept.present plain
+        × Appends (W.contents writer.old) (W.contents writer.new) (works_text 0 finished.works.items ++ list_of plain)) }
+{
     let Finished { kept, works } = finished;
     let list = list_record(alloc, &kept)?;
-    write_all(writer, works, list.as_slice()).map_err(|_| Fault::Write)
+    match write_shown(writer, works, list.as_slice()) {
+        Ok(()) => Ok(()),
+        Err(_) => Err(Fault::Write),
+    }
 }
 
-/// Writes the works, and then the list.
-fn write_all<W: Write>(writer: &mut W, works: Vec<Work>, list: &[u8]) -> io::Result<()> {
-    for (worker, work) in works.into_iter().enumerate() {
-        write_work(writer, worker, work)?;
-    }
+/// Writes the lines of the workers, and then the list.
+fn write_shown<W: Write>(writer: &mut W, works: Vec<Work>, list: &[u8]) -> io::Result<()>
+    ensures { OnOk result (Appends (W.contents writer.old) (W.contents writer.new) (works_text 0 works.items ++ list.now)) }
+{
+    write_works(writer, works)?;
     writer.write_all(list)
+}
+
+/// Writes the lines of each worker, the first of whom is worker 0.
+fn write_works<W: Write>(writer: &mut W, works: Vec<Work>) -> io::Result<()>
+    ensures { OnOk result (Appends (W.contents writer.old) (W.contents writer.new) (works_text 0 works.items)) }
+{
+    let mut worker = 0usize;
+    for work in works {
+        write_work(writer, worker, work)?;
+        worker += 1;
+    }
+    Ok(())
 }
 
 /// Writes a line `worker W`, the line of each receipt, and a line `refused K`, where K is how many
 /// calls had no receipt.
-fn write_work<W: Write>(writer: &mut W, worker: usize, work: Work) -> io::Result<()> {
+fn write_work<W: Write>(writer: &mut W, worker: usize, work: Work) -> io::Result<()>
+    ensures { OnOk result (Appends (W.contents writer.old) (W.contents writer.new) (work_lines worker work)) }
+{
     let Work { receipts, refused } = work;
     writeln!(writer, "worker {worker}")?;
-    for receipt in receipts {
-        write_receipt(writer, receipt)?;
-    }
+    write_receipts(writer, receipts)?;
     writeln!(writer, "refused {refused}")
 }
 
+/// Writes the line of each receipt.
+fn write_receipts<W: Write>(writer: &mut W, receipts: Vec<Receipt>) -> io::Result<()>
+    ensures { OnOk result (Appends (W.contents writer.old) (W.contents writer.new) (flat_map receipt_line receipts.items)) }
+{
+    for receipt in receipts {
+        write_receipt(writer, receipt)?;
+    }
+    Ok(())
+}
+
 /// Writes a line `ORDINAL ANSWER`.
-fn write_receipt<W: Write>(writer: &mut W, receipt: Receipt) -> io::Result<()> {
+fn write_receipt<W: Write>(writer: &mut W, receipt: Receipt) -> io::Result<()>
+    ensures { OnOk result (Appends (W.contents writer.old) (W.contents writer.new) (receipt_line receipt)) }
+{
     let ordinal = receipt.ordinal;
     write!(writer, "{ordinal} ")?;
     writer.write_all(answer_text(&Ok(receipt)).as_slice())?;
