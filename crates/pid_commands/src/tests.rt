@@ -18,11 +18,10 @@ use std::time::Clock;
 
 /// The texts as strings.
 fn owned(alloc: Global, texts: &[&str]) -> Result<Vec<String>, AllocError> {
-    let mut all = Vec::with_capacity(alloc, texts.len())?;
-    for text in texts {
-        all.push_reserved(String::from_str(alloc, text)?);
-    }
-    Ok(all)
+    texts
+        .iter()
+        .map(|text| String::from_str(alloc, text))
+        .try_collect(alloc)
 }
 
 #[test]
