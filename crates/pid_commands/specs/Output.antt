@@ -1,10 +1,23 @@
--- What `work` writes.
-use Rattle.std.specs.Prelude.{ℕ, ◌+◌, List, [], ◌∷◌, ◌++◌, codes, decimal}
+-- What `list` and `work` write.
+use Rattle.std.specs.Prelude.{ℕ, ◌≡◌, ◌+◌, ◌<◌, List, [], ◌∷◌, ◌++◌, length, slice_index_or, codes, decimal, Option, None, Vec}
+use Rattle.std.specs.declared.alloc.Global.{Global}
 use Rattle.std.specs.List.{flat_map}
+use Rattle.std.specs.Io.KnownBytes.{Appends}
+use Rattle.pid_types.specs.Settings.{Settings}
+use Rattle.pid_types.specs.State.{State}
+use Rattle.pid_types.specs.Shown.{Shows}
+use Rattle.pid_types.specs.declared.call.Call.{Call}
 use Rattle.pid_types.specs.declared.entry.Receipt.{Receipt}
+use Rattle.pid_types.specs.declared.plain.Plain.{Plain}
+use Rattle.locked_table.specs.Chronicle.{Chronicle}
+use Rattle.pid_jobs.specs.Job.{Fulfils}
+use Rattle.pid_jobs.specs.Receipts.{IsAudited}
 use Rattle.pid_jobs.specs.declared.result.Work.{Work}
-use Rattle.pid_script.specs.Script.{with_newline}
+use Rattle.pid_script.specs.Script.{with_newline, start_of}
+use Rattle.pid_script.specs.Session.{progress_of, Finishes}
+use Rattle.pid_script.specs.declared.tally.Tally.{Tally}
 use Rattle.pid_script.specs.Answers.{reply_text}
+use Rattle.pid_script.specs.Lists.{list_of}
 
 -- the line of a receipt: its place among all recorded calls, and the answer
 abbrev pub receipt_line : Receipt → List ℕ
@@ -21,3 +34,28 @@ work_lines worker work =
 abbrev pub works_text : ℕ → List Work → List ℕ
 works_text first [] = []
 works_text first (work ∷ works) = work_lines first work ++ works_text (first + 1) works
+
+-- what was written is what workers of these jobs had, and the list of the table that they left. The table was made with the
+-- settings, its history is whole, and in it are just the receipts that the workers have
+pub record ShowsRun (settings : Settings) (jobs : List (Vec Call Global)) (before after : Option (List ℕ)) : Type 0 where
+  pub kept : Chronicle
+  pub works : List Work
+  pub plain : Plain
+  pub made : kept.config ≡ settings
+  pub whole : kept.first_kept ≡ 0
+  pub many : length works ≡ length jobs
+  pub done : (w : ℕ) (d : Work) (j : Vec Call Global) → w < length jobs → Fulfils (slice_index_or jobs w j).items (slice_index_or works w d).receipts.items (slice_index_or works w d).refused
+  pub audited : IsAudited (length jobs) kept works
+  pub shown : Shows kept.present plain
+  pub written : Appends before after (works_text 0 works ++ list_of plain)
+
+-- the source is at its end, and the list is that of the state to which its script leads
+pub record ListsScript (settings : Settings) (from to : Option (List ℕ)) (list : List ℕ) : Type 0 where
+  pub present : State
+  pub stamp : ℕ
+  pub tally : Tally
+  pub text : List ℕ
+  pub plain : Plain
+  pub finished : Finishes (start_of settings) (progress_of present stamp tally text) from to None None
+  pub shown : Shows present plain
+  pub listed : list ≡ list_of plain

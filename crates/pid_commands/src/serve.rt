@@ -1,5 +1,6 @@
 //! The commands.
-ghost use Rattle.std.specs.Prelude.{◌≡◌, ◌<◌, ◌≤◌, Option, List, ℕ, None, false, length};
+ghost use Rattle.std.specs.Prelude.{◌≡◌, ◌<◌, ◌≤◌, Option, List, ℕ, None, false, length, OnOk, IfOk};
+ghost use Rattle.pid_commands.specs.Output.{ListsScript, ShowsRun};
 
 use crate::fault::Fault;
 use crate::jobs::read_jobs;
@@ -118,6 +119,7 @@ fn list_of_script<L: Ledger, S: Source>(
 ) -> Result<Vec<u8>, Fault>
     requires name { blank.name ≡ L.name }
     requires parts { (blank.parts ≡ L.parts) × (L.parts ≡ 1) }
+    ensures { IfOk result (λ list. ListsScript config.now (S.remaining source.old) (S.remaining source.new) list.items) }
 {
     let (_tally, record) = run_state::<L, _, _>(alloc, blank, source, &mut Discard, config)?;
     Ok(list_record(alloc, &record)?)
@@ -131,52 +133,57 @@ where
 {
     let jobs = read_jobs(rt, files)?;
     let blank = Blank::new(jobs.len() as u64);
-    run_jobs::<Brand, R, O>(rt, blank, config, jobs.as_slice(), output)
+    let Ok(mut writer) = BufWriter::new(rt.alloc(), output) else {
+        return Err(Fault::NoMemory);
+    };
+    run_jobs::<Brand, R, _>(rt, blank, config, jobs.as_slice(), &mut writer)?;
+    writer.flush().map_err(|_| Fault::Write)
 }
 
-/// Runs a worker for each job. There are 2 to 16.
-
-fn run_jobs<L: Ledger + Send + Sync, R: Threads + Wait + Clock + Sync + AllocGlobal, O: Write>(
+/// Runs a worker for each job, and writes what they had. There are 2 to 16. The writer is not flushed.
+fn run_jobs<L: Ledger + Send + Sync, R: Threads + Wait + Clock + Sync + AllocGlobal, W: Write>(
     rt: &R,
     blank: Blank,
     config: &Config,
     jobs: &[Vec<Call>],
-    output: &mut O,
+    writer: &mut W,
 ) -> Result<(), Fault>
     requires name { blank.name ≡ L.name }
     requires parts { (blank.parts ≡ L.parts) × (L.parts ≡ length jobs.now) }
     requires count { (2 ≤ length jobs.now) × (length jobs.now ≤ 16) }
+    ensures { OnOk result (ShowsRun config.now jobs.now (W.contents writer.old) (W.contents writer.new)) }
 {
     match jobs.len() {
-        2 => run_all::<L, R, O, 2>(rt, blank, config, jobs, output),
-        3 => run_all::<L, R, O, 3>(rt, blank, config, jobs, output),
-        4 => run_all::<L, R, O, 4>(rt, blank, config, jobs, output),
-        5 => run_all::<L, R, O, 5>(rt, blank, config, jobs, output),
-        6 => run_all::<L, R, O, 6>(rt, blank, config, jobs, output),
-        7 => run_all::<L, R, O, 7>(rt, blank, config, jobs, output),
-        8 => run_all::<L, R, O, 8>(rt, blank, config, jobs, output),
-        9 => run_all::<L, R, O, 9>(rt, blank, config, jobs, output),
-        10 => run_all::<L, R, O, 10>(rt, blank, config, jobs, output),
-        11 => run_all::<L, R, O, 11>(rt, blank, config, jobs, output),
-        12 => run_all::<L, R, O, 12>(rt, blank, config, jobs, output),
-        13 => run_all::<L, R, O, 13>(rt, blank, config, jobs, output),
-        14 => run_all::<L, R, O, 14>(rt, blank, config, jobs, output),
-        15 => run_all::<L, R, O, 15>(rt, blank, config, jobs, output),
-        16 => run_all::<L, R, O, 16>(rt, blank, config, jobs, output),
+        2 => run_all::<L, R, W, 2>(rt, blank, config, jobs, writer),
+        3 => run_all::<L, R, W, 3>(rt, blank, config, jobs, writer),
+        4 => run_all::<L, R, W, 4>(rt, blank, config, jobs, writer),
+        5 => run_all::<L, R, W, 5>(rt, blank, config, jobs, writer),
+        6 => run_all::<L, R, W, 6>(rt, blank, config, jobs, writer),
+        7 => run_all::<L, R, W, 7>(rt, blank, config, jobs, writer),
+        8 => run_all::<L, R, W, 8>(rt, blank, config, jobs, writer),
+        9 => run_all::<L, R, W, 9>(rt, blank, config, jobs, writer),
+        10 => run_all::<L, R, W, 10>(rt, blank, config, jobs, writer),
+        11 => run_all::<L, R, W, 11>(rt, blank, config, jobs, writer),
+        12 => run_all::<L, R, W, 12>(rt, blank, config, jobs, writer),
+        13 => run_all::<L, R, W, 13>(rt, blank, config, jobs, writer),
+        14 => run_all::<L, R, W, 14>(rt, blank, config, jobs, writer),
+        15 => run_all::<L, R, W, 15>(rt, blank, config, jobs, writer),
+        16 => run_all::<L, R, W, 16>(rt, blank, config, jobs, writer),
         _ => unreachable!(),
     }
 }
 
-/// Runs N workers, one for each job, and writes what they had.
+/// Runs N workers, one for each job, and writes what they had. The writer is not flushed.
 fn run_all<
     L: Ledger + Send + Sync,
     R: Threads + Wait + Clock + Sync + AllocGlobal,
-    O: Write,
+    W: Write,
     const N: usize,
->(rt: &R, blank: Blank, config: &Config, jobs: &[Vec<Call>], output: &mut O) -> Result<(), Fault>
+>(rt: &R, blank: Blank, config: &Config, jobs: &[Vec<Call>], writer: &mut W) -> Result<(), Fault>
     requires name { blank.name ≡ L.name }
     requires parts { (blank.parts ≡ L.parts) × (L.parts ≡ N) × (0 < N) }
     requires jobs { length jobs.now ≡ N }
+    ensures { OnOk result (ShowsRun config.now jobs.now (W.contents writer.old) (W.contents writer.new)) }
 {
     let finished = run_workers::<L, OpenGate, R, N>(
         rt,
@@ -186,9 +193,5 @@ fn run_all<
         jobs,
         &OpenGate,
     )?;
-    let Ok(mut writer) = BufWriter::new(rt.alloc(), output) else {
-        return Err(Fault::NoMemory);
-    };
-    write_finished(rt.alloc(), &mut writer, finished)?;
-    writer.flush().map_err(|_| Fault::Write)
+    write_finished(rt.alloc(), writer, finished)
 }

@@ -1,4 +1,4 @@
-use Rattle.std.proofs.Common.{◌≡◌, ◌++◌, ap, ◌∙◌, sym, append_assoc}
+use Rattle.std.proofs.Common.{◌++◌, ap, ◌∙◌, sym, append_assoc}
 use Rattle.std.specs.List.{flat_map}
 use Rattle.std.specs.Vec.Iter.{into_iter_items}
 use Rattle.pid_script.proofs.Sent.{Appends-more}

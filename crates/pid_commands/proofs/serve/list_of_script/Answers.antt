@@ -1,0 +1,17 @@
+use Rattle.locked_table.specs.Chronicle.{next_stamp}
+use Rattle.pid_commands.proofs.serve.list_of_script.Goals as goal
+
+-- the state that the script leaves, and the snapshot that the list shows
+pub returns : goal.returns
+returns g c =
+    let ran = c.in_ok-_tally.ensures.ok in
+    let listed = c.in_ok-list_record.ensures in record {
+      present = c.in_ok-_tally.record.present;
+      stamp = next_stamp c.in_ok-_tally.record;
+      tally = c.in_ok-_tally._tally;
+      text = ran.0;
+      plain = listed.0;
+      finished = ran.1;
+      shown = listed.1;
+      listed = listed.2;
+    }
