@@ -7,13 +7,12 @@
 
 use anyhow::{Context, Result};
 use pid_commands::run_words;
-use std::fs;
-use std::io;
 use std::io::Write;
 use std::rt::Files;
 use std::sync::Wait;
 use std::thread::Threads;
 use std::time::Clock;
+use std::{fs, io};
 
 fn main(rt: HostRuntime) -> Result<()> {
     let text = io::read_to_string(rt.alloc(), rt.reader())?;
@@ -41,7 +40,13 @@ fn play<R: Files + Print + Threads + Wait + Clock + Sync + AllocGlobal>(
         .try_collect(rt.alloc())?;
     let mut output = Vec::new(rt.alloc());
     let mut errors = Vec::new(rt.alloc());
-    let status = run_words(rt, words.as_slice(), input.as_slice(), &mut output, &mut errors);
+    let status = run_words(
+        rt,
+        words.as_slice(),
+        input.as_slice(),
+        &mut output,
+        &mut errors,
+    );
     let mut writer = io::writer(rt);
     writer.write_all(output.as_slice())?;
     writer.write_all(errors.as_slice())?;
