@@ -4,11 +4,10 @@
 #![tactic(auto)]
 
 use pid_commands::{Fault, Status, WordsFault, run_words, say_fault, say_usage};
-use std::env;
-use std::io;
 use std::io::ErrorKind;
 use std::process::ExitCode;
 use std::rt::Env;
+use std::{env, io};
 
 fn main(rt: HostRuntime) -> ExitCode {
     let mut errors = rt.stderr();
