@@ -22,8 +22,10 @@ pub trait Desk {
 /// Is told before and after each call of a worker, and may hold the worker there. The calls of a
 /// worker are counted from 1.
 pub trait Gate {
+    /// Comes before the k-th call of the worker.
     fn before<R: Wait + Clock>(&self, rt: &R, worker: usize, k: u64);
 
+    /// Comes when the k-th call of the worker was answered.
     fn after<R: Wait + Clock>(&self, rt: &R, worker: usize, k: u64);
 }
 

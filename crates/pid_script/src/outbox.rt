@@ -9,6 +9,7 @@ use arrayvec::ArrayVec;
 use pid_types::device::Sink;
 use std::marker::Model;
 
+/// How many bytes wait at most.
 const ROOM: usize = 8192;
 
 /// Writes all of the bytes.
@@ -43,6 +44,7 @@ impl Model for Outbox {
 }
 
 impl Outbox {
+    /// Nothing waits.
     pub fn new() -> Outbox
         ensures { result ≡ [] }
     {

@@ -16,6 +16,7 @@ pub trait Edit<T> {
     // What the element becomes.
     ghost gives: { Self → T → T };
 
+    /// Makes the change.
     fn edit(&self, element: &mut T)
         ensures { element.new ≡ gives self.now element.old };
 }
@@ -235,6 +236,7 @@ pub trait Test<T> {
     // Whether the element passes.
     ghost passes: { Self → T → Bool };
 
+    /// Whether the element passes.
     fn test(&self, element: &T) -> bool
         ensures { result ≡ passes self.now element.now };
 }
