@@ -8,8 +8,8 @@ use Rattle.pid_script.specs.declared.job.JobFault.{JobFault}
 use Rattle.pid_script.specs.declared.job.JobFault.TheVariants as fault
 use Rattle.pid_script.specs.declared.line.Line.{Line}
 use Rattle.pid_script.specs.declared.line.Line.TheVariants as says
-use Rattle.pid_script.specs.Script.{said_of, said_within}
-use Rattle.pid_script.specs.Job.{calls_of, AreGood, IsFirstBad, Yields, Refuses, Adds, IsStopped}
+use Rattle.pid_script.specs.Script.{said_whole, said_of, said_within}
+use Rattle.pid_script.specs.Job.{IsMet, calls_of, AreGood, IsReached, Yields, Refuses, Adds, IsStopped}
 use Rattle.pid_script.proofs.Said.{said_within-whole}
 
 calls_of-append : (xs ys : List Line) → calls_of (xs ++ ys) ≡ calls_of xs ++ calls_of ys
@@ -33,42 +33,43 @@ Adds-more {cs} xs ys first second = record {
   counted = omega (arith, first.counted, second.counted, length-append xs ys);
 }
 
-IsFirstBad-sooner : (number : ℕ) (xs ys : List Line) → IsFirstBad number xs → IsFirstBad number (xs ++ ys)
-IsFirstBad-sooner number xs ys bad = record {
-  before = bad.before;
-  after = bad.after ++ ys;
-  cut = ap (λ lines. lines ++ ys) bad.cut ∙ append_assoc bad.before (says.Bad ∷ bad.after) ys;
-  good = bad.good;
-  place = bad.place;
+IsReached-sooner : (line : Line) (number : ℕ) (xs ys : List Line) → IsReached line number xs → IsReached line number (xs ++ ys)
+IsReached-sooner line number xs ys reached = record {
+  before = reached.before;
+  after = reached.after ++ ys;
+  cut = ap (λ lines. lines ++ ys) reached.cut ∙ append_assoc reached.before (line ∷ reached.after) ys;
+  good = reached.good;
+  place = reached.place;
 }
 
-IsFirstBad-later : (number : ℕ) (xs ys : List Line) → AreGood xs → IsFirstBad number ys → IsFirstBad (length xs + number) (xs ++ ys)
-IsFirstBad-later number xs ys good bad = record {
-  before = xs ++ bad.before;
-  after = bad.after;
-  cut = ap (λ lines. xs ++ lines) bad.cut ∙ sym (append_assoc xs bad.before (says.Bad ∷ bad.after));
-  good = AreGood-append xs bad.before good bad.good;
-  place = omega (arith, bad.place, length-append xs bad.before);
+IsReached-later : (line : Line) (number : ℕ) (xs ys : List Line) → AreGood xs → IsReached line number ys → IsReached line (length xs + number) (xs ++ ys)
+IsReached-later line number xs ys good reached = record {
+  before = xs ++ reached.before;
+  after = reached.after;
+  cut = ap (λ lines. xs ++ lines) reached.cut ∙ sym (append_assoc xs reached.before (line ∷ reached.after));
+  good = AreGood-append xs reached.before good reached.good;
+  place = omega (arith, reached.place, length-append xs reached.before);
 }
 
--- the line itself is bad
-pub bad_itself : IsFirstBad 1 (says.Bad ∷ [])
-bad_itself = record { before = []; after = []; cut = refl; good = All-nil _; place = refl }
+-- the first line
+pub reached_first : (line : Line) → IsReached line 1 (line ∷ [])
+reached_first line = record { before = []; after = []; cut = refl; good = All-nil _; place = refl }
 
 -- more lines come behind the fault
 pub IsStopped-sooner : (number : ℕ) (xs ys : List Line) (e : JobFault) → IsStopped number xs e → IsStopped number (xs ++ ys) e
 IsStopped-sooner number xs ys fault.Read stops = stops
 IsStopped-sooner number xs ys fault.TooLong stops = stops
-IsStopped-sooner number xs ys (fault.BadLine k) stops = (stops.0, stops.1, IsFirstBad-sooner stops.0 xs ys stops.2)
-IsStopped-sooner number xs ys fault.NoMemory stops = tt
+IsStopped-sooner number xs ys (fault.BadLine k) stops = (stops.0, stops.1, IsReached-sooner says.Bad stops.0 xs ys stops.2)
+IsStopped-sooner number xs ys fault.NoMemory stops = (stops.0, stops.1, IsReached-sooner (says.Call stops.0) stops.1 xs ys stops.2)
 
 -- good lines come before it
 pub IsStopped-later : {cs cs' : List Call} {n n' : ℕ} (xs ys : List Line) (e : JobFault) → Adds cs n cs' n' xs → IsStopped n' ys e → IsStopped n (xs ++ ys) e
 IsStopped-later xs ys fault.Read adds stops = stops
 IsStopped-later xs ys fault.TooLong adds stops = stops
 IsStopped-later xs ys (fault.BadLine k) adds stops =
-    (length xs + stops.0, omega (arith, stops.1, adds.counted), IsFirstBad-later stops.0 xs ys adds.good stops.2)
-IsStopped-later xs ys fault.NoMemory adds stops = tt
+    (length xs + stops.0, omega (arith, stops.1, adds.counted), IsReached-later says.Bad stops.0 xs ys adds.good stops.2)
+IsStopped-later xs ys fault.NoMemory adds stops =
+    (stops.0, length xs + stops.1, IsReached-later (says.Call stops.0) stops.1 xs ys adds.good stops.2)
 
 -- what is within reach of a piece of which some bytes were read
 take_piece : (count room : ℕ) (chunk : List ℕ) → count ≤ length chunk → take room (take count chunk) ≡ take (min count room) chunk
@@ -92,8 +93,8 @@ take_most most count room read chunk is within =
     ap (λ n. take n (read ++ take count chunk)) (sym all) ∙ take-append-add read (take count chunk) room
     ∙ ap (λ piece. read ++ piece) (take_piece count room chunk within)
 
-from_start : (k : ℕ) (lines : List Line) → IsStopped 0 lines (fault.BadLine k) → IsFirstBad k lines
-from_start k lines stops = let same : stops.0 ≡ k = omega (arith, stops.1) in subst (λ j. IsFirstBad j lines) same stops.2
+from_start : (k : ℕ) (lines : List Line) → IsStopped 0 lines (fault.BadLine k) → IsReached says.Bad k lines
+from_start k lines stops = let same : stops.0 ≡ k = omega (arith, stops.1) in subst (λ j. IsReached says.Bad j lines) same stops.2
 
 -- all lines are good
 pub yields : {from to : Option (List ℕ)} {n' : ℕ} (read : List ℕ) (calls : List Call) → Adds [] 0 calls n' (said_of read) → length read ≤ 2 ^ 20
@@ -110,26 +111,25 @@ yields read calls adds short consumed at_end = record {
 module _ {from to : Option (List ℕ)} {failed : Bool} where
   -- a fault among the lines that end within the most bytes
   pub refuses_within : (read : List ℕ) (e : JobFault) → IsStopped 0 (said_within (Some []) (take (2 ^ 20) read)) e → Consumes from to read → Refuses from to failed e
-  refuses_within read fault.Read stops consumed = absurd stops
-  refuses_within read fault.TooLong stops consumed = absurd stops
-  refuses_within read (fault.BadLine k) stops consumed = record {
-    read = read;
-    consumed = consumed;
-    met = inl (subst (IsFirstBad k) (said_within-whole (take (2 ^ 20) read)) (from_start k _ stops));
-  }
-  refuses_within read fault.NoMemory stops consumed = record { read = read; consumed = consumed; met = tt }
+  refuses_within read e stops consumed =
+      record { read = read; consumed = consumed; met = met e (subst (λ lines. IsStopped 0 lines e) (said_within-whole (take (2 ^ 20) read)) stops) }
+    where
+      met : (e : JobFault) → IsStopped 0 (said_whole (take (2 ^ 20) read)) e → IsMet read to failed e
+      met fault.Read stops = absurd stops
+      met fault.TooLong stops = absurd stops
+      met (fault.BadLine k) stops = inl (from_start k _ stops)
+      met fault.NoMemory stops = (stops.0, stops.1, inl stops.2)
 
   -- a fault at the last line, which has no newline
   pub refuses_last : (read : List ℕ) (e : JobFault) → IsStopped 0 (said_of read) e → length read ≤ 2 ^ 20 → Consumes from to read → IsAtEnd to
       → Refuses from to failed e
-  refuses_last read fault.Read stops short consumed at_end = absurd stops
-  refuses_last read fault.TooLong stops short consumed at_end = absurd stops
-  refuses_last read (fault.BadLine k) stops short consumed at_end = record {
-    read = read;
-    consumed = consumed;
-    met = inr (short, at_end, from_start k (said_of read) stops);
-  }
-  refuses_last read fault.NoMemory stops short consumed at_end = record { read = read; consumed = consumed; met = tt }
+  refuses_last read e stops short consumed at_end = record { read = read; consumed = consumed; met = met e stops }
+    where
+      met : (e : JobFault) → IsStopped 0 (said_of read) e → IsMet read to failed e
+      met fault.Read stops = absurd stops
+      met fault.TooLong stops = absurd stops
+      met (fault.BadLine k) stops = inr (short, at_end, from_start k _ stops)
+      met fault.NoMemory stops = (stops.0, stops.1, inr (short, at_end, stops.2))
 
   -- a source that fails
   pub refuses_read : {cs cs' : List Call} {n n' : ℕ} (read : List ℕ) → Adds cs n cs' n' (said_within (Some []) read) → length read ≤ 2 ^ 20

@@ -64,7 +64,10 @@ impl Job {
         self.lines += 1;
         match line {
             Line::Empty => Ok(()),
-            Line::Call(call) => self.calls.push(call).map_err(|_| JobFault::NoMemory),
+            Line::Call(call) => match self.calls.push(call) {
+                Ok(()) => Ok(()),
+                Err(_) => Err(JobFault::NoMemory),
+            },
             Line::Bad => Err(JobFault::BadLine(self.lines)),
         }
     }
