@@ -12,8 +12,7 @@ use Rattle.pid_types.specs.Outcome.{Outcome}
 use Rattle.pid_types.specs.Shown.{Shows, state_of, with_count, without_count}
 use Rattle.pid_types.specs.Step.{step}
 use Rattle.pid_types.specs.Replay.{state_after, calls_of, RepliesAsOne}
-use Rattle.pid_types.specs.Sound.{is_sound}
-use Rattle.model_laws.specs.Soundness.{IsBelow}
+use Rattle.pid_types.specs.Sound.{IsSound, IsBelow}
 use Rattle.model_laws.specs.StepLaws.{BoundStays, RootStateIsSound, RunsKeepSoundness}
 use Rattle.locked_table.specs.Chronicle.{Chronicle, IsKept, next_stamp, first_kept_stamp, total}
 use Rattle.locked_table.proofs.Along.{state_after-push, Along-push}
@@ -90,11 +89,11 @@ state_after-none state stamp [] h = refl
 state_after-none state stamp (e ∷ entries) h = absurd (omega arith)
 
 -- the present state is sound, and the ids in it are below the next stamp
-pub present-sound : RunsKeepSoundness → (workers : ℕ) (c : Chronicle) → IsKept workers c → (is_sound c.present ≡ true) × IsBelow (next_stamp c) c.present
+pub present-sound : RunsKeepSoundness → (workers : ℕ) (c : Chronicle) → IsKept workers c → IsSound c.present × IsBelow (next_stamp c) c.present
 present-sound law workers c k =
     let after = law c.opening (first_kept_stamp c) (calls_of c.entries) k.opened.sound k.opened.below in
     let now : first_kept_stamp c + length (calls_of c.entries) ≡ next_stamp c = omega (arith, length-map c.entries (λ (e : Entry). e.call)) in (
-      ap is_sound k.replayed.run.ends ∙ after.0,
+      subst IsSound (sym k.replayed.run.ends) after.0,
       subst (λ (state : State). IsBelow (next_stamp c) state) (sym k.replayed.run.ends)
           (subst (λ (stamp : ℕ). IsBelow stamp (state_after c.opening (first_kept_stamp c) (calls_of c.entries))) now after.1),
     )

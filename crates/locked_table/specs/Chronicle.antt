@@ -4,8 +4,7 @@ use Rattle.pid_types.specs.declared.entry.Entry.{Entry}
 use Rattle.pid_types.specs.Settings.{Settings}
 use Rattle.pid_types.specs.State.{State, root_state}
 use Rattle.pid_types.specs.Replay.{IsRun}
-use Rattle.pid_types.specs.Sound.{is_sound}
-use Rattle.model_laws.specs.Soundness.{IsBelow}
+use Rattle.pid_types.specs.Sound.{IsSound, IsBelow}
 
 -- the configuration, the state before the kept entries, the ordinal of the first kept entry, how many entries of each worker were cut
 -- away before it, the kept entries, the present state, what the ledger's book has, and for how many entries there is room
@@ -68,7 +67,7 @@ pub record IsCounted (workers : ℕ) (c : Chronicle) : Type 0 where
 
 -- the opening is sound and has the configuration's bound, and the ids in it are below the stamps of the kept calls
 pub record IsSoundlyOpened (c : Chronicle) : Type 0 where
-  pub sound : is_sound c.opening ≡ true
+  pub sound : IsSound c.opening
   pub below : IsBelow (first_kept_stamp c) c.opening
   pub bound : c.opening.pid_max ≡ c.config.pid_max
 

@@ -5,9 +5,9 @@ use Rattle.pid_types.specs.Names.{path_up, number, names_in_use}
 use Rattle.pid_types.specs.Controls.{is_below, count}
 use Rattle.pid_types.specs.State.{State}
 use Rattle.pid_types.specs.Replay.{calls_of}
-use Rattle.pid_types.specs.Sound.{is_sound, HasDistinctNumbers, forks_within_limits}
-use Rattle.model_laws.specs.Membership.{IsIn}
-use Rattle.model_laws.specs.Soundness.{IsBelow}
+use Rattle.pid_types.specs.Limits.{ForksStayWithinLimits}
+use Rattle.pid_types.specs.Membership.{IsIn}
+use Rattle.pid_types.specs.Sound.{HasDistinctNumbers, IsSound, IsBelow}
 use Rattle.locked_table.specs.Chronicle.{Chronicle, total, first_kept_stamp, next_stamp, IsReplayed}
 
 -- each identifier in use has a number in each namespace from its own to the root, and in no other
@@ -24,15 +24,15 @@ CountsSubtrees state = (id : ℕ) → count state id ≡ length (filter (λ row.
 pub record KeepsPromise (c : Chronicle) : Type 0 where
   pub numbered : HasAllNumbers c.present
   -- no number of a namespace names two
-  pub distinct : HasDistinctNumbers c.present
+  pub distinct : HasDistinctNumbers c.present.rows c.present.spaces
   pub counts : CountsSubtrees c.present
   -- no fork raised a count above its limit
-  pub limits : forks_within_limits c.opening (first_kept_stamp c) (calls_of c.entries) ≡ true
+  pub limits : ForksStayWithinLimits c.opening (first_kept_stamp c) c.entries
   -- the kept history replays, reply for reply, as one thread's
   pub replayed : IsReplayed c
   -- the ledger's book, and so all shares together, is the number of recorded calls
   pub booked : c.booked ≡ total c
-  pub sound : is_sound c.present ≡ true
+  pub sound : IsSound c.present
   -- no id is ever given again
   pub below : IsBelow (next_stamp c) c.present
   -- the bound of all numbers is the configuration's

@@ -10,13 +10,14 @@ use Rattle.pid_types.specs.Chains.{climb}
 use Rattle.pid_types.specs.State.{State}
 use Rattle.pid_types.specs.Names.{parent_space, path_up, beside, number, root_number, is_live, row_at}
 use Rattle.pid_types.specs.Exit.{parent_number}
-use Rattle.model_laws.specs.Membership.{IsIn}
-use Rattle.model_laws.specs.Soundness.{IsWellNumbered, IsTreeOfSpaces, IsCoherent}
+use Rattle.pid_types.specs.Membership.{IsIn}
+use Rattle.pid_types.specs.Sound.{IsWellNumbered, IsTreeOfSpaces, IsCoherent}
 use Rattle.model_laws.proofs.Lists.{IsIn-map, IsIn-filter}
 use Rattle.model_laws.proofs.Chains.{Stops-at_root, climb-None, climb_cases, climb_suffix, IsIn-climb_first, IsIn-climb_parent, IsIn-climb_more}
 use Rattle.model_laws.proofs.Names.{own_name_in_use}
 use Rattle.model_laws.proofs.Rising.{unique_key}
-use Rattle.model_laws.proofs.Trees.{IsOnTree, IsOnTree-name, root_space_parent, space_at-Some, row_at-Some}
+use Rattle.model_laws.specs.StepLaws.{IsRootInit}
+use Rattle.model_laws.proofs.Trees.{IsOnTree, IsOnTree-name, root_space_parent, space_at-Some, row_at-listed, row_at-Some}
 
 -- ---- how far number 1 is
 
@@ -174,27 +175,15 @@ module _ (state : State) (sound : IsCoherent state) where
   unfolding path_up
   root_path x i = elim (subst (IsIn x) (climb-None (parent_space state.spaces) 32 0 (root_space_parent state.spaces sound.spaces)) i) [ inl e ↦ e | inr none ↦ elim none [ ] ]
 
-  -- where something lives, the root namespace has its init, a row of number 1
-  pub root_init_row : (live : Row) → IsIn live state.rows → is_live live ≡ true
-      → (r : Row) × IsIn r state.rows × (is_live r ≡ true) × (r.name.space ≡ 0) × (root_number r.name ≡ 1)
-  root_init_row live i lives = go root.fallen refl
-    where
-      root : Space
-      root = sound.spaces.root.0
-
-      at : IsIn root state.spaces × (root.id ≡ 0)
-      at = space_at-Some state.spaces 0 root sound.spaces.root.1
-
-      go : (b : Bool) → root.fallen ≡ b → (r : Row) × IsIn r state.rows × (is_live r ≡ true) × (r.name.space ≡ 0) × (root_number r.name ≡ 1)
-      go true e =
-          let none : number state.spaces live.name 0 ≡ None = subst (λ x. number state.spaces live.name x ≡ None) at.1 ((sound.fallen root at.0 e).ended live i lives) in
-          let some : number state.spaces live.name 0 ≡ Some (root_number live.name) = number-root_of_row live i in
-          absurd (cc)
-      go false e =
-          let r = sound.standing root at.0 e in
-          let here : number state.spaces r.0.name 0 ≡ Some 1 = subst (λ x. number state.spaces r.0.name x ≡ Some 1) at.1 r.4 in
-          let some : number state.spaces r.0.name 0 ≡ Some (root_number r.0.name) = number-root_of_row r.0 r.1 in
-          (r.0, r.1, r.2, r.3 ∙ at.1, (let one : root_number r.0.name ≡ 1 = cc in one))
+  -- the root namespace has its init, a row of number 1
+  pub root_init_row : (r : Row) × IsIn r state.rows × (is_live r ≡ true) × (r.name.space ≡ 0) × (root_number r.name ≡ 1)
+  root_init_row =
+      let root : Space = sound.spaces.root.0 in
+      let at = space_at-Some state.spaces 0 root sound.spaces.root.1 in
+      let r = sound.standing root at.0 (sound.root root at.0 at.1) in
+      let here : number state.spaces r.0.name 0 ≡ Some 1 = subst (λ x. number state.spaces r.0.name x ≡ Some 1) at.1 r.4 in
+      let some : number state.spaces r.0.name 0 ≡ Some (root_number r.0.name) = number-root_of_row r.0 r.1 in
+      (r.0, r.1, r.2, r.3 ∙ at.1, (let one : root_number r.0.name ≡ 1 = cc in one))
 
   -- number 1 has no parent
   pub top_row : parent_number state.rows 1 ≡ None
@@ -204,7 +193,7 @@ module _ (state : State) (sound : IsCoherent state) where
       parentless r None i one e = refl
       parentless r (Some a) i one e =
           let g = (sound.parents r i).good a e in
-          let top = root_init_row g.lives.0 g.lives.1 g.lives.3 in
+          let top = root_init_row in
           let same : r ≡ top.0 = unique_key (λ (x : Row). root_number x.name) state.rows sound.rows_rise r top.0 i top.1 (one ∙ sym top.4) in
           let here : r.name.space ≡ 0 = ap (λ (x : Row). x.name.space) same ∙ top.3 in
           let up : a.space ≡ 0 = root_path a.space (subst (λ x. IsIn a.space (path_up state.spaces x)) here g.around) in
@@ -226,3 +215,14 @@ module _ (state : State) (sound : IsCoherent state) where
       let at = row_at-Some state.rows n u.0 u.2 in
       let g = (sound.parents u.0 at.0).good u.1 u.3 in
       (u.0, g.lives.0, at.0, at.1, g.lives.1, ap root_number g.lives.2 ∙ u.4, g.lives.3, u.3 ∙ ap Some (sym g.lives.2))
+
+  -- the root init lives in the root namespace, and has no parent
+  pub root_init_lives : (init : Row) × IsRootInit state init
+  root_init_lives =
+      let r = root_init_row in
+      let at : row_at state.rows 1 ≡ Some r.0 = subst (λ n. row_at state.rows n ≡ Some r.0) r.4 (row_at-listed state.rows sound.rows_rise r.0 r.1) in
+      (r.0, record { first = at; lives = r.2; here = r.3; parentless = none r.0.parent (sym (parent_number-at state.rows 1 r.0 at) ∙ top_row) })
+    where
+      none : (o : Option Name) → option_map root_number o ≡ None → o ≡ None
+      none None e = refl
+      none (Some a) e = absurd (cc)

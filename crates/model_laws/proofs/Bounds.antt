@@ -48,7 +48,7 @@ call_bound state stamp (MakeControl parent) =
     make_control_cases (HasBound state.pid_max) state stamp parent (λ r. record { is = refl }) (λ c found shallow. record { is = refl })
 call_bound state stamp (RemoveControl id) =
     remove_control_cases (HasBound state.pid_max) state id (λ r. record { is = refl }) (λ c parent found below idle. record { is = refl })
-call_bound state stamp (SetLimit id limit) = set_limit_cases (HasBound state.pid_max) state id limit (λ r. record { is = refl }) (record { is = refl })
+call_bound state stamp (SetLimit id limit) = set_limit_cases (HasBound state.pid_max) state id limit (λ r. record { is = refl }) (λ c parent found under good. record { is = refl })
 call_bound state stamp (Move task id) = move_task_cases (HasBound state.pid_max) state task id (λ r. record { is = refl }) (λ row c found there. record { is = refl })
 call_bound state stamp (Count id) = count_tasks_bound state id
 call_bound state stamp (GetPgid caller pid) = record { is = refl }

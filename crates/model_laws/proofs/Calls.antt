@@ -1,5 +1,6 @@
 -- What a call comes to, case by case.
 use Rattle.std.proofs.Common.{◌≡◌, ℕ, ℤ, Bool, true, false, not, ◌&&◌, ◌||◌, ◌==◌, Option, Some, None, refl}
+use Rattle.pid_types.specs.Bounds.{greatest_limit}
 use Rattle.std.specs.Prelude.{if◌then◌else◌, find, length, is_none, nat_lt, nat_le}
 use Rattle.std.specs.Option.{option_map_or}
 use Rattle.std.proofs.lemmas.Bool.{not-false}
@@ -199,13 +200,14 @@ remove_control_cases P state id refusal removes =
 -- a limit is refused, or set
 pub set_limit_cases : (P : Outcome → Type 0) (state : State) (id : ℕ) (limit : Option ℕ)
     → ((r : Refusal) → P (refused state r))
-    → P (changed (with_limit state id limit) Done)
+    → ((c : Control) (parent : ℕ) → control_at state.controls id ≡ Some c → c.parent ≡ Some parent → option_map_or (nat_lt greatest_limit) limit false ≡ false
+    → P (changed (with_limit state id limit) Done))
     → P (set_limit state id limit)
 unfolding set_limit
 set_limit_cases P state id limit refusal sets =
     for_found_cases P state (control_at state.controls id) NoControl _ (refusal NoControl) (λ c found.
     for_found_cases P state c.parent RootControl _ (refusal RootControl) (λ parent below.
-    refuse_if_cases P state _ BadLimit _ (refusal BadLimit) (λ good. sets)))
+    refuse_if_cases P state _ BadLimit _ (refusal BadLimit) (λ good. sets c parent found below good)))
 
 -- a move is refused, or done
 pub move_task_cases : (P : Outcome → Type 0) (state : State) (n id : ℕ)

@@ -1,18 +1,19 @@
 -- Calls on control groups leave a sound state.
-use Rattle.std.proofs.Common.{◌≡◌, ℕ, ◌+◌, ◌<◌, ◌≤◌, true, false, ◌&&◌, not, ◌==◌, List, [], ◌∷◌, ◌++◌, map, length, Option, Some, None, refl, sym, ap, ◌∙◌, subst, inl, inr, arith}
-use Rattle.std.specs.Prelude.{filter, option_map, option_and_then}
-use Rattle.std.specs.Option.{option_eq}
+use Rattle.std.proofs.Common.{◌≡◌, ℕ, ◌+◌, ◌<◌, ◌≤◌, Bool, true, false, ◌&&◌, not, ◌==◌, List, [], ◌∷◌, ◌++◌, map, length, Option, Some, None, refl, sym, ap, ◌∙◌, subst, inl, inr, arith}
+use Rattle.std.specs.Prelude.{filter, nat_lt, option_map, option_and_then, if◌then◌else◌}
+use Rattle.std.specs.Option.{option_eq, option_map_or}
 use Rattle.std.specs.List.{list_any}
 use Rattle.std.proofs.lemmas.Bool.{cond_both, eqb-true, eq-eqb, ne_eqb, eqb-false, ltb-false, or_parts, not_from_false, not-true}
 use Rattle.pid_types.specs.declared.plain.Row.{Row}
 use Rattle.pid_types.specs.declared.plain.Control.{Control}
+use Rattle.pid_types.specs.Bounds.{greatest_limit}
 use Rattle.pid_types.specs.Chains.{climb}
 use Rattle.pid_types.specs.State.{State}
 use Rattle.pid_types.specs.Names.{is_live}
 use Rattle.pid_types.specs.Controls.{control_at, parent_control, control_path}
 use Rattle.pid_types.specs.Changes.{with_control, make_control, is_busy, rehomed, without_control, remove_control, limited, with_limit, set_limit}
-use Rattle.model_laws.specs.Membership.{IsIn}
-use Rattle.model_laws.specs.Soundness.{IsTreeOfControls, IsCoherent, IsSound, IsBelow}
+use Rattle.pid_types.specs.Membership.{IsIn}
+use Rattle.pid_types.specs.Sound.{IsTreeOfControls, HasGoodLimit, IsCoherent, IsSound, IsBelow}
 use Rattle.model_laws.proofs.Lists.{IsIn-append, IsIn-from_filter, IsIn-from_map, find-filter, list_any-from_one}
 use Rattle.model_laws.proofs.Chains.{Stops, Stops-at_root, climb_trans, climb_cases, IsIn-climb_first, IsIn-climb_parent, IsIn-climb_more, climb-same, climb_child}
 use Rattle.model_laws.proofs.Names.{group_in_use, session_in_use}
@@ -25,20 +26,22 @@ use Rattle.model_laws.proofs.Calls.{make_control_cases, remove_control_cases, se
 
 -- a coherent state with other control groups, where each home is
 IsCoherent-controls : (state : State) (controls : List Control) → IsCoherent state → IsTreeOfControls controls
+    → ((c : Control) → IsIn c controls → HasGoodLimit c)
     → ((r : Row) → IsIn r state.rows → (c : Control) × (control_at controls r.home ≡ Some c)) → IsCoherent (record state { controls = controls })
-IsCoherent-controls state controls sound tree homes = record {
+IsCoherent-controls state controls sound tree limits homes = record {
   distinct = sound.distinct;
   numbered = sound.numbered;
   parents = sound.parents;
   children = sound.children;
+  root = sound.root;
   standing = sound.standing;
   fallen = sound.fallen;
   groups = sound.groups;
   rows_rise = sound.rows_rise;
   spaces = sound.spaces;
   controls = tree;
+  limits = limits;
   homes = homes;
-  peopled = sound.peopled;
 }
 
 -- a control group's path is the same where each control group on it is
@@ -48,6 +51,10 @@ control_path-same : (controls others : List Control) (id : ℕ)
 unfolding control_path
 control_path-same controls others id same =
     climb-same (parent_control controls) (parent_control others) 65 id (λ x i. ap (option_and_then (λ c. c.parent)) (same x i))
+
+-- no limit is a good one
+HasGoodLimit-none : (c : Control) → c.limit ≡ None → HasGoodLimit c
+HasGoodLimit-none c none = record { root = λ _. none; bounded = λ limit some. absurd (cc) }
 
 -- ---- a new control group
 
@@ -90,6 +97,10 @@ make_control_keeps state stamp parent sound below =
     Keeps-changed stamp (with_control state parent stamp) _
     (IsCoherent-controls state (with_made state.controls tree stamp parent below.controls) sound.coherent
     (IsTreeOfControls-made state.controls tree stamp parent below.controls on (ltb-false 64 (length (control_path state.controls parent)) shallow))
+    (λ d i. elim (IsIn-append d state.controls (made state.controls tree stamp parent below.controls ∷ []) i) [
+      | inl j ↦ sound.coherent.limits d j
+      | inr j ↦ elim j [ inl e ↦ HasGoodLimit-none d (ap (λ (x : Control). x.limit) e) | inr none ↦ elim none [ ] ]
+    ])
     (λ r i. let h = sound.coherent.homes r i in (h.0, at_old state.controls tree stamp parent below.controls r.home h.0 h.1)))
     (record {
       spaces = λ s i. omega (arith, below.spaces s i);
@@ -208,6 +219,7 @@ remove_control_keeps state stamp id sound below =
           λ r i. cond_both (r.home == id) parent r.home (λ x. (d : Control) × (control_at state.controls x ≡ Some d)) (λ e. up) (λ e. sound.coherent.homes r i);
     }))
     (IsTreeOfControls-others state.controls tree id childless root)
+    (λ d i. sound.coherent.limits d (IsIn-from_filter (λ c. not (c.id == id)) d state.controls i).0)
     (each_of_map (λ r. (d : Control) × (control_at (others state.controls tree id childless) r.home ≡ Some d)) (rehomed id parent) state.rows (λ r i.
     cond_both (r.home == id) parent r.home (λ x. (d : Control) × (control_at (others state.controls tree id childless) x ≡ Some d))
     (λ e. (up.0, other_at state.controls tree id childless parent differs ∙ up.1))
@@ -235,14 +247,35 @@ module _ (controls : List Control) (f : Control → Control) (ids : (c : Control
   IsTreeOfControls-map tree =
       IsTree-map Control (λ d. d.id) (λ d. d.parent) controls f ids parents (control_path controls) (control_path (map f controls)) control_path-map tree
 
+-- a limit that is not too great is a good one where the control group is not the root
+HasGoodLimit-limited : (controls : List Control) → IsTreeOfControls controls → (id parent : ℕ) (limit : Option ℕ) (g : Control)
+    → control_at controls id ≡ Some g → g.parent ≡ Some parent → option_map_or (nat_lt greatest_limit) limit false ≡ false
+    → (c : Control) → HasGoodLimit c → HasGoodLimit (limited id limit c)
+HasGoodLimit-limited controls tree id parent limit g found under good c old = go (c.id == id) refl
+  where
+    below_root : id ≡ 0 → ⊥
+    below_root e =
+        let none : option_and_then (λ (c : Control). c.parent) (control_at controls id) ≡ None = subst (λ x. parent_control controls x ≡ None) (sym e) (root_control_parent controls tree) in
+        let some : option_and_then (λ (c : Control). c.parent) (control_at controls id) ≡ Some parent = ap (option_and_then (λ (c : Control). c.parent)) found ∙ under in cc
+
+    bounded : (o : Option ℕ) → option_map_or (nat_lt greatest_limit) o false ≡ false → (l : ℕ) → o ≡ Some l → l ≤ greatest_limit
+    bounded None e l some = absurd (cc)
+    bounded (Some m) e l some = let same : m ≡ l = cc in subst (λ n. n ≤ greatest_limit) same (ltb-false greatest_limit m e)
+
+    go : (b : Bool) → (c.id == id) ≡ b → HasGoodLimit (record c { limit = if b then limit else c.limit })
+    go false e = old
+    go true e = record { root = λ zero. absurd (below_root (sym (eqb-true c.id id e) ∙ zero)); bounded = bounded limit good }
+
 -- a limit leaves a sound state
 pub set_limit_keeps : (state : State) (stamp id : ℕ) (limit : Option ℕ) → IsSound state → IsBelow stamp state → Keeps stamp (set_limit state id limit)
 unfolding with_limit
 set_limit_keeps state stamp id limit sound below =
-    set_limit_cases (Keeps stamp) state id limit (λ r. Keeps-same stamp state _ sound below)
-    (Keeps-changed stamp (with_limit state id limit) _
+    set_limit_cases (Keeps stamp) state id limit (λ r. Keeps-same stamp state _ sound below) (λ g parent found under good.
+    Keeps-changed stamp (with_limit state id limit) _
     (IsCoherent-controls state (map (limited id limit) state.controls) sound.coherent
     (IsTreeOfControls-map state.controls (limited id limit) (λ c. refl) (λ c. refl) sound.coherent.controls)
+    (λ d i. let q = IsIn-from_map (limited id limit) d state.controls i in
+    subst HasGoodLimit (sym q.2) (HasGoodLimit-limited state.controls sound.coherent.controls id parent limit g found under good q.0 (sound.coherent.limits q.0 q.1)))
     (λ r i.
     let h = sound.coherent.homes r i in
     (limited id limit h.0, control_at-map state.controls (limited id limit) (λ c. refl) (λ c. refl) r.home ∙ ap (option_map (limited id limit)) h.1)))

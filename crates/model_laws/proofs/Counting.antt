@@ -24,8 +24,8 @@ use Rattle.pid_types.specs.Wait.{end_of, without_row}
 use Rattle.pid_types.specs.Groups.{in_group, with_group, leading, with_session}
 use Rattle.pid_types.specs.Changes.{executed_by, with_executed, with_control, is_busy, rehomed, without_control, limited, with_limit, moved_home, with_home, count_tasks, joined, with_children_space, marked, with_subreaper}
 use Rattle.pid_types.specs.Step.{step}
-use Rattle.model_laws.specs.Membership.{IsIn}
-use Rattle.model_laws.specs.Soundness.{IsRising, IsTreeOfControls, IsSound, IsBelow}
+use Rattle.pid_types.specs.Membership.{IsIn}
+use Rattle.pid_types.specs.Sound.{IsRising, IsTreeOfControls, IsSound, IsBelow}
 use Rattle.model_laws.specs.CountLaws.{one_if, may_change_counts}
 use Rattle.model_laws.proofs.Lists.{IsIn-map, IsIn-from_filter, IsIn-from_contains, contains-from_IsIn, filter-same, filter-all}
 use Rattle.model_laws.proofs.Names.{same_name-true, same_name-refl}
@@ -341,7 +341,7 @@ nothing_else state stamp (MakeControl parent) sound below quiet c =
 nothing_else state stamp (RemoveControl id) sound below quiet c =
     remove_control_cases (CountsSame state c) state id (λ r. CountsSame-still state c _) (λ g parent found under idle. CountsSame-removed state sound id parent c g _ found under idle)
 nothing_else state stamp (SetLimit id limit) sound below quiet c =
-    set_limit_cases (CountsSame state c) state id limit (λ r. CountsSame-still state c _) (CountsSame-limited state id limit c _)
+    set_limit_cases (CountsSame state c) state id limit (λ r. CountsSame-still state c _) (λ g parent found under good. CountsSame-limited state id limit c _)
 nothing_else state stamp (Move task id) sound below quiet c = absurd (cc)
 nothing_else state stamp (Count id) sound below quiet c = go (control_at state.controls id)
   where

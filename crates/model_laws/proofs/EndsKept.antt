@@ -1,9 +1,9 @@
 -- Wait and the fall of a namespace leave a sound state.
-use Rattle.std.proofs.Common.{◌≡◌, ℕ, ◌+◌, ◌<◌, Bool, true, false, ◌&&◌, not, List, [], ◌∷◌, map, Option, Some, None, refl, sym, ap, ◌∙◌, subst, inl, inr, arith}
+use Rattle.std.proofs.Common.{◌≡◌, ℕ, ◌+◌, ◌<◌, Bool, true, false, ◌&&◌, not, ◌==◌, List, [], ◌∷◌, map, Option, Some, None, refl, sym, ap, ◌∙◌, subst, inl, inr, arith}
 use Rattle.std.specs.Prelude.{filter, nat_lt, if◌then◌else◌}
 use Rattle.std.specs.Option.{option_map_or}
 use Rattle.std.proofs.lemmas.List.{map-id}
-use Rattle.std.proofs.lemmas.Bool.{or_cases, or_parts, or_left, or_right, not-true, not_from_false, false_from_ne_true}
+use Rattle.std.proofs.lemmas.Bool.{eqb-false, or_cases, or_from, or_parts, or_left, or_right, not-true, not_from_false, false_from_ne_true}
 use Rattle.pid_types.specs.declared.call.Which.{Which}
 use Rattle.pid_types.specs.declared.plain.Name.{Name}
 use Rattle.pid_types.specs.declared.plain.Row.{Row}
@@ -12,17 +12,17 @@ use Rattle.pid_types.specs.declared.plain.Life.{Life}
 use Rattle.pid_types.specs.declared.plain.Life.TheVariants.{Live, Zombie}
 use Rattle.pid_types.specs.declared.plain.Ended.TheVariants.{Exited, Killed}
 use Rattle.pid_types.specs.State.{State}
-use Rattle.pid_types.specs.Names.{path_up, is_within, number, number_or_zero, same_name, is_parent, is_live, is_member}
+use Rattle.pid_types.specs.Names.{path_up, is_within, number, number_or_zero, root_number, same_name, is_parent, is_live, is_member}
 use Rattle.pid_types.specs.Wait.{is_selected, matching, least_row, without_row, ended_children, wait}
 use Rattle.pid_types.specs.Exit.{has_parent_within, goes_in_fall, row_after_fall, rows_after_fall, fallen_below, fall}
-use Rattle.model_laws.specs.Membership.{IsIn}
-use Rattle.model_laws.specs.Soundness.{IsCoherent, IsSound, IsBelow}
+use Rattle.pid_types.specs.Membership.{IsIn}
+use Rattle.pid_types.specs.Sound.{IsCoherent, IsSound, IsBelow}
 use Rattle.model_laws.proofs.Lists.{IsIn-from_filter, IsIn-from_map, IsIn-from_contains, contains-from_IsIn}
-use Rattle.model_laws.proofs.Names.{same_name-true, same_name-refl, own_name_in_use, number-on_path, number-off_path}
+use Rattle.model_laws.proofs.Names.{same_name-true, own_name_in_use, number-on_path, number-off_path}
 use Rattle.model_laws.proofs.Trees.{same_row, live_row-Some, path_first, path_trans, path_antisym}
 use Rattle.model_laws.proofs.RowMaps.{each_of_map}
 use Rattle.model_laws.proofs.Survivors.{KeepsSurvivors, IsCoherent-survivors}
-use Rattle.model_laws.proofs.Ancestry.{row_on_tree}
+use Rattle.model_laws.proofs.Ancestry.{number-root_of_row, root_path, row_on_tree}
 use Rattle.model_laws.proofs.Kept.{Keeps, Keeps-same, Keeps-changed}
 use Rattle.model_laws.proofs.Calls.{wait_cases}
 
@@ -66,7 +66,7 @@ IsCoherent-without_row state sound gone caller i ended j lives =
       parents = λ r q k l e there live. (stays q l live, live);
       standing = λ s k e. (e, λ r l live here. (stays r l live, live));
       fallen = λ s k e. let em = sound.fallen s k e in (λ r l stay live. em.ended r l live, em.below);
-      someone = (caller, j, stays caller j lives);
+      root = sound.root;
     }))
   where
     p : Row → Bool
@@ -95,7 +95,8 @@ wait_keeps state stamp n which sound below =
 
 -- ---- the fall
 
-module _ (state : State) (sound : IsCoherent state) (init : Row) (status : ℕ) (there : IsIn init state.rows) (one : number state.spaces init.name init.name.space ≡ Some 1) where
+module _ (state : State) (sound : IsCoherent state) (init : Row) (status : ℕ) (there : IsIn init state.rows) (one : number state.spaces init.name init.name.space ≡ Some 1)
+    (deep : (root_number init.name == 1) ≡ false) where
   -- the namespace that falls
   abbrev space : ℕ
   space = init.name.space
@@ -218,13 +219,17 @@ module _ (state : State) (sound : IsCoherent state) (init : Row) (status : ℕ) 
                 (path_trans state.spaces sound.spaces t.id s.id space (sound.spaces.chains t j) k w)),
           )
     ];
-    someone =
-        (init, there, not_from_false (goes_in_fall state init init) (stays_itself (same_name init.name init.name) (is_member state.spaces space init) (has_parent_within state space init) (same_name-refl init.name init.name refl)));
+    root = λ s i e. or_from s.fallen (is_within state.spaces s.id space) (sound.root s i e)
+        (false_from_ne_true (is_within state.spaces s.id space) (λ w. not_root (subst (λ x. IsIn space (path_up state.spaces x)) e (IsIn-from_contains (path_up state.spaces s.id) space w))));
   }
     where
-      stays_itself : (a b c : Bool) → a ≡ true → (not a && b && c) ≡ false
-      stays_itself true b c e = refl
-      stays_itself false b c e = absurd (cc)
+      -- the namespace that falls is not the root
+      not_root : IsIn space (path_up state.spaces 0) → ⊥
+      not_root up =
+          let here : space ≡ 0 = root_path state sound space up in
+          let a : number state.spaces init.name 0 ≡ Some 1 = subst (λ x. number state.spaces init.name x ≡ Some 1) here one in
+          let b : number state.spaces init.name 0 ≡ Some (root_number init.name) = number-root_of_row state sound init there in
+          eqb-false (root_number init.name) 1 deep (let same : root_number init.name ≡ 1 = cc in same)
 
   -- a fall leaves a coherent state
   pub IsCoherent-fall : IsCoherent (fall state init status)

@@ -15,8 +15,8 @@ use Rattle.pid_types.specs.State.{State}
 use Rattle.pid_types.specs.Names.{path_up, number, is_numbered, root_number, same_name, is_parent, is_live, row_at, task_at, names_in_use}
 use Rattle.pid_types.specs.Controls.{control_at}
 use Rattle.pid_types.specs.Exit.{is_init, parent_number, ancestors, is_subreaper_in, nearest_subreaper, new_parent, row_after_exit, rows_after_exit, fall, exit}
-use Rattle.model_laws.specs.Membership.{IsIn}
-use Rattle.model_laws.specs.Soundness.{IsRising, IsGoodParent, HasGoodParents, HasGoodChildrenSpace, IsCoherent, IsSound, IsBelow}
+use Rattle.pid_types.specs.Membership.{IsIn}
+use Rattle.pid_types.specs.Sound.{IsRising, IsGoodParent, HasGoodParents, HasGoodChildrenSpace, IsCoherent, IsSound, IsBelow}
 use Rattle.model_laws.proofs.Lists.{IsIn-map, find-Some, find-only}
 use Rattle.model_laws.proofs.Chains.{climb_cases, climb_child}
 use Rattle.model_laws.proofs.Names.{same_name-true, same_name-refl, is_numbered-true, is_numbered-from, own_name_in_use, group_in_use, session_in_use, number-on_path}
@@ -197,7 +197,7 @@ module _ (state : State) (sound : IsCoherent state) (task heir : Row) (ended : E
       chain =
           let far = row_far state sound r i in
           let f = far_after heir_far far.0 (root_number r.name) far.1 in
-          let top = root_init_row state sound task there lives in
+          let top = root_init_row state sound in
           let no_parent : old_parent 1 ≡ Some root_of_task → ⊥ = λ e. (let none : old_parent 1 ≡ None = top_row state sound in cc) in
           let at : row_at rows_after 1 ≡ Some (after top.0) = row_at-map after (λ r. refl) state.rows 1 ∙ ap (option_map after) (subst (λ m. row_at state.rows m ≡ Some top.0) top.4 (row_at-listed state.rows sound.rows_rise top.0 top.1)) in
           chain-in_rows rows_after (same_parent 1 no_parent ∙ top_row state sound) (IsIn-roots rows_after 1 (after top.0) at) f.0 (root_number r.name) f.1;
@@ -240,6 +240,7 @@ module _ (state : State) (sound : IsCoherent state) (task heir : Row) (ended : E
       numbered = λ a i. sound.numbered a (before a i);
       parents = each_of_map (HasGoodParents rows_after state.spaces) after state.rows parents_after;
       children = each_of_map (HasGoodChildrenSpace state.spaces) after state.rows sound.children;
+      root = sound.root;
       standing = λ s i e.
           let r = sound.standing s i e in (
             after r.0,
@@ -257,8 +258,8 @@ module _ (state : State) (sound : IsCoherent state) (task heir : Row) (ended : E
       rows_rise = subst IsRising (sym (roots-map after (λ r. refl) state.rows)) sound.rows_rise;
       spaces = sound.spaces;
       controls = sound.controls;
+      limits = sound.limits;
       homes = each_of_map (λ r. (c : Control) × (control_at state.controls r.home ≡ Some c)) after state.rows sound.homes;
-      peopled = (after sound.peopled.0, IsIn-map after sound.peopled.0 state.rows sound.peopled.1);
     }
       where
         before : (a : Name) → IsIn a (names_in_use rows_after) → IsIn a (names_in_use state.rows)
@@ -409,7 +410,7 @@ exit_keeps state stamp n status sound below =
     (λ caller found deep one.
     let c = live_row-Some state.rows n caller found in
     let first : number state.spaces caller.name caller.name.space ≡ Some 1 = is_numbered-true state.spaces caller.name caller.name.space 1 one in
-    Keeps-changed stamp (fall state caller status) _ (IsCoherent-fall state sound.coherent caller status c.0 first) (IsBelow-fall state sound.coherent caller status c.0 first stamp below))
+    Keeps-changed stamp (fall state caller status) _ (IsCoherent-fall state sound.coherent caller status c.0 first deep) (IsBelow-fall state sound.coherent caller status c.0 first deep stamp below))
     (λ caller found deep none.
     let c = live_row-Some state.rows n caller found in
     let no_init : number state.spaces caller.name caller.name.space ≡ Some 1 → ⊥ = λ e. (let yes : is_init state caller ≡ true = is_numbered-from state.spaces caller.name caller.name.space 1 e in cc) in

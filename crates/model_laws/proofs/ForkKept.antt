@@ -15,9 +15,9 @@ use Rattle.pid_types.specs.Draw.{cyclic_draw, cursor_of, draw}
 use Rattle.pid_types.specs.Controls.{control_at}
 use Rattle.pid_types.specs.Exit.{parent_number}
 use Rattle.pid_types.specs.Fork.{insert_row, with_space, drawn, moved_cursor, with_cursors, child_of, is_gone, with_child, fork}
-use Rattle.model_laws.specs.Membership.{IsIn}
+use Rattle.pid_types.specs.Membership.{IsIn}
 use Rattle.model_laws.specs.Draws.{IsCyclicDraw, IsLeastFree}
-use Rattle.model_laws.specs.Soundness.{IsRising, IsWellNumbered, IsGoodParent, HasGoodParents, HasGoodChildrenSpace, HasLiveInit, IsEmptied, IsTreeOfSpaces, IsCoherent, IsSound, IsBelow}
+use Rattle.pid_types.specs.Sound.{IsRising, IsWellNumbered, IsGoodParent, HasGoodParents, HasGoodChildrenSpace, HasLiveInit, IsEmptied, IsTreeOfSpaces, RootStands, IsCoherent, IsSound, IsBelow}
 use Rattle.model_laws.proofs.Lists.{IsIn-append, IsIn-append_right, IsIn-from_map, IsIn-reverse, contains-from_IsIn}
 use Rattle.model_laws.proofs.Names.{Uses, user_of_name, IsIn-names_in_use, own_name_in_use, group_in_use, number-within, number-off_path, number-same_path, IsIn-taken, user_of_number}
 use Rattle.model_laws.proofs.Draws.{cyclic_draw-IsCyclicDraw}
@@ -35,6 +35,7 @@ pub record IsReady (old : State) (spaces : List Space) (caller : Row) (t : ℕ) 
   pub listed : (x : ℕ) (s : Space) → space_at old.spaces x ≡ Some s → space_at spaces x ≡ Some s
   pub tree : IsTreeOfSpaces spaces
   pub children : (r : Row) → IsIn r old.rows → HasGoodChildrenSpace spaces r
+  pub root : RootStands spaces
   pub standing : (s : Space) → IsIn s spaces → s.fallen ≡ false
       → HasLiveInit old.rows spaces s.id ⊎ ((s.id ≡ t) × (drawn (record old { spaces = spaces }) t ≡ 1))
   pub fallen : (s : Space) → IsIn s spaces → s.fallen ≡ true → IsEmptied old.rows spaces s.id
@@ -294,6 +295,8 @@ module _ (old : State) (sound : IsCoherent old) (spaces : List Space) (caller : 
     parents = each_after (HasGoodParents rows_after spaces_after) parents_child parents_old;
     children = each_after (HasGoodChildrenSpace spaces_after) (inr (path_first spaces_after t))
         (λ r i. HasGoodChildrenSpace-map spaces cursor_after (λ s. refl) (λ s. refl) r (ready.children r i));
+    root = λ s i e. let q = IsIn-from_map cursor_after s spaces i in
+        ap (λ (x : Space). x.fallen) q.2 ∙ ready.root q.0 q.1 (sym (ap (λ (x : Space). x.id) q.2) ∙ e);
     standing = λ s i e. let q = IsIn-from_map cursor_after s spaces i in
         subst (HasLiveInit rows_after spaces_after) (sym (ap (λ (x : Space). x.id) q.2)) (standing_after q.0 q.1 (sym (ap (λ (x : Space). x.fallen) q.2) ∙ e));
     fallen = λ s i e. let q = IsIn-from_map cursor_after s spaces i in
@@ -305,8 +308,8 @@ module _ (old : State) (sound : IsCoherent old) (spaces : List Space) (caller : 
     rows_rise = rise_after;
     spaces = IsTreeOfSpaces-map spaces cursor_after (λ s. refl) (λ s. refl) ready.tree;
     controls = sound.controls;
+    limits = sound.limits;
     homes = each_after (λ r. (c : Control) × (control_at old.controls r.home ≡ Some c)) (sound.homes caller there) sound.homes;
-    peopled = (child, IsIn-insert_new child old.rows);
   }
 
   -- and its ids below the next stamp
@@ -343,6 +346,7 @@ IsReady-old state sound caller there stands may =
       listed = λ x t e. e;
       tree = sound.spaces;
       children = sound.children;
+      root = sound.root;
       standing = λ t i e. inl (sound.standing t i e);
       fallen = sound.fallen;
       target = (s.0, at.0, at.1, s.2);
@@ -477,6 +481,10 @@ module _ (state : State) (sound : IsCoherent state) (stamp : ℕ) (below : IsBel
     listed = at_old;
     tree = tree_new;
     children = children_new;
+    root = λ s i e. elim (IsIn-append s state.spaces (new ∷ []) i) [
+      | inl j ↦ sound.root s j e
+      | inr j ↦ elim j [ inl same ↦ ap (λ (t : Space). t.fallen) same | inr none ↦ elim none [ ] ]
+    ];
     standing = λ s i e. elim (IsIn-append s state.spaces (new ∷ []) i) [
       | inl j ↦ inl (let r = sound.standing s j e in (r.0, r.1, r.2, r.3, number_old r.0.name (own_name_in_use state.rows r.0 r.1) s.id ∙ r.4))
       | inr j ↦ elim j [ inl same ↦ inr (ap (λ (t : Space). t.id) same, first_drawn caller may) | inr none ↦ elim none [ ] ]

@@ -17,13 +17,12 @@ use Rattle.pid_types.specs.Names.{number, number_or_zero, numbers_from, beside, 
 use Rattle.pid_types.specs.Queries.{of_task, self_or_task, name_by, numbers_by, get_pid, get_ppid, get_pgid, get_sid, ns_pid, next}
 use Rattle.pid_types.specs.Sight.{Glimpse, sight, seen, is_seen, glimpse_of, glimpse_at, self_or_glimpse, number_by, of_glimpse}
 use Rattle.pid_types.specs.Step.{step}
-use Rattle.model_laws.specs.Membership.{IsIn}
-use Rattle.model_laws.specs.Soundness.{IsCoherent}
+use Rattle.pid_types.specs.Membership.{IsIn}
+use Rattle.pid_types.specs.Sound.{IsCoherent}
 use Rattle.model_laws.specs.SightLaws.{Query, IsQuery, own_number, parent_number, group_of, session_of, numbers_of, next_from, IsCaller, SeesSame}
 use Rattle.model_laws.proofs.Lists.{IsIn-map, IsIn-from_map, IsIn-filter, IsIn-from_filter, find-Some, find-None, find-none, find-only}
 use Rattle.model_laws.proofs.Names.{number-within, is_numbered-true, is_numbered-from, own_name_in_use, group_in_use, session_in_use}
 use Rattle.model_laws.proofs.Trees.{same_row, live_row-Some}
-use Rattle.model_laws.proofs.SoundTest.{IsSound-from_test}
 
 -- ---- the glimpse of a number
 
@@ -339,7 +338,7 @@ seen-same a b same once n root elsewhere query (next_from kind from) =
 -- the same, from the test of soundness
 pub caller_seen : (state : State) (stamp root : ℕ) (caller : Row) (n : ℕ) (query : Query) → IsCaller state root caller n → IsQuery query
     → (step state stamp (query root)).reply ≡ seen (sight state caller.name.space) n (query root)
-caller_seen state stamp root caller n query c q = query_seen state (IsSound-from_test state c.sound).coherent root caller n c.live c.own stamp query q
+caller_seen state stamp root caller n query c q = query_seen state c.sound.coherent root caller n c.live c.own stamp query q
 
 -- so callers that see the same get the same answers
 pub same_sight : (one other : State) (stamp later root elsewhere n : ℕ) (caller like : Row) (query : Query) → IsCaller one root caller n
@@ -348,5 +347,5 @@ pub same_sight : (one other : State) (stamp later root elsewhere n : ℕ) (calle
     → (step one stamp (query root)).reply ≡ (step other later (query elsewhere)).reply
 same_sight one other stamp later root elsewhere n caller like query c d same q =
     caller_seen one stamp root caller n query c q
-    ∙ seen-same (sight one caller.name.space) (sight other like.name.space) same (glimpse_once other (IsSound-from_test other d.sound).coherent elsewhere like n d.live d.own) n root elsewhere query q
+    ∙ seen-same (sight one caller.name.space) (sight other like.name.space) same (glimpse_once other d.sound.coherent elsewhere like n d.live d.own) n root elsewhere query q
     ∙ sym (caller_seen other later elsewhere like n query d q)

@@ -9,8 +9,8 @@ use Rattle.pid_types.specs.State.{State}
 use Rattle.pid_types.specs.Names.{path_up, beside, number, root_number, taken}
 use Rattle.pid_types.specs.Draw.{cursor_of, draw}
 use Rattle.pid_types.specs.Fork.{insert_row, drawn, child_of}
-use Rattle.model_laws.specs.Membership.{IsIn}
-use Rattle.model_laws.specs.Soundness.{IsRising}
+use Rattle.pid_types.specs.Membership.{IsIn}
+use Rattle.pid_types.specs.Sound.{IsRising}
 use Rattle.model_laws.proofs.Lists.{IsIn-map, IsIn-from_map, IsIn-reverse, IsIn-to_reverse, find-None}
 use Rattle.model_laws.proofs.Draws.{draw-Some}
 

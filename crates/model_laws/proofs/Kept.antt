@@ -12,8 +12,8 @@ use Rattle.pid_types.specs.Controls.{control_at}
 use Rattle.pid_types.specs.Outcome.{Outcome, sweep, answered, changed}
 use Rattle.pid_types.specs.Groups.{target_of, session_group, group_for, in_group, with_group, set_pgid, has_members, leading, with_session, set_sid}
 use Rattle.pid_types.specs.Changes.{executed_by, with_executed, exec, moved_home, with_home, move_task, joined, with_children_space, join, marked, with_subreaper, set_subreaper}
-use Rattle.model_laws.specs.Membership.{IsIn}
-use Rattle.model_laws.specs.Soundness.{HasGoodChildrenSpace, HasGoodGroups, IsCoherent, IsSound, IsBelow}
+use Rattle.pid_types.specs.Membership.{IsIn}
+use Rattle.pid_types.specs.Sound.{HasGoodChildrenSpace, HasGoodGroups, IsCoherent, IsSound, IsBelow}
 use Rattle.model_laws.proofs.Lists.{IsIn-from_map, find-Some, list_any-from_one}
 use Rattle.model_laws.proofs.Names.{same_name-true, same_name-refl, own_name_in_use, group_in_use, session_in_use, number-within, is_numbered-true}
 use Rattle.model_laws.proofs.Trees.{space_at-Some, same_row, live_row-Some, path_first}

@@ -1,6 +1,6 @@
 -- A name's number in a namespace is the entry at the namespace's level.
-use Rattle.std.proofs.Common.{◌≡◌, ◌≤◌, ◌↔◌, ℕ, zero, suc, ◌+◌, ◌-◌, ◌<◌, Bool, true, false, not, ◌==◌, List, [], ◌∷◌, ◌++◌, reverse, length, Option, Some, None, refl, sym, ap, ◌∙◌, inl, inr, arith, length-append}
-use Rattle.std.specs.Prelude.{slice_get, slice_index_or, is_some, Contains}
+use Rattle.std.proofs.Common.{◌≡◌, ◌≤◌, ◌↔◌, ℕ, zero, suc, ◌+◌, ◌-◌, Bool, true, false, not, ◌==◌, List, [], ◌∷◌, ◌++◌, reverse, length, Option, Some, None, refl, sym, ap, ◌∙◌, inl, inr, arith, length-append}
+use Rattle.std.specs.Prelude.{slice_get, is_some}
 use Rattle.std.proofs.lemmas.List.{reverse-append, length-reverse, append_assoc}
 use Rattle.std.proofs.lemmas.Bool.{eq-eqb, ne_eqb, and_left, not_from_false}
 use Rattle.pid_types.specs.declared.plain.Name.{Name}
@@ -11,9 +11,8 @@ use Rattle.pid_types.specs.Chains.{climb}
 use Rattle.pid_types.specs.Names.{parent_space, path_up, level, beside, number, names_in_use, taken}
 use Rattle.pid_types.specs.Controls.{parent_control, control_path}
 use Rattle.pid_types.specs.Outcome.{is_dead, sweep}
-use Rattle.pid_types.specs.Sound.{HasDistinctNumbers}
-use Rattle.model_laws.specs.Membership.{IsIn}
-use Rattle.model_laws.specs.Soundness.{IsSound}
+use Rattle.pid_types.specs.Membership.{IsIn}
+use Rattle.pid_types.specs.Sound.{IsSound}
 use Rattle.model_laws.proofs.Lists.{IsIn-reverse, filter-all}
 use Rattle.model_laws.proofs.Names.{number-within, number-on_path}
 use Rattle.model_laws.proofs.Chains.{Stops, Stops-at_root, climb-None, climb-Some, climb-stopped, climb_suffix, length-climb}
@@ -72,21 +71,6 @@ number-iff_on_path state name s sound used =
     back : (o : Option ℕ) → number state.spaces name s ≡ o → is_some o ≡ true → IsIn s (path_up state.spaces name.space)
     back None e h = absurd (cc)
     back (Some n) e h = (number-within state.spaces name s n e).0
-
--- an element by its place is an element
-IsIn-from_Contains : {X : Type 0} (xs : List X) (x : X) → Contains xs x → IsIn x xs
-IsIn-from_Contains [] x c = let l : c.0 < 0 = c.1 in absurd (omega arith)
-IsIn-from_Contains {X} (y ∷ xs) x c = go c.0 c.1 c.2 (λ k l e. IsIn-from_Contains xs x (k, l, e))
-  where
-    go : (k : ℕ) → k < suc (length xs) → slice_index_or (y ∷ xs) k x ≡ x → ((j : ℕ) → j < length xs → slice_index_or xs j x ≡ x → IsIn x xs)
-        → IsIn x (y ∷ xs)
-    go zero l e rest = inl (sym e)
-    go (suc k) l e rest = inr (rest k (omega arith) e)
-
--- two names in use with one number in one namespace are one
-pub HasDistinctNumbers-sound : (state : State) → IsSound state → HasDistinctNumbers state
-HasDistinctNumbers-sound state sound a b i j =
-    sound.coherent.distinct a b (IsIn-from_Contains (names_in_use state.rows) a i) (IsIn-from_Contains (names_in_use state.rows) b j)
 
 -- a sound state has no dead namespace
 pub sweep-sound : (state : State) → IsSound state → sweep state ≡ state

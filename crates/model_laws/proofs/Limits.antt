@@ -1,18 +1,19 @@
 -- No fork raises a count above its limit.
-use Rattle.std.proofs.Common.{◌≡◌, ℕ, ℤ, suc, ◌+◌, ◌≤◌, Bool, true, false, not, List, [], ◌∷◌, length, Option, Some, None, cond, refl, sym, ap, ◌∙◌, subst, ◌⊎◌, inl, inr, arith}
+use Rattle.std.proofs.Common.{◌≡◌, ℕ, ℤ, suc, ◌+◌, ◌≤◌, Bool, true, false, List, [], ◌∷◌, length, Option, Some, None, cond, refl, sym, ap, ◌∙◌, subst, ◌⊎◌, inl, inr, arith}
 use Rattle.std.specs.Prelude.{filter, nat_lt, option_and_then, if◌then◌else◌}
 use Rattle.std.specs.Option.{option_map_or}
-use Rattle.std.specs.List.{list_all}
-use Rattle.std.proofs.lemmas.Bool.{cases_Bool, and_from, ltb-false, le-ltb}
+use Rattle.std.proofs.lemmas.Bool.{cases_Bool, ltb-false, le-ltb}
 use Rattle.pid_types.specs.declared.call.Call.{Call}
 use Rattle.pid_types.specs.declared.call.Call.TheVariants.{Fork, GetPid, NsPid, Exec, Exit, Wait, GetPpid, SetPgid, SetSid, MakeControl, RemoveControl, SetLimit, Move, Count, GetPgid, GetSid, Next, Join, SetSubreaper}
 use Rattle.pid_types.specs.declared.plain.Row.{Row}
+use Rattle.pid_types.specs.declared.plain.Control.{Control}
 use Rattle.pid_types.specs.declared.plain.Ended.{Ended}
+use Rattle.pid_types.specs.declared.entry.Entry.{Entry}
 use Rattle.pid_types.specs.declared.reply.Reply.{Reply}
 use Rattle.pid_types.specs.declared.reply.Reply.TheVariants.{Forked, Done, Number, Levels as LevelList, Reaped, NoneYet, Counted, Control as ControlMade, End, Refused}
 use Rattle.pid_types.specs.declared.reply.Refusal.{Refusal}
 use Rattle.pid_types.specs.State.{State}
-use Rattle.pid_types.specs.Names.{root_number, numbers_from, live_row, row_at}
+use Rattle.pid_types.specs.Names.{root_number, numbers_from, live_row}
 use Rattle.pid_types.specs.Controls.{control_at, control_path, count, is_below, is_limited_below, passed_limit}
 use Rattle.pid_types.specs.Outcome.{Outcome, sweep, for_found, refuse_if}
 use Rattle.pid_types.specs.Fork.{insert_row, with_space, child_of, fork}
@@ -22,10 +23,11 @@ use Rattle.pid_types.specs.Groups.{set_group_of, set_pgid, set_sid}
 use Rattle.pid_types.specs.Queries.{get_pid, get_ppid, get_pgid, get_sid, ns_pid, next}
 use Rattle.pid_types.specs.Changes.{exec, make_control, remove_control, set_limit, move_task, count_tasks, join, set_subreaper}
 use Rattle.pid_types.specs.Step.{step}
-use Rattle.pid_types.specs.Sound.{forked_within_limits, forks_within_limits}
-use Rattle.model_laws.specs.Membership.{IsIn}
-use Rattle.model_laws.specs.Soundness.{IsSound, IsBelow}
-use Rattle.model_laws.proofs.Lists.{find-None, list_all-from_each}
+use Rattle.pid_types.specs.Limits.{ForkedWithinLimits, ForksStayWithinLimits}
+use Rattle.pid_types.specs.Membership.{IsIn}
+use Rattle.pid_types.specs.Sound.{IsSound, IsBelow}
+use Rattle.model_laws.proofs.Lists.{find-None}
+use Rattle.model_laws.proofs.Rising.{find-key}
 use Rattle.model_laws.proofs.Trees.{row_at-listed}
 use Rattle.model_laws.proofs.Inserts.{IsIn-insert_new}
 use Rattle.model_laws.proofs.Calls.{MayFork, forked, fork_cases}
@@ -201,13 +203,21 @@ fork_keeps_limits state stamp n new_space caller child root found e =
 -- ---- runs
 
 -- a reply that tells of no new task asks for nothing
-within_unless_forked : (state : State) (reply : Reply) → NoFork reply → forked_within_limits state reply ≡ true
+within_unless_forked : (state : State) (reply : Reply) → NoFork reply → ForkedWithinLimits state reply
 within_unless_forked state (Forked child root) h = absurd (h.never child root refl)
-within_unless_forked state _ h = refl
+within_unless_forked state _ h = tt
+
+-- a control group that the test does not find over its limit is within it
+limit_holds : (state : State) → IsSound state → (c : Control) → IsIn c state.controls → (limit : ℕ) → c.limit ≡ Some limit
+    → is_limited_below state (count state c.id) c.id ≡ false → count state c.id ≤ limit
+limit_holds state sound c i limit some within =
+    let found : control_at state.controls c.id ≡ Some c = find-key (λ (d : Control). d.id) state.controls sound.coherent.controls.rising c i in
+    ltb-false limit (count state c.id)
+    (ap (λ o. option_map_or (λ l. nat_lt l (count state c.id)) o false) (sym (ap (option_and_then (λ g. g.limit)) found ∙ some)) ∙ within)
 
 -- after a fork in a sound state the new task, found by its root number, is within the limits
 record FoundWithin (o : Outcome) : Type 0 where
-  kept : IsSound o.state → forked_within_limits o.state o.reply ≡ true
+  kept : IsSound o.state → ForkedWithinLimits o.state o.reply
 
 -- a fork that is made leaves the new task within the limits
 FoundWithin-forked : (state : State) (caller : Row) (t : ℕ) → MayFork state caller t → FoundWithin (forked state caller t)
@@ -215,31 +225,32 @@ unfolding sweep
 FoundWithin-forked state caller t may = record {
   kept = λ sound.
       let child : Row = child_of state caller t in
-      let o : Outcome = forked state caller t in
-      let at : row_at o.state.rows (root_number child.name) ≡ Some child = row_at-listed o.state.rows sound.coherent.rows_rise child (IsIn-insert_new child state.rows) in
-      ap (λ r. option_map_or (λ (row : Row). list_all (λ c. not (is_limited_below o.state (count o.state c) c)) (control_path o.state.controls row.home)) r false) at
-      ∙ list_all-from_each (λ c. not (is_limited_below o.state (count o.state c) c)) (control_path state.controls caller.home) (λ c i. ap not (fork_within state caller t may c i));
+      let o : Outcome = forked state caller t in (
+        child,
+        row_at-listed o.state.rows sound.coherent.rows_rise child (IsIn-insert_new child state.rows),
+        λ c i on limit some. limit_holds o.state sound c i limit some (fork_within state caller t may c.id on),
+      );
 }
 
 -- so does every call
 step_within : (state : State) (stamp : ℕ) (call : Call) → IsSound state → IsBelow stamp state
-    → forked_within_limits (step state stamp call).state (step state stamp call).reply ≡ true
+    → ForkedWithinLimits (step state stamp call).state (step state stamp call).reply
 unfolding step
 step_within state stamp call sound below = elim (fork_or_not state stamp call) [
-  | inl f ↦ subst (λ c. forked_within_limits (step state stamp c).state (step state stamp c).reply ≡ true) (sym f.2) (of_fork f.0 f.1 (step_keeps state stamp (Fork f.0 f.1) sound below).sound)
+  | inl f ↦ subst (λ c. ForkedWithinLimits (step state stamp c).state (step state stamp c).reply) (sym f.2) (of_fork f.0 f.1 (step_keeps state stamp (Fork f.0 f.1) sound below).sound)
   | inr h ↦ within_unless_forked (step state stamp call).state (step state stamp call).reply h
 ]
   where
     of_fork : (n : ℕ) (new_space : Bool) → IsSound (step state stamp (Fork n new_space)).state
-        → forked_within_limits (step state stamp (Fork n new_space)).state (step state stamp (Fork n new_space)).reply ≡ true
-    of_fork n new_space after = (fork_cases FoundWithin state stamp n new_space (λ r. record { kept = λ s. refl })
+        → ForkedWithinLimits (step state stamp (Fork n new_space)).state (step state stamp (Fork n new_space)).reply
+    of_fork n new_space after = (fork_cases FoundWithin state stamp n new_space (λ r. record { kept = λ s. tt })
         (λ caller found stands may. FoundWithin-forked state caller caller.children_space may)
         (λ caller found stands shallow here may. FoundWithin-forked (with_space state caller.children_space stamp) caller stamp may)).kept after
 
 -- and every run
-pub run_within : (opening : State) (first : ℕ) (calls : List Call) → IsSound opening → IsBelow first opening
-    → forks_within_limits opening first calls ≡ true
-run_within opening first [] sound below = refl
-run_within opening first (call ∷ calls) sound below =
-    let k = step_keeps opening first call sound below in
-    and_from _ _ (step_within opening first call sound below) (run_within (step opening first call).state (first + 1) calls k.sound k.below)
+pub run_within : (opening : State) (first : ℕ) (entries : List Entry) → IsSound opening → IsBelow first opening
+    → ForksStayWithinLimits opening first entries
+run_within opening first [] sound below = tt
+run_within opening first (e ∷ entries) sound below =
+    let k = step_keeps opening first e.call sound below in
+    (step_within opening first e.call sound below, run_within (step opening first e.call).state (first + 1) entries k.sound k.below)

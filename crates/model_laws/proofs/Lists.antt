@@ -5,7 +5,7 @@ use Rattle.std.specs.List.{cons_option, list_all, list_any}
 use Rattle.std.proofs.lemmas.List.{reverse-append}
 use Rattle.std.proofs.lemmas.Bool.{eqb-true, eq-eqb, cases_Bool, and_parts, and_from, or_cases, or_left, or_right}
 use Rattle.pid_types.specs.Chains.{contains}
-use Rattle.model_laws.specs.Membership.{IsIn}
+use Rattle.pid_types.specs.Membership.{IsIn}
 
 -- ---- joined and turned lists
 

@@ -10,7 +10,7 @@ use Rattle.pid_types.specs.declared.plain.Row.{Row}
 use Rattle.pid_types.specs.declared.plain.Space.{Space}
 use Rattle.pid_types.specs.State.{State}
 use Rattle.pid_types.specs.Names.{beside, path_up, number, is_numbered, same_name, names_in_use, taken}
-use Rattle.model_laws.specs.Membership.{IsIn}
+use Rattle.pid_types.specs.Membership.{IsIn}
 use Rattle.model_laws.proofs.Lists.{IsIn-reverse, IsIn-to_reverse, IsIn-flat_map, IsIn-from_flat_map, IsIn-filter_map, IsIn-from_filter_map}
 
 -- ---- when two names are one

@@ -17,8 +17,8 @@ use Rattle.pid_types.specs.Outcome.{Outcome, sweep}
 use Rattle.pid_types.specs.Fork.{child_of, with_child, with_cursors, fork}
 use Rattle.pid_types.specs.Step.{step}
 use Rattle.pid_types.specs.Replay.{calls_of, Along, RepliesAsOne, Replays}
-use Rattle.model_laws.specs.Membership.{IsIn}
-use Rattle.model_laws.specs.Soundness.{IsCoherent, IsSound, IsBelow}
+use Rattle.pid_types.specs.Membership.{IsIn}
+use Rattle.pid_types.specs.Sound.{IsCoherent, IsSound, IsBelow}
 use Rattle.model_laws.specs.ReuseLaws.{state_at, IsInUse, ShareNumber}
 use Rattle.model_laws.proofs.Names.{user_of_name, IsIn-names_in_use}
 use Rattle.model_laws.proofs.Trees.{row_at-listed, live_row-Some}

@@ -1,25 +1,10 @@
 -- Lists that rise by a key.
 use Rattle.std.proofs.Common.{◌≡◌, ℕ, ◌<◌, Bool, true, false, ◌==◌, List, [], ◌∷◌, ◌++◌, map, Some, cond, refl, sym, ap, ◌∙◌, subst, inl, inr, arith}
-use Rattle.std.specs.Prelude.{filter, nat_lt, find}
-use Rattle.std.specs.List.{list_all}
-use Rattle.std.proofs.lemmas.Bool.{eqb-true, eq-eqb, and_parts, and_from, ltb-true, lt-ltb}
-use Rattle.pid_types.specs.Sound.{is_strictly_rising}
-use Rattle.model_laws.specs.Membership.{IsIn}
-use Rattle.model_laws.specs.Soundness.{IsRising}
-use Rattle.model_laws.proofs.Lists.{IsIn-map, IsIn-from_map, IsIn-from_filter, each_passes, list_all-from_each, find-Some, find-only, IsIn-append}
-
--- a list that the test takes for rising rises
-pub IsRising-from_test : (ns : List ℕ) → is_strictly_rising ns ≡ true → IsRising ns
-IsRising-from_test [] h = tt
-IsRising-from_test (n ∷ ns) h =
-    let r = and_parts (list_all (nat_lt n) ns) (is_strictly_rising ns) h in
-    (λ m i. ltb-true n m (each_passes (nat_lt n) ns r.0 m i), IsRising-from_test ns r.1)
-
--- and back
-pub test-from_IsRising : (ns : List ℕ) → IsRising ns → is_strictly_rising ns ≡ true
-test-from_IsRising [] h = refl
-test-from_IsRising (n ∷ ns) h =
-    and_from (list_all (nat_lt n) ns) (is_strictly_rising ns) (list_all-from_each (nat_lt n) ns (λ m i. lt-ltb n m (h.0 m i))) (test-from_IsRising ns h.1)
+use Rattle.std.specs.Prelude.{filter, find}
+use Rattle.std.proofs.lemmas.Bool.{eqb-true, eq-eqb}
+use Rattle.pid_types.specs.Membership.{IsIn}
+use Rattle.pid_types.specs.Sound.{IsRising}
+use Rattle.model_laws.proofs.Lists.{IsIn-map, IsIn-from_map, IsIn-from_filter, find-Some, find-only, IsIn-append}
 
 -- what is left out of a rising list leaves it rising
 pub IsRising-filter : {X : Type 0} (key : X → ℕ) (p : X → Bool) (xs : List X) → IsRising (map key xs) → IsRising (map key (filter p xs))

@@ -11,8 +11,8 @@ use Rattle.pid_types.specs.State.{State}
 use Rattle.pid_types.specs.Names.{path_up, number, root_number, is_live, row_at, names_in_use}
 use Rattle.pid_types.specs.Controls.{control_at}
 use Rattle.pid_types.specs.Exit.{parent_number}
-use Rattle.model_laws.specs.Membership.{IsIn}
-use Rattle.model_laws.specs.Soundness.{IsRising, HasGoodParents, HasGoodChildrenSpace, HasGoodGroups, IsCoherent}
+use Rattle.pid_types.specs.Membership.{IsIn}
+use Rattle.pid_types.specs.Sound.{IsRising, HasGoodParents, HasGoodChildrenSpace, HasGoodGroups, IsCoherent}
 use Rattle.model_laws.proofs.Lists.{IsIn-map, IsIn-from_map, find-map, find-same}
 use Rattle.model_laws.proofs.Names.{Uses, user_of_name, own_name_in_use}
 
@@ -82,6 +82,7 @@ IsCoherent-map_rows state f sound keeps = record {
   numbered = λ a i. sound.numbered a (before a i);
   parents = each_of_map (HasGoodParents (map f state.rows) state.spaces) f state.rows parent;
   children = each_of_map (HasGoodChildrenSpace state.spaces) f state.rows keeps.children;
+  root = sound.root;
   standing = λ s i e.
       let r = sound.standing s i e in
       (f r.0, IsIn-map f r.0 state.rows r.1, keeps.lives r.0 ∙ r.2, ap (λ (x : Name). x.space) (keeps.names r.0) ∙ r.3, ap (λ a. number state.spaces a s.id) (keeps.names r.0) ∙ r.4);
@@ -96,8 +97,8 @@ IsCoherent-map_rows state f sound keeps = record {
   rows_rise = subst IsRising (sym (roots-map f keeps.names state.rows)) sound.rows_rise;
   spaces = sound.spaces;
   controls = sound.controls;
+  limits = sound.limits;
   homes = each_of_map (λ r. (c : Control) × (control_at state.controls r.home ≡ Some c)) f state.rows keeps.homes;
-  peopled = (f sound.peopled.0, IsIn-map f sound.peopled.0 state.rows sound.peopled.1);
 }
   where
     before : (a : Name) → IsIn a (names_in_use (map f state.rows)) → IsIn a (names_in_use state.rows)

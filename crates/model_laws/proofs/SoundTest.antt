@@ -1,25 +1,125 @@
--- The test of soundness and the facts say the same.
-use Rattle.std.proofs.Common.{◌≡◌, ℕ, suc, ◌<◌, Bool, true, false, ◌&&◌, ◌||◌, not, ◌==◌, List, [], ◌∷◌, map, length, Option, Some, None, cond, refl, sym, ap, ◌∙◌, subst, inl, inr, arith}
+-- A test of soundness that computes, for states that are written out: a state that passes it is sound.
+use Rattle.std.proofs.Common.{◌≡◌, ℕ, ◌<◌, Bool, true, false, ◌&&◌, ◌||◌, not, ◌==◌, List, [], ◌∷◌, map, length, Option, Some, None, refl, sym, ap, ◌∙◌, subst, inl, inr, arith}
 use Rattle.std.specs.Prelude.{filter, nat_lt, is_some, is_none, if◌then◌else◌}
 use Rattle.std.specs.Option.{option_map_or, option_eq}
 use Rattle.std.specs.List.{list_all, list_any}
-use Rattle.std.proofs.lemmas.Bool.{eqb-true, eq-eqb, and_parts, and_from, or_cases, or_left, or_right, ltb-true, lt-ltb, not-true, false_from_ne_true}
+use Rattle.std.proofs.lemmas.Bool.{eqb-true, eq-eqb, and_parts, or_cases, ltb-true, ltb-false, not-true}
 use Rattle.pid_types.specs.declared.plain.Name.{Name}
 use Rattle.pid_types.specs.declared.plain.Row.{Row}
 use Rattle.pid_types.specs.declared.plain.Space.{Space}
 use Rattle.pid_types.specs.declared.plain.Control.{Control}
+use Rattle.pid_types.specs.Bounds.{greatest_limit}
 use Rattle.pid_types.specs.State.{State}
 use Rattle.pid_types.specs.Chains.{climb, contains}
 use Rattle.pid_types.specs.Names.{space_at, path_up, is_within, number, is_numbered, is_member, root_number, same_name, is_live, names_in_use, taken}
 use Rattle.pid_types.specs.Controls.{control_at, control_path}
 use Rattle.pid_types.specs.Exit.{is_init, parent_number}
-use Rattle.pid_types.specs.Sound.{all_pairs, is_strictly_rising, clash, has_distinct_numbers, is_well_numbered, has_sound_parent, has_sound_children_space, live_inits, is_sound_fallen, is_sound_space, has_sound_groups, has_roots, has_sound_ids, is_sound}
-use Rattle.model_laws.specs.Membership.{IsIn}
-use Rattle.model_laws.specs.Soundness.{IsRising, AreDistinct, IsWellNumbered, IsGoodParent, HasGoodParents, HasGoodChildrenSpace, HasLiveInit, IsEmptied, HasGoodGroups, IsTreeOfSpaces, IsTreeOfControls, IsSound}
-use Rattle.model_laws.proofs.Lists.{IsIn-map, IsIn-from_filter, each_passes, list_all-from_each, some_passes, list_any-from_one, IsIn-from_contains, contains-from_IsIn}
-use Rattle.model_laws.proofs.Names.{same_name-true, same_name-refl, number-within, is_numbered-true, is_numbered-from, own_name_in_use, user_of_name, IsIn-taken, user_of_number}
-use Rattle.model_laws.proofs.Rising.{IsRising-from_test, test-from_IsRising}
-use Rattle.model_laws.proofs.Trees.{space_at-Some, same_row}
+use Rattle.pid_types.specs.Membership.{IsIn}
+use Rattle.pid_types.specs.Sound.{IsRising, HasDistinctNumbers, RootStands, HasGoodLimit, IsWellNumbered, IsGoodParent, HasGoodParents, HasGoodChildrenSpace, HasLiveInit, IsEmptied, HasGoodGroups, IsTreeOfSpaces, IsTreeOfControls, IsSound}
+use Rattle.model_laws.proofs.Lists.{IsIn-from_filter, each_passes, some_passes, list_any-from_one, IsIn-from_contains, contains-from_IsIn}
+use Rattle.model_laws.proofs.Names.{same_name-true, same_name-refl, number-within, is_numbered-true, is_numbered-from, user_of_number}
+use Rattle.model_laws.proofs.Trees.{space_at-Some}
+
+-- ---- the test
+
+-- p of each element against each
+abbrev all_pairs : {X : Type 0} → (X → X → Bool) → List X → Bool
+all_pairs p xs = list_all (λ x. list_all (p x) xs) xs
+
+-- each number is below all that follow
+abbrev is_strictly_rising : List ℕ → Bool
+is_strictly_rising [] = true
+is_strictly_rising (n ∷ ns) = list_all (nat_lt n) ns && is_strictly_rising ns
+
+-- whether the names have one number in one namespace
+abbrev clash : List Space → Name → Name → Bool
+clash spaces a b = list_any (λ s. is_some (number spaces a s.id) && option_eq ◌==◌ (number spaces a s.id) (number spaces b s.id)) spaces
+
+-- no number names two identifiers
+abbrev has_distinct_numbers : State → Bool
+has_distinct_numbers state = all_pairs (λ a b. same_name a b || not (clash state.spaces a b)) (names_in_use state.rows)
+
+-- one number in range for each level, and the namespaces on the path are there
+abbrev is_well_numbered : State → Name → Bool
+is_well_numbered state name =
+    list_all (λ s. is_some (space_at state.spaces s)) (path_up state.spaces name.space)
+    && (length name.numbers.items == length (path_up state.spaces name.space))
+    && list_all (λ n. nat_lt 0 n && nat_lt n state.pid_max) name.numbers.items
+
+-- the parent lives, in the row's namespace or around it, and outside it if the row is its init
+abbrev has_sound_parent : State → Row → Bool
+has_sound_parent state row =
+    option_map_or
+    (λ parent. list_any (λ r. same_name r.name parent && is_live r) state.rows && is_within state.spaces row.name.space parent.space
+    && not (is_init state row && (parent.space == row.name.space)))
+    row.parent (root_number row.name == 1)
+    && contains (climb (parent_number state.rows) (length state.rows) (root_number row.name)) 1
+
+-- its children's namespace is its own or below it, if it is still listed
+abbrev has_sound_children_space : State → Row → Bool
+has_sound_children_space state row =
+    is_none (space_at state.spaces row.children_space) || is_within state.spaces row.children_space row.name.space
+
+-- the live tasks of the namespace that are number 1 in it
+abbrev live_inits : State → ℕ → List Row
+live_inits state s = filter (λ row. is_live row && (row.name.space == s) && is_numbered state.spaces row.name s 1) state.rows
+
+-- nothing lives in the namespace, some number there is in use, and all namespaces below it have fallen
+abbrev is_sound_fallen : State → ℕ → Bool
+is_sound_fallen state s =
+    list_all (λ row. not (is_member state.spaces s row && is_live row)) state.rows
+    && nat_lt 0 (length (taken state s))
+    && list_all (λ t. not (is_within state.spaces t.id s) || t.fallen) state.spaces
+
+-- a namespace that stands has one live init; a fallen one has none alive and some number in use, and all below it are fallen
+abbrev is_sound_space : State → Space → Bool
+is_sound_space state s =
+    if s.fallen then is_sound_fallen state s.id else (length (live_inits state s.id) == 1)
+
+-- the tasks of one group are in one session, that of the task which the group is named after
+abbrev has_sound_groups : State → Bool
+has_sound_groups state =
+    all_pairs (λ a b. not (same_name a.group b.group) || same_name a.session b.session) state.rows
+    && all_pairs (λ a b. not (same_name a.group b.name) || same_name a.session b.session) state.rows
+
+-- whether the root namespace and the root control group are there, and have no parent
+abbrev has_roots : State → Bool
+has_roots state =
+    option_map_or (λ s. is_none s.parent) (space_at state.spaces 0) false && option_map_or (λ c. is_none c.parent) (control_at state.controls 0) false
+
+-- the roots are there, the ids rise, each chain ends at the root in time, and homes are there
+abbrev has_sound_ids : State → Bool
+has_sound_ids state =
+    has_roots state
+    && is_strictly_rising (map (λ row. root_number row.name) state.rows)
+    && is_strictly_rising (map (λ s. s.id) state.spaces)
+    && is_strictly_rising (map (λ c. c.id) state.controls)
+    && list_all (λ s. contains (path_up state.spaces s.id) 0) state.spaces
+    && list_all (λ c. contains (control_path state.controls c.id) 0) state.controls
+    && list_all (λ row. is_some (control_at state.controls row.home)) state.rows
+
+-- no namespace with the root's id has fallen
+abbrev has_standing_root : State → Bool
+has_standing_root state = list_all (λ s. not (s.id == 0) || not s.fallen) state.spaces
+
+-- the root control group has no limit, and no limit is above the greatest
+abbrev has_good_limit : Control → Bool
+has_good_limit c = (not (c.id == 0) || is_none c.limit) && not (option_map_or (nat_lt greatest_limit) c.limit false)
+
+-- what is tested of names, tasks, namespaces, groups and ids
+abbrev has_sound_parts : State → Bool
+has_sound_parts state =
+    has_distinct_numbers state
+    && list_all (is_well_numbered state) (names_in_use state.rows)
+    && list_all (has_sound_parent state) state.rows
+    && list_all (has_sound_children_space state) state.rows
+    && list_all (is_sound_space state) state.spaces
+    && has_sound_groups state
+    && has_sound_ids state
+
+-- the whole test
+abbrev pub is_sound : State → Bool
+is_sound state = has_sound_parts state && (has_standing_root state && list_all has_good_limit state.controls)
 
 -- ---- tests of options and pairs
 
@@ -27,10 +127,6 @@ use Rattle.model_laws.proofs.Trees.{space_at-Some, same_row}
 is_some-found : {A : Type 0} (o : Option A) → is_some o ≡ true → (a : A) × (o ≡ Some a)
 is_some-found None h = absurd (cc)
 is_some-found (Some a) h = (a, refl)
-
--- and back
-found-is_some : {A : Type 0} (o : Option A) (a : A) → o ≡ Some a → is_some o ≡ true
-found-is_some o a e = rw e refl
 
 -- a test for nothing found
 is_none-none : {A : Type 0} (o : Option A) → is_none o ≡ true → o ≡ None
@@ -41,19 +137,10 @@ is_none-none (Some a) h = absurd (cc)
 pair_passes : {X : Type 0} (p : X → X → Bool) (xs : List X) → all_pairs p xs ≡ true → (a b : X) → IsIn a xs → IsIn b xs → p a b ≡ true
 pair_passes p xs h a b i j = each_passes (p a) xs (each_passes (λ x. list_all (p x) xs) xs h a i) b j
 
--- where each passes against each, all pairs do
-all_pairs-from_each : {X : Type 0} (p : X → X → Bool) (xs : List X) → ((a b : X) → IsIn a xs → IsIn b xs → p a b ≡ true) → all_pairs p xs ≡ true
-all_pairs-from_each p xs h = list_all-from_each (λ x. list_all (p x) xs) xs (λ a i. list_all-from_each (p a) xs (λ b j. h a b i j))
-
 -- of a test that does not hold, or another that does
 not_or : (a b : Bool) → (not a || b) ≡ true → a ≡ true → b ≡ true
 not_or true b h e = h
 not_or false b h e = absurd (cc)
-
--- of an implication as a test
-from_not_or : (a b : Bool) → (a ≡ true → b ≡ true) → (not a || b) ≡ true
-from_not_or true b h = h refl
-from_not_or false b h = refl
 
 -- of two tests that do not hold together
 not_both : (a b : Bool) → not (a && b) ≡ true → a ≡ true → b ≡ true → ⊥
@@ -61,42 +148,12 @@ not_both true true h e f = cc
 not_both true false h e f = cc
 not_both false b h e f = cc
 
--- and back
-from_not_both : (a b : Bool) → (a ≡ true → b ≡ true → ⊥) → not (a && b) ≡ true
-from_not_both true true h = absurd (h refl refl)
-from_not_both true false h = refl
-from_not_both false b h = refl
-
 -- ---- one element that passes
 
 -- a list of one element has one
 first_of_one : {X : Type 0} (xs : List X) → length xs ≡ 1 → (x : X) × IsIn x xs
 first_of_one [] h = absurd (omega arith)
 first_of_one (x ∷ xs) h = (x, inl refl)
-
--- where none passes, nothing is kept
-no_element : {X : Type 0} (p : X → Bool) (xs : List X) → ((y : X) → IsIn y xs → p y ≡ true → ⊥) → filter p xs ≡ []
-no_element p [] h = refl
-no_element p (x ∷ xs) h = rw (false_from_ne_true (p x) (h x (inl refl))) (no_element p xs (λ y i. h y (inr i)))
-
--- of a rising list one element alone passes
-length-filter_one : {X : Type 0} (key : X → ℕ) (p : X → Bool) (xs : List X) → IsRising (map key xs) → (x : X) → IsIn x xs → p x ≡ true
-    → ((y : X) → IsIn y xs → p y ≡ true → y ≡ x) → length (filter p xs) ≡ 1
-length-filter_one key p [] rise x i e only = elim i [ ]
-length-filter_one {X} key p (y ∷ xs) rise x (inl same) e only =
-    rw (ap p (sym same) ∙ e) (ap (λ ys. suc (length ys)) (no_element p xs (λ z j f.
-    let l : key y < key z = rise.0 (key z) (IsIn-map key z xs j) in
-    let k : key z ≡ key x = ap key (only z (inr j) f) in
-    let m : key x ≡ key y = ap key same in
-    omega arith)))
-length-filter_one {X} key p (y ∷ xs) rise x (inr i) e only = go (length-filter_one key p xs rise.1 x i e (λ z j f. only z (inr j) f)) (p y) refl
-  where
-    go : length (filter p xs) ≡ 1 → (b : Bool) → p y ≡ b → length (cond b (y ∷ filter p xs) (filter p xs)) ≡ 1
-    go rest true f =
-        let l : key y < key x = rise.0 (key x) (IsIn-map key x xs i) in
-        let k : key y ≡ key x = ap key (only y (inl refl) f) in
-        absurd (omega arith)
-    go rest false f = rest
 
 -- ---- names
 
@@ -114,20 +171,11 @@ IsWellNumbered-from_test state a h =
           (ltb-true 0 n t.0, ltb-true n state.pid_max t.1);
     }
 
--- and back
-test-from_IsWellNumbered : (state : State) (a : Name) → IsWellNumbered state.spaces state.pid_max a → is_well_numbered state a ≡ true
-test-from_IsWellNumbered state a w =
-    and_from _ _
-    (and_from _ _
-    (list_all-from_each (λ s. is_some (space_at state.spaces s)) (path_up state.spaces a.space) (λ x i. let l = w.listed x i in found-is_some _ l.0 l.1))
-    (eq-eqb _ _ w.one_each))
-    (list_all-from_each (λ n. nat_lt 0 n && nat_lt n state.pid_max) a.numbers.items (λ n i. let l = w.in_range n i in and_from _ _ (lt-ltb 0 n l.0) (lt-ltb n state.pid_max l.1)))
-
 -- names that do not clash are distinct
-AreDistinct-from_test : (state : State) → has_distinct_numbers state ≡ true
+HasDistinctNumbers-from_test : (state : State) → has_distinct_numbers state ≡ true
     → ((a : Name) → IsIn a (names_in_use state.rows) → IsWellNumbered state.spaces state.pid_max a)
-    → AreDistinct state.rows state.spaces
-AreDistinct-from_test state h well a b i j s n e f =
+    → HasDistinctNumbers state.rows state.spaces
+HasDistinctNumbers-from_test state h well a b i j s n e f =
     elim (or_cases (same_name a b) (not (clash state.spaces a b)) (pair_passes (λ x y. same_name x y || not (clash state.spaces x y)) (names_in_use state.rows) h a b i j)) [
       | inl same ↦ same_name-true a b same
       | inr apart ↦
@@ -139,25 +187,6 @@ AreDistinct-from_test state h well a b i j s n e f =
           let never : clash state.spaces a b ≡ false = not-true (clash state.spaces a b) apart in
           absurd (cc)
     ]
-
--- and back
-test-from_AreDistinct : (state : State) → AreDistinct state.rows state.spaces → has_distinct_numbers state ≡ true
-test-from_AreDistinct state d =
-    all_pairs-from_each (λ a b. same_name a b || not (clash state.spaces a b)) (names_in_use state.rows) (λ a b i j. go a b i j (clash state.spaces a b) refl)
-  where
-    one : (a b : Name) → IsIn a (names_in_use state.rows) → IsIn b (names_in_use state.rows) → (s : ℕ) (o p : Option ℕ)
-        → number state.spaces a s ≡ o → number state.spaces b s ≡ p
-        → (is_some o && option_eq ◌==◌ o p) ≡ true → a ≡ b
-    one a b i j s None p e f h = absurd (cc)
-    one a b i j s (Some n) None e f h = absurd (cc)
-    one a b i j s (Some n) (Some m) e f h = d a b i j s n e (f ∙ ap Some (sym (eqb-true n m h)))
-
-    go : (a b : Name) → IsIn a (names_in_use state.rows) → IsIn b (names_in_use state.rows) → (c : Bool) → clash state.spaces a b ≡ c
-        → (same_name a b || not c) ≡ true
-    go a b i j false e = or_right (same_name a b) true refl
-    go a b i j true e =
-        let r = some_passes (λ x. is_some (number state.spaces a x.id) && option_eq ◌==◌ (number state.spaces a x.id) (number state.spaces b x.id)) state.spaces e in
-        or_left (same_name a b) false (same_name-refl a b (one a b i j r.0.id (number state.spaces a r.0.id) (number state.spaces b r.0.id) refl refl r.2))
 
 -- ---- parents and children
 
@@ -183,17 +212,6 @@ IsGoodParent-from_test state row parent h =
           λ one same. not_both (is_init state row) (parent.space == row.name.space) r.1 (is_numbered-from state.spaces row.name row.name.space 1 one) (eq-eqb parent.space row.name.space same);
     }
 
--- and back
-test-from_IsGoodParent : (state : State) (row : Row) (parent : Name) → IsGoodParent state.rows state.spaces row parent
-    → parent_test state row parent ≡ true
-unfolding parent_test
-test-from_IsGoodParent state row parent g =
-    and_from _ _
-    (and_from _ _
-    (list_any-from_one (λ r. same_name r.name parent && is_live r) state.rows g.lives.0 g.lives.1 (and_from _ _ (same_name-refl g.lives.0.name parent g.lives.2) g.lives.3))
-    (contains-from_IsIn (path_up state.spaces row.name.space) parent.space g.around))
-    (from_not_both (is_init state row) (parent.space == row.name.space) (λ one same. g.outside (is_numbered-true state.spaces row.name row.name.space 1 one) (eqb-true parent.space row.name.space same)))
-
 -- a row that passes has good parents
 HasGoodParents-from_test : (state : State) (row : Row) → has_sound_parent state row ≡ true → HasGoodParents state.rows state.spaces row
 unfolding parent_test
@@ -207,29 +225,12 @@ HasGoodParents-from_test state row h =
       chain = IsIn-from_contains (climb (parent_number state.rows) (length state.rows) (root_number row.name)) 1 r.1;
     }
 
--- and back
-test-from_HasGoodParents : (state : State) (row : Row) → HasGoodParents state.rows state.spaces row → has_sound_parent state row ≡ true
-unfolding parent_test
-test-from_HasGoodParents state row g =
-    and_from _ _ (go row.parent refl) (contains-from_IsIn (climb (parent_number state.rows) (length state.rows) (root_number row.name)) 1 g.chain)
-  where
-    go : (o : Option Name) → row.parent ≡ o → option_map_or (parent_test state row) o (root_number row.name == 1) ≡ true
-    go None e = eq-eqb (root_number row.name) 1 (g.first e)
-    go (Some parent) e = test-from_IsGoodParent state row parent (g.good parent e)
-
 -- a children's namespace that passes is a good one
 HasGoodChildrenSpace-from_test : (state : State) (row : Row) → has_sound_children_space state row ≡ true → HasGoodChildrenSpace state.spaces row
 HasGoodChildrenSpace-from_test state row h = elim (or_cases (is_none (space_at state.spaces row.children_space)) (is_within state.spaces row.children_space row.name.space) h) [
   | inl e ↦ inl (is_none-none (space_at state.spaces row.children_space) e)
   | inr e ↦ inr (IsIn-from_contains (path_up state.spaces row.children_space) row.name.space e)
 ]
-
--- and back
-test-from_HasGoodChildrenSpace : (state : State) (row : Row) → HasGoodChildrenSpace state.spaces row → has_sound_children_space state row ≡ true
-test-from_HasGoodChildrenSpace state row (inl e) =
-    or_left (is_none (space_at state.spaces row.children_space)) (is_within state.spaces row.children_space row.name.space) (rw e refl)
-test-from_HasGoodChildrenSpace state row (inr i) =
-    or_right (is_none (space_at state.spaces row.children_space)) (is_within state.spaces row.children_space row.name.space) (contains-from_IsIn (path_up state.spaces row.children_space) row.name.space i)
 
 -- ---- namespaces
 
@@ -241,16 +242,6 @@ HasLiveInit-from_test state s h =
     let q = and_parts (is_live one.0 && (one.0.name.space == s)) (is_numbered state.spaces one.0.name s 1) r.1 in
     let t = and_parts (is_live one.0) (one.0.name.space == s) q.0 in
     (one.0, r.0, t.0, eqb-true one.0.name.space s t.1, is_numbered-true state.spaces one.0.name s 1 q.1)
-
--- and where it is, one is counted
-test-from_HasLiveInit : (state : State) (s : ℕ) → AreDistinct state.rows state.spaces → IsRising (map (λ r. root_number r.name) state.rows)
-    → HasLiveInit state.rows state.spaces s → (length (live_inits state s) == 1) ≡ true
-test-from_HasLiveInit state s d rise i =
-    eq-eqb (length (live_inits state s)) 1
-    (length-filter_one (λ (r : Row). root_number r.name) (λ row. is_live row && (row.name.space == s) && is_numbered state.spaces row.name s 1) state.rows rise i.0 i.1
-    (and_from _ _ (and_from _ _ i.2 (eq-eqb i.0.name.space s i.3)) (is_numbered-from state.spaces i.0.name s 1 i.4))
-    (λ y j e. same_row state.rows rise y i.0 j i.1 (d y.name i.0.name (own_name_in_use state.rows y j) (own_name_in_use state.rows i.0 i.1) s 1
-    (is_numbered-true state.spaces y.name s 1 (and_parts (is_live y && (y.name.space == s)) (is_numbered state.spaces y.name s 1) e).1) i.4)))
 
 -- what a fallen namespace is by its test
 IsEmptied-from_test : (state : State) (s : ℕ) → is_sound_fallen state s ≡ true
@@ -278,30 +269,15 @@ IsEmptied-from_test state s h =
     go row None e f lives = e
     go row (Some n) e f lives = absurd (not_both (is_member state.spaces s row) (is_live row) f (rw e refl) lives)
 
--- and back
-test-from_IsEmptied : (state : State) (s : ℕ) → IsEmptied state.rows state.spaces s → (a : Name) (n : ℕ) → IsIn a (names_in_use state.rows)
-    → number state.spaces a s ≡ Some n
-    → is_sound_fallen state s ≡ true
-test-from_IsEmptied state s em a n i e =
-    and_from _ _
-    (and_from _ _
-    (list_all-from_each (λ row. not (is_member state.spaces s row && is_live row)) state.rows (λ row j. from_not_both (is_member state.spaces s row) (is_live row) (λ m lives.
-    let none : number state.spaces row.name s ≡ None = em.ended row j lives in
-    let some = is_some-found (number state.spaces row.name s) m in
-    let there : number state.spaces row.name s ≡ Some some.0 = some.1 in cc)))
-    (lt-ltb 0 (length (taken state s)) (some_long (taken state s) n (IsIn-taken state a s n i e))))
-    (list_all-from_each (λ t. not (is_within state.spaces t.id s) || t.fallen) state.spaces (λ t j. from_not_or (is_within state.spaces t.id s) t.fallen (λ w. em.below t j (IsIn-from_contains (path_up state.spaces t.id) s w))))
-  where
-    some_long : (ns : List ℕ) (m : ℕ) → IsIn m ns → 0 < length ns
-    some_long [] m j = elim j [ ]
-    some_long (k ∷ ns) m j = omega arith
-
--- a namespace that stands, and one that has fallen, by its test
-standing_test : (state : State) (s : Space) (b : Bool) → s.fallen ≡ b
-    → (if b then is_sound_fallen state s.id else (length (live_inits state s.id) == 1)) ≡ true → is_sound_space state s ≡ true
-standing_test state s b e h = rw e h
-
 -- ---- ids
+
+-- a list that the test takes for rising rises
+IsRising-from_test : (ns : List ℕ) → is_strictly_rising ns ≡ true → IsRising ns
+IsRising-from_test [] h = tt
+IsRising-from_test (n ∷ ns) h =
+    let r = and_parts (list_all (nat_lt n) ns) (is_strictly_rising ns) h in
+    (λ m i. ltb-true n m (each_passes (nat_lt n) ns r.0 m i), IsRising-from_test ns r.1)
+
 
 -- namespaces that pass are a tree
 IsTreeOfSpaces-from_test : (spaces : List Space) → is_strictly_rising (map (λ s. s.id) spaces) ≡ true
@@ -347,11 +323,6 @@ seven true true true true false _ _ h = absurd (cc)
 seven true true true true true false _ h = absurd (cc)
 seven true true true true true true false h = absurd (cc)
 
--- and back
-from_seven : (a b c d e f g : Bool) → a ≡ true → b ≡ true → c ≡ true → d ≡ true → e ≡ true → f ≡ true → g ≡ true
-    → (a && b && c && d && e && f && g) ≡ true
-from_seven a b c d e f g ha hb hc hd he hf hg = rw (ha, hb, hc, hd, he, hf, hg) refl
-
 -- the tests of the ids
 IdsFacts : State → Type 0
 IdsFacts state =
@@ -371,20 +342,6 @@ ids-from_test state h =
       λ row i. is_some-found (control_at state.controls row.home) (each_passes (λ row. is_some (control_at state.controls row.home)) state.rows s.6 row i),
     )
 
--- and back
-test-from_ids : (state : State) → IdsFacts state → has_sound_ids state ≡ true
-unfolding IdsFacts
-test-from_ids state f =
-    from_seven _ _ _ _ _ _ _
-    (and_from (option_map_or (λ s. is_none s.parent) (space_at state.spaces 0) false) (option_map_or (λ c. is_none c.parent) (control_at state.controls 0) false)
-    (rw f.1.root.1 (rw f.1.root.2 refl)) (rw f.2.root.1 (rw f.2.root.2 refl)))
-    (test-from_IsRising (map (λ row. root_number row.name) state.rows) f.0)
-    (test-from_IsRising (map (λ s. s.id) state.spaces) f.1.rising)
-    (test-from_IsRising (map (λ c. c.id) state.controls) f.2.rising)
-    (list_all-from_each (λ s. contains (path_up state.spaces s.id) 0) state.spaces (λ s i. contains-from_IsIn (path_up state.spaces s.id) 0 (f.1.chains s i)))
-    (list_all-from_each (λ c. contains (control_path state.controls c.id) 0) state.controls (λ c i. contains-from_IsIn (control_path state.controls c.id) 0 (f.2.chains c i)))
-    (list_all-from_each (λ row. is_some (control_at state.controls row.home)) state.rows (λ row i. let l = f.3 row i in found-is_some _ l.0 l.1))
-
 -- groups that pass are good
 HasGoodGroups-from_test : (state : State) → has_sound_groups state ≡ true → HasGoodGroups state.rows
 HasGoodGroups-from_test state h =
@@ -396,26 +353,34 @@ HasGoodGroups-from_test state h =
           (pair_passes (λ a b. not (same_name a.group b.name) || same_name a.session b.session) state.rows r.1 a b i j) (same_name-refl a.group b.name e));
     }
 
--- and back
-test-from_HasGoodGroups : (state : State) → HasGoodGroups state.rows → has_sound_groups state ≡ true
-test-from_HasGoodGroups state g =
-    and_from _ _
-    (all_pairs-from_each (λ a b. not (same_name a.group b.group) || same_name a.session b.session) state.rows (λ a b i j.
-    from_not_or (same_name a.group b.group) (same_name a.session b.session) (λ e. same_name-refl a.session b.session (g.together a b i j (same_name-true a.group b.group e)))))
-    (all_pairs-from_each (λ a b. not (same_name a.group b.name) || same_name a.session b.session) state.rows (λ a b i j.
-    from_not_or (same_name a.group b.name) (same_name a.session b.session) (λ e. same_name-refl a.session b.session (g.leader a b i j (same_name-true a.group b.name e)))))
+-- a root that passes stands
+RootStands-from_test : (state : State) → has_standing_root state ≡ true → RootStands state.spaces
+RootStands-from_test state h s i e =
+    not-true s.fallen (not_or (s.id == 0) (not s.fallen) (each_passes (λ t. not (t.id == 0) || not t.fallen) state.spaces h s i) (eq-eqb s.id 0 e))
+
+-- a limit that passes is a good one
+HasGoodLimit-from_test : (c : Control) → has_good_limit c ≡ true → HasGoodLimit c
+HasGoodLimit-from_test c h =
+    let r = and_parts (not (c.id == 0) || is_none c.limit) (not (option_map_or (nat_lt greatest_limit) c.limit false)) h in
+    record {
+      root = λ e. is_none-none c.limit (not_or (c.id == 0) (is_none c.limit) r.0 (eq-eqb c.id 0 e));
+      bounded = λ limit e. ltb-false greatest_limit limit
+          (ap (λ o. option_map_or (nat_lt greatest_limit) o false) (sym e) ∙ not-true (option_map_or (nat_lt greatest_limit) c.limit false) r.1);
+    }
 
 -- a state that passes the test is sound
 pub IsSound-from_test : (state : State) → is_sound state ≡ true → IsSound state
 unfolding IdsFacts
 IsSound-from_test state h =
+    let parts = and_parts (has_sound_parts state) (has_standing_root state && list_all has_good_limit state.controls) h in
+    let roots = and_parts (has_standing_root state) (list_all has_good_limit state.controls) parts.1 in
     let s = seven (has_distinct_numbers state) (list_all (is_well_numbered state) (names_in_use state.rows)) (list_all (has_sound_parent state) state.rows) (list_all (has_sound_children_space state) state.rows)
-    (list_all (is_sound_space state) state.spaces) (has_sound_groups state) (has_sound_ids state) h in
+    (list_all (is_sound_space state) state.spaces) (has_sound_groups state) (has_sound_ids state) parts.0 in
     let well : (a : Name) → IsIn a (names_in_use state.rows) → IsWellNumbered state.spaces state.pid_max a = λ a i. IsWellNumbered-from_test state a (each_passes (is_well_numbered state) (names_in_use state.rows) s.1 a i) in
     let ids = ids-from_test state s.6 in
     record {
       coherent = record {
-        distinct = AreDistinct-from_test state s.0 well;
+        distinct = HasDistinctNumbers-from_test state s.0 well;
         numbered = well;
         parents = λ r i. HasGoodParents-from_test state r (each_passes (has_sound_parent state) state.rows s.2 r i);
         children = λ r i. HasGoodChildrenSpace-from_test state r (each_passes (has_sound_children_space state) state.rows s.3 r i);
@@ -426,8 +391,8 @@ IsSound-from_test state h =
         spaces = ids.1;
         controls = ids.2;
         homes = ids.3;
-        peopled = someone ids.1.root.0 (space_at-Some state.spaces 0 ids.1.root.0 ids.1.root.1).0 ids.1.root.0.fallen refl
-            (each_passes (is_sound_space state) state.spaces s.4 ids.1.root.0 (space_at-Some state.spaces 0 ids.1.root.0 ids.1.root.1).0);
+        root = RootStands-from_test state roots.0;
+        limits = λ c i. HasGoodLimit-from_test c (each_passes has_good_limit state.controls roots.1 c i);
       };
       named = λ t i e. (IsEmptied-from_test state t.id (fell t e (each_passes (is_sound_space state) state.spaces s.4 t i))).1;
     }
@@ -437,25 +402,3 @@ IsSound-from_test state h =
 
     fell : (t : Space) → t.fallen ≡ true → is_sound_space state t ≡ true → is_sound_fallen state t.id ≡ true
     fell t e f = rw e at f
-
-    someone : (t : Space) → IsIn t state.spaces → (b : Bool) → t.fallen ≡ b → is_sound_space state t ≡ true → (r : Row) × IsIn r state.rows
-    someone t i true e f = let u = (IsEmptied-from_test state t.id (fell t e f)).1 in let r = user_of_name state.rows u.0 u.2 in (r.0, r.1)
-    someone t i false e f = let r = HasLiveInit-from_test state t.id (stands t e f) in (r.0, r.1)
-
--- a sound state passes the test
-pub test-from_IsSound : (state : State) → IsSound state → is_sound state ≡ true
-unfolding IdsFacts
-test-from_IsSound state s =
-    from_seven _ _ _ _ _ _ _
-    (test-from_AreDistinct state s.coherent.distinct)
-    (list_all-from_each (is_well_numbered state) (names_in_use state.rows) (λ a i. test-from_IsWellNumbered state a (s.coherent.numbered a i)))
-    (list_all-from_each (has_sound_parent state) state.rows (λ r i. test-from_HasGoodParents state r (s.coherent.parents r i)))
-    (list_all-from_each (has_sound_children_space state) state.rows (λ r i. test-from_HasGoodChildrenSpace state r (s.coherent.children r i)))
-    (list_all-from_each (is_sound_space state) state.spaces (λ t i. space t i t.fallen refl))
-    (test-from_HasGoodGroups state s.coherent.groups)
-    (test-from_ids state (s.coherent.rows_rise, s.coherent.spaces, s.coherent.controls, s.coherent.homes))
-  where
-    space : (t : Space) → IsIn t state.spaces → (b : Bool) → t.fallen ≡ b → is_sound_space state t ≡ true
-    space t i true e = let u = s.named t i e in standing_test state t true e (test-from_IsEmptied state t.id (s.coherent.fallen t i e) u.0 u.1 u.2 u.3)
-    space t i false e =
-        standing_test state t false e (test-from_HasLiveInit state t.id s.coherent.distinct s.coherent.rows_rise (s.coherent.standing t i e))

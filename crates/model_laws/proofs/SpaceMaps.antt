@@ -5,8 +5,8 @@ use Rattle.pid_types.specs.declared.plain.Name.{Name}
 use Rattle.pid_types.specs.declared.plain.Row.{Row}
 use Rattle.pid_types.specs.declared.plain.Space.{Space}
 use Rattle.pid_types.specs.Names.{space_at, path_up, number}
-use Rattle.model_laws.specs.Membership.{IsIn}
-use Rattle.model_laws.specs.Soundness.{IsWellNumbered, HasGoodChildrenSpace, IsTreeOfSpaces}
+use Rattle.pid_types.specs.Membership.{IsIn}
+use Rattle.pid_types.specs.Sound.{IsWellNumbered, HasGoodChildrenSpace, IsTreeOfSpaces}
 use Rattle.model_laws.proofs.Forests.{at-map, chain-map, IsTree-map}
 use Rattle.model_laws.proofs.Names.{number-same_path}
 

@@ -10,8 +10,8 @@ use Rattle.pid_types.specs.State.{State}
 use Rattle.pid_types.specs.Names.{space_at, path_up, number, root_number, is_live, row_at, names_in_use}
 use Rattle.pid_types.specs.Controls.{control_at}
 use Rattle.pid_types.specs.Exit.{parent_number}
-use Rattle.model_laws.specs.Membership.{IsIn}
-use Rattle.model_laws.specs.Soundness.{IsRising, HasGoodParents, HasGoodChildrenSpace, HasGoodGroups, HasLiveInit, IsEmptied, IsCoherent}
+use Rattle.pid_types.specs.Membership.{IsIn}
+use Rattle.pid_types.specs.Sound.{IsRising, HasGoodParents, HasGoodChildrenSpace, HasGoodGroups, HasLiveInit, IsEmptied, IsCoherent}
 use Rattle.model_laws.proofs.Lists.{IsIn-map, IsIn-from_map, IsIn-filter, IsIn-from_filter}
 use Rattle.model_laws.proofs.Names.{Uses, user_of_name, IsIn-names_in_use}
 use Rattle.model_laws.proofs.Rising.{IsRising-filter, unique_key}
@@ -32,7 +32,7 @@ pub record KeepsSurvivors (state : State) (p : Row → Bool) (g : Row → Row) (
   pub fallen : (s : Space) → IsIn s state.spaces → (h s).fallen ≡ true
       → ((r : Row) → IsIn r state.rows → p r ≡ true → is_live (g r) ≡ true → number state.spaces r.name s.id ≡ None)
       × ((t : Space) → IsIn t state.spaces → IsIn s.id (path_up state.spaces t.id) → (h t).fallen ≡ true)
-  pub someone : (r : Row) × IsIn r state.rows × (p r ≡ true)
+  pub root : (s : Space) → IsIn s state.spaces → s.id ≡ 0 → (h s).fallen ≡ false
 
 module _ (state : State) (p : Row → Bool) (g : Row → Row) (h : Space → Space) (sound : IsCoherent state) (keeps : KeepsSurvivors state p g h) where
   -- the rows that stay, perhaps ended
@@ -185,6 +185,8 @@ module _ (state : State) (p : Row → Bool) (g : Row → Row) (h : Space → Spa
     numbered = λ a i. IsWellNumbered-map state.spaces h ids ups state.pid_max a (sound.numbered a (used_before a i));
     parents = each_survivor (HasGoodParents survivors spaces_after) parents_after;
     children = each_survivor (HasGoodChildrenSpace spaces_after) (λ x i e. children_after x (sound.children x i));
+    root = λ s i e. let q = IsIn-from_map h s state.spaces i in
+        ap (λ (x : Space). x.fallen) q.2 ∙ keeps.root q.0 q.1 (sym (ids q.0) ∙ sym (ap (λ (x : Space). x.id) q.2) ∙ e);
     standing = λ s i e. let q = IsIn-from_map h s state.spaces i in
         subst (HasLiveInit survivors spaces_after) (sym (ap (λ (x : Space). x.id) q.2)) (standing_after q.0 q.1 (sym (ap (λ (x : Space). x.fallen) q.2) ∙ e));
     fallen = λ s i e. let q = IsIn-from_map h s state.spaces i in
@@ -193,7 +195,7 @@ module _ (state : State) (p : Row → Bool) (g : Row → Row) (h : Space → Spa
     rows_rise = survivors_rise;
     spaces = IsTreeOfSpaces-map state.spaces h ids ups sound.spaces;
     controls = sound.controls;
+    limits = sound.limits;
     homes = each_survivor (λ r. (c : Control) × (control_at state.controls r.home ≡ Some c)) (λ x i e.
         subst (λ n. (c : Control) × (control_at state.controls n ≡ Some c)) (sym (keeps.rows x).4) (sound.homes x i));
-    peopled = (g keeps.someone.0, survives keeps.someone.0 keeps.someone.1 keeps.someone.2);
   }

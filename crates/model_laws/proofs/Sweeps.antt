@@ -1,15 +1,15 @@
 -- The sweep takes away no namespace in which a name in use has a number, and leaves a sound state.
 use Rattle.std.proofs.Common.{◌≡◌, ℕ, Bool, true, false, not, ◌==◌, List, [], ◌∷◌, length, Option, Some, None, refl, sym, ap, ◌∙◌, subst, inl, inr, arith}
 use Rattle.std.specs.Prelude.{option_and_then}
-use Rattle.std.proofs.lemmas.Bool.{eqb-true, ne_eqb, and_right, not_from_false, not-true}
+use Rattle.std.proofs.lemmas.Bool.{eqb-true, ne_eqb, and_left, and_right, not_from_false, not-true}
 use Rattle.pid_types.specs.declared.plain.Name.{Name}
 use Rattle.pid_types.specs.declared.plain.Row.{Row}
 use Rattle.pid_types.specs.declared.plain.Space.{Space}
 use Rattle.pid_types.specs.State.{State}
 use Rattle.pid_types.specs.Names.{space_at, parent_space, path_up, number, names_in_use, taken}
 use Rattle.pid_types.specs.Outcome.{is_dead, sweep}
-use Rattle.model_laws.specs.Membership.{IsIn}
-use Rattle.model_laws.specs.Soundness.{HasGoodChildrenSpace, IsTreeOfSpaces, IsCoherent, IsSound}
+use Rattle.pid_types.specs.Membership.{IsIn}
+use Rattle.pid_types.specs.Sound.{HasGoodChildrenSpace, IsTreeOfSpaces, IsCoherent, IsSound}
 use Rattle.model_laws.proofs.Lists.{IsIn-filter, IsIn-from_filter, find-filter}
 use Rattle.model_laws.proofs.Chains.{climb-same}
 use Rattle.model_laws.proofs.Names.{number-on_path, number-within, number-same_path, own_name_in_use, IsIn-taken, user_of_number}
@@ -102,15 +102,8 @@ module _ (state : State) (sound : IsCoherent state) where
     chains = λ s i. let r = from_kept state s i in subst (IsIn 0) (sym (space_path s r.0 r.1)) (sound.spaces.chains s r.0);
   }
     where
-      someone : Name
-      someone = sound.peopled.0.name
-
-      used : IsIn someone (names_in_use state.rows)
-      used = own_name_in_use state.rows sound.peopled.0 sound.peopled.1
-
       root_kept : IsKept state 0
-      root_kept =
-          name_kept someone used 0 (IsOnTree-name state.spaces state.pid_max sound.spaces someone (sound.numbered someone used))
+      root_kept s i e = and_left s.fallen (length (taken state s.id) == 0) (sound.root s i e)
 
   -- children's namespaces stay good, or are dropped
   children_kept : (r : Row) → HasGoodChildrenSpace state.spaces r → HasGoodChildrenSpace (kept_spaces state) r
@@ -155,6 +148,7 @@ module _ (state : State) (sound : IsCoherent state) where
         chain = (sound.parents r i).chain;
       };
       children = λ r i. children_kept r (sound.children r i);
+      root = λ s i. sound.root s (from_kept state s i).0;
       standing = λ s i e.
           let r = sound.standing s (from_kept state s i).0 e in
           (r.0, r.1, r.2, r.3, name_number r.0.name (own_name_in_use state.rows r.0 r.1) s.id ∙ r.4);
@@ -168,8 +162,8 @@ module _ (state : State) (sound : IsCoherent state) where
       rows_rise = sound.rows_rise;
       spaces = IsTreeOfSpaces-kept;
       controls = sound.controls;
+      limits = sound.limits;
       homes = sound.homes;
-      peopled = sound.peopled;
     };
     named = λ s i e.
         let f = from_kept state s i in

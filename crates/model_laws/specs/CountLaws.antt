@@ -13,9 +13,9 @@ use Rattle.pid_types.specs.Names.{is_live, live_row, number_or_zero}
 use Rattle.pid_types.specs.Controls.{control_at, count, is_below}
 use Rattle.pid_types.specs.Exit.{is_init, goes_in_fall}
 use Rattle.pid_types.specs.Step.{step}
-use Rattle.pid_types.specs.Sound.{is_sound}
-use Rattle.model_laws.specs.Membership.{IsIn}
-use Rattle.model_laws.specs.Soundness.{IsBelow}
+use Rattle.pid_types.specs.Sound.{IsSound}
+use Rattle.pid_types.specs.Membership.{IsIn}
+use Rattle.pid_types.specs.Sound.{IsBelow}
 
 -- 1 where it holds, and else 0
 abbrev pub one_if : Bool → ℕ
@@ -33,7 +33,7 @@ ForkCountsOne =
 abbrev pub ReapingCountsOneLess : Type 0
 ReapingCountsOneLess =
     (state : State) (stamp n : ℕ) (which : Which) (caller : Row) (child : ℕ) (ended : Ended)
-    → is_sound state ≡ true → live_row state.rows n ≡ Some caller → (step state stamp (Wait n which)).reply ≡ Reaped child ended
+    → IsSound state → live_row state.rows n ≡ Some caller → (step state stamp (Wait n which)).reply ≡ Reaped child ended
     → (row : Row) × IsIn row state.rows × (is_live row ≡ false) × (number_or_zero state.spaces row.name caller.name.space ≡ child)
     × ((c : ℕ) → count state c ≡ count (step state stamp (Wait n which)).state c + one_if (is_below state.controls row.home c))
 
@@ -49,7 +49,7 @@ FallCountsTaken =
 abbrev pub MoveCountsBoth : Type 0
 MoveCountsBoth =
     (state : State) (stamp n id : ℕ) (task : Row)
-    → is_sound state ≡ true → live_row state.rows n ≡ Some task → (step state stamp (Move n id)).reply ≡ Done
+    → IsSound state → live_row state.rows n ≡ Some task → (step state stamp (Move n id)).reply ≡ Done
     → (c : ℕ) → count (step state stamp (Move n id)).state c + one_if (is_below state.controls task.home c) ≡ count state c + one_if (is_below state.controls id c)
 
 -- whether the call is a fork, a wait, a move or an exit by which a namespace falls
@@ -63,6 +63,6 @@ may_change_counts state _ = false
 -- no other call changes the count of a control group that is there before and after it
 abbrev pub NothingElseCounts : Type 0
 NothingElseCounts =
-    (state : State) (stamp : ℕ) (call : Call) → is_sound state ≡ true → IsBelow stamp state → may_change_counts state call ≡ false
+    (state : State) (stamp : ℕ) (call : Call) → IsSound state → IsBelow stamp state → may_change_counts state call ≡ false
     → (c : ℕ) (g h : Control) → control_at state.controls c ≡ Some g → control_at (step state stamp call).state.controls c ≡ Some h
     → count (step state stamp call).state c ≡ count state c

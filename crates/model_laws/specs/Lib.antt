@@ -1,11 +1,9 @@
-pub mod Membership
 pub mod CountLaws
 pub mod SightLaws
 pub mod NumberLaws
 pub mod ReuseLaws
 pub mod LimitLaws
 pub mod StepLaws
-pub mod Soundness
 pub mod Refusals
 pub mod Draws
 pub mod Script

@@ -1,16 +1,16 @@
 -- No fork raises a count above its limit.
-use Rattle.std.specs.Prelude.{◌≡◌, ℕ, Bool, true, false, List, Some}
-use Rattle.pid_types.specs.declared.call.Call.{Call}
+use Rattle.std.specs.Prelude.{◌≡◌, ℕ, Bool, false, List, Some}
 use Rattle.pid_types.specs.declared.call.Call.TheVariants.{Fork}
+use Rattle.pid_types.specs.declared.entry.Entry.{Entry}
 use Rattle.pid_types.specs.declared.plain.Row.{Row}
 use Rattle.pid_types.specs.declared.reply.Reply.TheVariants.{Forked}
 use Rattle.pid_types.specs.State.{State}
 use Rattle.pid_types.specs.Names.{live_row}
 use Rattle.pid_types.specs.Controls.{control_path, count, is_limited_below}
 use Rattle.pid_types.specs.Step.{step}
-use Rattle.pid_types.specs.Sound.{is_sound, forks_within_limits}
-use Rattle.model_laws.specs.Membership.{IsIn}
-use Rattle.model_laws.specs.Soundness.{IsBelow}
+use Rattle.pid_types.specs.Limits.{ForksStayWithinLimits}
+use Rattle.pid_types.specs.Membership.{IsIn}
+use Rattle.pid_types.specs.Sound.{IsSound, IsBelow}
 
 -- after a fork no control group from the new task's home, which is the caller's, to the root has more tasks than its limit
 abbrev pub ForkKeepsLimits : Type 0
@@ -22,5 +22,4 @@ ForkKeepsLimits =
 
 -- in every run from a sound opening each fork leaves the counts from the new task's home to the root within their limits
 abbrev pub RunsKeepLimits : Type 0
-RunsKeepLimits =
-    (opening : State) (first : ℕ) (calls : List Call) → is_sound opening ≡ true → IsBelow first opening → forks_within_limits opening first calls ≡ true
+RunsKeepLimits = (opening : State) (first : ℕ) (entries : List Entry) → IsSound opening → IsBelow first opening → ForksStayWithinLimits opening first entries

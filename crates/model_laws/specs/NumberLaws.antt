@@ -7,8 +7,8 @@ use Rattle.pid_types.specs.State.{State}
 use Rattle.pid_types.specs.Names.{parent_space, path_up, level, number, names_in_use}
 use Rattle.pid_types.specs.Controls.{control_path}
 use Rattle.pid_types.specs.Outcome.{sweep}
-use Rattle.pid_types.specs.Sound.{is_sound, HasDistinctNumbers}
-use Rattle.model_laws.specs.Membership.{IsIn}
+use Rattle.pid_types.specs.Sound.{IsSound, HasDistinctNumbers}
+use Rattle.pid_types.specs.Membership.{IsIn}
 
 -- the number of a name with one number for each level, in a namespace on its path, is the entry at the level of that namespace
 abbrev pub NumberIsAtLevel : Type 0
@@ -20,17 +20,17 @@ NumberIsAtLevel =
 -- in a sound state a name in use has a number in each namespace from its own to the root, and in no other
 abbrev pub NamesHaveNumbers : Type 0
 NamesHaveNumbers =
-    (state : State) (name : Name) (s : ℕ) → is_sound state ≡ true → IsIn name (names_in_use state.rows)
+    (state : State) (name : Name) (s : ℕ) → IsSound state → IsIn name (names_in_use state.rows)
     → IsIn s (path_up state.spaces name.space) ↔ (is_some (number state.spaces name s) ≡ true)
 
 -- and no number of a namespace names two
 abbrev pub NoNumberNamesTwo : Type 0
-NoNumberNamesTwo = (state : State) → is_sound state ≡ true → HasDistinctNumbers state
+NoNumberNamesTwo = (state : State) → IsSound state → HasDistinctNumbers state.rows state.spaces
 
 -- in a sound state the root is at most 32 levels above each namespace, and at most 64 above each control group
 abbrev pub LevelsAreBounded : Type 0
 LevelsAreBounded =
-    (state : State) → is_sound state ≡ true
+    (state : State) → IsSound state
     → ((s : Space) → IsIn s state.spaces → IsIn 0 (path_up state.spaces s.id) × (level state.spaces s.id ≤ 32))
     × ((c : Control) → IsIn c state.controls → IsIn 0 (control_path state.controls c.id) × (length (control_path state.controls c.id) ≤ 65))
 
@@ -42,4 +42,4 @@ SweepKeepsNumbered =
 
 -- in a sound state the sweep takes nothing, so a call that changes nothing needs none after it
 abbrev pub SoundNeedsNoSweep : Type 0
-SoundNeedsNoSweep = (state : State) → is_sound state ≡ true → sweep state ≡ state
+SoundNeedsNoSweep = (state : State) → IsSound state → sweep state ≡ state

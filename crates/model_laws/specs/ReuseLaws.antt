@@ -1,5 +1,5 @@
 -- No number is handed out twice.
-use Rattle.std.specs.Prelude.{◌≡◌, ℕ, ◌+◌, ◌<◌, ◌≤◌, true, List, length, take, Some, slice_get}
+use Rattle.std.specs.Prelude.{◌≡◌, ℕ, ◌+◌, ◌<◌, ◌≤◌, List, length, take, Some, slice_get}
 use Rattle.pid_types.specs.declared.plain.Name.{Name}
 use Rattle.pid_types.specs.declared.plain.Row.{Row}
 use Rattle.pid_types.specs.declared.entry.Entry.{Entry}
@@ -7,9 +7,9 @@ use Rattle.pid_types.specs.declared.reply.Reply.TheVariants.{Forked}
 use Rattle.pid_types.specs.State.{State}
 use Rattle.pid_types.specs.Names.{number, names_in_use, row_at}
 use Rattle.pid_types.specs.Replay.{state_after, calls_of, Replays}
-use Rattle.pid_types.specs.Sound.{is_sound}
-use Rattle.model_laws.specs.Membership.{IsIn}
-use Rattle.model_laws.specs.Soundness.{IsBelow}
+use Rattle.pid_types.specs.Sound.{IsSound}
+use Rattle.pid_types.specs.Membership.{IsIn}
+use Rattle.pid_types.specs.Sound.{IsBelow}
 
 -- the state after the first k entries
 abbrev pub state_at : State → ℕ → List Entry → ℕ → State
@@ -26,7 +26,7 @@ ShareNumber state a b = (s : ℕ) × (n : ℕ) × (number state.spaces a s ≡ S
 -- while a name is in use, from the i-th state to the j-th, no fork makes a row that has one of its numbers in the same namespace
 abbrev pub NoReuse : Type 0
 NoReuse =
-    (opening : State) (first : ℕ) (entries : List Entry) → is_sound opening ≡ true → IsBelow first opening → Replays opening first entries
+    (opening : State) (first : ℕ) (entries : List Entry) → IsSound opening → IsBelow first opening → Replays opening first entries
     → (i j : ℕ) → j ≤ length entries → (name : Name) → ((m : ℕ) → i ≤ m → m ≤ j → IsInUse name (state_at opening first entries m))
     → (k : ℕ) (e : Entry) (child root : ℕ) (row : Row) → i ≤ k → k < j
     → slice_get entries k ≡ Some e → e.reply ≡ Forked child root → row_at (state_at opening first entries (k + 1)).rows root ≡ Some row

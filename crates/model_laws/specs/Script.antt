@@ -1,11 +1,11 @@
 -- Scripts: calls, each with its answer, made one after another from the root state on.
-use Rattle.std.specs.Prelude.{◌≡◌, ℕ, true, List, map}
+use Rattle.std.specs.Prelude.{◌≡◌, ℕ, List, map}
 use Rattle.pid_types.specs.declared.call.Call.{Call}
 use Rattle.pid_types.specs.declared.reply.Reply.{Reply}
 use Rattle.pid_types.specs.State.{State, root_state}
 use Rattle.pid_types.specs.Replay.{replies, state_after}
 use Rattle.pid_types.specs.Sight.{sight}
-use Rattle.pid_types.specs.Sound.{is_sound}
+use Rattle.pid_types.specs.Sound.{IsSound}
 
 -- each call is answered as it stands beside it
 abbrev pub Answers : ℕ → List (Call × Reply) → Type 0
@@ -18,4 +18,4 @@ SeesAlike calls s others t = sight (state_after (root_state 32768) 1 calls) s �
 -- the calls end in the state, and it is sound
 pub record EndsSound (pid_max : ℕ) (calls : List Call) (end : State) : Type 0 where
   pub ends : state_after (root_state pid_max) 1 calls ≡ end
-  pub sound : is_sound end ≡ true
+  pub sound : IsSound end

@@ -1,5 +1,5 @@
 -- A query is answered from what the caller's namespace sees.
-use Rattle.std.specs.Prelude.{◌≡◌, ◌↔◌, ℕ, true, List, Some}
+use Rattle.std.specs.Prelude.{◌≡◌, ◌↔◌, ℕ, List, Some}
 use Rattle.pid_types.specs.declared.call.Call.{Call}
 use Rattle.pid_types.specs.declared.call.Call.TheVariants.{GetPid, GetPpid, GetPgid, GetSid, NsPid, Next}
 use Rattle.pid_types.specs.declared.call.Kind.{Kind}
@@ -7,9 +7,9 @@ use Rattle.pid_types.specs.declared.plain.Row.{Row}
 use Rattle.pid_types.specs.State.{State}
 use Rattle.pid_types.specs.Names.{number, live_row}
 use Rattle.pid_types.specs.Sight.{Glimpse, sight, seen}
-use Rattle.pid_types.specs.Sound.{is_sound}
+use Rattle.pid_types.specs.Sound.{IsSound}
 use Rattle.pid_types.specs.Step.{step}
-use Rattle.model_laws.specs.Membership.{IsIn}
+use Rattle.pid_types.specs.Membership.{IsIn}
 
 -- the caller's queries: its own number and its parent's, those of a task's group and session, a task's numbers, and the next in use
 abbrev pub Query : Type 0
@@ -26,7 +26,7 @@ pub data IsQuery : Query → Type 0 where
 
 -- in a sound state the root number names a live task with this row, whose number in its own namespace is n
 pub record IsCaller (state : State) (root : ℕ) (caller : Row) (n : ℕ) : Type 0 where
-  pub sound : is_sound state ≡ true
+  pub sound : IsSound state
   pub live : live_row state.rows root ≡ Some caller
   pub own : number state.spaces caller.name caller.name.space ≡ Some n
 

@@ -1,10 +1,5 @@
 //! Every call leaves a sound state.
-ghost use Rattle.model_laws.specs.StepLaws.{BoundStays, RootNeverFalls, RootStateIsSound, RunsKeepSoundness, StepKeepsSoundness, TestIsFacts};
-
-/// The test of soundness holds exactly where the facts do.
-pub fn test_is_facts()
-    ensures { TestIsFacts }
-{}
+ghost use Rattle.model_laws.specs.StepLaws.{BoundStays, RootInitLives, RootNeverFalls, RootStateIsSound, RunsKeepSoundness, StepKeepsSoundness};
 
 /// The state that a table begins with is sound.
 pub fn root_state_is_sound()
@@ -23,7 +18,12 @@ pub fn bound_stays()
     ensures { BoundStays }
 {}
 
-/// No call lets the root namespace fall.
+/// In a sound state the root namespace stands. Since every call leaves one, no call lets it fall.
 pub fn root_never_falls()
     ensures { RootNeverFalls }
+{}
+
+/// In a sound state the root init lives. Every chain of parents ends at it.
+pub fn root_init_lives()
+    ensures { RootInitLives }
 {}

@@ -7,6 +7,7 @@ use Rattle.pid_types.specs.declared.plain.Row.{Row}
 use Rattle.pid_types.specs.declared.plain.Control.{Control}
 use Rattle.pid_types.specs.declared.reply.Reply.TheVariants.{Done, Control as ControlMade, Counted}
 use Rattle.pid_types.specs.declared.reply.Refusal.TheVariants.{NoTask, NoControl, ControlDepth, RootControl, ControlBusy, BadLimit}
+use Rattle.pid_types.specs.Bounds.{deepest_control, greatest_limit}
 use Rattle.pid_types.specs.State.{State}
 use Rattle.pid_types.specs.Names.{same_name, is_live, live_row, task_at}
 use Rattle.pid_types.specs.Controls.{control_at, control_path, count}
@@ -36,7 +37,7 @@ with_control state parent id = record state { controls = state.controls ++ recor
 unfoldable pub make_control : State → ℕ → ℕ → Outcome
 make_control state stamp parent =
     on_control state parent (λ c.
-    refuse_if state (nat_lt 64 (length (control_path state.controls parent))) ControlDepth
+    refuse_if state (nat_lt deepest_control (length (control_path state.controls parent))) ControlDepth
     (changed (with_control state parent stamp) (ControlMade stamp)))
 
 -- whether a live task or a control group is directly in it
@@ -77,7 +78,7 @@ unfoldable pub set_limit : State → ℕ → Option ℕ → Outcome
 set_limit state id limit =
     on_control state id (λ c.
     for_found state c.parent RootControl (λ parent.
-    refuse_if state (option_map_or (nat_lt 4194304) limit false) BadLimit
+    refuse_if state (option_map_or (nat_lt greatest_limit) limit false) BadLimit
     (changed (with_limit state id limit) Done)))
 
 -- the row in the control group, if the name is its own

@@ -2,6 +2,7 @@
 use Rattle.std.specs.Prelude.{ℕ, ◌+◌, Bool, false, ◌==◌, nat_lt, List, Option, find, filter, length, option_and_then}
 use Rattle.std.specs.Option.{option_map_or}
 use Rattle.pid_types.specs.declared.plain.Control.{Control}
+use Rattle.pid_types.specs.Bounds.{deepest_control}
 use Rattle.pid_types.specs.Chains.{climb, contains}
 use Rattle.pid_types.specs.State.{State}
 
@@ -13,9 +14,9 @@ control_at controls id = find (λ c. c.id == id) controls
 abbrev pub parent_control : List Control → ℕ → Option ℕ
 parent_control controls id = option_and_then (λ c. c.parent) (control_at controls id)
 
--- the control group and those above it, nearest first. They are at most 64 levels below the root
+-- the control group and those above it, nearest first
 unfoldable pub control_path : List Control → ℕ → List ℕ
-control_path controls id = climb (parent_control controls) 65 id
+control_path controls id = climb (parent_control controls) (deepest_control + 1) id
 
 -- whether the control group c is the one with the id, or above it
 abbrev pub is_below : List Control → ℕ → ℕ → Bool

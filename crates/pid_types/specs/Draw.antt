@@ -1,5 +1,6 @@
 -- The cyclic draw of a number.
 use Rattle.std.specs.Prelude.{ℕ, max, nat_lt, List, length, Option, Some, None, if◌then◌else◌, unwrap_or, option_map}
+use Rattle.pid_types.specs.Bounds.{reserved_numbers}
 use Rattle.pid_types.specs.Chains.{first_absent}
 use Rattle.pid_types.specs.State.{State}
 use Rattle.pid_types.specs.Names.{taken, space_at}
@@ -10,7 +11,7 @@ least_free ns n = first_absent ns (length ns) n
 
 -- where a draw starts again: the kernel's RESERVED_PIDS are left to the first processes
 abbrev pub restart : ℕ → ℕ
-restart cursor = if nat_lt 300 cursor then 300 else 1
+restart cursor = if nat_lt reserved_numbers cursor then reserved_numbers else 1
 
 -- the least free number from the cursor on, or else from the restart on: idr_alloc_cyclic of the kernel's ID allocation document
 unfoldable pub cyclic_draw : ℕ → ℕ → List ℕ → Option ℕ

@@ -6,6 +6,7 @@ use Rattle.pid_types.specs.declared.plain.Space.{Space}
 use Rattle.pid_types.specs.declared.plain.Life.TheVariants.{Live}
 use Rattle.pid_types.specs.declared.reply.Reply.TheVariants.{Forked}
 use Rattle.pid_types.specs.declared.reply.Refusal.TheVariants.{TooDeep, Elsewhere, SpaceFallen, NoNumber, PidsLimit}
+use Rattle.pid_types.specs.Bounds.{deepest_space}
 use Rattle.pid_types.specs.Chains.{contains}
 use Rattle.pid_types.specs.State.{State}
 use Rattle.pid_types.specs.Names.{space_at, path_up, level, root_number, number_or_zero}
@@ -71,7 +72,7 @@ unfoldable pub fork : State → ℕ → ℕ → Bool → Outcome
 fork state stamp n new_space =
     by_caller state n (λ caller.
     let p = caller.children_space in
-    refuse_if state (new_space && nat_le 32 (level state.spaces p)) TooDeep
+    refuse_if state (new_space && nat_le deepest_space (level state.spaces p)) TooDeep
     (refuse_if state (new_space && not (p == caller.name.space)) Elsewhere
     (refuse_if state (is_gone state p) SpaceFallen
     (if new_space then fork_into state (with_space state p stamp) caller stamp else fork_into state state caller p))))

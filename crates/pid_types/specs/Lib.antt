@@ -1,5 +1,7 @@
 pub mod Refusals
+pub mod Bounds
 pub mod Settings
+pub mod Membership
 pub mod Chains
 pub mod State
 pub mod Names
@@ -14,6 +16,7 @@ pub mod Queries
 pub mod Changes
 pub mod Step
 pub mod Replay
+pub mod Limits
 pub mod Sound
 pub mod Sight
 pub mod Shown

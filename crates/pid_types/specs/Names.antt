@@ -1,11 +1,12 @@
 -- Names: their numbers in namespaces, and the rows that they name.
-use Rattle.std.specs.Prelude.{ℕ, ◌-◌, Bool, true, false, ◌&&◌, ◌==◌, List, [], ◌∷◌, length, reverse, Option, Some, None, if◌then◌else◌, slice_index, is_some, unwrap_or, find, filter_map, flat_map, option_and_then}
+use Rattle.std.specs.Prelude.{ℕ, ◌+◌, ◌-◌, Bool, true, false, ◌&&◌, ◌==◌, List, [], ◌∷◌, length, reverse, Option, Some, None, if◌then◌else◌, slice_index, is_some, unwrap_or, find, filter_map, flat_map, option_and_then}
 use Rattle.std.specs.Option.{option_eq}
 use Rattle.std.specs.Cmp.Lexicographic.{pointwise}
 use Rattle.pid_types.specs.declared.plain.Name.{Name}
 use Rattle.pid_types.specs.declared.plain.Row.{Row}
 use Rattle.pid_types.specs.declared.plain.Space.{Space}
 use Rattle.pid_types.specs.declared.plain.Life.TheVariants.{Live, Zombie}
+use Rattle.pid_types.specs.Bounds.{deepest_space}
 use Rattle.pid_types.specs.Chains.{climb, contains}
 use Rattle.pid_types.specs.State.{State}
 
@@ -17,9 +18,9 @@ space_at spaces id = find (λ s. s.id == id) spaces
 abbrev pub parent_space : List Space → ℕ → Option ℕ
 parent_space spaces id = option_and_then (λ s. s.parent) (space_at spaces id)
 
--- the namespace and those around it, innermost first. The deepest level is 32: pid_namespaces(7), "Nesting PID namespaces"
+-- the namespace and those around it, innermost first
 unfoldable pub path_up : List Space → ℕ → List ℕ
-path_up spaces id = climb (parent_space spaces) 33 id
+path_up spaces id = climb (parent_space spaces) (deepest_space + 1) id
 
 -- whether s is the namespace t or around it
 abbrev pub is_within : List Space → ℕ → ℕ → Bool

@@ -1,11 +1,12 @@
 -- What a table is made with.
-use Rattle.std.specs.Prelude.{ℕ, ◌≤◌}
+use Rattle.std.specs.Prelude.{ℕ, ◌+◌, ◌≤◌}
+use Rattle.pid_types.specs.Bounds.{reserved_numbers, greatest_pid_max}
 
 -- the bound of all numbers, and the stamp of the first call
 pub record Settings : Type 0 where
   pub pid_max : ℕ
   pub first_stamp : ℕ
 
--- the least and the greatest bound of process numbers that Linux takes: proc_sys_kernel(5), pid_max
+-- the bound leaves room for a restart, which is the table's own rule, and is none above the greatest
 abbrev pub HasGoodPidMax : ℕ → Type 0
-HasGoodPidMax pid_max = (301 ≤ pid_max) × (pid_max ≤ 4194304)
+HasGoodPidMax pid_max = (reserved_numbers + 1 ≤ pid_max) × (pid_max ≤ greatest_pid_max)

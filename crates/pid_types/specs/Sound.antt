@@ -1,125 +1,110 @@
--- Which states are sound, and which lists of entries passed no limit.
-use Rattle.std.specs.Prelude.{◌≡◌, ℕ, ◌+◌, Bool, true, false, ◌&&◌, ◌||◌, not, ◌==◌, nat_lt, List, [], ◌∷◌, map, length, Contains, Some, is_some, is_none, filter, if◌then◌else◌}
-use Rattle.std.specs.Option.{option_map_or, option_eq}
-use Rattle.std.specs.List.{list_any, list_all}
+-- Which states are sound: what is true of the table between any two calls.
+use Rattle.std.specs.Prelude.{◌≡◌, ◌⊎◌, ℕ, ◌<◌, ◌≤◌, true, false, List, [], ◌∷◌, map, length, Some, None, ◌==◌, find, Option}
 use Rattle.pid_types.specs.declared.plain.Name.{Name}
 use Rattle.pid_types.specs.declared.plain.Row.{Row}
 use Rattle.pid_types.specs.declared.plain.Space.{Space}
-use Rattle.pid_types.specs.declared.call.Call.{Call}
-use Rattle.pid_types.specs.declared.reply.Reply.{Reply}
-use Rattle.pid_types.specs.declared.reply.Reply.TheVariants.{Forked}
-use Rattle.pid_types.specs.Chains.{climb, contains}
+use Rattle.pid_types.specs.declared.plain.Control.{Control}
+use Rattle.pid_types.specs.Bounds.{greatest_limit}
+use Rattle.pid_types.specs.Membership.{IsIn}
+use Rattle.pid_types.specs.Chains.{climb}
 use Rattle.pid_types.specs.State.{State}
-use Rattle.pid_types.specs.Names.{space_at, path_up, is_within, number, is_numbered, is_member, root_number, same_name, is_live, row_at, names_in_use, taken}
-use Rattle.pid_types.specs.Controls.{control_at, control_path, count, is_limited_below}
-use Rattle.pid_types.specs.Exit.{is_init, parent_number}
-use Rattle.pid_types.specs.Step.{step}
-
--- p of each element against each
-abbrev pub all_pairs : {X : Type 0} → (X → X → Bool) → List X → Bool
-all_pairs p xs = list_all (λ x. list_all (p x) xs) xs
+use Rattle.pid_types.specs.Names.{space_at, path_up, number, root_number, is_live, names_in_use}
+use Rattle.pid_types.specs.Controls.{control_at, control_path}
+use Rattle.pid_types.specs.Exit.{parent_number}
 
 -- each number is below all that follow
-abbrev pub is_strictly_rising : List ℕ → Bool
-is_strictly_rising [] = true
-is_strictly_rising (n ∷ ns) = list_all (nat_lt n) ns && is_strictly_rising ns
+abbrev pub IsRising : List ℕ → Type 0
+IsRising [] = Unit {0}
+IsRising (n ∷ ns) = ((m : ℕ) → IsIn m ns → n < m) × IsRising ns
 
--- whether the names have one number in one namespace
-abbrev pub clash : List Space → Name → Name → Bool
-clash spaces a b = list_any (λ s. is_some (number spaces a s.id) && option_eq ◌==◌ (number spaces a s.id) (number spaces b s.id)) spaces
+-- no number of a namespace names two: names in use that have one number in one namespace are one name
+abbrev pub HasDistinctNumbers : List Row → List Space → Type 0
+HasDistinctNumbers rows spaces =
+    (a b : Name) → IsIn a (names_in_use rows) → IsIn b (names_in_use rows)
+    → (s n : ℕ) → number spaces a s ≡ Some n → number spaces b s ≡ Some n → a ≡ b
 
--- no number names two identifiers
-abbrev pub has_distinct_numbers : State → Bool
-has_distinct_numbers state = all_pairs (λ a b. same_name a b || not (clash state.spaces a b)) (names_in_use state.rows)
-
--- one number in range for each level, and the namespaces on the path are there
-abbrev pub is_well_numbered : State → Name → Bool
-is_well_numbered state name =
-    list_all (λ s. is_some (space_at state.spaces s)) (path_up state.spaces name.space)
-    && (length name.numbers.items == length (path_up state.spaces name.space))
-    && list_all (λ n. nat_lt 0 n && nat_lt n state.pid_max) name.numbers.items
+-- the namespaces on the name's path are there, and it has one number in range for each
+pub record IsWellNumbered (spaces : List Space) (pid_max : ℕ) (name : Name) : Type 0 where
+  pub listed : (x : ℕ) → IsIn x (path_up spaces name.space) → (s : Space) × (space_at spaces x ≡ Some s)
+  pub one_each : length name.numbers.items ≡ length (path_up spaces name.space)
+  pub in_range : (n : ℕ) → IsIn n name.numbers.items → (0 < n) × (n < pid_max)
 
 -- the parent lives, in the row's namespace or around it, and outside it if the row is its init
-abbrev pub has_sound_parent : State → Row → Bool
-has_sound_parent state row =
-    option_map_or
-    (λ parent. list_any (λ r. same_name r.name parent && is_live r) state.rows && is_within state.spaces row.name.space parent.space
-    && not (is_init state row && (parent.space == row.name.space)))
-    row.parent (root_number row.name == 1)
-    && contains (climb (parent_number state.rows) (length state.rows) (root_number row.name)) 1
+pub record IsGoodParent (rows : List Row) (spaces : List Space) (row : Row) (parent : Name) : Type 0 where
+  pub lives : (r : Row) × IsIn r rows × (r.name ≡ parent) × (is_live r ≡ true)
+  pub around : IsIn parent.space (path_up spaces row.name.space)
+  pub outside : number spaces row.name row.name.space ≡ Some 1 → parent.space ≡ row.name.space → ⊥
 
--- its children's namespace is its own or below it, if it is still listed
-abbrev pub has_sound_children_space : State → Row → Bool
-has_sound_children_space state row =
-    is_none (space_at state.spaces row.children_space) || is_within state.spaces row.children_space row.name.space
+-- a row without a parent is number 1, each other row's parent is a good one, and the chain of parents ends at number 1
+pub record HasGoodParents (rows : List Row) (spaces : List Space) (row : Row) : Type 0 where
+  pub first : row.parent ≡ None → root_number row.name ≡ 1
+  pub good : (parent : Name) → row.parent ≡ Some parent → IsGoodParent rows spaces row parent
+  pub chain : IsIn 1 (climb (parent_number rows) (length rows) (root_number row.name))
 
--- the live tasks of the namespace that are number 1 in it
-abbrev pub live_inits : State → ℕ → List Row
-live_inits state s = filter (λ row. is_live row && (row.name.space == s) && is_numbered state.spaces row.name s 1) state.rows
+-- the children's namespace was dropped, or is the row's own or below it
+abbrev pub HasGoodChildrenSpace : List Space → Row → Type 0
+HasGoodChildrenSpace spaces row = (space_at spaces row.children_space ≡ None) ⊎ IsIn row.name.space (path_up spaces row.children_space)
 
--- nothing lives in the namespace, some number there is in use, and all namespaces below it have fallen
-abbrev pub is_sound_fallen : State → ℕ → Bool
-is_sound_fallen state s =
-    list_all (λ row. not (is_member state.spaces s row && is_live row)) state.rows
-    && nat_lt 0 (length (taken state s))
-    && list_all (λ t. not (is_within state.spaces t.id s) || t.fallen) state.spaces
+-- a live task of the namespace is number 1 in it: pid_namespaces(7), "The namespace init process"
+abbrev pub HasLiveInit : List Row → List Space → ℕ → Type 0
+HasLiveInit rows spaces s = (r : Row) × IsIn r rows × (is_live r ≡ true) × (r.name.space ≡ s) × (number spaces r.name s ≡ Some 1)
 
--- a namespace that stands has one live init; a fallen one has none alive and some number in use, and all below it are fallen
-abbrev pub is_sound_space : State → Space → Bool
-is_sound_space state s =
-    if s.fallen then is_sound_fallen state s.id else (length (live_inits state s.id) == 1)
+-- nothing lives in the namespace, and those below it have fallen too
+pub record IsEmptied (rows : List Row) (spaces : List Space) (s : ℕ) : Type 0 where
+  pub ended : (r : Row) → IsIn r rows → is_live r ≡ true → number spaces r.name s ≡ None
+  pub below : (t : Space) → IsIn t spaces → IsIn s (path_up spaces t.id) → t.fallen ≡ true
 
--- the tasks of one group are in one session, that of the task which the group is named after
-abbrev pub has_sound_groups : State → Bool
-has_sound_groups state =
-    all_pairs (λ a b. not (same_name a.group b.group) || same_name a.session b.session) state.rows
-    && all_pairs (λ a b. not (same_name a.group b.name) || same_name a.session b.session) state.rows
+-- the root namespace stands
+abbrev pub RootStands : List Space → Type 0
+RootStands spaces = (s : Space) → IsIn s spaces → s.id ≡ 0 → s.fallen ≡ false
 
--- whether the root namespace and the root control group are there, and have no parent
-abbrev pub has_roots : State → Bool
-has_roots state =
-    option_map_or (λ s. is_none s.parent) (space_at state.spaces 0) false && option_map_or (λ c. is_none c.parent) (control_at state.controls 0) false
+-- the tasks of one group are in one session, that of the task which the group is named after: setpgid(2), setsid(2)
+pub record HasGoodGroups (rows : List Row) : Type 0 where
+  pub together : (a b : Row) → IsIn a rows → IsIn b rows → a.group ≡ b.group → a.session ≡ b.session
+  pub leader : (a b : Row) → IsIn a rows → IsIn b rows → a.group ≡ b.name → a.session ≡ b.session
 
--- the roots are there, the ids rise, each chain ends at the root in time, and homes are there
-abbrev pub has_sound_ids : State → Bool
-has_sound_ids state =
-    has_roots state
-    && is_strictly_rising (map (λ row. root_number row.name) state.rows)
-    && is_strictly_rising (map (λ s. s.id) state.spaces)
-    && is_strictly_rising (map (λ c. c.id) state.controls)
-    && list_all (λ s. contains (path_up state.spaces s.id) 0) state.spaces
-    && list_all (λ c. contains (control_path state.controls c.id) 0) state.controls
-    && list_all (λ row. is_some (control_at state.controls row.home)) state.rows
+-- the ids rise, the root is there without a parent, and each path ends at it
+pub record IsTree (X : Type 0) (id : X → ℕ) (parent : X → Option ℕ) (path : ℕ → List ℕ) (xs : List X) : Type 0 where
+  pub rising : IsRising (map id xs)
+  pub root : (x : X) × (find (λ y. id y == 0) xs ≡ Some x) × (parent x ≡ None)
+  pub chains : (x : X) → IsIn x xs → IsIn 0 (path (id x))
 
--- what every state is that the table can be in
-abbrev pub is_sound : State → Bool
-is_sound state =
-    has_distinct_numbers state
-    && list_all (is_well_numbered state) (names_in_use state.rows)
-    && list_all (has_sound_parent state) state.rows
-    && list_all (has_sound_children_space state) state.rows
-    && list_all (is_sound_space state) state.spaces
-    && has_sound_groups state
-    && has_sound_ids state
+-- the namespaces are a tree
+abbrev pub IsTreeOfSpaces : List Space → Type 0
+IsTreeOfSpaces spaces = IsTree Space (λ s. s.id) (λ s. s.parent) (path_up spaces) spaces
 
--- the same as a fact: two names in use with one number in one namespace are one name
-abbrev pub HasDistinctNumbers : State → Type 0
-HasDistinctNumbers state =
-    (a b : Name) → Contains (names_in_use state.rows) a → Contains (names_in_use state.rows) b
-    → (s n : ℕ) → number state.spaces a s ≡ Some n → number state.spaces b s ≡ Some n → a ≡ b
+-- and so are the control groups
+abbrev pub IsTreeOfControls : List Control → Type 0
+IsTreeOfControls controls = IsTree Control (λ c. c.id) (λ c. c.parent) (control_path controls) controls
 
--- whether no control group from the new task's home to the root is above its limit
-abbrev pub is_within_limits : State → ℕ → Bool
-is_within_limits state root =
-    option_map_or (λ row. list_all (λ c. not (is_limited_below state (count state c) c)) (control_path state.controls row.home)) (row_at state.rows root) false
+-- the root control group has no limit, and no other's is above the greatest that there is
+pub record HasGoodLimit (c : Control) : Type 0 where
+  pub root : c.id ≡ 0 → c.limit ≡ None
+  pub bounded : (limit : ℕ) → c.limit ≡ Some limit → limit ≤ greatest_limit
 
--- the same for the task that the reply tells of
-abbrev pub forked_within_limits : State → Reply → Bool
-forked_within_limits state (Forked child root) = is_within_limits state root
-forked_within_limits state _ = true
+-- what a change of the state keeps before the sweep: all that a sound state is, but that a fallen namespace has a number in use
+pub record IsCoherent (state : State) : Type 0 where
+  pub distinct : HasDistinctNumbers state.rows state.spaces
+  pub numbered : (a : Name) → IsIn a (names_in_use state.rows) → IsWellNumbered state.spaces state.pid_max a
+  pub parents : (r : Row) → IsIn r state.rows → HasGoodParents state.rows state.spaces r
+  pub children : (r : Row) → IsIn r state.rows → HasGoodChildrenSpace state.spaces r
+  pub root : RootStands state.spaces
+  pub standing : (s : Space) → IsIn s state.spaces → s.fallen ≡ false → HasLiveInit state.rows state.spaces s.id
+  pub fallen : (s : Space) → IsIn s state.spaces → s.fallen ≡ true → IsEmptied state.rows state.spaces s.id
+  pub groups : HasGoodGroups state.rows
+  pub rows_rise : IsRising (map (λ r. root_number r.name) state.rows)
+  pub spaces : IsTreeOfSpaces state.spaces
+  pub controls : IsTreeOfControls state.controls
+  pub limits : (c : Control) → IsIn c state.controls → HasGoodLimit c
+  pub homes : (r : Row) → IsIn r state.rows → (c : Control) × (control_at state.controls r.home ≡ Some c)
 
--- whether each fork of the run left the counts within their limits
-abbrev pub forks_within_limits : State → ℕ → List Call → Bool
-forks_within_limits state stamp [] = true
-forks_within_limits state stamp (call ∷ calls) =
-    let o = step state stamp call in forked_within_limits o.state o.reply && forks_within_limits o.state (stamp + 1) calls
+-- the state is sound: it is coherent, and each fallen namespace has a number in use
+pub record IsSound (state : State) : Type 0 where
+  pub coherent : IsCoherent state
+  pub named : (s : Space) → IsIn s state.spaces → s.fallen ≡ true → (a : Name) × (n : ℕ) × IsIn a (names_in_use state.rows) × (number state.spaces a s.id ≡ Some n)
+
+-- all ids of the state, each children's namespace among them, are below the stamp
+pub record IsBelow (stamp : ℕ) (state : State) : Type 0 where
+  pub spaces : (s : Space) → IsIn s state.spaces → s.id < stamp
+  pub controls : (c : Control) → IsIn c state.controls → c.id < stamp
+  pub children : (r : Row) → IsIn r state.rows → r.children_space < stamp

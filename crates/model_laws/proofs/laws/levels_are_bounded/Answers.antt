@@ -1,6 +1,5 @@
 use Rattle.model_laws.proofs.Levels.{levels_bounded}
-use Rattle.model_laws.proofs.SoundTest.{IsSound-from_test}
 use Rattle.model_laws.proofs.laws.levels_are_bounded.Goals as goal
 
 pub returns : goal.returns
-returns c state sound = levels_bounded state (IsSound-from_test state sound)
+returns c state sound = levels_bounded state sound
