@@ -2,9 +2,9 @@
 use Rattle.std.proofs.Common.{ℕ, refl}
 use Rattle.pid_types.specs.State.{State}
 use Rattle.pid_types.specs.Controls.{count}
-use Rattle.pid_types.specs.Replay.{calls_of}
 use Rattle.model_laws.specs.StepLaws.{BoundStays, RunsKeepSoundness}
 use Rattle.model_laws.specs.LimitLaws.{RunsKeepLimits}
+use Rattle.model_laws.specs.ReuseLaws.{NoReuse}
 use Rattle.model_laws.specs.NumberLaws.{NamesHaveNumbers, NoNumberNamesTwo}
 use Rattle.locked_table.specs.Chronicle.{Chronicle, IsKept, first_kept_stamp}
 use Rattle.locked_table.specs.Promise.{CountsSubtrees, KeepsPromise}
@@ -14,8 +14,8 @@ counted : (state : State) → CountsSubtrees state
 unfolding count
 counted state id = refl
 
-pub promise-of : RunsKeepSoundness → BoundStays → RunsKeepLimits → NamesHaveNumbers → NoNumberNamesTwo → (workers : ℕ) (c : Chronicle) → IsKept workers c → KeepsPromise c
-promise-of soundness stays limits numbered distinct workers c k =
+pub promise-of : RunsKeepSoundness → BoundStays → RunsKeepLimits → NoReuse → NamesHaveNumbers → NoNumberNamesTwo → (workers : ℕ) (c : Chronicle) → IsKept workers c → KeepsPromise c
+promise-of soundness stays limits reuse numbered distinct workers c k =
     let present = present-sound soundness workers c k in
     record {
       numbered = λ name s used. numbered c.present name s present.0 used;
@@ -25,6 +25,8 @@ promise-of soundness stays limits numbered distinct workers c k =
       replayed = k.replayed;
       booked = k.counted.booked;
       sound = present.0;
+      reuse = reuse c.opening (first_kept_stamp c) c.entries k.opened.sound k.opened.below k.replayed.run.replays;
+      opened = k.opened;
       below = present.1;
       bound = present-bound stays workers c k;
     }

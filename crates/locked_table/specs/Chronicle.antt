@@ -1,5 +1,5 @@
 -- The record, as contracts see it.
-use Rattle.std.specs.Prelude.{◌≡◌, ℕ, ◌+◌, ◌^◌, ◌<◌, true, List, length, All, sum, count_by, ◌==◌, ◌-◌, slice_index, slice_get, nat_lt, zero, suc, Option, None, if◌then◌else◌}
+use Rattle.std.specs.Prelude.{◌≡◌, ℕ, ◌+◌, ◌^◌, ◌<◌, List, length, All, sum, count_by, ◌==◌, ◌-◌, slice_index, slice_get, nat_lt, zero, suc, Option, None, if◌then◌else◌}
 use Rattle.pid_types.specs.declared.entry.Entry.{Entry}
 use Rattle.pid_types.specs.Settings.{Settings}
 use Rattle.pid_types.specs.State.{State, root_state}

@@ -4,11 +4,11 @@ use Rattle.pid_types.specs.declared.plain.Name.{Name}
 use Rattle.pid_types.specs.Names.{path_up, number, names_in_use}
 use Rattle.pid_types.specs.Controls.{is_below, count}
 use Rattle.pid_types.specs.State.{State}
-use Rattle.pid_types.specs.Replay.{calls_of}
 use Rattle.pid_types.specs.Limits.{ForksStayWithinLimits}
 use Rattle.pid_types.specs.Membership.{IsIn}
 use Rattle.pid_types.specs.Sound.{HasDistinctNumbers, IsSound, IsBelow}
-use Rattle.locked_table.specs.Chronicle.{Chronicle, total, first_kept_stamp, next_stamp, IsReplayed}
+use Rattle.model_laws.specs.ReuseLaws.{ReusesNoNumber}
+use Rattle.locked_table.specs.Chronicle.{Chronicle, total, first_kept_stamp, next_stamp, IsReplayed, IsSoundlyOpened}
 
 -- each identifier in use has a number in each namespace from its own to the root, and in no other
 abbrev pub HasAllNumbers : State → Type 0
@@ -33,6 +33,10 @@ pub record KeepsPromise (c : Chronicle) : Type 0 where
   -- the ledger's book, and so all shares together, is the number of recorded calls
   pub booked : c.booked ≡ total c
   pub sound : IsSound c.present
+  -- while a name is in use, no fork of the kept history gives one of its numbers in the same namespace again
+  pub reuse : ReusesNoNumber c.opening (first_kept_stamp c) c.entries
+  -- the kept history begins in a sound state, whose ids are below the stamps of the kept calls
+  pub opened : IsSoundlyOpened c
   -- no id is ever given again
   pub below : IsBelow (next_stamp c) c.present
   -- the bound of all numbers is the configuration's

@@ -10,7 +10,7 @@ ghost use Rattle.locked_table.specs.Promise.{KeepsPromise};
 ghost use Rattle.locked_table.specs.Place.{AreSeats, AreNew, calls_of_seats};
 
 use crate::seat::Seat;
-use model_laws::laws::{forks_keep_limits, numbers_are_apart};
+use model_laws::laws::{forks_keep_limits, no_reuse, numbers_are_apart};
 use model_laws::soundness::{bound_stays, root_state_is_sound, soundness_is_kept};
 use pid_types::call::Call;
 use pid_types::config::Config;
@@ -110,6 +110,7 @@ impl<L: Ledger, const N: usize> Record<L, N> {
         soundness_is_kept();
         bound_stays();
         forks_keep_limits();
+        no_reuse();
         numbers_are_apart();
         self.first_kept + self.history.len() as u64
     }

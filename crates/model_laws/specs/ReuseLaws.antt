@@ -24,10 +24,15 @@ abbrev pub ShareNumber : State → Name → Name → Type 0
 ShareNumber state a b = (s : ℕ) × (n : ℕ) × (number state.spaces a s ≡ Some n) × (number state.spaces b s ≡ Some n)
 
 -- while a name is in use, from the i-th state to the j-th, no fork makes a row that has one of its numbers in the same namespace
-abbrev pub NoReuse : Type 0
-NoReuse =
-    (opening : State) (first : ℕ) (entries : List Entry) → IsSound opening → IsBelow first opening → Replays opening first entries
-    → (i j : ℕ) → j ≤ length entries → (name : Name) → ((m : ℕ) → i ≤ m → m ≤ j → IsInUse name (state_at opening first entries m))
+abbrev pub ReusesNoNumber : State → ℕ → List Entry → Type 0
+ReusesNoNumber opening first entries =
+    (i j : ℕ) → j ≤ length entries → (name : Name) → ((m : ℕ) → i ≤ m → m ≤ j → IsInUse name (state_at opening first entries m))
     → (k : ℕ) (e : Entry) (child root : ℕ) (row : Row) → i ≤ k → k < j
     → slice_get entries k ≡ Some e → e.reply ≡ Forked child root → row_at (state_at opening first entries (k + 1)).rows root ≡ Some row
     → ShareNumber (state_at opening first entries (k + 1)) name row.name → ⊥
+
+-- so it is in every history that replays from a sound opening
+abbrev pub NoReuse : Type 0
+NoReuse =
+    (opening : State) (first : ℕ) (entries : List Entry) → IsSound opening → IsBelow first opening → Replays opening first entries
+    → ReusesNoNumber opening first entries
