@@ -10,8 +10,8 @@ use Rattle.pid_types.specs.Outcome.{Outcome, answered, sweep}
 use Rattle.pid_types.specs.Fork.{with_cursors}
 use Rattle.pid_types.specs.Exit.{fall}
 use Rattle.pid_types.specs.Wait.{without_row}
-use Rattle.pid_types.specs.Groups.{with_group, with_session}
-use Rattle.pid_types.specs.Changes.{with_executed, with_control, without_control, with_limit, with_home, count_tasks, with_children_space, with_subreaper}
+use Rattle.pid_types.specs.Names.{with_row}
+use Rattle.pid_types.specs.Changes.{with_control, without_control, with_limit, count_tasks}
 use Rattle.pid_types.specs.Step.{step}
 use Rattle.pid_types.specs.Replay.{state_after}
 use Rattle.model_laws.proofs.Calls.{for_found_cases, fork_cases, exit_cases, wait_cases, set_pgid_cases, set_sid_cases, exec_cases, make_control_cases, remove_control_cases, set_limit_cases, move_task_cases, join_cases, set_subreaper_cases}
@@ -27,7 +27,7 @@ count_tasks_bound state id =
     (record { is = refl }) (λ c found. record { is = refl })
 
 call_bound : (state : State) (stamp : ℕ) (call : Call) → HasBound state.pid_max (step state stamp call)
-unfolding step sweep with_cursors fall without_row with_group with_session with_executed with_control without_control with_limit with_home with_children_space with_subreaper
+unfolding step sweep with_cursors fall without_row with_row with_control without_control with_limit
 call_bound state stamp (Fork caller new_space) =
     fork_cases (HasBound state.pid_max) state stamp caller new_space (λ r. record { is = refl }) (λ row found stands may. record { is = refl })
     (λ row found stands shallow here may. record { is = refl })

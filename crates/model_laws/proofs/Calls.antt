@@ -12,15 +12,15 @@ use Rattle.pid_types.specs.declared.reply.Reply.TheVariants.{Forked, Done, Numbe
 use Rattle.pid_types.specs.declared.reply.Refusal.{Refusal}
 use Rattle.pid_types.specs.declared.reply.Refusal.TheVariants.{NoCaller, NoTask, NoChild, NoNumber, PidsLimit, SpaceFallen, TooDeep, Elsewhere, BadGroup, OtherSession, IsLeader, NoGroup, Executed, RootInit, NoControl, ControlBusy, RootControl, BadLimit, ControlDepth}
 use Rattle.pid_types.specs.State.{State}
-use Rattle.pid_types.specs.Names.{path_up, level, root_number, number_or_zero, same_name, is_parent, is_live, live_row, task_at}
+use Rattle.pid_types.specs.Names.{path_up, level, root_number, number_or_zero, same_name, is_parent, is_live, live_row, task_at, with_row}
 use Rattle.pid_types.specs.Draw.{draw}
 use Rattle.pid_types.specs.Controls.{control_at, control_path, passed_limit}
 use Rattle.pid_types.specs.Outcome.{Outcome, answered, refused, changed, for_found, unless_found, refuse_if}
 use Rattle.pid_types.specs.Fork.{fork, fork_into, with_space, child_of, with_child, is_gone}
 use Rattle.pid_types.specs.Exit.{is_init, rows_after_exit, fall, exit}
 use Rattle.pid_types.specs.Wait.{least_row, end_of, without_row, ended_children, wait}
-use Rattle.pid_types.specs.Groups.{is_negative, target_of, group_for, with_group, set_group_of, set_pgid, has_members, with_session, set_sid}
-use Rattle.pid_types.specs.Changes.{with_executed, exec, with_control, make_control, is_busy, without_control, remove_control, with_limit, set_limit, with_home, move_task, with_children_space, join, with_subreaper, set_subreaper}
+use Rattle.pid_types.specs.Groups.{is_negative, target_of, group_for, set_group, set_group_of, set_pgid, has_members, start_session, set_sid}
+use Rattle.pid_types.specs.Changes.{set_executed, exec, with_control, make_control, is_busy, without_control, remove_control, with_limit, set_limit, set_home, move_task, set_children_space, join, set_mark, set_subreaper}
 
 -- ---- the combinators of refusals
 
@@ -136,7 +136,7 @@ pub set_pgid_cases : (P : Outcome → Type 0) (state : State) (n : ℕ) (pid pgi
     → (is_parent caller.name target && not (same_name target.session caller.session)) ≡ false
     → not (is_parent caller.name target || same_name target.name caller.name) ≡ false
     → group_for state caller target pgid ≡ Some group
-    → P (changed (with_group state target.name group) Done))
+    → P (changed (with_row state target.name (set_group group)) Done))
     → P (set_pgid state n pid pgid)
 unfolding set_pgid set_group_of
 set_pgid_cases P state n pid pgid refusal sets =
@@ -154,7 +154,7 @@ set_pgid_cases P state n pid pgid refusal sets =
 pub set_sid_cases : (P : Outcome → Type 0) (state : State) (n : ℕ)
     → ((r : Refusal) → P (refused state r))
     → ((caller : Row) → live_row state.rows n ≡ Some caller → has_members state caller.name ≡ false
-    → P (changed (with_session state caller.name) (Number (number_or_zero state.spaces caller.name caller.name.space))))
+    → P (changed (with_row state caller.name start_session) (Number (number_or_zero state.spaces caller.name caller.name.space))))
     → P (set_sid state n)
 unfolding set_sid
 set_sid_cases P state n refusal leads =
@@ -167,7 +167,7 @@ set_sid_cases P state n refusal leads =
 -- an exec is refused, or done
 pub exec_cases : (P : Outcome → Type 0) (state : State) (n : ℕ)
     → ((r : Refusal) → P (refused state r))
-    → ((caller : Row) → live_row state.rows n ≡ Some caller → P (changed (with_executed state caller.name) Done))
+    → ((caller : Row) → live_row state.rows n ≡ Some caller → P (changed (with_row state caller.name set_executed) Done))
     → P (exec state n)
 unfolding exec
 exec_cases P state n refusal done = for_found_cases P state (live_row state.rows n) NoCaller _ (refusal NoCaller) done
@@ -212,7 +212,7 @@ set_limit_cases P state id limit refusal sets =
 -- a move is refused, or done
 pub move_task_cases : (P : Outcome → Type 0) (state : State) (n id : ℕ)
     → ((r : Refusal) → P (refused state r))
-    → ((task : Row) (c : Control) → live_row state.rows n ≡ Some task → control_at state.controls id ≡ Some c → P (changed (with_home state task.name id) Done))
+    → ((task : Row) (c : Control) → live_row state.rows n ≡ Some task → control_at state.controls id ≡ Some c → P (changed (with_row state task.name (set_home id)) Done))
     → P (move_task state n id)
 unfolding move_task
 move_task_cases P state n id refusal moves =
@@ -224,7 +224,7 @@ move_task_cases P state n id refusal moves =
 pub join_cases : (P : Outcome → Type 0) (state : State) (n target : ℕ)
     → ((r : Refusal) → P (refused state r))
     → ((caller row : Row) → live_row state.rows n ≡ Some caller → task_at state caller.name.space target ≡ Some row → is_live row ≡ true
-    → P (changed (with_children_space state caller.name row.name.space) Done))
+    → P (changed (with_row state caller.name (set_children_space row.name.space)) Done))
     → P (join state n target)
 unfolding join
 join_cases P state n target refusal joins =
@@ -236,7 +236,7 @@ join_cases P state n target refusal joins =
 -- the subreaper's mark is refused, or set
 pub set_subreaper_cases : (P : Outcome → Type 0) (state : State) (n : ℕ) (on : Bool)
     → ((r : Refusal) → P (refused state r))
-    → ((caller : Row) → live_row state.rows n ≡ Some caller → P (changed (with_subreaper state caller.name on) Done))
+    → ((caller : Row) → live_row state.rows n ≡ Some caller → P (changed (with_row state caller.name (set_mark on)) Done))
     → P (set_subreaper state n on)
 unfolding set_subreaper
 set_subreaper_cases P state n on refusal sets = for_found_cases P state (live_row state.rows n) NoCaller _ (refusal NoCaller) sets

@@ -11,7 +11,7 @@ use Rattle.pid_types.specs.Chains.{climb}
 use Rattle.pid_types.specs.State.{State}
 use Rattle.pid_types.specs.Names.{is_live}
 use Rattle.pid_types.specs.Controls.{control_at, parent_control, control_path}
-use Rattle.pid_types.specs.Changes.{with_control, make_control, is_busy, rehomed, without_control, remove_control, limited, with_limit, set_limit}
+use Rattle.pid_types.specs.Changes.{with_control, make_control, is_busy, rehome, without_control, remove_control, limited, with_limit, set_limit}
 use Rattle.pid_types.specs.Membership.{IsIn}
 use Rattle.pid_types.specs.Sound.{IsTreeOfControls, HasGoodLimit, IsCoherent, IsSound, IsBelow}
 use Rattle.model_laws.proofs.Lists.{IsIn-append, IsIn-from_filter, IsIn-from_map, find-filter, list_any-from_one}
@@ -206,28 +206,28 @@ remove_control_keeps state stamp id sound below =
     let up = parent_listed state.controls tree id parent c found under in
     let differs : parent ≡ id → ⊥ = λ e. childless c (control_at-Some state.controls id c found).0 (under ∙ ap Some e) in
     Keeps-changed stamp (without_control state id parent) _
-    (IsCoherent-controls (record state { rows = map (rehomed id parent) state.rows }) (others state.controls tree id childless)
-    (IsCoherent-map_rows state (rehomed id parent) sound.coherent (record {
+    (IsCoherent-controls (record state { rows = map (rehome id parent) state.rows }) (others state.controls tree id childless)
+    (IsCoherent-map_rows state (rehome id parent) sound.coherent (record {
       names = λ r. refl;
       parents = λ r. refl;
       lives = λ r. refl;
       group = λ r i. group_in_use state.rows r i;
       session = λ r i. session_in_use state.rows r i;
       children = sound.coherent.children;
-      groups = HasGoodGroups-map state.rows (rehomed id parent) (λ r. refl) (λ r. refl) (λ r. refl) sound.coherent.groups;
+      groups = HasGoodGroups-map state.rows (rehome id parent) (λ r. refl) (λ r. refl) (λ r. refl) sound.coherent.groups;
       homes =
           λ r i. cond_both (r.home == id) parent r.home (λ x. (d : Control) × (control_at state.controls x ≡ Some d)) (λ e. up) (λ e. sound.coherent.homes r i);
     }))
     (IsTreeOfControls-others state.controls tree id childless root)
     (λ d i. sound.coherent.limits d (IsIn-from_filter (λ c. not (c.id == id)) d state.controls i).0)
-    (each_of_map (λ r. (d : Control) × (control_at (others state.controls tree id childless) r.home ≡ Some d)) (rehomed id parent) state.rows (λ r i.
+    (each_of_map (λ r. (d : Control) × (control_at (others state.controls tree id childless) r.home ≡ Some d)) (rehome id parent) state.rows (λ r i.
     cond_both (r.home == id) parent r.home (λ x. (d : Control) × (control_at (others state.controls tree id childless) x ≡ Some d))
     (λ e. (up.0, other_at state.controls tree id childless parent differs ∙ up.1))
     (λ e. let h = sound.coherent.homes r i in (h.0, other_at state.controls tree id childless r.home (eqb-false r.home id e) ∙ h.1)))))
     (record {
       spaces = λ s i. omega (arith, below.spaces s i);
       controls = λ d i. omega (arith, below.controls d (IsIn-from_filter (λ c. not (c.id == id)) d state.controls i).0);
-      children = each_of_map (λ r. r.children_space < stamp + 1) (rehomed id parent) state.rows (λ r i. omega (arith, below.children r i));
+      children = each_of_map (λ r. r.children_space < stamp + 1) (rehome id parent) state.rows (λ r i. omega (arith, below.children r i));
     }))
 
 -- ---- a limit

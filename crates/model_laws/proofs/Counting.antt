@@ -6,6 +6,7 @@ use Rattle.std.proofs.lemmas.Bool.{cases_Bool, not-true, eqb-true, eqb-false, no
 use Rattle.pid_types.specs.declared.call.Call.{Call}
 use Rattle.pid_types.specs.declared.call.Call.TheVariants.{Fork, GetPid, NsPid, Exec, Exit, Wait, GetPpid, SetPgid, SetSid, MakeControl, RemoveControl, SetLimit, Move, Count, GetPgid, GetSid, Next, Join, SetSubreaper}
 use Rattle.pid_types.specs.declared.call.Which.{Which}
+use Rattle.pid_types.specs.declared.plain.Name.{Name}
 use Rattle.pid_types.specs.declared.plain.Row.{Row}
 use Rattle.pid_types.specs.declared.plain.Ended.{Ended}
 use Rattle.pid_types.specs.declared.plain.Ended.TheVariants.{Exited}
@@ -15,20 +16,20 @@ use Rattle.pid_types.specs.declared.reply.Reply.TheVariants.{Forked, Done, Reape
 use Rattle.pid_types.specs.declared.reply.Refusal.TheVariants.{NoControl}
 use Rattle.pid_types.specs.Chains.{contains}
 use Rattle.pid_types.specs.State.{State}
-use Rattle.pid_types.specs.Names.{root_number, same_name, is_live, live_row, number_or_zero}
+use Rattle.pid_types.specs.Names.{root_number, same_name, is_live, live_row, number_or_zero, on_row, with_row}
 use Rattle.pid_types.specs.Controls.{control_at, control_path, count, is_below}
 use Rattle.pid_types.specs.Outcome.{Outcome, sweep, answered, changed, for_found}
 use Rattle.pid_types.specs.Fork.{with_space, child_of}
 use Rattle.pid_types.specs.Exit.{is_init, goes_in_fall, row_after_exit, rows_after_exit, row_after_fall, rows_after_fall, new_parent, fall}
 use Rattle.pid_types.specs.Wait.{end_of, without_row}
-use Rattle.pid_types.specs.Groups.{in_group, with_group, leading, with_session}
-use Rattle.pid_types.specs.Changes.{executed_by, with_executed, with_control, is_busy, rehomed, without_control, limited, with_limit, moved_home, with_home, count_tasks, joined, with_children_space, marked, with_subreaper}
+use Rattle.pid_types.specs.Groups.{set_group, start_session}
+use Rattle.pid_types.specs.Changes.{set_executed, with_control, is_busy, rehome, without_control, limited, with_limit, set_home, count_tasks, set_children_space, set_mark}
 use Rattle.pid_types.specs.Step.{step}
 use Rattle.pid_types.specs.Membership.{IsIn}
 use Rattle.pid_types.specs.Sound.{IsRising, IsTreeOfControls, IsSound, IsBelow}
 use Rattle.model_laws.specs.CountLaws.{one_if, may_change_counts}
 use Rattle.model_laws.proofs.Lists.{IsIn-map, IsIn-from_filter, IsIn-from_contains, contains-from_IsIn, filter-same, filter-all}
-use Rattle.model_laws.proofs.Names.{same_name-true, same_name-refl}
+use Rattle.model_laws.proofs.Names.{on_row-keeps, same_name-true, same_name-refl}
 use Rattle.model_laws.proofs.Trees.{control_to_root, control_at-Some, live_row-Some}
 use Rattle.model_laws.proofs.Calls.{forked, fork_cases, exit_cases, wait_cases, set_pgid_cases, set_sid_cases, exec_cases, make_control_cases, remove_control_cases, set_limit_cases, move_task_cases, join_cases, set_subreaper_cases}
 use Rattle.model_laws.proofs.EndsKept.{reaped_row}
@@ -201,21 +202,21 @@ record MovesOne (state : State) (task : Row) (id : ℕ) (o : Outcome) : Type 0 w
 
 -- those who are not the task count as before
 count-moved : (state : State) → IsSound state → (task : Row) (id c : ℕ) → IsIn task state.rows
-    → count (with_home state task.name id) c + one_if (is_below state.controls task.home c) ≡ count state c + one_if (is_below state.controls id c)
-unfolding count with_home
+    → count (with_row state task.name (set_home id)) c + one_if (is_below state.controls task.home c) ≡ count state c + one_if (is_below state.controls id c)
+unfolding count with_row
 count-moved state sound task id c i =
     let here : ℕ → Bool = λ home. is_below state.controls home c in
     let before : Row → Bool = λ r. here r.home in
-    let after : Row → Bool = λ r. here (moved_home task.name id r).home in
+    let after : Row → Bool = λ r. here (on_row task.name (set_home id) r).home in
     let others : List Row = filter (λ r. not (same_name r.name task.name)) state.rows in
     let a : length (filter before state.rows) ≡ length (filter before others) + one_if (before task) = length-filter-without before state.rows sound.coherent.rows_rise task i in
     let b : length (filter after state.rows) ≡ length (filter after others) + one_if (after task) = length-filter-without after state.rows sound.coherent.rows_rise task i in
-    let m : length (filter before (map (moved_home task.name id) state.rows)) ≡ length (filter after state.rows) = length-filter-map before (moved_home task.name id) state.rows in
+    let m : length (filter before (map (on_row task.name (set_home id)) state.rows)) ≡ length (filter after state.rows) = length-filter-map before (on_row task.name (set_home id)) state.rows in
     let same : filter after others ≡ filter before others = filter-same after before others (λ r j.
     let f = IsIn-from_filter (λ r. not (same_name r.name task.name)) r state.rows j in
-    ap (λ x. here (if x then id else r.home)) (not-true (same_name r.name task.name) f.1)) in
+    ap (λ x. here (if x then set_home id r else r).home) (not-true (same_name r.name task.name) f.1)) in
     let l : length (filter after others) ≡ length (filter before others) = ap length same in
-    let new : one_if (after task) ≡ one_if (here id) = ap (λ x. one_if (here (if x then id else task.home))) (same_name-refl task.name task.name refl) in
+    let new : one_if (after task) ≡ one_if (here id) = ap (λ x. one_if (here (if x then set_home id task else task).home)) (same_name-refl task.name task.name refl) in
     omega arith
 
 -- so does every move that is answered
@@ -226,10 +227,10 @@ pub move_counts_both : (state : State) (stamp n id : ℕ) (task : Row) → IsSou
 unfolding step
 move_counts_both state stamp n id task sound found told =
     (move_task_cases (MovesOne state task id) state n id (λ r. record { both = λ e. absurd (cc) })
-    (λ other g there at. subst (λ (z : Row). MovesOne state z id (changed (with_home state other.name id) Done)) (let same : other ≡ task = cc in same) (one other (live_row-Some state.rows n other there).0))).both told
+    (λ other g there at. subst (λ (z : Row). MovesOne state z id (changed (with_row state other.name (set_home id)) Done)) (let same : other ≡ task = cc in same) (one other (live_row-Some state.rows n other there).0))).both told
   where
-    one : (other : Row) → IsIn other state.rows → MovesOne state other id (changed (with_home state other.name id) Done)
-    one other i = record { both = λ e c. ap (λ k. k + one_if (is_below state.controls other.home c)) (count-swept (with_home state other.name id) c) ∙ count-moved state sound other id c i }
+    one : (other : Row) → IsIn other state.rows → MovesOne state other id (changed (with_row state other.name (set_home id)) Done)
+    one other i = record { both = λ e c. ap (λ k. k + one_if (is_below state.controls other.home c)) (count-swept (with_row state other.name (set_home id)) c) ∙ count-moved state sound other id c i }
 
 -- ---- nothing else
 
@@ -250,6 +251,12 @@ CountsSame-map state c f reply homes = record {
       length-filter-map (λ r. is_below state.controls r.home c) f state.rows
       ∙ ap length (filter-same (λ r. is_below state.controls (f r).home c) (λ r. is_below state.controls r.home c) state.rows (λ r i. ap (λ x. is_below state.controls x c) (homes r)));
 }
+
+-- a change of one row that does not change its home
+CountsSame-on_row : (state : State) (c : ℕ) (name : Name) (change : Row → Row) (reply : Reply) → ((r : Row) → (change r).home ≡ r.home)
+    → CountsSame state c (changed (with_row state name change) reply)
+unfolding with_row
+CountsSame-on_row state c name change reply homes = CountsSame-map state c (on_row name change) reply (on_row-keeps name change (λ r. r.home) homes)
 
 -- a new control group changes no other count
 CountsSame-made : (state : State) → IsSound state → (stamp : ℕ) → IsBelow stamp state → (parent c : ℕ) (reply : Reply)
@@ -292,8 +299,8 @@ CountsSame-removed state sound id parent c g reply found under idle = record {
       let differs : c ≡ id → ⊥ = λ same.
       let gone = control_at-Some (others state.controls tree id childless) c h e in
       eqb-false h.id id (not-true (h.id == id) (IsIn-from_filter (λ y. not (y.id == id)) h state.controls gone.0).1) (gone.1 ∙ same) in
-      length-filter-map (λ r. is_below (others state.controls tree id childless) r.home c) (rehomed id parent) state.rows
-      ∙ ap length (filter-same (λ r. is_below (others state.controls tree id childless) (rehomed id parent r).home c) (λ r. is_below state.controls r.home c) state.rows (λ r i. home differs r.home (r.home == id) refl));
+      length-filter-map (λ r. is_below (others state.controls tree id childless) r.home c) (rehome id parent) state.rows
+      ∙ ap length (filter-same (λ r. is_below (others state.controls tree id childless) (rehome id parent r).home c) (λ r. is_below state.controls r.home c) state.rows (λ r i. home differs r.home (r.home == id) refl));
 }
   where
     tree : IsTreeOfControls state.controls
@@ -320,12 +327,12 @@ CountsSame-removed state sound id parent c g reply found under idle = record {
 -- no other call changes a count
 nothing_else : (state : State) (stamp : ℕ) (call : Call) → IsSound state → IsBelow stamp state → may_change_counts state call ≡ false
     → (c : ℕ) → CountsSame state c (step state stamp call)
-unfolding step with_executed with_subreaper with_children_space with_group with_session rows_after_exit count_tasks
+unfolding step rows_after_exit count_tasks
 nothing_else state stamp (Fork caller new_space) sound below quiet c = absurd (cc)
 nothing_else state stamp (GetPid caller) sound below quiet c = CountsSame-still state c _
 nothing_else state stamp (NsPid caller target) sound below quiet c = CountsSame-still state c _
 nothing_else state stamp (Exec caller) sound below quiet c =
-    exec_cases (CountsSame state c) state caller (λ r. CountsSame-still state c _) (λ row found. CountsSame-map state c (executed_by row.name) _ (λ r. refl))
+    exec_cases (CountsSame state c) state caller (λ r. CountsSame-still state c _) (λ row found. CountsSame-on_row state c row.name set_executed _ (λ r. refl))
 nothing_else state stamp (Exit caller status) sound below quiet c =
     exit_cases (CountsSame state c) state caller status (λ r. CountsSame-still state c _)
     (λ row found deep one. let fell : may_change_counts state (Exit caller status) ≡ true = ap (λ o. option_map_or (is_init state) o false) found ∙ one in absurd (cc))
@@ -333,9 +340,9 @@ nothing_else state stamp (Exit caller status) sound below quiet c =
 nothing_else state stamp (Wait caller which) sound below quiet c = absurd (cc)
 nothing_else state stamp (GetPpid caller) sound below quiet c = CountsSame-still state c _
 nothing_else state stamp (SetPgid caller pid pgid) sound below quiet c =
-    set_pgid_cases (CountsSame state c) state caller pid pgid (λ r. CountsSame-still state c _) (λ row target group found aimed same own there. CountsSame-map state c (in_group target.name group) _ (λ r. refl))
+    set_pgid_cases (CountsSame state c) state caller pid pgid (λ r. CountsSame-still state c _) (λ row target group found aimed same own there. CountsSame-on_row state c target.name (set_group group) _ (λ r. refl))
 nothing_else state stamp (SetSid caller) sound below quiet c =
-    set_sid_cases (CountsSame state c) state caller (λ r. CountsSame-still state c _) (λ row found none. CountsSame-map state c (leading row.name) _ (λ r. refl))
+    set_sid_cases (CountsSame state c) state caller (λ r. CountsSame-still state c _) (λ row found none. CountsSame-on_row state c row.name start_session _ (λ r. refl))
 nothing_else state stamp (MakeControl parent) sound below quiet c =
     make_control_cases (CountsSame state c) state stamp parent (λ r. CountsSame-still state c _) (λ g found shallow. CountsSame-made state sound stamp below parent c _)
 nothing_else state stamp (RemoveControl id) sound below quiet c =
@@ -352,9 +359,9 @@ nothing_else state stamp (GetPgid caller pid) sound below quiet c = CountsSame-s
 nothing_else state stamp (GetSid caller pid) sound below quiet c = CountsSame-still state c _
 nothing_else state stamp (Next caller kind from) sound below quiet c = CountsSame-still state c _
 nothing_else state stamp (Join caller target) sound below quiet c =
-    join_cases (CountsSame state c) state caller target (λ r. CountsSame-still state c _) (λ row target found there live. CountsSame-map state c (joined row.name target.name.space) _ (λ r. refl))
+    join_cases (CountsSame state c) state caller target (λ r. CountsSame-still state c _) (λ row target found there live. CountsSame-on_row state c row.name (set_children_space target.name.space) _ (λ r. refl))
 nothing_else state stamp (SetSubreaper caller on) sound below quiet c =
-    set_subreaper_cases (CountsSame state c) state caller on (λ r. CountsSame-still state c _) (λ row found. CountsSame-map state c (marked row.name on) _ (λ r. refl))
+    set_subreaper_cases (CountsSame state c) state caller on (λ r. CountsSame-still state c _) (λ row found. CountsSame-on_row state c row.name (set_mark on) _ (λ r. refl))
 
 -- the same, as an equation
 pub counts_same : (state : State) (stamp : ℕ) (call : Call) → IsSound state → IsBelow stamp state → may_change_counts state call ≡ false

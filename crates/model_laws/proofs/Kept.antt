@@ -1,21 +1,21 @@
 -- Calls that change fields of rows leave a sound state.
 use Rattle.std.proofs.Common.{◌≡◌, ℕ, ℤ, pos, negsuc, ◌+◌, ◌<◌, Bool, true, false, ◌&&◌, ◌||◌, not, ◌==◌, List, map, Option, Some, None, refl, sym, ap, ◌∙◌, subst, ◌⊎◌, inl, inr, arith}
 use Rattle.std.specs.Prelude.{find, option_map, if◌then◌else◌}
-use Rattle.std.proofs.lemmas.Bool.{cases_Bool, cond_both, and_parts, or_cases, not-false}
+use Rattle.std.proofs.lemmas.Bool.{cases_Bool, and_parts, or_cases, not-false}
 use Rattle.pid_types.specs.declared.plain.Name.{Name}
 use Rattle.pid_types.specs.declared.plain.Row.{Row}
 use Rattle.pid_types.specs.declared.plain.Control.{Control}
 use Rattle.pid_types.specs.declared.reply.Reply.{Reply}
 use Rattle.pid_types.specs.State.{State}
-use Rattle.pid_types.specs.Names.{is_live, space_at, path_up, is_numbered, same_name, is_parent, task_at, names_in_use}
+use Rattle.pid_types.specs.Names.{is_live, path_up, is_numbered, same_name, is_parent, task_at, names_in_use, on_row, with_row}
 use Rattle.pid_types.specs.Controls.{control_at}
 use Rattle.pid_types.specs.Outcome.{Outcome, sweep, answered, changed}
-use Rattle.pid_types.specs.Groups.{target_of, session_group, group_for, in_group, with_group, set_pgid, has_members, leading, with_session, set_sid}
-use Rattle.pid_types.specs.Changes.{executed_by, with_executed, exec, moved_home, with_home, move_task, joined, with_children_space, join, marked, with_subreaper, set_subreaper}
+use Rattle.pid_types.specs.Groups.{target_of, session_group, group_for, set_group, set_pgid, has_members, start_session, set_sid}
+use Rattle.pid_types.specs.Changes.{set_executed, exec, set_home, move_task, set_children_space, join, set_mark, set_subreaper}
 use Rattle.pid_types.specs.Membership.{IsIn}
 use Rattle.pid_types.specs.Sound.{HasGoodChildrenSpace, HasGoodGroups, IsCoherent, IsSound, IsBelow}
 use Rattle.model_laws.proofs.Lists.{IsIn-from_map, find-Some, list_any-from_one}
-use Rattle.model_laws.proofs.Names.{same_name-true, same_name-refl, own_name_in_use, group_in_use, session_in_use, number-within, is_numbered-true}
+use Rattle.model_laws.proofs.Names.{on_row-keeps, on_row-both, same_name-true, same_name-refl, own_name_in_use, group_in_use, session_in_use, number-within, is_numbered-true}
 use Rattle.model_laws.proofs.Trees.{space_at-Some, same_row, live_row-Some, path_first}
 use Rattle.model_laws.proofs.Sweeps.{from_kept, IsSound-sweep}
 use Rattle.model_laws.proofs.RowMaps.{KeepsRows, IsCoherent-map_rows, HasGoodGroups-map, each_of_map}
@@ -64,24 +64,25 @@ Keeps-map_rows stamp state f reply sound below keeps children =
       children = each_of_map (λ r. r.children_space < stamp) f state.rows children;
     }))
 
--- a change of rows that keeps whose they are: their names, parents, lives, groups and sessions
-Keeps-whose : (stamp : ℕ) (state : State) (f : Row → Row) (reply : Reply) → IsSound state → IsBelow stamp state
-    → ((r : Row) → (f r).name ≡ r.name) → ((r : Row) → (f r).parent ≡ r.parent) → ((r : Row) → is_live (f r) ≡ is_live r)
-    → ((r : Row) → (f r).group ≡ r.group) → ((r : Row) → (f r).session ≡ r.session)
-    → ((r : Row) → IsIn r state.rows → HasGoodChildrenSpace state.spaces (f r))
-    → ((r : Row) → IsIn r state.rows → (c : Control) × (control_at state.controls (f r).home ≡ Some c))
-    → ((r : Row) → IsIn r state.rows → (f r).children_space < stamp) → Keeps stamp (changed (record state { rows = map f state.rows }) reply)
-Keeps-whose stamp state f reply sound below names parents lives groups sessions children homes below_stamp =
-    Keeps-map_rows stamp state f reply sound below (record {
-      names = names;
-      parents = parents;
-      lives = lives;
-      group = λ r i. subst (λ a. IsIn a (names_in_use state.rows)) (sym (groups r)) (group_in_use state.rows r i);
-      session = λ r i. subst (λ a. IsIn a (names_in_use state.rows)) (sym (sessions r)) (session_in_use state.rows r i);
-      children = children;
-      groups = HasGoodGroups-map state.rows f names groups sessions sound.coherent.groups;
-      homes = homes;
-    }) below_stamp
+-- a change of one task's row that keeps whose it is: its name, parent, life, group and session
+Keeps-on_row : (stamp : ℕ) (state : State) (name : Name) (change : Row → Row) (reply : Reply) → IsSound state → IsBelow stamp state
+    → ((r : Row) → (change r).name ≡ r.name) → ((r : Row) → (change r).parent ≡ r.parent) → ((r : Row) → is_live (change r) ≡ is_live r)
+    → ((r : Row) → (change r).group ≡ r.group) → ((r : Row) → (change r).session ≡ r.session)
+    → ((r : Row) → IsIn r state.rows → r.name ≡ name → HasGoodChildrenSpace state.spaces (change r))
+    → ((r : Row) → IsIn r state.rows → (c : Control) × (control_at state.controls (change r).home ≡ Some c))
+    → ((r : Row) → IsIn r state.rows → (change r).children_space < stamp) → Keeps stamp (changed (with_row state name change) reply)
+unfolding with_row
+Keeps-on_row stamp state name change reply sound below names parents lives groups sessions children homes below_stamp =
+    Keeps-map_rows stamp state (on_row name change) reply sound below (record {
+      names = on_row-keeps name change (λ r. r.name) names;
+      parents = on_row-keeps name change (λ r. r.parent) parents;
+      lives = on_row-keeps name change (λ r. is_live r) lives;
+      group = λ r i. subst (λ a. IsIn a (names_in_use state.rows)) (sym (on_row-keeps name change (λ r. r.group) groups r)) (group_in_use state.rows r i);
+      session = λ r i. subst (λ a. IsIn a (names_in_use state.rows)) (sym (on_row-keeps name change (λ r. r.session) sessions r)) (session_in_use state.rows r i);
+      children = λ r i. on_row-both (HasGoodChildrenSpace state.spaces) name change r (children r i) (sound.coherent.children r i);
+      groups = HasGoodGroups-map state.rows (on_row name change) (on_row-keeps name change (λ r. r.name) names) (on_row-keeps name change (λ r. r.group) groups) (on_row-keeps name change (λ r. r.session) sessions) sound.coherent.groups;
+      homes = λ r i. on_row-both (λ x. (c : Control) × (control_at state.controls x.home ≡ Some c)) name change r (λ e. homes r i) (sound.coherent.homes r i);
+    }) (λ r i. on_row-both (λ x. x.children_space < stamp) name change r (λ e. below_stamp r i) (below.children r i))
 
 -- either the row has the name, or it has not
 name_cases : (r : Row) (name : Name) → ((same_name r.name name ≡ true) × (r.name ≡ name)) ⊎ (same_name r.name name ≡ false)
@@ -91,53 +92,37 @@ name_cases r name = elim (cases_Bool (same_name r.name name)) [ inl e ↦ inl (e
 
 -- an exec leaves a sound state
 pub exec_keeps : (state : State) (stamp n : ℕ) → IsSound state → IsBelow stamp state → Keeps stamp (exec state n)
-unfolding with_executed
 exec_keeps state stamp n sound below =
     exec_cases (Keeps stamp) state n (λ r. Keeps-same stamp state _ sound below) (λ caller found.
-    Keeps-whose stamp state (executed_by caller.name) _ sound below (λ r. refl) (λ r. refl) (λ r. refl) (λ r. refl) (λ r. refl)
-    sound.coherent.children sound.coherent.homes below.children)
+    Keeps-on_row stamp state caller.name set_executed _ sound below (λ r. refl) (λ r. refl) (λ r. refl) (λ r. refl) (λ r. refl)
+    (λ r i e. sound.coherent.children r i) sound.coherent.homes below.children)
 
 -- and so does the subreaper's mark
 pub set_subreaper_keeps : (state : State) (stamp n : ℕ) (on : Bool) → IsSound state → IsBelow stamp state → Keeps stamp (set_subreaper state n on)
-unfolding with_subreaper
 set_subreaper_keeps state stamp n on sound below =
     set_subreaper_cases (Keeps stamp) state n on (λ r. Keeps-same stamp state _ sound below) (λ caller found.
-    Keeps-whose stamp state (marked caller.name on) _ sound below (λ r. refl) (λ r. refl) (λ r. refl) (λ r. refl) (λ r. refl)
-    sound.coherent.children sound.coherent.homes below.children)
+    Keeps-on_row stamp state caller.name (set_mark on) _ sound below (λ r. refl) (λ r. refl) (λ r. refl) (λ r. refl) (λ r. refl)
+    (λ r i e. sound.coherent.children r i) sound.coherent.homes below.children)
 
 -- a move does
 pub move_task_keeps : (state : State) (stamp n id : ℕ) → IsSound state → IsBelow stamp state → Keeps stamp (move_task state n id)
-unfolding with_home
 move_task_keeps state stamp n id sound below =
     move_task_cases (Keeps stamp) state n id (λ r. Keeps-same stamp state _ sound below) (λ task c found there.
-    Keeps-whose stamp state (moved_home task.name id) _ sound below (λ r. refl) (λ r. refl) (λ r. refl) (λ r. refl) (λ r. refl)
-    sound.coherent.children (λ r i. cond_both (same_name r.name task.name) id r.home (λ x. (d : Control) × (control_at state.controls x ≡ Some d)) (λ e. (c, there)) (λ e. sound.coherent.homes r i)) below.children)
+    Keeps-on_row stamp state task.name (set_home id) _ sound below (λ r. refl) (λ r. refl) (λ r. refl) (λ r. refl) (λ r. refl)
+    (λ r i e. sound.coherent.children r i) (λ r i. (c, there)) below.children)
 
 -- a join does
 pub join_keeps : (state : State) (stamp n target : ℕ) → IsSound state → IsBelow stamp state → Keeps stamp (join state n target)
-unfolding with_children_space task_at
+unfolding task_at
 join_keeps state stamp n target sound below =
     join_cases (Keeps stamp) state n target (λ r. Keeps-same stamp state _ sound below) (λ caller row found there live.
     let seen = find-Some (λ r. is_numbered state.spaces r.name caller.name.space target) state.rows row there in
     let within : IsIn caller.name.space (path_up state.spaces row.name.space) = (number-within state.spaces row.name caller.name.space target (is_numbered-true state.spaces row.name caller.name.space target seen.1)).0 in
     let listed = (sound.coherent.numbered row.name (own_name_in_use state.rows row seen.0)).listed row.name.space (path_first state.spaces row.name.space) in
     let at = space_at-Some state.spaces row.name.space listed.0 listed.1 in
-    Keeps-whose stamp state (joined caller.name row.name.space) _ sound below (λ r. refl) (λ r. refl) (λ r. refl) (λ r. refl) (λ r. refl)
-    (λ r i. space caller row r within (sound.coherent.children r i) (name_cases r caller.name)) sound.coherent.homes
-    (λ r i. cond_both (same_name r.name caller.name) row.name.space r.children_space (λ x. x < stamp) (λ e. subst (λ x. x < stamp) at.1 (below.spaces listed.0 at.0)) (λ e. below.children r i)))
-  where
-    space : (caller row r : Row) → IsIn caller.name.space (path_up state.spaces row.name.space) → HasGoodChildrenSpace state.spaces r
-        → ((same_name r.name caller.name ≡ true) × (r.name ≡ caller.name)) ⊎ (same_name r.name caller.name ≡ false)
-        → HasGoodChildrenSpace state.spaces (joined caller.name row.name.space r)
-    space caller row r within good (inl e) =
-        inr (subst (λ x. IsIn r.name.space (path_up state.spaces x)) (sym (ap (λ b. if b then row.name.space else r.children_space) e.0))
-        (subst (λ (a : Name). IsIn a.space (path_up state.spaces row.name.space)) (sym e.1) within))
-    space caller row r within good (inr e) =
-        let same : (joined caller.name row.name.space r).children_space ≡ r.children_space = ap (λ b. if b then row.name.space else r.children_space) e in
-        elim good [
-          | inl none ↦ inl (ap (space_at state.spaces) same ∙ none)
-          | inr i ↦ inr (subst (λ x. IsIn r.name.space (path_up state.spaces x)) (sym same) i)
-        ]
+    Keeps-on_row stamp state caller.name (set_children_space row.name.space) _ sound below (λ r. refl) (λ r. refl) (λ r. refl) (λ r. refl) (λ r. refl)
+    (λ r i e. inr (subst (λ (a : Name). IsIn a.space (path_up state.spaces row.name.space)) (sym e) within)) sound.coherent.homes
+    (λ r i. subst (λ x. x < stamp) at.1 (below.spaces listed.0 at.0)))
 
 -- ---- setpgid
 
@@ -214,21 +199,31 @@ target_session state sound caller target i j same own = elim (or_cases (is_paren
     child_session false false e h k = absurd (cc)
 
 -- a group that is open to the target leaves the groups good
-HasGoodGroups-in_group : (state : State) → IsSound state → (target : Row) (group : Name) → IsIn target state.rows → IsOpenTo state.rows target group
-    → HasGoodGroups (map (in_group target.name group) state.rows)
-HasGoodGroups-in_group state sound target group i joinable = record {
+HasGoodGroups-set_group : (state : State) → IsSound state → (target : Row) (group : Name) → IsIn target state.rows → IsOpenTo state.rows target group
+    → HasGoodGroups (map (on_row target.name (set_group group)) state.rows)
+HasGoodGroups-set_group state sound target group i joinable = record {
   together = λ a b j k e.
       let p = IsIn-from_map f a state.rows j in
       let q = IsIn-from_map f b state.rows k in
-      ap (λ (r : Row). r.session) p.2 ∙ together p.0 q.0 p.1 q.1 (name_cases p.0 target.name) (name_cases q.0 target.name) (sym (ap (λ (r : Row). r.group) p.2) ∙ e ∙ ap (λ (r : Row). r.group) q.2) ∙ sym (ap (λ (r : Row). r.session) q.2);
+      ap (λ (r : Row). r.session) p.2 ∙ session p.0
+      ∙ together p.0 q.0 p.1 q.1 (name_cases p.0 target.name) (name_cases q.0 target.name) (sym (ap (λ (r : Row). r.group) p.2) ∙ e ∙ ap (λ (r : Row). r.group) q.2)
+      ∙ sym (session q.0) ∙ sym (ap (λ (r : Row). r.session) q.2);
   leader = λ a b j k e.
       let p = IsIn-from_map f a state.rows j in
       let q = IsIn-from_map f b state.rows k in
-      ap (λ (r : Row). r.session) p.2 ∙ leader p.0 q.0 p.1 q.1 (name_cases p.0 target.name) (sym (ap (λ (r : Row). r.group) p.2) ∙ e ∙ ap (λ (r : Row). r.name) q.2) ∙ sym (ap (λ (r : Row). r.session) q.2);
+      ap (λ (r : Row). r.session) p.2 ∙ session p.0
+      ∙ leader p.0 q.0 p.1 q.1 (name_cases p.0 target.name) (sym (ap (λ (r : Row). r.group) p.2) ∙ e ∙ ap (λ (r : Row). r.name) q.2 ∙ name q.0)
+      ∙ sym (session q.0) ∙ sym (ap (λ (r : Row). r.session) q.2);
 }
   where
     f : Row → Row
-    f = in_group target.name group
+    f = on_row target.name (set_group group)
+
+    session : (r : Row) → (f r).session ≡ r.session
+    session r = on_row-keeps target.name (set_group group) (λ x. x.session) (λ x. refl) r
+
+    name : (r : Row) → (f r).name ≡ r.name
+    name r = on_row-keeps target.name (set_group group) (λ x. x.name) (λ x. refl) r
 
     IsTarget : Row → Type 0
     IsTarget r = ((same_name r.name target.name ≡ true) × (r.name ≡ target.name)) ⊎ (same_name r.name target.name ≡ false)
@@ -237,10 +232,10 @@ HasGoodGroups-in_group state sound target group i joinable = record {
     is_target r j e = ap (λ (x : Row). x.session) (same_row state.rows sound.coherent.rows_rise r target j i e)
 
     moved : (r : Row) → same_name r.name target.name ≡ true → (f r).group ≡ group
-    moved r e = ap (λ b. if b then group else r.group) e
+    moved r e = ap (λ b. (if b then set_group group r else r).group) e
 
     stays : (r : Row) → same_name r.name target.name ≡ false → (f r).group ≡ r.group
-    stays r e = ap (λ b. if b then group else r.group) e
+    stays r e = ap (λ b. (if b then set_group group r else r).group) e
 
     together : (a b : Row) → IsIn a state.rows → IsIn b state.rows → IsTarget a → IsTarget b → (f a).group ≡ (f b).group → a.session ≡ b.session
     together a b j k (inl p) (inl q) e = is_target a j p.1 ∙ sym (is_target b k q.1)
@@ -254,30 +249,30 @@ HasGoodGroups-in_group state sound target group i joinable = record {
 
 -- a setpgid leaves a sound state
 pub set_pgid_keeps : (state : State) (stamp n : ℕ) (pid pgid : ℤ) → IsSound state → IsBelow stamp state → Keeps stamp (set_pgid state n pid pgid)
-unfolding with_group
+unfolding with_row
 set_pgid_keeps state stamp n pid pgid sound below =
     set_pgid_cases (Keeps stamp) state n pid pgid (λ r. Keeps-same stamp state _ sound below) (λ caller target group found aimed same own there.
     let i : IsIn caller state.rows = (live_row-Some state.rows n caller found).0 in
     let j : IsIn target state.rows = target_of-IsIn state caller target pid i aimed in
     let joinable : IsOpenTo state.rows target group = group_for-IsOpenTo state sound caller target pgid group j (target_session state sound caller target i j same own) there in
-    Keeps-map_rows stamp state (in_group target.name group) _ sound below (record {
-      names = λ r. refl;
-      parents = λ r. refl;
-      lives = λ r. refl;
-      group =
-          λ r k. cond_both (same_name r.name target.name) group r.group (λ a. IsIn a (names_in_use state.rows)) (λ e. joinable.in_use) (λ e. group_in_use state.rows r k);
-      session = λ r k. session_in_use state.rows r k;
-      children = sound.coherent.children;
-      groups = HasGoodGroups-in_group state sound target group j joinable;
-      homes = sound.coherent.homes;
-    }) below.children)
+    let change : Row → Row = set_group group in
+    Keeps-map_rows stamp state (on_row target.name change) _ sound below (record {
+      names = on_row-keeps target.name change (λ r. r.name) (λ r. refl);
+      parents = on_row-keeps target.name change (λ r. r.parent) (λ r. refl);
+      lives = on_row-keeps target.name change (λ r. is_live r) (λ r. refl);
+      group = λ r k. on_row-both (λ x. IsIn x.group (names_in_use state.rows)) target.name change r (λ e. joinable.in_use) (group_in_use state.rows r k);
+      session = λ r k. on_row-both (λ x. IsIn x.session (names_in_use state.rows)) target.name change r (λ e. session_in_use state.rows r k) (session_in_use state.rows r k);
+      children = λ r k. on_row-both (HasGoodChildrenSpace state.spaces) target.name change r (λ e. sound.coherent.children r k) (sound.coherent.children r k);
+      groups = HasGoodGroups-set_group state sound target group j joinable;
+      homes = λ r k. on_row-both (λ x. (c : Control) × (control_at state.controls x.home ≡ Some c)) target.name change r (λ e. sound.coherent.homes r k) (sound.coherent.homes r k);
+    }) (λ r k. on_row-both (λ x. x.children_space < stamp) target.name change r (λ e. below.children r k) (below.children r k)))
 
 -- ---- setsid
 
 -- a new leader whose group had no members leaves the groups good
-HasGoodGroups-leading : (state : State) → IsSound state → (caller : Row) → IsIn caller state.rows → has_members state caller.name ≡ false
-    → HasGoodGroups (map (leading caller.name) state.rows)
-HasGoodGroups-leading state sound caller i none = record {
+HasGoodGroups-start_session : (state : State) → IsSound state → (caller : Row) → IsIn caller state.rows → has_members state caller.name ≡ false
+    → HasGoodGroups (map (on_row caller.name start_session) state.rows)
+HasGoodGroups-start_session state sound caller i none = record {
   together = λ a b j k e.
       let p = IsIn-from_map f a state.rows j in
       let q = IsIn-from_map f b state.rows k in
@@ -285,23 +280,26 @@ HasGoodGroups-leading state sound caller i none = record {
   leader = λ a b j k e.
       let p = IsIn-from_map f a state.rows j in
       let q = IsIn-from_map f b state.rows k in
-      ap (λ (r : Row). r.session) p.2 ∙ leader p.0 q.0 p.1 q.1 (name_cases p.0 caller.name) (name_cases q.0 caller.name) (sym (ap (λ (r : Row). r.group) p.2) ∙ e ∙ ap (λ (r : Row). r.name) q.2) ∙ sym (ap (λ (r : Row). r.session) q.2);
+      ap (λ (r : Row). r.session) p.2 ∙ leader p.0 q.0 p.1 q.1 (name_cases p.0 caller.name) (name_cases q.0 caller.name) (sym (ap (λ (r : Row). r.group) p.2) ∙ e ∙ ap (λ (r : Row). r.name) q.2 ∙ name q.0) ∙ sym (ap (λ (r : Row). r.session) q.2);
 }
   where
     f : Row → Row
-    f = leading caller.name
+    f = on_row caller.name start_session
+
+    name : (r : Row) → (f r).name ≡ r.name
+    name r = on_row-keeps caller.name start_session (λ x. x.name) (λ x. refl) r
 
     IsCaller : Row → Type 0
     IsCaller r = ((same_name r.name caller.name ≡ true) × (r.name ≡ caller.name)) ⊎ (same_name r.name caller.name ≡ false)
 
     group_of_caller : (r : Row) → same_name r.name caller.name ≡ true → (f r).group ≡ r.name
-    group_of_caller r e = ap (λ b. if b then r.name else r.group) e
+    group_of_caller r e = ap (λ b. (if b then start_session r else r).group) e
 
     group_of_other : (r : Row) → same_name r.name caller.name ≡ false → (f r).group ≡ r.group
-    group_of_other r e = ap (λ b. if b then r.name else r.group) e
+    group_of_other r e = ap (λ b. (if b then start_session r else r).group) e
 
     session_of_other : (r : Row) → same_name r.name caller.name ≡ false → (f r).session ≡ r.session
-    session_of_other r e = ap (λ b. if b then r.name else r.session) e
+    session_of_other r e = ap (λ b. (if b then start_session r else r).session) e
 
     no_member : (r : Row) → IsIn r state.rows → r.group ≡ caller.name → ⊥
     no_member r j e =
@@ -327,19 +325,18 @@ HasGoodGroups-leading state sound caller i none = record {
 
 -- a setsid leaves a sound state
 pub set_sid_keeps : (state : State) (stamp n : ℕ) → IsSound state → IsBelow stamp state → Keeps stamp (set_sid state n)
-unfolding with_session
+unfolding with_row
 set_sid_keeps state stamp n sound below =
     set_sid_cases (Keeps stamp) state n (λ r. Keeps-same stamp state _ sound below) (λ caller found none.
     let i : IsIn caller state.rows = (live_row-Some state.rows n caller found).0 in
-    Keeps-map_rows stamp state (leading caller.name) _ sound below (record {
-      names = λ r. refl;
-      parents = λ r. refl;
-      lives = λ r. refl;
-      group =
-          λ r k. cond_both (same_name r.name caller.name) r.name r.group (λ a. IsIn a (names_in_use state.rows)) (λ e. own_name_in_use state.rows r k) (λ e. group_in_use state.rows r k);
-      session =
-          λ r k. cond_both (same_name r.name caller.name) r.name r.session (λ a. IsIn a (names_in_use state.rows)) (λ e. own_name_in_use state.rows r k) (λ e. session_in_use state.rows r k);
-      children = sound.coherent.children;
-      groups = HasGoodGroups-leading state sound caller i none;
-      homes = sound.coherent.homes;
-    }) below.children)
+    let name : Name = caller.name in
+    Keeps-map_rows stamp state (on_row name start_session) _ sound below (record {
+      names = on_row-keeps name start_session (λ r. r.name) (λ r. refl);
+      parents = on_row-keeps name start_session (λ r. r.parent) (λ r. refl);
+      lives = on_row-keeps name start_session (λ r. is_live r) (λ r. refl);
+      group = λ r k. on_row-both (λ x. IsIn x.group (names_in_use state.rows)) name start_session r (λ e. own_name_in_use state.rows r k) (group_in_use state.rows r k);
+      session = λ r k. on_row-both (λ x. IsIn x.session (names_in_use state.rows)) name start_session r (λ e. own_name_in_use state.rows r k) (session_in_use state.rows r k);
+      children = λ r k. on_row-both (HasGoodChildrenSpace state.spaces) name start_session r (λ e. sound.coherent.children r k) (sound.coherent.children r k);
+      groups = HasGoodGroups-start_session state sound caller i none;
+      homes = λ r k. on_row-both (λ x. (c : Control) × (control_at state.controls x.home ≡ Some c)) name start_session r (λ e. sound.coherent.homes r k) (sound.coherent.homes r k);
+    }) (λ r k. on_row-both (λ x. x.children_space < stamp) name start_session r (λ e. below.children r k) (below.children r k)))

@@ -1,5 +1,6 @@
 -- Names and their numbers.
 use Rattle.std.proofs.Common.{◌≡◌, ℕ, Bool, true, false, ◌==◌, ◌≤◌, List, [], ◌∷◌, reverse, length, Option, Some, None, cond, refl, sym, ap, ◌∙◌, inl, inr, arith}
+use Rattle.std.specs.Prelude.{if◌then◌else◌}
 use Rattle.std.specs.Option.{option_eq}
 use Rattle.std.specs.Cmp.Lexicographic.{pointwise}
 use Rattle.std.proofs.lemmas.Slice.Eq.{bytes_eq-Decides}
@@ -9,7 +10,7 @@ use Rattle.pid_types.specs.declared.plain.Name.{Name}
 use Rattle.pid_types.specs.declared.plain.Row.{Row}
 use Rattle.pid_types.specs.declared.plain.Space.{Space}
 use Rattle.pid_types.specs.State.{State}
-use Rattle.pid_types.specs.Names.{beside, path_up, number, is_numbered, same_name, names_in_use, taken}
+use Rattle.pid_types.specs.Names.{beside, path_up, number, is_numbered, same_name, names_in_use, taken, on_row}
 use Rattle.pid_types.specs.Membership.{IsIn}
 use Rattle.model_laws.proofs.Lists.{IsIn-reverse, IsIn-to_reverse, IsIn-flat_map, IsIn-from_flat_map, IsIn-filter_map, IsIn-from_filter_map}
 
@@ -132,3 +133,20 @@ pub user_of_number : (state : State) (s n : ℕ) → IsIn n (taken state s)
     → (a : Name) × IsIn a (names_in_use state.rows) × (number state.spaces a s ≡ Some n)
 unfolding taken
 user_of_number state s n i = IsIn-from_filter_map (λ name. number state.spaces name s) n (names_in_use state.rows) i
+
+-- what the change of a row keeps, its change at one name keeps
+pub on_row-keeps : {A : Type 0} (name : Name) (change : Row → Row) (part : Row → A) → ((r : Row) → part (change r) ≡ part r) → (r : Row)
+    → part (on_row name change r) ≡ part r
+on_row-keeps {A} name change part keeps r = go (same_name r.name name)
+  where
+    go : (b : Bool) → part (if b then change r else r) ≡ part r
+    go true = keeps r
+    go false = refl
+
+-- what holds of a row changed, and of it as it was, holds of it after the change at one name
+pub on_row-both : (P : Row → Type 0) (name : Name) (change : Row → Row) (r : Row) → (r.name ≡ name → P (change r)) → P r → P (on_row name change r)
+on_row-both P name change r changed same = go (same_name r.name name) refl
+  where
+    go : (b : Bool) → same_name r.name name ≡ b → P (if b then change r else r)
+    go true e = changed (same_name-true r.name name e)
+    go false e = same

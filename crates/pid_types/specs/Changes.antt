@@ -1,29 +1,24 @@
 -- The other changes: exec, control groups, join and the subreaper's mark.
-use Rattle.std.specs.Prelude.{ℕ, Bool, false, ◌&&◌, ◌||◌, not, ◌==◌, nat_lt, [], ◌∷◌, ◌++◌, map, filter, length, Option, Some, None, if◌then◌else◌}
+use Rattle.std.specs.Prelude.{ℕ, Bool, true, false, ◌&&◌, ◌||◌, not, ◌==◌, nat_lt, [], ◌∷◌, ◌++◌, map, filter, length, Option, Some, None, if◌then◌else◌}
 use Rattle.std.specs.Option.{option_map_or, option_eq}
 use Rattle.std.specs.List.{list_any}
-use Rattle.pid_types.specs.declared.plain.Name.{Name}
 use Rattle.pid_types.specs.declared.plain.Row.{Row}
 use Rattle.pid_types.specs.declared.plain.Control.{Control}
 use Rattle.pid_types.specs.declared.reply.Reply.TheVariants.{Done, Control as ControlMade, Counted}
 use Rattle.pid_types.specs.declared.reply.Refusal.TheVariants.{NoTask, NoControl, ControlDepth, RootControl, ControlBusy, BadLimit}
 use Rattle.pid_types.specs.Bounds.{deepest_control, greatest_limit}
 use Rattle.pid_types.specs.State.{State}
-use Rattle.pid_types.specs.Names.{same_name, is_live, live_row, task_at}
+use Rattle.pid_types.specs.Names.{is_live, live_row, task_at, with_row}
 use Rattle.pid_types.specs.Controls.{control_at, control_path, count}
 use Rattle.pid_types.specs.Outcome.{Outcome, answered, changed, for_found, refuse_if, by_caller}
 
--- the row, which has executed if the name is its own
-abbrev pub executed_by : Name → Row → Row
-executed_by name row = record row { executed = row.executed || same_name row.name name }
-
--- the state in which the named task has executed
-unfoldable pub with_executed : State → Name → State
-with_executed state name = record state { rows = map (executed_by name) state.rows }
+-- the row, which has executed
+abbrev pub set_executed : Row → Row
+set_executed row = record row { executed = true }
 
 -- the caller executes a program: execve(2)
 unfoldable pub exec : State → ℕ → Outcome
-exec state n = by_caller state n (λ caller. changed (with_executed state caller.name) Done)
+exec state n = by_caller state n (λ caller. changed (with_row state caller.name set_executed) Done)
 
 -- the call on a control group, by its id
 abbrev pub on_control : State → ℕ → (Control → Outcome) → Outcome
@@ -46,13 +41,13 @@ is_busy state id =
     list_any (λ row. (row.home == id) && is_live row) state.rows || list_any (λ c. option_eq ◌==◌ c.parent (Some id)) state.controls
 
 -- the row with the one home in place of the other
-abbrev pub rehomed : ℕ → ℕ → Row → Row
-rehomed from to row = record row { home = if row.home == from then to else row.home }
+abbrev pub rehome : ℕ → ℕ → Row → Row
+rehome from to row = record row { home = if row.home == from then to else row.home }
 
 -- the state without the control group, whose zombies go to its parent
 unfoldable pub without_control : State → ℕ → ℕ → State
 without_control state id parent = record state {
-  rows = map (rehomed id parent) state.rows;
+  rows = map (rehome id parent) state.rows;
   controls = filter (λ c. not (c.id == id)) state.controls;
 }
 
@@ -81,13 +76,9 @@ set_limit state id limit =
     refuse_if state (option_map_or (nat_lt greatest_limit) limit false) BadLimit
     (changed (with_limit state id limit) Done)))
 
--- the row in the control group, if the name is its own
-abbrev pub moved_home : Name → ℕ → Row → Row
-moved_home name home row = record row { home = if same_name row.name name then home else row.home }
-
--- the state with the named task in the control group
-unfoldable pub with_home : State → Name → ℕ → State
-with_home state name home = record state { rows = map (moved_home name home) state.rows }
+-- the row in the control group
+abbrev pub set_home : ℕ → Row → Row
+set_home home row = record row { home = home }
 
 -- a write of a task to cgroup.procs. It is never blocked by a limit: the cgroup-v2 document, "Organisational operations are not
 -- blocked by cgroup policies"
@@ -95,19 +86,15 @@ unfoldable pub move_task : State → ℕ → ℕ → Outcome
 move_task state n id =
     for_found state (live_row state.rows n) NoTask (λ task.
     on_control state id (λ c.
-    changed (with_home state task.name id) Done))
+    changed (with_row state task.name (set_home id)) Done))
 
 -- a read of pids.current
 unfoldable pub count_tasks : State → ℕ → Outcome
 count_tasks state id = on_control state id (λ c. answered state (Counted (count state id)))
 
--- the row, whose children go into the namespace if the name is its own
-abbrev pub joined : Name → ℕ → Row → Row
-joined name space row = record row { children_space = if same_name row.name name then space else row.children_space }
-
--- the state in which the children of the named task go into the namespace
-unfoldable pub with_children_space : State → Name → ℕ → State
-with_children_space state name space = record state { rows = map (joined name space) state.rows }
+-- the row, whose children go into the namespace
+abbrev pub set_children_space : ℕ → Row → Row
+set_children_space space row = record row { children_space = space }
 
 -- the caller's later children go into the target's namespace: setns(2), CLONE_NEWPID
 unfoldable pub join : State → ℕ → ℕ → Outcome
@@ -115,16 +102,12 @@ join state n target =
     by_caller state n (λ caller.
     for_found state (task_at state caller.name.space target) NoTask (λ row.
     refuse_if state (not (is_live row)) NoTask
-    (changed (with_children_space state caller.name row.name.space) Done)))
+    (changed (with_row state caller.name (set_children_space row.name.space)) Done)))
 
--- the row, which has the mark if the name is its own
-abbrev pub marked : Name → Bool → Row → Row
-marked name on row = record row { subreaper = if same_name row.name name then on else row.subreaper }
-
--- the state with the named task's mark
-unfoldable pub with_subreaper : State → Name → Bool → State
-with_subreaper state name on = record state { rows = map (marked name on) state.rows }
+-- the row with the mark of a subreaper, or without it
+abbrev pub set_mark : Bool → Row → Row
+set_mark on row = record row { subreaper = on }
 
 -- the caller sets or clears its mark: PR_SET_CHILD_SUBREAPER(2const)
 unfoldable pub set_subreaper : State → ℕ → Bool → Outcome
-set_subreaper state n on = by_caller state n (λ caller. changed (with_subreaper state caller.name on) Done)
+set_subreaper state n on = by_caller state n (λ caller. changed (with_row state caller.name (set_mark on)) Done)

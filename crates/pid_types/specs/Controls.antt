@@ -18,9 +18,9 @@ parent_control controls id = option_and_then (λ c. c.parent) (control_at contro
 unfoldable pub control_path : List Control → ℕ → List ℕ
 control_path controls id = climb (parent_control controls) (deepest_control + 1) id
 
--- whether the control group c is the one with the id, or above it
+-- whether the first control group is the second one, or below it
 abbrev pub is_below : List Control → ℕ → ℕ → Bool
-is_below controls id c = contains (control_path controls id) c
+is_below controls lower upper = contains (control_path controls lower) upper
 
 -- the tasks in the control group's subtree, zombies among them: pids.current of the kernel's cgroup-v2 document, "the number of
 -- processes currently in the cgroup and its descendants"

@@ -40,10 +40,6 @@ unfoldable pub new_parent : State → Row → Option Name
 new_parent state row =
     option_map (λ r. r.name) (option_map_or (row_at state.rows) (nearest_subreaper state.rows row) (task_at state row.name.space 1))
 
--- the row of a task that has ended
-abbrev pub ended_row : Row → Ended → Row
-ended_row row ended = record row { life = Zombie ended }
-
 -- the row after the task ended and its children went to another: _exit(2)
 abbrev pub row_after_exit : Row → Option Name → Ended → Row → Row
 row_after_exit task heir ended row = record row {

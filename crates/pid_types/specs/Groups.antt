@@ -1,12 +1,12 @@
 -- Process groups and sessions: setpgid(2), setsid(2).
-use Rattle.std.specs.Prelude.{ℕ, ℤ, pos, negsuc, Bool, true, false, ◌&&◌, ◌||◌, not, ◌==◌, map, Option, Some, None, if◌then◌else◌, find, option_map}
+use Rattle.std.specs.Prelude.{ℕ, ℤ, pos, negsuc, Bool, true, false, ◌&&◌, ◌||◌, not, ◌==◌, Option, Some, None, if◌then◌else◌, find, option_map}
 use Rattle.std.specs.List.{list_any}
 use Rattle.pid_types.specs.declared.plain.Name.{Name}
 use Rattle.pid_types.specs.declared.plain.Row.{Row}
 use Rattle.pid_types.specs.declared.reply.Reply.TheVariants.{Done, Number}
 use Rattle.pid_types.specs.declared.reply.Refusal.TheVariants.{BadGroup, NoTask, OtherSession, Executed, IsLeader, NoGroup}
 use Rattle.pid_types.specs.State.{State}
-use Rattle.pid_types.specs.Names.{number_or_zero, is_numbered, same_name, is_parent, task_at}
+use Rattle.pid_types.specs.Names.{number_or_zero, is_numbered, same_name, is_parent, task_at, with_row}
 use Rattle.pid_types.specs.Outcome.{Outcome, changed, for_found, refuse_if, by_caller}
 
 -- whether the number is below 0
@@ -31,13 +31,9 @@ group_for state caller target (pos n) =
     if (n == 0) || is_numbered state.spaces target.name caller.name.space n then Some target.name else session_group state caller n
 group_for state caller target (negsuc n) = None
 
--- the row in the group, if the name is its own
-abbrev pub in_group : Name → Name → Row → Row
-in_group name group row = record row { group = if same_name row.name name then group else row.group }
-
--- the state with the named task in the group
-unfoldable pub with_group : State → Name → Name → State
-with_group state name group = record state { rows = map (in_group name group) state.rows }
+-- the row in the group
+abbrev pub set_group : Name → Row → Row
+set_group group row = record row { group = group }
 
 -- the target goes into the group, or the first refusal of setpgid(2): EPERM for a child in another session, EACCES for one that
 -- executed, ESRCH for who is neither the caller nor its child, EPERM for a session leader and for a group that is not there
@@ -48,7 +44,7 @@ set_group_of state caller target pgid =
     (refuse_if state (is_child && target.executed) Executed
     (refuse_if state (not (is_child || same_name target.name caller.name)) NoTask
     (refuse_if state (same_name target.session target.name) IsLeader
-    (for_found state (group_for state caller target pgid) NoGroup (λ group. changed (with_group state target.name group) Done)))))
+    (for_found state (group_for state caller target pgid) NoGroup (λ group. changed (with_row state target.name (set_group group)) Done)))))
 
 -- the task that the first number names goes into the group that the second one names
 unfoldable pub set_pgid : State → ℕ → ℤ → ℤ → Outcome
@@ -57,16 +53,9 @@ set_pgid state n pid pgid =
     refuse_if state (is_negative pgid) BadGroup
     (for_found state (target_of state caller pid) NoTask (λ target. set_group_of state caller target pgid)))
 
--- the row, which leads its own group and session if the name is its own
-abbrev pub leading : Name → Row → Row
-leading name row = record row {
-  group = if same_name row.name name then row.name else row.group;
-  session = if same_name row.name name then row.name else row.session;
-}
-
--- the state in which the named task leads a new session and a new group
-unfoldable pub with_session : State → Name → State
-with_session state name = record state { rows = map (leading name) state.rows }
+-- the row, which leads a group and a session of its own
+abbrev pub start_session : Row → Row
+start_session row = record row { group = row.name; session = row.name }
 
 -- whether some task, zombies among them, is in the group
 abbrev pub has_members : State → Name → Bool
@@ -77,4 +66,4 @@ unfoldable pub set_sid : State → ℕ → Outcome
 set_sid state n =
     by_caller state n (λ caller.
     refuse_if state (has_members state caller.name) IsLeader
-    (changed (with_session state caller.name) (Number (number_or_zero state.spaces caller.name caller.name.space))))
+    (changed (with_row state caller.name start_session) (Number (number_or_zero state.spaces caller.name caller.name.space))))

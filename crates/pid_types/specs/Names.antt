@@ -1,5 +1,5 @@
 -- Names: their numbers in namespaces, and the rows that they name.
-use Rattle.std.specs.Prelude.{ℕ, ◌+◌, ◌-◌, Bool, true, false, ◌&&◌, ◌==◌, List, [], ◌∷◌, length, reverse, Option, Some, None, if◌then◌else◌, slice_index, is_some, unwrap_or, find, filter_map, flat_map, option_and_then}
+use Rattle.std.specs.Prelude.{ℕ, ◌+◌, ◌-◌, Bool, true, false, ◌&&◌, ◌==◌, List, [], ◌∷◌, length, map, reverse, Option, Some, None, if◌then◌else◌, slice_index, is_some, unwrap_or, find, filter_map, flat_map, option_and_then}
 use Rattle.std.specs.Option.{option_eq}
 use Rattle.std.specs.Cmp.Lexicographic.{pointwise}
 use Rattle.pid_types.specs.declared.plain.Name.{Name}
@@ -22,9 +22,9 @@ parent_space spaces id = option_and_then (λ s. s.parent) (space_at spaces id)
 unfoldable pub path_up : List Space → ℕ → List ℕ
 path_up spaces id = climb (parent_space spaces) (deepest_space + 1) id
 
--- whether s is the namespace t or around it
+-- whether the first namespace is the second one, or inside it
 abbrev pub is_within : List Space → ℕ → ℕ → Bool
-is_within spaces t s = contains (path_up spaces t) s
+is_within spaces inner outer = contains (path_up spaces inner) outer
 
 -- how many namespaces are around it
 unfoldable pub level : List Space → ℕ → ℕ
@@ -99,3 +99,11 @@ names_in_use rows = flat_map (λ row. row.name ∷ row.group ∷ row.session ∷
 -- the numbers in use in the namespace
 unfoldable pub taken : State → ℕ → List ℕ
 taken state s = filter_map (λ name. number state.spaces name s) (names_in_use state.rows)
+
+-- the row changed, if the name is its own
+abbrev pub on_row : Name → (Row → Row) → Row → Row
+on_row name change row = if same_name row.name name then change row else row
+
+-- the state with the named task's row changed
+unfoldable pub with_row : State → Name → (Row → Row) → State
+with_row state name change = record state { rows = map (on_row name change) state.rows }
