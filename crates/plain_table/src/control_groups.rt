@@ -5,7 +5,7 @@ ghost use Rattle.std.specs.List.{list_any};
 ghost use Rattle.pid_types.specs.Names.{is_live as is_live_row};
 ghost use Rattle.pid_types.specs.Changes.{without_control, with_limit, with_control, is_busy as is_busy_of, make_control as make_control_of, remove_control as remove_control_of, set_limit as set_limit_of, count_tasks};
 
-use crate::edit::{AllButControl, Limits, Rehomes, edit_all, keep};
+use crate::edit::{AllButControl, Limits, Rehome, edit_all, keep};
 use crate::table::PlainTable;
 use pid_types::plain::Control;
 use pid_types::reply::{Refusal, Reply};
@@ -50,7 +50,7 @@ impl PlainTable {
     {
         edit_all(
             &mut self.rows,
-            &Rehomes {
+            &Rehome {
                 from: id,
                 to: parent,
             },

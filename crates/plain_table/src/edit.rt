@@ -1,8 +1,8 @@
 //! Changes of each element of a list.
 ghost use Rattle.std.specs.Prelude.{◌≡◌, ◌≤◌, ◌==◌, map, filter, Bool, not, vec_len, vec_capacity};
-ghost use Rattle.pid_types.specs.Names.{same_name};
-ghost use Rattle.pid_types.specs.Changes.{executed_by, moved_home, rehomed, joined, marked, limited};
-ghost use Rattle.pid_types.specs.Groups.{in_group, leading};
+ghost use Rattle.pid_types.specs.Names.{same_name, on_row};
+ghost use Rattle.pid_types.specs.Changes.{set_executed, set_home, rehome, set_children_space, set_mark, limited};
+ghost use Rattle.pid_types.specs.Groups.{set_group, start_session};
 ghost use Rattle.plain_table.specs.Moved.{moved_by};
 ghost use Rattle.pid_types.specs.Exit.{row_after_exit, row_after_fall, goes_in_fall, has_parent_within};
 
@@ -31,116 +31,109 @@ pub fn edit_all<T, E: Edit<T>>(elements: &mut [T], change: &E)
     }
 }
 
-/// The named task has executed.
+/// A change of the named task's row alone.
 #[derive(Drop)]
-pub struct Executes<'a>(pub &'a Name);
-
-impl Edit<Row> for Executes<'_> {
-    ghost gives = { λ e row. executed_by e.0.now row };
-
-    fn edit(&self, row: &mut Row) {
-        if is_same(&row.name, self.0) {
-            row.executed = true;
-        }
-    }
-}
-
-/// The named task goes into the group.
-#[derive(Drop)]
-pub struct EntersGroup<'a> {
+pub struct OnRow<'a, C> {
     pub name: &'a Name,
-    pub group: &'a Name,
+    pub change: &'a C,
 }
 
-impl Edit<Row> for EntersGroup<'_> {
-    ghost gives = { λ e row. in_group e.name.now e.group.now row };
+impl<C: Edit<Row>> Edit<Row> for OnRow<'_, C> {
+    ghost gives = { λ e row. on_row e.name.now (C.gives e.change.now) row };
 
     fn edit(&self, row: &mut Row) {
         if is_same(&row.name, self.name) {
-            row.group = copy_name(self.group);
+            self.change.edit(row);
         }
     }
 }
 
-/// The named task leads a new group and a new session.
+/// The task has executed.
 #[derive(Drop)]
-pub struct Leads<'a>(pub &'a Name);
+pub struct SetExecuted;
 
-impl Edit<Row> for Leads<'_> {
-    ghost gives = { λ e row. leading e.0.now row };
+impl Edit<Row> for SetExecuted {
+    ghost gives = { λ _ row. set_executed row };
 
     fn edit(&self, row: &mut Row) {
-        if is_same(&row.name, self.0) {
-            row.group = copy_name(&row.name);
-            row.session = copy_name(&row.name);
-        }
+        row.executed = true;
     }
 }
 
-/// The named task goes into the control group.
+/// The task goes into the group.
 #[derive(Drop)]
-pub struct MovesHome<'a> {
-    pub name: &'a Name,
-    pub home: u64,
-}
+pub struct SetGroup<'a>(pub &'a Name);
 
-impl Edit<Row> for MovesHome<'_> {
-    ghost gives = { λ e row. moved_home e.name.now e.home row };
+impl Edit<Row> for SetGroup<'_> {
+    ghost gives = { λ e row. set_group e.0.now row };
 
     fn edit(&self, row: &mut Row) {
-        if is_same(&row.name, self.name) {
-            row.home = self.home;
-        }
+        row.group = copy_name(self.0);
+    }
+}
+
+/// The task leads a new group and a new session.
+#[derive(Drop)]
+pub struct StartSession;
+
+impl Edit<Row> for StartSession {
+    ghost gives = { λ _ row. start_session row };
+
+    fn edit(&self, row: &mut Row) {
+        row.group = copy_name(&row.name);
+        row.session = copy_name(&row.name);
+    }
+}
+
+/// The task goes into the control group.
+#[derive(Drop)]
+pub struct SetHome(pub u64);
+
+impl Edit<Row> for SetHome {
+    ghost gives = { λ e row. set_home e.0 row };
+
+    fn edit(&self, row: &mut Row) {
+        row.home = self.0;
+    }
+}
+
+/// The task's children go into the namespace.
+#[derive(Drop)]
+pub struct SetChildrenSpace(pub u64);
+
+impl Edit<Row> for SetChildrenSpace {
+    ghost gives = { λ e row. set_children_space e.0 row };
+
+    fn edit(&self, row: &mut Row) {
+        row.children_space = self.0;
+    }
+}
+
+/// The task has the subreaper's mark, or not.
+#[derive(Drop)]
+pub struct SetMark(pub bool);
+
+impl Edit<Row> for SetMark {
+    ghost gives = { λ e row. set_mark e.0 row };
+
+    fn edit(&self, row: &mut Row) {
+        row.subreaper = self.0;
     }
 }
 
 /// All tasks of one control group go into another.
 #[derive(Drop)]
-pub struct Rehomes {
+pub struct Rehome {
     pub from: u64,
     pub to: u64,
 }
 
-impl Edit<Row> for Rehomes {
-    ghost gives = { λ e row. rehomed e.from e.to row };
+impl Edit<Row> for Rehome {
+    ghost gives = { λ e row. rehome e.from e.to row };
 
     fn edit(&self, row: &mut Row) {
         if row.home == self.from {
             row.home = self.to;
-        }
-    }
-}
-
-/// The named task's children go into the namespace.
-#[derive(Drop)]
-pub struct Joins<'a> {
-    pub name: &'a Name,
-    pub space: u64,
-}
-
-impl Edit<Row> for Joins<'_> {
-    ghost gives = { λ e row. joined e.name.now e.space row };
-
-    fn edit(&self, row: &mut Row) {
-        if is_same(&row.name, self.name) {
-            row.children_space = self.space;
-        }
-    }
-}
-
-/// The named task has the subreaper's mark, or not.
-#[derive(Drop)]
-pub struct Marks<'a> {
-    pub name: &'a Name,
-    pub on: bool,
-}
-
-impl Edit<Row> for Marks<'_> {
-    ghost gives = { λ e row. marked e.name.now e.on row };
-
-    fn edit(&self, row: &mut Row) {
-        if is_same(&row.name, self.name) {
-            row.subreaper = self.on;
         }
     }
 }

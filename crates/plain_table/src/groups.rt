@@ -1,9 +1,10 @@
 //! Process groups and sessions.
 ghost use Rattle.std.specs.Prelude.{◌≡◌, OnOk, IfErr, MatchResult};
-ghost use Rattle.pid_types.specs.Groups.{with_group, with_session, has_members as has_members_of, session_group as session_group_of, group_for as group_for_of, target_of as target_number, set_group_of, set_pgid as set_pgid_of, set_sid as set_sid_of};
+ghost use Rattle.pid_types.specs.Groups.{set_group, has_members as has_members_of, session_group as session_group_of, group_for as group_for_of, target_of as target_number, set_group_of, set_pgid as set_pgid_of, set_sid as set_sid_of};
+ghost use Rattle.pid_types.specs.Names.{with_row};
 ghost use Rattle.pid_types.specs.Outcome.{refused, changed};
 
-use crate::edit::{EntersGroup, Leads, edit_all};
+use crate::edit::{SetGroup, StartSession};
 use crate::find::copy_row;
 use crate::table::PlainTable;
 use pid_types::plain::{Name, Row};
@@ -11,20 +12,6 @@ use pid_types::reply::{Refusal, Reply};
 use plain_view::names::{copy_name, is_parent, is_same};
 
 impl PlainTable {
-    #[tactic(auto, unfolding(pid_types::specs::Groups::with_group))]
-    fn set_group(&mut self, name: &Name, group: &Name)
-        ensures { self.new ≡ with_group self.old name.now group.now }
-    {
-        edit_all(&mut self.rows, &EntersGroup { name, group });
-    }
-
-    #[tactic(auto, unfolding(pid_types::specs::Groups::with_session))]
-    fn start_session(&mut self, name: &Name)
-        ensures { self.new ≡ with_session self.old name.now }
-    {
-        edit_all(&mut self.rows, &Leads(name));
-    }
-
     /// Whether some task, zombies among them, is in the group.
     fn has_members(&self, group: &Name) -> bool
         ensures { result ≡ has_members_of self.now group.now }
@@ -78,7 +65,7 @@ impl PlainTable {
     #[tactic(auto, unfolding(pid_types::specs::Groups::set_group_of))]
     fn new_group(&self, caller: &Row, target: &Row, pgid: i32) -> Result<Name, Refusal>
         ensures { MatchResult result
-            (λ group. set_group_of self.now caller.now target.now pgid ≡ changed (with_group self.now target.now.name group) Reply.Done)
+            (λ group. set_group_of self.now caller.now target.now pgid ≡ changed (with_row self.now target.now.name (set_group group)) Reply.Done)
             (λ r. set_group_of self.now caller.now target.now pgid ≡ refused self.now r) }
     {
         let is_child = is_parent(&caller.name, target);
@@ -117,7 +104,7 @@ impl PlainTable {
         };
         match self.new_group(&row, &target, pgid) {
             Ok(group) => {
-                self.set_group(&target.name, &group);
+                self.change_row(&target.name, &SetGroup(&group));
                 self.sweep();
                 Reply::Done
             }
@@ -138,7 +125,7 @@ impl PlainTable {
             return Reply::Refused(Refusal::IsLeader);
         }
         let number = self.view().number_or_zero(&row.name, row.name.space);
-        self.start_session(&row.name);
+        self.change_row(&row.name, &StartSession);
         self.sweep();
         Reply::Number(number)
     }

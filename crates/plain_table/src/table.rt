@@ -1,9 +1,11 @@
 //! The table, its making, its sweep and its snapshot.
 ghost use Rattle.std.specs.Prelude.{◌≡◌, ◌≤◌, ◌∷◌, [], length, vec_len, vec_capacity, filter, map, not, IfOk, OnOk, OnErr};
 ghost use Rattle.pid_types.specs.State.{root_state, root_name as root_name_of, root_init as root_init_of};
+ghost use Rattle.pid_types.specs.Names.{with_row};
 ghost use Rattle.pid_types.specs.Outcome.{sweep, is_dead};
 ghost use Rattle.pid_types.specs.Shown.{Shows, with_count as counted};
 
+use crate::edit::{Edit, OnRow, edit_all};
 use arrayvec::ArrayVec;
 use pid_types::config::Config;
 use pid_types::plain::{Control, ControlRow, Life, Name, Plain, Row, Space};
@@ -111,6 +113,14 @@ impl PlainTable {
         ensures { result ≡ self.now }
     {
         View::new(&self.rows, &self.spaces, &self.controls, self.pid_max)
+    }
+
+    /// Changes the named task's row.
+    #[tactic(auto, unfolding(pid_types::specs::Names::with_row))]
+    pub(crate) fn change_row<C: Edit<Row>>(&mut self, name: &Name, change: &C)
+        ensures { self.new ≡ with_row self.old name.now (C.gives change.now) }
+    {
+        edit_all(&mut self.rows, &OnRow { name, change });
     }
 
     /// Drops the dead namespaces.

@@ -1,42 +1,13 @@
 //! Exec, join, the subreaper's mark, and moves between control groups.
 ghost use Rattle.std.specs.Prelude.{◌≡◌};
-ghost use Rattle.pid_types.specs.Changes.{with_executed, exec as exec_of, with_children_space, join as join_of, with_subreaper, set_subreaper as set_subreaper_of, with_home, move_task as move_of};
+ghost use Rattle.pid_types.specs.Changes.{exec as exec_of, join as join_of, set_subreaper as set_subreaper_of, move_task as move_of};
 
-use crate::edit::{Executes, Joins, Marks, MovesHome, edit_all};
+use crate::edit::{SetChildrenSpace, SetExecuted, SetHome, SetMark};
 use crate::table::PlainTable;
-use pid_types::plain::Name;
 use pid_types::reply::{Refusal, Reply};
 use plain_view::names::is_live;
 
 impl PlainTable {
-    #[tactic(auto, unfolding(pid_types::specs::Changes::with_executed))]
-    fn set_executed(&mut self, name: &Name)
-        ensures { self.new ≡ with_executed self.old name.now }
-    {
-        edit_all(&mut self.rows, &Executes(name));
-    }
-
-    #[tactic(auto, unfolding(pid_types::specs::Changes::with_children_space))]
-    fn set_children_space(&mut self, name: &Name, space: u64)
-        ensures { self.new ≡ with_children_space self.old name.now space }
-    {
-        edit_all(&mut self.rows, &Joins { name, space });
-    }
-
-    #[tactic(auto, unfolding(pid_types::specs::Changes::with_subreaper))]
-    fn set_mark(&mut self, name: &Name, on: bool)
-        ensures { self.new ≡ with_subreaper self.old name.now on }
-    {
-        edit_all(&mut self.rows, &Marks { name, on });
-    }
-
-    #[tactic(auto, unfolding(pid_types::specs::Changes::with_home))]
-    fn set_home(&mut self, name: &Name, home: u64)
-        ensures { self.new ≡ with_home self.old name.now home }
-    {
-        edit_all(&mut self.rows, &MovesHome { name, home });
-    }
-
     /// `execve(2)`: the caller has executed.
     #[tactic(auto, unfolding(pid_types::specs::Changes::exec))]
     pub fn exec(&mut self, caller: u32) -> Reply
@@ -46,7 +17,7 @@ impl PlainTable {
         let Some(row) = self.find_live(caller) else {
             return Reply::Refused(Refusal::NoCaller);
         };
-        self.set_executed(&row.name);
+        self.change_row(&row.name, &SetExecuted);
         self.sweep();
         Reply::Done
     }
@@ -66,7 +37,7 @@ impl PlainTable {
         if !is_live(&other) {
             return Reply::Refused(Refusal::NoTask);
         }
-        self.set_children_space(&row.name, other.name.space);
+        self.change_row(&row.name, &SetChildrenSpace(other.name.space));
         self.sweep();
         Reply::Done
     }
@@ -80,7 +51,7 @@ impl PlainTable {
         let Some(row) = self.find_live(caller) else {
             return Reply::Refused(Refusal::NoCaller);
         };
-        self.set_mark(&row.name, on);
+        self.change_row(&row.name, &SetMark(on));
         self.sweep();
         Reply::Done
     }
@@ -97,7 +68,7 @@ impl PlainTable {
         if self.view().find_control(id).is_none() {
             return Reply::Refused(Refusal::NoControl);
         }
-        self.set_home(&row.name, id);
+        self.change_row(&row.name, &SetHome(id));
         self.sweep();
         Reply::Done
     }
