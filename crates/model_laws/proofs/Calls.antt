@@ -1,14 +1,14 @@
 -- What a call comes to, case by case.
 use Rattle.std.proofs.Common.{◌≡◌, ℕ, ℤ, Bool, true, false, not, ◌&&◌, ◌||◌, ◌==◌, Option, Some, None, refl}
 use Rattle.pid_types.specs.Bounds.{greatest_limit}
-use Rattle.std.specs.Prelude.{if◌then◌else◌, find, length, is_none, nat_lt, nat_le}
+use Rattle.std.specs.Prelude.{if◌then◌else◌, find, length, is_none, nat_lt, nat_le, option_map}
 use Rattle.std.specs.Option.{option_map_or}
 use Rattle.std.proofs.lemmas.Bool.{not-false}
 use Rattle.pid_types.specs.declared.call.Which.{Which}
 use Rattle.pid_types.specs.declared.plain.Name.{Name}
 use Rattle.pid_types.specs.declared.plain.Row.{Row}
 use Rattle.pid_types.specs.declared.plain.Control.{Control}
-use Rattle.pid_types.specs.declared.reply.Reply.TheVariants.{Forked, Done, Number, Reaped, NoneYet, Control as ControlMade}
+use Rattle.pid_types.specs.declared.reply.Reply.TheVariants.{Done, Number, Reaped, NoneYet, Control as ControlMade}
 use Rattle.pid_types.specs.declared.reply.Refusal.{Refusal}
 use Rattle.pid_types.specs.declared.reply.Refusal.TheVariants.{NoCaller, NoTask, NoChild, NoNumber, PidsLimit, SpaceFallen, TooDeep, Elsewhere, BadGroup, OtherSession, IsLeader, NoGroup, Executed, RootInit, NoControl, ControlBusy, RootControl, BadLimit, ControlDepth}
 use Rattle.pid_types.specs.State.{State}
@@ -16,7 +16,7 @@ use Rattle.pid_types.specs.Names.{path_up, level, root_number, number_or_zero, s
 use Rattle.pid_types.specs.Draw.{draw}
 use Rattle.pid_types.specs.Controls.{control_at, control_path, passed_limit}
 use Rattle.pid_types.specs.Outcome.{Outcome, answered, refused, changed, for_found, unless_found, refuse_if}
-use Rattle.pid_types.specs.Fork.{fork, fork_into, with_space, child_of, with_child, is_gone}
+use Rattle.pid_types.specs.Fork.{fork, no_room, forked, with_space, is_gone}
 use Rattle.pid_types.specs.Exit.{is_init, rows_after_exit, fall, exit}
 use Rattle.pid_types.specs.Wait.{least_row, end_of, without_row, ended_children, wait}
 use Rattle.pid_types.specs.Groups.{is_negative, target_of, group_for, set_group, set_group_of, set_pgid, has_members, start_session, set_sid}
@@ -54,20 +54,22 @@ pub record MayFork (state : State) (caller : Row) (t : ℕ) : Type 0 where
   pub numbers : find (λ s. is_none (draw state s)) (path_up state.spaces t) ≡ None
   pub limits : passed_limit state caller.home ≡ None
 
--- the outcome of a fork into the namespace t
-abbrev pub forked : State → Row → ℕ → Outcome
-forked state caller t =
-    changed (with_child state (child_of state caller t) (path_up state.spaces t))
-    (Forked (number_or_zero state.spaces (child_of state caller t).name caller.name.space) (root_number (child_of state caller t).name))
+-- there is room, or a refusal
+no_room_cases : (P : Outcome → Type 0) (old state : State) (caller : Row) (t : ℕ)
+    → ((r : Refusal) → P (refused old r)) → (MayFork state caller t → P (forked state caller t))
+    → P (unless_found old (no_room state caller t) (λ r. r) (forked state caller t))
+unfolding no_room
+no_room_cases P old state caller t refusal made = full (find (λ s. is_none (draw state s)) (path_up state.spaces t)) refl
+  where
+    limited : (o : Option ℕ) → passed_limit state caller.home ≡ o → find (λ s. is_none (draw state s)) (path_up state.spaces t) ≡ None
+        → P (unless_found old (option_map PidsLimit o) (λ r. r) (forked state caller t))
+    limited (Some c) e numbers = refusal (PidsLimit c)
+    limited None e numbers = made (record { numbers = numbers; limits = e })
 
--- a fork into the namespace t is refused, or made
-fork_into_cases : (P : Outcome → Type 0) (old state : State) (caller : Row) (t : ℕ)
-    → ((r : Refusal) → P (refused old r)) → (MayFork state caller t → P (forked state caller t)) → P (fork_into old state caller t)
-unfolding fork_into
-fork_into_cases P old state caller t refusal made =
-    unless_found_cases P old (find (λ s. is_none (draw state s)) (path_up state.spaces t)) NoNumber (unless_found old (passed_limit state caller.home) PidsLimit (forked state caller t)) (λ s. refusal (NoNumber s)) (λ numbers.
-    unless_found_cases P old (passed_limit state caller.home) PidsLimit (forked state caller t) (λ c. refusal (PidsLimit c)) (λ limits.
-    made (record { numbers = numbers; limits = limits })))
+    full : (o : Option ℕ) → find (λ s. is_none (draw state s)) (path_up state.spaces t) ≡ o
+        → P (unless_found old (option_map_or (λ s. Some (NoNumber s)) o (option_map PidsLimit (passed_limit state caller.home))) (λ r. r) (forked state caller t))
+    full (Some s) e = refusal (NoNumber s)
+    full None e = limited (passed_limit state caller.home) refl e
 
 -- a fork is refused, or makes a child in the children's namespace, or in a new one below it
 pub fork_cases : (P : Outcome → Type 0) (state : State) (stamp n : ℕ) (new_space : Bool)
@@ -84,12 +86,12 @@ fork_cases P state stamp n true refusal old new =
     refuse_if_cases P state _ TooDeep _ (refusal TooDeep) (λ shallow.
     refuse_if_cases P state _ Elsewhere _ (refusal Elsewhere) (λ here.
     refuse_if_cases P state _ SpaceFallen _ (refusal SpaceFallen) (λ stands.
-    fork_into_cases P state (with_space state caller.children_space stamp) caller stamp refusal (λ may.
+    no_room_cases P state (with_space state caller.children_space stamp) caller stamp refusal (λ may.
     new caller found stands shallow (not-false _ here) may)))))
 fork_cases P state stamp n false refusal old new =
     for_found_cases P state (live_row state.rows n) NoCaller _ (refusal NoCaller) (λ caller found.
     refuse_if_cases P state _ SpaceFallen _ (refusal SpaceFallen) (λ stands.
-    fork_into_cases P state state caller caller.children_space refusal (λ may.
+    no_room_cases P state state caller caller.children_space refusal (λ may.
     old caller found stands may)))
 
 -- ---- exit and wait

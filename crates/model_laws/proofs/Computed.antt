@@ -5,7 +5,7 @@ use Rattle.pid_types.specs.Names.{path_up, level, number, numbers_from, task_at,
 use Rattle.pid_types.specs.Draw.{least_free, cyclic_draw, draw}
 use Rattle.pid_types.specs.Controls.{control_path, count, passed_limit}
 use Rattle.pid_types.specs.Outcome.{sweep}
-use Rattle.pid_types.specs.Fork.{drawn, with_cursors, fork_into, fork}
+use Rattle.pid_types.specs.Fork.{drawn, with_cursors, no_room, fork}
 use Rattle.pid_types.specs.Exit.{new_parent, rows_after_exit, rows_after_fall, fall, exit}
 use Rattle.pid_types.specs.Wait.{matching, without_row, wait}
 use Rattle.pid_types.specs.Groups.{session_group, set_group_of, set_pgid, set_sid}
@@ -16,5 +16,5 @@ use Rattle.pid_types.specs.Step.{step}
 
 -- a proof that unfolds this unfolds every call
 unfoldable pub computed : ℕ
-unfolding with_row climb path_up level number numbers_from task_at taken least_free cyclic_draw draw control_path count passed_limit sweep drawn with_cursors fork_into fork new_parent rows_after_exit rows_after_fall fall exit matching without_row wait session_group set_group_of set_pgid set_sid get_pid get_ppid get_pgid get_sid ns_pid next exec with_control make_control is_busy without_control remove_control with_limit set_limit move_task count_tasks join set_subreaper sight step
+unfolding with_row climb path_up level number numbers_from task_at taken least_free cyclic_draw draw control_path count passed_limit sweep drawn with_cursors no_room fork new_parent rows_after_exit rows_after_fall fall exit matching without_row wait session_group set_group_of set_pgid set_sid get_pid get_ppid get_pgid get_sid ns_pid next exec with_control make_control is_busy without_control remove_control with_limit set_limit move_task count_tasks join set_subreaper sight step
 computed = 0

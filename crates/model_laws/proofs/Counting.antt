@@ -31,7 +31,8 @@ use Rattle.model_laws.specs.CountLaws.{one_if, may_change_counts}
 use Rattle.model_laws.proofs.Lists.{IsIn-map, IsIn-from_filter, IsIn-from_contains, contains-from_IsIn, filter-same, filter-all}
 use Rattle.model_laws.proofs.Names.{on_row-keeps, same_name-true, same_name-refl}
 use Rattle.model_laws.proofs.Trees.{control_to_root, control_at-Some, live_row-Some}
-use Rattle.model_laws.proofs.Calls.{forked, fork_cases, exit_cases, wait_cases, set_pgid_cases, set_sid_cases, exec_cases, make_control_cases, remove_control_cases, set_limit_cases, move_task_cases, join_cases, set_subreaper_cases}
+use Rattle.model_laws.proofs.Calls.{fork_cases, exit_cases, wait_cases, set_pgid_cases, set_sid_cases, exec_cases, make_control_cases, remove_control_cases, set_limit_cases, move_task_cases, join_cases, set_subreaper_cases}
+use Rattle.pid_types.specs.Fork.{forked}
 use Rattle.model_laws.proofs.EndsKept.{reaped_row}
 use Rattle.model_laws.proofs.ControlsKept.{with_made, path_old, others, other_path, no_child, control_path-map, path_of_parent, path_of_child}
 use Rattle.model_laws.proofs.Limits.{length-filter-insert}

@@ -1,7 +1,6 @@
 pub mod Computed
 pub mod Lists
 pub mod Draws
-pub mod Refusals
 pub mod Calls
 pub mod Chains
 pub mod Names
@@ -24,6 +23,7 @@ pub mod StepKept
 pub mod Bounds
 pub mod Limits
 pub mod Reuse
+pub mod Refusals
 pub mod Levels
 pub mod Glimpses
 pub mod Counting

@@ -30,7 +30,8 @@ use Rattle.model_laws.proofs.Lists.{find-None}
 use Rattle.model_laws.proofs.Rising.{find-key}
 use Rattle.model_laws.proofs.Trees.{row_at-listed}
 use Rattle.model_laws.proofs.Inserts.{IsIn-insert_new}
-use Rattle.model_laws.proofs.Calls.{MayFork, forked, fork_cases}
+use Rattle.model_laws.proofs.Calls.{MayFork, fork_cases}
+use Rattle.pid_types.specs.Fork.{forked}
 use Rattle.model_laws.proofs.StepKept.{step_keeps}
 
 -- ---- only a fork is answered as one

@@ -24,7 +24,8 @@ use Rattle.model_laws.proofs.Names.{user_of_name, IsIn-names_in_use}
 use Rattle.model_laws.proofs.Trees.{row_at-listed, live_row-Some}
 use Rattle.model_laws.proofs.Inserts.{IsIn-insert_new, IsIn-insert_old}
 use Rattle.model_laws.proofs.Sweeps.{name_number}
-use Rattle.model_laws.proofs.Calls.{MayFork, forked, fork_cases}
+use Rattle.model_laws.proofs.Calls.{MayFork, fork_cases}
+use Rattle.pid_types.specs.Fork.{forked}
 use Rattle.model_laws.proofs.ForkKept.{IsReady, IsReady-old, IsReady-new, with_new, fresh, number_after, IsCoherent-forked}
 use Rattle.model_laws.proofs.Limits.{fork_or_not}
 use Rattle.model_laws.proofs.StepKept.{step_keeps, run_keeps}

@@ -1,108 +1,186 @@
--- Refusals: the order in which each call tests them, and that they change nothing.
-use Rattle.std.specs.Prelude.{◌≡◌, ℕ, ◌+◌, Bool, true, false, ◌&&◌, ◌||◌, not, ◌==◌, nat_lt, nat_le, List, [], ◌∷◌, ◌++◌, map, length, Option, Some, None, if◌then◌else◌, is_none, IsTrue}
-use Rattle.std.specs.Option.{option_map_or}
+-- Refusals: on which ground each comes, in which order, and that they change nothing.
+use Rattle.std.specs.Prelude.{◌≡◌, ◌⊎◌, ℕ, ℤ, pos, negsuc, ◌+◌, ◌<◌, ◌≤◌, Bool, true, false, List, [], ◌∷◌, length, Option, Some, None, IsTrue}
 use Rattle.pid_types.specs.declared.call.Call.{Call}
 use Rattle.pid_types.specs.declared.call.Call.TheVariants.{Fork, GetPid, NsPid, Exec, Exit, Wait, GetPpid, SetPgid, SetSid, MakeControl, RemoveControl, SetLimit, Move, Count, GetPgid, GetSid, Next, Join, SetSubreaper}
+use Rattle.pid_types.specs.declared.call.Which.{Which}
+use Rattle.pid_types.specs.declared.call.Which.TheVariants.{Any, Pid, OwnGroup, Group}
+use Rattle.pid_types.specs.declared.plain.Name.{Name}
 use Rattle.pid_types.specs.declared.plain.Row.{Row}
+use Rattle.pid_types.specs.declared.plain.Space.{Space}
+use Rattle.pid_types.specs.declared.plain.Control.{Control}
 use Rattle.pid_types.specs.declared.reply.Reply.{Reply}
 use Rattle.pid_types.specs.declared.reply.Reply.TheVariants.{Refused, NoneYet}
 use Rattle.pid_types.specs.declared.reply.Refusal.{Refusal}
 use Rattle.pid_types.specs.declared.reply.Refusal.TheVariants.{NoCaller, NoTask, NoChild, NoNumber, PidsLimit, SpaceFallen, TooDeep, Elsewhere, BadGroup, OtherSession, IsLeader, NoGroup, Executed, RootInit, NoControl, ControlBusy, RootControl, BadLimit, ControlDepth}
+use Rattle.pid_types.specs.Bounds.{deepest_space, deepest_control, greatest_limit}
+use Rattle.pid_types.specs.Membership.{IsIn}
 use Rattle.pid_types.specs.State.{State}
-use Rattle.pid_types.specs.Names.{level, path_up, root_number, same_name, is_parent, is_live, live_row, task_at}
-use Rattle.pid_types.specs.Draw.{draw}
-use Rattle.pid_types.specs.Controls.{control_at, control_path, count, is_limited_below}
-use Rattle.pid_types.specs.Fork.{with_space, is_gone}
-use Rattle.pid_types.specs.Wait.{matching}
-use Rattle.pid_types.specs.Groups.{is_negative, target_of, group_for, has_members}
-use Rattle.pid_types.specs.Queries.{self_or_task}
-use Rattle.pid_types.specs.Changes.{is_busy}
+use Rattle.pid_types.specs.Names.{level, path_up, number, root_number, is_live, taken}
+use Rattle.pid_types.specs.Draw.{restart, cursor_of}
+use Rattle.pid_types.specs.Controls.{control_path, count, is_limited_below}
+use Rattle.pid_types.specs.Fork.{with_space}
 use Rattle.pid_types.specs.Step.{step}
+use Rattle.model_laws.specs.Draws.{IsFull}
 
--- a refusal, with whether it applies
-abbrev pub Ground : Type 0
-Ground = Bool × Refusal
+-- ---- the order of refusals
 
--- the first refusal that applies
-abbrev pub first_refusal : List Ground → Option Refusal
-first_refusal [] = None
-first_refusal (g ∷ gs) = if g.0 then Some g.1 else first_refusal gs
+-- the call is not refused
+abbrev pub goes_on : Option Refusal → Type 0
+goes_on reply = reply ≡ None
 
--- the refusal where nothing was found, or the later ones
-abbrev pub unless_there : {A : Type 0} → Option A → Refusal → (A → List Ground) → List Ground
-unless_there None r later = (true, r) ∷ []
-unless_there (Some a) r later = (false, r) ∷ later a
+-- the refusal, where its ground holds; else what comes later
+abbrev pub refuse : Type 0 → Refusal → (Option Refusal → Type 0) → Option Refusal → Type 0
+refuse ground r later reply = (ground × (reply ≡ Some r)) ⊎ ((ground → ⊥) × later reply)
+
+-- the refusal, where nothing fits; else what comes later, for one that does
+abbrev pub find_one : {A : Type 0} → (A → Type 0) → Refusal → (A → Option Refusal → Type 0) → Option Refusal → Type 0
+find_one {A} fits r later reply = ((a : A) × fits a × later a reply) ⊎ (((a : A) → fits a → ⊥) × (reply ≡ Some r))
+
+-- the refusal of the first of them for which its ground holds; else what comes later
+abbrev pub refuse_first : (ℕ → Type 0) → (ℕ → Refusal) → List ℕ → (Option Refusal → Type 0) → Option Refusal → Type 0
+refuse_first ground r [] later reply = later reply
+refuse_first ground r (x ∷ xs) later reply = refuse (ground x) (r x) (refuse_first ground r xs later) reply
+
+-- ---- whom and what the numbers of a call name
+
+-- the live task with the root number
+abbrev pub IsLiveTask : State → ℕ → Row → Type 0
+IsLiveTask state n row = IsIn row state.rows × (root_number row.name ≡ n) × (is_live row ≡ true)
+
+-- the task with the number in the caller's namespace, zombies among them
+abbrev pub IsTaskTo : State → Row → ℕ → Row → Type 0
+IsTaskTo state caller n row = IsIn row state.rows × (number state.spaces row.name caller.name.space ≡ Some n)
+
+-- the same, where 0 names the caller
+abbrev pub IsSelfOrTask : State → Row → ℕ → Row → Type 0
+IsSelfOrTask state caller n row = ((n ≡ 0) × (row ≡ caller)) ⊎ ((n ≡ 0 → ⊥) × IsTaskTo state caller n row)
+
+-- and where a negative number names nobody
+abbrev pub IsTarget : State → Row → ℤ → Row → Type 0
+IsTarget state caller (pos n) row = IsSelfOrTask state caller n row
+IsTarget state caller (negsuc n) row = ⊥
+
+-- the task is a child of the other
+abbrev pub IsChild : Row → Row → Type 0
+IsChild parent row = row.parent ≡ Some parent.name
+
+-- a wait of the caller selects the child: waitpid(2)
+abbrev pub IsSelected : State → Row → Which → Row → Type 0
+IsSelected state caller Any row = Unit {0}
+IsSelected state caller (Pid n) row = number state.spaces row.name caller.name.space ≡ Some n
+IsSelected state caller OwnGroup row = row.group ≡ caller.group
+IsSelected state caller (Group n) row = number state.spaces row.group caller.name.space ≡ Some n
+
+-- the number is 0, or the target's own in the caller's namespace
+abbrev pub NamesTarget : State → Row → Row → ℕ → Type 0
+NamesTarget state caller target n = (n ≡ 0) ⊎ (number state.spaces target.name caller.name.space ≡ Some n)
+
+-- the group with the number in the caller's namespace, which some task of the caller's session is in
+abbrev pub IsSessionGroup : State → Row → ℕ → Name → Type 0
+IsSessionGroup state caller n group =
+    (row : Row) × IsIn row state.rows × (row.session ≡ caller.session) × (row.group ≡ group) × (number state.spaces group caller.name.space ≡ Some n)
+
+-- the group that the target is to go into: setpgid(2), "If pgid is zero, then the PGID of the process specified by pid is made the
+-- same as its process ID"
+abbrev pub IsGroupFor : State → Row → Row → ℤ → Name → Type 0
+IsGroupFor state caller target (pos n) group =
+    (NamesTarget state caller target n × (group ≡ target.name)) ⊎ ((NamesTarget state caller target n → ⊥) × IsSessionGroup state caller n group)
+IsGroupFor state caller target (negsuc n) group = ⊥
+
+-- the namespace with the id
+abbrev pub IsSpace : State → ℕ → Space → Type 0
+IsSpace state id s = IsIn s state.spaces × (s.id ≡ id)
+
+-- the control group with the id
+abbrev pub IsControl : State → ℕ → Control → Type 0
+IsControl state id c = IsIn c state.controls × (c.id ≡ id)
+
+-- a live task or a control group is directly in the control group
+abbrev pub IsBusy : State → ℕ → Type 0
+IsBusy state id =
+    ((row : Row) × IsIn row state.rows × (row.home ≡ id) × (is_live row ≡ true)) ⊎ ((c : Control) × IsIn c state.controls × (c.parent ≡ Some id))
+
+-- ---- the refusals of each call
+
+-- every number that the namespace could give is taken
+abbrev pub HasNoNumber : State → ℕ → Type 0
+HasNoNumber state s = IsFull (taken state s) (restart (cursor_of state s)) state.pid_max
 
 -- of a fork into the namespace t: its own number first, then outwards; then the nearest control group first
-abbrev pub grounds_into : State → Row → ℕ → List Ground
-grounds_into state caller t =
-    map (λ s. (is_none (draw state s), NoNumber s)) (path_up state.spaces t)
-    ++ map (λ c. (is_limited_below state (count state c + 1) c, PidsLimit c)) (control_path state.controls caller.home)
+abbrev pub wants_room : State → Row → ℕ → Option Refusal → Type 0
+wants_room state caller t =
+    refuse_first (HasNoNumber state) NoNumber (path_up state.spaces t)
+    (refuse_first (λ c. is_limited_below state (count state c + 1) c ≡ true) PidsLimit (control_path state.controls caller.home) goes_on)
+
+-- of a fork that may go on: into a new namespace, whose id is the stamp, or into the one for the caller's children
+abbrev pub wants_number : State → ℕ → Bool → Row → Option Refusal → Type 0
+wants_number state stamp true caller = wants_room (with_space state caller.children_space stamp) caller stamp
+wants_number state stamp false caller = wants_room state caller caller.children_space
 
 -- of a fork
-abbrev pub grounds_of_fork : State → ℕ → Bool → Row → List Ground
-grounds_of_fork state stamp new_space caller =
+abbrev pub forks : State → ℕ → Bool → Row → Option Refusal → Type 0
+forks state stamp new_space caller =
     let p = caller.children_space in
-    (new_space && nat_le 32 (level state.spaces p), TooDeep)
-    ∷ (new_space && not (p == caller.name.space), Elsewhere)
-    ∷ (is_gone state p, SpaceFallen)
-    ∷ (if new_space then grounds_into (with_space state p stamp) caller stamp else grounds_into state caller p)
+    refuse ((new_space ≡ true) × (deepest_space ≤ level state.spaces p)) TooDeep
+    (refuse ((new_space ≡ true) × (p ≡ caller.name.space → ⊥)) Elsewhere
+    (find_one (IsSpace state p) SpaceFallen (λ s.
+    refuse (s.fallen ≡ true) SpaceFallen
+    (wants_number state stamp new_space caller))))
 
--- of a change of the target's group
-abbrev pub grounds_of_target : State → Row → Row → List Ground → List Ground
-grounds_of_target state caller target later =
-    (is_parent caller.name target && not (same_name target.session caller.session), OtherSession)
-    ∷ (is_parent caller.name target && target.executed, Executed)
-    ∷ (not (is_parent caller.name target || same_name target.name caller.name), NoTask)
-    ∷ (same_name target.session target.name, IsLeader)
-    ∷ later
+-- of a change of the target's group: setpgid(2), "ERRORS"
+abbrev pub changes_group : State → Row → ℤ → Row → Option Refusal → Type 0
+changes_group state caller pgid target =
+    refuse (IsChild caller target × (target.session ≡ caller.session → ⊥)) OtherSession
+    (refuse (IsChild caller target × (target.executed ≡ true)) Executed
+    (refuse ((IsChild caller target → ⊥) × (target.name ≡ caller.name → ⊥)) NoTask
+    (refuse (target.session ≡ target.name) IsLeader
+    (find_one (IsGroupFor state caller target pgid) NoGroup (λ group. goes_on)))))
+
+-- a live caller, whose call goes on to later refusals
+abbrev pub by_live : State → ℕ → (Row → Option Refusal → Type 0) → Option Refusal → Type 0
+by_live state n later = find_one (IsLiveTask state n) NoCaller later
 
 -- the refusals of each call in their order
-abbrev pub grounds : State → ℕ → Call → List Ground
-grounds state stamp (Fork caller new_space) = unless_there (live_row state.rows caller) NoCaller (grounds_of_fork state stamp new_space)
-grounds state stamp (GetPid caller) = unless_there (live_row state.rows caller) NoCaller (λ row. [])
-grounds state stamp (NsPid caller target) =
-    unless_there (live_row state.rows caller) NoCaller (λ row. unless_there (task_at state row.name.space target) NoTask (λ task. []))
-grounds state stamp (Exec caller) = unless_there (live_row state.rows caller) NoCaller (λ row. [])
-grounds state stamp (Exit caller status) = unless_there (live_row state.rows caller) NoCaller (λ row. (root_number row.name == 1, RootInit) ∷ [])
-grounds state stamp (Wait caller which) =
-    unless_there (live_row state.rows caller) NoCaller (λ row. (length (matching state row which) == 0, NoChild) ∷ [])
-grounds state stamp (GetPpid caller) = unless_there (live_row state.rows caller) NoCaller (λ row. [])
-grounds state stamp (SetPgid caller pid pgid) =
-    unless_there (live_row state.rows caller) NoCaller (λ row.
-    (is_negative pgid, BadGroup)
-    ∷ unless_there (target_of state row pid) NoTask (λ target.
-    grounds_of_target state row target (unless_there (group_for state row target pgid) NoGroup (λ group. []))))
-grounds state stamp (SetSid caller) = unless_there (live_row state.rows caller) NoCaller (λ row. (has_members state row.name, IsLeader) ∷ [])
-grounds state stamp (MakeControl parent) =
-    unless_there (control_at state.controls parent) NoControl (λ c. (nat_lt 64 (length (control_path state.controls parent)), ControlDepth) ∷ [])
-grounds state stamp (RemoveControl id) =
-    unless_there (control_at state.controls id) NoControl (λ c. unless_there c.parent RootControl (λ parent. (is_busy state id, ControlBusy) ∷ []))
-grounds state stamp (SetLimit id limit) =
-    unless_there (control_at state.controls id) NoControl (λ c.
-    unless_there c.parent RootControl (λ parent. (option_map_or (nat_lt 4194304) limit false, BadLimit) ∷ []))
-grounds state stamp (Move task id) =
-    unless_there (live_row state.rows task) NoTask (λ row. unless_there (control_at state.controls id) NoControl (λ c. []))
-grounds state stamp (Count id) = unless_there (control_at state.controls id) NoControl (λ c. [])
-grounds state stamp (GetPgid caller pid) =
-    unless_there (live_row state.rows caller) NoCaller (λ row. unless_there (self_or_task state row pid) NoTask (λ task. []))
-grounds state stamp (GetSid caller pid) =
-    unless_there (live_row state.rows caller) NoCaller (λ row. unless_there (self_or_task state row pid) NoTask (λ task. []))
-grounds state stamp (Next caller kind from) = unless_there (live_row state.rows caller) NoCaller (λ row. [])
-grounds state stamp (Join caller target) =
-    unless_there (live_row state.rows caller) NoCaller (λ row.
-    unless_there (task_at state row.name.space target) NoTask (λ task. (not (is_live task), NoTask) ∷ []))
-grounds state stamp (SetSubreaper caller on) = unless_there (live_row state.rows caller) NoCaller (λ row. [])
+abbrev pub verdict : State → ℕ → Call → Option Refusal → Type 0
+verdict state stamp (Fork caller new_space) = by_live state caller (forks state stamp new_space)
+verdict state stamp (GetPid caller) = by_live state caller (λ row. goes_on)
+verdict state stamp (NsPid caller target) = by_live state caller (λ row. find_one (IsTaskTo state row target) NoTask (λ task. goes_on))
+verdict state stamp (Exec caller) = by_live state caller (λ row. goes_on)
+verdict state stamp (Exit caller status) = by_live state caller (λ row. refuse (root_number row.name ≡ 1) RootInit goes_on)
+verdict state stamp (Wait caller which) =
+    by_live state caller (λ row. find_one (λ child. IsIn child state.rows × IsChild row child × IsSelected state row which child) NoChild (λ child. goes_on))
+verdict state stamp (GetPpid caller) = by_live state caller (λ row. goes_on)
+verdict state stamp (SetPgid caller pid pgid) =
+    by_live state caller (λ row.
+    refuse ((n : ℕ) × (pgid ≡ negsuc n)) BadGroup
+    (find_one (IsTarget state row pid) NoTask (changes_group state row pgid)))
+verdict state stamp (SetSid caller) = by_live state caller (λ row. refuse ((r : Row) × IsIn r state.rows × (r.group ≡ row.name)) IsLeader goes_on)
+verdict state stamp (MakeControl parent) =
+    find_one (IsControl state parent) NoControl (λ c. refuse (deepest_control < length (control_path state.controls parent)) ControlDepth goes_on)
+verdict state stamp (RemoveControl id) =
+    find_one (IsControl state id) NoControl (λ c. find_one (λ parent. c.parent ≡ Some parent) RootControl (λ parent. refuse (IsBusy state id) ControlBusy goes_on))
+verdict state stamp (SetLimit id limit) =
+    find_one (IsControl state id) NoControl (λ c.
+    find_one (λ parent. c.parent ≡ Some parent) RootControl (λ parent.
+    refuse ((n : ℕ) × (limit ≡ Some n) × (greatest_limit < n)) BadLimit goes_on))
+verdict state stamp (Move task id) =
+    find_one (IsLiveTask state task) NoTask (λ row. find_one (IsControl state id) NoControl (λ c. goes_on))
+verdict state stamp (Count id) = find_one (IsControl state id) NoControl (λ c. goes_on)
+verdict state stamp (GetPgid caller pid) = by_live state caller (λ row. find_one (IsSelfOrTask state row pid) NoTask (λ task. goes_on))
+verdict state stamp (GetSid caller pid) = by_live state caller (λ row. find_one (IsSelfOrTask state row pid) NoTask (λ task. goes_on))
+verdict state stamp (Next caller kind from) = by_live state caller (λ row. goes_on)
+verdict state stamp (Join caller target) =
+    by_live state caller (λ row. find_one (λ task. IsTaskTo state row target task) NoTask (λ task. refuse (is_live task ≡ false) NoTask goes_on))
+verdict state stamp (SetSubreaper caller on) = by_live state caller (λ row. goes_on)
 
 -- the refusal that the reply is, if it is one
 abbrev pub refusal_in : Reply → Option Refusal
 refusal_in (Refused r) = Some r
 refusal_in _ = None
 
--- a call is refused exactly where a refusal applies, by the first one
+-- a call is refused exactly where a ground holds, by the first one in the order of its refusals
 abbrev pub FirstRefusalAnswers : Type 0
-FirstRefusalAnswers =
-    (state : State) (stamp : ℕ) (call : Call) → refusal_in (step state stamp call).reply ≡ first_refusal (grounds state stamp call)
+FirstRefusalAnswers = (state : State) (stamp : ℕ) (call : Call) → verdict state stamp call (refusal_in (step state stamp call).reply)
 
 -- whether the call only asks
 abbrev pub is_query : Call → Bool

@@ -1,10 +1,11 @@
 -- Fork: fork(2), and clone(2) with CLONE_NEWPID.
-use Rattle.std.specs.Prelude.{ℕ, ◌+◌, Bool, true, false, ◌&&◌, not, ◌==◌, nat_lt, nat_le, List, [], ◌∷◌, ◌++◌, map, reverse, Some, if◌then◌else◌, is_none, unwrap_or, find}
+use Rattle.std.specs.Prelude.{ℕ, ◌+◌, Bool, true, false, ◌&&◌, not, ◌==◌, nat_lt, nat_le, List, [], ◌∷◌, ◌++◌, map, reverse, Some, if◌then◌else◌, is_none, unwrap_or, find, Option, option_map}
 use Rattle.std.specs.Option.{option_map_or}
 use Rattle.pid_types.specs.declared.plain.Row.{Row}
 use Rattle.pid_types.specs.declared.plain.Space.{Space}
 use Rattle.pid_types.specs.declared.plain.Life.TheVariants.{Live}
 use Rattle.pid_types.specs.declared.reply.Reply.TheVariants.{Forked}
+use Rattle.pid_types.specs.declared.reply.Refusal.{Refusal}
 use Rattle.pid_types.specs.declared.reply.Refusal.TheVariants.{TooDeep, Elsewhere, SpaceFallen, NoNumber, PidsLimit}
 use Rattle.pid_types.specs.Bounds.{deepest_space}
 use Rattle.pid_types.specs.Chains.{contains}
@@ -58,21 +59,26 @@ is_gone state s = option_map_or (λ t. t.fallen) (space_at state.spaces s) true
 abbrev pub with_child : State → Row → List ℕ → State
 with_child state child path = record state { rows = insert_row child state.rows; spaces = with_cursors state path }
 
--- a child in the namespace t, or the first refusal for want of a number or of room under a limit
-unfoldable pub fork_into : State → State → Row → ℕ → Outcome
-fork_into old state caller t =
-    let path = path_up state.spaces t in
+-- why the caller can have no child in the namespace t: the first namespace from t outwards that has no number to give, or else the
+-- nearest control group whose limit it would pass
+unfoldable pub no_room : State → Row → ℕ → Option Refusal
+no_room state caller t =
+    option_map_or (λ s. Some (NoNumber s)) (find (λ s. is_none (draw state s)) (path_up state.spaces t)) (option_map PidsLimit (passed_limit state caller.home))
+
+-- the outcome with the caller's child in the namespace t
+abbrev pub forked : State → Row → ℕ → Outcome
+forked state caller t =
     let child = child_of state caller t in
-    unless_found old (find (λ s. is_none (draw state s)) path) NoNumber
-    (unless_found old (passed_limit state caller.home) PidsLimit
-    (changed (with_child state child path) (Forked (number_or_zero state.spaces child.name caller.name.space) (root_number child.name))))
+    changed (with_child state child (path_up state.spaces t)) (Forked (number_or_zero state.spaces child.name caller.name.space) (root_number child.name))
 
 -- a child in the namespace for the caller's children, or in a new one below it, in which it is the init
 unfoldable pub fork : State → ℕ → ℕ → Bool → Outcome
 fork state stamp n new_space =
     by_caller state n (λ caller.
     let p = caller.children_space in
+    let planned = if new_space then with_space state p stamp else state in
+    let t = if new_space then stamp else p in
     refuse_if state (new_space && nat_le deepest_space (level state.spaces p)) TooDeep
     (refuse_if state (new_space && not (p == caller.name.space)) Elsewhere
     (refuse_if state (is_gone state p) SpaceFallen
-    (if new_space then fork_into state (with_space state p stamp) caller stamp else fork_into state state caller p))))
+    (unless_found state (no_room planned caller t) (λ r. r) (forked planned caller t)))))
