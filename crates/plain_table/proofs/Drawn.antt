@@ -14,8 +14,8 @@ use Rattle.pid_types.specs.State.{State}
 use Rattle.pid_types.specs.Names.{path_up, beside, number_or_zero, root_number}
 use Rattle.pid_types.specs.Draw.{draw}
 use Rattle.pid_types.specs.Controls.{passed_limit}
-use Rattle.pid_types.specs.Outcome.{refused, changed}
-use Rattle.pid_types.specs.Fork.{drawn, with_cursors, insert_row, child_of, fork_into}
+use Rattle.pid_types.specs.Outcome.{changed}
+use Rattle.pid_types.specs.Fork.{drawn, with_cursors, insert_row, child_of, no_room, forked}
 use Rattle.plain_table.specs.Moved.{moved_by}
 
 -- where nothing before it passes, what passes is found
@@ -37,16 +37,22 @@ unfolding drawn
 drawn-Some state s n h = rw h refl
 
 -- a namespace without a number
-pub fork_into-full : (old state : State) (caller : Row) (t s : ℕ) → find (λ s. is_none (draw state s)) (path_up state.spaces t) ≡ Some s
-    → fork_into old state caller t ≡ refused old (NoNumber s)
-unfolding fork_into
-fork_into-full old state caller t s full = rw full refl
+pub no_room-full : (state : State) (caller : Row) (t s : ℕ) → find (λ s. is_none (draw state s)) (path_up state.spaces t) ≡ Some s
+    → no_room state caller t ≡ Some (NoNumber s)
+unfolding no_room
+no_room-full state caller t s full = rw full refl
 
 -- a control group at its limit
-pub fork_into-limited : (old state : State) (caller : Row) (t c : ℕ) → find (λ s. is_none (draw state s)) (path_up state.spaces t) ≡ None → passed_limit state caller.home ≡ Some c
-    → fork_into old state caller t ≡ refused old (PidsLimit c)
-unfolding fork_into
-fork_into-limited old state caller t c given limited = rw (given, limited) refl
+pub no_room-limited : (state : State) (caller : Row) (t c : ℕ) → find (λ s. is_none (draw state s)) (path_up state.spaces t) ≡ None → passed_limit state caller.home ≡ Some c
+    → no_room state caller t ≡ Some (PidsLimit c)
+unfolding no_room
+no_room-limited state caller t c given limited = rw (given, limited) refl
+
+-- there is room
+pub no_room-None : (state : State) (caller : Row) (t : ℕ) → find (λ s. is_none (draw state s)) (path_up state.spaces t) ≡ None → passed_limit state caller.home ≡ None
+    → no_room state caller t ≡ None
+unfolding no_room
+no_room-None state caller t given limited = rw (given, limited) refl
 
 -- what stands beside an id of the path is its value
 beside-values : (d : ℕ → ℕ) (path : List ℕ) (s k : ℕ) → unwrap_or (beside s path (map d path)) k ≡ (if contains path s then d s else k)
@@ -62,11 +68,9 @@ unfolding with_cursors
 with_cursors-moved state path = ap (λ f. map f state.spaces) (fun_ext (λ s. let same : (if contains path s.id then drawn state s.id + 1 else s.cursor) ≡ unwrap_or (beside s.id path (map (λ s. drawn state s + 1) path)) s.cursor = sym (beside-values (λ s. drawn state s + 1) path s.id s.cursor) in let build : ℕ → Space = λ n. record s { cursor = n } in ap build same))
 
 -- the child is there, and the cursors have moved
-pub fork_into-planned : (old state : State) (caller : Row) (t : ℕ) (path cursors : List ℕ) (child : Row) (inner root : ℕ)
-    → find (λ s. is_none (draw state s)) (path_up state.spaces t) ≡ None → passed_limit state caller.home ≡ None
+pub forked-planned : (state : State) (caller : Row) (t : ℕ) (path cursors : List ℕ) (child : Row) (inner root : ℕ)
     → path ≡ path_up state.spaces t → cursors ≡ map (λ s. drawn state s + 1) path → child ≡ child_of state caller t
     → inner ≡ number_or_zero state.spaces child.name caller.name.space → root ≡ root_number child.name
-    → fork_into old state caller t ≡ changed (record state { rows = insert_row child state.rows; spaces = map (moved_by path cursors) state.spaces }) (Forked inner root)
-unfolding fork_into
-fork_into-planned old state caller t path cursors child inner root given room is_path is_cursors is_child is_inner is_root =
-    rw (is_inner, is_root, is_child, is_cursors, is_path, given, room, with_cursors-moved) refl
+    → forked state caller t ≡ changed (record state { rows = insert_row child state.rows; spaces = map (moved_by path cursors) state.spaces }) (Forked inner root)
+forked-planned state caller t path cursors child inner root is_path is_cursors is_child is_inner is_root =
+    rw (is_inner, is_root, is_child, is_cursors, is_path, with_cursors-moved) refl

@@ -5,7 +5,7 @@ ghost use Rattle.pid_types.specs.Names.{root_number as root_of, path_up};
 ghost use Rattle.plain_table.specs.Planned.{with_planned, after_plan};
 ghost use Rattle.pid_types.specs.Draw.{draw};
 ghost use Rattle.pid_types.specs.Outcome.{refused, changed};
-ghost use Rattle.pid_types.specs.Fork.{drawn, insert_row, child_of as child_row, fork_into, with_space, fork as fork_of};
+ghost use Rattle.pid_types.specs.Fork.{drawn, insert_row, child_of as child_row, no_room, forked, with_space, fork as fork_of};
 
 use crate::edit::{MovesCursors, edit_all};
 use crate::find::copy_row;
@@ -78,8 +78,8 @@ fn child_of(caller: &Row, space: u64, mut numbers: ArrayVec<u32, 33>) -> Row
 /// Plans the caller's child in the namespace, or says why there can be none.
 fn plan(view: &View<'_>, caller: &Row, space: u64) -> Result<ForkPlan, Refusal>
     ensures { MatchResult result
-        (λ p. (p.added ≡ None) × ((old : State) → fork_into old view.now caller.now space ≡ changed (with_planned view.now p) p.reply))
-        (λ r. (old : State) → fork_into old view.now caller.now space ≡ refused old r) }
+        (λ p. (p.added ≡ None) × (no_room view.now caller.now space ≡ None) × (forked view.now caller.now space ≡ changed (with_planned view.now p) p.reply))
+        (λ r. no_room view.now caller.now space ≡ Some r) }
 {
     let path = view.path_up(space);
     let draws = match draw_along(view, path.as_slice()) {
@@ -175,8 +175,9 @@ impl PlainTable {
     /// Plans a child that is the init of a new namespace.
     fn plan_inside_new(&self, caller: &Row, stamp: u64) -> Result<ForkPlan, Refusal>
         ensures { MatchResult result
-            (λ p. (old : State) → fork_into old (with_space self.now caller.now.children_space stamp) caller.now stamp ≡ changed (after_plan self.now p) p.reply)
-            (λ r. (old : State) → fork_into old (with_space self.now caller.now.children_space stamp) caller.now stamp ≡ refused old r) }
+            (λ p. let planned = with_space self.now caller.now.children_space stamp in
+                (no_room planned caller.now stamp ≡ None) × (forked planned caller.now stamp ≡ changed (after_plan self.now p) p.reply))
+            (λ r. no_room (with_space self.now caller.now.children_space stamp) caller.now stamp ≡ Some r) }
     {
         let added = Space {
             id: stamp,

@@ -1,23 +1,23 @@
 use Rattle.std.proofs.Common.{refl, sym, ◌∙◌}
-use Rattle.plain_table.proofs.Drawn.{fork_into-full, fork_into-limited, fork_into-planned}
+use Rattle.plain_table.proofs.Drawn.{no_room-full, no_room-limited, no_room-None, forked-planned}
 use Rattle.plain_table.proofs.fork.plan.Goals as goal
 
 pub returns-in-Err : goal.returns-in-Err
-returns-in-Err c old =
+returns-in-Err c =
     let path = c.as_slice.ensures.value ∙ c.path_up-path.ensures in
-    fork_into-full old c.args.view.now c.args.caller.now c.args.space c.in-Err.full (rw path at c.in-Err.ensures)
+    no_room-full c.args.view.now c.args.caller.now c.args.space c.in-Err.full (rw path at c.in-Err.ensures)
 
 pub returns-in-Some : goal.returns-in-Some
-returns-in-Some c old =
+returns-in-Some c =
     let path = c.as_slice.ensures.value ∙ c.path_up-path.ensures in
-    fork_into-limited old c.args.view.now c.args.caller.now c.args.space c.in-Some.control (rw path at c.in-Ok.ensures.0) (sym c.passed_limit.ensures ∙ c.in-Some.is)
+    no_room-limited c.args.view.now c.args.caller.now c.args.space c.in-Some.control (rw path at c.in-Ok.ensures.0) (sym c.passed_limit.ensures ∙ c.in-Some.is)
 
 pub returns : goal.returns
-returns c = (
-  refl,
-  λ old.
-      let path = c.as_slice.ensures.value ∙ c.path_up-path.ensures in
-      let child = c.child_of-child.ensures c.args.view.now (rw path at c.in-Ok.ensures.1) in
-      fork_into-planned old c.args.view.now c.args.caller.now c.args.space c.path_up-path.result.items c.in-Ok.draws.cursors.items c.child_of-child.result c.number_or_zero.result c.root_number.result
-      (rw path at c.in-Ok.ensures.0) (sym c.passed_limit.ensures ∙ c.in_default.is) c.path_up-path.ensures (rw c.as_slice.ensures.value at c.in-Ok.ensures.2) child c.number_or_zero.ensures c.root_number.ensures,
-)
+returns c =
+    let path = c.as_slice.ensures.value ∙ c.path_up-path.ensures in
+    let child = c.child_of-child.ensures c.args.view.now (rw path at c.in-Ok.ensures.1) in (
+      refl,
+      no_room-None c.args.view.now c.args.caller.now c.args.space (rw path at c.in-Ok.ensures.0) (sym c.passed_limit.ensures ∙ c.in_default.is),
+      forked-planned c.args.view.now c.args.caller.now c.args.space c.path_up-path.result.items c.in-Ok.draws.cursors.items c.child_of-child.result c.number_or_zero.result c.root_number.result
+          c.path_up-path.ensures (rw c.as_slice.ensures.value at c.in-Ok.ensures.2) child c.number_or_zero.ensures c.root_number.ensures,
+    )
