@@ -1,7 +1,7 @@
 -- Exit leaves a sound state.
 use Rattle.std.proofs.Common.{◌≡◌, ℕ, zero, suc, ◌+◌, ◌<◌, ◌≤◌, Bool, true, false, ◌&&◌, ◌==◌, List, [], map, length, drop, Option, Some, None, refl, sym, ap, ◌∙◌, subst, ◌⊎◌, inl, inr, arith}
 use Rattle.std.specs.Prelude.{find, option_map, option_and_then, if◌then◌else◌}
-use Rattle.std.specs.Option.{option_map_or, option_eq}
+use Rattle.std.specs.Option.{option_map_or}
 use Rattle.std.proofs.lemmas.Bool.{cases_eq, and_parts, eqb-true, false_from_ne_true}
 use Rattle.pid_types.specs.declared.plain.Name.{Name}
 use Rattle.pid_types.specs.declared.plain.Row.{Row}
@@ -19,7 +19,7 @@ use Rattle.pid_types.specs.Membership.{IsIn}
 use Rattle.pid_types.specs.Sound.{IsRising, IsGoodParent, HasGoodParents, HasGoodChildrenSpace, IsCoherent, IsSound, IsBelow}
 use Rattle.model_laws.proofs.Lists.{IsIn-map, find-Some, find-only}
 use Rattle.model_laws.proofs.Chains.{climb_cases, climb_child}
-use Rattle.model_laws.proofs.Names.{same_name-true, same_name-refl, is_numbered-true, is_numbered-from, own_name_in_use, group_in_use, session_in_use, number-on_path}
+use Rattle.model_laws.proofs.Names.{is_parent-true, is_parent-from, same_name-true, is_numbered-true, is_numbered-from, own_name_in_use, group_in_use, session_in_use, number-on_path}
 use Rattle.model_laws.proofs.Rising.{unique_key}
 use Rattle.model_laws.proofs.Trees.{same_row, live_row-Some, row_at-listed, row_at-Some, space_at-Some, path_first, path_trans, path_antisym}
 use Rattle.model_laws.proofs.RowMaps.{row_at-map, roots-map, in_use_before, each_of_map, HasGoodGroups-map}
@@ -29,18 +29,6 @@ use Rattle.model_laws.proofs.Kept.{Keeps, Keeps-same, Keeps-changed}
 use Rattle.model_laws.proofs.Calls.{exit_cases}
 
 -- ---- the rows after a task ended
-
--- a child's parent is the name
-is_parent-true : (a : Name) (r : Row) → is_parent a r ≡ true → r.parent ≡ Some a
-is_parent-true a r h = go r.parent refl h
-  where
-    go : (o : Option Name) → r.parent ≡ o → option_eq same_name o (Some a) ≡ true → r.parent ≡ Some a
-    go None e f = absurd (cc)
-    go (Some b) e f = e ∙ ap Some (same_name-true b a f)
-
--- a row with that parent is a child
-is_parent-from : (a : Name) (r : Row) → r.parent ≡ Some a → is_parent a r ≡ true
-is_parent-from a r e = rw e (same_name-refl a a refl)
 
 module _ (state : State) (sound : IsCoherent state) (task heir : Row) (ended : Ended) (there : IsIn task state.rows) (lives : is_live task ≡ true)
     (heir_there : IsIn heir state.rows) (heir_lives : is_live heir ≡ true) (beside : heir.name.space ≡ task.name.space) (other : heir.name ≡ task.name → ⊥)
@@ -303,6 +291,28 @@ far_on_chain f top (suc l) k p n far i = elim (climb_cases f l p n i) [
         let r = rest m (subst (Far f m) same g.2) in
         (r.0, r.1, omega (arith, r.2))
 
+-- the init of a live task's namespace: it lives there, is number 1 there, and is found by that
+pub init_beside : (state : State) → IsCoherent state → (task : Row) → IsIn task state.rows → is_live task ≡ true
+    → (init : Row) × IsIn init state.rows × (is_live init ≡ true) × (init.name.space ≡ task.name.space) × (number state.spaces init.name task.name.space ≡ Some 1) × (task_at state task.name.space 1 ≡ Some init)
+unfolding task_at
+init_beside state sound task there lives =
+    let l = (sound.numbered task.name (own_name_in_use state.rows task there)).listed task.name.space (path_first state.spaces task.name.space) in
+    let at = space_at-Some state.spaces task.name.space l.0 l.1 in
+    let i = sound.standing l.0 at.0 (stands l.0 at.0 at.1 l.0.fallen refl) in
+    let one : number state.spaces i.0.name task.name.space ≡ Some 1 = subst (λ x. number state.spaces i.0.name x ≡ Some 1) at.1 i.4 in
+    let first : find (λ r. is_numbered state.spaces r.name task.name.space 1) state.rows ≡ Some i.0 = find-only (λ r. is_numbered state.spaces r.name task.name.space 1) state.rows i.0 i.1 (is_numbered-from state.spaces i.0.name task.name.space 1 one)
+    (λ r j e. same_row state.rows sound.rows_rise r i.0 j i.1 (sound.distinct r.name i.0.name (own_name_in_use state.rows r j) (own_name_in_use state.rows i.0 i.1) task.name.space 1 (is_numbered-true state.spaces r.name task.name.space 1 e) one)) in
+    (i.0, i.1, i.2, i.3 ∙ at.1, one, first)
+  where
+    -- the namespace of a live task stands
+    stands : (s : Space) → IsIn s state.spaces → s.id ≡ task.name.space → (b : Bool) → s.fallen ≡ b → s.fallen ≡ false
+    stands s i here false e = e
+    stands s i here true e =
+        let no : number state.spaces task.name s.id ≡ None = (sound.fallen s i e).ended task there lives in
+        let on = number-on_path state.spaces task.name s.id (sound.numbered task.name (own_name_in_use state.rows task there)).one_each (subst (λ x. IsIn x (path_up state.spaces task.name.space)) (sym here) (path_first state.spaces task.name.space)) in
+        let yes : number state.spaces task.name s.id ≡ Some on.0 = on.1 in
+        absurd (cc)
+
 module _ (state : State) (sound : IsCoherent state) (task : Row) (ended : Ended) (there : IsIn task state.rows) (lives : is_live task ≡ true)
     (no_init : number state.spaces task.name task.name.space ≡ Some 1 → ⊥) where
   -- the one who takes the children, with what the state after needs of it
@@ -358,33 +368,18 @@ module _ (state : State) (sound : IsCoherent state) (task : Row) (ended : Ended)
 
   -- the init of the task's namespace
   heir_init : nearest_subreaper state.rows task ≡ None → Heir
-  unfolding new_parent task_at
+  unfolding new_parent
   heir_init none =
-      let l = (sound.numbered task.name (own_name_in_use state.rows task there)).listed task.name.space (path_first state.spaces task.name.space) in
-      let at = space_at-Some state.spaces task.name.space l.0 l.1 in
-      let i = sound.standing l.0 at.0 (stands l.0 at.0 at.1 l.0.fallen refl) in
-      let beside : i.0.name.space ≡ task.name.space = i.3 ∙ at.1 in
-      let one : number state.spaces i.0.name task.name.space ≡ Some 1 = subst (λ x. number state.spaces i.0.name x ≡ Some 1) at.1 i.4 in
-      let other : i.0.name ≡ task.name → ⊥ = λ e. no_init (subst (λ a. number state.spaces a task.name.space ≡ Some 1) e one) in
-      let first : find (λ r. is_numbered state.spaces r.name task.name.space 1) state.rows ≡ Some i.0 = find-only (λ r. is_numbered state.spaces r.name task.name.space 1) state.rows i.0 i.1 (is_numbered-from state.spaces i.0.name task.name.space 1 one)
-      (λ r j e. same_row state.rows sound.rows_rise r i.0 j i.1 (sound.distinct r.name i.0.name (own_name_in_use state.rows r j) (own_name_in_use state.rows i.0 i.1) task.name.space 1 (is_numbered-true state.spaces r.name task.name.space 1 e) one)) in
+      let i = init_beside state sound task there lives in
+      let other : i.0.name ≡ task.name → ⊥ = λ e. no_init (subst (λ a. number state.spaces a task.name.space ≡ Some 1) e i.4) in
       record {
         row = i.0;
         taken =
-            ap (λ o. option_map (λ (x : Row). x.name) (option_map_or (row_at state.rows) o (find (λ r. is_numbered state.spaces r.name task.name.space 1) state.rows))) none
-            ∙ ap (option_map (λ (x : Row). x.name)) first;
-        coherent = IsCoherent-exit state sound task i.0 ended there lives i.1 i.2 beside other no_init
-            (far_from_init state sound task i.0 ended there lives i.1 i.2 beside other no_init (subst (λ x. number state.spaces i.0.name x ≡ Some 1) (sym beside) one));
+            ap (λ o. option_map (λ (x : Row). x.name) (option_map_or (row_at state.rows) o (task_at state task.name.space 1))) none
+            ∙ ap (option_map (λ (x : Row). x.name)) i.5;
+        coherent = IsCoherent-exit state sound task i.0 ended there lives i.1 i.2 i.3 other no_init
+            (far_from_init state sound task i.0 ended there lives i.1 i.2 i.3 other no_init (subst (λ x. number state.spaces i.0.name x ≡ Some 1) (sym i.3) i.4));
       }
-    where
-      -- the namespace of a live task stands
-      stands : (s : Space) → IsIn s state.spaces → s.id ≡ task.name.space → (b : Bool) → s.fallen ≡ b → s.fallen ≡ false
-      stands s i here false e = e
-      stands s i here true e =
-          let no : number state.spaces task.name s.id ≡ None = (sound.fallen s i e).ended task there lives in
-          let on = number-on_path state.spaces task.name s.id (sound.numbered task.name (own_name_in_use state.rows task there)).one_each (subst (λ x. IsIn x (path_up state.spaces task.name.space)) (sym here) (path_first state.spaces task.name.space)) in
-          let yes : number state.spaces task.name s.id ≡ Some on.0 = on.1 in
-          absurd (cc)
 
   -- the nearest subreaper, or else the init
   heir : Heir

@@ -27,3 +27,7 @@ pub mod Refusals
 pub mod Levels
 pub mod Glimpses
 pub mod Counting
+pub mod Subtrees
+pub mod Reaping
+pub mod Falls
+pub mod NearestSubreaper

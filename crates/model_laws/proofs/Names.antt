@@ -10,7 +10,7 @@ use Rattle.pid_types.specs.declared.plain.Name.{Name}
 use Rattle.pid_types.specs.declared.plain.Row.{Row}
 use Rattle.pid_types.specs.declared.plain.Space.{Space}
 use Rattle.pid_types.specs.State.{State}
-use Rattle.pid_types.specs.Names.{beside, path_up, number, is_numbered, same_name, names_in_use, taken, on_row}
+use Rattle.pid_types.specs.Names.{beside, path_up, number, is_numbered, same_name, is_parent, names_in_use, taken, on_row}
 use Rattle.pid_types.specs.Membership.{IsIn}
 use Rattle.model_laws.proofs.Lists.{IsIn-reverse, IsIn-to_reverse, IsIn-flat_map, IsIn-from_flat_map, IsIn-filter_map, IsIn-from_filter_map}
 
@@ -150,3 +150,15 @@ on_row-both P name change r changed same = go (same_name r.name name) refl
     go : (b : Bool) → same_name r.name name ≡ b → P (if b then change r else r)
     go true e = changed (same_name-true r.name name e)
     go false e = same
+
+-- a child's parent is the name
+pub is_parent-true : (a : Name) (r : Row) → is_parent a r ≡ true → r.parent ≡ Some a
+is_parent-true a r h = go r.parent refl h
+  where
+    go : (o : Option Name) → r.parent ≡ o → option_eq same_name o (Some a) ≡ true → r.parent ≡ Some a
+    go None e f = absurd (cc)
+    go (Some b) e f = e ∙ ap Some (same_name-true b a f)
+
+-- a row with that parent is a child
+pub is_parent-from : (a : Name) (r : Row) → r.parent ≡ Some a → is_parent a r ≡ true
+is_parent-from a r e = rw e (same_name-refl a a refl)

@@ -35,7 +35,7 @@ use Rattle.pid_types.specs.Step.{step}
 use Rattle.model_laws.specs.Draws.{IsCyclicDraw, IsLeastFree}
 use Rattle.model_laws.specs.Refusals.{goes_on, refuse, find_one, refuse_first, IsLiveTask, IsTaskTo, IsSelfOrTask, IsTarget, IsChild, IsSelected, NamesTarget, IsSessionGroup, IsGroupFor, IsSpace, IsControl, IsBusy, HasNoNumber, wants_room, forks, changes_group, by_live, verdict, refusal_in, is_query}
 use Rattle.model_laws.proofs.Lists.{IsIn-filter, IsIn-from_filter, find-Some, find-None, some_passes, list_any-from_one}
-use Rattle.model_laws.proofs.Names.{same_name-true, same_name-refl, is_numbered-true, is_numbered-from}
+use Rattle.model_laws.proofs.Names.{is_parent-true, is_parent-from, same_name-true, same_name-refl, is_numbered-true, is_numbered-from}
 use Rattle.model_laws.proofs.Draws.{cyclic_draw-IsCyclicDraw}
 use Rattle.model_laws.proofs.Trees.{space_at-Some, control_at-Some, live_row-Some}
 use Rattle.model_laws.proofs.ControlsKept.{no_child}
@@ -305,7 +305,7 @@ group_lost state caller target (pos n) e group t = go ((n == 0) || is_numbered s
     nobody None e f s =
         let never : in_session state caller n s.0 ≡ false = find-None (in_session state caller n) state.rows e s.0 s.1 in
         let there : in_session state caller n s.0 ≡ true = and_from _ _ (same_name-refl s.0.session caller.session s.2)
-            (is_numbered-from state.spaces s.0.group caller.name.space n (subst (λ (a : Name). number state.spaces a caller.name.space ≡ Some n) (sym s.3) s.4)) in
+        (is_numbered-from state.spaces s.0.group caller.name.space n (subst (λ (a : Name). number state.spaces a caller.name.space ≡ Some n) (sym s.3) s.4)) in
         cc
 
     go : (b : Bool) → ((n == 0) || is_numbered state.spaces target.name caller.name.space n) ≡ b
@@ -325,30 +325,18 @@ control_lost state id e c t =
     eqb-false c.id id never t.1
 
 -- a child that the wait selects is found by its test
-selected-true : (state : State) (caller : Row) (which : Which) (row : Row) → is_selected state caller which row ≡ true → IsSelected state caller which row
+pub selected-true : (state : State) (caller : Row) (which : Which) (row : Row) → is_selected state caller which row ≡ true → IsSelected state caller which row
 selected-true state caller Any row h = tt
 selected-true state caller (Pid n) row h = is_numbered-true state.spaces row.name caller.name.space n h
 selected-true state caller OwnGroup row h = same_name-true row.group caller.group h
 selected-true state caller (Group n) row h = is_numbered-true state.spaces row.group caller.name.space n h
 
 -- and back
-selected-from : (state : State) (caller : Row) (which : Which) (row : Row) → IsSelected state caller which row → is_selected state caller which row ≡ true
+pub selected-from : (state : State) (caller : Row) (which : Which) (row : Row) → IsSelected state caller which row → is_selected state caller which row ≡ true
 selected-from state caller Any row h = refl
 selected-from state caller (Pid n) row h = is_numbered-from state.spaces row.name caller.name.space n h
 selected-from state caller OwnGroup row h = same_name-refl row.group caller.group h
 selected-from state caller (Group n) row h = is_numbered-from state.spaces row.group caller.name.space n h
-
--- a child is found by its test
-child-true : (parent row : Row) → is_parent parent.name row ≡ true → IsChild parent row
-child-true parent row h = go row.parent h
-  where
-    go : (o : Option Name) → option_eq same_name o (Some parent.name) ≡ true → o ≡ Some parent.name
-    go None e = absurd (cc)
-    go (Some a) e = ap Some (same_name-true a parent.name e)
-
--- and back
-child-from : (parent row : Row) → IsChild parent row → is_parent parent.name row ≡ true
-child-from parent row h = rw h (same_name-refl parent.name parent.name refl)
 
 -- a name that is not the same is another
 other_name : (a b : Name) → same_name a b ≡ false → a ≡ b → ⊥
@@ -388,11 +376,13 @@ some_number state s h full = go (cyclic_draw state.pid_max (cursor_of state s) (
 -- of a fork: numbers, then limits
 first_room : (old state : State) (caller : Row) (t : ℕ) → IsJudged (wants_room state caller t) (unless_found old (no_room state caller t) (λ r. r) (forked state caller t)).reply
 unfolding no_room passed_limit
-first_room old state caller t = record { said =
-    first_by (HasNoNumber state) (λ s. is_none (draw state s)) NoNumber (path_up state.spaces t) (refuse_first (λ c. is_limited_below state (count state c + 1) c ≡ true) PidsLimit (control_path state.controls caller.home) goes_on) (said_by full over)
-    (no_number state) (some_number state) (λ s e. ap (λ o. said_by o over) e) (λ none.
-    first_by (λ c. is_limited_below state (count state c + 1) c ≡ true) (λ c. is_limited_below state (count state c + 1) c) PidsLimit (control_path state.controls caller.home) goes_on (said_by full over)
-    (λ c e. e) (λ c e f. cc) (λ c e. ap (λ o. said_by o over) none ∙ ap (said_by None) e) (λ e. ap (λ o. said_by o over) none ∙ ap (said_by None) e)) }
+first_room old state caller t = record {
+  said =
+      first_by (HasNoNumber state) (λ s. is_none (draw state s)) NoNumber (path_up state.spaces t) (refuse_first (λ c. is_limited_below state (count state c + 1) c ≡ true) PidsLimit (control_path state.controls caller.home) goes_on) (said_by full over)
+      (no_number state) (some_number state) (λ s e. ap (λ o. said_by o over) e) (λ none.
+      first_by (λ c. is_limited_below state (count state c + 1) c ≡ true) (λ c. is_limited_below state (count state c + 1) c) PidsLimit (control_path state.controls caller.home) goes_on (said_by full over)
+      (λ c e. e) (λ c e f. cc) (λ c e. ap (λ o. said_by o over) none ∙ ap (said_by None) e) (λ e. ap (λ o. said_by o over) none ∙ ap (said_by None) e));
+}
   where
     full : Option ℕ
     full = find (λ s. is_none (draw state s)) (path_up state.spaces t)
@@ -484,16 +474,19 @@ first_wait state stamp n which = first_live state n _ _ (λ caller found. go cal
         → IsJudged (find_one (λ child. IsIn child state.rows × IsChild caller child × IsSelected state caller which child) NoChild (λ child. goes_on))
         (refuse_if state (length kept == 0) NoChild (option_map_or (answer caller) (least_row state caller.name.space (filter (λ row. not (is_live row)) kept)) (answered state NoneYet))).reply
     go caller [] e = record {
-      said = inr (λ child f. nobody child (subst (IsIn child) e (IsIn-filter (p caller) child state.rows f.0 (and_from _ _ (child-from caller child f.1) (selected-from state caller which child f.2)))), refl);
+      said = inr (λ child f. nobody child (subst (IsIn child) e (IsIn-filter (p caller) child state.rows f.0 (and_from _ _ (is_parent-from caller.name child f.1) (selected-from state caller which child f.2)))), refl);
     }
     go caller (child ∷ kept) e =
         let f = IsIn-from_filter (p caller) child state.rows (subst (IsIn child) (sym e) (inl refl)) in
         let t = and_parts (is_parent caller.name child) (is_selected state caller which child) f.1 in
         let some : (length (child ∷ kept) == 0) ≡ false = ne_eqb (suc (length kept)) 0 (λ z. omega arith) in
         record {
-          said = inl (child, (f.0, child-true caller child t.0, selected-true state caller which child t.1),
-              ap (λ x. refusal_in (refuse_if state x NoChild (option_map_or (answer caller) (least_row state caller.name.space (filter (λ row. not (is_live row)) (child ∷ kept))) (answered state NoneYet))).reply) some
-              ∙ reaps caller (least_row state caller.name.space (filter (λ row. not (is_live row)) (child ∷ kept))));
+          said = inl (
+            child,
+            (f.0, is_parent-true caller.name child t.0, selected-true state caller which child t.1),
+            ap (λ x. refusal_in (refuse_if state x NoChild (option_map_or (answer caller) (least_row state caller.name.space (filter (λ row. not (is_live row)) (child ∷ kept))) (answered state NoneYet))).reply) some
+                ∙ reaps caller (least_row state caller.name.space (filter (λ row. not (is_live row)) (child ∷ kept))),
+          );
         }
 
 -- a change of a group
@@ -501,15 +494,15 @@ first_set_group_of : (state : State) (caller target : Row) (pgid : ℤ) → IsJu
 unfolding set_group_of
 first_set_group_of state caller target pgid =
     refused_by (IsChild caller target × (target.session ≡ caller.session → ⊥)) state (is_parent caller.name target && not (same_name target.session caller.session)) OtherSession _ _
-    (both _ _ _ _ (child-true caller target) (λ e. other_name _ _ (not-true _ e)))
-    (not_both _ _ _ _ (child-from caller target) (λ f. not_from_false _ (false_from_ne_true _ (λ e. f (same_name-true _ _ e))))) (λ same.
+    (both _ _ _ _ (is_parent-true caller.name target) (λ e. other_name _ _ (not-true _ e)))
+    (not_both _ _ _ _ (is_parent-from caller.name target) (λ f. not_from_false _ (false_from_ne_true _ (λ e. f (same_name-true _ _ e))))) (λ same.
     refused_by (IsChild caller target × (target.executed ≡ true)) state (is_parent caller.name target && target.executed) Executed _ _
-    (both _ _ _ _ (child-true caller target) (λ e. e)) (not_both _ _ _ _ (child-from caller target) (λ e. e)) (λ fresh.
+    (both _ _ _ _ (is_parent-true caller.name target) (λ e. e)) (not_both _ _ _ _ (is_parent-from caller.name target) (λ e. e)) (λ fresh.
     refused_by ((IsChild caller target → ⊥) × (target.name ≡ caller.name → ⊥)) state (not (is_parent caller.name target || same_name target.name caller.name)) NoTask _ _
     (λ e.
     let r = or_parts (is_parent caller.name target) (same_name target.name caller.name) (not-true _ e) in
-    (λ child. (let never : is_parent caller.name target ≡ false = r.0 in let there : is_parent caller.name target ≡ true = child-from caller target child in cc), other_name _ _ r.1))
-    (λ e g. elim (or_cases (is_parent caller.name target) (same_name target.name caller.name) (not-false _ e)) [ inl c ↦ g.0 (child-true caller target c) | inr s ↦ g.1 (same_name-true _ _ s) ]) (λ own.
+    (λ child. (let never : is_parent caller.name target ≡ false = r.0 in let there : is_parent caller.name target ≡ true = is_parent-from caller.name target child in cc), other_name _ _ r.1))
+    (λ e g. elim (or_cases (is_parent caller.name target) (same_name target.name caller.name) (not-false _ e)) [ inl c ↦ g.0 (is_parent-true caller.name target c) | inr s ↦ g.1 (same_name-true _ _ s) ]) (λ own.
     refused_by (target.session ≡ target.name) state (same_name target.session target.name) IsLeader _ _
     (same_name-true _ _) (λ e f. other_name _ _ e f) (λ member.
     found_by (IsGroupFor state caller target pgid) state (group_for state caller target pgid) NoGroup _ (λ group. goes_on)

@@ -278,7 +278,6 @@ IsRising-from_test (n ∷ ns) h =
     let r = and_parts (list_all (nat_lt n) ns) (is_strictly_rising ns) h in
     (λ m i. ltb-true n m (each_passes (nat_lt n) ns r.0 m i), IsRising-from_test ns r.1)
 
-
 -- namespaces that pass are a tree
 IsTreeOfSpaces-from_test : (spaces : List Space) → is_strictly_rising (map (λ s. s.id) spaces) ≡ true
     → option_map_or (λ s. is_none s.parent) (space_at spaces 0) false ≡ true

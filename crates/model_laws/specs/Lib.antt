@@ -1,11 +1,15 @@
 pub mod CountLaws
+pub mod PathLaws
+pub mod ParentLaws
+pub mod FallLaws
 pub mod SightLaws
 pub mod NumberLaws
 pub mod ReuseLaws
 pub mod LimitLaws
 pub mod StepLaws
-pub mod Refusals
 pub mod Draws
+pub mod Refusals
+pub mod WaitLaws
 pub mod Script
 pub mod ForkScripts
 pub mod GroupScripts

@@ -6,6 +6,7 @@
 
 pub mod counts;
 pub mod laws;
+pub mod meanings;
 pub mod scripts;
 pub mod sights;
 pub mod soundness;

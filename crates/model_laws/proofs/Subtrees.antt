@@ -1,0 +1,87 @@
+-- Paths are chains of parents, and a count is the number of tasks whose home is in the subtree.
+use Rattle.std.proofs.Common.{◌≡◌, ℕ, zero, suc, Bool, true, false, List, [], ◌∷◌, length, Option, Some, None, refl, sym, ap, subst, inl, inr}
+use Rattle.std.specs.Prelude.{filter, option_and_then}
+use Rattle.pid_types.specs.declared.plain.Row.{Row}
+use Rattle.pid_types.specs.declared.plain.Control.{Control}
+use Rattle.pid_types.specs.Membership.{IsIn}
+use Rattle.pid_types.specs.Chains.{climb}
+use Rattle.pid_types.specs.Names.{parent_space, path_up}
+use Rattle.pid_types.specs.Controls.{control_at, parent_control, control_path, is_below, count}
+use Rattle.pid_types.specs.Sound.{IsTreeOfControls}
+use Rattle.model_laws.specs.PathLaws.{IsChain, IsPathOf, IsInSubtree, PathsAreChains, CountIsOfSubtree}
+use Rattle.model_laws.proofs.Lists.{IsIn-from_contains, contains-from_IsIn}
+use Rattle.model_laws.proofs.Chains.{Stops, Stops-at_root, climb-None, climb-Some, climb_cases, IsIn-climb_first}
+use Rattle.model_laws.proofs.Forests.{at-listed}
+use Rattle.model_laws.proofs.Trees.{root_space_parent, root_control_parent, control_at-Some}
+use Rattle.model_laws.proofs.ControlsKept.{path_of_parent}
+
+-- a chain that stops is a chain of parents
+IsChain-climb : (f : ℕ → Option ℕ) (k id : ℕ) → Stops f k id → IsChain f (climb f k id)
+unfolding climb
+IsChain-climb f zero id s = elim s [ ]
+IsChain-climb f (suc k) id (inl e) = subst (IsChain f) (sym (climb-None f k id e)) e
+IsChain-climb f (suc zero) id (inr r) = elim r.2 [ ]
+IsChain-climb f (suc (suc k)) id (inr r) = subst (IsChain f) (sym (climb-Some f (suc k) id r.0 r.1)) (r.1, IsChain-climb f (suc k) r.0 r.2)
+
+-- a path that meets the root is the chain of parents up to it
+IsPathOf-climb : (f : ℕ → Option ℕ) (k id : ℕ) → f 0 ≡ None → IsIn 0 (climb f (suc k) id) → IsPathOf f id (climb f (suc k) id)
+unfolding climb
+IsPathOf-climb f k id root on = record {
+  rest = _;
+  begins = refl;
+  chain = IsChain-climb f (suc k) id (Stops-at_root f (suc k) id root on);
+  ends = on;
+}
+
+-- paths are chains
+pub paths_are_chains : PathsAreChains
+unfolding path_up control_path
+paths_are_chains state sound = (
+  λ s i. IsPathOf-climb (parent_space state.spaces) 32 s.id (root_space_parent state.spaces sound.coherent.spaces) (sound.coherent.spaces.chains s i),
+  λ c i. IsPathOf-climb (parent_control state.controls) 64 c.id (root_control_parent state.controls sound.coherent.controls) (sound.coherent.controls.chains c i),
+)
+
+-- ---- subtrees
+
+-- what is on the path is above: the path's beginning is in its subtree
+IsInSubtree-climb : (controls : List Control) (k id c : ℕ) → IsIn c (climb (parent_control controls) k id) → IsInSubtree controls c id
+unfolding climb
+IsInSubtree-climb controls zero id c i = elim i [ ]
+IsInSubtree-climb controls (suc k) id c i = elim (climb_cases (parent_control controls) k id c i) [
+  | inl e ↦ subst (IsInSubtree controls c) e IsInSubtree.itself
+  | inr r ↦ go r.0 (control_at controls id) refl r.1 (IsInSubtree-climb controls k r.0 c r.2)
+]
+  where
+    go : (p : ℕ) (o : Option Control) → control_at controls id ≡ o → option_and_then (λ (g : Control). g.parent) o ≡ Some p → IsInSubtree controls c p
+        → IsInSubtree controls c id
+    go p None e f up = absurd (cc)
+    go p (Some g) e f up =
+        let at = control_at-Some controls id g e in
+        subst (IsInSubtree controls c) at.1 (IsInSubtree.child g p at.0 f up)
+
+-- and back, among control groups that are a tree
+on_path : (controls : List Control) → IsTreeOfControls controls → (c id : ℕ) → IsInSubtree controls c id → IsIn c (control_path controls id)
+unfolding control_path
+on_path controls tree c _ IsInSubtree.itself = IsIn-climb_first (parent_control controls) 64 c
+on_path controls tree c _ (IsInSubtree.child g parent i e up) =
+    path_of_parent controls tree g.id parent g (at-listed Control (λ d. d.id) (λ d. d.parent) (control_path controls) controls tree g i) e c (on_path controls tree c parent up)
+
+-- lists that are filtered by tests which agree on them are one
+filter-agree : (p q : Row → Bool) (rows : List Row) → ((r : Row) → IsIn r rows → p r ≡ q r) → filter p rows ≡ filter q rows
+filter-agree p q [] h = refl
+filter-agree p q (r ∷ rows) h = rw (h r (inl refl), filter-agree p q rows (λ x i. h x (inr i))) refl
+
+-- tests that hold together are one
+same_test : (a b : Bool) → (a ≡ true → b ≡ true) → (b ≡ true → a ≡ true) → a ≡ b
+same_test true b f g = sym (f refl)
+same_test false true f g = g refl
+same_test false false f g = refl
+
+-- a count is that of the subtree
+pub count_is_of_subtree : CountIsOfSubtree
+unfolding count control_path
+count_is_of_subtree state c test sound tells =
+    ap length (filter-agree (λ row. is_below state.controls row.home c) test state.rows (λ row i.
+    same_test (is_below state.controls row.home c) (test row)
+    (λ e. (tells row i).1 (IsInSubtree-climb state.controls 65 row.home c (IsIn-from_contains (control_path state.controls row.home) c e)))
+    (λ e. contains-from_IsIn (control_path state.controls row.home) c (on_path state.controls sound.coherent.controls c row.home ((tells row i).0 e)))))

@@ -1,0 +1,45 @@
+-- What paths are, and what a control group's subtree is, by the parents alone.
+use Rattle.std.specs.Prelude.{◌≡◌, ℕ, Bool, true, List, [], ◌∷◌, length, filter, Option, Some, None}
+use Rattle.pid_types.specs.declared.plain.Row.{Row}
+use Rattle.pid_types.specs.declared.plain.Space.{Space}
+use Rattle.pid_types.specs.declared.plain.Control.{Control}
+use Rattle.pid_types.specs.Membership.{IsIn}
+use Rattle.pid_types.specs.State.{State}
+use Rattle.pid_types.specs.Names.{parent_space, path_up}
+use Rattle.pid_types.specs.Controls.{parent_control, control_path, count}
+use Rattle.pid_types.specs.Sound.{IsSound}
+
+-- each is the parent of the one before it, and the last has none
+abbrev pub IsChain : (ℕ → Option ℕ) → List ℕ → Type 0
+IsChain parent_of [] = ⊥
+IsChain parent_of (id ∷ []) = parent_of id ≡ None
+IsChain parent_of (id ∷ up ∷ rest) = (parent_of id ≡ Some up) × IsChain parent_of (up ∷ rest)
+
+-- the chain of parents that begins at the id and ends at the root
+pub record IsPathOf (parent_of : ℕ → Option ℕ) (id : ℕ) (path : List ℕ) : Type 0 where
+  pub rest : List ℕ
+  pub begins : path ≡ id ∷ rest
+  pub chain : IsChain parent_of path
+  pub ends : IsIn 0 path
+
+-- in a sound state the path of each namespace, and of each control group, is its chain of parents up to the root
+abbrev pub PathsAreChains : Type 0
+PathsAreChains =
+    (state : State) → IsSound state
+    → ((s : Space) → IsIn s state.spaces → IsPathOf (parent_space state.spaces) s.id (path_up state.spaces s.id))
+    × ((c : Control) → IsIn c state.controls → IsPathOf (parent_control state.controls) c.id (control_path state.controls c.id))
+
+-- the control group is c itself, or its parent is in the subtree of c
+pub data IsInSubtree (controls : List Control) (c : ℕ) : ℕ → Type 0 where
+  itself : IsInSubtree controls c c
+  child : (g : Control) (parent : ℕ) → IsIn g controls → g.parent ≡ Some parent → IsInSubtree controls c parent → IsInSubtree controls c g.id
+
+-- the test passes just the tasks whose home is in the subtree of c
+abbrev pub TellsSubtree : State → ℕ → (Row → Bool) → Type 0
+TellsSubtree state c test =
+    (row : Row) → IsIn row state.rows → (test row ≡ true → IsInSubtree state.controls c row.home) × (IsInSubtree state.controls c row.home → test row ≡ true)
+
+-- in a sound state a control group's count is the number of tasks whose home is in its subtree, by whatever test that is told
+abbrev pub CountIsOfSubtree : Type 0
+CountIsOfSubtree =
+    (state : State) (c : ℕ) (test : Row → Bool) → IsSound state → TellsSubtree state c test → count state c ≡ length (filter test state.rows)

@@ -1,0 +1,35 @@
+//! What the definitions that compute mean: paths, counts, who takes orphans, what a fall does, what a
+//! wait reaps.
+ghost use Rattle.model_laws.specs.PathLaws.{CountIsOfSubtree, PathsAreChains};
+ghost use Rattle.model_laws.specs.ParentLaws.{NewParentIsNearest};
+ghost use Rattle.model_laws.specs.FallLaws.{ExitOfInitFalls};
+ghost use Rattle.model_laws.specs.WaitLaws.{NoneYetHasEnded, WaitReapsLeast};
+
+/// In a sound state the path of a namespace or a control group is its chain of parents up to the root.
+pub fn paths_are_chains()
+    ensures { PathsAreChains }
+{}
+
+/// In a sound state a control group's count is the number of tasks whose home is in its subtree.
+pub fn count_is_of_subtree()
+    ensures { CountIsOfSubtree }
+{}
+
+/// The children of a task that ends go to its nearest ancestor in its own namespace that is a subreaper,
+/// or else to the init there.
+pub fn new_parent_is_nearest()
+    ensures { NewParentIsNearest }
+{}
+
+/// The exit of a namespace's init ends every member, takes away those whose parent is a member, and
+/// changes nobody outside.
+pub fn exit_of_init_falls()
+    ensures { ExitOfInitFalls }
+{}
+
+/// A wait reaps, of the children that it selects and that have ended, the one with the least number; it
+/// finds none yet only where all of them live.
+pub fn wait_reaps_least()
+    ensures reaps { WaitReapsLeast }
+    ensures none_yet { NoneYetHasEnded }
+{}
