@@ -2,9 +2,10 @@
 ghost use Rattle.std.specs.Prelude.{◌≡◌, ◌≢◌, true, false};
 
 use arrayvec::ArrayVec;
+use pid_types::plain::LEVELS;
 use pid_types::reply::Reply;
 
-fn is_same_list(one: &ArrayVec<u32, 33>, other: &ArrayVec<u32, 33>) -> bool
+fn is_same_list(one: &ArrayVec<u32, LEVELS>, other: &ArrayVec<u32, 33>) -> bool
     ensures yes { result ≡ true → one.now ≡ other.now }
     ensures no { result ≡ false → one.now ≢ other.now }
 {

@@ -1,5 +1,5 @@
 -- What is answered to a line.
-use Rattle.std.specs.Prelude.{ℕ, List, ◌++◌, codes, decimal, map, Result, Ok, Err}
+use Rattle.std.specs.Prelude.{ℕ, List, [], ◌++◌, codes, decimal, map, Result, Ok, Err}
 use Rattle.std.specs.List.{join_with_byte}
 use Rattle.pid_types.specs.declared.entry.Receipt.{Receipt}
 use Rattle.pid_types.specs.declared.plain.Ended.{Ended}
@@ -7,35 +7,25 @@ use Rattle.pid_types.specs.declared.plain.Ended.TheVariants.{Exited, Killed}
 use Rattle.pid_types.specs.declared.reply.CallFault.{CallFault}
 use Rattle.pid_types.specs.declared.reply.CallFault.TheVariants.{NoMemory, Spent}
 use Rattle.pid_types.specs.declared.reply.Refusal.{Refusal}
-use Rattle.pid_types.specs.declared.reply.Refusal.TheVariants.{NoCaller, NoTask, NoChild, NoNumber, PidsLimit, SpaceFallen, TooDeep, Elsewhere, BadGroup, OtherSession, IsLeader, NoGroup, Executed, RootInit, NoControl, ControlBusy, RootControl, BadLimit, ControlDepth}
+use Rattle.pid_types.specs.declared.reply.Refusal.TheVariants.{NoNumber, PidsLimit}
 use Rattle.pid_types.specs.declared.reply.Reply.{Reply}
+use Rattle.pid_types.specs.Refusals.{errno_entry, refusal_entry}
 use Rattle.pid_types.specs.declared.reply.Reply.TheVariants.{Forked, Done, Number, Levels, Reaped, NoneYet, Counted, Control, End, Refused}
 
 -- the numbers in order, with the byte between them
 abbrev pub joined : ℕ → List ℕ → List ℕ
 joined separator numbers = join_with_byte separator (map decimal numbers)
 
--- the name of the errno, and why the call is refused; and the id of what refused it
+-- the id of what refused the call, behind a space
+abbrev pub refused_by : Refusal → List ℕ
+refused_by (NoNumber space) = codes " " ++ decimal space
+refused_by (PidsLimit control) = codes " " ++ decimal control
+refused_by _ = []
+
+-- the name of the errno, and the word that says why; and the id of what refused the call
 abbrev pub refusal_text : Refusal → List ℕ
-refusal_text NoCaller = codes "ESRCH no-caller"
-refusal_text NoTask = codes "ESRCH no-task"
-refusal_text NoChild = codes "ECHILD no-child"
-refusal_text (NoNumber space) = codes "EAGAIN no-number " ++ decimal space
-refusal_text (PidsLimit control) = codes "EAGAIN pids-limit " ++ decimal control
-refusal_text SpaceFallen = codes "ENOMEM space-fallen"
-refusal_text TooDeep = codes "ENOSPC too-deep"
-refusal_text Elsewhere = codes "EINVAL elsewhere"
-refusal_text BadGroup = codes "EINVAL bad-group"
-refusal_text OtherSession = codes "EPERM other-session"
-refusal_text IsLeader = codes "EPERM is-leader"
-refusal_text NoGroup = codes "EPERM no-group"
-refusal_text Executed = codes "EACCES executed"
-refusal_text RootInit = codes "EBUSY root-init"
-refusal_text NoControl = codes "ENOENT no-control"
-refusal_text ControlBusy = codes "EBUSY control-busy"
-refusal_text RootControl = codes "EINVAL root-control"
-refusal_text BadLimit = codes "EINVAL bad-limit"
-refusal_text ControlDepth = codes "EAGAIN control-depth"
+refusal_text refusal =
+    (errno_entry (refusal_entry refusal).error).name ++ codes " " ++ (refusal_entry refusal).word ++ refused_by refusal
 
 -- how a task ended
 abbrev pub ended_text : Ended → List ℕ

@@ -1,11 +1,11 @@
 //! Replies to answers.
 ghost use Rattle.std.specs.Prelude.{◌≡◌, ◌+◌, ◌≤◌, ◌++◌, length, codes, decimal};
-ghost use Rattle.pid_script.specs.Answers.{joined, refusal_text, ended_text, reply_text, fault_text, answer_of};
+ghost use Rattle.pid_script.specs.Answers.{joined, refused_by, refusal_text, ended_text, reply_text, fault_text, answer_of};
 
 use arrayvec::ArrayVec;
 use itoa::Buffer;
 use pid_types::entry::Receipt;
-use pid_types::plain::Ended;
+use pid_types::plain::{Ended, LEVELS};
 use pid_types::reply::{CallFault, Refusal, Reply};
 
 /// The length of the longest answer: 33 numbers of ten digits, and a space between.
@@ -51,30 +51,26 @@ fn words(bytes: &[u8]) -> ArrayVec<u8, LONGEST_ANSWER>
     text
 }
 
+/// The id behind its space, where the refusal names what refused.
+#[tactic(auto, using(crate::proofs::Room::room))]
+fn push_id(text: &mut ArrayVec<u8, LONGEST_ANSWER>, refusal: Refusal)
+    requires { length text.old.items ≤ 30 }
+    ensures { text.new.items ≡ text.old.items ++ refused_by refusal }
+{
+    if let Refusal::NoNumber(id) | Refusal::PidsLimit(id) = refusal {
+        push_bytes(text, b" ");
+        push_number(text, id);
+    }
+}
+
 fn refusal_text(refusal: Refusal) -> ArrayVec<u8, LONGEST_ANSWER>
     ensures { result.items ≡ refusal_text refusal }
 {
-    match refusal {
-        Refusal::NoCaller => words(b"ESRCH no-caller"),
-        Refusal::NoTask => words(b"ESRCH no-task"),
-        Refusal::NoChild => words(b"ECHILD no-child"),
-        Refusal::NoNumber(space) => labelled(b"EAGAIN no-number ", space),
-        Refusal::PidsLimit(control) => labelled(b"EAGAIN pids-limit ", control),
-        Refusal::SpaceFallen => words(b"ENOMEM space-fallen"),
-        Refusal::TooDeep => words(b"ENOSPC too-deep"),
-        Refusal::Elsewhere => words(b"EINVAL elsewhere"),
-        Refusal::BadGroup => words(b"EINVAL bad-group"),
-        Refusal::OtherSession => words(b"EPERM other-session"),
-        Refusal::IsLeader => words(b"EPERM is-leader"),
-        Refusal::NoGroup => words(b"EPERM no-group"),
-        Refusal::Executed => words(b"EACCES executed"),
-        Refusal::RootInit => words(b"EBUSY root-init"),
-        Refusal::NoControl => words(b"ENOENT no-control"),
-        Refusal::ControlBusy => words(b"EBUSY control-busy"),
-        Refusal::RootControl => words(b"EINVAL root-control"),
-        Refusal::BadLimit => words(b"EINVAL bad-limit"),
-        Refusal::ControlDepth => words(b"EAGAIN control-depth"),
-    }
+    let mut text = words(refusal.error().name());
+    push_bytes(&mut text, b" ");
+    push_bytes(&mut text, refusal.word());
+    push_id(&mut text, refusal);
+    text
 }
 
 #[tactic(auto, using(crate::proofs::Room::room))]
@@ -104,7 +100,7 @@ fn reaped_text(child: u32, ended: Ended) -> ArrayVec<u8, LONGEST_ANSWER>
 
 /// The numbers in order, with the byte between them.
 #[tactic(auto, using(crate::proofs::Room::room))]
-pub fn joined_numbers(numbers: &ArrayVec<u32, 33>, separator: u8) -> ArrayVec<u8, LONGEST_ANSWER>
+pub fn joined_numbers(numbers: &ArrayVec<u32, LEVELS>, separator: u8) -> ArrayVec<u8, LONGEST_ANSWER>
     ensures { result.items ≡ joined separator numbers.now.items }
 {
     let mut text = ArrayVec::new();

@@ -10,7 +10,6 @@ pub mod call;
 pub mod config;
 pub mod device;
 pub mod entry;
-pub mod key;
 pub mod plain;
 pub mod refusal;
 pub mod reply;

@@ -10,7 +10,7 @@ pub const LEVELS: usize = 33;
 #[derive(Clone, Debug, Drop, PartialEq, Eq)]
 pub struct Name {
     pub space: u64,
-    pub numbers: ArrayVec<u32, 33>,
+    pub numbers: ArrayVec<u32, LEVELS>,
 }
 
 /// How a task ended.

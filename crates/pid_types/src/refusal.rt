@@ -1,33 +1,71 @@
-//! The numbers and the errors of refusals.
-ghost use Rattle.std.specs.Prelude.{◌≡◌};
-ghost use Rattle.pid_types.specs.Refusals.{number_of, errno_of};
+//! The numbers, the errors and the words of refusals: one table, `refusal_entry` of `specs/Refusals.antt`,
+//! from which both an answer's text and the value of its errno are read.
+ghost use Rattle.std.specs.Prelude.{◌≡◌, ◌≤◌, length};
 
 use crate::reply::Refusal;
 
-const EPERM: u32 = 1;
+/// An error of the kernel: `errno(3)`.
+#[derive(Clone, Copy, Debug, PartialEq, Eq, Hash)]
+pub enum Errno {
+    Eperm,
+    Enoent,
+    Esrch,
+    Echild,
+    Eagain,
+    Enomem,
+    Eacces,
+    Ebusy,
+    Einval,
+    Enospc,
+}
 
-const ENOENT: u32 = 2;
+impl Errno {
+    ghost use Rattle.pid_types.specs.Refusals.{errno_entry};
 
-const ESRCH: u32 = 3;
+    /// Its name, as `ESRCH`.
+    pub fn name(self) -> &'static [u8]
+        ensures name { result.now ≡ (errno_entry self).name }
+        ensures short { length result.now ≤ 6 }
+    {
+        match self {
+            Errno::Eperm => b"EPERM",
+            Errno::Enoent => b"ENOENT",
+            Errno::Esrch => b"ESRCH",
+            Errno::Echild => b"ECHILD",
+            Errno::Eagain => b"EAGAIN",
+            Errno::Enomem => b"ENOMEM",
+            Errno::Eacces => b"EACCES",
+            Errno::Ebusy => b"EBUSY",
+            Errno::Einval => b"EINVAL",
+            Errno::Enospc => b"ENOSPC",
+        }
+    }
 
-const ECHILD: u32 = 10;
-
-const EAGAIN: u32 = 11;
-
-const ENOMEM: u32 = 12;
-
-const EACCES: u32 = 13;
-
-const EBUSY: u32 = 16;
-
-const EINVAL: u32 = 22;
-
-const ENOSPC: u32 = 28;
+    /// Its value on x86-64.
+    pub fn value(self) -> u32
+        ensures { result ≡ (errno_entry self).value }
+    {
+        match self {
+            Errno::Eperm => 1,
+            Errno::Enoent => 2,
+            Errno::Esrch => 3,
+            Errno::Echild => 10,
+            Errno::Eagain => 11,
+            Errno::Enomem => 12,
+            Errno::Eacces => 13,
+            Errno::Ebusy => 16,
+            Errno::Einval => 22,
+            Errno::Enospc => 28,
+        }
+    }
+}
 
 impl Refusal {
+    ghost use Rattle.pid_types.specs.Refusals.{errno_entry, refusal_entry};
+
     /// The refusal's number, from 1 to 19, which stays the same from release to release.
     pub fn number(&self) -> u8
-        ensures { result ≡ number_of self.now }
+        ensures { result ≡ (refusal_entry self.now).number }
     {
         match self {
             Refusal::NoCaller => 1,
@@ -52,22 +90,57 @@ impl Refusal {
         }
     }
 
-    /// The kernel's error for the refusal, by its value on x86-64: `errno(3)`.
-    pub fn errno(&self) -> u32
-        ensures { result ≡ errno_of self.now }
+    /// The kernel's error for the refusal.
+    pub fn error(&self) -> Errno
+        ensures { result ≡ (refusal_entry self.now).error }
     {
         match self {
-            Refusal::NoCaller | Refusal::NoTask => ESRCH,
-            Refusal::NoChild => ECHILD,
-            Refusal::NoNumber(_) | Refusal::PidsLimit(_) | Refusal::ControlDepth => EAGAIN,
-            Refusal::SpaceFallen => ENOMEM,
-            Refusal::TooDeep => ENOSPC,
-            Refusal::OtherSession | Refusal::IsLeader | Refusal::NoGroup => EPERM,
-            Refusal::Executed => EACCES,
-            Refusal::RootInit | Refusal::ControlBusy => EBUSY,
-            Refusal::NoControl => ENOENT,
+            Refusal::NoCaller | Refusal::NoTask => Errno::Esrch,
+            Refusal::NoChild => Errno::Echild,
+            Refusal::NoNumber(_) | Refusal::PidsLimit(_) | Refusal::ControlDepth => Errno::Eagain,
+            Refusal::SpaceFallen => Errno::Enomem,
+            Refusal::TooDeep => Errno::Enospc,
+            Refusal::OtherSession | Refusal::IsLeader | Refusal::NoGroup => Errno::Eperm,
+            Refusal::Executed => Errno::Eacces,
+            Refusal::RootInit | Refusal::ControlBusy => Errno::Ebusy,
+            Refusal::NoControl => Errno::Enoent,
             Refusal::Elsewhere | Refusal::BadGroup | Refusal::RootControl | Refusal::BadLimit =>
-                EINVAL,
+                Errno::Einval,
+        }
+    }
+
+    /// The value of the kernel's error for the refusal, on x86-64.
+    pub fn errno(&self) -> u32
+        ensures { result ≡ (errno_entry (refusal_entry self.now).error).value }
+    {
+        self.error().value()
+    }
+
+    /// The word that says why, as `no-caller`.
+    pub fn word(&self) -> &'static [u8]
+        ensures word { result.now ≡ (refusal_entry self.now).word }
+        ensures short { length result.now ≤ 13 }
+    {
+        match self {
+            Refusal::NoCaller => b"no-caller",
+            Refusal::NoTask => b"no-task",
+            Refusal::NoChild => b"no-child",
+            Refusal::NoNumber(_) => b"no-number",
+            Refusal::PidsLimit(_) => b"pids-limit",
+            Refusal::SpaceFallen => b"space-fallen",
+            Refusal::TooDeep => b"too-deep",
+            Refusal::Elsewhere => b"elsewhere",
+            Refusal::BadGroup => b"bad-group",
+            Refusal::OtherSession => b"other-session",
+            Refusal::IsLeader => b"is-leader",
+            Refusal::NoGroup => b"no-group",
+            Refusal::Executed => b"executed",
+            Refusal::RootInit => b"root-init",
+            Refusal::NoControl => b"no-control",
+            Refusal::ControlBusy => b"control-busy",
+            Refusal::RootControl => b"root-control",
+            Refusal::BadLimit => b"bad-limit",
+            Refusal::ControlDepth => b"control-depth",
         }
     }
 }

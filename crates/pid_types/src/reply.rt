@@ -1,6 +1,6 @@
 //! What the table answers.
 
-use crate::plain::Ended;
+use crate::plain::{Ended, LEVELS};
 use arrayvec::ArrayVec;
 use std::alloc::AllocError;
 use thiserror::Error;
@@ -59,7 +59,7 @@ pub enum Reply {
     /// A process number, 0 for one that the caller cannot see.
     Number(u32),
     /// A task's numbers from the caller's namespace inwards, outermost first.
-    Levels(ArrayVec<u32, 33>),
+    Levels(ArrayVec<u32, LEVELS>),
     /// The ended child's number in the caller's namespace, and how it ended.
     Reaped { child: u32, ended: Ended },
     /// Children match, and none has ended.

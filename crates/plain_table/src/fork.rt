@@ -11,7 +11,7 @@ use crate::edit::{MovesCursors, edit_all};
 use crate::find::copy_row;
 use crate::table::PlainTable;
 use arrayvec::ArrayVec;
-use pid_types::plain::{Life, Name, Row, Space};
+use pid_types::plain::{LEVELS, Life, Name, Row, Space};
 use pid_types::reply::{Refusal, Reply};
 use plain_view::names::{copy_name, root_number};
 use plain_view::view::View;
@@ -23,9 +23,9 @@ pub struct ForkPlan {
     /// The new task.
     pub child: Row,
     /// The namespaces that give it a number, innermost first.
-    pub path: ArrayVec<u64, 33>,
+    pub path: ArrayVec<u64, LEVELS>,
     /// Their cursors afterwards.
-    pub cursors: ArrayVec<u32, 33>,
+    pub cursors: ArrayVec<u32, LEVELS>,
     /// The new namespace, of which the child is the init.
     pub added: Option<Space>,
     pub reply: Reply,
@@ -34,8 +34,8 @@ pub struct ForkPlan {
 /// The numbers drawn along a path, and the cursors behind them.
 #[derive(Debug, Drop)]
 struct Draws {
-    numbers: ArrayVec<u32, 33>,
-    cursors: ArrayVec<u32, 33>,
+    numbers: ArrayVec<u32, LEVELS>,
+    cursors: ArrayVec<u32, LEVELS>,
 }
 
 /// Draws a number in each namespace of the path, or says which has none.
@@ -58,7 +58,7 @@ fn draw_along(view: &View<'_>, path: &[u64]) -> Result<Draws, u64>
 }
 
 /// The caller's child in the namespace, with these numbers, innermost first.
-fn child_of(caller: &Row, space: u64, mut numbers: ArrayVec<u32, 33>) -> Row
+fn child_of(caller: &Row, space: u64, mut numbers: ArrayVec<u32, LEVELS>) -> Row
     ensures { (state : State) → numbers.items ≡ map (drawn state) (path_up state.spaces space) → result ≡ child_row state caller.now space }
 {
     numbers.as_mut_slice().reverse();

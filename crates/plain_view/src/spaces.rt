@@ -5,7 +5,7 @@ ghost use Rattle.pid_types.specs.Fork.{is_gone as is_gone_of};
 
 use crate::view::View;
 use arrayvec::ArrayVec;
-use pid_types::plain::{Name, Space};
+use pid_types::plain::{LEVELS, Name, Space};
 
 /// The namespace of the list with the id.
 fn find_listed(spaces: &[Space], id: u64) -> Option<&Space>
@@ -78,7 +78,7 @@ impl View<'_> {
     }
 
     /// The namespace and those around it, innermost first.
-    pub fn path_up(&self, id: u64) -> ArrayVec<u64, 33>
+    pub fn path_up(&self, id: u64) -> ArrayVec<u64, LEVELS>
         ensures { result.items ≡ path_of self.now.spaces id }
     {
         let mut path = ArrayVec::new();
@@ -113,7 +113,7 @@ impl View<'_> {
     }
 
     /// The namespaces from the root to this one.
-    pub fn path_down(&self, id: u64) -> ArrayVec<u64, 33>
+    pub fn path_down(&self, id: u64) -> ArrayVec<u64, LEVELS>
         ensures { result.items ≡ reverse (path_of self.now.spaces id) }
     {
         let mut path = self.path_up(id);
@@ -130,7 +130,7 @@ impl View<'_> {
     }
 
     /// The numbers of the name from the namespace inwards.
-    pub fn numbers_from(&self, name: &Name, space: u64) -> ArrayVec<u32, 33>
+    pub fn numbers_from(&self, name: &Name, space: u64) -> ArrayVec<u32, LEVELS>
         ensures { result.items ≡ numbers_from_of self.now.spaces name.now space }
     {
         let path = self.path_down(name.space);
