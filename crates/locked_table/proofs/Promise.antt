@@ -1,26 +1,21 @@
 -- The headline, from what the type keeps.
-use Rattle.std.proofs.Common.{ℕ, refl}
-use Rattle.pid_types.specs.State.{State}
-use Rattle.pid_types.specs.Controls.{count}
+use Rattle.std.proofs.Common.{ℕ}
 use Rattle.model_laws.specs.StepLaws.{BoundStays, RunsKeepSoundness}
 use Rattle.model_laws.specs.LimitLaws.{RunsKeepLimits}
+use Rattle.model_laws.specs.PathLaws.{CountsAreOfSubtrees}
 use Rattle.model_laws.specs.ReuseLaws.{NoReuse}
 use Rattle.model_laws.specs.NumberLaws.{NamesHaveNumbers, NoNumberNamesTwo}
-use Rattle.locked_table.specs.Chronicle.{Chronicle, IsKept, first_kept_stamp}
-use Rattle.locked_table.specs.Promise.{CountsSubtrees, KeepsPromise}
+use Rattle.locked_table.specs.Chronicle.{Chronicle, IsKept, first_kept_stamp, next_stamp}
+use Rattle.locked_table.specs.Promise.{KeepsPromise}
 use Rattle.locked_table.proofs.Kept.{present-sound, present-bound}
 
-counted : (state : State) → CountsSubtrees state
-unfolding count
-counted state id = refl
-
-pub promise-of : RunsKeepSoundness → BoundStays → RunsKeepLimits → NoReuse → NamesHaveNumbers → NoNumberNamesTwo → (workers : ℕ) (c : Chronicle) → IsKept workers c → KeepsPromise c
-promise-of soundness stays limits reuse numbered distinct workers c k =
+pub promise-of : RunsKeepSoundness → BoundStays → RunsKeepLimits → NoReuse → CountsAreOfSubtrees → NamesHaveNumbers → NoNumberNamesTwo → (workers : ℕ) (c : Chronicle) → IsKept workers c → KeepsPromise c
+promise-of soundness stays limits reuse counts numbered distinct workers c k =
     let present = present-sound soundness workers c k in
     record {
       numbered = λ name s used. numbered c.present name s present.0 used;
       distinct = distinct c.present present.0;
-      counts = counted c.present;
+      counts = counts c.present (next_stamp c) present.0;
       limits = limits c.opening (first_kept_stamp c) c.entries k.opened.sound k.opened.below;
       replayed = k.replayed;
       booked = k.counted.booked;

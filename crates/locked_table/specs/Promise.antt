@@ -1,12 +1,12 @@
 -- What is true of a record whenever nobody works on it.
-use Rattle.std.specs.Prelude.{◌≡◌, ◌↔◌, ℕ, true, length, filter, is_some}
+use Rattle.std.specs.Prelude.{◌≡◌, ◌↔◌, ℕ, true, is_some}
 use Rattle.pid_types.specs.declared.plain.Name.{Name}
 use Rattle.pid_types.specs.Names.{path_up, number, names_in_use}
-use Rattle.pid_types.specs.Controls.{is_below, count}
 use Rattle.pid_types.specs.State.{State}
 use Rattle.pid_types.specs.Limits.{ForksStayWithinLimits}
 use Rattle.pid_types.specs.Membership.{IsIn}
 use Rattle.pid_types.specs.Sound.{HasDistinctNumbers, IsSound, IsBelow}
+use Rattle.model_laws.specs.PathLaws.{CountsSubtrees}
 use Rattle.model_laws.specs.ReuseLaws.{ReusesNoNumber}
 use Rattle.locked_table.specs.Chronicle.{Chronicle, total, first_kept_stamp, next_stamp, IsReplayed, IsSoundlyOpened}
 
@@ -16,16 +16,13 @@ HasAllNumbers state =
     (name : Name) (s : ℕ) → IsIn name (names_in_use state.rows)
     → IsIn s (path_up state.spaces name.space) ↔ (is_some (number state.spaces name s) ≡ true)
 
--- a control group's count is the number of the tasks in its subtree
-abbrev pub CountsSubtrees : State → Type 0
-CountsSubtrees state = (id : ℕ) → count state id ≡ length (filter (λ row. is_below state.controls row.home id) state.rows)
-
 -- the headline
 pub record KeepsPromise (c : Chronicle) : Type 0 where
   pub numbered : HasAllNumbers c.present
   -- no number of a namespace names two
   pub distinct : HasDistinctNumbers c.present.rows c.present.spaces
-  pub counts : CountsSubtrees c.present
+  -- each control group's count, as it is answered and shown, is the number of tasks in its subtree
+  pub counts : CountsSubtrees c.present (next_stamp c)
   -- no fork raised a count above its limit
   pub limits : ForksStayWithinLimits c.opening (first_kept_stamp c) c.entries
   -- the kept history replays, reply for reply, as one thread's

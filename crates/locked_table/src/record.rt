@@ -11,6 +11,7 @@ ghost use Rattle.locked_table.specs.Place.{AreSeats, AreNew, calls_of_seats};
 
 use crate::seat::Seat;
 use model_laws::laws::{forks_keep_limits, no_reuse, numbers_are_apart};
+use model_laws::meanings::count_is_of_subtree;
 use model_laws::soundness::{bound_stays, root_state_is_sound, soundness_is_kept};
 use pid_types::call::Call;
 use pid_types::config::Config;
@@ -111,6 +112,7 @@ impl<L: Ledger, const N: usize> Record<L, N> {
         bound_stays();
         forks_keep_limits();
         no_reuse();
+        count_is_of_subtree();
         numbers_are_apart();
         self.first_kept + self.history.len() as u64
     }

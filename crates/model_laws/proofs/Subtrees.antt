@@ -1,15 +1,22 @@
 -- Paths are chains of parents, and a count is the number of tasks whose home is in the subtree.
-use Rattle.std.proofs.Common.{◌≡◌, ℕ, zero, suc, Bool, true, false, List, [], ◌∷◌, length, Option, Some, None, refl, sym, ap, subst, inl, inr}
+use Rattle.std.proofs.Common.{◌≡◌, ℕ, zero, suc, Bool, true, false, List, [], ◌∷◌, length, Option, Some, None, refl, sym, ap, ◌∙◌, subst, inl, inr}
 use Rattle.std.specs.Prelude.{filter, option_and_then}
 use Rattle.pid_types.specs.declared.plain.Row.{Row}
 use Rattle.pid_types.specs.declared.plain.Control.{Control}
+use Rattle.pid_types.specs.declared.plain.ControlRow.{ControlRow}
+use Rattle.pid_types.specs.declared.reply.Reply.TheVariants.{Counted}
+use Rattle.pid_types.specs.declared.reply.Refusal.TheVariants.{NoControl}
 use Rattle.pid_types.specs.Membership.{IsIn}
 use Rattle.pid_types.specs.Chains.{climb}
 use Rattle.pid_types.specs.Names.{parent_space, path_up}
 use Rattle.pid_types.specs.Controls.{control_at, parent_control, control_path, is_below, count}
+use Rattle.pid_types.specs.Outcome.{answered, for_found}
+use Rattle.pid_types.specs.Changes.{count_tasks}
+use Rattle.pid_types.specs.Step.{step}
+use Rattle.pid_types.specs.Shown.{with_count}
 use Rattle.pid_types.specs.Sound.{IsTreeOfControls}
-use Rattle.model_laws.specs.PathLaws.{IsChain, IsPathOf, IsInSubtree, PathsAreChains, CountIsOfSubtree}
-use Rattle.model_laws.proofs.Lists.{IsIn-from_contains, contains-from_IsIn}
+use Rattle.model_laws.specs.PathLaws.{IsChain, IsPathOf, IsInSubtree, PathsAreChains, CountIsOfSubtree, SubtreeIsTold, CountsAreOfSubtrees}
+use Rattle.model_laws.proofs.Lists.{IsIn-from_map, IsIn-from_contains, contains-from_IsIn}
 use Rattle.model_laws.proofs.Chains.{Stops, Stops-at_root, climb-None, climb-Some, climb_cases, IsIn-climb_first}
 use Rattle.model_laws.proofs.Forests.{at-listed}
 use Rattle.model_laws.proofs.Trees.{root_space_parent, root_control_parent, control_at-Some}
@@ -77,11 +84,35 @@ same_test true b f g = sym (f refl)
 same_test false true f g = g refl
 same_test false false f g = refl
 
+-- the path of the home tells the subtree
+pub subtree_is_told : SubtreeIsTold
+unfolding control_path
+subtree_is_told state c sound row i = (
+  λ e. IsInSubtree-climb state.controls 65 row.home c (IsIn-from_contains (control_path state.controls row.home) c e),
+  λ e. contains-from_IsIn (control_path state.controls row.home) c (on_path state.controls sound.coherent.controls c row.home e),
+)
+
 -- a count is that of the subtree
 pub count_is_of_subtree : CountIsOfSubtree
-unfolding count control_path
+unfolding count
 count_is_of_subtree state c test sound tells =
     ap length (filter-agree (λ row. is_below state.controls row.home c) test state.rows (λ row i.
-    same_test (is_below state.controls row.home c) (test row)
-    (λ e. (tells row i).1 (IsInSubtree-climb state.controls 65 row.home c (IsIn-from_contains (control_path state.controls row.home) c e)))
-    (λ e. contains-from_IsIn (control_path state.controls row.home) c (on_path state.controls sound.coherent.controls c row.home ((tells row i).0 e)))))
+    let told = subtree_is_told state c sound row i in
+    same_test (is_below state.controls row.home c) (test row) (λ e. (tells row i).1 (told.0 e)) (λ e. told.1 ((tells row i).0 e))))
+
+-- a count is answered, and shown
+pub counts_are_of_subtrees : CountsAreOfSubtrees
+unfolding step count_tasks
+counts_are_of_subtrees state stamp sound g test i tells = (
+  ap (λ o. (for_found state o NoControl (λ c. answered state (Counted (count state g.id)))).reply) found ∙ ap Counted counted,
+  λ plain shows c j same.
+      let q = IsIn-from_map (with_count state) c state.controls (subst (IsIn c) shows.controls j) in
+      let id : q.0.id ≡ g.id = ap (λ (x : ControlRow). x.id) (sym q.2) ∙ same in
+      ap (λ (x : ControlRow). x.count) q.2 ∙ ap (count state) id ∙ counted,
+)
+  where
+    found : control_at state.controls g.id ≡ Some g
+    found = at-listed Control (λ d. d.id) (λ d. d.parent) (control_path state.controls) state.controls sound.coherent.controls g i
+
+    counted : count state g.id ≡ length (filter test state.rows)
+    counted = count_is_of_subtree state g.id test sound tells

@@ -3,11 +3,17 @@ use Rattle.std.specs.Prelude.{◌≡◌, ℕ, Bool, true, List, [], ◌∷◌, l
 use Rattle.pid_types.specs.declared.plain.Row.{Row}
 use Rattle.pid_types.specs.declared.plain.Space.{Space}
 use Rattle.pid_types.specs.declared.plain.Control.{Control}
+use Rattle.pid_types.specs.declared.plain.ControlRow.{ControlRow}
+use Rattle.pid_types.specs.declared.plain.Plain.{Plain}
+use Rattle.pid_types.specs.declared.call.Call.TheVariants.{Count}
+use Rattle.pid_types.specs.declared.reply.Reply.TheVariants.{Counted}
 use Rattle.pid_types.specs.Membership.{IsIn}
 use Rattle.pid_types.specs.State.{State}
 use Rattle.pid_types.specs.Names.{parent_space, path_up}
-use Rattle.pid_types.specs.Controls.{parent_control, control_path, count}
+use Rattle.pid_types.specs.Controls.{parent_control, control_path, is_below, count}
+use Rattle.pid_types.specs.Step.{step}
 use Rattle.pid_types.specs.Sound.{IsSound}
+use Rattle.pid_types.specs.Shown.{Shows}
 
 -- each is the parent of the one before it, and the last has none
 abbrev pub IsChain : (ℕ → Option ℕ) → List ℕ → Type 0
@@ -43,3 +49,19 @@ TellsSubtree state c test =
 abbrev pub CountIsOfSubtree : Type 0
 CountIsOfSubtree =
     (state : State) (c : ℕ) (test : Row → Bool) → IsSound state → TellsSubtree state c test → count state c ≡ length (filter test state.rows)
+
+-- there is such a test: whether the control group is on the path of the task's home
+abbrev pub SubtreeIsTold : Type 0
+SubtreeIsTold = (state : State) (c : ℕ) → IsSound state → TellsSubtree state c (λ row. is_below state.controls row.home c)
+
+-- the answer to a count of each control group, and the count that a snapshot shows of it, are the number of tasks whose home is in
+-- its subtree
+abbrev pub CountsSubtrees : State → ℕ → Type 0
+CountsSubtrees state stamp =
+    (g : Control) (test : Row → Bool) → IsIn g state.controls → TellsSubtree state g.id test
+    → ((step state stamp (Count g.id)).reply ≡ Counted (length (filter test state.rows)))
+    × ((plain : Plain) → Shows state plain → (c : ControlRow) → IsIn c plain.controls.items → c.id ≡ g.id → c.count ≡ length (filter test state.rows))
+
+-- so it is in every sound state
+abbrev pub CountsAreOfSubtrees : Type 0
+CountsAreOfSubtrees = (state : State) (stamp : ℕ) → IsSound state → CountsSubtrees state stamp

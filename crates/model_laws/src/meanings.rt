@@ -1,6 +1,6 @@
 //! What the definitions that compute mean: paths, counts, who takes orphans, what a fall does, what a
 //! wait reaps.
-ghost use Rattle.model_laws.specs.PathLaws.{CountIsOfSubtree, PathsAreChains};
+ghost use Rattle.model_laws.specs.PathLaws.{CountIsOfSubtree, CountsAreOfSubtrees, PathsAreChains, SubtreeIsTold};
 ghost use Rattle.model_laws.specs.ParentLaws.{NewParentIsNearest};
 ghost use Rattle.model_laws.specs.FallLaws.{ExitOfInitFalls};
 ghost use Rattle.model_laws.specs.WaitLaws.{NoneYetHasEnded, WaitReapsLeast};
@@ -10,9 +10,12 @@ pub fn paths_are_chains()
     ensures { PathsAreChains }
 {}
 
-/// In a sound state a control group's count is the number of tasks whose home is in its subtree.
+/// In a sound state a control group's count, as it is answered and as a snapshot shows it, is the number
+/// of tasks whose home is in its subtree.
 pub fn count_is_of_subtree()
-    ensures { CountIsOfSubtree }
+    ensures count { CountIsOfSubtree }
+    ensures told { SubtreeIsTold }
+    ensures shown { CountsAreOfSubtrees }
 {}
 
 /// The children of a task that ends go to its nearest ancestor in its own namespace that is a subreaper,

@@ -22,7 +22,7 @@ control_path controls id = climb (parent_control controls) (deepest_control + 1)
 abbrev pub is_below : List Control → ℕ → ℕ → Bool
 is_below controls lower upper = contains (control_path controls lower) upper
 
--- the tasks in the control group's subtree, zombies among them: pids.current of the kernel's cgroup-v2 document, "the number of
+-- the tasks in the control group's subtree, zombies among them: pids.current of the kernel's cgroup-v2 document, "The number of
 -- processes currently in the cgroup and its descendants"
 unfoldable pub count : State → ℕ → ℕ
 count state c = length (filter (λ row. is_below state.controls row.home c) state.rows)
@@ -32,7 +32,7 @@ abbrev pub is_limited_below : State → ℕ → ℕ → Bool
 is_limited_below state n c =
     option_map_or (λ limit. nat_lt limit n) (option_and_then (λ g. g.limit) (control_at state.controls c)) false
 
--- the nearest control group whose limit one more task would pass: pids.max of the cgroup-v2 document, "fork() or clone() .. will
--- return -EAGAIN if these would cause a cgroup policy to be violated"
+-- the nearest control group whose limit one more task would pass: pids.max of the cgroup-v2 document, "These will return -EAGAIN
+-- if the creation of a new process would cause a cgroup policy to be violated", where "These" are fork() and clone()
 unfoldable pub passed_limit : State → ℕ → Option ℕ
 passed_limit state home = find (λ c. is_limited_below state (count state c + 1) c) (control_path state.controls home)

@@ -18,7 +18,8 @@ pub record Outcome : Type 0 where
 abbrev pub is_dead : State → Space → Bool
 is_dead state s = s.fallen && (length (taken state s.id) == 0)
 
--- the state without the dead namespaces: pid_namespaces(7), a namespace goes when its last process has gone
+-- the state without the dead namespaces. That they go with their last number is the table's own rule; the kernel's is in
+-- namespaces(7), "Namespace lifetime"
 unfoldable pub sweep : State → State
 sweep state = record state { spaces = filter (λ s. not (is_dead state s)) state.spaces }
 

@@ -38,7 +38,8 @@ name_by Session row = row.session
 unfoldable pub get_pid : State → ℕ → Reply
 get_pid state n = asked_by state n (λ caller. Number (seen_number state caller caller.name))
 
--- the parent's number, 0 where it is not visible: pid_namespaces(7), "getppid(2) .. returns 0"
+-- the parent's number, 0 where it is not visible: pid_namespaces(7), "Calls to getppid(2) for such processes
+-- return 0"
 unfoldable pub get_ppid : State → ℕ → Reply
 get_ppid state n = asked_by state n (λ caller. Number (option_map_or (seen_number state caller) caller.parent 0))
 

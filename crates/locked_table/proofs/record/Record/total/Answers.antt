@@ -13,4 +13,4 @@ returns-clause-workers g c =
 pub returns-clause-promise : goal.returns-clause-promise
 returns-clause-promise g c =
     subst KeepsPromise c.self.view_is
-    (promise-of c.soundness_is_kept.ensures.run c.bound_stays.ensures c.forks_keep_limits.ensures.run c.no_reuse.ensures c.numbers_are_apart.ensures.each c.numbers_are_apart.ensures.apart g.row.N _ c.self.invariant)
+    (promise-of c.soundness_is_kept.ensures.run c.bound_stays.ensures c.forks_keep_limits.ensures.run c.no_reuse.ensures c.count_is_of_subtree.ensures.shown c.numbers_are_apart.ensures.each c.numbers_are_apart.ensures.apart g.row.N _ c.self.invariant)
