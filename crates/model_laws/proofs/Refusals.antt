@@ -160,15 +160,15 @@ record IsJudged (later : Option Refusal → Type 0) (reply : Reply) : Type 0 whe
 goes : (reply : Reply) → refusal_in reply ≡ None → IsJudged goes_on reply
 goes reply e = record { said = e }
 
--- a test tells whether the ground of a refusal holds
-refused_by : (ground : Type 0) (state : State) (b : Bool) (r : Refusal) (o : Outcome) (later : Option Refusal → Type 0)
-    → (b ≡ true → ground) → (b ≡ false → ground → ⊥) → (b ≡ false → IsJudged later o.reply) → IsJudged (refuse ground r later) (refuse_if state b r o).reply
-refused_by ground state true r o later holds fails h = record { said = inl (holds refl, refl) }
-refused_by ground state false r o later holds fails h = record { said = inr (fails refl, (h refl).said) }
+-- a test tells whether the reason of a refusal holds
+refused_by : (reason : Type 0) (state : State) (b : Bool) (r : Refusal) (o : Outcome) (later : Option Refusal → Type 0)
+    → (b ≡ true → reason) → (b ≡ false → reason → ⊥) → (b ≡ false → IsJudged later o.reply) → IsJudged (refuse reason r later) (refuse_if state b r o).reply
+refused_by reason state true r o later holds fails h = record { said = inl (holds refl, refl) }
+refused_by reason state false r o later holds fails h = record { said = inr (fails refl, (h refl).said) }
 
--- a refusal whose ground does not hold
-passed_over : (ground : Type 0) (r : Refusal) (reply : Reply) (later : Option Refusal → Type 0) → (ground → ⊥) → IsJudged later reply → IsJudged (refuse ground r later) reply
-passed_over ground r reply later fails h = record { said = inr (fails, h.said) }
+-- a refusal whose reason does not hold
+passed_over : (reason : Type 0) (r : Refusal) (reply : Reply) (later : Option Refusal → Type 0) → (reason → ⊥) → IsJudged later reply → IsJudged (refuse reason r later) reply
+passed_over reason r reply later fails h = record { said = inr (fails, h.said) }
 
 -- a search finds one that fits, or there is none
 found_by : {A : Type 0} (fits : A → Type 0) (state : State) (o : Option A) (r : Refusal) (f : A → Outcome) (later : A → Option Refusal → Type 0)
@@ -184,16 +184,16 @@ answered_by : {A : Type 0} (fits : A → Type 0) (o : Option A) (r : Refusal) (f
 answered_by fits None r f later holds fails h = record { said = inr (fails refl, refl) }
 answered_by fits (Some a) r f later holds fails h = record { said = inl (a, holds a refl, (h a refl).said) }
 
--- a search along a list names the first for which the ground holds
-first_by : (ground : ℕ → Type 0) (p : ℕ → Bool) (r : ℕ → Refusal) (xs : List ℕ) (later : Option Refusal → Type 0) (reply : Option Refusal)
-    → ((x : ℕ) → p x ≡ true → ground x) → ((x : ℕ) → p x ≡ false → ground x → ⊥)
-    → ((x : ℕ) → find p xs ≡ Some x → reply ≡ Some (r x)) → (find p xs ≡ None → later reply) → refuse_first ground r xs later reply
-first_by ground p r [] later reply holds fails some none = none refl
-first_by ground p r (x ∷ xs) later reply holds fails some none = go (first_by ground p r xs later reply holds fails) (p x) refl some none
+-- a search along a list names the first for which the reason holds
+first_by : (reason : ℕ → Type 0) (p : ℕ → Bool) (r : ℕ → Refusal) (xs : List ℕ) (later : Option Refusal → Type 0) (reply : Option Refusal)
+    → ((x : ℕ) → p x ≡ true → reason x) → ((x : ℕ) → p x ≡ false → reason x → ⊥)
+    → ((x : ℕ) → find p xs ≡ Some x → reply ≡ Some (r x)) → (find p xs ≡ None → later reply) → refuse_first reason r xs later reply
+first_by reason p r [] later reply holds fails some none = none refl
+first_by reason p r (x ∷ xs) later reply holds fails some none = go (first_by reason p r xs later reply holds fails) (p x) refl some none
   where
-    go : (((y : ℕ) → find p xs ≡ Some y → reply ≡ Some (r y)) → (find p xs ≡ None → later reply) → refuse_first ground r xs later reply)
+    go : (((y : ℕ) → find p xs ≡ Some y → reply ≡ Some (r y)) → (find p xs ≡ None → later reply) → refuse_first reason r xs later reply)
         → (b : Bool) → p x ≡ b → ((y : ℕ) → cond b (Some x) (find p xs) ≡ Some y → reply ≡ Some (r y))
-        → (cond b (Some x) (find p xs) ≡ None → later reply) → refuse (ground x) (r x) (refuse_first ground r xs later) reply
+        → (cond b (Some x) (find p xs) ≡ None → later reply) → refuse (reason x) (r x) (refuse_first reason r xs later) reply
     go rest true e found lost = inl (holds x e, found x refl)
     go rest false e found lost = inr (fails x e, rest found lost)
 
@@ -617,6 +617,6 @@ judged state stamp (Join caller target) = first_live state caller _ _ (λ row fo
     refused_by (is_live task ≡ false) state (not (is_live task)) NoTask _ goes_on (λ f. not-true (is_live task) f) (λ f g. (let there : is_live task ≡ true = not-false (is_live task) f in cc)) (λ live. goes _ refl)))
 judged state stamp (SetSubreaper caller on) = first_live state caller _ (λ row. goes_on) (λ row found. goes _ refl)
 
--- a call is refused exactly where a ground holds, by the first one
+-- a call is refused exactly where a reason holds, by the first one
 pub first_step : (state : State) (stamp : ℕ) (call : Call) → verdict state stamp call (refusal_in (step state stamp call).reply)
 first_step state stamp call = (judged state stamp call).said

@@ -1,4 +1,4 @@
--- Refusals: on which ground each comes, in which order, and that they change nothing.
+-- Refusals: for which reason each comes, in which order, and that they change nothing.
 use Rattle.std.specs.Prelude.{◌≡◌, ◌⊎◌, ℕ, ℤ, pos, negsuc, ◌+◌, ◌<◌, ◌≤◌, Bool, true, false, List, [], ◌∷◌, length, Option, Some, None, IsTrue}
 use Rattle.pid_types.specs.declared.call.Call.{Call}
 use Rattle.pid_types.specs.declared.call.Call.TheVariants.{Fork, GetPid, NsPid, Exec, Exit, Wait, GetPpid, SetPgid, SetSid, MakeControl, RemoveControl, SetLimit, Move, Count, GetPgid, GetSid, Next, Join, SetSubreaper}
@@ -28,18 +28,18 @@ use Rattle.model_laws.specs.Draws.{IsFull}
 abbrev pub goes_on : Option Refusal → Type 0
 goes_on reply = reply ≡ None
 
--- the refusal, where its ground holds; else what comes later
+-- the refusal, where its reason holds; else what comes later
 abbrev pub refuse : Type 0 → Refusal → (Option Refusal → Type 0) → Option Refusal → Type 0
-refuse ground r later reply = (ground × (reply ≡ Some r)) ⊎ ((ground → ⊥) × later reply)
+refuse reason r later reply = (reason × (reply ≡ Some r)) ⊎ ((reason → ⊥) × later reply)
 
 -- the refusal, where nothing fits; else what comes later, for one that does
 abbrev pub find_one : {A : Type 0} → (A → Type 0) → Refusal → (A → Option Refusal → Type 0) → Option Refusal → Type 0
 find_one {A} fits r later reply = ((a : A) × fits a × later a reply) ⊎ (((a : A) → fits a → ⊥) × (reply ≡ Some r))
 
--- the refusal of the first of them for which its ground holds; else what comes later
+-- the refusal of the first of them for whom its reason holds; else what comes later
 abbrev pub refuse_first : (ℕ → Type 0) → (ℕ → Refusal) → List ℕ → (Option Refusal → Type 0) → Option Refusal → Type 0
-refuse_first ground r [] later reply = later reply
-refuse_first ground r (x ∷ xs) later reply = refuse (ground x) (r x) (refuse_first ground r xs later) reply
+refuse_first reason r [] later reply = later reply
+refuse_first reason r (x ∷ xs) later reply = refuse (reason x) (r x) (refuse_first reason r xs later) reply
 
 -- ---- whom and what the numbers of a call name
 
@@ -178,7 +178,7 @@ abbrev pub refusal_in : Reply → Option Refusal
 refusal_in (Refused r) = Some r
 refusal_in _ = None
 
--- a call is refused exactly where a ground holds, by the first one in the order of its refusals
+-- a call is refused exactly where a reason holds, by the first one in the order of its refusals
 abbrev pub FirstRefusalAnswers : Type 0
 FirstRefusalAnswers = (state : State) (stamp : ℕ) (call : Call) → verdict state stamp call (refusal_in (step state stamp call).reply)
 
