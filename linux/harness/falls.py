@@ -9,8 +9,9 @@ from collections.abc import Callable, Iterable, Mapping
 from dataclasses import dataclass
 
 ENDS = "ends"
-WAITS = "waits"
-NEVER = "never"
+WAITS_FOR_CHILD = "fall-waits-for-child"
+WAITS_FOR_GROUP = "fall-waits-for-group"
+NEVER = "endless-fall"
 
 
 @dataclass(frozen=True)
@@ -43,8 +44,8 @@ class Forecast:
         self.inits = inits
 
     def is_inside(self, number: int, space: int) -> bool:
-        """Whether an identifier has a number in a namespace."""
-        return self.is_within(self.space_of_name[number], space)
+        """Whether an identifier has a number in a namespace. 0 names none: what has gone meanwhile."""
+        return number in self.space_of_name and self.is_within(self.space_of_name[number], space)
 
     def dying(self, init: int) -> list[int]:
         """The inits that end with an init, itself and those that end already among them."""
@@ -76,21 +77,20 @@ class Forecast:
                 return kept
             left = kept
 
-    def holds_up(self, member: Member, space: int, init: int) -> bool:
-        """Whether a process that does not go with the fall keeps a number of the namespace in use."""
-        inside = self.is_within(member.space, space)
-        parent = self.members.get(member.parent)
-        parent_inside = parent is not None and self.is_within(parent.space, space)
-        if inside and (parent_inside or member.number == init):
-            return False
-        return inside or (member.group != init and self.is_inside(member.group, space))
+    def hold(self, member: Member, space: int, init: int) -> str:
+        """How a process that does not go with a fall keeps a number of the namespace in use, if it does."""
+        if self.is_within(member.space, space):
+            parent = self.members.get(member.parent)
+            goes = member.number == init or (parent is not None and self.is_within(parent.space, space))
+            return ENDS if goes else WAITS_FOR_CHILD
+        uses_number = member.group != init and self.is_inside(member.group, space)
+        return WAITS_FOR_GROUP if uses_number else ENDS
 
     def outcome(self, init: int) -> str:
-        """`never` where some init would wait for itself; `waits` where one has to wait for what the script does; else `ends`."""
+        """What the fall comes to: NEVER where some init would wait for itself; WAITS_FOR_CHILD where a parent outside has to
+        wait first; WAITS_FOR_GROUP where a process outside has to leave a group; else ENDS."""
         if self.stuck(init):
             return NEVER
         spaces = {self.members[number].space: number for number in self.dying(init)}
-        for space, owner in spaces.items():
-            if any(self.holds_up(member, space, owner) for member in self.members.values()):
-                return WAITS
-        return ENDS
+        holds = {self.hold(member, space, owner) for space, owner in spaces.items() for member in self.members.values()}
+        return next((held for held in (WAITS_FOR_CHILD, WAITS_FOR_GROUP) if held in holds), ENDS)

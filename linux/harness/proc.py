@@ -67,6 +67,10 @@ class Proc:
         text = self.read(f"{number}/stat")
         return parse_stat(text) if text else None
 
+    def count(self) -> int:
+        """How many processes there are, zombies among them."""
+        return sum(name.isdigit() for name in os.listdir(self.folder))
+
     def all(self) -> dict[int, Stat]:
         """All processes, by root number in order."""
         numbers = sorted(int(name) for name in os.listdir(self.folder) if name.isdigit())

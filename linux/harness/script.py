@@ -1,5 +1,6 @@
 """The lines of a script, as docs/SCRIPT.md has them."""
 
+import argparse
 import re
 from dataclasses import dataclass
 
@@ -105,3 +106,11 @@ def split_lines(script: bytes) -> list[bytes]:
 def count_forks(script: bytes) -> int:
     """How many lines of a script ask for a fork: no number in it is greater by more than one."""
     return sum(line.startswith(b"fork ") for line in split_lines(script))
+
+
+def pid_max_of(word: str) -> int:
+    """A word of the command line that is a pid_max which the program takes."""
+    number = read_number(word, "N")
+    if number is None or not LEAST_PID_MAX <= number <= GREATEST_PID_MAX:
+        raise argparse.ArgumentTypeError(f"a number from {LEAST_PID_MAX} to {GREATEST_PID_MAX}")
+    return number

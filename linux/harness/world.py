@@ -6,10 +6,10 @@ import socket
 import subprocess
 import time
 from collections.abc import Callable, Iterator
-from dataclasses import dataclass, field
+from dataclasses import dataclass
 from pathlib import Path
 
-from harness.falls import ENDS, NEVER, WAITS, Forecast, Member
+from harness.falls import ENDS, NEVER, Forecast, Member
 from harness.groups import Groups, Place
 from harness.proc import Proc, Stat
 from harness.script import DEFAULT_PID_MAX, Call
@@ -59,15 +59,6 @@ class Settings:
     own_user: bool = False
     most_tasks: int = MOST_TASKS
     run_endless_falls: bool = False
-
-
-@dataclass
-class Causes:
-    """What has happened in the world that later answers may differ by."""
-
-    falls_waiting: list[int] = field(default_factory=list)
-    falls_endless: list[int] = field(default_factory=list)
-    cursors_moved: set[str] = field(default_factory=set)
 
 
 def errno_name(number: int) -> str:
@@ -123,7 +114,7 @@ class World:
         self.stamp = 0
         self.tasks: dict[int, Task] = {}
         self.spaces: dict[int, Space] = {}
-        self.causes = Causes()
+        self.held_falls: dict[int, str] = {}
         self.groups = Groups(settings.place, settings.most_tasks + 1) if settings.place else None
         self.keeper, self.life, orders = self.start()
         self.proc: Proc | None = None
@@ -228,7 +219,7 @@ class World:
         not asked."""
         self.stamp += 1
         if call.caller is not None and not self.is_live(call.caller):
-            return "ESRCH"
+            return "ESRCH no-caller"
         try:
             handler = getattr(self, f"do_{call.name}", None)
             return handler(call) if handler else self.plain(call)
@@ -251,7 +242,8 @@ class World:
     def do_fork(self, call: Call) -> str:
         """fork, or clone with CLONE_NEWPID."""
         caller = self.tasks[call.numbers[0]]
-        if len(self.proc_all()) >= self.settings.most_tasks:
+        assert self.proc
+        if self.proc.count() >= self.settings.most_tasks:
             return f"{NOT_ASKED} too-many-tasks"
         is_new = call.form == "new"
         kind = (str(self.settings.pid_max) if self.settings.pid_max else "new") if is_new else "-"
@@ -265,7 +257,7 @@ class World:
             space = self.stamp
             level = self.spaces[caller.children_space].level + 1
             self.spaces[space] = Space(caller.children_space, level, number)
-            self.spaces[space].link = self.proc.namespace(number, "pid") if self.proc else None
+            self.spaces[space].link = self.proc.namespace(number, "pid")
         self.tasks[number] = Task(number, numbers, space, orders, space)
         self.note_numbers(space, numbers)
         return f"child {child} root {number}"
@@ -334,7 +326,7 @@ class World:
             yield Member(number, task.space, stat.parent, stat.group, stat.is_zombie, has_exited)
 
     def forecast(self, init: int) -> str:
-        """What would come of an init's exit: `ends`, `waits` or `never`."""
+        """What would come of an init's exit: one of the words of `falls`."""
         return self.forecasts().outcome(init)
 
     def forecasts(self) -> Forecast:
@@ -374,11 +366,8 @@ class World:
         inside = [other for other in self.tasks.values() if self.is_within(other.space, task.space)]
         if not poll(lambda: all(self.has_settled(other) for other in inside)):
             raise WorldFault(f"the fall of process {task.number} does not come to rest")
-        if outcome == WAITS:
-            self.causes.falls_waiting.append(task.number)
-        if outcome == NEVER:
-            self.causes.falls_endless.append(task.number)
         if outcome != ENDS:
+            self.held_falls[task.number] = outcome
             time.sleep(0.01)
         elif not poll(lambda: self.is_over(task.number)):
             raise WorldFault(f"the fall of process {task.number} does not end, as it should")
@@ -393,9 +382,25 @@ class World:
         assert self.proc
         return self.is_over(task.number) or self.proc.waits_for_numbers(task.number)
 
-    def falls_waiting(self) -> bool:
-        """Whether some fall of this world has ever had to wait."""
-        return bool(self.causes.falls_waiting)
+    def open_causes(self) -> frozenset[str]:
+        """The falls that have not come to their end, by what they wait for."""
+        return frozenset(held for number, held in self.held_falls.items() if not self.is_over(number))
+
+    # Cursors.
+
+    def set_cursors_back(self, caller: int) -> bool:
+        """After a refused fork of a caller, gives each namespace that the child would have been in the cursor it had before.
+        Whether that could be done: it needs a kernel with CONFIG_CHECKPOINT_RESTORE."""
+        at: int | None = self.tasks[caller].children_space
+        try:
+            while at is not None:
+                space = self.spaces[at]
+                if self.is_live(space.init) and self.tasks[space.init].space == at:
+                    self.command(space.init, f"put {space.last} /proc/sys/kernel/ns_last_pid")
+                at = space.parent
+        except Refused:
+            return False
+        return True
 
     # Control groups.
 
@@ -429,8 +434,6 @@ class World:
     def do_move(self, call: Call) -> str:
         """A write to cgroup.procs by the init, which knows the task by its root number."""
         task, control = call.numbers
-        if task == 0:
-            return f"{NOT_ASKED} move-of-0"
         return self.command(1, f"put {task} {self.need_groups().folder(control) / 'cgroup.procs'}")
 
     def do_count(self, call: Call) -> str:
