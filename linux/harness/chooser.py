@@ -12,6 +12,7 @@ from harness.world import World
 ODD_NUMBERS = (0, 1, 2, 300, 301, 2**31 - 1, 2**31, 2**32 - 1)
 MOST_CROWD = 24
 RARELY = 0.03
+OFTEN = 0.2
 
 
 class Chooser:
@@ -103,7 +104,7 @@ class Chooser:
             return "wait 1 any" if self.has_one_zombie(1) else "getpid 1"
         if world.is_live(caller) and world.spaces[world.tasks[caller].space].init == caller and caller != 1:
             outcome = world.forecast(caller)
-            if outcome == NEVER or (outcome != ENDS and not self.rare()):
+            if outcome == NEVER or (outcome != ENDS and self.dice.random() > OFTEN):
                 return f"setpgid {caller} 0 0"
         return f"exit {caller} {status}"
 
@@ -184,17 +185,20 @@ class Chooser:
         return f"mk {self.control(world)}"
 
     def lower_control(self, world: World) -> int:
-        """The id of a control group; rarely the root's."""
-        control = self.control(world)
-        return control if control or self.rare() else self.dice.choice([*(world.groups.folders if world.groups else [0])][-5:])
+        """The id of a control group below the root; rarely the root's, or one that is none. 0 where there is none yet."""
+        known = [id for id in (world.groups.folders if world.groups else []) if id != 0]
+        return self.control(world) if self.rare() or not known else self.dice.choice(known)
 
     def rm(self, world: World, caller: int) -> str:
-        """A control group less."""
-        return f"rm {self.lower_control(world)}"
+        """A control group less; one more, where there is none."""
+        control = self.lower_control(world)
+        return f"rm {control}" if control or self.rare() else self.mk(world, caller)
 
     def limit(self, world: World, caller: int) -> str:
-        """A limit, mostly near the count."""
+        """A limit, mostly near the count; a control group, where there is none."""
         control = self.lower_control(world)
+        if control == 0 and not self.rare():
+            return self.mk(world, caller)
         assert world.groups
         count = world.groups.count(control) if control in world.groups.folders else 3
         near = max(0, count + self.dice.randint(-1, 3))
@@ -202,7 +206,7 @@ class Chooser:
 
     def move(self, world: World, caller: int) -> str:
         """A task into another control group."""
-        task = self.dice.choice(list(self.stats)) if self.dice.random() < 0.95 else self.caller(world)
+        task = self.dice.choice(list(self.stats)) if self.rare() else self.caller(world)
         return f"move {task} {self.control(world)}"
 
     def count(self, world: World, caller: int) -> str:

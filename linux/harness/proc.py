@@ -77,9 +77,11 @@ class Proc:
         stats = ((number, self.stat(number)) for number in numbers)
         return {number: stat for number, stat in stats if stat is not None}
 
-    def waits_for_numbers(self, number: int) -> bool:
-        """Whether the process sleeps as an init whose namespace still has numbers in use."""
-        return (self.read(f"{number}/wchan") or "").strip() == "zap_pid_ns_processes"
+    def waits_for_numbers(self, stat: Stat) -> bool:
+        """Whether an exiting init sleeps because its namespace still has numbers in use, and not because it reaps its children
+        (`do_wait`). The kernel's name for the first place is not the same in all versions."""
+        where = self.read(f"{stat.number}/wchan") or ""
+        return stat.is_exiting and stat.state == "S" and "wait" not in where
 
     def numbers(self, number: int) -> list[int]:
         """The process's numbers, from the world's namespace inwards."""

@@ -380,7 +380,8 @@ class World:
     def has_settled(self, task: Task) -> bool:
         """Whether a task of a falling namespace has come to rest: over, or an init that waits for numbers."""
         assert self.proc
-        return self.is_over(task.number) or self.proc.waits_for_numbers(task.number)
+        stat = self.stat(task.number)
+        return stat is None or stat.is_zombie or self.proc.waits_for_numbers(stat)
 
     def open_causes(self) -> frozenset[str]:
         """The falls that have not come to their end, by what they wait for."""

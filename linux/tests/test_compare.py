@@ -66,7 +66,10 @@ class Compare(unittest.TestCase):
         self.assertIn("line 4: getppid 2\n  kernel 0\n  table  1\n  NEW", text)
 
     def test_another_list_is_new(self) -> None:
-        for old, new in (("parent 2", "parent 1"), ("cursor 3", "cursor 2"), ("session 1 control 0 live\ntask 2", "session 2\ntask 2")):
+        changes = [("parent 2", "parent 1"), ("group 1 session 1", "group 1 session 2"), ("live\nspace", "exit 0\nspace")]
+        if Path("/proc/sys/kernel/ns_last_pid").exists():
+            changes.append(("cursor 3", "cursor 2"))
+        for old, new in changes:
             status, text = self.compare(SCRIPT, ANSWERS, LIST.replace(old, new))
             self.assertEqual((status, "NEW" in text), (1, True), text)
 
