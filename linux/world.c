@@ -26,6 +26,9 @@ enum {
     OWN_GROUPS = 5000,   // the numbers that are tried when a world ends, for children that wait for their own group
     PATIENCE = 3000,     // milliseconds for which an end is waited for
     EXITING = 0x4,       // PF_EXITING of /proc/PID/stat
+    STATUS_STUCK = 1,    // the keeper's exit status where a process does not end
+    STATUS_USAGE = 2,
+    STATUS_NO_WORLD = 3,
 };
 
 static void sleep_ms(long ms) {
@@ -389,10 +392,11 @@ static int ends_within(pid_t init, int ms) {
     return 0;
 }
 
-// Removes the control group of the world and all below it; a group that has just become empty may be busy for a moment.
+// Removes the control group of the world, where it is not `-` for none, and all below it; a group that has just become empty may
+// be busy for a moment.
 static void remove_groups(const char *path) {
     char below[PATH_MAX];
-    DIR *folder = opendir(path);
+    DIR *folder = strcmp(path, "-") ? opendir(path) : NULL;
     if (!folder) return;
     for (struct dirent *entry; (entry = readdir(folder));) {
         if (entry->d_type != DT_DIR || entry->d_name[0] == '.') continue;
@@ -409,9 +413,9 @@ static int keep(pid_t init, const char *groups) {
     int ended = ends_within(init, 2 * PATIENCE);
     if (!ended) kill(init, SIGKILL);
     ended = ended || ends_within(init, PATIENCE);
-    if (strcmp(groups, "-")) remove_groups(groups);
+    remove_groups(groups);
     if (!ended) fprintf(stderr, "world: process %d does not end\n", init);
-    return !ended;
+    return ended ? 0 : STATUS_STUCK;
 }
 
 static int start(const char *groups, const char *mode, int orders) {
@@ -422,14 +426,19 @@ static int start(const char *groups, const char *mode, int orders) {
     dup2(orders, ORDERS);
     if (orders != ORDERS) close(orders);
     pid_t init = (pid_t)syscall(SYS_clone, flags, 0, 0, 0, 0);
+    int fault = errno;
     if (init == 0) {
         close(LIFE);
         begin_world(own_user, user, group);
     }
-    if (init < 0) tell(LIFE, "error %d", errno);
-    else tell(LIFE, "init %d", init);
     close(ORDERS);
-    return init < 0 ? 1 : keep(init, groups);
+    if (init > 0) {
+        tell(LIFE, "init %d", init);
+        return keep(init, groups);
+    }
+    tell(LIFE, "error %d", fault);
+    remove_groups(groups);
+    return STATUS_NO_WORLD;
 }
 
 int main(int count, char **words) {
@@ -441,5 +450,5 @@ int main(int count, char **words) {
     }
     if (count == 5 && !strcmp(words[1], "keep")) return start(words[2], words[3], atoi(words[4]));
     fprintf(stderr, "world: started by the harness: world keep GROUP root|user ORDERS\n");
-    return 2;
+    return STATUS_USAGE;
 }

@@ -10,6 +10,7 @@ from harness.script import DEFAULT_PID_MAX, LEAST_PID_MAX
 from harness.world import World
 
 ODD_NUMBERS = (0, 1, 2, 300, 301, 2**31 - 1, 2**31, 2**32 - 1)
+BAD_LINES = ("fork", "fork 01", "exit 2 256", "setpgid 1 0 -0", "mk -1", "fork  1", "limit 0 no", "")
 MOST_CROWD = 24
 RARELY = 0.03
 OFTEN = 0.2
@@ -48,7 +49,7 @@ class Chooser:
             return self.waiting.pop(0)
         self.stats = world.proc_all()
         if self.rare():
-            return self.dice.choice(["", "fork", "fork 01", "exit 2 256", "setpgid 1 0 -0", "mk -1", "fork  1", "limit 0 no"]) or "getpid 1"
+            return self.dice.choice(BAD_LINES)
         makers, weights = self.kinds
         return self.dice.choices(makers, weights)[0](world, self.caller(world))
 

@@ -6,7 +6,7 @@ from pathlib import Path
 
 FOLDER = Path(__file__).resolve().parent.parent / "differences"
 CHAPTERS = ("Falls", "Fork and its numbers", "Wait", "The rest")
-FIELDS = ("chapter", "place", "what", "seen", "pid-max", "run")
+FIELDS = ("chapter", "place", "what", "seen", "pid-max", "run", "shows")
 REPEATED = re.compile(r"([1-9][0-9]*) times (.*)")
 
 
@@ -26,7 +26,7 @@ class Step:
 
 @dataclass(frozen=True)
 class Row:
-    """A listed difference. `run` is empty where it is run as any script, `endless` where the kernel's fall never ends, and
+    """A listed difference. `shows` is the name by which `known` tells it, mostly its own. `run` is empty where it is run as any script, `endless` where the kernel's fall never ends, and
     otherwise says why it cannot be run."""
 
     name: str
@@ -36,6 +36,7 @@ class Row:
     seen: str
     pid_max: int | None
     run: str
+    shows: str
     steps: tuple[Step, ...]
 
     @property
@@ -98,9 +99,8 @@ def parse_row(name: str, text: str) -> Row:
     if steps and all(step.kernel == step.table for step in steps):
         raise BadFile(f"{name}: a script without a difference")
     pid_max = int(fields["pid-max"]) if "pid-max" in fields else None
-    return Row(
-        name, fields["chapter"], int(fields["place"]), fields["what"], fields.get("seen", ""), pid_max, fields.get("run", ""), steps
-    )
+    seen, run, shows = fields.get("seen", ""), fields.get("run", ""), fields.get("shows", name)
+    return Row(name, fields["chapter"], int(fields["place"]), fields["what"], seen, pid_max, run, shows, steps)
 
 
 def read_rows(folder: Path = FOLDER) -> list[Row]:

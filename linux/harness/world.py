@@ -1,7 +1,6 @@
 """A world of real processes, one for each task of a script, which answers the script's lines by what the kernel does."""
 
 import errno
-import os
 import socket
 import subprocess
 import time
@@ -19,7 +18,7 @@ MOST_TASKS = 1000
 PATIENCE = 3.0
 LONGEST_MESSAGE = 4608
 NOT_ASKED = "n/a"
-GREATEST_KERNEL_NUMBER = 2**31 - 1
+STATUS_STUCK = 1
 
 
 class WorldFault(RuntimeError):
@@ -110,6 +109,8 @@ class World:
     process, however that ends."""
 
     def __init__(self, settings: Settings) -> None:
+        if not PROGRAM.exists():
+            raise WorldFault(f"{PROGRAM} is not built: run `make -C linux`")
         self.settings = settings
         self.stamp = 0
         self.tasks: dict[int, Task] = {}
@@ -129,8 +130,6 @@ class World:
 
     def start(self) -> tuple[subprocess.Popen[bytes], socket.socket, socket.socket]:
         """Starts the keeper, and gives the sockets whose ends are the end of the world."""
-        if not PROGRAM.exists():
-            raise WorldFault(f"{PROGRAM} is not built: run `make -C linux`")
         life, keeper_life = socket.socketpair()
         orders, init_orders = socket.socketpair(socket.AF_UNIX, socket.SOCK_SEQPACKET)
         folder = str(self.groups.root) if self.groups else "-"
@@ -158,7 +157,14 @@ class World:
         self.spaces[0] = Space(None, 0, 1, 1, self.proc.namespace(1, "pid"))
         self.tasks[1] = Task(1, [1], 0, orders, 0)
         if self.settings.pid_max is not None:
-            self.command(1, f"put {self.settings.pid_max} /proc/sys/kernel/pid_max")
+            self.set_pid_max(self.settings.pid_max)
+
+    def set_pid_max(self, pid_max: int) -> None:
+        """Sets the namespace's own pid_max."""
+        try:
+            self.command(1, f"put {pid_max} /proc/sys/kernel/pid_max")
+        except Refused as fault:
+            raise WorldFault(f"no pid_max of {pid_max} can be set: {fault}") from fault
 
     def close(self) -> None:
         """Ends all processes of the world, and removes its control groups."""
@@ -168,7 +174,8 @@ class World:
         if self.proc:
             self.proc.close()
             self.proc = None
-        self.keeper.wait()
+        if self.keeper.wait() == STATUS_STUCK:
+            raise WorldFault("a process of the world does not end")
 
     def __enter__(self) -> "World":
         return self
@@ -233,6 +240,13 @@ class World:
         words = " ".join(str(number) for number in call.numbers[1:])
         answer = self.command(call.numbers[0], f"{call.name} {words}")
         return answer.replace("\t", " ")
+
+    def do_setpgid(self, call: Call) -> str:
+        """setpgid; not for an init that waits for numbers, since another group may make it wait for itself."""
+        caller, target, group = call.numbers
+        space = self.tasks[caller].space
+        dying = [self.number_in(number, space) for number in self.held_falls if not self.is_over(number)]
+        return f"{NOT_ASKED} waiting-init" if target in dying and group not in (0, target) else self.plain(call)
 
     def do_wait(self, call: Call) -> str:
         """waitid with WNOHANG."""

@@ -35,7 +35,8 @@ class Files(unittest.TestCase):
         self.assertTrue(row.can_run)
 
     def test_steps(self) -> None:
-        self.assertEqual(parse_step("298 times fork 1 => child 300 root 300", "a"), Step("fork 1", 298, *["child 300 root 300"] * 2))
+        answer = "child 300 root 300"
+        self.assertEqual(parse_step(f"298 times fork 1 => {answer}", "a"), Step("fork 1", 298, answer, answer))
         self.assertEqual(parse_step("fork 1", "a"), Step("fork 1", 1, None, None))
 
     def test_bad_files(self) -> None:
@@ -51,7 +52,7 @@ class Files(unittest.TestCase):
                 parse_row("a", GOOD.replace(old, new))
 
     def test_each_row_with_a_script_has_its_test_and_each_test_its_row(self) -> None:
-        rows = {row.name.removesuffix("-of-two") for row in read_rows() if row.steps}
+        rows = {row.shows for row in read_rows() if row.steps}
         self.assertEqual(rows, {known.name for known in DIFFERENCES})
 
     def test_the_page_is_made_of_the_files(self) -> None:

@@ -22,8 +22,8 @@ GOOD = {
 }
 
 BAD = [
-    b"fork", b"fork 01", b"fork -1", b"fork 4294967296", b"fork 1\r", b"fo\0rk 1", b" fork 1", b"fork 1 ", b"fork  1", b"fork 1 old",
-    b"exit 2 256", b"exit 2", b"wait 1", b"wait 1 any 2", b"wait 1 pid", b"setpgid 1 -0 0", b"setpgid 1 2147483648 0",
+    b"fork", b"fork 01", b"fork -1", b"fork 4294967296", b"fork 1\r", b"fo\0rk 1", b" fork 1", b"fork 1 ", b"fork  1",
+    b"fork 1 old", b"exit 2 256", b"exit 2", b"wait 1", b"wait 1 any 2", b"wait 1 pid", b"setpgid 1 -0 0", b"setpgid 1 2147483648 0",
     b"setpgid 1 +1 0", b"next 1 thing 2", b"subreaper 1", b"mk 18446744073709551616", b"mk -1", b"limit 1 -1", b"count", b"a" * 201,
 ]
 
