@@ -9,7 +9,7 @@ from harness.kernel_list import differing_lines, kernel_list
 from harness.known import Known, Meeting, agree, explain
 from harness.script import BadLine, Call, parse_line
 from harness.table import Table, list_lines
-from harness.world import Settings, World
+from harness.world import Settings, World, WorldFault
 
 SAME = "same"
 LISTED = "listed"
@@ -35,19 +35,21 @@ class Difference:
 
 @dataclass
 class Report:
-    """What came of a script: its lines as they were run, all differences, and how often cursors were set back."""
+    """What came of a script: its lines as they were run, all differences, how often cursors were set back, and why it was
+    skipped or came to no end."""
 
     lines: list[str] = field(default_factory=list)
     differences: list[Difference] = field(default_factory=list)
     answers: list[tuple[str, str]] = field(default_factory=list)
     cursors_set_back: int = 0
     skipped: str = ""
+    broke: str = ""
     refusals: Counter[str] = field(default_factory=Counter)
 
     @property
     def verdict(self) -> str:
-        """`new` where one difference is not listed, else `listed`, `skipped` or `same`."""
-        if any(difference.known is None for difference in self.differences):
+        """`new` where one difference is not listed or the world broke, else `listed`, `skipped` or `same`."""
+        if self.broke or any(difference.known is None for difference in self.differences):
             return NEW
         if self.skipped:
             return SKIPPED
@@ -81,7 +83,10 @@ class Comparison:
     def close(self) -> None:
         """Ends both."""
         self.table.close()
-        self.world.close()
+        try:
+            self.world.close()
+        except WorldFault as fault:
+            self.report.broke = self.report.broke or str(fault)
 
     def __enter__(self) -> "Comparison":
         return self
@@ -91,10 +96,11 @@ class Comparison:
 
     def run(self, lines: Iterable[bytes]) -> Report:
         """Has both answer the lines, until the states part; then compares what they leave."""
-        for line in lines:
-            if line and not self.step(line):
-                return self.report
-        self.compare_lists()
+        try:
+            if all(self.step(line) for line in lines if line):
+                self.compare_lists()
+        except WorldFault as fault:
+            self.report.broke = str(fault)
         return self.report
 
     def step(self, line: bytes) -> bool:

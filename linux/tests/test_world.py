@@ -87,6 +87,12 @@ class Answers(unittest.TestCase):
             got = answers(world, *ENDLESS, "exit 2 5", "getpid 2")
         self.assertEqual(got[4:], ["n/a endless-fall", "1"])
 
+    def test_a_waiting_init_is_not_put_into_an_inner_group(self) -> None:
+        waiting = ["fork 1 new", "fork 2", "setpgid 3 0 0", "fork 1", "setpgid 4 0 3", "exit 2 5", "wait 1 any"]
+        with World(self.machine.settings(32768, b"")) as world:
+            got = answers(world, *waiting, "setpgid 1 2 3", "setpgid 1 2 0", "setpgid 4 0 0", "wait 1 any")
+        self.assertEqual(got[6:], ["none", "n/a waiting-init", "ok", "ok", "reaped 2 exit 5"])
+
     def test_a_bound_of_tasks(self) -> None:
         settings = self.machine.settings(32768, b"")
         settings.most_tasks = 3
