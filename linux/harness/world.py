@@ -229,7 +229,9 @@ class World:
             return "ESRCH no-caller"
         try:
             handler = getattr(self, f"do_{call.name}", None)
-            return handler(call) if handler else self.plain(call)
+            answer = handler(call) if handler else self.plain(call)
+            self.settle_held_falls()
+            return answer
         except Refused as refusal:
             return str(refusal)
         except OSError as fault:
@@ -374,8 +376,7 @@ class World:
         """Waits until nothing moves: the task is a zombie, and so are all others that a fall kills, or they are gone."""
         space = self.spaces[task.space]
         if space.init != task.number:
-            if not poll(lambda: self.is_over(task.number)):
-                raise WorldFault(f"process {task.number} does not end")
+            self.await_end(task.number)
             return
         inside = [other for other in self.tasks.values() if self.is_within(other.space, task.space)]
         if not poll(lambda: all(self.has_settled(other) for other in inside)):
@@ -383,8 +384,24 @@ class World:
         if outcome != ENDS:
             self.held_falls[task.number] = outcome
             time.sleep(0.01)
-        elif not poll(lambda: self.is_over(task.number)):
-            raise WorldFault(f"the fall of process {task.number} does not end, as it should")
+        else:
+            self.await_end(task.number)
+
+    def settle_held_falls(self) -> None:
+        """Waits for the falls that nothing holds any more, and forgets them."""
+        self.forget_ended_falls()
+        for number in [number for number in self.held_falls if self.forecast(number) == ENDS]:
+            self.await_end(number)
+        self.forget_ended_falls()
+
+    def forget_ended_falls(self) -> None:
+        """Keeps only the falls that are held yet."""
+        self.held_falls = {number: held for number, held in self.held_falls.items() if not self.is_over(number)}
+
+    def await_end(self, number: int) -> None:
+        """Waits until a process is a zombie or gone."""
+        if not poll(lambda: self.is_over(number)):
+            raise WorldFault(f"process {number} does not end, as it should")
 
     def is_over(self, number: int) -> bool:
         """Whether a process is a zombie or gone."""
@@ -399,7 +416,8 @@ class World:
 
     def open_causes(self) -> frozenset[str]:
         """The falls that have not come to their end, by what they wait for."""
-        return frozenset(held for number, held in self.held_falls.items() if not self.is_over(number))
+        self.forget_ended_falls()
+        return frozenset(self.held_falls.values())
 
     # Cursors.
 
