@@ -29,6 +29,12 @@ class Stat:
         """Whether the process has begun to end, or has ended."""
         return self.is_zombie or bool(self.flags & EXITING)
 
+    @property
+    def is_at_rest(self) -> bool:
+        """Whether the process has ended, or is an exiting init that sleeps: until no other number is in use in its namespace, or
+        until an init that does so lets itself be reaped."""
+        return self.is_zombie or (self.is_exiting and self.state == "S")
+
 
 def parse_stat(text: str) -> Stat:
     """The fields of /proc/PID/stat; the name, in parentheses, may hold anything."""
@@ -76,12 +82,6 @@ class Proc:
         numbers = sorted(int(name) for name in os.listdir(self.folder) if name.isdigit())
         stats = ((number, self.stat(number)) for number in numbers)
         return {number: stat for number, stat in stats if stat is not None}
-
-    def waits_for_numbers(self, stat: Stat) -> bool:
-        """Whether an exiting init sleeps because its namespace still has numbers in use, and not because it reaps its children
-        (`do_wait`). The kernel's name for the first place is not the same in all versions."""
-        where = self.read(f"{stat.number}/wchan") or ""
-        return stat.is_exiting and stat.state == "S" and "wait" not in where
 
     def numbers(self, number: int) -> list[int]:
         """The process's numbers, from the world's namespace inwards."""

@@ -409,10 +409,9 @@ class World:
         return stat is None or stat.is_zombie
 
     def has_settled(self, task: Task) -> bool:
-        """Whether a task of a falling namespace has come to rest: over, or an init that waits for numbers."""
-        assert self.proc
+        """Whether a task of a falling namespace has come to rest: over, or an init that waits."""
         stat = self.stat(task.number)
-        return stat is None or stat.is_zombie or self.proc.waits_for_numbers(stat)
+        return stat is None or stat.is_at_rest
 
     def open_causes(self) -> frozenset[str]:
         """The falls that have not come to their end, by what they wait for."""
