@@ -1,6 +1,6 @@
 # What a person does with this repository. It needs the Rattle toolchain, whose command is `rt`.
 
-.PHONY: run list work try test clean
+.PHONY: run list work try test linux clean
 
 # Answers the first script. The first time it proves and builds what the program stands on.
 run:
@@ -22,5 +22,13 @@ try:
 test:
 	rt ci
 
+# Compares the table with real processes: each row of docs/LINUX.md, and 200 random scripts. It needs root or user namespaces.
+linux: run
+	@$(MAKE) -s -C linux check
+	@linux/page --check
+	@linux/compare --rows
+	@linux/compare --seeds 1..200
+
 clean:
 	rm -rf crates/*/out
+	@$(MAKE) -s -C linux clean

@@ -1,0 +1,1 @@
+"""The same script by real processes, and what differs from the table."""
