@@ -1,5 +1,5 @@
 -- What `list` and `work` write.
-use Rattle.std.specs.Prelude.{ℕ, ◌≡◌, ◌+◌, ◌<◌, List, [], ◌∷◌, ◌++◌, length, slice_index_or, codes, decimal, Option, None, Vec}
+use Rattle.std.specs.Prelude.{ℕ, ◌≡◌, ◌+◌, ◌<◌, List, [], ◌∷◌, ◌++◌, ◌⊎◌, Bool, length, slice_index_or, codes, decimal, Option, None, Vec}
 use Rattle.std.specs.declared.alloc.Global.{Global}
 use Rattle.std.specs.List.{flat_map}
 use Rattle.std.specs.Io.KnownBytes.{Appends}
@@ -10,11 +10,16 @@ use Rattle.pid_types.specs.declared.call.Call.{Call}
 use Rattle.pid_types.specs.declared.entry.Receipt.{Receipt}
 use Rattle.pid_types.specs.declared.plain.Plain.{Plain}
 use Rattle.locked_table.specs.Chronicle.{Chronicle}
+use Rattle.locked_table.specs.Promise.{KeepsPromise}
 use Rattle.pid_jobs.specs.Job.{Fulfils}
 use Rattle.pid_jobs.specs.Receipts.{IsAudited}
 use Rattle.pid_jobs.specs.declared.result.Work.{Work}
 use Rattle.pid_script.specs.Script.{with_newline, start_of}
-use Rattle.pid_script.specs.Session.{progress_of, Finishes}
+use Rattle.pid_script.specs.Session.{progress_of, Finishes, Leaves}
+use Rattle.pid_script.specs.declared.tally.RunScriptFault.{RunScriptFault}
+use Rattle.pid_commands.specs.declared.fault.Fault.{Fault}
+use Rattle.pid_commands.specs.declared.fault.Fault.TheVariants.{NoMemory}
+use Rattle.pid_commands.specs.Faults.{of_script}
 use Rattle.pid_script.specs.declared.tally.Tally.{Tally}
 use Rattle.pid_script.specs.Answers.{reply_text}
 use Rattle.pid_script.specs.Lists.{list_of}
@@ -36,12 +41,13 @@ works_text first [] = []
 works_text first (work ∷ works) = work_lines first work ++ works_text (first + 1) works
 
 -- what was written is what workers of these jobs had, and the list of the table that they left. The table was made with the
--- settings, its history is whole, and in it are just the receipts that the workers have
+-- settings, it keeps the promise of a record, its history is whole, and in it are just the receipts that the workers have
 pub record ShowsRun (settings : Settings) (jobs : List (Vec Call Global)) (before after : Option (List ℕ)) : Type 0 where
   pub kept : Chronicle
   pub works : List Work
   pub plain : Plain
   pub made : kept.config ≡ settings
+  pub promised : KeepsPromise kept
   pub whole : kept.first_kept ≡ 0
   pub many : length works ≡ length jobs
   pub done : (w : ℕ) (d : Work) (j : Vec Call Global) → w < length jobs → Fulfils (slice_index_or jobs w j).items (slice_index_or works w d).receipts.items (slice_index_or works w d).refused
@@ -59,3 +65,8 @@ pub record ListsScript (settings : Settings) (from to : Option (List ℕ)) (list
   pub finished : Finishes (start_of settings) (progress_of present stamp tally text) from to None None
   pub shown : Shows present plain
   pub listed : list ≡ list_of plain
+
+-- there was no memory for the list, or the script stopped short of its end, after at most so many reads
+abbrev pub FailsToList : ℕ → Settings → Option (List ℕ) → Option (List ℕ) → Bool → Fault → Type 0
+FailsToList turns settings from to failed fault =
+    (fault ≡ NoMemory) ⊎ ((f : RunScriptFault) × (fault ≡ of_script f) × Leaves turns (start_of settings) from to None None failed f)

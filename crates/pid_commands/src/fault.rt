@@ -1,4 +1,6 @@
 //! What a command says of a fault.
+ghost use Rattle.std.specs.Prelude.{◌≡◌};
+ghost use Rattle.pid_commands.specs.Faults.{of_job};
 
 use pid_jobs::RunFault;
 use pid_script::job::JobFault;
@@ -43,7 +45,9 @@ pub enum Fault {
 
 impl Fault {
     /// The fault of the job file with the name.
-    pub(crate) fn in_job(file: String, fault: JobFault) -> Fault {
+    pub(crate) fn in_job(file: String, fault: JobFault) -> Fault
+        ensures { result ≡ of_job file fault }
+    {
         match fault {
             JobFault::Read => Fault::Unreadable(file),
             JobFault::TooLong => Fault::TooLong(file),
@@ -54,12 +58,22 @@ impl Fault {
 }
 
 impl From<AllocError> for Fault {
+    ghost use Rattle.std.specs.Prelude.{◌≡◌};
+    ghost use Rattle.pid_commands.specs.declared.fault.Fault.TheVariants.{NoMemory};
+
+    ghost from_gives = { λ _ given. given ≡ NoMemory };
+
     fn from(_error: AllocError) -> Fault {
         Fault::NoMemory
     }
 }
 
 impl From<RunScriptFault> for Fault {
+    ghost use Rattle.std.specs.Prelude.{◌≡◌};
+    ghost use Rattle.pid_commands.specs.Faults.{of_script};
+
+    ghost from_gives = { λ fault given. given ≡ of_script fault };
+
     fn from(fault: RunScriptFault) -> Fault {
         match fault {
             RunScriptFault::NoMemory => Fault::NoMemory,
@@ -71,6 +85,11 @@ impl From<RunScriptFault> for Fault {
 }
 
 impl From<RunFault> for Fault {
+    ghost use Rattle.std.specs.Prelude.{◌≡◌};
+    ghost use Rattle.pid_commands.specs.Faults.{of_run};
+
+    ghost from_gives = { λ fault given. given ≡ of_run fault };
+
     fn from(fault: RunFault) -> Fault {
         match fault {
             RunFault::Start => Fault::Start,

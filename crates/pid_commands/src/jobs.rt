@@ -1,5 +1,9 @@
 //! Job files.
-ghost use Rattle.std.specs.Prelude.{◌≡◌, IfOk, vec_len};
+ghost use Rattle.std.specs.Prelude.{◌≡◌, ◌⊎◌, IfOk, IfErr, Contains, String, vec_len};
+ghost use Rattle.pid_commands.specs.declared.fault.Fault.TheVariants.{NoMemory};
+ghost use Rattle.pid_script.specs.declared.job.JobFault.{JobFault};
+ghost use Rattle.std.specs.declared.alloc.Global.{Global};
+ghost use Rattle.pid_commands.specs.Faults.{of_job};
 
 use crate::fault::Fault;
 use crate::words::JobFiles;
@@ -15,7 +19,8 @@ pub(crate) fn read_jobs<R: Files + AllocGlobal>(
     rt: &R,
     files: JobFiles,
 ) -> Result<Vec<Vec<Call>>, Fault>
-    ensures { IfOk result (λ jobs. vec_len jobs ≡ vec_len files.names) }
+    ensures jobs { IfOk result (λ jobs. vec_len jobs ≡ vec_len files.names) }
+    ensures fault { IfErr result (λ e. (e ≡ NoMemory) ⊎ ((name : String Global) × (fault : JobFault) × Contains files.names.items name × (e ≡ of_job name fault))) }
 {
     let names = files.into_names();
     let mut jobs = Vec::with_capacity(rt.alloc(), names.len())?;
@@ -26,7 +31,9 @@ pub(crate) fn read_jobs<R: Files + AllocGlobal>(
 }
 
 /// Reads the job of one file. A file that cannot be opened is as one that cannot be read.
-fn read_file<R: Files + AllocGlobal>(rt: &R, name: String) -> Result<Vec<Call>, Fault> {
+fn read_file<R: Files + AllocGlobal>(rt: &R, name: String) -> Result<Vec<Call>, Fault>
+    ensures { IfErr result (λ e. (fault : JobFault) × (e ≡ of_job name fault)) }
+{
     let Ok(file) = fs::open(rt, name.as_str()) else {
         return Err(Fault::Unreadable(name));
     };

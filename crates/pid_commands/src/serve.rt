@@ -1,6 +1,9 @@
 //! The commands.
-ghost use Rattle.std.specs.Prelude.{◌≡◌, ◌<◌, ◌≤◌, Option, List, ℕ, None, false, length, OnOk, IfOk};
-ghost use Rattle.pid_commands.specs.Output.{ListsScript, ShowsRun};
+ghost use Rattle.std.specs.Prelude.{◌≡◌, ◌<◌, ◌≤◌, Option, List, ℕ, None, false, length, OnOk, IfOk, IfErr, ◌⊎◌};
+ghost use Rattle.pid_jobs.specs.declared.run.RunFault.{RunFault};
+ghost use Rattle.pid_commands.specs.declared.fault.Fault.TheVariants.{Write};
+ghost use Rattle.pid_commands.specs.Faults.{of_run};
+ghost use Rattle.pid_commands.specs.Output.{ListsScript, FailsToList, ShowsRun};
 
 use crate::fault::Fault;
 use crate::jobs::read_jobs;
@@ -11,7 +14,7 @@ use pid_jobs::{OpenGate, run_workers};
 use pid_types::call::Call;
 use pid_types::config::Config;
 use pid_types::device::{DeviceFault, FromReader, Sink, Source, ToWriter};
-use pid_workers::{list_record, run, run_state};
+use pid_workers::{MOST_READS, list_record, run, run_state};
 use std::alloc::Global;
 use std::io::{BufWriter, Read, Write};
 use std::marker::Brand;
@@ -119,7 +122,8 @@ fn list_of_script<L: Ledger, S: Source>(
 ) -> Result<Vec<u8>, Fault>
     requires name { blank.name ≡ L.name }
     requires parts { (blank.parts ≡ L.parts) × (L.parts ≡ 1) }
-    ensures { IfOk result (λ list. ListsScript config.now (S.remaining source.old) (S.remaining source.new) list.items) }
+    ensures ok { IfOk result (λ list. ListsScript config.now (S.remaining source.old) (S.remaining source.new) list.items) }
+    ensures fault { IfErr result (FailsToList MOST_READS config.now (S.remaining source.old) (S.remaining source.new) (S.has_failed source.new)) }
 {
     let (_tally, record) = run_state::<L, _, _>(alloc, blank, source, &mut Discard, config)?;
     Ok(list_record(alloc, &record)?)
@@ -151,7 +155,8 @@ fn run_jobs<L: Ledger + Send + Sync, R: Threads + Wait + Clock + Sync + AllocGlo
     requires name { blank.name ≡ L.name }
     requires parts { (blank.parts ≡ L.parts) × (L.parts ≡ length jobs.now) }
     requires count { (2 ≤ length jobs.now) × (length jobs.now ≤ 16) }
-    ensures { OnOk result (ShowsRun config.now jobs.now (W.contents writer.old) (W.contents writer.new)) }
+    ensures ok { OnOk result (ShowsRun config.now jobs.now (W.contents writer.old) (W.contents writer.new)) }
+    ensures fault { IfErr result (λ e. (e ≡ Write) ⊎ ((fault : RunFault) × (e ≡ of_run fault))) }
 {
     match jobs.len() {
         2 => run_all::<L, R, W, 2>(rt, blank, config, jobs, writer),
@@ -183,7 +188,8 @@ fn run_all<
     requires name { blank.name ≡ L.name }
     requires parts { (blank.parts ≡ L.parts) × (L.parts ≡ N) × (0 < N) }
     requires jobs { length jobs.now ≡ N }
-    ensures { OnOk result (ShowsRun config.now jobs.now (W.contents writer.old) (W.contents writer.new)) }
+    ensures ok { OnOk result (ShowsRun config.now jobs.now (W.contents writer.old) (W.contents writer.new)) }
+    ensures fault { IfErr result (λ e. (e ≡ Write) ⊎ ((fault : RunFault) × (e ≡ of_run fault))) }
 {
     let finished = run_workers::<L, OpenGate, R, N>(
         rt,
@@ -193,5 +199,7 @@ fn run_all<
         jobs,
         &OpenGate,
     )?;
+    // What the record promises is the contract of its total.
+    let _total = finished.kept.total();
     write_finished(rt.alloc(), writer, finished)
 }

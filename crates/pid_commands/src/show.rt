@@ -1,5 +1,6 @@
 //! What `work` writes.
-ghost use Rattle.std.specs.Prelude.{◌≡◌, ◌++◌, OnOk};
+ghost use Rattle.std.specs.Prelude.{◌≡◌, ◌⊎◌, ◌++◌, OnOk, IfErr};
+ghost use Rattle.pid_commands.specs.declared.fault.Fault.TheVariants.{NoMemory, Write};
 ghost use Rattle.std.specs.List.{flat_map};
 ghost use Rattle.std.specs.Io.KnownBytes.{Appends};
 ghost use Rattle.pid_types.specs.Shown.{Shows};
@@ -27,8 +28,9 @@ pub(crate) fn write_finished<L: Ledger, W: Write, const N: usize>(
     writer: &mut W,
     finished: Finished<L, N>,
 ) -> Result<(), Fault>
-    ensures { OnOk result ((plain : Plain) × Shows finished.kept.present plain
+    ensures ok { OnOk result ((plain : Plain) × Shows finished.kept.present plain
         × Appends (W.contents writer.old) (W.contents writer.new) (works_text 0 finished.works.items ++ list_of plain)) }
+    ensures fault { IfErr result (λ e. (e ≡ NoMemory) ⊎ (e ≡ Write)) }
 {
     let Finished { kept, works } = finished;
     let list = list_record(alloc, &kept)?;

@@ -1,4 +1,6 @@
 //! How a command ends.
+ghost use Rattle.std.specs.Prelude.{◌≡◌};
+ghost use Rattle.pid_commands.specs.declared.status.Status.TheVariants.{Done, Failed, Misused};
 
 use crate::fault::{Fault, write_fault_line};
 use std::io::Write;
@@ -16,7 +18,11 @@ pub enum Status {
 
 impl Status {
     /// The exit status: 0, 1 or 2.
-    pub fn code(self) -> u8 {
+    pub fn code(self) -> u8
+        ensures done { self ≡ Done → result ≡ 0 }
+        ensures failed { self ≡ Failed → result ≡ 1 }
+        ensures misused { self ≡ Misused → result ≡ 2 }
+    {
         match self {
             Status::Done => 0,
             Status::Failed => 1,
@@ -26,13 +32,17 @@ impl Status {
 }
 
 /// Writes how the program is called. Where that cannot be written nothing more is done.
-pub fn say_usage<E: Write>(errors: &mut E) -> Status {
+pub fn say_usage<E: Write>(errors: &mut E) -> Status
+    ensures { result ≡ Misused }
+{
     let _ = errors.write_all(b"pidtab: usage\n");
     Status::Misused
 }
 
 /// Writes the line of the fault. Where that cannot be written nothing more is done.
-pub fn say_fault<E: Write>(errors: &mut E, fault: &Fault) -> Status {
+pub fn say_fault<E: Write>(errors: &mut E, fault: &Fault) -> Status
+    ensures { result ≡ Failed }
+{
     let _ = write_fault_line(errors, fault);
     Status::Failed
 }

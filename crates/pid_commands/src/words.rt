@@ -1,5 +1,5 @@
 //! The words of the command line.
-ghost use Rattle.std.specs.Prelude.{◌≡◌, ◌≤◌, vec_len};
+ghost use Rattle.std.specs.Prelude.{◌≡◌, ◌≤◌, ◌↔◌, vec_len, IsSome, IfSome};
 
 use clap::error::ErrorKind;
 use clap::{Arg, ArgAction, ArgMatches, Error};
@@ -17,7 +17,10 @@ pub struct JobFiles {
 
 impl JobFiles {
     /// The names, if they are 2 to 16.
-    pub fn new(names: Vec<String>) -> Option<JobFiles> {
+    pub fn new(names: Vec<String>) -> Option<JobFiles>
+        ensures when { IsSome result ↔ ((2 ≤ vec_len names) × (vec_len names ≤ 16)) }
+        ensures names { IfSome result (λ files. files.names ≡ names) }
+    {
         if names.len() < 2 || names.len() > 16 {
             return None;
         }

@@ -2,8 +2,8 @@ use Rattle.locked_table.specs.Chronicle.{next_stamp}
 use Rattle.pid_commands.proofs.serve.list_of_script.Goals as goal
 
 -- the state that the script leaves, and the snapshot that the list shows
-pub returns : goal.returns
-returns g c =
+pub returns-clause-ok : goal.returns-clause-ok
+returns-clause-ok g c =
     let ran = c.in_ok-_tally.ensures.ok in
     let listed = c.in_ok-list_record.ensures in record {
       present = c.in_ok-_tally.record.present;

@@ -4,8 +4,8 @@ use Rattle.pid_commands.specs.Output.{works_text}
 use Rattle.pid_commands.proofs.show.write_finished.Goals as goal
 
 -- the snapshot that the list shows
-pub returns-in-Ok : goal.returns-in-Ok
-returns-in-Ok g c =
+pub returns-in-Ok-clause-ok : goal.returns-in-Ok-clause-ok
+returns-in-Ok-clause-ok g c =
     let listed = c.in_ok-list.ensures in (
       listed.0,
       listed.1,

@@ -1,0 +1,31 @@
+-- What a command says of the faults of what it runs.
+use Rattle.std.specs.Prelude.{String}
+use Rattle.std.specs.declared.alloc.Global.{Global}
+use Rattle.pid_commands.specs.declared.fault.Fault.{Fault}
+use Rattle.pid_commands.specs.declared.fault.Fault.TheVariants.{Unreadable, TooLong, BadLine, Read, Write, TooManyTurns, NoMemory, Start, Audit}
+use Rattle.pid_jobs.specs.declared.run.RunFault.{RunFault}
+use Rattle.pid_jobs.specs.declared.run.RunFault.TheVariants as run
+use Rattle.pid_script.specs.declared.job.JobFault.{JobFault}
+use Rattle.pid_script.specs.declared.job.JobFault.TheVariants as job
+use Rattle.pid_script.specs.declared.tally.RunScriptFault.{RunScriptFault}
+use Rattle.pid_script.specs.declared.tally.RunScriptFault.TheVariants as script
+
+-- of a script
+abbrev pub of_script : RunScriptFault → Fault
+of_script script.NoMemory = NoMemory
+of_script script.Read = Read
+of_script script.Write = Write
+of_script script.TooManyTurns = TooManyTurns
+
+-- of a job file with the name
+abbrev pub of_job : String Global → JobFault → Fault
+of_job name job.Read = Unreadable name
+of_job name job.TooLong = TooLong name
+of_job name (job.BadLine line) = BadLine name line
+of_job name job.NoMemory = NoMemory
+
+-- of the workers
+abbrev pub of_run : RunFault → Fault
+of_run run.Start = Start
+of_run run.NoMemory = NoMemory
+of_run (run.Audit worker place) = Audit worker place
