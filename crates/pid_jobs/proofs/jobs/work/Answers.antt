@@ -16,3 +16,6 @@ loop-i-preserved g c =
       elim c.match-call.branch [ in-Ok w ↦ search rules | in-Err w ↦ search rules ],
       search rules,
     )
+
+pub returns-in_err-receipts-clause-untouched : goal.returns-in_err-receipts-clause-untouched
+returns-in_err-receipts-clause-untouched g c = search rules

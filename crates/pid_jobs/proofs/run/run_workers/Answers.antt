@@ -1,3 +1,4 @@
+use Rattle.std.proofs.lemmas.Grind.{common_steps}
 use Rattle.std.proofs.Common.{rules, arith, ◌≡◌, ◌<◌, length, vec_len, get_or, ap, ◌∙◌, subst}
 use Rattle.std.specs.Prelude.{IfOk}
 use Rattle.pid_jobs.specs.Job.{Fulfils}
@@ -35,3 +36,15 @@ returns-in-Ok-clause-jobs g c =
     let e = some_element dones.items some in
     λ w d j lt.
     subst (λ (r : _). IfOk r (λ x. Fulfils (get_or c.args.jobs.now w j).items x.receipts.items x.refused)) (c.in_ok-seats.ensures.works w d e (omega (arith, lt, many))) (c.in_ok-dones.ensures.each w e j lt).1
+
+pub returns-in-Ok-clause-kept : goal.returns-in-Ok-clause-kept
+returns-in-Ok-clause-kept g c = search rules
+
+pub returns-in-Ok-clause-config : goal.returns-in-Ok-clause-config
+returns-in-Ok-clause-config g c = grind (arith, common_steps)
+
+pub returns-in-Ok-clause-works : goal.returns-in-Ok-clause-works
+returns-in-Ok-clause-works g c = search rules
+
+pub returns-in-Ok-clause-audited : goal.returns-in-Ok-clause-audited
+returns-in-Ok-clause-audited g c = search rules

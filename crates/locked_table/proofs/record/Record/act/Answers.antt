@@ -16,3 +16,15 @@ invariant_of-self-2 g c =
     (search rules)
     (outcome-of _ _ _ c.in_ok-reply.ensures.state (c.copy_reply.ensures ∙ c.in_ok-reply.ensures.reply) ∙ ap (λ n. step c.self.inside.table n c.args.call) stamp)
     (search rules)
+
+pub returns-clause-step : goal.returns-clause-step
+returns-clause-step g c = search rules
+
+pub returns-clause-history : goal.returns-clause-history
+returns-clause-history g c = search rules
+
+pub returns-clause-receipt : goal.returns-clause-receipt
+returns-clause-receipt g c = search rules
+
+pub returns-clause-others : goal.returns-clause-others
+returns-clause-others g c = search rules
