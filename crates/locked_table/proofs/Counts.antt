@@ -121,6 +121,6 @@ sum_of_noughts zero = refl
 sum_of_noughts (suc n) = sum_of_noughts n
 
 -- an ordinal from the first kept one on is that of a kept entry, if of any
-pub entry_at-kept : (first : ℕ) (entries : List Entry) (ordinal : ℕ) → first ≤ ordinal
+pub kept_entry-kept : (first : ℕ) (entries : List Entry) (ordinal : ℕ) → first ≤ ordinal
     → (if nat_lt ordinal first then None else slice_get entries (ordinal - first)) ≡ slice_get entries (ordinal - first)
-entry_at-kept first entries ordinal h = ap (λ (b : Bool). cond {A = Option Entry} b None (slice_get entries (ordinal - first))) (le-ltb ordinal first h)
+kept_entry-kept first entries ordinal h = ap (λ (b : Bool). cond {A = Option Entry} b None (slice_get entries (ordinal - first))) (le-ltb ordinal first h)

@@ -48,8 +48,8 @@ abbrev pub recorded_by_all : ℕ → Chronicle → ℕ
 recorded_by_all workers c = sum_below workers (recorded c)
 
 -- the kept entry with the ordinal
-abbrev pub entry_at : Chronicle → ℕ → Option Entry
-entry_at c ordinal = if nat_lt ordinal c.first_kept then None else slice_get c.entries (ordinal - c.first_kept)
+abbrev pub kept_entry : Chronicle → ℕ → Option Entry
+kept_entry c ordinal = if nat_lt ordinal c.first_kept then None else slice_get c.entries (ordinal - c.first_kept)
 
 -- the history replays, reply for reply, as one thread's, from the opening to the present state
 pub record IsReplayed (c : Chronicle) : Type 0 where

@@ -1,3 +1,3 @@
-pub mod Place
+pub mod SeatState
 pub mod Chronicle
 pub mod Promise

@@ -5,9 +5,9 @@ ghost use Rattle.pid_types.specs.State.{root_state};
 ghost use Rattle.pid_types.specs.declared.entry.Entry.{Entry};
 ghost use Rattle.pid_types.specs.Shown.{Shows};
 ghost use Rattle.pid_types.specs.Step.{step, may_grow};
-ghost use Rattle.locked_table.specs.Chronicle.{Chronicle, total, next_stamp, recorded, recorded_by_all, entry_at, by_worker};
+ghost use Rattle.locked_table.specs.Chronicle.{Chronicle, total, next_stamp, recorded, recorded_by_all, kept_entry, by_worker};
 ghost use Rattle.locked_table.specs.Promise.{KeepsPromise};
-ghost use Rattle.locked_table.specs.Place.{AreSeats, AreNew, calls_of_seats};
+ghost use Rattle.locked_table.specs.SeatState.{AreSeats, AreNew, calls_of_seats};
 
 use crate::seat::Seat;
 use model_laws::laws::{forks_keep_limits, no_reuse, numbers_are_apart};
@@ -135,7 +135,7 @@ impl<L: Ledger, const N: usize> Record<L, N> {
 
     /// The entry with the ordinal; none where it was cut away, or is not reached yet.
     pub fn entry(&self, ordinal: u64) -> Option<&Entry>
-        ensures { option_copied result ≡ entry_at self.now ordinal }
+        ensures { option_copied result ≡ kept_entry self.now ordinal }
     {
         if ordinal < self.first_kept {
             return None;

@@ -14,9 +14,9 @@ pub struct Seat<L: Ledger, const N: usize> {
 
 impl<L: Ledger, const N: usize> Model for Seat<L, N> {
     ghost use Rattle.std.specs.Prelude.{◌≡◌, ◌<◌};
-    ghost use Rattle.locked_table.specs.Place.{Place};
+    ghost use Rattle.locked_table.specs.SeatState.{SeatState};
 
-    ghost Value = { Place };
+    ghost Value = { SeatState };
 
     ghost view = { λ a. record { worker = a.worker; calls = a.calls } };
 

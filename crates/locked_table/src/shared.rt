@@ -1,7 +1,7 @@
 //! The table that threads share.
 ghost use Rattle.std.specs.Prelude.{◌≡◌, ◌+◌, ◌<◌, sum_by, IfOk, OnOk, OnErr, vec_len};
 ghost use Rattle.locked_table.specs.Chronicle.{total};
-ghost use Rattle.locked_table.specs.Place.{AreSeats, AreNew, calls_of_seats};
+ghost use Rattle.locked_table.specs.SeatState.{AreSeats, AreNew, calls_of_seats};
 
 use crate::record::Record;
 use crate::seat::Seat;

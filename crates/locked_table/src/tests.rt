@@ -1,5 +1,5 @@
 ghost use Rattle.std.specs.Prelude.{◌≡◌, true};
-ghost use Rattle.locked_table.specs.Place.{AreSeats};
+ghost use Rattle.locked_table.specs.SeatState.{AreSeats};
 
 use super::*;
 use pid_types::call::Call;

@@ -5,11 +5,11 @@ use Rattle.pid_types.specs.declared.call.Which.TheVariants.{Any}
 use Rattle.pid_types.specs.declared.plain.Ended.TheVariants.{Exited}
 use Rattle.pid_types.specs.declared.reply.Reply.TheVariants.{Forked, Done, Reaped, Counted, Control as ControlMade, Refused}
 use Rattle.pid_types.specs.declared.reply.Refusal.TheVariants.{NoTask, PidsLimit, NoControl, ControlBusy, RootControl, BadLimit}
-use Rattle.model_laws.specs.Script.{Answers}
+use Rattle.model_laws.specs.Script.{AnswersScript}
 
 -- a limit holds for forks, and for no move
 abbrev pub LimitsAndMoves : Type 0
-LimitsAndMoves = Answers 32768 ((MakeControl 0, ControlMade 1) ∷
+LimitsAndMoves = AnswersScript 32768 ((MakeControl 0, ControlMade 1) ∷
     (SetLimit 1 (Some 2), Done) ∷
     (Move 1 1, Done) ∷
     (Fork 1 false, Forked 2 2) ∷
@@ -28,7 +28,7 @@ LimitsAndMoves = Answers 32768 ((MakeControl 0, ControlMade 1) ∷
 
 -- the zombies of a control group that is removed
 abbrev pub ZombiesGoUp : Type 0
-ZombiesGoUp = Answers 32768 ((MakeControl 0, ControlMade 1) ∷
+ZombiesGoUp = AnswersScript 32768 ((MakeControl 0, ControlMade 1) ∷
     (MakeControl 1, ControlMade 2) ∷
     (Fork 1 false, Forked 2 2) ∷
     (Move 2 2, Done) ∷
@@ -43,7 +43,7 @@ ZombiesGoUp = Answers 32768 ((MakeControl 0, ControlMade 1) ∷
 
 -- the refusals of control groups
 abbrev pub ControlRefusals : Type 0
-ControlRefusals = Answers 32768 ((MakeControl 5, Refused NoControl) ∷
+ControlRefusals = AnswersScript 32768 ((MakeControl 5, Refused NoControl) ∷
     (SetLimit 0 (Some 5), Refused RootControl) ∷
     (RemoveControl 0, Refused RootControl) ∷
     (MakeControl 0, ControlMade 4) ∷
@@ -59,7 +59,7 @@ ControlRefusals = Answers 32768 ((MakeControl 5, Refused NoControl) ∷
 
 -- the nearest control group refuses
 abbrev pub NearestLimitFirst : Type 0
-NearestLimitFirst = Answers 32768 ((MakeControl 0, ControlMade 1) ∷
+NearestLimitFirst = AnswersScript 32768 ((MakeControl 0, ControlMade 1) ∷
     (MakeControl 1, ControlMade 2) ∷
     (SetLimit 1 (Some 0), Done) ∷
     (SetLimit 2 (Some 0), Done) ∷

@@ -3,11 +3,11 @@ use Rattle.std.specs.Prelude.{[], ◌∷◌}
 use Rattle.pid_types.specs.declared.call.Call.TheVariants.{MakeControl}
 use Rattle.pid_types.specs.declared.reply.Reply.TheVariants.{Control as ControlMade, Refused}
 use Rattle.pid_types.specs.declared.reply.Refusal.TheVariants.{ControlDepth}
-use Rattle.model_laws.specs.Script.{Answers}
+use Rattle.model_laws.specs.Script.{AnswersScript}
 
 -- a control group at each depth, and none below the deepest
 abbrev pub ControlDepthIs64 : Type 0
-ControlDepthIs64 = Answers 32768 ((MakeControl 0, ControlMade 1) ∷
+ControlDepthIs64 = AnswersScript 32768 ((MakeControl 0, ControlMade 1) ∷
     (MakeControl 1, ControlMade 2) ∷
     (MakeControl 2, ControlMade 3) ∷
     (MakeControl 3, ControlMade 4) ∷

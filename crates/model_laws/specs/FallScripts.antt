@@ -6,11 +6,11 @@ use Rattle.pid_types.specs.declared.call.Which.TheVariants.{Any}
 use Rattle.pid_types.specs.declared.plain.Ended.TheVariants.{Exited}
 use Rattle.pid_types.specs.declared.reply.Reply.TheVariants.{Forked, Done, Number, Reaped, Counted, Control as ControlMade, End}
 use Rattle.pid_types.specs.State.{root_state, root_init, root_name}
-use Rattle.model_laws.specs.Script.{Answers, EndsSound}
+use Rattle.model_laws.specs.Script.{AnswersScript, EndsSound}
 
 -- the members of a namespace end with its init
 abbrev pub FallTakesMembers : Type 0
-FallTakesMembers = Answers 32768 ((Fork 1 true, Forked 2 2) ∷
+FallTakesMembers = AnswersScript 32768 ((Fork 1 true, Forked 2 2) ∷
     (Fork 2 false, Forked 2 3) ∷
     (Fork 3 true, Forked 3 4) ∷
     (Exit 2 7, Done) ∷
@@ -25,7 +25,7 @@ FallTakesMembersEnd = EndsSound 32768 (Fork 1 true ∷ Fork 2 false ∷ Fork 3 t
 
 -- a group of a task outside keeps a fallen namespace
 abbrev pub GroupKeepsSpace : Type 0
-GroupKeepsSpace = Answers 32768 ((Fork 1 false, Forked 2 2) ∷
+GroupKeepsSpace = AnswersScript 32768 ((Fork 1 false, Forked 2 2) ∷
     (Fork 2 true, Forked 3 3) ∷
     (SetPgid 3 (pos 0) (pos 0), Done) ∷
     (SetPgid 2 (pos 0) (pos 3), Done) ∷
@@ -40,7 +40,7 @@ GroupKeepsSpaceEnd = EndsSound 32768 (Fork 1 false ∷ Fork 2 true ∷ SetPgid 3
 
 -- the namespace goes when the task leaves that group
 abbrev pub GroupLetsSpaceGo : Type 0
-GroupLetsSpaceGo = Answers 32768 ((Fork 1 false, Forked 2 2) ∷
+GroupLetsSpaceGo = AnswersScript 32768 ((Fork 1 false, Forked 2 2) ∷
     (Fork 2 true, Forked 3 3) ∷
     (SetPgid 3 (pos 0) (pos 0), Done) ∷
     (SetPgid 2 (pos 0) (pos 3), Done) ∷
@@ -57,7 +57,7 @@ GroupLetsSpaceGoEnd = EndsSound 32768 (Fork 1 false ∷ Fork 2 true ∷ SetPgid 
 
 -- the members that a fall takes are counted no more
 abbrev pub FallUncharges : Type 0
-FallUncharges = Answers 32768 ((MakeControl 0, ControlMade 1) ∷
+FallUncharges = AnswersScript 32768 ((MakeControl 0, ControlMade 1) ∷
     (Fork 1 true, Forked 2 2) ∷
     (Move 2 1, Done) ∷
     (Fork 2 false, Forked 2 3) ∷

@@ -5,24 +5,24 @@ use Rattle.pid_types.specs.declared.call.Kind.TheVariants.{Task, Group}
 use Rattle.pid_types.specs.declared.reply.Reply.TheVariants.{Forked, Number, Levels as LevelList, End, Refused}
 use Rattle.pid_types.specs.declared.reply.Refusal.TheVariants.{NoCaller, NoTask}
 use Rattle.pid_types.specs.State.{root_state, root_init, root_name}
-use Rattle.model_laws.specs.Script.{Answers, SeesAlike, EndsSound}
+use Rattle.model_laws.specs.Script.{AnswersScript, SeesAlike, EndsSound}
 
 -- a fork, and the number of the new task
 abbrev pub ForkAndGetPid : Type 0
-ForkAndGetPid = Answers 32768 ((Fork 1 false, Forked 2 2) ∷
+ForkAndGetPid = AnswersScript 32768 ((Fork 1 false, Forked 2 2) ∷
     (GetPid 1, Number 1) ∷
     (GetPid 2, Number 2) ∷
     (GetPid 3, Refused NoCaller) ∷ [])
 
 -- numbers are given in turn
 abbrev pub ThreeForks : Type 0
-ThreeForks = Answers 32768 ((Fork 1 false, Forked 2 2) ∷
+ThreeForks = AnswersScript 32768 ((Fork 1 false, Forked 2 2) ∷
     (Fork 1 false, Forked 3 3) ∷
     (Fork 1 false, Forked 4 4) ∷ [])
 
 -- a namespace, in which the tasks have numbers of their own
 abbrev pub ForkIntoNewSpace : Type 0
-ForkIntoNewSpace = Answers 32768 ((Fork 1 true, Forked 2 2) ∷
+ForkIntoNewSpace = AnswersScript 32768 ((Fork 1 true, Forked 2 2) ∷
     (Fork 2 false, Forked 2 3) ∷
     (NsPid 1 3, LevelList (record { items = 3 ∷ 2 ∷ [] })) ∷
     (NsPid 2 2, LevelList (record { items = 2 ∷ [] })) ∷
@@ -38,7 +38,7 @@ ForkIntoNewSpaceEnd = EndsSound 32768 (Fork 1 true ∷ Fork 2 false ∷ NsPid 1 
 
 -- what a namespace sees where its init is task 2
 abbrev pub OneWorld : Type 0
-OneWorld = Answers 32768 ((Fork 1 true, Forked 2 2) ∷
+OneWorld = AnswersScript 32768 ((Fork 1 true, Forked 2 2) ∷
     (Fork 2 false, Forked 2 3) ∷
     (NsPid 2 2, LevelList (record { items = 2 ∷ [] })) ∷
     (GetPpid 2, Number 0) ∷
@@ -47,7 +47,7 @@ OneWorld = Answers 32768 ((Fork 1 true, Forked 2 2) ∷
 
 -- the same answers where its init is task 3
 abbrev pub OtherWorld : Type 0
-OtherWorld = Answers 32768 ((Fork 1 false, Forked 2 2) ∷
+OtherWorld = AnswersScript 32768 ((Fork 1 false, Forked 2 2) ∷
     (Fork 1 true, Forked 3 3) ∷
     (Fork 3 false, Forked 2 4) ∷
     (NsPid 3 2, LevelList (record { items = 2 ∷ [] })) ∷

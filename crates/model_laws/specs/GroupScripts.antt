@@ -3,11 +3,11 @@ use Rattle.std.specs.Prelude.{[], ◌∷◌, false, pos, negsuc}
 use Rattle.pid_types.specs.declared.call.Call.TheVariants.{Fork, Exec, SetPgid, SetSid, GetPgid, GetSid}
 use Rattle.pid_types.specs.declared.reply.Reply.TheVariants.{Forked, Done, Number, Refused}
 use Rattle.pid_types.specs.declared.reply.Refusal.TheVariants.{NoTask, BadGroup, OtherSession, IsLeader, NoGroup, Executed}
-use Rattle.model_laws.specs.Script.{Answers}
+use Rattle.model_laws.specs.Script.{AnswersScript}
 
 -- the refusals of setpgid, each in its turn
 abbrev pub SetPgidInOrder : Type 0
-SetPgidInOrder = Answers 32768 ((Fork 1 false, Forked 2 2) ∷
+SetPgidInOrder = AnswersScript 32768 ((Fork 1 false, Forked 2 2) ∷
     (Fork 2 false, Forked 3 3) ∷
     (Fork 3 false, Forked 4 4) ∷
     (SetPgid 2 (pos 99) (negsuc 0), Refused BadGroup) ∷
@@ -26,7 +26,7 @@ SetPgidInOrder = Answers 32768 ((Fork 1 false, Forked 2 2) ∷
 
 -- a leader starts no session
 abbrev pub SetSidOnce : Type 0
-SetSidOnce = Answers 32768 ((Fork 1 false, Forked 2 2) ∷
+SetSidOnce = AnswersScript 32768 ((Fork 1 false, Forked 2 2) ∷
     (Fork 1 false, Forked 3 3) ∷
     (SetSid 2, Number 2) ∷
     (SetSid 2, Refused IsLeader) ∷

@@ -6,11 +6,11 @@ use Rattle.pid_types.specs.declared.plain.Ended.TheVariants.{Exited, Killed}
 use Rattle.pid_types.specs.declared.reply.Reply.TheVariants.{Forked, Done, Number, Levels as LevelList, Reaped, Refused}
 use Rattle.pid_types.specs.declared.reply.Refusal.TheVariants.{NoTask, SpaceFallen, Elsewhere}
 use Rattle.pid_types.specs.State.{root_state, root_init, root_name}
-use Rattle.model_laws.specs.Script.{Answers, EndsSound}
+use Rattle.model_laws.specs.Script.{AnswersScript, EndsSound}
 
 -- children below their parent's namespace, and its fall
 abbrev pub JoinAndFall : Type 0
-JoinAndFall = Answers 32768 ((Fork 1 false, Forked 2 2) ∷
+JoinAndFall = AnswersScript 32768 ((Fork 1 false, Forked 2 2) ∷
     (Fork 2 true, Forked 3 3) ∷
     (Fork 3 false, Forked 2 4) ∷
     (Join 2 3, Done) ∷
@@ -33,7 +33,7 @@ JoinAndFallEnd = EndsSound 32768 (Fork 1 false ∷ Fork 2 true ∷ Fork 3 false 
 
 -- a children's namespace that was dropped
 abbrev pub NoForkIntoDropped : Type 0
-NoForkIntoDropped = Answers 32768 ((Fork 1 false, Forked 2 2) ∷
+NoForkIntoDropped = AnswersScript 32768 ((Fork 1 false, Forked 2 2) ∷
     (Fork 2 true, Forked 3 3) ∷
     (Fork 3 false, Forked 2 4) ∷
     (Join 2 3, Done) ∷
@@ -51,7 +51,7 @@ NoForkIntoDropped = Answers 32768 ((Fork 1 false, Forked 2 2) ∷
 
 -- a child whose parent ended outside its namespace
 abbrev pub OrphanOfJoined : Type 0
-OrphanOfJoined = Answers 32768 ((Fork 1 false, Forked 2 2) ∷
+OrphanOfJoined = AnswersScript 32768 ((Fork 1 false, Forked 2 2) ∷
     (Fork 2 true, Forked 3 3) ∷
     (Join 2 3, Done) ∷
     (Fork 2 false, Forked 4 4) ∷

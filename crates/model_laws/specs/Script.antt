@@ -8,8 +8,8 @@ use Rattle.pid_types.specs.Sight.{sight}
 use Rattle.pid_types.specs.Sound.{IsSound}
 
 -- each call is answered as it stands beside it
-abbrev pub Answers : ℕ → List (Call × Reply) → Type 0
-Answers pid_max lines = replies (root_state pid_max) 1 (map (λ l. l.0) lines) ≡ map (λ l. l.1) lines
+abbrev pub AnswersScript : ℕ → List (Call × Reply) → Type 0
+AnswersScript pid_max lines = replies (root_state pid_max) 1 (map (λ l. l.0) lines) ≡ map (λ l. l.1) lines
 
 -- after the one calls the one namespace sees what the other namespace sees after the others
 abbrev pub SeesAlike : List Call → ℕ → List Call → ℕ → Type 0

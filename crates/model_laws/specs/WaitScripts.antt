@@ -5,11 +5,11 @@ use Rattle.pid_types.specs.declared.call.Which.TheVariants.{Any, Pid, OwnGroup, 
 use Rattle.pid_types.specs.declared.plain.Ended.TheVariants.{Exited}
 use Rattle.pid_types.specs.declared.reply.Reply.TheVariants.{Forked, Done, Reaped, NoneYet, Refused}
 use Rattle.pid_types.specs.declared.reply.Refusal.TheVariants.{NoCaller, NoChild, RootInit}
-use Rattle.model_laws.specs.Script.{Answers}
+use Rattle.model_laws.specs.Script.{AnswersScript}
 
 -- which child a wait reaps
 abbrev pub WaitSelects : Type 0
-WaitSelects = Answers 32768 ((Wait 1 Any, Refused NoChild) ∷
+WaitSelects = AnswersScript 32768 ((Wait 1 Any, Refused NoChild) ∷
     (Fork 1 false, Forked 2 2) ∷
     (Fork 1 false, Forked 3 3) ∷
     (Wait 1 Any, NoneYet) ∷
@@ -23,7 +23,7 @@ WaitSelects = Answers 32768 ((Wait 1 Any, Refused NoChild) ∷
 
 -- the children of a task that ended
 abbrev pub OrphansGoToInit : Type 0
-OrphansGoToInit = Answers 32768 ((Fork 1 false, Forked 2 2) ∷
+OrphansGoToInit = AnswersScript 32768 ((Fork 1 false, Forked 2 2) ∷
     (Fork 2 false, Forked 3 3) ∷
     (Exit 3 4, Done) ∷
     (Exit 2 5, Done) ∷

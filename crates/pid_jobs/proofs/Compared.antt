@@ -7,8 +7,8 @@ use Rattle.std.specs.Prelude.{slice_get, nat_le}
 use Rattle.pid_types.specs.declared.entry.Entry.{Entry}
 use Rattle.pid_types.specs.declared.entry.Receipt.{Receipt}
 use Rattle.std.proofs.lemmas.Option.{slice_get_within, slice_get-get_or}
-use Rattle.locked_table.specs.Chronicle.{Chronicle, entry_at}
-use Rattle.pid_jobs.specs.Receipts.{receipt, owed_from, owed, kept_of, DiffersAt}
+use Rattle.locked_table.specs.Chronicle.{Chronicle, kept_entry}
+use Rattle.pid_jobs.specs.Receipts.{receipt, owed_from, owed, receipts_kept, DiffersAt}
 
 owed_step : (n w : ℕ) (e : Entry) (rest tail : List Receipt) (b : Bool) → cond b (receipt n e ∷ (rest ++ tail)) (rest ++ tail) ≡ cond b (receipt n e ∷ rest) rest ++ tail
 owed_step n w e rest tail true = refl
@@ -71,17 +71,17 @@ at_least : (a b : ℕ) → a ≤ b → leb a b ≡ true
 at_least a b h = grind (arith, nat_tests)
 
 -- the kept receipts, at one that is kept
-pub kept_at : (first i : ℕ) (rs : List Receipt) (d : Receipt) → i < length rs → first ≤ (get_or rs i d).ordinal → kept_of first rs ≡ kept_of first (take i rs) ++ (get_or rs i d ∷ kept_of first (drop (suc i) rs))
+pub kept_at : (first i : ℕ) (rs : List Receipt) (d : Receipt) → i < length rs → first ≤ (get_or rs i d).ordinal → receipts_kept first rs ≡ receipts_kept first (take i rs) ++ (get_or rs i d ∷ receipts_kept first (drop (suc i) rs))
 kept_at first i rs d lt le =
     let r : Receipt = get_or rs i d in
-    ap (kept_of first) (split_r rs i d lt)
+    ap (receipts_kept first) (split_r rs i d lt)
     ∙ (filter-append (λ (x : Receipt). nat_le first x.ordinal) (take i rs) (r ∷ drop (suc i) rs)
-    ∙ ap (λ (b : Bool). kept_of first (take i rs) ++ cond b (r ∷ kept_of first (drop (suc i) rs)) (kept_of first (drop (suc i) rs))) (at_least first r.ordinal le))
+    ∙ ap (λ (b : Bool). receipts_kept first (take i rs) ++ cond b (r ∷ receipts_kept first (drop (suc i) rs)) (receipts_kept first (drop (suc i) rs))) (at_least first r.ordinal le))
 
-pub kept_more : (first i : ℕ) (rs : List Receipt) (d : Receipt) → i < length rs → first ≤ (get_or rs i d).ordinal → kept_of first (take (i + 1) rs) ≡ kept_of first (take i rs) ++ get_or rs i d ∷ []
+pub kept_more : (first i : ℕ) (rs : List Receipt) (d : Receipt) → i < length rs → first ≤ (get_or rs i d).ordinal → receipts_kept first (take (i + 1) rs) ≡ receipts_kept first (take i rs) ++ get_or rs i d ∷ []
 kept_more first i rs d lt le =
     filter_more (λ (x : Receipt). nat_le first x.ordinal) rs i d lt
-    ∙ ap (λ (b : Bool). kept_of first (take i rs) ++ cond b (get_or rs i d ∷ []) []) (at_least first (get_or rs i d).ordinal le)
+    ∙ ap (λ (b : Bool). receipts_kept first (take i rs) ++ cond b (get_or rs i d ∷ []) []) (at_least first (get_or rs i d).ordinal le)
 
 front : (m xs : List Receipt) (p : ℕ) → length m ≡ p → take p (m ++ xs) ≡ m
 front [] xs p h = ap (λ k. take k xs) {x = p} {y = zero} (omega arith)
@@ -99,7 +99,7 @@ differs a b m xs ys p len eq_a eq_b not =
     ((ap (take p) eq_a ∙ front m xs p len) ∙ sym (ap (take p) eq_b ∙ front m ys p len), λ same. not (sym (ap (λ l. slice_get l p) eq_a ∙ back m xs p len) ∙ (same ∙ (ap (λ l. slice_get l p) eq_b ∙ back m ys p len))))
 
 -- an entry that was found
-pub entry_there : (t : Chronicle) (ordinal : ℕ) (e : Entry) → t.first_kept ≤ ordinal → Some e ≡ entry_at t ordinal → ((ordinal - t.first_kept) < length t.entries) × (get_or t.entries (ordinal - t.first_kept) e ≡ e)
+pub entry_there : (t : Chronicle) (ordinal : ℕ) (e : Entry) → t.first_kept ≤ ordinal → Some e ≡ kept_entry t ordinal → ((ordinal - t.first_kept) < length t.entries) × (get_or t.entries (ordinal - t.first_kept) e ≡ e)
 entry_there t ordinal e le is =
     let test : ltb ordinal t.first_kept ≡ false = grind (arith, nat_tests) in
     let here : Some e ≡ slice_get t.entries (ordinal - t.first_kept) = is ∙ ap (λ (b : Bool). cond b None (slice_get t.entries (ordinal - t.first_kept))) test in
@@ -111,7 +111,7 @@ some_same a b h = cc
 
 -- the receipts so far are those of the entries so far
 abbrev pub Matches : Chronicle → ℕ → List Receipt → ℕ → ℕ → Type 0
-Matches t w rs next i = kept_of t.first_kept (take next rs) ≡ owed_from t.first_kept w (take i t.entries)
+Matches t w rs next i = receipts_kept t.first_kept (take next rs) ≡ owed_from t.first_kept w (take i t.entries)
 
 one_more : (n ordinal : ℕ) → n ≤ ordinal → (ordinal + 1) - n ≡ (ordinal - n) + 1
 one_more n ordinal h = omega arith
@@ -120,14 +120,14 @@ back_again : (n ordinal : ℕ) → n ≤ ordinal → n + (ordinal - n) ≡ ordin
 back_again n ordinal h = omega arith
 
 -- past an entry of another worker
-pub past_other : (t : Chronicle) (w ordinal next : ℕ) (rs : List Receipt) (e : Entry) → t.first_kept ≤ ordinal → Some e ≡ entry_at t ordinal → e.worker ≢ w → Matches t w rs next (ordinal - t.first_kept) → Matches t w rs next (ordinal + 1 - t.first_kept)
+pub past_other : (t : Chronicle) (w ordinal next : ℕ) (rs : List Receipt) (e : Entry) → t.first_kept ≤ ordinal → Some e ≡ kept_entry t ordinal → e.worker ≢ w → Matches t w rs next (ordinal - t.first_kept) → Matches t w rs next (ordinal + 1 - t.first_kept)
 past_other t w ordinal next rs e from found other m =
     let there = entry_there t ordinal e from found in
     m ∙ (sym (owed_more_no t.first_kept w (ordinal - t.first_kept) t.entries e there.0 (λ h. other (sym (ap (λ (x : Entry). x.worker) there.1) ∙ h)))
     ∙ ap (λ k. owed_from t.first_kept w (take k t.entries)) (sym (one_more t.first_kept ordinal from)))
 
 -- past an entry with its receipt
-pub past_both : (t : Chronicle) (w ordinal next : ℕ) (rs : List Receipt) (e : Entry) (d : Receipt) → t.first_kept ≤ ordinal → Some e ≡ entry_at t ordinal → e.worker ≡ w → next < length rs → t.first_kept ≤ (get_or rs next d).ordinal → get_or rs next d ≡ receipt ordinal e
+pub past_both : (t : Chronicle) (w ordinal next : ℕ) (rs : List Receipt) (e : Entry) (d : Receipt) → t.first_kept ≤ ordinal → Some e ≡ kept_entry t ordinal → e.worker ≡ w → next < length rs → t.first_kept ≤ (get_or rs next d).ordinal → get_or rs next d ≡ receipt ordinal e
     → Matches t w rs next (ordinal - t.first_kept) → Matches t w rs (next + 1) (ordinal + 1 - t.first_kept)
 past_both t w ordinal next rs e d from found own lt le is m =
     let there = entry_there t ordinal e from found in
@@ -141,40 +141,40 @@ past_both t w ordinal next rs e d from found own lt le is m =
     ∙ ap (λ k. owed_from n w (take k t.entries)) (sym (one_more n ordinal from)))))
 
 -- no receipt is left for an entry of the worker
-pub too_short : (t : Chronicle) (w ordinal next place : ℕ) (rs : List Receipt) (e : Entry) → t.first_kept ≤ ordinal → Some e ≡ entry_at t ordinal → e.worker ≡ w → length rs ≤ next → length (kept_of t.first_kept (take next rs)) ≡ place → Matches t w rs next (ordinal - t.first_kept)
-    → DiffersAt place (kept_of t.first_kept rs) (owed t w)
+pub too_short : (t : Chronicle) (w ordinal next place : ℕ) (rs : List Receipt) (e : Entry) → t.first_kept ≤ ordinal → Some e ≡ kept_entry t ordinal → e.worker ≡ w → length rs ≤ next → length (receipts_kept t.first_kept (take next rs)) ≡ place → Matches t w rs next (ordinal - t.first_kept)
+    → DiffersAt place (receipts_kept t.first_kept rs) (owed t w)
 too_short t w ordinal next place rs e from found own le len m =
     let there = entry_there t ordinal e from found in
     let n : ℕ = t.first_kept in
     let i : ℕ = ordinal - n in
-    differs (kept_of n rs) (owed t w) (kept_of n (take next rs)) [] (receipt (n + i) (get_or t.entries i e) ∷ owed_from (n + i + 1) w (drop (suc i) t.entries)) place len
-    (ap (kept_of n) (sym (take_all next rs le)) ∙ sym (append-nil (kept_of n (take next rs))))
+    differs (receipts_kept n rs) (owed t w) (receipts_kept n (take next rs)) [] (receipt (n + i) (get_or t.entries i e) ∷ owed_from (n + i + 1) w (drop (suc i) t.entries)) place len
+    (ap (receipts_kept n) (sym (take_all next rs le)) ∙ sym (append-nil (receipts_kept n (take next rs))))
     (owed_at n w i t.entries e there.0 (ap (λ (x : Entry). x.worker) there.1 ∙ own) ∙ ap (λ (l : List Receipt). l ++ (receipt (n + i) (get_or t.entries i e) ∷ owed_from (n + i + 1) w (drop (suc i) t.entries))) (sym m))
     (λ h. cc)
 
 -- the next receipt is of something else
-pub another : (t : Chronicle) (w ordinal next place : ℕ) (rs : List Receipt) (e : Entry) (d : Receipt) → t.first_kept ≤ ordinal → Some e ≡ entry_at t ordinal → e.worker ≡ w → next < length rs → t.first_kept ≤ (get_or rs next d).ordinal → get_or rs next d ≢ receipt ordinal e
-    → length (kept_of t.first_kept (take next rs)) ≡ place → Matches t w rs next (ordinal - t.first_kept) → DiffersAt place (kept_of t.first_kept rs) (owed t w)
+pub another : (t : Chronicle) (w ordinal next place : ℕ) (rs : List Receipt) (e : Entry) (d : Receipt) → t.first_kept ≤ ordinal → Some e ≡ kept_entry t ordinal → e.worker ≡ w → next < length rs → t.first_kept ≤ (get_or rs next d).ordinal → get_or rs next d ≢ receipt ordinal e
+    → length (receipts_kept t.first_kept (take next rs)) ≡ place → Matches t w rs next (ordinal - t.first_kept) → DiffersAt place (receipts_kept t.first_kept rs) (owed t w)
 another t w ordinal next place rs e d from found own lt le not len m =
     let there = entry_there t ordinal e from found in
     let n : ℕ = t.first_kept in
     let i : ℕ = ordinal - n in
     let due : Receipt = receipt (n + i) (get_or t.entries i e) in
     let same : due ≡ receipt ordinal e = ap (λ (x : Entry). receipt (n + i) x) there.1 ∙ ap (λ k. receipt k e) (back_again n ordinal from) in
-    differs (kept_of n rs) (owed t w) (kept_of n (take next rs)) (get_or rs next d ∷ kept_of n (drop (suc next) rs)) (due ∷ owed_from (n + i + 1) w (drop (suc i) t.entries)) place len
+    differs (receipts_kept n rs) (owed t w) (receipts_kept n (take next rs)) (get_or rs next d ∷ receipts_kept n (drop (suc next) rs)) (due ∷ owed_from (n + i + 1) w (drop (suc i) t.entries)) place len
     (kept_at n next rs d lt le)
     (owed_at n w i t.entries e there.0 (ap (λ (x : Entry). x.worker) there.1 ∙ own) ∙ ap (λ (l : List Receipt). l ++ (due ∷ owed_from (n + i + 1) w (drop (suc i) t.entries))) (sym m))
     (λ h. not (some_same (get_or rs next d) due h ∙ same))
 
 -- a receipt is left after the last entry
-pub too_long : (t : Chronicle) (w next place : ℕ) (rs : List Receipt) (i : ℕ) (d : Receipt) → length t.entries ≤ i → next < length rs → t.first_kept ≤ (get_or rs next d).ordinal → length (kept_of t.first_kept (take next rs)) ≡ place → Matches t w rs next i → DiffersAt place (kept_of t.first_kept rs) (owed t w)
+pub too_long : (t : Chronicle) (w next place : ℕ) (rs : List Receipt) (i : ℕ) (d : Receipt) → length t.entries ≤ i → next < length rs → t.first_kept ≤ (get_or rs next d).ordinal → length (receipts_kept t.first_kept (take next rs)) ≡ place → Matches t w rs next i → DiffersAt place (receipts_kept t.first_kept rs) (owed t w)
 too_long t w next place rs i d last lt le len m =
     let n : ℕ = t.first_kept in
-    differs (kept_of n rs) (owed t w) (kept_of n (take next rs)) (get_or rs next d ∷ kept_of n (drop (suc next) rs)) [] place len
+    differs (receipts_kept n rs) (owed t w) (receipts_kept n (take next rs)) (get_or rs next d ∷ receipts_kept n (drop (suc next) rs)) [] place len
     (kept_at n next rs d lt le)
-    (ap (owed_from n w) (sym (take_all i t.entries last)) ∙ (sym m ∙ sym (append-nil (kept_of n (take next rs)))))
+    (ap (owed_from n w) (sym (take_all i t.entries last)) ∙ (sym m ∙ sym (append-nil (receipts_kept n (take next rs)))))
     (λ h. cc)
 
 -- nothing is left
-pub all_matched : (t : Chronicle) (w next : ℕ) (rs : List Receipt) (i : ℕ) → length t.entries ≤ i → length rs ≤ next → Matches t w rs next i → kept_of t.first_kept rs ≡ owed t w
-all_matched t w next rs i last le m = ap (kept_of t.first_kept) (sym (take_all next rs le)) ∙ (m ∙ ap (owed_from t.first_kept w) (take_all i t.entries last))
+pub all_matched : (t : Chronicle) (w next : ℕ) (rs : List Receipt) (i : ℕ) → length t.entries ≤ i → length rs ≤ next → Matches t w rs next i → receipts_kept t.first_kept rs ≡ owed t w
+all_matched t w next rs i last le m = ap (receipts_kept t.first_kept) (sym (take_all next rs le)) ∙ (m ∙ ap (owed_from t.first_kept w) (take_all i t.entries last))

@@ -19,15 +19,15 @@ abbrev pub owed : Chronicle → ℕ → List Receipt
 owed t worker = owed_from t.first_kept worker t.entries
 
 -- the receipts of entries that are not cut away
-abbrev pub kept_of : ℕ → List Receipt → List Receipt
-kept_of first receipts = filter (λ (r : Receipt). nat_le first r.ordinal) receipts
+abbrev pub receipts_kept : ℕ → List Receipt → List Receipt
+receipts_kept first receipts = filter (λ (r : Receipt). nat_le first r.ordinal) receipts
 
 -- the lists agree before the place, and not there
 abbrev pub DiffersAt : ℕ → List Receipt → List Receipt → Type 0
 DiffersAt p xs ys = (take p xs ≡ take p ys) × (slice_get xs p ≢ slice_get ys p)
 
 abbrev pub IsAuditedAt : Chronicle → List Work → ℕ → Type 0
-IsAuditedAt t works w = (d : Work) → kept_of t.first_kept (slice_index_or works w d).receipts.items ≡ owed t w
+IsAuditedAt t works w = (d : Work) → receipts_kept t.first_kept (slice_index_or works w d).receipts.items ≡ owed t w
 
 -- each worker's receipts are its kept entries, in order and each once
 abbrev pub IsAudited : ℕ → Chronicle → List Work → Type 0
@@ -38,4 +38,4 @@ abbrev pub IsFirstFault : Chronicle → List Work → ℕ → ℕ → Type 0
 IsFirstFault t works worker place =
     ((w : ℕ) → w < worker → IsAuditedAt t works w)
     × (worker < length works)
-    × ((d : Work) → DiffersAt place (kept_of t.first_kept (slice_index_or works worker d).receipts.items) (owed t worker))
+    × ((d : Work) → DiffersAt place (receipts_kept t.first_kept (slice_index_or works worker d).receipts.items) (owed t worker))

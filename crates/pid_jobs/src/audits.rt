@@ -1,6 +1,6 @@
 //! Receipts against the kept history.
 ghost use Rattle.std.specs.Prelude.{◌≡◌, ◌≢◌, true, false, ℕ, ◌<◌, ◌≤◌, length, take, vec_len, slice_index_or, MatchOption, OnOk, IfErr};
-ghost use Rattle.pid_jobs.specs.Receipts.{receipt, kept_of, owed, DiffersAt, IsAudited, IsFirstFault};
+ghost use Rattle.pid_jobs.specs.Receipts.{receipt, receipts_kept, owed, DiffersAt, IsAudited, IsFirstFault};
 
 use crate::difference::Audit;
 use crate::replies::is_same_reply;
@@ -12,7 +12,7 @@ use std::sync::ledger::Ledger;
 fn skip_cut(receipts: &[Receipt], from: usize, first: u64) -> usize
     requires { from ≤ length receipts.now }
     ensures bounds { (from ≤ result) × (result ≤ length receipts.now) }
-    ensures none { kept_of first (take result receipts.now) ≡ kept_of first (take from receipts.now) }
+    ensures none { receipts_kept first (take result receipts.now) ≡ receipts_kept first (take from receipts.now) }
     ensures kept { (d : _) → result < length receipts.now → first ≤ (slice_index_or receipts.now result d).ordinal }
 {
     for i in from..receipts.len() {
@@ -40,7 +40,7 @@ fn first_difference<L: Ledger, const N: usize>(
     worker: usize,
     receipts: &[Receipt],
 ) -> Option<usize>
-    ensures { MatchOption result (kept_of kept.now.first_kept receipts.now ≡ owed kept.now worker) (λ p. DiffersAt p (kept_of kept.now.first_kept receipts.now) (owed kept.now worker)) }
+    ensures { MatchOption result (receipts_kept kept.now.first_kept receipts.now ≡ owed kept.now worker) (λ p. DiffersAt p (receipts_kept kept.now.first_kept receipts.now) (owed kept.now worker)) }
 {
     let first = kept.first_kept();
     let mut place = 0usize;

@@ -1,6 +1,6 @@
 //! All workers, one thread for each.
 ghost use Rattle.std.specs.Prelude.{◌≡◌, ℕ, ◌<◌, length, vec_len, slice_index_or, IfOk};
-ghost use Rattle.locked_table.specs.Place.{AreSeats};
+ghost use Rattle.locked_table.specs.SeatState.{AreSeats};
 ghost use Rattle.pid_jobs.specs.Job.{Fulfils};
 ghost use Rattle.pid_jobs.specs.Receipts.{IsAudited};
 

@@ -9,14 +9,14 @@ use Rattle.pid_script.specs.declared.job.JobFault.TheVariants as fault
 use Rattle.pid_script.specs.declared.line.Line.{Line}
 use Rattle.pid_script.specs.declared.line.Line.TheVariants as says
 use Rattle.pid_script.specs.Script.{said_whole, said_of, said_within}
-use Rattle.pid_script.specs.Job.{IsMet, calls_of, AreGood, IsReached, Yields, Refuses, Adds, IsStopped}
+use Rattle.pid_script.specs.Job.{IsMet, calls_said, AreGood, IsReached, Yields, Refuses, Adds, IsStopped}
 use Rattle.pid_script.proofs.Said.{said_within-whole}
 
-calls_of-append : (xs ys : List Line) → calls_of (xs ++ ys) ≡ calls_of xs ++ calls_of ys
-calls_of-append [] ys = refl
-calls_of-append (says.Empty ∷ xs) ys = calls_of-append xs ys
-calls_of-append (says.Call call ∷ xs) ys = ap (λ calls. call ∷ calls) (calls_of-append xs ys)
-calls_of-append (says.Bad ∷ xs) ys = calls_of-append xs ys
+calls_said-append : (xs ys : List Line) → calls_said (xs ++ ys) ≡ calls_said xs ++ calls_said ys
+calls_said-append [] ys = refl
+calls_said-append (says.Empty ∷ xs) ys = calls_said-append xs ys
+calls_said-append (says.Call call ∷ xs) ys = ap (λ calls. call ∷ calls) (calls_said-append xs ys)
+calls_said-append (says.Bad ∷ xs) ys = calls_said-append xs ys
 
 AreGood-append : (xs ys : List Line) → AreGood xs → AreGood ys → AreGood (xs ++ ys)
 AreGood-append xs ys first second = All-append (λ (line : Line). line ≢ says.Bad) xs ys first second
@@ -29,7 +29,7 @@ Adds-nothing calls number = record { good = All-nil _; said = sym (append-nil ca
 pub Adds-more : {cs cs' cs'' : List Call} {n n' n'' : ℕ} (xs ys : List Line) → Adds cs n cs' n' xs → Adds cs' n' cs'' n'' ys → Adds cs n cs'' n'' (xs ++ ys)
 Adds-more {cs} xs ys first second = record {
   good = AreGood-append xs ys first.good second.good;
-  said = second.said ∙ ap (λ calls. calls ++ calls_of ys) first.said ∙ append_assoc cs (calls_of xs) (calls_of ys) ∙ ap (λ calls. cs ++ calls) (sym (calls_of-append xs ys));
+  said = second.said ∙ ap (λ calls. calls ++ calls_said ys) first.said ∙ append_assoc cs (calls_said xs) (calls_said ys) ∙ ap (λ calls. cs ++ calls) (sym (calls_said-append xs ys));
   counted = omega (arith, first.counted, second.counted, length-append xs ys);
 }
 

@@ -14,7 +14,7 @@ use Rattle.pid_script.specs.declared.line.Line.{Line}
 use Rattle.pid_script.specs.declared.line.Line.TheVariants as says
 use Rattle.pid_script.specs.Lines.{line_of, word_of_kind, Fits, FitsWhich}
 use Rattle.pid_script.specs.Reading.{call_of, call_or_bad, parsed}
-use Rattle.pid_script.specs.Script.{kept_of, kept_more, said_by}
+use Rattle.pid_script.specs.Script.{kept_line, kept_more, said_by}
 use Rattle.pid_script.proofs.Read.{line_of-parsed}
 use Rattle.pid_script.proofs.Room.{length_decimal_of_32, length_decimal_of_64}
 
@@ -89,7 +89,7 @@ long_is_bad line (says.Call c) long is =
 long_is_bad line says.Bad long is = refl
 
 -- what was kept of a line says what the line says
-pub said_by_kept : (line : List ℕ) → said_by (kept_of line) ≡ parsed line
+pub said_by_kept : (line : List ℕ) → said_by (kept_line line) ≡ parsed line
 said_by_kept line = at (leb (length line) 200) refl
   where
     at : (t : Bool) → leb (length line) 200 ≡ t → said_by (cond t (Some line) None) ≡ parsed line

@@ -17,7 +17,7 @@ use Rattle.pid_types.specs.declared.call.Kind.{Kind}
 use Rattle.pid_types.specs.declared.call.Kind.TheVariants as kind
 use Rattle.pid_script.specs.declared.line.Line.TheVariants as says
 use Rattle.pid_script.specs.Lines.{word_of_kind, words_of_which, line_of, Fits, FitsWhich}
-use Rattle.pid_script.specs.Reading.{cut, number_below, signed_of, pair_of, is_word, fork_of, exit_of, numbered_of, which_of, wait_of, set_pgid_of, kind_of, next_of, limit_of, move_of, switch_of, subreaper_of, command_of, by_caller, by_pair, by_control, call_or_bad, parsed}
+use Rattle.pid_script.specs.Reading.{cut, number_below, signed_of, pair_of, is_word, fork_of, exit_of, numbered_of, which_of, wait_of, set_pgid_of, kind_of, next_of, limit_of, move_of, switch_of, subreaper_of, command_of, by_process, by_pair, by_control, call_or_bad, parsed}
 use Rattle.pid_script.proofs.Cuts.{Lacks, cut-append, cut-lacks}
 use Rattle.pid_script.proofs.Numbers.{numerals, number_below-decimal, signed_of-decimal}
 
@@ -133,7 +133,7 @@ switched_off : (n : ℕ) → n < 2 ^ 32 → subreaper_of (decimal n ++ 32 ∷ co
 unfolding subreaper_of switch_of
 switched_off n below = rw (cut-decimal n (codes "off") (omega arith), pid n below)
 
-by_one : (call : ℕ → Call) (n : ℕ) → n < 2 ^ 32 → call_or_bad (by_caller call (decimal n)) ≡ says.Call (call n)
+by_one : (call : ℕ → Call) (n : ℕ) → n < 2 ^ 32 → call_or_bad (by_process call (decimal n)) ≡ says.Call (call n)
 by_one call n below = ap (λ o. call_or_bad (option_map call o)) (pid n below)
 
 by_two : (call : ℕ → ℕ → Call) (a b : ℕ) → a < 2 ^ 32 → b < 2 ^ 32 → call_or_bad (by_pair call (decimal a ++ 32 ∷ decimal b)) ≡ says.Call (call a b)

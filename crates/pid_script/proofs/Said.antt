@@ -2,9 +2,9 @@
 use Rattle.std.proofs.Common.{◌≡◌, ℕ, Bool, true, false, cond, eqb, leb, List, [], ◌∷◌, ◌++◌, length, map, Option, Some, None, refl, sym, ap, ◌∙◌, append_assoc, append-nil}
 use Rattle.std.specs.List.{onto_first}
 use Rattle.pid_script.specs.Reading.{parsed}
-use Rattle.pid_script.specs.Script.{lines_of, onto_whole, whole_lines_of, said_of, said_whole, kept_of, kept_more, said_by, last_said, said_within, kept_after}
+use Rattle.pid_script.specs.Script.{lines_of, onto_whole, whole_lines_of, said_of, said_whole, kept_line, kept_more, said_by, last_said, said_within, kept_after}
 use Rattle.pid_script.proofs.Kept.{said_by_kept}
-use Rattle.pid_script.proofs.Within.{kept_of-more}
+use Rattle.pid_script.proofs.Within.{kept_line-more}
 
 -- the bytes that came before go to the front of the first line
 abbrev onto_first_whole : List ℕ → List (List ℕ) → List (List ℕ)
@@ -16,8 +16,8 @@ onto_first_line [] lines = lines
 onto_first_line (b ∷ bs) [] = (b ∷ bs) ∷ []
 onto_first_line (b ∷ bs) (line ∷ lines) = (b ∷ bs ++ line) ∷ lines
 
-kept_next : (part : List ℕ) (b : ℕ) → kept_more (kept_of part) (b ∷ []) ≡ kept_of (part ++ b ∷ [])
-kept_next part b = kept_of-more part b [] (leb (length part) 200) refl
+kept_next : (part : List ℕ) (b : ℕ) → kept_more (kept_line part) (b ∷ []) ≡ kept_line (part ++ b ∷ [])
+kept_next part b = kept_line-more part b [] (leb (length part) 200) refl
 
 onto_whole-more : (part : List ℕ) (b : ℕ) (lines : List (List ℕ)) → onto_first_whole (part ++ b ∷ []) lines ≡ onto_first_whole part (onto_whole b lines)
 onto_whole-more part b [] = refl
@@ -34,16 +34,16 @@ onto_nothing [] = refl
 onto_nothing (line ∷ lines) = refl
 
 whole_at_head : (part : List ℕ) (b : ℕ) (bs : List ℕ) (t : Bool)
-    → said_within (kept_of []) bs ≡ map parsed (onto_first_whole [] (whole_lines_of bs))
-    → said_within (kept_of (part ++ b ∷ [])) bs ≡ map parsed (onto_first_whole (part ++ b ∷ []) (whole_lines_of bs))
-    → cond t (said_by (kept_of part) ∷ said_within (Some []) bs) (said_within (kept_more (kept_of part) (b ∷ [])) bs)
+    → said_within (kept_line []) bs ≡ map parsed (onto_first_whole [] (whole_lines_of bs))
+    → said_within (kept_line (part ++ b ∷ [])) bs ≡ map parsed (onto_first_whole (part ++ b ∷ []) (whole_lines_of bs))
+    → cond t (said_by (kept_line part) ∷ said_within (Some []) bs) (said_within (kept_more (kept_line part) (b ∷ [])) bs)
     ≡ map parsed (onto_first_whole part (cond t ([] ∷ whole_lines_of bs) (onto_whole b (whole_lines_of bs))))
 whole_at_head part b bs true ends goes_on =
     (λ i. (said_by_kept part ∙ ap parsed (sym (append-nil part))) i ∷ (ends ∙ ap (map parsed) (onto_nothing (whole_lines_of bs))) i)
 whole_at_head part b bs false ends goes_on =
     ap (λ kept. said_within kept bs) (kept_next part b) ∙ goes_on ∙ ap (map parsed) (onto_whole-more part b (whole_lines_of bs))
 
-whole_from : (part bs : List ℕ) → said_within (kept_of part) bs ≡ map parsed (onto_first_whole part (whole_lines_of bs))
+whole_from : (part bs : List ℕ) → said_within (kept_line part) bs ≡ map parsed (onto_first_whole part (whole_lines_of bs))
 whole_from part [] = refl
 whole_from part (b ∷ bs) = whole_at_head part b bs (eqb b 10) (whole_from [] bs) (whole_from (part ++ b ∷ []) bs)
 
@@ -51,7 +51,7 @@ whole_from part (b ∷ bs) = whole_at_head part b bs (eqb b 10) (whole_from [] b
 pub said_within-whole : (bytes : List ℕ) → said_within (Some []) bytes ≡ said_whole bytes
 said_within-whole bytes = whole_from [] bytes ∙ ap (map parsed) (onto_nothing (whole_lines_of bytes))
 
-last_of_part : (part : List ℕ) → last_said (kept_of part) ≡ map parsed (onto_first_line part [])
+last_of_part : (part : List ℕ) → last_said (kept_line part) ≡ map parsed (onto_first_line part [])
 last_of_part [] = refl
 last_of_part (b ∷ bs) = at (leb (length (b ∷ bs)) 200) refl
   where
@@ -65,16 +65,16 @@ ended [] lines = refl
 ended (p ∷ ps) lines = ap (λ l. parsed (p ∷ l) ∷ map parsed lines) (sym (append-nil ps))
 
 all_at_head : (part : List ℕ) (b : ℕ) (bs : List ℕ) (t : Bool)
-    → said_within (kept_of []) bs ++ last_said (kept_after (kept_of []) bs) ≡ map parsed (onto_first_line [] (lines_of bs))
-    → said_within (kept_of (part ++ b ∷ [])) bs ++ last_said (kept_after (kept_of (part ++ b ∷ [])) bs) ≡ map parsed (onto_first_line (part ++ b ∷ []) (lines_of bs))
-    → cond t (said_by (kept_of part) ∷ said_within (Some []) bs) (said_within (kept_more (kept_of part) (b ∷ [])) bs)
-    ++ last_said (cond t (kept_after (Some []) bs) (kept_after (kept_more (kept_of part) (b ∷ [])) bs))
+    → said_within (kept_line []) bs ++ last_said (kept_after (kept_line []) bs) ≡ map parsed (onto_first_line [] (lines_of bs))
+    → said_within (kept_line (part ++ b ∷ [])) bs ++ last_said (kept_after (kept_line (part ++ b ∷ [])) bs) ≡ map parsed (onto_first_line (part ++ b ∷ []) (lines_of bs))
+    → cond t (said_by (kept_line part) ∷ said_within (Some []) bs) (said_within (kept_more (kept_line part) (b ∷ [])) bs)
+    ++ last_said (cond t (kept_after (Some []) bs) (kept_after (kept_more (kept_line part) (b ∷ [])) bs))
     ≡ map parsed (onto_first_line part (cond t ([] ∷ lines_of bs) (onto_first b (lines_of bs))))
 all_at_head part b bs true ends goes_on = (λ i. said_by_kept part i ∷ ends i) ∙ ended part (lines_of bs)
 all_at_head part b bs false ends goes_on =
     ap (λ kept. said_within kept bs ++ last_said (kept_after kept bs)) (kept_next part b) ∙ goes_on ∙ ap (map parsed) (onto_line-more part b (lines_of bs))
 
-all_from : (part bs : List ℕ) → said_within (kept_of part) bs ++ last_said (kept_after (kept_of part) bs) ≡ map parsed (onto_first_line part (lines_of bs))
+all_from : (part bs : List ℕ) → said_within (kept_line part) bs ++ last_said (kept_after (kept_line part) bs) ≡ map parsed (onto_first_line part (lines_of bs))
 all_from part [] = last_of_part part
 all_from part (b ∷ bs) = all_at_head part b bs (eqb b 10) (all_from [] bs) (all_from (part ++ b ∷ []) bs)
 

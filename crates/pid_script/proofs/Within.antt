@@ -4,17 +4,17 @@ use Rattle.std.proofs.lemmas.Bool.Decides.{nat_tests}
 use Rattle.std.proofs.lemmas.Option.{none-some, same_Some}
 use Rattle.pid_script.specs.declared.line.Line.{Line}
 use Rattle.pid_script.specs.Reading.{cut}
-use Rattle.pid_script.specs.Script.{kept_of, kept_more, said_by, said_within, kept_after}
+use Rattle.pid_script.specs.Script.{kept_line, kept_more, said_by, said_within, kept_after}
 use Rattle.pid_script.proofs.Cuts.{option_map_some}
 
-kept_of-long : (line : List ℕ) → 200 < length line → kept_of line ≡ None
-kept_of-long line long =
+kept_line-long : (line : List ℕ) → 200 < length line → kept_line line ≡ None
+kept_line-long line long =
     let past : leb (length line) 200 ≡ false = grind (arith, nat_tests) in rw past
 
 -- what is kept of a line, and then of more of it
-pub kept_of-more : (line : List ℕ) (b : ℕ) (bs : List ℕ) (t : Bool) → leb (length line) 200 ≡ t → kept_more (cond t (Some line) None) (b ∷ bs) ≡ kept_of (line ++ b ∷ bs)
-kept_of-more line b bs true short = refl
-kept_of-more line b bs false long = sym (kept_of-long (line ++ b ∷ bs) (omega (arith, leb-false _ _ long, length-append line (b ∷ bs))))
+pub kept_line-more : (line : List ℕ) (b : ℕ) (bs : List ℕ) (t : Bool) → leb (length line) 200 ≡ t → kept_more (cond t (Some line) None) (b ∷ bs) ≡ kept_line (line ++ b ∷ bs)
+kept_line-more line b bs true short = refl
+kept_line-more line b bs false long = sym (kept_line-long (line ++ b ∷ bs) (omega (arith, leb-false _ _ long, length-append line (b ∷ bs))))
 
 -- more bytes, one after another
 kept_more-cons : (kept : Option (List ℕ)) (b : ℕ) (more : List ℕ) → kept_more (kept_more kept (b ∷ [])) more ≡ kept_more kept (b ∷ more)
@@ -22,7 +22,7 @@ kept_more-cons None b [] = refl
 kept_more-cons None b (c ∷ cs) = refl
 kept_more-cons (Some line) b [] = refl
 kept_more-cons (Some line) b (c ∷ cs) =
-    kept_of-more (line ++ b ∷ []) c cs (leb (length (line ++ b ∷ [])) 200) refl ∙ ap kept_of (append_assoc line (b ∷ []) (c ∷ cs))
+    kept_line-more (line ++ b ∷ []) c cs (leb (length (line ++ b ∷ [])) 200) refl ∙ ap kept_line (append_assoc line (b ∷ []) (c ∷ cs))
 
 -- what a cut at a newline finds
 pub record IsFirstEnd (kept : Option (List ℕ)) (bytes : List ℕ) (p : List ℕ × List ℕ) : Type 0 where

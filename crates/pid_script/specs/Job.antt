@@ -9,11 +9,11 @@ use Rattle.pid_script.specs.declared.line.Line.TheVariants as says
 use Rattle.pid_script.specs.Script.{said_of, said_whole}
 
 -- the calls that the lines say
-abbrev pub calls_of : List Line → List Call
-calls_of [] = []
-calls_of (says.Empty ∷ lines) = calls_of lines
-calls_of (says.Call call ∷ lines) = call ∷ calls_of lines
-calls_of (says.Bad ∷ lines) = calls_of lines
+abbrev pub calls_said : List Line → List Call
+calls_said [] = []
+calls_said (says.Empty ∷ lines) = calls_said lines
+calls_said (says.Call call ∷ lines) = call ∷ calls_said lines
+calls_said (says.Bad ∷ lines) = calls_said lines
 
 abbrev pub AreGood : List Line → Type 0
 AreGood lines = All (λ (line : Line). line ≢ says.Bad) lines
@@ -33,7 +33,7 @@ pub record Yields (from to : Option (List ℕ)) (calls : List Call) : Type 0 whe
   pub at_end : IsAtEnd to
   pub short : length read ≤ 2 ^ 20
   pub good : AreGood (said_of read)
-  pub said : calls ≡ calls_of (said_of read)
+  pub said : calls ≡ calls_said (said_of read)
 
 -- a line that ends within the most bytes that a job may have is reached; or the last one is, which ends with the source
 abbrev pub IsRead : List ℕ → Option (List ℕ) → Line → ℕ → Type 0
@@ -57,7 +57,7 @@ pub record Refuses (from to : Option (List ℕ)) (failed : Bool) (fault : JobFau
 -- the lines, of which none is bad, were added to the calls and to the number of lines
 pub record Adds (calls : List Call) (number : ℕ) (calls' : List Call) (number' : ℕ) (lines : List Line) : Type 0 where
   pub good : AreGood lines
-  pub said : calls' ≡ calls ++ calls_of lines
+  pub said : calls' ≡ calls ++ calls_said lines
   pub counted : number' ≡ number + length lines
 
 -- behind so many lines, the first bad one of these was met, or one with a call for which there was no memory

@@ -154,8 +154,8 @@ subreaper_of words = do
   Some (SetSubreaper caller on)
 
 -- the call of a command about one process
-abbrev pub by_caller : (ℕ → Call) → List ℕ → Option Call
-by_caller call words = option_map call (number_below (2 ^ 32) words)
+abbrev pub by_process : (ℕ → Call) → List ℕ → Option Call
+by_process call words = option_map call (number_below (2 ^ 32) words)
 
 -- the call of a command about two processes
 abbrev pub by_pair : (ℕ → ℕ → Call) → List ℕ → Option Call
@@ -169,13 +169,13 @@ by_control call words = option_map call (number_below (2 ^ 64) words)
 unfoldable pub command_of : List ℕ → List ℕ → Option Call
 command_of command words =
     if is_word (codes "fork") command then fork_of words
-    else (if is_word (codes "exec") command then by_caller Exec words
+    else (if is_word (codes "exec") command then by_process Exec words
     else (if is_word (codes "exit") command then exit_of words
     else (if is_word (codes "wait") command then wait_of words
     else (if is_word (codes "setpgid") command then set_pgid_of words
-    else (if is_word (codes "setsid") command then by_caller SetSid words
-    else (if is_word (codes "getpid") command then by_caller GetPid words
-    else (if is_word (codes "getppid") command then by_caller GetPpid words
+    else (if is_word (codes "setsid") command then by_process SetSid words
+    else (if is_word (codes "getpid") command then by_process GetPid words
+    else (if is_word (codes "getppid") command then by_process GetPpid words
     else (if is_word (codes "getpgid") command then by_pair GetPgid words
     else (if is_word (codes "getsid") command then by_pair GetSid words
     else (if is_word (codes "nspid") command then by_pair NsPid words

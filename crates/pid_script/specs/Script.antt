@@ -38,8 +38,8 @@ abbrev pub with_newline : List ℕ → List ℕ
 with_newline line = line ++ 10 ∷ []
 
 -- what is kept of a line: its bytes, if there are at most 200
-abbrev pub kept_of : List ℕ → Option (List ℕ)
-kept_of line = if nat_le (length line) 200 then Some line else None
+abbrev pub kept_line : List ℕ → Option (List ℕ)
+kept_line line = if nat_le (length line) 200 then Some line else None
 
 -- what is said by what was kept: a line that was too long is bad
 abbrev pub said_by : Option (List ℕ) → Line
@@ -50,7 +50,7 @@ said_by (Some line) = parsed line
 abbrev pub kept_more : Option (List ℕ) → List ℕ → Option (List ℕ)
 kept_more kept [] = kept
 kept_more None (b ∷ bs) = None
-kept_more (Some line) (b ∷ bs) = kept_of (line ++ b ∷ bs)
+kept_more (Some line) (b ∷ bs) = kept_line (line ++ b ∷ bs)
 
 -- what the lines say that end within the bytes, the first of which was begun before
 abbrev pub said_within : Option (List ℕ) → List ℕ → List Line

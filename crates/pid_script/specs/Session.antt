@@ -57,8 +57,8 @@ pub record StopsShort (p : Progress) (before after : Option (List ℕ)) (lines :
   pub some_left : 0 < length left
 
 -- there are at least as many lines as recorded calls, and as bad ones
-abbrev pub IsCounted : Tally → Type 0
-IsCounted tally = (tally.recorded ≤ tally.lines) × (tally.bad ≤ tally.lines)
+abbrev pub IsTallied : Tally → Type 0
+IsTallied tally = (tally.recorded ≤ tally.lines) × (tally.bad ≤ tally.lines)
 
 -- the source is at its end, and what was written is the meaning of the lines of all that was read
 pub record Finishes (start end : Progress) (from to before after : Option (List ℕ)) : Type 0 where

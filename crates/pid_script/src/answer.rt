@@ -100,7 +100,10 @@ fn reaped_text(child: u32, ended: Ended) -> ArrayVec<u8, LONGEST_ANSWER>
 
 /// The numbers in order, with the byte between them.
 #[tactic(auto, using(crate::proofs::Room::room))]
-pub fn joined_numbers(numbers: &ArrayVec<u32, LEVELS>, separator: u8) -> ArrayVec<u8, LONGEST_ANSWER>
+pub fn joined_numbers(
+    numbers: &ArrayVec<u32, LEVELS>,
+    separator: u8,
+) -> ArrayVec<u8, LONGEST_ANSWER>
     ensures { result.items ≡ joined separator numbers.now.items }
 {
     let mut text = ArrayVec::new();

@@ -1,7 +1,7 @@
 //! Lines that come in parts.
 ghost use Rattle.std.specs.Prelude.{◌≡◌, ◌↔◌, Some, [], ◌++◌, List, ℕ, IsTrue};
 ghost use Rattle.pid_script.specs.Reading.{parsed};
-ghost use Rattle.pid_script.specs.Script.{kept_of, kept_more, said_by};
+ghost use Rattle.pid_script.specs.Script.{kept_line, kept_more, said_by};
 
 use crate::line::{Line, parse_line};
 use arrayvec::ArrayVec;
@@ -47,7 +47,7 @@ impl PartLine {
     /// Adds bytes that do not end the line.
     pub fn push(&mut self, bytes: &[u8])
         ensures value { self.new ≡ kept_more self.old bytes.now }
-        ensures kept { (part : List ℕ) → self.old ≡ kept_of part → self.new ≡ kept_of (part ++ bytes.now) }
+        ensures kept { (part : List ℕ) → self.old ≡ kept_line part → self.new ≡ kept_line (part ++ bytes.now) }
     {
         if self.kept.remaining_capacity() < bytes.len() {
             self.is_long = true;
@@ -70,7 +70,7 @@ impl PartLine {
     #[tactic(auto, using(crate::proofs::Kept::said_by_kept))]
     pub fn finish(&mut self, end: &[u8]) -> Line
         ensures value { result ≡ said_by (kept_more self.old end.now) }
-        ensures line { (part : List ℕ) → self.old ≡ kept_of part → result ≡ parsed (part ++ end.now) }
+        ensures line { (part : List ℕ) → self.old ≡ kept_line part → result ≡ parsed (part ++ end.now) }
         ensures next { self.new ≡ Some [] }
     {
         if self.is_empty() {

@@ -4,7 +4,7 @@ ghost use Rattle.pid_types.specs.State.{State};
 ghost use Rattle.pid_script.specs.declared.tally.RunScriptFault.TheVariants.{NoMemory, Write};
 ghost use Rattle.pid_script.specs.Script.{begun, with_newline, HasStopped, said_within, kept_after, last_said};
 ghost use Rattle.pid_script.specs.Answers.{answer_of};
-ghost use Rattle.pid_script.specs.Session.{Acts, Leads, progress_of, Answers, StopsShort, IsCounted, Finishes, Leaves};
+ghost use Rattle.pid_script.specs.Session.{Acts, Leads, progress_of, Answers, StopsShort, IsTallied, Finishes, Leaves};
 
 use crate::answer::answer_text;
 use crate::bytes::split_at_first;
@@ -42,11 +42,11 @@ pub struct Session {
 
 /// Makes a call, and counts it.
 fn make_call<T: Table>(table: &mut T, tally: &mut Tally, call: Call) -> Result<Receipt, CallFault>
-    requires counted { IsCounted tally.old }
+    requires counted { IsTallied tally.old }
     requires room { tally.old.lines + 1 < 2 ^ 64 }
     ensures leads { Leads (T.state table.old) (T.stamp table.old) tally.old (Line.Call call) (with_newline (answer_of result))
         (T.state table.new) (T.stamp table.new) tally.new }
-    ensures counted { IsCounted tally.new }
+    ensures counted { IsTallied tally.new }
     ensures lines { tally.new.lines ≡ tally.old.lines + 1 }
 {
     let answer = table.act(call);
@@ -64,7 +64,7 @@ fn answer_line<T: Table, K: Sink>(
     sink: &mut K,
     line: Line,
 ) -> Result<(), RunScriptFault>
-    requires counted { IsCounted session.old.tally }
+    requires counted { IsTallied session.old.tally }
     requires room { session.old.tally.lines + 1 < 2 ^ 64 }
     ensures ok { OnOk result (Answers (progress_of (T.state table.old) (T.stamp table.old) session.old.tally session.old.outbox)
         (progress_of (T.state table.new) (T.stamp table.new) session.new.tally session.new.outbox)
@@ -74,7 +74,7 @@ fn answer_line<T: Table, K: Sink>(
     ensures fault { IfErr result (λ e. e ≡ Write) }
     ensures stopped { OnErr result (HasStopped (K.has_failed sink.new) (K.is_full sink.new)) }
     ensures part { session.new.part ≡ session.old.part }
-    ensures counted { IsCounted session.new.tally }
+    ensures counted { IsTallied session.new.tally }
     ensures lines { session.new.tally.lines ≡ session.old.tally.lines + 1 }
 {
     match line {
@@ -102,7 +102,7 @@ fn answer_chunk<T: Table, K: Sink>(
     sink: &mut K,
     chunk: &[u8],
 ) -> Result<(), RunScriptFault>
-    requires counted { IsCounted session.old.tally }
+    requires counted { IsTallied session.old.tally }
     requires room { session.old.tally.lines + length chunk.now < 2 ^ 64 }
     ensures ok { OnOk result (Answers (progress_of (T.state table.old) (T.stamp table.old) session.old.tally session.old.outbox)
         (progress_of (T.state table.new) (T.stamp table.new) session.new.tally session.new.outbox)
@@ -112,7 +112,7 @@ fn answer_chunk<T: Table, K: Sink>(
         (K.contents sink.old) (K.contents sink.new) (said_within session.old.part chunk.now)) }
     ensures fault { IfErr result (λ e. e ≡ Write) }
     ensures stopped { OnErr result (HasStopped (K.has_failed sink.new) (K.is_full sink.new)) }
-    ensures counted { IsCounted session.new.tally }
+    ensures counted { IsTallied session.new.tally }
     ensures lines { session.new.tally.lines ≤ session.old.tally.lines + length chunk.now }
 {
     let mut rest = chunk;
@@ -131,7 +131,7 @@ fn answer_last<T: Table, K: Sink>(
     table: &mut T,
     sink: &mut K,
 ) -> Result<(), RunScriptFault>
-    requires counted { IsCounted session.old.tally }
+    requires counted { IsTallied session.old.tally }
     requires room { session.old.tally.lines + 1 < 2 ^ 64 }
     ensures ok { OnOk result (Answers (progress_of (T.state table.old) (T.stamp table.old) session.old.tally session.old.outbox)
         (progress_of (T.state table.new) (T.stamp table.new) session.new.tally session.new.outbox)
@@ -154,7 +154,7 @@ fn finish<T: Table, K: Sink>(
     table: &mut T,
     sink: &mut K,
 ) -> Result<(), RunScriptFault>
-    requires counted { IsCounted session.old.tally }
+    requires counted { IsTallied session.old.tally }
     requires room { session.old.tally.lines + 1 < 2 ^ 64 }
     ensures ok { OnOk result (Answers (progress_of (T.state table.old) (T.stamp table.old) session.old.tally session.old.outbox)
         (progress_of (T.state table.new) (T.stamp table.new) session.new.tally [])

@@ -2,7 +2,7 @@ use Rattle.std.proofs.Common.{rules, arith, ◌≡◌, ◌<◌, ◌-◌, length,
 use Rattle.pid_types.specs.declared.call.Call.TheVariants.{Count}
 use Rattle.pid_types.specs.declared.reply.Reply.TheVariants.{Done}
 use Rattle.pid_types.specs.declared.entry.Receipt.{Receipt}
-use Rattle.pid_jobs.specs.Receipts.{kept_of}
+use Rattle.pid_jobs.specs.Receipts.{receipts_kept}
 use Rattle.pid_jobs.proofs.Compared.{kept_more, past_other, past_both, too_short, another, too_long}
 use Rattle.pid_jobs.proofs.audits.first_difference.Goals as goal
 
@@ -33,11 +33,11 @@ loop-ordinal-preserved g c =
     let skip = rw c.first_kept-first.ensures at c.skip_cut-next.ensures.none in
     let lt : c.skip_cut-next.result < length c.args.receipts.now = search rules in
     let le = rw c.first_kept-first.ensures at (c.skip_cut-next.ensures.kept d lt) in
-    let len : length (kept_of c.args.kept.now.first_kept (take c.skip_cut-next.result c.args.receipts.now)) ≡ c.loop-ordinal.place = ap length skip ∙ was.2 in
+    let len : length (receipts_kept c.args.kept.now.first_kept (take c.skip_cut-next.result c.args.receipts.now)) ≡ c.loop-ordinal.place = ap length skip ∙ was.2 in
     let more = kept_more c.args.kept.now.first_kept c.skip_cut-next.result c.args.receipts.now d lt le in (
       search rules,
       past_both c.args.kept.now _ c.loop-ordinal.ordinal c.skip_cut-next.result c.args.receipts.now c.in-Some.entry.now d (search rules) c.in-Some.ensures c.if-entry-worker.false lt le (sym c.index-receipts-next.is ∙ c.is_receipt_of.ensures.yes (search rules)) (skip ∙ was.1),
-      ap length more ∙ (length-append (kept_of c.args.kept.now.first_kept (take c.skip_cut-next.result c.args.receipts.now)) (get_or c.args.receipts.now c.skip_cut-next.result d ∷ []) ∙ omega (arith, len)),
+      ap length more ∙ (length-append (receipts_kept c.args.kept.now.first_kept (take c.skip_cut-next.result c.args.receipts.now)) (get_or c.args.receipts.now c.skip_cut-next.result d ∷ []) ∙ omega (arith, len)),
       omega (arith, was.3, c.skip_cut-next.ensures.bounds.0),
     )
 

@@ -1,7 +1,7 @@
 use Rattle.std.proofs.Common.{◌≡◌, ◌+◌, ◌≤◌, ◌++◌, List, length}
 use Rattle.pid_script.specs.declared.line.Line.{Line}
 use Rattle.pid_script.specs.Script.{said_within, kept_after}
-use Rattle.pid_script.specs.Session.{progress_of, Answers, IsCounted}
+use Rattle.pid_script.specs.Session.{progress_of, Answers, IsTallied}
 use Rattle.pid_script.proofs.session.answer_chunk.Given as goal
 
 abbrev pub invariant-loop-end : goal.invariant-loop-end
@@ -12,7 +12,7 @@ invariant-loop-end g l = record {
       (g.K.Sink.contents l.initial.sink) (g.K.Sink.contents l.sink) lines;
   said : lines ++ said_within l.session.part l.rest ≡ said_within l.initial.session.part l.chunk;
   kept : kept_after l.session.part l.rest ≡ kept_after l.initial.session.part l.chunk;
-  counted : IsCounted l.session.tally;
+  counted : IsTallied l.session.tally;
   few : l.session.tally.lines + length l.rest ≤ l.initial.session.tally.lines + length l.chunk;
 }
 

@@ -1,7 +1,7 @@
 use Rattle.std.proofs.Common.{◌≡◌, ◌*◌, ◌≤◌, List, ℕ, [], Some, length}
 use Rattle.std.specs.Io.KnownBytes.{Consumes}
 use Rattle.pid_script.specs.Script.{begun, said_within, kept_after}
-use Rattle.pid_script.specs.Session.{progress_of, Answers, IsCounted}
+use Rattle.pid_script.specs.Session.{progress_of, Answers, IsTallied}
 use Rattle.pid_script.proofs.session.run_script.Given as goal
 
 abbrev pub invariant-loop-turn : goal.invariant-loop-turn
@@ -13,7 +13,7 @@ invariant-loop-turn g l = record {
       (g.K.Sink.contents l.initial.sink) (g.K.Sink.contents l.sink) (said_within (Some []) read);
   part : l.session.part ≡ kept_after (Some []) read;
   empty : l.session.outbox ≡ [];
-  counted : IsCounted l.session.tally;
+  counted : IsTallied l.session.tally;
   few : l.session.tally.lines ≤ length read;
   long : l._turn ≤ length read;
   short : length read ≤ 4096 * l._turn;
