@@ -1,12 +1,11 @@
 -- A leaf of which one slot is written.
-use Rattle.std.proofs.Common.{ℕ, ◌≡◌, ◌≢◌, ◌<◌, ◌≤◌, sym, ap, ◌∙◌, subst, arith, refl, List, length, get_or, map, Box, Bool, true, false, not, is_some, Option, Some, None, inl, inr}
+use Rattle.std.proofs.Common.{ℕ, ◌≡◌, ◌≢◌, ◌+◌, ◌^◌, ◌<◌, ◌≤◌, sym, ap, ◌∙◌, subst, arith, refl, List, length, get_or, map, Bool, true, false, not, is_some, Option, Some, None, inl, inr}
 use Rattle.std.specs.List.{list_any}
 use Rattle.std.specs.Option.{option_map}
 use Rattle.std.proofs.Math.ListN.{set}
 use Rattle.std.proofs.Math.ListN as listn
 use Rattle.std.proofs.lemmas.List.{get_or-set_same, get_or-set_other, length-set, set-get_or, get_or_past, length-map, ext_get_or}
 use Rattle.std.proofs.lemmas.Bool.{cases_eq, cases_lt, false≢true}
-use Rattle.std.specs.declared.alloc.Global.{Global}
 use Rattle.index_array.specs.Words.{has_bit, word_of, bit_of}
 use Rattle.index_array.specs.Place.{Place, Entry, bare, place_at, entry_at, value_at, is_prepared, is_marked, entry_with, with_mark, carries, WritesEntry, KeepsPrepared}
 use Rattle.index_array.specs.Tree.{Tree, marks_of, leaf_place, places_of, slot_places, IsNode}
@@ -38,14 +37,14 @@ mark_with None ms m on = refl
 mark_with (Some x) ms m on = refl
 
 -- what a write to a slot of a leaf is to the leaf
-pub record SlotWritten {T : Type 0} (w w' : Words) (h : ℕ) (es es' : List (Option T)) (cs : List (Option (Box (Tree T) Global))) (i : ℕ) (e : Option (Entry T)) : Type 0 where
+pub record SlotWritten {T : Type 0} (w w' : Words) (h : ℕ) (es es' : List (Option T)) (cs : List (Option (Tree T))) (i : ℕ) (e : Option (Entry T)) : Type 0 where
   pub node : IsNode w' h es' cs
   pub whole : length (places_of w' h es' cs) ≡ length (places_of w h es cs)
   pub writes : WritesEntry (places_of w h es cs) (places_of w' h es' cs) i e
   pub keeps : KeepsPrepared (places_of w h es cs) (places_of w' h es' cs)
 
 -- a leaf of which one slot's entry and bits are replaced
-module _ {T : Type 0} (w w' : Words) (h : ℕ) (es : List (Option T)) (cs : List (Option (Box (Tree T) Global))) (node : IsNode w h es cs) (z : h ≡ 0) (i : ℕ) (b : i < 64) (v : Option T) (bits : SlotBits) (marks : length w.marks ≡ 3) (marks' : length w'.marks ≡ 3) (three : length bits.marks ≡ 3) (present : bits.present ≡ is_some v) (gap : bits.gap ≡ not (is_some v)) (unmarked : is_some v ≡ false → (m : ℕ) → get_or bits.marks m false ≡ false) (same : (q : Sought) → has_bit (word_of q w') i ≡ bit_of q bits) (others : (q : Sought) (j : ℕ) → j < 64 → j ≢ i → has_bit (word_of q w') j ≡ has_bit (word_of q w) j) where
+module _ {T : Type 0} (w w' : Words) (h : ℕ) (es : List (Option T)) (cs : List (Option (Tree T))) (node : IsNode w h es cs) (z : h ≡ 0) (i : ℕ) (b : i < 64) (v : Option T) (bits : SlotBits) (marks : length w.marks ≡ 3) (marks' : length w'.marks ≡ 3) (three : length bits.marks ≡ 3) (present : bits.present ≡ is_some v) (gap : bits.gap ≡ not (is_some v)) (unmarked : is_some v ≡ false → (m : ℕ) → get_or bits.marks m false ≡ false) (same : (q : Sought) → has_bit (word_of q w') i ≡ bit_of q bits) (others : (q : Sought) (j : ℕ) → j < 64 → j ≢ i → has_bit (word_of q w') j ≡ has_bit (word_of q w) j) where
   in_leaf : i < length es
   in_leaf = rw (node.leaf z).0 b
 
@@ -113,8 +112,12 @@ module _ {T : Type 0} (w w' : Words) (h : ℕ) (es : List (Option T)) (cs : List
             ];
       }
 
+-- an index of a leaf
+pub leaf_index : {n h : ℕ} → 0 ≡ h → n < 64 ^ (h + 1) → n < 64
+leaf_index {n} e b = subst (λ h. n < 64 ^ (h + 1)) (sym e) b
+
 -- the value of a leaf's slot
-pub leaf_value : {T : Type 0} (w : Words) (h : ℕ) (es : List (Option T)) (cs : List (Option (Box (Tree T) Global))) → IsNode w h es cs → h ≡ 0 → (i : ℕ) → i < 64 → value_at (places_of w h es cs) i ≡ get_or es i None
+pub leaf_value : {T : Type 0} (w : Words) (h : ℕ) (es : List (Option T)) (cs : List (Option (Tree T))) → IsNode w h es cs → h ≡ 0 → (i : ℕ) → i < 64 → value_at (places_of w h es cs) i ≡ get_or es i None
 leaf_value w h es cs node z i b =
     ap (λ (p : Place _). option_map (λ e. e.value) p.entry) (place_leaf w h es cs node z i b) ∙ value_with (get_or es i None) (marks_of w i)
   where
@@ -123,11 +126,11 @@ leaf_value w h es cs node z i b =
     value_with (Some x) ms = refl
 
 -- room is prepared at each index of a leaf
-pub leaf_prepared : {T : Type 0} (w : Words) (h : ℕ) (es : List (Option T)) (cs : List (Option (Box (Tree T) Global))) → IsNode w h es cs → h ≡ 0 → (i : ℕ) → i < 64 → is_prepared (places_of w h es cs) i ≡ true
+pub leaf_prepared : {T : Type 0} (w : Words) (h : ℕ) (es : List (Option T)) (cs : List (Option (Tree T))) → IsNode w h es cs → h ≡ 0 → (i : ℕ) → i < 64 → is_prepared (places_of w h es cs) i ≡ true
 leaf_prepared w h es cs node z i b = ap (λ (p : Place _). p.prepared) (place_leaf w h es cs node z i b)
 
 -- a leaf of which one mark of an entry is set or cleared
-pub leaf_marked : {T : Type 0} (w w' : Words) (h : ℕ) (es : List (Option T)) (cs : List (Option (Box (Tree T) Global))) → IsNode w h es cs → h ≡ 0 → (i : ℕ) → i < 64 → (m : ℕ) (on : Bool) (bits : SlotBits) → length w.marks ≡ 3 → length w'.marks ≡ 3 → length bits.marks ≡ 3 → ((q : Sought) → bit_of q bits ≡ has_bit (word_of q w) i) → bits.present ≡ true → ((q : Sought) → has_bit (word_of q w') i ≡ bit_of q (record { present = bits.present; gap = bits.gap; marks = set bits.marks m on })) → ((q : Sought) (j : ℕ) → j < 64 → j ≢ i → has_bit (word_of q w') j ≡ has_bit (word_of q w) j) → SlotWritten w w' h es es cs i (with_mark m on (entry_at (places_of w h es cs) i))
+pub leaf_marked : {T : Type 0} (w w' : Words) (h : ℕ) (es : List (Option T)) (cs : List (Option (Tree T))) → IsNode w h es cs → h ≡ 0 → (i : ℕ) → i < 64 → (m : ℕ) (on : Bool) (bits : SlotBits) → length w.marks ≡ 3 → length w'.marks ≡ 3 → length bits.marks ≡ 3 → ((q : Sought) → bit_of q bits ≡ has_bit (word_of q w) i) → bits.present ≡ true → ((q : Sought) → has_bit (word_of q w') i ≡ bit_of q (record { present = bits.present; gap = bits.gap; marks = set bits.marks m on })) → ((q : Sought) (j : ℕ) → j < 64 → j ≢ i → has_bit (word_of q w') j ≡ has_bit (word_of q w) j) → SlotWritten w w' h es es cs i (with_mark m on (entry_at (places_of w h es cs) i))
 leaf_marked {T} w w' h es cs node z i b m on bits n n' three was present same others =
     let v : Option T = get_or es i None in
     let entry : entry_at (places_of w h es cs) i ≡ entry_with v (marks_of w i) = ap (λ (p : Place T). p.entry) (place_leaf w h es cs node z i b) in
