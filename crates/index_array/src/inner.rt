@@ -8,7 +8,7 @@ ghost use Rattle.index_array.specs.Tree.{Tree, IsChild, IsBelow};
 ghost use Rattle.index_array.specs.declared.bits.Sought.{Sought};
 
 use crate::bits::{SlotBits, Sought, Words, has_bit, next_bit};
-use crate::block::Block;
+use crate::block::{Block, Written};
 use crate::leaf::empty_slots;
 use std::alloc::{AllocError, Global};
 use std::marker::{Model, PhantomData};
@@ -188,39 +188,39 @@ impl<T: Drop, C: Block<T>> Block<T> for Inner<T, C> {
     }
 
     #[inline(always)]
-    fn put(&mut self, i: u32, value: Option<T>, marks: [bool; 3]) -> (Option<T>, bool)
+    fn put(&mut self, i: u32, value: Option<T>, marks: [bool; 3]) -> Written<T>
         requires covered { i < 64 ^ (self.old.height + 1) }
         requires prepared { IsSome value → is_prepared self.old.places i ≡ true }
         requires unmarked { IsNone value → marks ≡ false ∷ false ∷ false ∷ [] }
         ensures height { self.new.height ≡ self.old.height }
         ensures whole { length self.new.places ≡ length self.old.places }
         ensures writes { WritesEntry self.old.places self.new.places i (entry_with value marks) }
-        ensures keeps { IsSome value → KeepsPrepared self.old.places self.new.places }
-        ensures answer { result.0 ≡ value_at self.old.places i }
-        ensures marked { result.1 ≡ false → (m : ℕ)
+        ensures keeps { KeepsPrepared self.old.places self.new.places }
+        ensures answer { result.old ≡ value_at self.old.places i }
+        ensures marked { result.marked ≡ false → (m : ℕ)
             → list_any (carries (Sought.Mark m)) self.new.places
             ≡ list_any (carries (Sought.Mark m)) self.old.places }
     {
         let _words = &self.words;
         let height = C::height() + 1;
         let slot = slot_of(i, height);
+        if self.children[slot as usize].is_none() {
+            drop(value);
+            return Written {
+                old: None,
+                marked: false,
+                emptied: false,
+            };
+        }
         match &mut self.children[slot as usize] {
-            None => {
-                drop(value);
-                (None, false)
-            }
+            None => unreachable!(),
             Some(child) => {
                 let child: &mut C = child;
                 let present = value.is_some();
-                let (old, changed) = child.put(rest_of(i, height), value, marks);
+                let written = child.put(rest_of(i, height), value, marks);
                 let bits = child.together().knowing(present);
-                if bits.present {
-                    self.words.set_slot(slot, bits, changed);
-                    return (old, changed);
-                }
-                self.children[slot as usize] = None;
-                self.words.set_slot(slot, bits, changed);
-                (old, changed)
+                self.words.set_slot(slot, bits, written.marked);
+                written
             }
         }
     }
@@ -230,13 +230,16 @@ impl<T: Drop, C: Block<T>> Block<T> for Inner<T, C> {
         let _words = &self.words;
         let height = C::height() + 1;
         let slot = slot_of(i, height);
+        if self.children[slot as usize].is_none() {
+            return false;
+        }
         match &mut self.children[slot as usize] {
-            None => false,
+            None => unreachable!(),
             Some(child) => {
                 let child: &mut C = child;
                 let found = child.put_mark(rest_of(i, height), mark, on);
                 let below = child.has_any(Sought::Mark(mark));
-                self.words = self.words.with_mark(slot, mark, below);
+                self.words.set_mark(slot, mark, below);
                 found
             }
         }
@@ -248,14 +251,30 @@ impl<T: Drop, C: Block<T>> Block<T> for Inner<T, C> {
         let height = C::height() + 1;
         let slot = slot_of(i, height);
         let rest = rest_of(i, height);
+        if self.children[slot as usize].is_none() {
+            let mut child: Box<C> = C::empty(alloc)?;
+            child.prepare(alloc, rest)?;
+            self.children[slot as usize] = Some(child);
+            return Ok(());
+        }
         match &mut self.children[slot as usize] {
+            None => unreachable!(),
             Some(child) => child.prepare(alloc, rest),
-            None => {
-                let mut child: Box<C> = C::empty(alloc)?;
-                child.prepare(alloc, rest)?;
-                self.children[slot as usize] = Some(child);
-                Ok(())
-            }
+        }
+    }
+
+    #[inline(never)]
+    fn give_back(&mut self, i: u32) {
+        let _words = &self.words;
+        let height = C::height() + 1;
+        let slot = slot_of(i, height);
+        if !has_bit(self.words.present, slot) {
+            self.children[slot as usize] = None;
+            return;
+        }
+        match &mut self.children[slot as usize] {
+            None => unreachable!(),
+            Some(child) => child.give_back(rest_of(i, height)),
         }
     }
 }

@@ -25,8 +25,8 @@ use block::Block;
 use inner::Inner;
 use leaf::Leaf;
 use root::{
-    Root, erase_in, find_in, gap_in, get_in, is_marked_in, is_prepared_in, prepare_in, put_mark_in,
-    raised, store_in,
+    Root, erase_in, find_in, gap_in, get_in, give_back_in, is_marked_in, is_prepared_in,
+    prepare_in, put_mark_in, raised, store_in,
 };
 use std::alloc::{AllocError, Global};
 use std::marker::Model;
@@ -46,9 +46,9 @@ pub enum IndexFault {
 
 /// A finite map from indexes below 2^24 to a value and a set of marks, out of 0, 1 and 2.
 ///
-/// It owns its values and its nodes, and gives a node back when its last entry is erased. What stands
-/// in it is read in the contracts as a list of places, one for each index that the nodes cover:
-/// `entry_at` and `is_prepared` look one up.
+/// It owns its values and its nodes, and gives a node back once its last entry is erased and another leaf
+/// is erased from. What stands in it is read in the contracts as a list of places, one for each index
+/// that the nodes cover: `entry_at` and `is_prepared` look one up.
 ///
 /// A call walks down at most four nodes and changes those on the way, a search looks at most at eight.
 /// A leaf takes 64 bytes and, apart from it, 64 `Option<T>`; a node above it 64 bytes and 64 slots of 16.
@@ -56,6 +56,8 @@ pub enum IndexFault {
 pub struct IndexArray<T: Drop> {
     root: Root<T>,
     alloc: Global,
+    /// The index at which the last erase left its leaf empty, where that leaf may still stand.
+    emptied: Option<u32>,
 }
 
 impl<T: Drop> Model for IndexArray<T> {
@@ -78,6 +80,7 @@ impl<T: Drop> IndexArray<T> {
         IndexArray {
             root: Root::Empty,
             alloc,
+            emptied: None,
         }
     }
 
@@ -314,23 +317,57 @@ impl<T: Drop> IndexArray<T> {
         }
     }
 
-    /// Takes the value at an index out, with its marks. A node that is left with no entry is given
-    /// back, so an index is prepared afterwards only if `is_prepared` says so.
+    /// Takes the value at an index out, with its marks.
+    ///
+    /// A leaf that is left with no entry stands until an erase in another leaf, which gives it back with
+    /// the nodes above it that have no entry. So an index is prepared afterwards only if `is_prepared`
+    /// says so.
     pub fn erase(&mut self, i: u32) -> Option<T>
         ensures writes { WritesEntry self.old self.new i None }
         ensures answer { result ≡ value_at self.old i }
     {
-        let (old, left) = match &mut self.root {
-            Root::Empty => (None, true),
+        self.give_back_other(i);
+        let (old, emptied) = match &mut self.root {
+            Root::Empty => (None, false),
             Root::Height0(node) => erase_in(&mut **node, i),
             Root::Height1(node) => erase_in(&mut **node, i),
             Root::Height2(node) => erase_in(&mut **node, i),
             Root::Height3(node) => erase_in(&mut **node, i),
         };
+        if emptied {
+            self.emptied = Some(i);
+        }
+        old
+    }
+
+    /// Gives back the leaf that an erase left empty, unless an index is in it.
+    #[inline(always)]
+    fn give_back_other(&mut self, i: u32)
+        ensures { KeepsEntries self.old self.new }
+    {
+        if let Some(left) = self.emptied {
+            if left / 64 != i / 64 {
+                self.emptied = None;
+                self.give_back(left);
+            }
+        }
+    }
+
+    /// Gives back the leaf of an index and the nodes above it, as far as they have no entry.
+    #[inline(never)]
+    fn give_back(&mut self, i: u32)
+        ensures { KeepsEntries self.old self.new }
+    {
+        let left = match &mut self.root {
+            Root::Empty => false,
+            Root::Height0(node) => give_back_in(&mut **node, i),
+            Root::Height1(node) => give_back_in(&mut **node, i),
+            Root::Height2(node) => give_back_in(&mut **node, i),
+            Root::Height3(node) => give_back_in(&mut **node, i),
+        };
         if !left {
             self.root = Root::Empty;
         }
-        old
     }
 
     /// Gives an entry mark `m`, and says whether there is one.
@@ -404,12 +441,9 @@ impl<T: Drop> IndexArray<T> {
     pub fn first_gap(&self, from: u32, end: u32) -> Option<u32>
         ensures { IsLeastIndex (λ k. not (is_some (entry_at self.now k))) from (min end INDEX_COUNT) result }
     {
+        let last = end.min(INDEX_COUNT);
         let gap = self.gap_from(from);
-        if gap < end.min(INDEX_COUNT) {
-            Some(gap)
-        } else {
-            None
-        }
+        if gap < last { Some(gap) } else { None }
     }
 
     /// The least number at or above `from` at which there is no entry.

@@ -30,7 +30,7 @@ returns g c =
       height = search rules;
       whole = rw (c.replace.ensures.after, ← c.self.view_is) all.whole;
       writes = rw (c.replace.ensures.after, ← c.self.view_is) all.writes;
-      keeps = λ _. rw (c.replace.ensures.after, ← c.self.view_is) all.keeps;
+      keeps = rw (c.replace.ensures.after, ← c.self.view_is) all.keeps;
       answer = rw (← c.self.view_is, leaf_value _ _ _ _ c.self.invariant refl c.args.i b) (c.replace.ensures.value ∙ c.index_mut.ensures.value ∙ get_or_default c.self.inside.entries.items c.args.i c.index_mut.result.now None within);
-      marked = λ off m. rw (c.replace.ensures.after, ← c.self.view_is) (kept_any _ _ _ _ _ _ _ c.self.invariant all.node (Mark m) c.args.i _ (c.set_slot.ensures.same (Mark m)) (c.marks_change-changed.ensures off m) (c.set_slot.ensures.others (Mark m)));
+      marked = λ off m. rw (c.replace.ensures.after, ← c.self.view_is) (kept_any _ _ _ _ _ _ _ c.self.invariant all.node (Mark m) c.args.i _ (c.set_slot.ensures.same (Mark m)) (c.marks_change-marked.ensures off m) (c.set_slot.ensures.others (Mark m)));
     }
