@@ -128,8 +128,23 @@ impl<T: Drop> CyclicIds<T> {
         ensures pid_max { self.new.pid_max ≡ self.old.pid_max }
         ensures cursor { self.new.cursor ≡ n + 1 }
     {
-        let _ = self.ids.store_prepared(n, v, [false; 3]);
-        self.cursor = n + 1;
+        self.commit_marked(n, v, [false; 3]);
+    }
+
+    /// Gives the planned number to a value, with the marks that `marks` has at their place. It takes no
+    /// memory, and costs what `commit` does, where each `set_mark` after it would be a call of its own.
+    pub fn commit_marked(&mut self, n: u32, v: T, marks: [bool; 3])
+        requires planned { planned self.old ≡ Some n }
+        requires prepared { is_prepared self.old.places n ≡ true }
+        ensures writes { WritesEntry self.old.places self.new.places n
+            (Some (record { value = v; marks = marks })) }
+        ensures keeps { KeepsPrepared self.old.places self.new.places }
+        ensures pid_max { self.new.pid_max ≡ self.old.pid_max }
+        ensures cursor { self.new.cursor ≡ n + 1 }
+    {
+        let _ = self.ids.store_prepared(n, v, marks);
+        let next = n + 1;
+        self.cursor = next;
     }
 
     /// Makes a number free and answers its value, none where it was not in use. The cursor stays.

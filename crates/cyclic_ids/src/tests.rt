@@ -52,6 +52,22 @@ fn restarts_at_300(rt: HostRuntime) {
     assert_eq!(rt; draw(&rt, &mut ids), None);
 }
 
+/// A number that is given with marks has those, and no other.
+#[test]
+fn gives_with_marks(rt: HostRuntime) {
+    let mut ids = CyclicIds::new(rt.alloc(), 301);
+    if let Some(n) = ids.plan() {
+        if ids.prepare(n).is_ok() || ids.prepare(n).is_ok() {
+            ids.commit_marked(n, 9, [true, false, true]);
+        }
+    }
+    assert_eq!(rt; ids.find(1).copied(), Some(9));
+    assert_eq!(rt; ids.next_marked(0, TASK_MARK), Some(1));
+    assert!(rt; !ids.has_mark(1, GROUP_MARK));
+    assert!(rt; ids.has_mark(1, SESSION_MARK));
+    assert_eq!(rt; ids.cursor(), 2);
+}
+
 /// A mark is on a number that is in use, and on no other.
 #[test]
 fn marks_numbers(rt: HostRuntime) {

@@ -1,12 +1,11 @@
 -- A leaf of which one slot is written.
-use Rattle.std.proofs.Common.{ℕ, ◌≡◌, ◌≢◌, ◌<◌, ◌≤◌, sym, ap, ◌∙◌, subst, arith, refl, List, length, get_or, map, Box, Bool, true, false, not, is_some, Option, Some, None, inl, inr}
+use Rattle.std.proofs.Common.{ℕ, ◌≡◌, ◌≢◌, ◌+◌, ◌^◌, ◌<◌, ◌≤◌, sym, ap, ◌∙◌, subst, arith, refl, List, length, get_or, map, Bool, true, false, not, is_some, Option, Some, None, inl, inr}
 use Rattle.std.specs.List.{list_any}
 use Rattle.std.specs.Option.{option_map}
 use Rattle.std.proofs.Math.ListN.{set}
 use Rattle.std.proofs.Math.ListN as listn
 use Rattle.std.proofs.lemmas.List.{get_or-set_same, get_or-set_other, length-set, set-get_or, get_or_past, length-map, ext_get_or}
 use Rattle.std.proofs.lemmas.Bool.{cases_eq, cases_lt, false≢true}
-use Rattle.std.specs.declared.alloc.Global.{Global}
 use Rattle.index_array.specs.Words.{has_bit, word_of, bit_of}
 use Rattle.index_array.specs.Place.{Place, Entry, bare, place_at, entry_at, value_at, is_prepared, is_marked, entry_with, with_mark, carries, WritesEntry, KeepsPrepared}
 use Rattle.index_array.specs.Tree.{Tree, marks_of, leaf_place, places_of, slot_places, IsNode}
@@ -15,6 +14,7 @@ use Rattle.index_array.specs.declared.bits.Sought.TheVariants.{Present, Gap, Mar
 use Rattle.index_array.specs.declared.bits.Words.{Words}
 use Rattle.index_array.specs.declared.bits.SlotBits.{SlotBits}
 use Rattle.index_array.proofs.OneBit.{has_bit-zero}
+use Rattle.index_array.proofs.Changes.{is_mark}
 use Rattle.index_array.proofs.Blocks.{slot_leaf, place_leaf, leaf_bit, length_places, or_false}
 
 -- mark m of a slot is a bit of word m
@@ -38,14 +38,14 @@ mark_with None ms m on = refl
 mark_with (Some x) ms m on = refl
 
 -- what a write to a slot of a leaf is to the leaf
-pub record SlotWritten {T : Type 0} (w w' : Words) (h : ℕ) (es es' : List (Option T)) (cs : List (Option (Box (Tree T) Global))) (i : ℕ) (e : Option (Entry T)) : Type 0 where
+pub record SlotWritten {T : Type 0} (w w' : Words) (h : ℕ) (es es' : List (Option T)) (cs : List (Option (Tree T))) (i : ℕ) (e : Option (Entry T)) : Type 0 where
   pub node : IsNode w' h es' cs
   pub whole : length (places_of w' h es' cs) ≡ length (places_of w h es cs)
   pub writes : WritesEntry (places_of w h es cs) (places_of w' h es' cs) i e
   pub keeps : KeepsPrepared (places_of w h es cs) (places_of w' h es' cs)
 
 -- a leaf of which one slot's entry and bits are replaced
-module _ {T : Type 0} (w w' : Words) (h : ℕ) (es : List (Option T)) (cs : List (Option (Box (Tree T) Global))) (node : IsNode w h es cs) (z : h ≡ 0) (i : ℕ) (b : i < 64) (v : Option T) (bits : SlotBits) (marks : length w.marks ≡ 3) (marks' : length w'.marks ≡ 3) (three : length bits.marks ≡ 3) (present : bits.present ≡ is_some v) (gap : bits.gap ≡ not (is_some v)) (unmarked : is_some v ≡ false → (m : ℕ) → get_or bits.marks m false ≡ false) (same : (q : Sought) → has_bit (word_of q w') i ≡ bit_of q bits) (others : (q : Sought) (j : ℕ) → j < 64 → j ≢ i → has_bit (word_of q w') j ≡ has_bit (word_of q w) j) where
+module _ {T : Type 0} (w w' : Words) (h : ℕ) (es : List (Option T)) (cs : List (Option (Tree T))) (node : IsNode w h es cs) (z : h ≡ 0) (i : ℕ) (b : i < 64) (v : Option T) (bits : SlotBits) (marks : length w.marks ≡ 3) (marks' : length w'.marks ≡ 3) (three : length bits.marks ≡ 3) (present : bits.present ≡ is_some v) (gap : bits.gap ≡ not (is_some v)) (unmarked : is_some v ≡ false → (m : ℕ) → get_or bits.marks m false ≡ false) (same : (q : Sought) → has_bit (word_of q w') i ≡ bit_of q bits) (others : (q : Sought) (j : ℕ) → j < 64 → j ≢ i → has_bit (word_of q w') j ≡ has_bit (word_of q w) j) where
   in_leaf : i < length es
   in_leaf = rw (node.leaf z).0 b
 
@@ -113,8 +113,12 @@ module _ {T : Type 0} (w w' : Words) (h : ℕ) (es : List (Option T)) (cs : List
             ];
       }
 
+-- an index of a leaf
+pub leaf_index : {n h : ℕ} → 0 ≡ h → n < 64 ^ (h + 1) → n < 64
+leaf_index {n} e b = subst (λ h. n < 64 ^ (h + 1)) (sym e) b
+
 -- the value of a leaf's slot
-pub leaf_value : {T : Type 0} (w : Words) (h : ℕ) (es : List (Option T)) (cs : List (Option (Box (Tree T) Global))) → IsNode w h es cs → h ≡ 0 → (i : ℕ) → i < 64 → value_at (places_of w h es cs) i ≡ get_or es i None
+pub leaf_value : {T : Type 0} (w : Words) (h : ℕ) (es : List (Option T)) (cs : List (Option (Tree T))) → IsNode w h es cs → h ≡ 0 → (i : ℕ) → i < 64 → value_at (places_of w h es cs) i ≡ get_or es i None
 leaf_value w h es cs node z i b =
     ap (λ (p : Place _). option_map (λ e. e.value) p.entry) (place_leaf w h es cs node z i b) ∙ value_with (get_or es i None) (marks_of w i)
   where
@@ -123,19 +127,45 @@ leaf_value w h es cs node z i b =
     value_with (Some x) ms = refl
 
 -- room is prepared at each index of a leaf
-pub leaf_prepared : {T : Type 0} (w : Words) (h : ℕ) (es : List (Option T)) (cs : List (Option (Box (Tree T) Global))) → IsNode w h es cs → h ≡ 0 → (i : ℕ) → i < 64 → is_prepared (places_of w h es cs) i ≡ true
+pub leaf_prepared : {T : Type 0} (w : Words) (h : ℕ) (es : List (Option T)) (cs : List (Option (Tree T))) → IsNode w h es cs → h ≡ 0 → (i : ℕ) → i < 64 → is_prepared (places_of w h es cs) i ≡ true
 leaf_prepared w h es cs node z i b = ap (λ (p : Place _). p.prepared) (place_leaf w h es cs node z i b)
 
 -- a leaf of which one mark of an entry is set or cleared
-pub leaf_marked : {T : Type 0} (w w' : Words) (h : ℕ) (es : List (Option T)) (cs : List (Option (Box (Tree T) Global))) → IsNode w h es cs → h ≡ 0 → (i : ℕ) → i < 64 → (m : ℕ) (on : Bool) (bits : SlotBits) → length w.marks ≡ 3 → length w'.marks ≡ 3 → length bits.marks ≡ 3 → ((q : Sought) → bit_of q bits ≡ has_bit (word_of q w) i) → bits.present ≡ true → ((q : Sought) → has_bit (word_of q w') i ≡ bit_of q (record { present = bits.present; gap = bits.gap; marks = set bits.marks m on })) → ((q : Sought) (j : ℕ) → j < 64 → j ≢ i → has_bit (word_of q w') j ≡ has_bit (word_of q w) j) → SlotWritten w w' h es es cs i (with_mark m on (entry_at (places_of w h es cs) i))
-leaf_marked {T} w w' h es cs node z i b m on bits n n' three was present same others =
-    let v : Option T = get_or es i None in
-    let entry : entry_at (places_of w h es cs) i ≡ entry_with v (marks_of w i) = ap (λ (p : Place T). p.entry) (place_leaf w h es cs node z i b) in
-    let there : is_some v ≡ is_some (entry_at (places_of w h es cs) i) = sym (ap is_some entry ∙ some_with v (marks_of w i)) in
-    let some : is_some v ≡ true = there ∙ leaf_bit w h es cs node z Present i b ∙ sym (was Present) ∙ present in
-    let gap : bits.gap ≡ not (is_some v) = was Gap ∙ sym (leaf_bit w h es cs node z Gap i b) ∙ ap not (sym there) in
-    let marks : marks_of w i ≡ bits.marks = marks_are w i bits.marks (n ∙ sym three) (λ k. sym (was (Mark k))) in
-    let new : SlotBits = record { present = bits.present; gap = bits.gap; marks = set bits.marks m on } in
-    let all = leaf_written w w' h es cs node z i b v new n n' (length-set _ _ _ ∙ three) (present ∙ sym some) gap (λ off. absurd (false≢true (sym off ∙ some))) same others in
-    let is : entry_with v (set bits.marks m on) ≡ with_mark m on (entry_at (places_of w h es cs) i) = mark_with v bits.marks m on ∙ ap (with_mark m on) (sym (entry ∙ ap (entry_with v) marks)) in
-    subst (λ xs. SlotWritten w w' h es xs cs i (with_mark m on (entry_at (places_of w h es cs) i))) (set-get_or es i None) (subst (λ e. SlotWritten w w' h es (set es i v) cs i e) is all)
+module _ {T : Type 0} (w w' : Words) (h : ℕ) (es : List (Option T)) (cs : List (Option (Tree T))) (node : IsNode w h es cs) (z : h ≡ 0) (i : ℕ) (b : i < 64) (m : ℕ) (three : m < 3) (on : Bool) (n : length w.marks ≡ 3) (n' : length w'.marks ≡ 3) (present : has_bit w.present i ≡ true) (same : has_bit (word_of (Mark m) w') i ≡ on) (others : (j : ℕ) → j < 64 → j ≢ i → has_bit (word_of (Mark m) w') j ≡ has_bit (word_of (Mark m) w) j) (rest : (s : Sought) → s ≢ Mark m → word_of s w' ≡ word_of s w) where
+  -- the bits of the slot afterwards
+  abbrev new_bits : SlotBits
+  new_bits = record { present = has_bit (word_of Present w) i; gap = has_bit (word_of Gap w) i; marks = set (marks_of w i) m on }
+
+  long : length (marks_of w i) ≡ 3
+  long = length-map w.marks (λ x. has_bit x i) ∙ n
+
+  kept_bit : (q : Sought) → q ≢ Mark m → has_bit (word_of q w) i ≡ bit_of q new_bits
+  kept_bit Present ne = refl
+  kept_bit Gap ne = refl
+  kept_bit (Mark k) ne = sym (get_or-set_other (marks_of w i) m k on false (λ e. ne (ap Mark e)) ∙ marks_at w i k)
+
+  marked_bit : (q : Sought) → has_bit (word_of q w') i ≡ bit_of q new_bits
+  marked_bit q =
+      elim (is_mark q m) [
+        | inl e ↦
+            subst (λ s. has_bit (word_of s w') i ≡ bit_of s new_bits) (sym e) (same ∙ sym (get_or-set_same (marks_of w i) m on false (rw long three)))
+        | inr ne ↦ ap (λ v. has_bit v i) (rest q ne) ∙ kept_bit q ne
+      ]
+
+  other_bits : (q : Sought) (j : ℕ) → j < 64 → j ≢ i → has_bit (word_of q w') j ≡ has_bit (word_of q w) j
+  other_bits q j below ne =
+      elim (is_mark q m) [
+        | inl e ↦ subst (λ s. has_bit (word_of s w') j ≡ has_bit (word_of s w) j) (sym e) (others j below ne)
+        | inr other ↦ ap (λ v. has_bit v j) (rest q other)
+      ]
+
+  pub leaf_marked : SlotWritten w w' h es es cs i (with_mark m on (entry_at (places_of w h es cs) i))
+  leaf_marked =
+      let v : Option T = get_or es i None in
+      let entry : entry_at (places_of w h es cs) i ≡ entry_with v (marks_of w i) = ap (λ (p : Place T). p.entry) (place_leaf w h es cs node z i b) in
+      let there : is_some v ≡ is_some (entry_at (places_of w h es cs) i) = sym (ap is_some entry ∙ some_with v (marks_of w i)) in
+      let here : has_bit w.present i ≡ is_some v = sym (leaf_bit w h es cs node z Present i b) ∙ sym there in
+      let gap : has_bit (word_of Gap w) i ≡ not (is_some v) = sym (leaf_bit w h es cs node z Gap i b) ∙ ap not (sym there) in
+      let all = leaf_written w w' h es cs node z i b v new_bits n n' (length-set (marks_of w i) m on ∙ long) here gap (λ off. absurd (false≢true (sym off ∙ sym here ∙ present))) marked_bit other_bits in
+      let is : entry_with v (set (marks_of w i) m on) ≡ with_mark m on (entry_at (places_of w h es cs) i) = mark_with v (marks_of w i) m on ∙ ap (with_mark m on) (sym entry) in
+      subst (λ xs. SlotWritten w w' h es xs cs i (with_mark m on (entry_at (places_of w h es cs) i))) (set-get_or es i None) (subst (λ e. SlotWritten w w' h es (set es i v) cs i e) is all)

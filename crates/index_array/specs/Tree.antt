@@ -1,18 +1,22 @@
 -- A node, seen as the places of the indexes below it.
-use Rattle.std.specs.Prelude.{ℕ, zero, suc, ◌≡◌, ◌+◌, ◌%◌, ◌^◌, ◌<◌, ◌≤◌, Bool, true, Option, Some, None, List, [], ◌∷◌, ◌++◌, length, replicate, map, max, refl, slice_index_or}
+use Rattle.std.specs.Prelude.{ℕ, zero, suc, ◌≡◌, ◌+◌, ◌^◌, ◌<◌, Bool, true, Option, Some, None, List, [], ◌∷◌, ◌++◌, length, replicate, map, slice_index_or}
 use Rattle.std.specs.List.{flat_map, list_any}
-use Rattle.std.proofs.Common.{Box, arith, get_or}
+use Rattle.std.specs.Option.{option_map}
+use Rattle.std.proofs.Common.{Box}
 use Rattle.std.specs.declared.alloc.Global.{Global}
 use Rattle.index_array.specs.Words.{has_bit, word_of}
 use Rattle.index_array.specs.Place.{Place, bare, place_at, entry_at, entry_with, carries, KeepsEntries, KeepsPrepared}
 use Rattle.index_array.specs.declared.bits.Sought.{Sought}
 use Rattle.index_array.specs.declared.bits.Words.{Words}
-use denote.Param.Weighed.{most}
 
 -- a node as its height and the place at each index below it
 pub record Tree (T : Type 0) : Type 0 where
   pub height : ℕ
   pub places : List (Place T)
+
+-- the children of an inner node as trees, where `tree` says what tree a child is
+abbrev pub kids : {X T : Type 0} → (X → Tree T) → List (Option (Box X Global)) → List (Option (Tree T))
+kids tree cs = map (option_map (λ b. tree b.value)) cs
 
 -- the marks of slot k
 abbrev pub marks_of : Words → ℕ → List Bool
@@ -28,35 +32,28 @@ leaf_places w k [] = []
 leaf_places w k (o ∷ os) = leaf_place w k o ∷ leaf_places w (suc k) os
 
 -- the places below a slot of an inner node of height h
-abbrev pub below : {T : Type 0} → ℕ → Option (Box (Tree T) Global) → List (Place T)
+abbrev pub below : {T : Type 0} → ℕ → Option (Tree T) → List (Place T)
 below h None = replicate (64 ^ h) bare
-below h (Some b) = b.value.places
+below h (Some b) = b.places
 
 -- the places of a node: a leaf has entries, an inner node children
-abbrev pub places_of : {T : Type 0} → Words → ℕ → List (Option T) → List (Option (Box (Tree T) Global)) → List (Place T)
+abbrev pub places_of : {T : Type 0} → Words → ℕ → List (Option T) → List (Option (Tree T)) → List (Place T)
 places_of w h es cs = leaf_places w 0 es ++ flat_map (below h) cs
 
 -- the places of one slot, whatever the height
-abbrev pub slot_places : {T : Type 0} → Words → ℕ → List (Option T) → List (Option (Box (Tree T) Global)) → ℕ → List (Place T)
+abbrev pub slot_places : {T : Type 0} → Words → ℕ → List (Option T) → List (Option (Tree T)) → ℕ → List (Place T)
 slot_places w zero es cs k = leaf_place w k (slice_index_or es k None) ∷ []
 slot_places w (suc h) es cs k = below (suc h) (slice_index_or cs k None)
-
--- a node of at most four levels, with a place at each index below it
-pub record IsWhole {T : Type 0} (t : Tree T) : Type 0 where
-  pub low : t.height < 4
-  pub whole : length t.places ≡ 64 ^ (t.height + 1)
 
 -- a child of a node of height h has the next lower height and 64 ^ h places
 pub record IsChild {T : Type 0} (h : ℕ) (t : Tree T) : Type 0 where
   pub height : t.height + 1 ≡ h
   pub whole : length t.places ≡ 64 ^ h
 
--- a leaf with a place at the slot of an index
-pub record IsLeaf {T : Type 0} (t : Tree T) (i : ℕ) (p : Place T) : Type 0 where
-  pub height : t.height ≡ 0
-  pub whole : length t.places ≡ 64
-  pub place : place_at t.places (i % 64) ≡ p
-  pub prepared : p.prepared ≡ true
+-- what is at index i of these places is at index r of a child
+pub record IsBelow {T : Type 0} (ps : List (Place T)) (i : ℕ) (child : Tree T) (r : ℕ) : Type 0 where
+  pub place : place_at ps i ≡ place_at child.places r
+  pub covered : r < 64 ^ (child.height + 1)
 
 -- a node of this height with no entry
 pub record IsNew {T : Type 0} (h : ℕ) (t : Tree T) : Type 0 where
@@ -65,33 +62,21 @@ pub record IsNew {T : Type 0} (h : ℕ) (t : Tree T) : Type 0 where
   pub empty : (j : ℕ) → entry_at t.places j ≡ None
 
 -- what is true of every node: each bit of each word says whether some place of its slot is what is sought
-pub record IsNode {T : Type 0} (w : Words) (h : ℕ) (es : List (Option T)) (cs : List (Option (Box (Tree T) Global))) : Type 0 where
+pub record IsNode {T : Type 0} (w : Words) (h : ℕ) (es : List (Option T)) (cs : List (Option (Tree T))) : Type 0 where
   pub low : h < 4
   pub leaf : h ≡ 0 → (length es ≡ 64) × (cs ≡ [])
   pub inner : 0 < h → (length cs ≡ 64) × (es ≡ [])
-  pub children : (k : ℕ) (b : Box (Tree T) Global) → slice_index_or cs k None ≡ Some b → IsChild h b.value
+  pub children : (k : ℕ) (b : Tree T) → slice_index_or cs k None ≡ Some b → IsChild h b
   pub words : (s : Sought) (k : ℕ) → k < 64 → has_bit (word_of s w) k ≡ list_any (carries s) (slot_places w h es cs k)
 
-most_within : {X : Type 0} (μ : Option X → ℕ) (n : ℕ) (xs : List (Option X)) → μ None ≤ n → ((k : ℕ) (x : X) → get_or xs k None ≡ Some x → μ (Some x) ≤ n) → most μ xs ≤ n
-most_within μ n [] z h = omega arith
-most_within μ n (None ∷ xs) z h = let ih = most_within μ n xs z (λ k x e. h (suc k) x e) in omega (arith, z, ih)
-most_within μ n (Some y ∷ xs) z h = let ih = most_within μ n xs z (λ k x e. h (suc k) x e) in omega (arith, h 0 y refl, ih)
+-- a node of this height, of at most four levels, with a place at each index below it
+pub record IsTop {T : Type 0} (h : ℕ) (t : Tree T) : Type 0 where
+  pub low : h < 4
+  pub height : t.height ≡ h
+  pub whole : length t.places ≡ 64 ^ (h + 1)
 
--- no slot weighs more than a bound that holds of each
-pub no_slot_above : {X : Type 0} (μ : Option X → ℕ) (n : ℕ) (xs : List (Option X)) → μ None ≤ n → ((k : ℕ) (x : X) → get_or xs k None ≡ Some x → μ (Some x) ≤ n) → max (most μ xs) 0 ≤ n
-no_slot_above μ n xs z h = omega (arith, most_within μ n xs z h)
-
--- the places below a root; where there is no root there is none
-abbrev pub root_places : {T : Type 0} → Option (Box (Tree T) Global) → List (Place T)
-root_places None = []
-root_places (Some b) = b.value.places
-
--- a root is a whole node
-abbrev pub IsRoot : {T : Type 0} → Option (Box (Tree T) Global) → Type 0
-IsRoot {T} root = (b : Box (Tree T) Global) → root ≡ Some b → IsWhole b.value
-
--- what growing a root does: more levels, and the same entries
-pub record Grows {T : Type 0} (old new : Tree T) : Type 0 where
-  pub whole : IsWhole new
+-- what a call that makes nodes does: a node of this height, and the same entries
+pub record Regrown {T : Type 0} (h : ℕ) (old new : Tree T) : Type 0 where
+  pub top : IsTop h new
   pub entries : KeepsEntries old.places new.places
   pub prepared : KeepsPrepared old.places new.places

@@ -8,20 +8,29 @@
 //! Memory is taken by `prepare` (and by `store`, which calls it) and by nothing else.
 #![tactic(auto)]
 
-ghost use Rattle.std.specs.Prelude.{◌≡◌, ◌≢◌, ℕ, ◌<◌, ◌≤◌, min, Option, Some, None, MatchOption, IfOk, IfErr, OnOk, OnErr, Err, ◌↔◌, true, false, not, is_some, List};
+ghost use Rattle.std.specs.Prelude.{◌≡◌, ◌≢◌, ℕ, ◌<◌, ◌≤◌, min, Option, Some, None, MatchOption, IfOk, IfErr, OnOk, OnErr, Err, ◌↔◌, true, false, not, is_some, List, length, ◌*◌};
 ghost use Rattle.std.specs.Option.{option_copied};
 ghost use Rattle.index_array.specs.Place.{Place, bare, place_at, entry_at, is_prepared, value_at, is_marked, with_mark, IsLeastIndex, IsFirst, WritesEntry, KeepsEntries, KeepsPrepared};
-ghost use Rattle.index_array.specs.Tree.{IsLeaf};
 ghost use Rattle.index_array.specs.Words.{IsSought};
 ghost use Rattle.index_array.specs.declared.bits.Sought.{Sought};
 
 mod bits;
-mod tree;
+mod block;
+mod inner;
+mod leaf;
+mod root;
 
 use bits::Sought;
+use block::Block;
+use inner::Inner;
+use leaf::Leaf;
+use root::{
+    Root, erase_in, find_in, gap_in, get_in, give_back_in, is_marked_in, is_prepared_in,
+    prepare_in, put_mark_in, raised, store_in,
+};
 use std::alloc::{AllocError, Global};
 use std::marker::Model;
-use tree::{Node, height_for, new_node, reach};
+use std::mem;
 
 /// The indexes are those below this.
 pub const INDEX_COUNT: u32 = 16_777_216;
@@ -37,22 +46,24 @@ pub enum IndexFault {
 
 /// A finite map from indexes below 2^24 to a value and a set of marks, out of 0, 1 and 2.
 ///
-/// It owns its values and its nodes, and gives a node back when its last entry is erased. What stands
-/// in it is read in the contracts as a list of places, one for each index that the nodes cover:
-/// `entry_at` and `is_prepared` look one up.
+/// It owns its values and its nodes, and gives a node back once its last entry is erased and another leaf
+/// is erased from. What stands in it is read in the contracts as a list of places, one for each index
+/// that the nodes cover: `entry_at` and `is_prepared` look one up.
 ///
 /// A call walks down at most four nodes and changes those on the way, a search looks at most at eight.
-/// A leaf takes 96 bytes and 64 `Option<T>`, a node above it 96 bytes and 64 slots of 16 bytes.
+/// A leaf takes 64 bytes and, apart from it, 64 `Option<T>`; a node above it 64 bytes and 64 slots of 16.
 #[derive(Drop)]
 pub struct IndexArray<T: Drop> {
-    root: Option<Box<Node<T>>>,
+    root: Root<T>,
     alloc: Global,
+    /// The index at which the last erase left its leaf empty, where that leaf may still stand.
+    emptied: Option<u32>,
 }
 
 impl<T: Drop> Model for IndexArray<T> {
     ghost use Rattle.std.specs.Prelude.{List};
     ghost use Rattle.index_array.specs.Place.{Place};
-    ghost use Rattle.index_array.specs.Tree.{root_places, IsRoot};
+    ghost use Rattle.index_array.specs.Root.{root_places, IsRoot};
 
     ghost Value = { List (Place T) };
 
@@ -66,16 +77,23 @@ impl<T: Drop> IndexArray<T> {
     pub fn new(alloc: Global) -> Self
         ensures { (i : ℕ) → entry_at result i ≡ None }
     {
-        IndexArray { root: None, alloc }
+        IndexArray {
+            root: Root::Empty,
+            alloc,
+            emptied: None,
+        }
     }
 
     /// The value at an index; none at 2^24 and above.
     pub fn get(&self, i: u32) -> Option<&T>
         ensures { option_copied result ≡ value_at self.now i }
     {
-        match self.leaf(i) {
-            None => None,
-            Some(leaf) => leaf.value(i % 64),
+        match &self.root {
+            Root::Empty => None,
+            Root::Height0(node) => get_in(&**node, i),
+            Root::Height1(node) => get_in(&**node, i),
+            Root::Height2(node) => get_in(&**node, i),
+            Root::Height3(node) => get_in(&**node, i),
         }
     }
 
@@ -84,9 +102,12 @@ impl<T: Drop> IndexArray<T> {
         requires { m < 3 }
         ensures { result ≡ is_marked m (entry_at self.now i) }
     {
-        match self.leaf(i) {
-            None => false,
-            Some(leaf) => leaf.is_marked(i % 64, m),
+        match &self.root {
+            Root::Empty => false,
+            Root::Height0(node) => is_marked_in(&**node, i, m),
+            Root::Height1(node) => is_marked_in(&**node, i, m),
+            Root::Height2(node) => is_marked_in(&**node, i, m),
+            Root::Height3(node) => is_marked_in(&**node, i, m),
         }
     }
 
@@ -95,19 +116,12 @@ impl<T: Drop> IndexArray<T> {
     pub fn is_prepared(&self, i: u32) -> bool
         ensures { result ≡ is_prepared self.now i }
     {
-        self.leaf(i).is_some()
-    }
-
-    /// The leaf of an index, where there is one.
-    fn leaf(&self, i: u32) -> Option<&Node<T>>
-        ensures { MatchOption result (place_at self.now i ≡ bare) (λ l. IsLeaf l.now i (place_at self.now i)) }
-    {
         match &self.root {
-            None => None,
-            Some(root) => {
-                let root: &Node<T> = root;
-                if i < root.span() { root.leaf(i) } else { None }
-            }
+            Root::Empty => false,
+            Root::Height0(node) => is_prepared_in(&**node, i),
+            Root::Height1(node) => is_prepared_in(&**node, i),
+            Root::Height2(node) => is_prepared_in(&**node, i),
+            Root::Height3(node) => is_prepared_in(&**node, i),
         }
     }
 
@@ -124,6 +138,9 @@ impl<T: Drop> IndexArray<T> {
         if i >= INDEX_COUNT {
             return Err(IndexFault::BadIndex);
         }
+        if self.is_prepared(i) {
+            return Ok(());
+        }
         match self.make_nodes(i) {
             Ok(()) => Ok(()),
             Err(_) => Err(IndexFault::NoMemory),
@@ -138,18 +155,125 @@ impl<T: Drop> IndexArray<T> {
         ensures entries { KeepsEntries self.old self.new }
         ensures keeps { KeepsPrepared self.old self.new }
     {
+        if self.span() == 0 {
+            self.plant(i)?;
+        }
+        self.reach(i)?;
+        self.make_below(i)
+    }
+
+    /// How many indexes the nodes cover.
+    fn span(&self) -> u32
+        ensures { result ≡ length self.now }
+    {
+        match &self.root {
+            Root::Empty => 0,
+            Root::Height0(_) => 64,
+            Root::Height1(_) => 4096,
+            Root::Height2(_) => 262_144,
+            Root::Height3(_) => 16_777_216,
+        }
+    }
+
+    /// Makes a root that covers an index, where there is none.
+    fn plant(&mut self, i: u32) -> Result<(), AllocError>
+        requires { length self.old ≡ 0 }
+        ensures ok { OnOk result (0 < length self.new) }
+        ensures entries { KeepsEntries self.old self.new }
+        ensures keeps { KeepsPrepared self.old self.new }
+    {
         let alloc = self.alloc;
-        match &mut self.root {
-            Some(root) => {
-                reach(root, alloc, i)?;
-                root.prepare(alloc, i)
-            }
-            None => {
-                let mut root = new_node(alloc, height_for(i))?;
-                root.prepare(alloc, i)?;
-                self.root = Some(root);
+        if i < 64 {
+            self.root = Root::Height0(Leaf::empty(alloc)?);
+        } else if i < 4096 {
+            self.root = Root::Height1(Inner::empty(alloc)?);
+        } else if i < 262_144 {
+            self.root = Root::Height2(Inner::empty(alloc)?);
+        } else {
+            self.root = Root::Height3(Inner::empty(alloc)?);
+        }
+        Ok(())
+    }
+
+    /// Puts as many levels above the root as an index needs, at most three. On want of memory the
+    /// entries stay, and so do the levels that were made.
+    fn reach(&mut self, i: u32) -> Result<(), AllocError>
+        requires root { 0 < length self.old }
+        requires index { i < INDEX_COUNT }
+        ensures ok { OnOk result (i < length self.new) }
+        ensures entries { KeepsEntries self.old self.new }
+        ensures keeps { KeepsPrepared self.old self.new }
+    {
+        if i < self.span() {
+            return Ok(());
+        }
+        self.raise()?;
+        self.reach(i)
+    }
+
+    /// Puts one level above the root, as the kernel's `xas_expand` does. On want of memory nothing
+    /// changes.
+    fn raise(&mut self) -> Result<(), AllocError>
+        requires root { 0 < length self.old }
+        requires low { length self.old < INDEX_COUNT }
+        ensures ok { OnOk result (length self.new ≡ 64 * length self.old) }
+        ensures entries { KeepsEntries self.old self.new }
+        ensures keeps { KeepsPrepared self.old self.new }
+    {
+        let alloc = self.alloc;
+        match mem::replace(&mut self.root, Root::Empty) {
+            Root::Empty => Ok(()),
+            Root::Height0(node) => match raised(alloc, node) {
+                Ok(parent) => {
+                    self.root = Root::Height1(parent);
+                    Ok(())
+                }
+                Err((fault, node)) => {
+                    self.root = Root::Height0(node);
+                    Err(fault)
+                }
+            },
+            Root::Height1(node) => match raised(alloc, node) {
+                Ok(parent) => {
+                    self.root = Root::Height2(parent);
+                    Ok(())
+                }
+                Err((fault, node)) => {
+                    self.root = Root::Height1(node);
+                    Err(fault)
+                }
+            },
+            Root::Height2(node) => match raised(alloc, node) {
+                Ok(parent) => {
+                    self.root = Root::Height3(parent);
+                    Ok(())
+                }
+                Err((fault, node)) => {
+                    self.root = Root::Height2(node);
+                    Err(fault)
+                }
+            },
+            Root::Height3(node) => {
+                self.root = Root::Height3(node);
                 Ok(())
             }
+        }
+    }
+
+    /// Makes the nodes below the root on the way to an index.
+    fn make_below(&mut self, i: u32) -> Result<(), AllocError>
+        requires { i < length self.old }
+        ensures ok { OnOk result (is_prepared self.new i ≡ true) }
+        ensures entries { KeepsEntries self.old self.new }
+        ensures keeps { KeepsPrepared self.old self.new }
+    {
+        let alloc = self.alloc;
+        match &mut self.root {
+            Root::Empty => Ok(()),
+            Root::Height0(node) => prepare_in(&mut **node, alloc, i),
+            Root::Height1(node) => prepare_in(&mut **node, alloc, i),
+            Root::Height2(node) => prepare_in(&mut **node, alloc, i),
+            Root::Height3(node) => prepare_in(&mut **node, alloc, i),
         }
     }
 
@@ -162,11 +286,14 @@ impl<T: Drop> IndexArray<T> {
         ensures answer { result ≡ value_at self.old i }
     {
         match &mut self.root {
-            None => {
+            Root::Empty => {
                 drop(v);
                 None
             }
-            Some(root) => root.put(i, Some(v), marks),
+            Root::Height0(node) => store_in(&mut **node, i, v, marks),
+            Root::Height1(node) => store_in(&mut **node, i, v, marks),
+            Root::Height2(node) => store_in(&mut **node, i, v, marks),
+            Root::Height3(node) => store_in(&mut **node, i, v, marks),
         }
     }
 
@@ -190,26 +317,56 @@ impl<T: Drop> IndexArray<T> {
         }
     }
 
-    /// Takes the value at an index out, with its marks. A node that is left with no entry is given
-    /// back, so an index is prepared afterwards only if `is_prepared` says so.
+    /// Takes the value at an index out, with its marks.
+    ///
+    /// A leaf that is left with no entry stands until an erase in another leaf, which gives it back with
+    /// the nodes above it that have no entry. So an index is prepared afterwards only if `is_prepared`
+    /// says so.
     pub fn erase(&mut self, i: u32) -> Option<T>
         ensures writes { WritesEntry self.old self.new i None }
         ensures answer { result ≡ value_at self.old i }
     {
-        match &mut self.root {
-            None => None,
-            Some(root) => {
-                let root: &mut Node<T> = root;
-                if i >= root.span() {
-                    return None;
-                }
-                let old = root.put(i, None, [false; 3]);
-                if root.has_any(Sought::Present) {
-                    return old;
-                }
-                self.root = None;
-                old
+        self.give_back_other(i);
+        let (old, emptied) = match &mut self.root {
+            Root::Empty => (None, false),
+            Root::Height0(node) => erase_in(&mut **node, i),
+            Root::Height1(node) => erase_in(&mut **node, i),
+            Root::Height2(node) => erase_in(&mut **node, i),
+            Root::Height3(node) => erase_in(&mut **node, i),
+        };
+        if emptied {
+            self.emptied = Some(i);
+        }
+        old
+    }
+
+    /// Gives back the leaf that an erase left empty, unless an index is in it.
+    #[inline(always)]
+    fn give_back_other(&mut self, i: u32)
+        ensures { KeepsEntries self.old self.new }
+    {
+        if let Some(left) = self.emptied {
+            if left / 64 != i / 64 {
+                self.emptied = None;
+                self.give_back(left);
             }
+        }
+    }
+
+    /// Gives back the leaf of an index and the nodes above it, as far as they have no entry.
+    #[inline(never)]
+    fn give_back(&mut self, i: u32)
+        ensures { KeepsEntries self.old self.new }
+    {
+        let left = match &mut self.root {
+            Root::Empty => false,
+            Root::Height0(node) => give_back_in(&mut **node, i),
+            Root::Height1(node) => give_back_in(&mut **node, i),
+            Root::Height2(node) => give_back_in(&mut **node, i),
+            Root::Height3(node) => give_back_in(&mut **node, i),
+        };
+        if !left {
+            self.root = Root::Empty;
         }
     }
 
@@ -241,14 +398,11 @@ impl<T: Drop> IndexArray<T> {
         ensures answer { result ≡ is_some (entry_at self.old i) }
     {
         match &mut self.root {
-            None => false,
-            Some(root) => {
-                let root: &mut Node<T> = root;
-                if i >= root.span() {
-                    return false;
-                }
-                root.put_mark(i, m, on)
-            }
+            Root::Empty => false,
+            Root::Height0(node) => put_mark_in(&mut **node, i, m, on),
+            Root::Height1(node) => put_mark_in(&mut **node, i, m, on),
+            Root::Height2(node) => put_mark_in(&mut **node, i, m, on),
+            Root::Height3(node) => put_mark_in(&mut **node, i, m, on),
         }
     }
 
@@ -274,15 +428,11 @@ impl<T: Drop> IndexArray<T> {
         ensures { IsFirst sought self.now from INDEX_COUNT result }
     {
         match &self.root {
-            None => None,
-            Some(root) => {
-                let root: &Node<T> = root;
-                if from < root.span() {
-                    root.find(from, sought)
-                } else {
-                    None
-                }
-            }
+            Root::Empty => None,
+            Root::Height0(node) => find_in(&**node, from, sought),
+            Root::Height1(node) => find_in(&**node, from, sought),
+            Root::Height2(node) => find_in(&**node, from, sought),
+            Root::Height3(node) => find_in(&**node, from, sought),
         }
     }
 
@@ -291,12 +441,9 @@ impl<T: Drop> IndexArray<T> {
     pub fn first_gap(&self, from: u32, end: u32) -> Option<u32>
         ensures { IsLeastIndex (λ k. not (is_some (entry_at self.now k))) from (min end INDEX_COUNT) result }
     {
+        let last = end.min(INDEX_COUNT);
         let gap = self.gap_from(from);
-        if gap < end.min(INDEX_COUNT) {
-            Some(gap)
-        } else {
-            None
-        }
+        if gap < last { Some(gap) } else { None }
     }
 
     /// The least number at or above `from` at which there is no entry.
@@ -306,17 +453,11 @@ impl<T: Drop> IndexArray<T> {
         ensures least { (k : ℕ) → from ≤ k → k < result → is_some (entry_at self.now k) ≡ true }
     {
         match &self.root {
-            None => from,
-            Some(root) => {
-                let root: &Node<T> = root;
-                if from >= root.span() {
-                    return from;
-                }
-                match root.find(from, Sought::Gap) {
-                    Some(gap) => gap,
-                    None => root.span(),
-                }
-            }
+            Root::Empty => from,
+            Root::Height0(node) => gap_in(&**node, from),
+            Root::Height1(node) => gap_in(&**node, from),
+            Root::Height2(node) => gap_in(&**node, from),
+            Root::Height3(node) => gap_in(&**node, from),
         }
     }
 }

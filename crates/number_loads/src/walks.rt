@@ -1,20 +1,14 @@
 //! Look-ups, searches and marks over a sparse array.
 
-ghost use Rattle.std.specs.Prelude.{◌<◌};
+ghost use Rattle.std.specs.Prelude.{◌≤◌};
 
 use crate::random::Random;
 use anyhow::{Result, bail};
 use index_array::IndexArray;
 use std::alloc::Global;
 
-/// The entries are at every third index below this.
-const END: u32 = 4_194_304;
-
-/// How many entries there are.
-const ENTRIES: u32 = END / 3;
-
 /// One entry out of so many has mark 0.
-const MARKED: u32 = 1000;
+pub const MARKED: u32 = 1000;
 
 /// A kind of operation to measure. "In turn" begins just above what was found before, and again at 0
 /// once nothing was; "at random" begins at any index.
@@ -34,29 +28,75 @@ pub enum Walk {
     SetAndClear,
 }
 
-/// An array to walk over, the random numbers that choose where, and where a walk in turn goes on.
-#[derive(Drop)]
-pub struct Sparse {
-    entries: IndexArray<u32>,
-    random: Random,
-    at: u32,
+/// Entries at every third index below an end: value `k` at index `3 * k`, with mark 0 where `k` is a
+/// multiple of `MARKED`.
+pub trait Entries: Drop {
+    /// The value at an index; 0 where there is none.
+    fn value(&self, i: u32) -> u32;
+
+    /// The least index at or above `from` with an entry.
+    fn next(&self, from: u32) -> Option<u32>;
+
+    /// The least index at or above `from` whose entry has mark 0.
+    fn next_marked(&self, from: u32) -> Option<u32>;
+
+    /// Gives an entry mark 1 and takes it again, and says how many of the two calls found the entry.
+    fn set_and_clear(&mut self, i: u32) -> u32;
 }
 
-impl Sparse {
-    /// Stores all entries, in some 41 MB. The error is want of memory.
-    pub fn new(alloc: Global) -> Result<Self> {
-        let mut entries = IndexArray::new(alloc);
-        for k in 0..ENTRIES {
-            let marks = [k % MARKED == 0, false, false];
-            if entries.store(3 * k, k, marks).is_err() {
-                bail!("no memory");
-            }
+impl Entries for IndexArray<u32> {
+    fn value(&self, i: u32) -> u32 {
+        self.get(i).copied().unwrap_or(0)
+    }
+
+    fn next(&self, from: u32) -> Option<u32> {
+        IndexArray::next(self, from)
+    }
+
+    fn next_marked(&self, from: u32) -> Option<u32> {
+        IndexArray::next_marked(self, from, 0)
+    }
+
+    fn set_and_clear(&mut self, i: u32) -> u32 {
+        let was = self.set_mark(i, 1);
+        let is = self.clear_mark(i, 1);
+        u32::from(was) + u32::from(is)
+    }
+}
+
+/// Stores the entries below an end, at most 2^24, one in three. Below 4,194,304 that is some 41 MB. The
+/// error is want of memory.
+pub fn every_third(alloc: Global, end: u32) -> Result<IndexArray<u32>> {
+    let mut entries = IndexArray::new(alloc);
+    for k in 0..end / 3 {
+        let marks = [k % MARKED == 0, false, false];
+        if entries.store(3 * k, k, marks).is_err() {
+            bail!("no memory");
         }
-        Ok(Sparse {
+    }
+    Ok(entries)
+}
+
+/// Entries to walk over, their end, the random numbers that choose where, and where a walk in turn goes
+/// on.
+#[derive(Drop)]
+pub struct Walker<E: Entries> {
+    entries: E,
+    end: u32,
+    random: Random,
+    at: u32,
+    ghost has_entry: { 3 ≤ end },
+}
+
+impl<E: Entries> Walker<E> {
+    /// A walker at index 0, over the entries below an end of at least 3.
+    pub fn new(entries: E, end: u32) -> Self {
+        Walker {
             entries,
+            end: end.max(3),
             random: Random::new(),
             at: 0,
-        })
+        }
     }
 
     /// Does `ops` operations of one kind, and adds up what they answer, modulo 2^64, so that none can
@@ -74,7 +114,7 @@ impl Sparse {
         match walk {
             Walk::Load => {
                 let i = self.some_entry();
-                self.entries.get(i).copied().unwrap_or(0)
+                self.entries.value(i)
             }
             Walk::NextInTurn => {
                 let found = self.entries.next(self.at);
@@ -85,18 +125,16 @@ impl Sparse {
                 self.entries.next(from).unwrap_or(0)
             }
             Walk::MarkedInTurn => {
-                let found = self.entries.next_marked(self.at, 0);
+                let found = self.entries.next_marked(self.at);
                 self.go_on(found)
             }
             Walk::MarkedAtRandom => {
                 let from = self.some_index();
-                self.entries.next_marked(from, 0).unwrap_or(0)
+                self.entries.next_marked(from).unwrap_or(0)
             }
             Walk::SetAndClear => {
                 let i = self.some_entry();
-                let was = self.entries.set_mark(i, 1);
-                let is = self.entries.clear_mark(i, 1);
-                u32::from(was) + u32::from(is)
+                self.entries.set_and_clear(i)
             }
         }
     }
@@ -105,19 +143,19 @@ impl Sparse {
     fn go_on(&mut self, found: Option<u32>) -> u32 {
         let at = found.unwrap_or(0);
         self.at = match found {
-            Some(n) if n < END => n + 1,
+            Some(n) if n < self.end => n + 1,
             _ => 0,
         };
         at
     }
 
-    /// Any index below `END`.
+    /// Any index below the end.
     fn some_index(&mut self) -> u32 {
-        self.random.below(END as usize) as u32
+        self.random.below(self.end as usize) as u32
     }
 
     /// An index with an entry.
     fn some_entry(&mut self) -> u32 {
-        3 * (self.random.below(ENTRIES as usize) as u32)
+        3 * (self.random.below((self.end / 3) as usize) as u32)
     }
 }

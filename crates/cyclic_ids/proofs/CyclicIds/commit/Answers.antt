@@ -1,9 +1,0 @@
-use Rattle.std.proofs.Common.{◌<◌, arith}
-use Rattle.pid_types.proofs.LeastFree.{draw-Some}
-use Rattle.cyclic_ids.proofs.CyclicIds.commit.Goals as goal
-
-pub overflow_add-self : goal.overflow_add-self
-overflow_add-self g c =
-    let planned = rw (← c.self.view_is) at c.requires.planned in
-    let below : c.args.n < c.self.inside.pid_max = (draw-Some _ _ _ _ planned).2 in
-    omega (arith, below, c.self.invariant.1)

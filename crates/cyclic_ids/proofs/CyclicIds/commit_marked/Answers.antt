@@ -1,0 +1,9 @@
+use Rattle.std.proofs.Common.{◌<◌, arith}
+use Rattle.pid_types.proofs.LeastFree.{draw-Some}
+use Rattle.cyclic_ids.proofs.CyclicIds.commit_marked.Goals as goal
+
+pub overflow_add-next : goal.overflow_add-next
+overflow_add-next g c =
+    let planned = rw (← c.self.view_is) at c.requires.planned in
+    let below : c.args.n < c.self.inside.pid_max = (draw-Some _ _ _ _ planned).2 in
+    omega (arith, below, c.self.invariant.1)
