@@ -9,7 +9,8 @@ use Rattle.pid_types.specs.declared.reply.Reply.{Reply}
 use Rattle.pid_types.specs.Settings.{Settings, HasGoodPidMax}
 use Rattle.pid_types.specs.State.{State, root_state}
 use Rattle.pid_types.specs.Outcome.{Outcome}
-use Rattle.pid_types.specs.Shown.{Shows, state_of, with_count, without_count}
+use Rattle.pid_types.specs.Shown.{Shows, with_count}
+use Rattle.locked_table.specs.Opening.{state_of, without_count}
 use Rattle.pid_types.specs.Step.{step}
 use Rattle.pid_types.specs.Replay.{state_after, calls_of, RepliesAsOne}
 use Rattle.pid_types.specs.Sound.{IsSound, IsBelow}

@@ -1,3 +1,4 @@
 pub mod SeatState
+pub mod Opening
 pub mod Chronicle
 pub mod Promise

@@ -38,7 +38,7 @@ pub struct Record<L: Ledger, const N: usize> {
 
 impl<L: Ledger, const N: usize> Model for Record<L, N> {
     ghost use Rattle.std.specs.Prelude.{◌-◌, vec_len, vec_capacity};
-    ghost use Rattle.pid_types.specs.Shown.{state_of};
+    ghost use Rattle.locked_table.specs.Opening.{state_of};
     ghost use Rattle.locked_table.specs.Chronicle.{Chronicle, IsKept};
 
     ghost Value = { Chronicle };

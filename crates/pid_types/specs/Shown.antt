@@ -16,16 +16,3 @@ pub record Shows (state : State) (plain : Plain) : Type 0 where
   pub rows : plain.rows.items ≡ state.rows
   pub spaces : plain.spaces.items ≡ state.spaces
   pub controls : plain.controls.items ≡ map (with_count state) state.controls
-
--- the control group without its count
-abbrev pub without_count : ControlRow → Control
-without_count c = record { id = c.id; parent = c.parent; limit = c.limit }
-
--- the state that the snapshot shows
-abbrev pub state_of : Plain → State
-state_of plain = record {
-  rows = plain.rows.items;
-  spaces = plain.spaces.items;
-  controls = map without_count plain.controls.items;
-  pid_max = plain.pid_max;
-}
