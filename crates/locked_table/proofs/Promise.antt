@@ -23,5 +23,6 @@ promise-of soundness stays limits reuse counts numbered distinct workers c k =
       reuse = reuse c.opening (first_kept_stamp c) c.entries k.opened.sound k.opened.below k.replayed.run.replays;
       opened = k.opened;
       below = present.1;
+      stamps = k.counted.fits;
       bound = present-bound stays workers c k;
     }

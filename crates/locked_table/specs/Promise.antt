@@ -1,5 +1,5 @@
 -- What is true of a record whenever nobody works on it.
-use Rattle.std.specs.Prelude.{◌≡◌, ◌↔◌, ℕ, true, is_some}
+use Rattle.std.specs.Prelude.{◌≡◌, ◌↔◌, ◌<◌, ◌^◌, ℕ, true, is_some}
 use Rattle.pid_types.specs.declared.plain.Name.{Name}
 use Rattle.pid_types.specs.Names.{path_up, number, names_in_use}
 use Rattle.pid_types.specs.State.{State}
@@ -36,5 +36,7 @@ pub record KeepsPromise (c : Chronicle) : Type 0 where
   pub opened : IsSoundlyOpened c
   -- no id is ever given again
   pub below : IsBelow (next_stamp c) c.present
+  -- so each recorded call had a stamp below 2^64 - 1
+  pub stamps : next_stamp c < 2 ^ 64
   -- the bound of all numbers is the configuration's
   pub bound : c.present.pid_max ≡ c.config.pid_max
