@@ -56,7 +56,7 @@ impl<L: Ledger, const N: usize> Shared<L, N> {
     /// receipt has the reply, a refusal too, and the call's place in the history.
     ///
     /// It waits while another thread holds the lock, and never returns where this thread holds its
-    /// guard. The other threads wait as long as the call takes, which is a look through all tasks,
+    /// guard. The other threads wait as long as the call takes, mostly a look through all tasks,
     /// and for a fork that finds no free number one for each number.
     ///
     /// `Spent` comes where no stamp is left. `NoMemory` comes where there is none for what the call
