@@ -1,4 +1,8 @@
 //! The record: the present state, the history of its calls, and the ledger's book.
+//!
+//! One thread may use a record as it is, with [`Record::act`]; several share it as a
+//! [`crate::Shared`], whose guard lends it. The history grows by an entry of 184 bytes with each
+//! call, until a [`Record::checkpoint`] empties it.
 ghost use Rattle.std.specs.Prelude.{◌≡◌, ℕ, ◌+◌, ◌^◌, ◌<◌, ◌≤◌, ◌==◌, [], ◌∷◌, ◌++◌, ◌↔◌, length, All, IsTrue, sum, slice_index, slice_get, replicate, IfOk, OnOk, OnErr, IsOk, Err};
 ghost use Rattle.std.specs.Option.{option_copied};
 ghost use Rattle.pid_types.specs.State.{root_state};
@@ -101,8 +105,8 @@ impl<L: Ledger, const N: usize> Record<L, N> {
 
     /// How many calls were recorded, the cut ones among them.
     ///
-    /// Its contract tells what the record promises whenever nobody works on it: for a record behind a
-    /// lock, whenever the lock is free.
+    /// Its contract tells what the record promises whenever nobody works on it: for a record behind
+    /// a lock, whenever the lock is free.
     pub fn total(&self) -> u64
         ensures value { result ≡ total self.now }
         ensures promise { KeepsPromise self.now }
@@ -124,7 +128,9 @@ impl<L: Ledger, const N: usize> Record<L, N> {
         self.first_kept
     }
 
-    /// How many calls of the worker were recorded, the cut ones among them.
+    /// How many calls of the worker were recorded, the cut ones among them. It walks the kept
+    /// history, so it costs as much as there were calls since the last checkpoint. [`Seat::calls`]
+    /// costs nothing.
     pub fn recorded(&self, worker: usize) -> u64
         requires { worker < N }
         ensures { result ≡ recorded self.now worker }
@@ -133,7 +139,8 @@ impl<L: Ledger, const N: usize> Record<L, N> {
         self.cut[worker] + kept as u64
     }
 
-    /// The entry with the ordinal; none where it was cut away, or is not reached yet.
+    /// The entry with the ordinal; none where it was cut away, or is not reached yet. It costs the
+    /// same for each ordinal.
     pub fn entry(&self, ordinal: u64) -> Option<&Entry>
         ensures { option_copied result ≡ kept_entry self.now ordinal }
     {
@@ -160,7 +167,7 @@ impl<L: Ledger, const N: usize> Record<L, N> {
         self.history.reserve(n)
     }
 
-    /// Takes all seats back, and tells that their calls are the recorded ones.
+    /// Takes all seats back, and proves that their calls add up to [`Record::total`].
     pub(crate) fn settle(&mut self, seats: Vec<Seat<L, N>>)
         requires seats { AreSeats N seats.items }
         requires parts { (L.parts ≡ N) × (0 < N) }
@@ -190,8 +197,11 @@ impl<L: Ledger, const N: usize> Record<L, N> {
     }
 
     /// Makes a call of the seat's worker, and records it with its reply, whatever that is. `Spent`
-    /// is answered first, where the call's stamp would be `u64::MAX`. A call that finds no memory, for
-    /// what it makes or for its entry, changes nothing and is not recorded.
+    /// is answered first, where the call's stamp would be `u64::MAX`. A call that finds no memory,
+    /// for what it makes or for its entry, changes nothing and is not recorded.
+    ///
+    /// It waits for nobody. Its cost is that of the call on the plain table ([`PlainTable::step`]),
+    /// and that of an entry.
     pub fn act(&mut self, seat: &mut Seat<L, N>, call: Call) -> Result<Receipt, CallFault>
         ensures step { IfOk result (λ r. record { state = self.new.present; reply = r.reply } ≡ step self.old.present (next_stamp self.old) call) }
         ensures history { IfOk result (λ r. self.new.entries ≡ self.old.entries ++ record { worker = seat.old.worker; call = call; reply = r.reply } ∷ []) }

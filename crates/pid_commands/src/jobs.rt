@@ -1,4 +1,4 @@
-//! Job files.
+//! Job files: opened and read to their end, before any worker starts.
 ghost use Rattle.std.specs.Prelude.{◌≡◌, ◌⊎◌, IfOk, IfErr, Contains, String, vec_len};
 ghost use Rattle.pid_commands.specs.declared.fault.Fault.TheVariants.{NoMemory};
 ghost use Rattle.pid_script.specs.declared.job.JobFault.{JobFault};
@@ -13,8 +13,8 @@ use pid_types::device::FromReader;
 use std::fs;
 use std::rt::Files;
 
-/// Reads the job files in the order given, each to its end. The first fault ends it, and no later file
-/// is opened.
+/// Reads the job files in the order given, each to its end. The first fault ends it, and no later
+/// file is opened.
 pub(crate) fn read_jobs<R: Files + AllocGlobal>(
     rt: &R,
     files: JobFiles,

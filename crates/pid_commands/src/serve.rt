@@ -1,4 +1,5 @@
-//! The commands.
+//! The commands `run`, `list` and `work`, over a reader and writers of the caller's. [`run_words`]
+//! is the one door; a fault of any command is one line on `errors` and the status 1.
 ghost use Rattle.std.specs.Prelude.{◌≡◌, ◌<◌, ◌≤◌, Option, List, ℕ, None, false, length, OnOk, IfOk, IfErr, ◌⊎◌};
 ghost use Rattle.pid_jobs.specs.declared.run.RunFault.{RunFault};
 ghost use Rattle.pid_commands.specs.declared.fault.Fault.TheVariants.{Write};
@@ -27,8 +28,9 @@ use std::time::Clock;
 /// Runs the words after the program's name as the program does: reads the script from the input,
 /// writes the output, flushes it, and writes the line of a fault or the usage line to `errors`.
 ///
-/// It may wait, for the workers of `work`. After a fault of `run` the output has the answers that were
-/// written before it; after one of `list` or `work` it has nothing, but where a write failed midway.
+/// It may wait, for the workers of `work`. After a fault of `run` the output has the answers that
+/// were written before it; after one of `list` or `work` it has nothing, but where a write failed
+/// midway.
 pub fn run_words<R, I, O, E>(
     rt: &R,
     words: &[String],
@@ -144,7 +146,8 @@ where
     writer.flush().map_err(|_| Fault::Write)
 }
 
-/// Runs a worker for each job, and writes what they had. There are 2 to 16. The writer is not flushed.
+/// Runs a worker for each job, and writes what they had. There are 2 to 16. The writer is not
+/// flushed.
 fn run_jobs<L: Ledger + Send + Sync, R: Threads + Wait + Clock + Sync + AllocGlobal, W: Write>(
     rt: &R,
     blank: Blank,

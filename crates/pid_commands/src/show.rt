@@ -1,4 +1,4 @@
-//! What `work` writes.
+//! What `work` writes: each worker's receipts in the order of the workers, and then the list.
 ghost use Rattle.std.specs.Prelude.{◌≡◌, ◌⊎◌, ◌++◌, OnOk, IfErr};
 ghost use Rattle.pid_commands.specs.declared.fault.Fault.TheVariants.{NoMemory, Write};
 ghost use Rattle.std.specs.List.{flat_map};
@@ -21,8 +21,8 @@ use std::sync::ledger::Ledger;
 /// Writes what the workers had, in their order, and then the list of the table that they leave. The
 /// writer is not flushed.
 ///
-/// `NoMemory` comes where there is none for the list, and then nothing is written. A writer's error of
-/// any kind is `Write`.
+/// `NoMemory` comes where there is none for the list, and then nothing is written. A writer's error
+/// of any kind is `Write`.
 pub(crate) fn write_finished<L: Ledger, W: Write, const N: usize>(
     alloc: Global,
     writer: &mut W,

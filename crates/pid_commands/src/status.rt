@@ -1,4 +1,4 @@
-//! How a command ends.
+//! How a command ends: its exit status, and the line that it leaves on standard error.
 ghost use Rattle.std.specs.Prelude.{◌≡◌};
 ghost use Rattle.pid_commands.specs.declared.status.Status.TheVariants.{Done, Failed, Misused};
 

@@ -1,4 +1,4 @@
-//! The words of the command line.
+//! The words of the command line: [`read_words`] reads them, and opens and runs nothing.
 ghost use Rattle.std.specs.Prelude.{◌≡◌, ◌≤◌, ◌↔◌, vec_len, IsSome, IfSome};
 
 use clap::error::ErrorKind;
@@ -70,13 +70,13 @@ impl From<Error> for WordsFault {
     }
 }
 
-/// The command of the words after the program's name: `run`, `list` or `work`, and behind it once, if
-/// at all, `--pid-max N` or `--pid-max=N`. N is in decimal digits with no leading zero, from 301 to
-/// 4194304. Behind `work` stand 2 to 16 names of files too, before or after the option. A word `--`
-/// ends the options, so each word behind it is a file, also one that begins with a hyphen.
+/// The command of the words after the program's name: `run`, `list` or `work`, and behind it once,
+/// if at all, `--pid-max N` or `--pid-max=N`. N is in decimal digits with no leading zero, from 301
+/// to 4194304. Behind `work` stand 2 to 16 names of files too, before or after the option. A word
+/// `--` ends the options, so each word behind it is a file, also one that begins with a hyphen.
 ///
-/// `Usage` comes for all other words, a call for help among them, and `NoMemory` where there is none to
-/// read or to keep them.
+/// `Usage` comes for all other words, a call for help among them, and `NoMemory` where there is
+/// none to read or to keep them.
 pub fn read_words<S: AsStr>(alloc: Global, words: &[S]) -> Result<Command, WordsFault> {
     let files = Arg::new(alloc, "files")
         .action(ArgAction::Append)
@@ -118,8 +118,8 @@ fn pid_max<'a>(alloc: Global) -> Arg<'a> {
         .action(ArgAction::Set)
 }
 
-/// The configuration with this bound of numbers, or with the usual one. `Usage` comes for a word that
-/// is no such bound.
+/// The configuration with this bound of numbers, or with the usual one. `Usage` comes for a word
+/// that is no such bound.
 fn read_config(options: &ArgMatches) -> Result<Config, WordsFault> {
     let usual = Config::default_values();
     let Some(word) = options.get_str("pid-max") else {

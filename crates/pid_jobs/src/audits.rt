@@ -1,4 +1,4 @@
-//! Receipts against the kept history.
+//! Receipts against the kept history: what a worker was told, and what was recorded of it.
 ghost use Rattle.std.specs.Prelude.{◌≡◌, ◌≢◌, true, false, ℕ, ◌<◌, ◌≤◌, length, take, vec_len, slice_index_or, MatchOption, OnOk, IfErr};
 ghost use Rattle.pid_jobs.specs.Receipts.{receipt, receipts_kept, owed, DiffersAt, IsAudited, IsFirstFault};
 
@@ -8,7 +8,8 @@ use crate::result::Work;
 use locked_table::{Entry, Receipt, Record};
 use std::sync::ledger::Ledger;
 
-/// Goes past the receipts of entries that were cut away.
+/// Skips the receipts of entries that were cut away: the place of the first other one from the
+/// given place on, or the end.
 fn skip_cut(receipts: &[Receipt], from: usize, first: u64) -> usize
     requires { from ≤ length receipts.now }
     ensures bounds { (from ≤ result) × (result ≤ length receipts.now) }
@@ -69,8 +70,8 @@ fn first_difference<L: Ledger, const N: usize>(
 }
 
 /// Compares each worker's receipts from the first kept ordinal on with its kept entries. It answers
-/// the least worker and the first place that differ. The cost is that of a walk over the history for
-/// each worker.
+/// the least worker and the first place that differ. The cost is that of a walk over the history
+/// for each worker.
 pub fn audit<L: Ledger, const N: usize>(kept: &Record<L, N>, works: &[Work]) -> Result<(), Audit>
     requires { length works.now ≡ N }
     ensures ok { OnOk result (IsAudited N kept.now works.now) }

@@ -1,4 +1,5 @@
-//! One worker's job.
+//! One worker's job: calls made in order, at any desk. [`crate::run_workers`] has each worker's
+//! thread call [`work`]; a test may call it at a desk of its own.
 ghost use Rattle.std.specs.Prelude.{◌≡◌, IfOk, OnErr};
 ghost use Rattle.pid_jobs.specs.Job.{Fulfils};
 
@@ -9,8 +10,8 @@ use std::alloc::{AllocError, Global};
 use std::sync::Wait;
 use std::time::Clock;
 
-/// Makes the calls in order, each between the gate's `before` and `after`, and counts those that get
-/// no receipt. It makes no call if there is no memory for the receipts.
+/// Makes the calls in order, each between the gate's `before` and `after`, and counts those that
+/// get no receipt. It makes no call if there is no memory for the receipts.
 pub fn work<D: Desk, G: Gate, R: Wait + Clock>(
     rt: &R,
     alloc: Global,

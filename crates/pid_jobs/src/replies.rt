@@ -1,10 +1,11 @@
-//! Whether two replies are the same.
+//! Whether two replies are the same, for the audit of receipts.
 ghost use Rattle.std.specs.Prelude.{◌≡◌, ◌≢◌, true, false};
 
 use arrayvec::ArrayVec;
 use pid_types::plain::LEVELS;
 use pid_types::reply::Reply;
 
+/// Whether two lists of numbers are the same.
 fn is_same_list(one: &ArrayVec<u32, LEVELS>, other: &ArrayVec<u32, 33>) -> bool
     ensures yes { result ≡ true → one.now ≡ other.now }
     ensures no { result ≡ false → one.now ≢ other.now }
@@ -12,7 +13,8 @@ fn is_same_list(one: &ArrayVec<u32, LEVELS>, other: &ArrayVec<u32, 33>) -> bool
     one.as_slice() == other.as_slice()
 }
 
-/// Whether two replies are the same.
+/// Whether two replies are the same. The derived `==` would say less: where a field is a list, its
+/// contract speaks of the fields' own `==`, and not of the two being the same.
 pub(crate) fn is_same_reply(one: &Reply, other: &Reply) -> bool
     ensures yes { result ≡ true → one.now ≡ other.now }
     ensures no { result ≡ false → one.now ≢ other.now }

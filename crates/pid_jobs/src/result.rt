@@ -1,4 +1,4 @@
-//! What comes of a job.
+//! What comes of a job: receipts, and how many calls had none.
 
 use locked_table::Receipt;
 

@@ -1,4 +1,7 @@
-//! All workers, one thread for each.
+//! All workers, one thread for each: started, joined, and audited.
+//!
+//! [`run_workers`] is the one door. It takes the jobs as lists of calls, so what a job makes cannot
+//! be named later in it but by luck: ids and numbers depend on which worker comes first.
 ghost use Rattle.std.specs.Prelude.{◌≡◌, ℕ, ◌<◌, length, vec_len, slice_index_or, IfOk};
 ghost use Rattle.locked_table.specs.SeatState.{AreSeats};
 ghost use Rattle.pid_jobs.specs.Job.{Fulfils};
@@ -20,7 +23,7 @@ use std::thread::{Promise, Threads};
 use std::time::Clock;
 use thiserror::Error;
 
-/// The record that the workers leave, and what came of each job.
+/// The record that the workers leave, and what came of each job, in the order of the jobs.
 #[derive(Drop)]
 pub struct Finished<L: Ledger, const N: usize> {
     pub kept: Record<L, N>,
@@ -137,7 +140,8 @@ fn serve_all<
     )
 }
 
-/// Seats and works apart, in order. Without an answer where some worker had no memory.
+/// Splits the results into seats and works, in the order of the workers. The error comes where
+/// there is no memory, here or for some worker's receipts.
 fn part<L: Ledger, const N: usize>(
     alloc: Global,
     dones: Vec<Done<L, N>>,
@@ -156,8 +160,21 @@ fn part<L: Ledger, const N: usize>(
     Ok((seats, works))
 }
 
-/// Runs each job in a thread of its own, over one table made with the configuration, joins them all,
-/// and audits what they have. The blank has one part for each job. It may wait.
+/// Runs each job in a thread of its own, over one table made with the configuration, joins them
+/// all, and audits what they have. The blank has one part for each job.
+///
+/// It waits for all workers, so for each call and for the gate. Beside the calls it costs a walk
+/// over the whole history for each worker, and there is one lock: more workers are not faster.
+///
+/// A call that finds no memory is no error here: it is counted in [`Work::refused`]. The errors
+/// leave no table and no history behind:
+///
+/// - [`RunFault::NoMemory`]: none for the table, the seats, the threads' handles, or the receipts
+///   of some worker, who has then made no call.
+/// - [`RunFault::Start`]: a thread could not be started. The ones that were started work to their
+///   end first.
+/// - [`RunFault::Audit`]: the receipts of the worker and the history differ at the place. It would
+///   be a fault of this program, and no cause of it is known.
 pub fn run_workers<
     L: Ledger + Send + Sync,
     G: Gate + Sync,
@@ -184,6 +201,7 @@ pub fn run_workers<
     let dones = serve_all(rt, alloc, &shared, gate, seats, jobs)?;
     let (seats, works) = part(alloc, dones)?;
     let kept = shared.close(seats);
+    // Never so. But no contract can name what stood behind the lock, and the answer promises both.
     if kept.config() != *config || kept.first_kept() != 0 {
         return Err(RunFault::Audit {
             worker: 0,

@@ -1,4 +1,5 @@
-//! Replies to answers.
+//! Replies to answers: [`answer_text`] is the table of all answers. A text is at most 362 bytes and
+//! held in place, so nothing here takes memory or fails.
 ghost use Rattle.std.specs.Prelude.{◌≡◌, ◌+◌, ◌≤◌, ◌++◌, length, codes, decimal};
 ghost use Rattle.pid_script.specs.Answers.{joined, refused_by, refusal_text, ended_text, reply_text, fault_text, answer_of};
 

@@ -104,12 +104,12 @@ impl Job {
     }
 }
 
-/// Reads a job to its end: the calls of its lines, in order. Lines are those of a script; an empty one
-/// counts and says no call.
+/// Reads a job to its end: the calls of its lines, in order. Lines are those of a script; an empty
+/// one counts and says no call.
 ///
-/// A line is judged at its end, so a bad line is met before the byte behind it, and the byte behind the
-/// [`MOST_JOB_BYTES`]th is [`JobFault::TooLong`] whatever its line would say. After a fault nothing more is
-/// read. The cost is linear in the bytes, and so is the memory, in the calls.
+/// A line is judged at its end, so a bad line is met before the byte behind it, and the byte behind
+/// the [`MOST_JOB_BYTES`]th is [`JobFault::TooLong`] whatever its line would say. After a fault
+/// nothing more is read. The cost is linear in the bytes, and so is the memory, in the calls.
 pub fn read_job<S: Source>(alloc: Global, source: &mut S) -> Result<Vec<Call>, JobFault>
     ensures ok { IfOk result (λ calls. Yields (S.remaining source.old) (S.remaining source.new) calls.items) }
     ensures err { IfErr result (Refuses (S.remaining source.old) (S.remaining source.new) (S.has_failed source.new)) }
@@ -117,6 +117,7 @@ pub fn read_job<S: Source>(alloc: Global, source: &mut S) -> Result<Vec<Call>, J
     let mut job = Job::new(alloc);
     let mut room = MOST_JOB_BYTES;
     let mut chunk = [0_u8; CHUNK];
+    // Each read but the last gives a byte or more, so the end, or a byte too many, comes in these.
     for _turn in 0..MOST_JOB_BYTES + 1 {
         let count = match source.read(&mut chunk) {
             Ok(count) => count,

@@ -1,4 +1,5 @@
-//! Lines to calls.
+//! Lines to calls: [`parse_line`] is the table of all lines. Below it stands a reader for the words
+//! of each command; each answers `None` for words that are no such command's.
 ghost use Rattle.std.specs.Prelude.{◌≡◌, ◌^◌};
 ghost use Rattle.pid_script.specs.Reading.{pair_of, fork_of, exit_of, numbered_of, which_of, wait_of, set_pgid_of, kind_of, next_of, limit_of, move_of, switch_of, subreaper_of, command_of, call_of, parsed};
 ghost use Rattle.pid_script.specs.Lines.{Says};
@@ -14,10 +15,11 @@ pub enum Line {
     Empty,
     /// One call.
     Call(Call),
-    /// No call: no call is written so.
+    /// Not a line of the table of calls.
     Bad,
 }
 
+/// Two numbers.
 #[tactic(auto, unfolding(crate::specs::Reading::pair_of))]
 fn read_pair(words: &[u8]) -> Option<(u32, u32)>
     ensures { result ≡ pair_of words.now }
@@ -26,6 +28,7 @@ fn read_pair(words: &[u8]) -> Option<(u32, u32)>
     Some((read_u32(first)?, read_u32(second)?))
 }
 
+/// `P` or `P new`.
 #[tactic(auto, unfolding(crate::specs::Reading::fork_of))]
 fn read_fork(words: &[u8]) -> Option<Call>
     ensures { result ≡ fork_of words.now }
@@ -41,6 +44,7 @@ fn read_fork(words: &[u8]) -> Option<Call>
     })
 }
 
+/// `P S`.
 #[tactic(auto, unfolding(crate::specs::Reading::exit_of))]
 fn read_exit(words: &[u8]) -> Option<Call>
     ensures { result ≡ exit_of words.now }
@@ -52,6 +56,7 @@ fn read_exit(words: &[u8]) -> Option<Call>
     })
 }
 
+/// `pid P` or `group P`.
 #[tactic(auto, unfolding(crate::specs::Reading::numbered_of))]
 fn read_numbered(words: &[u8]) -> Option<Which>
     ensures { result ≡ numbered_of words.now }
@@ -65,6 +70,7 @@ fn read_numbered(words: &[u8]) -> Option<Which>
     }
 }
 
+/// Which children a wait selects.
 #[tactic(auto, unfolding(crate::specs::Reading::which_of))]
 fn read_which(words: &[u8]) -> Option<Which>
     ensures { result ≡ which_of words.now }
@@ -76,6 +82,7 @@ fn read_which(words: &[u8]) -> Option<Which>
     }
 }
 
+/// `P`, and which children.
 #[tactic(auto, unfolding(crate::specs::Reading::wait_of))]
 fn read_wait(words: &[u8]) -> Option<Call>
     ensures { result ≡ wait_of words.now }
@@ -87,6 +94,7 @@ fn read_wait(words: &[u8]) -> Option<Call>
     })
 }
 
+/// `P G G`.
 #[tactic(auto, unfolding(crate::specs::Reading::set_pgid_of))]
 fn read_set_pgid(words: &[u8]) -> Option<Call>
     ensures { result ≡ set_pgid_of words.now }
@@ -100,6 +108,7 @@ fn read_set_pgid(words: &[u8]) -> Option<Call>
     })
 }
 
+/// What a number is in use as.
 #[tactic(auto, unfolding(crate::specs::Reading::kind_of))]
 fn read_kind(word: &[u8]) -> Option<Kind>
     ensures { result ≡ kind_of word.now }
@@ -112,6 +121,7 @@ fn read_kind(word: &[u8]) -> Option<Kind>
     }
 }
 
+/// `P`, the kind, `P`.
 #[tactic(auto, unfolding(crate::specs::Reading::next_of))]
 fn read_next(words: &[u8]) -> Option<Call>
     ensures { result ≡ next_of words.now }
@@ -125,6 +135,7 @@ fn read_next(words: &[u8]) -> Option<Call>
     })
 }
 
+/// `I P` or `I max`.
 #[tactic(auto, unfolding(crate::specs::Reading::limit_of))]
 fn read_limit(words: &[u8]) -> Option<Call>
     ensures { result ≡ limit_of words.now }
@@ -138,6 +149,7 @@ fn read_limit(words: &[u8]) -> Option<Call>
     Some(Call::SetLimit { id, limit })
 }
 
+/// `P I`.
 #[tactic(auto, unfolding(crate::specs::Reading::move_of))]
 fn read_move(words: &[u8]) -> Option<Call>
     ensures { result ≡ move_of words.now }
@@ -149,6 +161,7 @@ fn read_move(words: &[u8]) -> Option<Call>
     })
 }
 
+/// `on` or `off`.
 #[tactic(auto, unfolding(crate::specs::Reading::switch_of))]
 fn read_switch(word: &[u8]) -> Option<bool>
     ensures { result ≡ switch_of word.now }
@@ -160,6 +173,7 @@ fn read_switch(word: &[u8]) -> Option<bool>
     }
 }
 
+/// `P on` or `P off`.
 #[tactic(auto, unfolding(crate::specs::Reading::subreaper_of))]
 fn read_subreaper(words: &[u8]) -> Option<Call>
     ensures { result ≡ subreaper_of words.now }
@@ -171,6 +185,7 @@ fn read_subreaper(words: &[u8]) -> Option<Call>
     })
 }
 
+/// The call of a command and the words behind it.
 #[tactic(auto, unfolding(crate::specs::Reading::command_of))]
 fn read_command(command: &[u8], words: &[u8]) -> Option<Call>
     ensures { result ≡ command_of command.now words.now }
@@ -202,8 +217,8 @@ fn read_command(command: &[u8], words: &[u8]) -> Option<Call>
 /// What the line says, its bytes without the newline.
 ///
 /// A line is a command and its arguments, with one space between and none around them. Numbers are
-/// in decimal digits with no leading zero and within the range of their type; only the two numbers of
-/// `setpgid` may have a minus sign, directly before a number that is not 0.
+/// in decimal digits with no leading zero and within the range of their type; only the two numbers
+/// of `setpgid` may have a minus sign, directly before a number that is not 0.
 ///
 /// | Line | Call |
 /// |---|---|

@@ -1,4 +1,5 @@
-//! Snapshots to lists.
+//! Snapshots to lists: [`list_text`] is the table of all lines. Below it stands a function for each
+//! part of a line, which appends it; each fails only for want of memory.
 ghost use Rattle.std.specs.Prelude.{◌≡◌, ◌++◌, ◌∷◌, [], OnOk, IfOk, codes, decimal};
 ghost use Rattle.std.specs.List.{flat_map};
 ghost use Rattle.pid_types.specs.Names.{root_number};
@@ -9,6 +10,7 @@ use itoa::Buffer;
 use pid_types::plain::{ControlRow, Ended, Life, Name, Plain, Row, Space};
 use std::alloc::{AllocError, Global};
 
+/// Appends the number in decimal digits.
 fn push_number(text: &mut Vec<u8>, number: u64) -> Result<(), AllocError>
     ensures { OnOk result (text.new.items ≡ text.old.items ++ decimal number) }
 {
@@ -16,6 +18,7 @@ fn push_number(text: &mut Vec<u8>, number: u64) -> Result<(), AllocError>
     text.extend_from_slice(buffer.format(number).as_bytes())
 }
 
+/// Appends the label and the number.
 fn push_field(text: &mut Vec<u8>, label: &[u8], number: u64) -> Result<(), AllocError>
     ensures { OnOk result (text.new.items ≡ text.old.items ++ field label.now number) }
 {
@@ -23,6 +26,7 @@ fn push_field(text: &mut Vec<u8>, label: &[u8], number: u64) -> Result<(), Alloc
     push_number(text, number)
 }
 
+/// Appends the word where the mark holds.
 fn push_mark(text: &mut Vec<u8>, holds: bool, word: &[u8]) -> Result<(), AllocError>
     ensures { OnOk result (text.new.items ≡ text.old.items ++ marked holds word.now) }
 {
@@ -32,6 +36,7 @@ fn push_mark(text: &mut Vec<u8>, holds: bool, word: &[u8]) -> Result<(), AllocEr
     Ok(())
 }
 
+/// Appends the parent of a namespace or a control group, `-` for none.
 fn push_parent(text: &mut Vec<u8>, parent: Option<u64>) -> Result<(), AllocError>
     ensures { OnOk result (text.new.items ≡ text.old.items ++ codes " parent " ++ parent_text parent) }
 {
@@ -41,6 +46,7 @@ fn push_parent(text: &mut Vec<u8>, parent: Option<u64>) -> Result<(), AllocError
     }
 }
 
+/// Appends the limit, `max` for none.
 fn push_limit(text: &mut Vec<u8>, limit: Option<u32>) -> Result<(), AllocError>
     ensures { OnOk result (text.new.items ≡ text.old.items ++ codes " limit " ++ limit_text limit) }
 {
@@ -50,6 +56,7 @@ fn push_limit(text: &mut Vec<u8>, limit: Option<u32>) -> Result<(), AllocError>
     }
 }
 
+/// Appends `live`, or how the task ended.
 fn push_life(text: &mut Vec<u8>, life: Life) -> Result<(), AllocError>
     ensures { OnOk result (text.new.items ≡ text.old.items ++ codes " " ++ life_text life) }
 {
@@ -70,6 +77,7 @@ fn root_number(name: &Name) -> u64
     }
 }
 
+/// Appends a task's numbers and its namespace.
 #[tactic(auto, unfolding(crate::specs::Lists::name_text))]
 fn push_name(text: &mut Vec<u8>, row: &Row) -> Result<(), AllocError>
     ensures { OnOk result (text.new.items ≡ text.old.items ++ name_text row.now) }
@@ -79,6 +87,7 @@ fn push_name(text: &mut Vec<u8>, row: &Row) -> Result<(), AllocError>
     push_field(text, b" space ", row.name.space)
 }
 
+/// Appends the root numbers of parent, group and session, and the control group.
 #[tactic(auto, unfolding(crate::specs::Lists::relatives_text))]
 fn push_relatives(text: &mut Vec<u8>, row: &Row) -> Result<(), AllocError>
     ensures { OnOk result (text.new.items ≡ text.old.items ++ relatives_text row.now) }
@@ -93,6 +102,7 @@ fn push_relatives(text: &mut Vec<u8>, row: &Row) -> Result<(), AllocError>
     push_field(text, b" control ", row.home)
 }
 
+/// Appends the namespace that the task's children go into, where it is another than its own.
 fn push_children(text: &mut Vec<u8>, row: &Row) -> Result<(), AllocError>
     ensures { OnOk result (text.new.items ≡ text.old.items ++ children_text row.now) }
 {
@@ -102,6 +112,7 @@ fn push_children(text: &mut Vec<u8>, row: &Row) -> Result<(), AllocError>
     push_field(text, b" children ", row.children_space)
 }
 
+/// Appends the state, and the marks that hold.
 #[tactic(auto, unfolding(crate::specs::Lists::marks_text))]
 fn push_marks(text: &mut Vec<u8>, row: &Row) -> Result<(), AllocError>
     ensures { OnOk result (text.new.items ≡ text.old.items ++ marks_text row.now) }
@@ -112,6 +123,7 @@ fn push_marks(text: &mut Vec<u8>, row: &Row) -> Result<(), AllocError>
     push_mark(text, row.subreaper, b" subreaper")
 }
 
+/// Appends a task's line.
 fn push_task(text: &mut Vec<u8>, row: &Row) -> Result<(), AllocError>
     ensures { OnOk result (text.new.items ≡ text.old.items ++ task_line row.now) }
 {
@@ -121,6 +133,7 @@ fn push_task(text: &mut Vec<u8>, row: &Row) -> Result<(), AllocError>
     text.extend_from_slice(b"\n")
 }
 
+/// Appends a namespace's line.
 #[tactic(auto, unfolding(crate::specs::Lists::space_line))]
 fn push_space(text: &mut Vec<u8>, space: &Space) -> Result<(), AllocError>
     ensures { OnOk result (text.new.items ≡ text.old.items ++ space_line space.now) }
@@ -132,6 +145,7 @@ fn push_space(text: &mut Vec<u8>, space: &Space) -> Result<(), AllocError>
     text.extend_from_slice(b"\n")
 }
 
+/// Appends a control group's line.
 #[tactic(auto, unfolding(crate::specs::Lists::control_line))]
 fn push_control(text: &mut Vec<u8>, control: &ControlRow) -> Result<(), AllocError>
     ensures { OnOk result (text.new.items ≡ text.old.items ++ control_line control.now) }
@@ -176,8 +190,8 @@ pub fn push_controls(text: &mut Vec<u8>, controls: &[ControlRow]) -> Result<(), 
 /// The list of a snapshot: one line for each task, then for each namespace, then for each control
 /// group, in the snapshot's order, each with its newline.
 ///
-/// - `task NUMBERS space S parent P group G session T control C STATE`, the numbers root first with a
-///   comma between, and the root numbers of parent, group and session, 0 where there is none. The
+/// - `task NUMBERS space S parent P group G session T control C STATE`, the numbers root first with
+///   a comma between, and the root numbers of parent, group and session, 0 where there is none. The
 ///   state is `live`, `exit S` or `killed`. Then, where they hold, ` executed`, ` children J` for
 ///   another namespace than its own, and ` subreaper`.
 /// - `space ID parent P cursor K`, with `-` for the root's parent, then ` fallen` where it holds.

@@ -1,4 +1,6 @@
-//! Scripts answered line by line.
+//! Scripts answered line by line: [`run_script`], over any [`Table`], source and sink. A session
+//! holds one line that has not ended and at most 8,192 bytes of answers; it takes no memory of its
+//! own.
 ghost use Rattle.std.specs.Prelude.{◌≡◌, ◌≢◌, Some, ◌+◌, ◌^◌, ◌<◌, ◌≤◌, ◌++◌, ◌∷◌, [], List, ℕ, length, OnOk, OnErr, IfOk, IfErr, Err};
 ghost use Rattle.pid_types.specs.State.{State};
 ghost use Rattle.pid_script.specs.declared.tally.RunScriptFault.TheVariants.{NoMemory, Write};
@@ -32,7 +34,8 @@ pub trait Table {
         ensures { Acts (state self.old) (stamp self.old) call result (state self.new) (stamp self.new) };
 }
 
-/// A script on its way: the line that has not ended, the answers that are not written, and the counts.
+/// A script on its way: the line that has not ended, the answers that are not written, and the
+/// counts.
 #[derive(Drop)]
 pub struct Session {
     pub part: PartLine,
@@ -189,15 +192,16 @@ impl Session {
 
 /// Reads a script to its end, and writes the answer to each line.
 ///
-/// A line ends at a newline; what follows the last newline is a line if it has a byte. An empty line
-/// is answered with nothing, a call with [`answer_text`], and each other line, also one of more than
-/// [`crate::part::LONGEST_LINE`] bytes, with `bad line`. The answers of all lines that have ended are
-/// written before the next read. A read asks for at most 4096 bytes, and there are at most `turns`.
+/// A line ends at a newline; what follows the last newline is a line if it has a byte. An empty
+/// line is answered with nothing, a call with [`answer_text`], and each other line, also one of
+/// more than [`crate::part::LONGEST_LINE`] bytes, with `bad line`. The answers of all lines that
+/// have ended are written before the next read. A read asks for at most 4096 bytes, and there are
+/// at most `turns`.
 ///
 /// `Read` comes where the source has failed, `Write` where the sink has failed or took nothing of a
-/// write, and `TooManyTurns` where the source did not end within the bound on reads; what is written
-/// then is the meaning of the lines that had ended, and for `Write` the front of it. Nothing is read
-/// or written after a fault. `NoMemory` does not come.
+/// write, and `TooManyTurns` where the source did not end within the bound on reads; what is
+/// written then is the meaning of the lines that had ended, and for `Write` the front of it.
+/// Nothing is read or written after a fault. `NoMemory` does not come.
 pub fn run_script<T: Table, S: Source, K: Sink>(
     table: &mut T,
     source: &mut S,

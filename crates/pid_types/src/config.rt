@@ -4,8 +4,8 @@ ghost use Rattle.std.specs.Prelude.{◌≡◌, ◌≢◌, ◌<◌, ◌≤◌, If
 use std::marker::Model;
 use thiserror::Error;
 
-/// The least `pid_max`, which is the table's own rule: below 301 a namespace that has passed number 300
-/// would have none left to give, since a draw starts again at 300.
+/// The least `pid_max`, which is the table's own rule: below 301 a namespace that has passed number
+/// 300 would have none left to give, since a draw starts again at 300.
 pub const LEAST_PID_MAX: u32 = 301;
 
 /// The greatest `pid_max`, 2^22, as on a 64-bit kernel (`proc_sys_kernel(5)`).
@@ -66,7 +66,7 @@ impl Config {
     }
 
     /// A `pid_max` of 32768, the kernel's default on a machine of up to 32 processors
-/// (`proc_sys_kernel(5)`), and the first stamp 1.
+    /// (`proc_sys_kernel(5)`), and the first stamp 1.
     pub fn default_values() -> Config
         ensures pid_max { result.pid_max ≡ 32768 }
         ensures first_stamp { result.first_stamp ≡ 1 }

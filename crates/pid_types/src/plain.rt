@@ -53,7 +53,8 @@ pub struct Space {
     pub id: u64,
     /// None for the root alone.
     pub parent: Option<u64>,
-    /// The number that the next draw begins at: one above the last number drawn, 0 before the first.
+    /// The number that the next draw begins at: one above the last number drawn, 0 before the
+    /// first.
     pub cursor: u32,
     /// Whether its init has ended.
     pub fallen: bool,
@@ -65,7 +66,7 @@ pub struct Control {
     pub id: u64,
     /// None for the root alone.
     pub parent: Option<u64>,
-    /// The most tasks that a fork may bring it and those below it to: `pids.max`.
+    /// `pids.max`: a fork that would raise the subtree's count above this is refused.
     pub limit: Option<u32>,
 }
 

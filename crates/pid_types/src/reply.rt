@@ -5,13 +5,13 @@ use arrayvec::ArrayVec;
 use std::alloc::AllocError;
 use thiserror::Error;
 
-/// Why a call is refused. `S` and `C` are the ids of the namespace and the control group that
-/// refused it.
+/// Why a call is refused. [`Refusal::NoNumber`] holds the id of the namespace that refused it, and
+/// [`Refusal::PidsLimit`] that of the control group.
 #[derive(Clone, Copy, Debug, PartialEq, Eq, Hash)]
 pub enum Refusal {
     /// No live task has the caller's root number.
     NoCaller,
-    /// No task is there, or none that the call may be made on.
+    /// No such task, or the call is not allowed on it.
     NoTask,
     /// No child matches.
     NoChild,

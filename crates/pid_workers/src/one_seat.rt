@@ -1,4 +1,4 @@
-//! A record for one worker, as a table that answers one call after another.
+//! A record for one worker, as a [`Table`] that answers one call after another. There is no lock.
 ghost use Rattle.std.specs.Prelude.{◌≡◌, [], IfOk};
 ghost use Rattle.locked_table.specs.Chronicle.{next_stamp};
 ghost use Rattle.pid_types.specs.State.{root_state};

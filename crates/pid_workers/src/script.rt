@@ -1,4 +1,4 @@
-//! Scripts run on a table of their own.
+//! Scripts run on a table of their own, for one worker.
 ghost use Rattle.std.specs.Prelude.{◌≡◌, ℕ, List, IfOk, IfErr, Err};
 ghost use Rattle.locked_table.specs.Chronicle.{next_stamp};
 ghost use Rattle.pid_types.specs.State.{State};
@@ -70,7 +70,7 @@ pub fn run_limited<L: Ledger, S: Source, K: Sink>(
     Ok(tally)
 }
 
-/// The same with at most [`MOST_READS`] reads.
+/// Runs a script on a new table, as [`run_limited`] does, with at most [`MOST_READS`] reads.
 pub fn run<L: Ledger, S: Source, K: Sink>(
     alloc: Global,
     blank: Blank,
@@ -90,7 +90,7 @@ pub fn run<L: Ledger, S: Source, K: Sink>(
     run_limited::<L, S, K>(alloc, blank, source, sink, config, MOST_READS)
 }
 
-/// The same, and hands back the record that the lines leave.
+/// Runs a script on a new table, as [`run`] does, and hands back the record that the lines leave.
 pub fn run_state<L: Ledger, S: Source, K: Sink>(
     alloc: Global,
     blank: Blank,

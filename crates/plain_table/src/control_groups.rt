@@ -1,4 +1,5 @@
-//! Control groups.
+//! Control groups: made and removed as by `mkdir(2)` and `rmdir(2)`, limits as in `pids.max`,
+//! counts as in `pids.current`. A count looks through all tasks. Only making one takes memory.
 ghost use Rattle.std.specs.Prelude.{◌≡◌, ◌==◌, ◌&&◌, Some, OnErr, OnOk, IfOk};
 ghost use Rattle.std.specs.Option.{option_eq};
 ghost use Rattle.std.specs.List.{list_any};

@@ -1,4 +1,5 @@
-//! Changes of each element of a list.
+//! Changes of each element of a list: the one loop that all changes of rows, namespaces and limits
+//! go through. A change of one task's row has the name of its definition in the model.
 ghost use Rattle.std.specs.Prelude.{◌≡◌, ◌≤◌, ◌==◌, map, filter, Bool, not, vec_len, vec_capacity};
 ghost use Rattle.pid_types.specs.Names.{same_name, on_row};
 ghost use Rattle.pid_types.specs.Changes.{set_executed, set_home, rehome, set_children_space, set_mark, limited};

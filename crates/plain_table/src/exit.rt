@@ -1,4 +1,5 @@
-//! Exit, new parents, and the fall of a namespace.
+//! Exit (`_exit(2)`), new parents (`PR_SET_CHILD_SUBREAPER(2const)`), and the fall of a namespace
+//! (`pid_namespaces(7)`). They look through all tasks, and take no memory.
 ghost use Rattle.std.specs.Prelude.{◌≡◌, ◌≤◌, [], length, map, filter, not, vec_capacity};
 ghost use Rattle.pid_types.specs.Exit.{parent_number as parent_number_of, is_subreaper_in as is_subreaper_of, nearest_subreaper as nearest_subreaper_of, new_parent as new_parent_of, rows_after_exit, rows_after_fall, row_after_fall, goes_in_fall, fallen_below, fall as fall_of, exit as exit_of};
 
@@ -118,6 +119,7 @@ impl PlainTable {
     fn end_members(&mut self, init: &Row, status: u8)
         ensures { self.new ≡ record self.old { rows = rows_after_fall self.old init.now status } }
     {
+        // No tasks: they are lent to the change, and who is a member is told by namespaces alone.
         let view = View::new(&[], &self.spaces, &self.controls, self.pid_max);
         end_in_fall(&mut self.rows, &view, init, status);
     }
@@ -126,6 +128,7 @@ impl PlainTable {
     fn fall_from(&mut self, fallen: u64)
         ensures { self.new ≡ record self.old { spaces = map (fallen_below self.old.spaces fallen) self.old.spaces } }
     {
+        // No tasks: what is below a namespace is told by namespaces alone.
         let view = View::new(&[], &self.spaces, &self.controls, self.pid_max);
         push_fallen(&mut self.kept, &view, &self.spaces, fallen);
         mem::swap(&mut self.spaces, &mut self.kept);

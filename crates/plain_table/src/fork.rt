@@ -1,4 +1,9 @@
-//! Fork.
+//! Fork: `fork(2)`, and `clone(2)` with `CLONE_NEWPID`.
+//!
+//! A fork is planned on the unchanged table, then memory is taken, then the table changes: so
+//! neither a refusal nor want of memory changes anything. A draw looks through all tasks for each
+//! number that it tries. That is one number or a few as long as most are free, and all of them, up
+//! to twice, where none is.
 ghost use Rattle.std.specs.Prelude.{◌≡◌, ◌≤◌, ◌<◌, ◌+◌, ◌++◌, map, find, is_none, nat_lt, position, length, Some, None, MatchResult, OnOk, OnErr, IfOk, IfSome, unwrap_or, vec_len, vec_capacity, option_to_list};
 ghost use Rattle.pid_types.specs.State.{State};
 ghost use Rattle.pid_types.specs.Names.{root_number as root_of, path_up};
@@ -224,8 +229,8 @@ impl PlainTable {
         Ok(reply)
     }
 
-    /// `fork(2)`; with `new_space`, `clone(2)` with `CLONE_NEWPID`, where the stamp is the id of the
-    /// new namespace. A refused fork leaves every cursor as it was.
+    /// `fork(2)`; with `new_space`, `clone(2)` with `CLONE_NEWPID`, where the stamp is the id of
+    /// the new namespace. A refused fork leaves every cursor as it was.
     pub fn fork(&mut self, caller: u32, new_space: bool, stamp: u64) -> Result<Reply, AllocError>
         ensures state { OnOk result (self.new ≡ (fork_of self.old stamp caller new_space).state) }
         ensures reply { IfOk result (λ reply. reply ≡ (fork_of self.old stamp caller new_space).reply) }

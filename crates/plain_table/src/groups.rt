@@ -1,4 +1,5 @@
-//! Process groups and sessions.
+//! Process groups and sessions: `setpgid(2)` and `setsid(2)`. They look through all tasks, and take
+//! no memory.
 ghost use Rattle.std.specs.Prelude.{◌≡◌, OnOk, IfErr, MatchResult};
 ghost use Rattle.pid_types.specs.Groups.{set_group, has_members as has_members_of, session_group as session_group_of, group_for as group_for_of, target_of as target_number, set_group_of, set_pgid as set_pgid_of, set_sid as set_sid_of};
 ghost use Rattle.pid_types.specs.Names.{with_row};

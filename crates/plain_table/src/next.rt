@@ -1,4 +1,4 @@
-//! The next number in use.
+//! The next number in use, found by a look at each task.
 ghost use Rattle.std.specs.Prelude.{◌≡◌, nat_le, filter};
 ghost use Rattle.pid_types.specs.Chains.{least_of};
 ghost use Rattle.pid_types.specs.Queries.{name_by as name_of, numbers_by, next as next_of};
@@ -56,7 +56,8 @@ impl PlainTable {
         least
     }
 
-    /// The least number from the given one on that is in use as the kind, in the caller's namespace.
+    /// The least number from the given one on that is in use as the kind, in the caller's
+    /// namespace.
     #[tactic(auto, unfolding(pid_types::specs::Queries::next))]
     pub fn next(&self, caller: u32, kind: Kind, from: u32) -> Reply
         ensures { result ≡ next_of self.now caller kind from }

@@ -1,4 +1,6 @@
-//! The queries.
+//! The queries: `getpid(2)`, `getppid(2)`, `getpgid(2)`, `getsid(2)`, `NSpid` of
+//! `proc_pid_status(5)`, and the next number in use. They look through all tasks, take no memory
+//! and change nothing.
 ghost use Rattle.std.specs.Prelude.{◌≡◌};
 ghost use Rattle.pid_types.specs.Queries.{get_pid as get_pid_of, get_ppid as get_ppid_of, get_pgid as get_pgid_of, get_sid as get_sid_of, ns_pid as ns_pid_of, next as next_of, self_or_task};
 

@@ -1,4 +1,6 @@
-//! Any call.
+//! Any call: [`PlainTable::step`] picks the method that makes it. The record makes all its calls
+//! so. The methods, of which each stands in the module of its subject, may be called one by one
+//! too.
 ghost use Rattle.std.specs.Prelude.{◌≡◌, IsTrue, OnOk, OnErr, IfOk};
 ghost use Rattle.pid_types.specs.Step.{step, may_grow};
 

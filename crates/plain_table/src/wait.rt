@@ -1,4 +1,5 @@
-//! Wait.
+//! Wait: `waitpid(2)` with `WNOHANG`. It looks through all tasks, and through the namespaces where
+//! it reaps one. It takes no memory and never sleeps.
 ghost use Rattle.std.specs.Prelude.{◌≡◌, ◌==◌, ◌&&◌, not, filter, length, option_copied, Some};
 ghost use Rattle.pid_types.specs.Names.{is_parent as is_parent_of};
 ghost use Rattle.plain_table.specs.Least.{lesser_of, is_ended_match};
@@ -44,6 +45,7 @@ fn end_of(row: &Row) -> Ended
     ensures { result ≡ end_of_row row.now }
 {
     match row.life {
+        // Asked of no live task. The model's definition answers so, and this is that definition.
         Life::Live => Ended::Killed,
         Life::Zombie(ended) => ended,
     }

@@ -1,4 +1,6 @@
-//! Which numbers are in use, and which comes next.
+//! Which numbers are in use, and which comes next: the cyclic draw of the kernel's
+//! `idr_alloc_cyclic`. Whether a number is in use is asked of each task's three names, so a draw
+//! costs the tasks times the numbers that it tries.
 ghost use Rattle.std.specs.Prelude.{◌≡◌, ◌<◌, ◌+◌, ◌^◌, ◌==◌, IfSome, nat_lt, length, Some, None, if◌then◌else◌};
 ghost use Rattle.pid_types.specs.Chains.{contains};
 ghost use Rattle.pid_types.specs.Names.{taken};
