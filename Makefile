@@ -14,7 +14,7 @@ list:
 work:
 	@cd crates/pidtab && rt run -- work ../../examples/worker0.script ../../examples/worker1.script
 
-# Answers the first script at once, with nothing proved: for a look, and for no more.
+# Answers the first script within a minute, unproved. Do not rely on the result: nothing is checked.
 try:
 	@cd crates/pidtab && rt try -- run < ../../examples/first.script
 

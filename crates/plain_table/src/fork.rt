@@ -181,7 +181,7 @@ impl PlainTable {
     fn plan_inside_new(&self, caller: &Row, stamp: u64) -> Result<ForkPlan, Refusal>
         ensures { MatchResult result
             (λ p. let planned = with_space self.now caller.now.children_space stamp in
-                (no_room planned caller.now stamp ≡ None) × (forked planned caller.now stamp ≡ changed (after_plan self.now p) p.reply))
+            (no_room planned caller.now stamp ≡ None) × (forked planned caller.now stamp ≡ changed (after_plan self.now p) p.reply))
             (λ r. no_room (with_space self.now caller.now.children_space stamp) caller.now stamp ≡ Some r) }
     {
         let added = Space {
