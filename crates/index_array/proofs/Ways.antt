@@ -1,8 +1,6 @@
 -- The way down from an inner node: the slot of an index, and what stands there.
-use Rattle.std.proofs.Common.{ℕ, ◌≡◌, ◌+◌, ◌/◌, ◌%◌, ◌^◌, ◌<◌, sym, ap, ◌∙◌, subst, arith, List, get_or, Option, Some, None}
-use Rattle.std.proofs.Math.ListN.{set}
+use Rattle.std.proofs.Common.{ℕ, ◌≡◌, ◌+◌, ◌/◌, ◌%◌, ◌^◌, ◌<◌, sym, ap, ◌∙◌, subst, List, get_or, Option, Some, None}
 use Rattle.std.proofs.Math.Nat.{mod-lt}
-use Rattle.std.proofs.lemmas.List.{set-get_or}
 use Rattle.index_array.specs.Place.{bare, place_at}
 use Rattle.index_array.specs.Tree.{Tree, places_of, IsNode}
 use Rattle.index_array.specs.declared.bits.Words.{Words}
@@ -22,10 +20,6 @@ pub record Way {T : Type 0} (h : ℕ) (cs : List (Option (Tree T))) (i k : ℕ) 
 
 pub way_at : {T : Type 0} (h : ℕ) (cs : List (Option (Tree T))) (i k : ℕ) (o : Option (Tree T)) → Way h cs i k o → get_or cs k None ≡ o
 way_at h cs i k o way = ap (λ n. get_or cs n None) way.at ∙ way.slot
-
--- to write back what was read changes nothing
-pub same_slots : {X : Type 0} (xs : List X) (k : ℕ) (x : X) → x ≡ get_or xs k x → set xs k x ≡ xs
-same_slots xs k x read = ap (set xs k) read ∙ set-get_or xs k x
 
 module _ {T : Type 0} (w : Words) (h : ℕ) (es : List (Option T)) (cs : List (Option (Tree T))) (node : IsNode w h es cs) where
   -- what the code reads at the slot

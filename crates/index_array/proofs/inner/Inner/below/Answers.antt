@@ -1,4 +1,4 @@
-use Rattle.std.proofs.Common.{arith, ap, ◌∙◌, ◌≡◌, ◌+◌, ◌/◌, ◌%◌, ◌^◌, None, Some, refl}
+use Rattle.std.proofs.Common.{arith, ap, ◌∙◌, ◌≡◌, ◌+◌, ◌/◌, ◌%◌, ◌^◌, Some}
 use Rattle.index_array.specs.Tree.{kids}
 use Rattle.index_array.proofs.Ways.{Way, way_child, way_empty, way_rest}
 use Rattle.index_array.proofs.Kids.{kid_way}

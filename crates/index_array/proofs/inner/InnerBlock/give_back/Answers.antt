@@ -1,6 +1,5 @@
-use Rattle.std.proofs.Common.{rules, arith, ap, sym, ◌∙◌, ◌≡◌, ◌+◌, ◌/◌, ◌%◌, ◌^◌, get_or, None, Some, Option, Box, refl}
+use Rattle.std.proofs.Common.{rules, arith, ap, sym, ◌∙◌, ◌≡◌, ◌+◌, ◌/◌, ◌%◌, ◌^◌, get_or, None, Some, refl}
 use Rattle.index_array.specs.Tree.{kids}
-use Rattle.index_array.proofs.Powers.{slot_below}
 use Rattle.index_array.proofs.Ways.{Way, way_rest}
 use Rattle.index_array.proofs.Kids.{kid_way, kids_set}
 use Rattle.index_array.proofs.Marks.{way_present}

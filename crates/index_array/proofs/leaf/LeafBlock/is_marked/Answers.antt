@@ -1,4 +1,4 @@
-use Rattle.std.proofs.Common.{ℕ, ap, sym, ◌≡◌, ◌∙◌, ◌<◌, ◌+◌, ◌^◌, subst, refl}
+use Rattle.std.proofs.Common.{ap, sym, ◌∙◌, ◌<◌, refl}
 use Rattle.index_array.specs.declared.bits.Sought.TheVariants.{Mark}
 use Rattle.index_array.proofs.Blocks.{leaf_bit}
 use Rattle.index_array.proofs.Leaves.{leaf_index}

@@ -1,4 +1,4 @@
-use Rattle.std.proofs.Common.{ℕ, ap, sym, ◌≡◌, ◌<◌, ◌+◌, ◌^◌, subst, refl}
+use Rattle.std.proofs.Common.{ap, sym, ◌<◌, refl}
 use Rattle.index_array.proofs.Leaves.{leaf_index, leaf_prepared}
 use Rattle.index_array.proofs.leaf.LeafBlock.is_prepared.Goals as goal
 

@@ -1,4 +1,4 @@
-use Rattle.std.proofs.Common.{rules, ap, sym, ◌∙◌, ◌≡◌, ℕ, zero, suc, ◌<◌, ◌+◌, ◌^◌, subst, length, get_or, Option, Some, None, is_some, not, Bool, false, List, [], ◌∷◌, IsNone, refl}
+use Rattle.std.proofs.Common.{rules, ap, ◌∙◌, ◌≡◌, ℕ, zero, suc, ◌<◌, length, get_or, Option, Some, None, is_some, not, Bool, false, List, [], ◌∷◌, IsNone, refl}
 use Rattle.std.proofs.lemmas.List.{get_or_default}
 use Rattle.index_array.specs.declared.bits.Sought.TheVariants.{Mark}
 use Rattle.index_array.proofs.Leaves.{leaf_index, leaf_written, leaf_value}

@@ -1,4 +1,4 @@
-use Rattle.std.proofs.Common.{ℕ, ap, sym, ◌≡◌, ◌∙◌, ◌<◌, ◌+◌, ◌^◌, subst, length, None, refl}
+use Rattle.std.proofs.Common.{ap, ◌∙◌, ◌<◌, length, None, refl}
 use Rattle.std.proofs.lemmas.List.{get_or_default}
 use Rattle.index_array.proofs.Leaves.{leaf_index, leaf_value}
 use Rattle.index_array.proofs.leaf.LeafBlock.value.Goals as goal
