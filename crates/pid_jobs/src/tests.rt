@@ -1,7 +1,7 @@
 ghost use Rattle.std.specs.Prelude.{◌≡◌, ℕ};
 
 use super::*;
-use locked_table::Record;
+use locked_table::{Record, Seat};
 use pid_types::call::Call;
 use pid_types::config::Config;
 use pid_types::entry::Receipt;
@@ -284,6 +284,15 @@ fn sixteen_share_a_limit(rt: HostRuntime) -> Result<(), Fail> {
     Ok(())
 }
 
+/// Makes a call, of which the callers know nothing more.
+fn receipt_for<L: Ledger>(
+    record: &mut Record<L, 2>,
+    seat: &mut Seat<L, 2>,
+    call: Call,
+) -> Result<Receipt, Fail> {
+    Ok(record.act(seat, call)?)
+}
+
 /// A record with one call of each worker, and a checkpoint between them; and their receipts.
 fn two_calls<L: Ledger>(
     rt: &impl Abort,
@@ -297,10 +306,10 @@ fn two_calls<L: Ledger>(
     let config = Config::default_values();
     let (mut record, mut seats) = Record::<L, 2>::new(alloc, blank, &config)?;
     assert_eq!(rt; seats.len(), 2);
-    let first = record.act(&mut seats[0], FORK)?;
+    let first = receipt_for(&mut record, &mut seats[0], FORK)?;
     record.checkpoint()?;
     let query = Call::GetPid { caller: 2 };
-    let second = record.act(&mut seats[1], query)?;
+    let second = receipt_for(&mut record, &mut seats[1], query)?;
     Ok((record, first, second))
 }
 
