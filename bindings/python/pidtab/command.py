@@ -1,0 +1,36 @@
+"""What the programs beside `pidtab` have in common."""
+
+import argparse
+import os
+import sys
+from collections.abc import Callable
+
+STATUS_DONE = 0
+STATUS_FAULT = 1
+STATUS_USAGE = 2
+
+
+def parser_of(name: str, about: str) -> argparse.ArgumentParser:
+    """Reads the words of a command line; wrong ones end the program with status 2."""
+    return argparse.ArgumentParser(prog=name, description=about, allow_abbrev=False)
+
+
+def complain(text: str, status: int) -> int:
+    """Says what went wrong, and answers the exit status."""
+    print(text, file=sys.stderr)
+    return status
+
+
+def finish(run: Callable[[], int]) -> None:
+    """Ends the program with the status of what it runs."""
+    # The name of a file may be any bytes.
+    sys.stdout.reconfigure(errors="surrogateescape")
+    sys.stderr.reconfigure(errors="surrogateescape")
+    try:
+        status = run()
+        sys.stdout.flush()
+    except BrokenPipeError:
+        # Who reads has seen enough; without this, Python would complain of it at its end.
+        os.dup2(os.open(os.devnull, os.O_WRONLY), sys.stdout.fileno())
+        status = STATUS_FAULT
+    sys.exit(status)
