@@ -44,7 +44,7 @@ def script_lines(path: Path) -> list[str]:
 
 
 class StoredScript:
-    """One of the worked scripts: its lines, what they are answered, and the list of its table where that is shown."""
+    """A script of the stored run: its lines, what they are answered, and the list of its table where that is shown."""
 
     def __init__(self, head: str, lines: list[bytes], answers: list[str]) -> None:
         self.name = head
@@ -56,7 +56,7 @@ class StoredScript:
 
 
 def stored_scripts() -> list[StoredScript]:
-    """The worked scripts of the gate's stored run, whose answers were written by hand."""
+    """The scripts of the stored run that the gate plays."""
     scripts = (STORED / "stdin").read_bytes().split(b"# ")[1:]
     answers = (STORED / "stdout").read_text(encoding="latin-1").split("# ")[1:]
     found = []

@@ -1,0 +1,81 @@
+"""Each refusal of docs/SCRIPT.md: how it comes about, and what is raised."""
+
+import errno
+import pickle
+import unittest
+
+from pidtab import Process, Refusal
+from tests.pages import quoted, read_page, rows, section
+
+DEFAULT_PID_MAX = 32768
+LEAST_PID_MAX = 301
+
+# The lines before, the line that is refused, the words of the table, and Python's class for the error.
+# A letter of the table stands for the id that is given here.
+CASES: list[tuple[list[str], str, str, str, type[OSError]]] = [
+    ([], "getpid 2", "ESRCH no-caller", "no-caller", ProcessLookupError),
+    ([], "nspid 1 2", "ESRCH no-task", "no-task", ProcessLookupError),
+    ([], "wait 1 any", "ECHILD no-child", "no-child", ChildProcessError),
+    (["fork 1"] * 299, "fork 1", "EAGAIN no-number S", "no-number 0", BlockingIOError),
+    (["mk 0", "limit 1 1", "move 1 1"], "fork 1", "EAGAIN pids-limit I", "pids-limit 1", BlockingIOError),
+    (["fork 1 new", "join 1 2", "exit 2 0"], "fork 1", "ENOMEM space-fallen", "space-fallen", OSError),
+    ([f"fork {caller} new" for caller in range(1, 33)], "fork 33 new", "ENOSPC too-deep", "too-deep", OSError),
+    (["fork 1 new", "join 1 2"], "fork 1 new", "EINVAL elsewhere", "elsewhere", OSError),
+    ([], "setpgid 1 0 -1", "EINVAL bad-group", "bad-group", OSError),
+    (["fork 1", "setsid 2"], "setpgid 1 2 0", "EPERM other-session", "other-session", PermissionError),
+    ([], "setsid 1", "EPERM is-leader", "is-leader", PermissionError),
+    (["fork 1"], "setpgid 2 0 9", "EPERM no-group", "no-group", PermissionError),
+    (["fork 1", "exec 2"], "setpgid 1 2 0", "EACCES executed", "executed", PermissionError),
+    ([], "exit 1 0", "EBUSY root-init", "root-init", OSError),
+    ([], "count 1", "ENOENT no-control", "no-control", FileNotFoundError),
+    (["mk 0", "move 1 1"], "rm 1", "EBUSY control-busy", "control-busy", OSError),
+    ([], "limit 0 1", "EINVAL root-control", "root-control", OSError),
+    (["mk 0"], "limit 1 4194305", "EINVAL bad-limit", "bad-limit", OSError),
+    ([f"mk {control}" for control in range(64)], "mk 64", "EAGAIN control-depth", "control-depth", BlockingIOError),
+]
+
+
+class Refusals(unittest.TestCase):
+    """What is refused raises the kernel's error."""
+
+    def test_all_of_the_page_are_here(self) -> None:
+        table = rows(section(read_page("docs/SCRIPT.md"), "## Refusals"))
+        self.assertEqual([quoted(row[0])[0] for row in table], [case[2] for case in CASES])
+
+    def test_each(self) -> None:
+        for before, line, answer, why, kind in CASES:
+            with self.subTest(answer):
+                self.refuse(before, line, answer, why, kind)
+
+    def refuse(self, before: list[str], line: str, answer: str, why: str, kind: type[OSError]) -> None:
+        """Plays a case."""
+        with Process(LEAST_PID_MAX if why.startswith("no-number") else DEFAULT_PID_MAX) as process:
+            self.assertFalse([it for it in process.answers(before) if it.startswith("E")])
+            with self.assertRaises(kind) as raised:
+                process.line(line)
+        refusal = raised.exception
+        assert isinstance(refusal, Refusal)
+        self.assertEqual(refusal.errno, getattr(errno, answer.split(" ")[0]))
+        self.assertEqual(refusal.why, why)
+        self.assertEqual(str(refusal), f"[Errno {refusal.errno}] {line}: {why}")
+
+    def test_a_method_raises_it(self) -> None:
+        with Process() as process:
+            with self.assertRaises(ProcessLookupError):
+                process.getpid(3)
+            with self.assertRaises(ChildProcessError):
+                process.wait(1)
+            with self.assertRaises(FileNotFoundError):
+                process.mk(5)
+            with self.assertRaises(PermissionError):
+                process.setsid(1)
+
+    def test_it_can_be_sent_to_another_process(self) -> None:
+        with Process() as process, self.assertRaises(Refusal) as raised:
+            process.exit(1)
+        copy = pickle.loads(pickle.dumps(raised.exception))
+        self.assertEqual((type(copy), copy.errno, copy.why), (Refusal, errno.EBUSY, "root-init"))
+
+
+if __name__ == "__main__":
+    unittest.main()
