@@ -1,0 +1,160 @@
+"""The list as the stored run and docs/SCRIPT.md have it, and its drawing."""
+
+import subprocess
+import sys
+import unittest
+
+from pidtab import BadList, Control, Listing, Space, Task, draw_list, read_list
+from tests.pages import REPOSITORY, blocks, read_page, section, stored_scripts
+
+LAUNCHER = REPOSITORY / "bindings" / "python" / "bin" / "pidtab-tree"
+
+# All that a line of a list may say: an init that has ended, a killed task, marks, a namespace that has fallen.
+WIDE_LIST = """\
+task 1 space 0 parent 0 group 1 session 1 control 0 live subreaper
+task 2,1 space 4 parent 1 group 1 session 1 control 7 exit 255
+task 3,2 space 4 parent 1 group 0 session 0 control 0 killed executed
+task 5 space 0 parent 1 group 5 session 5 control 0 live executed children 4 subreaper
+task 6 space 0 parent 5 group 5 session 5 control 8 live
+task 9,1 space 9 parent 6 group 5 session 5 control 0 live
+space 0 parent - cursor 10
+space 4 parent 0 cursor 3 fallen
+space 9 parent 0 cursor 2
+control 0 parent - limit max count 6
+control 7 parent 0 limit 0 count 2
+control 8 parent 7 limit 4194304 count 1
+control 20 parent 0 limit max count 0
+"""
+
+WIDE_TREE = """\
+processes
+  space 0
+    1 group 1 session 1 control 0 live subreaper
+      space 4
+        2,1 group 1 session 1 control 7 exit 255
+      space 4
+        3,2 group 0 session 0 control 0 killed executed
+      5 group 5 session 5 control 0 live executed children 4 subreaper
+        6 group 5 session 5 control 8 live
+          space 9
+            9,1 group 5 session 5 control 0 live
+namespaces
+  0 cursor 10
+    4 cursor 3 fallen
+    9 cursor 2
+control groups
+  0 count 6 limit max
+    7 count 2 limit 0
+      8 count 1 limit 4194304
+    20 count 0 limit max
+"""
+
+BAD_LISTS = [
+    ("hello\n", "line 1"),
+    ("control 0 parent - limit max count 1\n\n", "line 2"),
+    ("task 1 space 0 parent 0 group 1 session 1 control 0 alive\n", "line 1"),
+    ("task 1 space 0 parent 0 group 1 session 1 control 0 live subreaper executed\n", "line 1"),
+    ("task 1, space 0 parent 0 group 1 session 1 control 0 live\n", "line 1"),
+    ("space 0 parent - cursor\n", "line 1"),
+    ("space 0 parent - cursor 2 \n", "line 1"),
+    ("space 0 parent - cursor 2\r\n", "line 1"),
+    ("control 0 parent - limit - count 1\n", "line 1"),
+    ("space 3 parent 2 cursor 2\n", "parent is missing"),
+    ("space 2 parent 2 cursor 2\n", "parent is missing"),
+    ("space 0 parent - cursor 2\nspace 0 parent - cursor 2\n", "given twice"),
+]
+
+
+def say(listing: Listing) -> str:
+    """The text of a listing by the table of docs/SCRIPT.md."""
+    lines = [say_task(task) for task in listing.tasks]
+    for space in listing.spaces:
+        parent = "-" if space.parent is None else space.parent
+        lines.append(f"space {space.id} parent {parent} cursor {space.cursor}" + " fallen" * space.fallen)
+    for control in listing.controls:
+        parent, limit = ("-" if control.parent is None else control.parent), ("max" if control.limit is None else control.limit)
+        lines.append(f"control {control.id} parent {parent} limit {limit} count {control.count}")
+    return "".join(f"{line}\n" for line in lines)
+
+
+def say_task(task: Task) -> str:
+    """The line of a task."""
+    numbers = ",".join(str(number) for number in task.numbers)
+    places = f"space {task.space} parent {task.parent} group {task.group} session {task.session} control {task.control}"
+    end = "killed" if task.killed else f"exit {task.status}"
+    marks = " executed" * task.executed + ("" if task.children is None else f" children {task.children}")
+    return f"task {numbers} {places} {'live' if task.live else end}{marks}{' subreaper' * task.subreaper}"
+
+
+def launch(text: str, *words: str) -> "subprocess.CompletedProcess[str]":
+    """Runs the program."""
+    command = [sys.executable, str(LAUNCHER), *words]
+    return subprocess.run(command, input=text, capture_output=True, text=True, check=False)
+
+
+class Lists(unittest.TestCase):
+    """Reading."""
+
+    def test_each_field(self) -> None:
+        listing = read_list(WIDE_LIST)
+        self.assertEqual(listing.tasks[1], Task((2, 1), 4, 1, 1, 1, 7, False, 255, False, None, False))
+        self.assertEqual(listing.tasks[2], Task((3, 2), 4, 1, 0, 0, 0, False, None, True, None, False))
+        self.assertEqual(listing.tasks[3], Task((5,), 0, 1, 5, 5, 0, True, None, True, 4, True))
+        self.assertEqual(listing.spaces[1], Space(4, 0, 3, True))
+        self.assertEqual(listing.controls[2], Control(8, 7, 4194304, 1))
+        self.assertEqual([task.root for task in listing.tasks], [1, 2, 3, 5, 6, 9])
+        self.assertEqual([task.root for task in listing.tasks if task.killed], [3])
+
+    def test_stored_lists_are_read_whole(self) -> None:
+        texts = [script.list_text for script in stored_scripts() if script.list_text]
+        self.assertGreater(len(texts), 5)
+        for text in [*texts, WIDE_LIST]:
+            self.assertEqual(say(read_list(text)), text)
+
+    def test_bad_lists(self) -> None:
+        for text, words in BAD_LISTS:
+            with self.subTest(text), self.assertRaisesRegex(BadList, words):
+                draw_list(read_list(text))
+
+
+class Trees(unittest.TestCase):
+    """Drawing."""
+
+    def test_a_wide_list(self) -> None:
+        self.assertEqual(draw_list(read_list(WIDE_LIST)), WIDE_TREE)
+
+    def test_stored_lists_are_drawn_whole(self) -> None:
+        for text in [script.list_text for script in stored_scripts() if script.list_text]:
+            drawn = draw_list(read_list(text)).splitlines()
+            tasks = [line for line in drawn if " group " in line]
+            self.assertEqual(len(tasks), text.count("task "))
+            self.assertEqual(len([line for line in drawn if " cursor " in line]), text.count(" cursor "))
+            self.assertEqual(len([line for line in drawn if " limit " in line]), text.count(" limit "))
+
+    def test_a_long_chain(self) -> None:
+        lines = [f"task {it} space 0 parent {it - 1} group 1 session 1 control 0 live\n" for it in range(1, 2001)]
+        drawn = draw_list(read_list("".join(lines))).splitlines()
+        self.assertEqual(drawn[2001], " " * 4002 + "2000 group 1 session 1 control 0 live")
+
+    def test_the_program(self) -> None:
+        _, *lines = blocks(section(read_page("docs/SCRIPT.md"), "## The list"))[0].splitlines()
+        done = launch("".join(line + "\n" for line in lines))
+        self.assertEqual((done.returncode, done.stderr), (0, ""))
+        self.assertEqual(done.stdout.splitlines()[-3:], ["    1 cursor 3", "control groups", "  0 count 3 limit max"])
+
+    def test_the_faults_of_the_program(self) -> None:
+        done = launch("task 1\n")
+        self.assertEqual((done.returncode, done.stdout), (1, ""))
+        self.assertEqual(done.stderr, "pidtab-tree: line 1: not a line of `pidtab list`\n")
+        self.assertEqual(launch("").returncode, 1)
+        self.assertEqual(launch("", "word").returncode, 2)
+
+    def test_a_reader_who_leaves(self) -> None:
+        lines = [f"task {it} space 0 parent {it - 1} group 1 session 1 control 0 live\n" for it in range(1, 1001)]
+        command = f"'{sys.executable}' '{LAUNCHER}' | head -1"
+        done = subprocess.run(["sh", "-c", command], input="".join(lines), capture_output=True, text=True, check=False)
+        self.assertEqual((done.stdout, done.stderr), ("processes\n", ""))
+
+
+if __name__ == "__main__":
+    unittest.main()
