@@ -32,3 +32,32 @@ linux: run
 clean:
 	rm -rf crates/*/out
 	@$(MAKE) -s -C linux clean
+
+.PHONY: bindings install uninstall
+
+# The built program: where `make run` leaves it, or what the variable PIDTAB names.
+PIDTAB ?= crates/pidtab/out/pidtab
+PREFIX ?= /usr/local
+INSTALL ?= install
+PROGRAMS = pidtab-tree pidtab-check
+FOLDER = $(DESTDIR)$(PREFIX)
+
+# The tests of the Python package and of its programs. They need the built program, and Python 3.10 or later.
+bindings:
+	@cd bindings/python && PIDTAB='$(abspath $(PIDTAB))' python3 -B -m unittest discover -q -s tests -t .
+
+# The program, the programs beside it with their package, and the manual pages. It builds nothing.
+install:
+	@test -x '$(PIDTAB)' || { echo 'no program $(PIDTAB): build it with `make run`' >&2; exit 1; }
+	$(INSTALL) -d '$(FOLDER)/bin' '$(FOLDER)/share/pidtab/python/pidtab' '$(FOLDER)/share/man/man1' '$(FOLDER)/share/man/man5'
+	$(INSTALL) -m 755 '$(PIDTAB)' '$(FOLDER)/bin/pidtab'
+	$(INSTALL) -m 755 $(PROGRAMS:%=bindings/python/bin/%) '$(FOLDER)/bin'
+	$(INSTALL) -m 644 bindings/python/pidtab/*.py bindings/python/pidtab/py.typed '$(FOLDER)/share/pidtab/python/pidtab'
+	$(INSTALL) -m 644 LICENSE '$(FOLDER)/share/pidtab'
+	$(INSTALL) -m 644 man/*.1 '$(FOLDER)/share/man/man1'
+	$(INSTALL) -m 644 man/*.5 '$(FOLDER)/share/man/man5'
+
+uninstall:
+	rm -f '$(FOLDER)/bin/pidtab' $(PROGRAMS:%='$(FOLDER)/bin/%')
+	rm -f $(patsubst man/%,'$(FOLDER)/share/man/man1/%',$(wildcard man/*.1)) $(patsubst man/%,'$(FOLDER)/share/man/man5/%',$(wildcard man/*.5))
+	rm -rf '$(FOLDER)/share/pidtab'
