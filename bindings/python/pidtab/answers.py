@@ -1,6 +1,9 @@
-"""The answers that are more than one number."""
+"""What answers say. A program that answers what no call is answered is at fault."""
 
+import re
 from dataclasses import dataclass
+
+from pidtab.faults import ProgramFault
 
 
 @dataclass(frozen=True)
@@ -24,15 +27,48 @@ class Reaped:
         return self.status is None
 
 
+def match(pattern: str, answer: str) -> "re.Match[str]":
+    """The parts of an answer that has the form."""
+    found = re.fullmatch(pattern, answer, re.ASCII)
+    if found is None:
+        raise ProgramFault(f"the program answered `{answer}`")
+    return found
+
+
+def read_ok(answer: str) -> None:
+    """Sees to it that the answer is `ok`."""
+    match("ok", answer)
+
+
+def read_number(answer: str) -> int:
+    """The number that the answer is."""
+    return int(match(r"\d+", answer)[0])
+
+
+def read_next(answer: str) -> int | None:
+    """The number that the answer is, None for `end`."""
+    return None if answer == "end" else read_number(answer)
+
+
+def read_numbers(answer: str) -> tuple[int, ...]:
+    """The numbers that the answer is."""
+    return tuple(int(word) for word in match(r"\d+( \d+)*", answer)[0].split(" "))
+
+
+def read_control_id(answer: str) -> int:
+    """The id of `control ID`."""
+    return int(match(r"control (\d+)", answer)[1])
+
+
 def read_forked(answer: str) -> Forked:
-    """What `child N root R` says."""
-    _, child, _, root = answer.split(" ")
-    return Forked(int(child), int(root))
+    """The numbers of `child N root R`."""
+    found = match(r"child (\d+) root (\d+)", answer)
+    return Forked(int(found[1]), int(found[2]))
 
 
 def read_reaped(answer: str) -> Reaped | None:
     """What `reaped N exit S`, `reaped N killed` or `none` says."""
     if answer == "none":
         return None
-    _, child, end, *status = answer.split(" ")
-    return Reaped(int(child), int(status[0]) if end == "exit" else None)
+    found = match(r"reaped (\d+) (?:exit (\d+)|killed)", answer)
+    return Reaped(int(found[1]), None if found[2] is None else int(found[2]))

@@ -2,6 +2,7 @@
 
 import sys
 from collections.abc import Iterable
+from contextlib import AbstractContextManager, nullcontext
 from typing import BinaryIO
 
 from pidtab.command import STATUS_DONE, STATUS_FAULT, STATUS_USAGE, complain, finish, parser_of
@@ -21,9 +22,9 @@ def judge_lines(name: str, lines: Iterable[bytes]) -> list[str]:
     return said
 
 
-def open_script(name: str) -> BinaryIO:
-    """A file, or standard input."""
-    return sys.stdin.buffer if name == STANDARD_INPUT else open(name, "rb")
+def open_script(name: str) -> AbstractContextManager[BinaryIO]:
+    """A file, or standard input, which stays open as it may be named twice."""
+    return nullcontext(sys.stdin.buffer) if name == STANDARD_INPUT else open(name, "rb")
 
 
 def run() -> int:

@@ -114,11 +114,15 @@ def read_control(line: str) -> Control | None:
 
 def read_list(text: str) -> Listing:
     """What the text of a list says; BadList names the first line that is none of a list."""
-    read = []
-    for place, line in enumerate(text.split("\n"), start=1):
+    lines = text.split("\n")
+    if not text:
+        raise BadList("line 1: no list")
+    if lines.pop():
+        raise BadList(f"line {len(lines) + 1}: cut off, without a newline")
+    read: list[Task | Space | Control] = []
+    for place, line in enumerate(lines, start=1):
         item = read_task(line) or read_space(line) or read_control(line)
-        # The text ends with a newline, so its last line is empty.
-        if item is None and (line or place <= text.count("\n")):
+        if item is None:
             raise BadList(f"line {place}: not a line of `pidtab list`")
         read.append(item)
     return Listing(

@@ -10,7 +10,17 @@ from contextlib import suppress
 from types import TracebackType
 from typing import Literal
 
-from pidtab.answers import Forked, Reaped, read_forked, read_reaped
+from pidtab.answers import (
+    Forked,
+    Reaped,
+    read_control_id,
+    read_forked,
+    read_next,
+    read_number,
+    read_numbers,
+    read_ok,
+    read_reaped,
+)
 from pidtab.faults import ProgramEnded, ProgramFault, ProgramMissing, read_fault
 from pidtab.listing import Listing, read_list
 from pidtab.program import find_program
@@ -120,11 +130,11 @@ class Process:
 
     def exec(self, caller: int) -> None:
         """The caller executes a program."""
-        self.line(f"exec {caller}")
+        read_ok(self.line(f"exec {caller}"))
 
     def exit(self, caller: int, status: int = 0) -> None:
         """The caller ends."""
-        self.line(f"exit {caller} {status}")
+        read_ok(self.line(f"exit {caller} {status}"))
 
     def wait(
         self, caller: int, pid: int | None = None, *, own: bool = False, group: int | None = None
@@ -137,64 +147,63 @@ class Process:
 
     def setpgid(self, caller: int, pid: int = 0, group: int = 0) -> None:
         """The task goes into the group; 0 is the caller, and the target."""
-        self.line(f"setpgid {caller} {pid} {group}")
+        read_ok(self.line(f"setpgid {caller} {pid} {group}"))
 
     def setsid(self, caller: int) -> int:
         """The caller leads a new session; the answer is its number."""
-        return int(self.line(f"setsid {caller}"))
+        return read_number(self.line(f"setsid {caller}"))
 
     def getpid(self, caller: int) -> int:
         """The caller's number in its namespace."""
-        return int(self.line(f"getpid {caller}"))
+        return read_number(self.line(f"getpid {caller}"))
 
     def getppid(self, caller: int) -> int:
         """Its parent's number, 0 for one that it cannot see."""
-        return int(self.line(f"getppid {caller}"))
+        return read_number(self.line(f"getppid {caller}"))
 
     def getpgid(self, caller: int, pid: int = 0) -> int:
         """The group of the task, 0 where it cannot be seen."""
-        return int(self.line(f"getpgid {caller} {pid}"))
+        return read_number(self.line(f"getpgid {caller} {pid}"))
 
     def getsid(self, caller: int, pid: int = 0) -> int:
         """The session of the task, 0 where it cannot be seen."""
-        return int(self.line(f"getsid {caller} {pid}"))
+        return read_number(self.line(f"getsid {caller} {pid}"))
 
     def nspid(self, caller: int, pid: int) -> tuple[int, ...]:
         """The task's numbers from the caller's namespace inwards."""
-        return tuple(int(word) for word in self.line(f"nspid {caller} {pid}").split(" "))
+        return read_numbers(self.line(f"nspid {caller} {pid}"))
 
     def next(self, caller: int, kind: Kind = "task", start: int = 0) -> int | None:
         """The least number from the start on that is in use as that, or None."""
-        answer = self.line(f"next {caller} {kind} {start}")
-        return None if answer == "end" else int(answer)
+        return read_next(self.line(f"next {caller} {kind} {start}"))
 
     def join(self, caller: int, pid: int) -> None:
         """The caller's later children go into the namespace of the task."""
-        self.line(f"join {caller} {pid}")
+        read_ok(self.line(f"join {caller} {pid}"))
 
     def subreaper(self, caller: int, on: bool = True) -> None:
         """The caller takes orphans of its namespace, or no more."""
-        self.line(f"subreaper {caller} {'on' if on else 'off'}")
+        read_ok(self.line(f"subreaper {caller} {'on' if on else 'off'}"))
 
     def mk(self, parent: int = 0) -> int:
         """The id of a new control group."""
-        return int(self.line(f"mk {parent}").removeprefix("control "))
+        return read_control_id(self.line(f"mk {parent}"))
 
     def rm(self, control: int) -> None:
         """Removes a control group."""
-        self.line(f"rm {control}")
+        read_ok(self.line(f"rm {control}"))
 
     def limit(self, control: int, most: int | None = None) -> None:
         """How many tasks a control group may have; None is no limit."""
-        self.line(f"limit {control} {'max' if most is None else most}")
+        read_ok(self.line(f"limit {control} {'max' if most is None else most}"))
 
     def move(self, task: int, control: int) -> None:
         """The task, by its root number, goes into the control group."""
-        self.line(f"move {task} {control}")
+        read_ok(self.line(f"move {task} {control}"))
 
     def count(self, control: int = 0) -> int:
         """How many tasks the control group and those below it have."""
-        return int(self.line(f"count {control}"))
+        return read_number(self.line(f"count {control}"))
 
     @property
     def transcript(self) -> str:

@@ -77,8 +77,6 @@ def run() -> int:
     """Draws standard input."""
     parser_of("pidtab-tree", ABOUT).parse_args()
     text = sys.stdin.buffer.read().decode("latin-1")
-    if not text:
-        return complain("pidtab-tree: no list on standard input", STATUS_FAULT)
     try:
         sys.stdout.write(draw_list(read_list(text)))
     except BadList as fault:

@@ -1,5 +1,6 @@
 """What is a bad line, by docs/SCRIPT.md and by the program, and where it goes wrong."""
 
+import os
 import random
 import subprocess
 import sys
@@ -193,7 +194,7 @@ class Launcher(unittest.TestCase):
         self.assertEqual((done.returncode, done.stdout, done.stderr), (0, b"", b""))
 
     def test_standard_input(self) -> None:
-        for words in ([], ["-"]):
+        for words in ([], ["-"], ["-", "-"]):
             done = launch(*words, script=b"fork 1\n\nfork 1\r\nfork")
             self.assertEqual(done.returncode, 1)
             said = ["-:3:7: expected a newline alone, without a carriage return", "-:4:5: expected a caller, 0 to 4294967295"]
@@ -207,7 +208,11 @@ class Launcher(unittest.TestCase):
             good.write_bytes(b"fork 1\n")
             bad.write_bytes(b"exit 2 256\n")
             done = launch(str(bad), str(good))
+            unnamed = Path(os.fsdecode(bytes(bad) + b"\xff"))
+            unnamed.write_bytes(b"mk\n")
+            said = launch(str(unnamed)).stdout
         self.assertEqual((done.returncode, done.stdout.decode()), (1, f"{bad}:1:8: expected a status, 0 to 255\n"))
+        self.assertEqual(said, bytes(unnamed) + b":1:3: expected the id of a control group, 0 to 18446744073709551615\n")
 
     def test_wrong_words(self) -> None:
         self.assertEqual(launch("--no-such-word").returncode, 2)

@@ -109,6 +109,14 @@ class Faults(unittest.TestCase):
             process.fork(1)
         self.assertEqual(process.transcript, "")
 
+    def test_a_program_that_answers_something_else(self) -> None:
+        process = self.start("while read line; do echo hello; done")
+        calls = [lambda: process.fork(1), lambda: process.exec(1), lambda: process.wait(1), lambda: process.getpid(1),
+                 lambda: process.nspid(1, 1), lambda: process.next(1), lambda: process.mk(), lambda: process.rm(1)]  # fmt: skip
+        for call in calls:
+            with self.assertRaisesRegex(ProgramFault, "answered `hello`"):
+                call()
+
     def test_a_list_that_fails(self) -> None:
         process = self.start('if [ "$1" = list ]; then echo pidtab: no memory >&2; exit 1; fi', "read line")
         with self.assertRaisesRegex(ProgramFault, "list ended with status 1: pidtab: no memory"):

@@ -39,6 +39,7 @@ class Install(unittest.TestCase):
         kept = self.prefix / "bin" / "another"
         kept.touch()
         self.run_installed()
+        self.assertTrue(list(self.prefix.rglob("*.pyc")))
         self.assertEqual(self.make("uninstall").returncode, 0)
         self.assertEqual([path for path in self.staged.rglob("*") if path.is_file()], [kept])
 
@@ -46,7 +47,8 @@ class Install(unittest.TestCase):
         """The three programs, from another folder and without the variables of this one."""
         binaries = self.prefix / "bin"
         command = "printf 'fork 1\\n' | ./pidtab list | ./pidtab-tree && echo frok | ./pidtab-check"
-        clean = {"PATH": os.environ["PATH"], "PYTHONDONTWRITEBYTECODE": "1"}
+        # Python may keep its compiled modules beside the package, and these have to go too.
+        clean = {"PATH": os.environ["PATH"]}
         done = subprocess.run(["sh", "-c", command], cwd=binaries, env=clean, capture_output=True, text=True, check=False)
         self.assertEqual((done.returncode, done.stderr), (1, ""))
         self.assertIn("    1 group 1 session 1 control 0 live\n      2 group 1", done.stdout)

@@ -59,6 +59,7 @@ BAD_LISTS = [
     ("space 0 parent - cursor 2 \n", "line 1"),
     ("space 0 parent - cursor 2\r\n", "line 1"),
     ("control 0 parent - limit - count 1\n", "line 1"),
+    ("space 0 parent - cursor 2\ncontrol 0 parent - limit max count 1", "line 2: cut off"),
     ("space 3 parent 2 cursor 2\n", "parent is missing"),
     ("space 2 parent 2 cursor 2\n", "parent is missing"),
     ("space 0 parent - cursor 2\nspace 0 parent - cursor 2\n", "given twice"),
@@ -146,7 +147,7 @@ class Trees(unittest.TestCase):
         done = launch("task 1\n")
         self.assertEqual((done.returncode, done.stdout), (1, ""))
         self.assertEqual(done.stderr, "pidtab-tree: line 1: not a line of `pidtab list`\n")
-        self.assertEqual(launch("").returncode, 1)
+        self.assertEqual(launch("").stderr, "pidtab-tree: line 1: no list\n")
         self.assertEqual(launch("", "word").returncode, 2)
 
     def test_a_reader_who_leaves(self) -> None:
