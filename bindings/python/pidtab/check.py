@@ -24,7 +24,9 @@ def judge_lines(name: str, lines: Iterable[bytes]) -> list[str]:
 
 def open_script(name: str) -> AbstractContextManager[BinaryIO]:
     """A file, or standard input, which stays open as it may be named twice."""
-    return nullcontext(sys.stdin.buffer) if name == STANDARD_INPUT else open(name, "rb")
+    if name == STANDARD_INPUT:
+        return nullcontext(sys.stdin.buffer)
+    return open(name, "rb")
 
 
 def run() -> int:

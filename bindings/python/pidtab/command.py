@@ -1,6 +1,7 @@
 """What the programs beside `pidtab` have in common."""
 
 import argparse
+import io
 import os
 import sys
 from collections.abc import Callable
@@ -23,9 +24,10 @@ def complain(text: str, status: int) -> int:
 
 def finish(run: Callable[[], int]) -> None:
     """Ends the program with the status of what it runs."""
-    # The name of a file may be any bytes.
-    sys.stdout.reconfigure(errors="surrogateescape")
-    sys.stderr.reconfigure(errors="surrogateescape")
+    for stream in (sys.stdout, sys.stderr):
+        # The name of a file may be any bytes.
+        if isinstance(stream, io.TextIOWrapper):
+            stream.reconfigure(errors="surrogateescape")
     try:
         status = run()
         sys.stdout.flush()

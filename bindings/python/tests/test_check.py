@@ -194,7 +194,7 @@ class Launcher(unittest.TestCase):
         self.assertEqual((done.returncode, done.stdout, done.stderr), (0, b"", b""))
 
     def test_standard_input(self) -> None:
-        for words in ([], ["-"], ["-", "-"]):
+        for words in ((), ("-",), ("-", "-")):
             done = launch(*words, script=b"fork 1\n\nfork 1\r\nfork")
             self.assertEqual(done.returncode, 1)
             said = ["-:3:7: expected a newline alone, without a carriage return", "-:4:5: expected a caller, 0 to 4294967295"]

@@ -3,6 +3,7 @@
 import os
 import tempfile
 import unittest
+from collections.abc import Callable
 from pathlib import Path
 from unittest import mock
 
@@ -30,7 +31,7 @@ class Faults(unittest.TestCase):
         return process
 
     def test_a_program_that_is_missing(self) -> None:
-        for path in ("/no/such/pidtab", self.folder.name, self.program("exit", mode=0o644)):
+        for path in ("/no/such/pidtab", self.folder.name, str(self.program("exit", mode=0o644))):
             with self.subTest(path), self.assertRaisesRegex(ProgramMissing, f"no program {path}"):
                 Process(program=path)
 
@@ -111,7 +112,7 @@ class Faults(unittest.TestCase):
 
     def test_a_program_that_answers_something_else(self) -> None:
         process = self.start("while read line; do echo hello; done")
-        calls = [lambda: process.fork(1), lambda: process.exec(1), lambda: process.wait(1), lambda: process.getpid(1),
+        calls: list[Callable[[], object]] = [lambda: process.fork(1), lambda: process.exec(1), lambda: process.wait(1), lambda: process.getpid(1),
                  lambda: process.nspid(1, 1), lambda: process.next(1), lambda: process.mk(), lambda: process.rm(1)]  # fmt: skip
         for call in calls:
             with self.assertRaisesRegex(ProgramFault, "answered `hello`"):

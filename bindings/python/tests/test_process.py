@@ -27,13 +27,13 @@ class Calls(unittest.TestCase):
 
     def test_exec(self) -> None:
         give_child(self.process)
-        self.assertIsNone(self.process.exec(2))
+        self.process.exec(2)
         self.assertEqual([task.executed for task in self.process.list().tasks], [False, True])
 
     def test_exit_and_wait(self) -> None:
         give_child(self.process)
         self.assertIsNone(self.process.wait(1))
-        self.assertIsNone(self.process.exit(2, 255))
+        self.process.exit(2, 255)
         self.assertEqual(self.process.wait(1), Reaped(child=2, status=255))
 
     def test_wait_for_one(self) -> None:
@@ -74,7 +74,7 @@ class Calls(unittest.TestCase):
     def test_setpgid(self) -> None:
         give_child(self.process)
         self.assertEqual(self.process.getpgid(2), 1)
-        self.assertIsNone(self.process.setpgid(2))
+        self.process.setpgid(2)
         self.assertEqual(self.process.getpgid(1, 2), 2)
         self.process.setpgid(1, 2, 1)
         self.assertEqual(self.process.getpgid(1, 2), 1)
@@ -112,14 +112,14 @@ class Calls(unittest.TestCase):
 
     def test_join(self) -> None:
         self.process.fork(1, new=True)
-        self.assertIsNone(self.process.join(1, 2))
+        self.process.join(1, 2)
         self.assertEqual(self.process.list().tasks[0].children, 1)
         self.process.fork(1)
         self.assertEqual(self.process.nspid(1, 3), (3, 2))
 
     def test_subreaper(self) -> None:
         self.process.fork(1)
-        self.assertIsNone(self.process.subreaper(2))
+        self.process.subreaper(2)
         self.process.fork(2)
         self.process.fork(3)
         self.process.exit(3)
@@ -131,13 +131,13 @@ class Calls(unittest.TestCase):
     def test_control_groups(self) -> None:
         self.assertEqual(self.process.mk(), 1)
         self.assertEqual(self.process.mk(1), 2)
-        self.assertIsNone(self.process.limit(1, 4194304))
-        self.assertIsNone(self.process.move(1, 2))
+        self.process.limit(1, 4194304)
+        self.process.move(1, 2)
         self.assertEqual([self.process.count(group) for group in (0, 1, 2)], [1, 1, 1])
         self.assertEqual(self.process.list().controls[1], Control(id=1, parent=0, limit=4194304, count=1))
         self.process.limit(1)
         self.process.move(1, 0)
-        self.assertIsNone(self.process.rm(2))
+        self.process.rm(2)
         self.assertEqual(self.process.count(), 1)
         self.assertEqual(self.process.list().controls[1:], (Control(id=1, parent=0, limit=None, count=0),))
 
