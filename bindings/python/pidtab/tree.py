@@ -78,9 +78,11 @@ def run() -> int:
     parser_of("pidtab-tree", ABOUT).parse_args()
     text = sys.stdin.buffer.read().decode("latin-1")
     try:
-        sys.stdout.write(draw_list(read_list(text)))
+        drawing = draw_list(read_list(text))
     except BadList as fault:
         return complain(f"pidtab-tree: {fault}", STATUS_FAULT)
+    # By lines, as Python without buffers loses what one long write leaves over.
+    sys.stdout.writelines(drawing.splitlines(keepends=True))
     return STATUS_DONE
 
 

@@ -80,6 +80,14 @@ class Faults(unittest.TestCase):
         self.assertEqual(process.transcript, "getpid 1\n")
         self.assertEqual(process.close(), 3)
 
+    def test_a_program_that_has_ended(self) -> None:
+        # What it wrote before its end is read all the same.
+        process = self.start("echo 1")
+        process._child.wait()
+        self.assertEqual(process.getpid(1), 1)
+        with self.assertRaisesRegex(ProgramEnded, "ended with status 0"):
+            process.getpid(1)
+
     def test_a_program_that_is_killed(self) -> None:
         process = self.start("read line", "kill -9 $$")
         with self.assertRaisesRegex(ProgramEnded, "ended with status -9"):

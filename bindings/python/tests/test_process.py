@@ -50,9 +50,10 @@ class Calls(unittest.TestCase):
         self.process.setpgid(1, 2)
         for task in (2, 3, 4):
             self.process.exit(task, task)
+        # The least that has ended is 2, so none of these is what a wait for any would reap.
         self.assertEqual(self.process.wait(1, own=True), Reaped(child=3, status=3))
-        self.assertEqual(self.process.wait(1, group=2), Reaped(child=2, status=2))
         self.assertEqual(self.process.wait(1, group=1), Reaped(child=4, status=4))
+        self.assertEqual(self.process.wait(1, group=2), Reaped(child=2, status=2))
 
     def test_wait_for_one_thing_only(self) -> None:
         with self.assertRaises(ValueError):
@@ -185,7 +186,11 @@ class Lines(unittest.TestCase):
         for caller in range(1, 33):
             self.process.fork(caller, new=True)
         numbers = " ".join(str(number) for number in range(33, 0, -1))
-        self.assertEqual(self.process.answers(["nspid 1 33"] * 3000), (numbers,) * 3000)
+        watch = threading.Timer(60, self.process._child.kill)
+        watch.start()
+        answers = self.process.answers(["nspid 1 33", "x" * 200] * 1500)
+        watch.cancel()
+        self.assertEqual(answers, (numbers, "bad line") * 1500)
 
     def test_no_lines(self) -> None:
         self.assertEqual(self.process.answers([]), ())

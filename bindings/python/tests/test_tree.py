@@ -151,7 +151,7 @@ class Trees(unittest.TestCase):
         self.assertEqual(launch("", "word").returncode, 2)
 
     def test_a_reader_who_leaves(self) -> None:
-        lines = [f"task {it} space 0 parent {it - 1} group 1 session 1 control 0 live\n" for it in range(1, 1001)]
+        lines = [f"task {it} space 0 parent {it - 1} group 1 session 1 control 0 live\n" for it in range(1, 2001)]
         command = f"'{sys.executable}' '{LAUNCHER}' | head -1"
         done = subprocess.run(["sh", "-c", command], input="".join(lines), capture_output=True, text=True, check=False)
         self.assertEqual((done.stdout, done.stderr), ("processes\n", ""))
