@@ -5,8 +5,8 @@ import subprocess
 import tempfile
 import threading
 from collections import deque
-from collections.abc import Iterable
-from contextlib import suppress
+from collections.abc import Iterable, Iterator
+from contextlib import contextmanager, suppress
 from types import TracebackType
 from typing import Literal
 
@@ -73,6 +73,8 @@ class Process:
         self.pid_max = pid_max
         self._asked: list[bytes] = []
         self._lock = threading.Lock()
+        # Why nothing more can be asked; empty where it can.
+        self._lost = ""
         # A file and not a pipe, so that nobody needs to read while the program runs.
         self._complaints = tempfile.TemporaryFile()
         try:
@@ -99,12 +101,13 @@ class Process:
         status = self._child.wait()
         self._child.stdout.close()
         self._complaints.close()
+        self._lost = "the process was closed"
         return status
 
     def line(self, text: str) -> str:
         """The answer to a raw line; refusals and bad lines are raised."""
         sent = as_line(text)
-        with self._lock:
+        with self._turn():
             self._send([sent])
             answer = self._receive(sent)
         fault = read_fault(text, answer)
@@ -116,7 +119,7 @@ class Process:
         """The answers to many raw lines, in one go: refusals and bad lines are answers here, and nothing is raised."""
         lines = [as_line(text) for text in texts]
         answers: list[str] = []
-        with self._lock:
+        with self._turn():
             for start in range(0, len(lines), LINES_AHEAD):
                 waiting = deque(lines[start : start + LINES_AHEAD])
                 self._send(waiting)
@@ -221,11 +224,19 @@ class Process:
     def _words(self, command: str) -> tuple[str, ...]:
         return (str(self.program), command, "--pid-max", str(self.pid_max))
 
+    @contextmanager
+    def _turn(self) -> Iterator[None]:
+        """Gives each line its own answer: after a turn that was broken off, as by Ctrl-C, nothing more is asked."""
+        with self._lock:
+            if self._lost:
+                raise ProgramEnded(self._lost)
+            self._lost = "an earlier call was broken off"
+            yield
+            self._lost = ""
+
     def _send(self, lines: Iterable[bytes]) -> None:
         """Writes lines to the program."""
         assert self._child.stdin
-        if self._child.stdin.closed:
-            raise ProgramEnded("the process was closed")
         # Where the program has ended, what it wrote before is still to be read.
         with suppress(BrokenPipeError):
             self._child.stdin.write(b"".join(lines))
@@ -236,7 +247,8 @@ class Process:
         assert self._child.stdout
         read = self._child.stdout.readline()
         if not read.endswith(b"\n"):
-            raise ProgramEnded(self._end())
+            self._lost = self._end()
+            raise ProgramEnded(self._lost)
         answer = read[:-1].decode("latin-1")
         if answer not in NOT_MADE:
             self._asked.append(line)

@@ -75,7 +75,7 @@ class Faults(unittest.TestCase):
         process = self.start("read line", "echo 1", "read line", "exit 3")
         self.assertEqual(process.getpid(1), 1)
         for _ in range(2):
-            with self.assertRaises(ProgramEnded):
+            with self.assertRaisesRegex(ProgramEnded, "ended with status 3"):
                 process.getpid(1)
         self.assertEqual(process.transcript, "getpid 1\n")
         self.assertEqual(process.close(), 3)
@@ -138,6 +138,14 @@ class Faults(unittest.TestCase):
         process.close()
         words = (Path(self.folder.name) / "pidtab.words").read_text().splitlines()
         self.assertEqual(sorted(words), ["list --pid-max 301", "run --pid-max 301"])
+
+    def test_a_call_that_was_broken_off(self) -> None:
+        # The next line must not get the answer that was not read.
+        process = self.start("while read line; do echo 1; done")
+        with mock.patch.object(process, "_receive", side_effect=KeyboardInterrupt), self.assertRaises(KeyboardInterrupt):
+            process.getpid(1)
+        with self.assertRaisesRegex(ProgramEnded, "broken off"):
+            process.getpid(1)
 
     def test_a_process_that_was_closed(self) -> None:
         with self.start("while read line; do echo 1; done", "exit 5") as process:

@@ -6,7 +6,7 @@ import sys
 import unittest
 
 from pidtab import Process
-from tests.pages import REPOSITORY, read_page
+from tests.pages import REPOSITORY, blocks, read_page, section
 
 PACKAGES = REPOSITORY / "bindings" / "python"
 MANUAL = REPOSITORY / "man"
@@ -31,6 +31,21 @@ class Examples(unittest.TestCase):
         self.assertGreater(len(code.splitlines()), 15)
         done = subprocess.run([sys.executable, "-c", code], cwd=PACKAGES, capture_output=True, text=True, check=False)
         self.assertEqual((done.stderr, done.stdout), ("", printed))
+
+    def test_the_lines_of_the_first_page(self) -> None:
+        block = blocks(section(read_page("README.md"), "## From Python"))[0]
+        calls = re.findall(r"^    (process\..*?) +# (.*)$", block, re.MULTILINE)
+        self.assertEqual(len(calls), 2)
+        with Process() as process:
+            for call, said in calls:
+                self.assertEqual(self.say(call, process), said)
+
+    def say(self, call: str, process: Process) -> str:
+        """What a call answers, or which of Python's errors it raises."""
+        try:
+            return repr(eval(call, {"process": process}))
+        except ProcessLookupError as fault:
+            return f"ProcessLookupError: {fault}"
 
     def test_the_manual_of_the_language(self) -> None:
         script, answers = displays((MANUAL / "pidtab.5").read_text())
