@@ -33,7 +33,7 @@ clean:
 	rm -rf crates/*/out
 	@$(MAKE) -s -C linux clean
 
-.PHONY: bindings install uninstall
+.PHONY: built bindings install uninstall
 
 # The built program: where `make run` leaves it, or what the variable PIDTAB names.
 PIDTAB ?= crates/pidtab/out/pidtab
@@ -42,13 +42,15 @@ INSTALL ?= install
 PROGRAMS = pidtab-tree pidtab-check
 FOLDER = $(DESTDIR)$(PREFIX)
 
+built:
+	@test -x '$(PIDTAB)' || { echo 'no program $(PIDTAB): build it with `make run`' >&2; exit 1; }
+
 # The tests of the Python package and of its programs. They need the built program, and Python 3.10 or later.
-bindings:
-	@cd bindings/python && PIDTAB='$(abspath $(PIDTAB))' python3 -B -m unittest discover -q -s tests -t .
+bindings: built
+	@PIDTAB='$(PIDTAB)' python3 -B -m unittest discover -q -s bindings/python/tests -t bindings/python
 
 # The program, the programs beside it with their package, and the manual pages. It builds nothing.
-install:
-	@test -x '$(PIDTAB)' || { echo 'no program $(PIDTAB): build it with `make run`' >&2; exit 1; }
+install: built
 	$(INSTALL) -d '$(FOLDER)/bin' '$(FOLDER)/share/pidtab/python/pidtab' '$(FOLDER)/share/man/man1' '$(FOLDER)/share/man/man5'
 	$(INSTALL) -m 755 '$(PIDTAB)' '$(FOLDER)/bin/pidtab'
 	$(INSTALL) -m 755 $(PROGRAMS:%=bindings/python/bin/%) '$(FOLDER)/bin'

@@ -45,23 +45,26 @@ def control_node(control: Control) -> Node:
 
 def draw_nodes(nodes: Sequence[Node]) -> list[str]:
     """Each node below its parent, and below a line of its namespace where that is not its parent's."""
+    # With an id given twice, the drawing below might have no end.
+    if len({node.id for node in nodes}) != len(nodes):
+        raise BadList("one id is given twice")
     below: dict[int | None, list[Node]] = {}
     for node in reversed(nodes):
         below.setdefault(node.parent, []).append(node)
     # A list of what is still to be drawn and no recursion, as a chain of parents may be long.
     waiting: list[tuple[int, int | None, Node]] = [(1, None, node) for node in below.get(None, [])]
     lines: list[str] = []
-    drawn: set[int] = set()
+    drawn = 0
     while waiting:
         depth, outer, node = waiting.pop()
-        drawn.add(node.id)
+        drawn += 1
         if node.space != outer:
             lines.append(f"{INDENT * depth}space {node.space}")
             depth += 1
         lines.append(INDENT * depth + node.text)
         waiting.extend((depth + 1, node.space, child) for child in below.get(node.id, []))
-    if len(drawn) != len(nodes):
-        raise BadList("a parent is missing, or one id is given twice")
+    if drawn != len(nodes):
+        raise BadList("a parent is missing")
     return lines
 
 

@@ -26,7 +26,10 @@ class Install(unittest.TestCase):
     def make(self, target: str, program: Path | None = None) -> "subprocess.CompletedProcess[str]":
         """Runs a target with a folder for its files."""
         words = [f"DESTDIR={self.staged}", f"PREFIX={PREFIX}", f"PIDTAB={program or find_program()}"]
-        return subprocess.run(["make", "-s", target, *words], cwd=REPOSITORY, capture_output=True, text=True, check=False)
+        # Without the flags of a make that runs these tests.
+        clean = {name: value for name, value in os.environ.items() if not name.startswith(("MAKE", "MFLAGS"))}
+        command = ["make", "-s", target, *words]
+        return subprocess.run(command, cwd=REPOSITORY, env=clean, capture_output=True, text=True, check=False)
 
     def files(self) -> list[str]:
         """All files that are there, without the modules of the package."""

@@ -1,11 +1,12 @@
 """The examples of docs/LIBRARY.md and of the manual pages, run as printed."""
 
+import os
 import re
 import subprocess
 import sys
 import unittest
 
-from pidtab import Process
+from pidtab import Process, find_program
 from tests.pages import REPOSITORY, blocks, read_page, section
 
 PACKAGES = REPOSITORY / "bindings" / "python"
@@ -29,7 +30,8 @@ class Examples(unittest.TestCase):
         page = read_page("docs/LIBRARY.md")
         (code,), (printed,) = fenced(page, "python"), fenced(page, "text")
         self.assertGreater(len(code.splitlines()), 15)
-        done = subprocess.run([sys.executable, "-c", code], cwd=PACKAGES, capture_output=True, text=True, check=False)
+        words = {**os.environ, "PIDTAB": str(find_program()), "PYTHONPATH": str(PACKAGES)}
+        done = subprocess.run([sys.executable, "-c", code], env=words, capture_output=True, text=True, check=False)
         self.assertEqual((done.stderr, done.stdout), ("", printed))
 
     def test_the_lines_of_the_first_page(self) -> None:
@@ -66,9 +68,7 @@ class Examples(unittest.TestCase):
 
     def run_command(self, command: str) -> str:
         """What a command of the shell writes, with the programs of this repository."""
-        with Process() as process:
-            program = process.program
-        words = {"pidtab": program, **{name: PACKAGES / "bin" / name for name in ("pidtab-tree", "pidtab-check")}}
+        words = {"pidtab": find_program(), **{name: PACKAGES / "bin" / name for name in ("pidtab-tree", "pidtab-check")}}
         found = re.sub(r"(?<=\| )pidtab[-a-z]*", lambda it: f"'{words[it[0]]}'", command)
         return subprocess.run(["sh", "-c", found], capture_output=True, text=True, check=False).stdout
 

@@ -63,6 +63,7 @@ BAD_LISTS = [
     ("space 3 parent 2 cursor 2\n", "parent is missing"),
     ("space 2 parent 2 cursor 2\n", "parent is missing"),
     ("space 0 parent - cursor 2\nspace 0 parent - cursor 2\n", "given twice"),
+    ("space 0 parent - cursor 2\nspace 1 parent 0 cursor 2\nspace 0 parent 1 cursor 2\n", "given twice"),
 ]
 
 
