@@ -1,23 +1,9 @@
 """The table's answers: the program pidtab, driven through a pipe."""
 
-import os
 import subprocess
 from pathlib import Path
 
-REPOSITORY = Path(__file__).resolve().parent.parent.parent
-DEFAULT_PROGRAM = REPOSITORY / "crates" / "pidtab" / "out" / "pidtab"
-
-
-class NoTable(RuntimeError):
-    """The program is not there, or does not answer."""
-
-
-def find_program(named: str | None) -> Path:
-    """The program that an option names, or the variable PIDTAB, or else the one that `make run` builds."""
-    program = Path(named or os.environ.get("PIDTAB") or DEFAULT_PROGRAM)
-    if not os.access(program, os.X_OK):
-        raise NoTable(f"no program {program}: build it with `make run`, or name one with --pidtab FILE")
-    return program
+from pidtab.faults import ProgramFault
 
 
 class Table:
@@ -35,10 +21,10 @@ class Table:
             self.process.stdin.write(line + b"\n")
             self.process.stdin.flush()
         except BrokenPipeError as fault:
-            raise NoTable(f"{self.program} reads no more") from fault
+            raise ProgramFault(f"{self.program} reads no more") from fault
         answer = self.process.stdout.readline()
         if not answer.endswith(b"\n"):
-            raise NoTable(f"{self.program} does not answer `{line.decode('latin-1')}`")
+            raise ProgramFault(f"{self.program} does not answer `{line.decode('latin-1')}`")
         return answer[:-1].decode("latin-1")
 
     def close(self) -> None:
@@ -63,5 +49,5 @@ def list_lines(program: Path, pid_max: int, script: bytes) -> list[str]:
     words = [str(program), "list", "--pid-max", str(pid_max)]
     done = subprocess.run(words, input=script, stdout=subprocess.PIPE, check=False)
     if done.returncode != 0:
-        raise NoTable(f"{program} list ends with status {done.returncode}")
+        raise ProgramFault(f"{program} list ends with status {done.returncode}")
     return done.stdout.decode("latin-1").splitlines()
