@@ -3,7 +3,7 @@
 //! One thread may use a record as it is, with [`Record::act`]; several share it as a
 //! [`crate::Shared`], whose guard lends it. The history grows by an entry of 184 bytes with each
 //! call, until a [`Record::checkpoint`] empties it.
-ghost use Rattle.std.specs.Prelude.{◌≡◌, ℕ, ◌+◌, ◌^◌, ◌<◌, ◌≤◌, ◌==◌, [], ◌∷◌, ◌++◌, ◌↔◌, length, All, IsTrue, sum, slice_index, slice_get, replicate, IfOk, OnOk, OnErr, IsOk, Err};
+ghost use Rattle.std.specs.Prelude.{◌≡◌, ℕ, ◌+◌, ◌^◌, ◌<◌, ◌≤◌, ◌==◌, [], ◌∷◌, ◌++◌, ◌↔◌, length, All, IsTrue, sum, slice_index, slice_get, replicate, IfOk, OnOk, OnErr, IsOk, IfSome, None, Err, vec_len, vec_capacity};
 ghost use Rattle.std.specs.Option.{option_copied};
 ghost use Rattle.pid_types.specs.State.{root_state};
 ghost use Rattle.pid_types.specs.declared.entry.Entry.{Entry};
@@ -216,28 +216,65 @@ impl<L: Ledger, const N: usize> Record<L, N> {
         ensures err_room { OnErr result (self.old.room ≤ self.new.room) }
         ensures no_memory { result ≡ Err CallFault.NoMemory → 0 < self.old.room → IsTrue (may_grow call) }
     {
-        let ordinal = self.first_kept + self.history.len() as u64;
-        let stamp = self.config.first_stamp() + ordinal;
-        if stamp == u64::MAX {
+        let Some(stamp) = self.stamp() else {
             return Err(CallFault::Spent);
-        }
+        };
         self.history.reserve(1)?;
         let reply = self.table.step(stamp, call)?;
-        self.book.audit(&mut seat.share);
-        self.book.add(&mut seat.share, 1);
-        seat.calls += 1;
-        let worker = seat.worker;
-        self.history.push_reserved(Entry {
-            worker,
-            call,
-            reply: copy_reply(&reply),
-        });
-        Ok(Receipt {
+        let ordinal = self.first_kept + self.history.len() as u64;
+        Ok(book_call(
+            &mut self.history,
+            &mut self.book,
+            seat,
             ordinal,
-            worker,
             call,
             reply,
-        })
+        ))
+    }
+
+    /// The stamp of the next call; none where that would be `u64::MAX`, which is never a stamp.
+    fn stamp(&self) -> Option<u64>
+        ensures none { (result ≡ None) ↔ (next_stamp self.now ≡ u64.MAX) }
+        ensures some { IfSome result (λ stamp. stamp ≡ next_stamp self.now) }
+    {
+        let stamp = self.config.first_stamp() + self.first_kept + self.history.len() as u64;
+        if stamp == u64::MAX { None } else { Some(stamp) }
+    }
+}
+
+/// Books a call that was made: its entry behind the history, for which there is room, and one more
+/// in the book and at the seat.
+fn book_call<L: Ledger, const N: usize>(
+    history: &mut Vec<Entry>,
+    book: &mut Book<L>,
+    seat: &mut Seat<L, N>,
+    ordinal: u64,
+    call: Call,
+    reply: Reply,
+) -> Receipt
+    requires room { vec_len history.old < vec_capacity history.old }
+    requires fits { book.old.total + 1 < 2 ^ 64 }
+    ensures receipt { result ≡ record { ordinal = ordinal; worker = seat.old.worker; call = call; reply = reply } }
+    ensures history { history.new.items ≡ history.old.items ++ record { worker = seat.old.worker; call = call; reply = reply } ∷ [] }
+    ensures capacity { vec_capacity history.new ≡ vec_capacity history.old }
+    ensures book { book.new.total ≡ book.old.total + 1 }
+    ensures seat { seat.new ≡ record seat.old { calls = seat.old.calls + 1 } }
+    ensures known { seat.old.worker < N }
+{
+    book.audit(&mut seat.share);
+    book.add(&mut seat.share, 1);
+    seat.calls += 1;
+    let worker = seat.worker;
+    history.push_reserved(Entry {
+        worker,
+        call,
+        reply: copy_reply(&reply),
+    });
+    Receipt {
+        ordinal,
+        worker,
+        call,
+        reply,
     }
 }
 
