@@ -150,6 +150,20 @@ impl<L: Ledger, const N: usize> Record<L, N> {
         entry_in(self.history.as_slice(), ordinal - self.first_kept)
     }
 
+    /// How many tasks there are, ended ones too. It costs nothing.
+    pub fn tasks(&self) -> usize
+        ensures { result ≡ length self.now.present.rows }
+    {
+        self.table.tasks()
+    }
+
+    /// How many control groups there are, the root group too. It costs nothing.
+    pub fn controls(&self) -> usize
+        ensures { result ≡ length self.now.present.controls }
+    {
+        self.table.controls()
+    }
+
     /// The present state. It costs a copy of the whole table.
     pub fn snapshot(&self) -> Result<Plain, AllocError>
         ensures { IfOk result (Shows self.now.present) }

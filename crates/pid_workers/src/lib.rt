@@ -9,6 +9,7 @@
 mod listed;
 mod one_seat;
 mod script;
+mod short_seat;
 
 pub use listed::list_record;
 pub use pid_script::job::{JobFault, MOST_JOB_BYTES, read_job};

@@ -7,6 +7,7 @@ ghost use Rattle.pid_script.specs.declared.tally.RunScriptFault.TheVariants.{Wri
 ghost use Rattle.pid_script.specs.Session.{progress_of, Finishes, Leaves};
 
 use crate::one_seat::OneSeat;
+use crate::short_seat::ShortSeat;
 use locked_table::Record;
 use pid_script::session::run_script;
 use pid_script::tally::{RunScriptFault, Tally};
@@ -66,8 +67,11 @@ pub fn run_limited<L: Ledger, S: Source, K: Sink>(
         (S.remaining source.old) (S.remaining source.new) (K.contents sink.old) (K.contents sink.new) (S.has_failed source.new)) }
     ensures stopped { result ≡ Err Write → HasStopped (K.has_failed sink.new) (K.is_full sink.new) }
 {
-    let (tally, _table) = run_table::<L, S, K>(alloc, blank, source, sink, config, turns)?;
-    Ok(tally)
+    let mut table = match ShortSeat::<L>::new(alloc, blank, config) {
+        Ok(table) => table,
+        Err(_) => return Err(RunScriptFault::NoMemory),
+    };
+    run_script(&mut table, source, sink, turns)
 }
 
 /// Runs a script on a new table, as [`run_limited`] does, with at most [`MOST_READS`] reads.

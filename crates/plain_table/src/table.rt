@@ -108,6 +108,20 @@ impl PlainTable {
         })
     }
 
+    /// How many tasks there are, ended ones too. It costs nothing.
+    pub fn tasks(&self) -> usize
+        ensures { result ≡ length self.now.rows }
+    {
+        self.rows.len()
+    }
+
+    /// How many control groups there are, the root group too. It costs nothing.
+    pub fn controls(&self) -> usize
+        ensures { result ≡ length self.now.controls }
+    {
+        self.controls.len()
+    }
+
     /// The lists, for look-ups.
     pub(crate) fn view(&self) -> View<'_>
         ensures { result ≡ self.now }
