@@ -1,8 +1,9 @@
 //! Runs of scripts on a record of their own, jobs, and the list of a record.
 //!
 //! [`run`] answers a script on a new table, [`run_limited`] with a bound on reads, and
-//! [`run_state`] hands back the record too. They wait for nobody but the reader and the writer, and
-//! keep the whole history of the run, 184 bytes a call. [`list_record`] writes a record's list. The
+//! [`run_state`] hands back the record too. They wait for nobody but the reader and the writer.
+//! [`run_state`] keeps the whole history of the run, 184 bytes a call; the others cut theirs now and
+//! then, so that they take the memory of the table. [`list_record`] writes a record's list. The
 //! workers of threads are in `pid_jobs`.
 #![tactic(auto)]
 

@@ -49,7 +49,11 @@ fn run_table<L: Ledger, S: Source, K: Sink>(
 /// the sink, as [`run_script`] says. There are at most `turns` reads.
 ///
 /// `NoMemory` comes where no table could be made, and then nothing is read or written. A call that
-/// finds no memory later is answered `no memory`, and the script goes on.
+/// finds no memory later is made once more with the history cut, if there is memory for that; else
+/// it is answered `no memory`, and the script goes on.
+///
+/// The history is cut where it is long beside the table. So a run takes memory as its greatest table
+/// does, and not as its length.
 pub fn run_limited<L: Ledger, S: Source, K: Sink>(
     alloc: Global,
     blank: Blank,
@@ -94,7 +98,8 @@ pub fn run<L: Ledger, S: Source, K: Sink>(
     run_limited::<L, S, K>(alloc, blank, source, sink, config, MOST_READS)
 }
 
-/// Runs a script on a new table, as [`run`] does, and hands back the record that the lines leave.
+/// Runs a script on a new table, as [`run`] does, and hands back the record that the lines leave, with
+/// the whole history: an entry of 184 bytes for each call.
 pub fn run_state<L: Ledger, S: Source, K: Sink>(
     alloc: Global,
     blank: Blank,
