@@ -1,22 +1,72 @@
 //! The list of a record.
-ghost use Rattle.std.specs.Prelude.{◌≡◌, IfOk};
+ghost use Rattle.std.specs.Prelude.{◌≡◌, ◌++◌, IfOk};
+ghost use Rattle.std.specs.List.{flat_map};
 ghost use Rattle.pid_types.specs.Shown.{Shows};
 ghost use Rattle.pid_types.specs.declared.plain.Plain.{Plain};
-ghost use Rattle.pid_script.specs.Lists.{list_of};
+ghost use Rattle.pid_script.specs.Lists.{list_of, task_line, space_line, control_line};
 
 use locked_table::Record;
-use pid_script::list::list_text;
+use pid_script::list::{push_controls, push_spaces, push_tasks};
+use pid_types::plain::{Plain, Row};
 use std::alloc::{AllocError, Global};
 use std::sync::ledger::Ledger;
+use std::thread::{Threads, join};
 
-/// The list of the record's present state, as [`list_text`] writes it. It costs a copy of the whole
-/// table beside the text, and the only error is want of memory.
-pub fn list_record<L: Ledger, const N: usize>(
+/// The list of the record's present state, as [`list_text_split`] writes it. It costs a copy of the
+/// whole table beside the text, and the only error is want of memory.
+pub fn list_record<R: Threads, L: Ledger, const N: usize>(
+    rt: &R,
     alloc: Global,
     kept: &Record<L, N>,
 ) -> Result<Vec<u8>, AllocError>
     ensures { IfOk result (λ text. (plain : Plain) × Shows kept.now.present plain × (text.items ≡ list_of plain)) }
 {
     let plain = kept.snapshot()?;
-    list_text(alloc, &plain)
+    list_text_split(rt, alloc, &plain)
+}
+
+/// The list of a snapshot, as [`pid_script::list::list_text`] writes it, by two threads: one for the
+/// first half of the tasks, and one for the rest. Where no second thread can be started the one does
+/// both. That they run at once is promised nowhere.
+///
+/// It copies the second half once. The only error is want of memory.
+pub fn list_text_split<R: Threads>(
+    rt: &R,
+    alloc: Global,
+    plain: &Plain,
+) -> Result<Vec<u8>, AllocError>
+    ensures { IfOk result (λ text. text.items ≡ list_of plain.now) }
+{
+    let (front, back) = plain.rows.split_at(plain.rows.len() / 2);
+    let (first, second) = join(
+        rt,
+        || -> Result<Vec<u8>, AllocError>
+            ensures { IfOk result (λ text. text.items ≡ flat_map task_line front.entry.now) }
+        { tasks_text(alloc, front) },
+        || -> Result<Vec<u8>, AllocError>
+            ensures { IfOk result (λ text. text.items ≡ flat_map task_line back.entry.now ++ (flat_map space_line plain.entry.now.spaces.items ++ flat_map control_line plain.entry.now.controls.items)) }
+        { rest_text(alloc, back, plain) },
+    );
+    let mut text = first?;
+    text.extend_from_slice(second?.as_slice())?;
+    Ok(text)
+}
+
+/// The lines of the tasks.
+fn tasks_text(alloc: Global, rows: &[Row]) -> Result<Vec<u8>, AllocError>
+    ensures { IfOk result (λ text. text.items ≡ flat_map task_line rows.now) }
+{
+    let mut text = Vec::new(alloc);
+    push_tasks(&mut text, rows)?;
+    Ok(text)
+}
+
+/// The lines of the tasks, and then those of the snapshot's namespaces and control groups.
+fn rest_text(alloc: Global, rows: &[Row], plain: &Plain) -> Result<Vec<u8>, AllocError>
+    ensures { IfOk result (λ text. text.items ≡ flat_map task_line rows.now ++ (flat_map space_line plain.now.spaces.items ++ flat_map control_line plain.now.controls.items)) }
+{
+    let mut text = tasks_text(alloc, rows)?;
+    push_spaces(&mut text, &plain.spaces)?;
+    push_controls(&mut text, &plain.controls)?;
+    Ok(text)
 }

@@ -8,6 +8,6 @@ use Rattle.pid_workers.proofs.listed.list_record.Goals as goal
 -- the snapshot is the plain table that the text lists
 pub returns : goal.returns
 returns g c =
-    IfOk-weaker c.list_text.result (λ text. text.items ≡ list_of c.in_ok-plain.plain)
+    IfOk-weaker c.list_text_split.result (λ text. text.items ≡ list_of c.in_ok-plain.plain)
     (λ text. (plain : Plain) × Shows c.args.kept.now.present plain × (text.items ≡ list_of plain))
-    (λ text listed. (c.in_ok-plain.plain, c.in_ok-plain.ensures, listed)) c.list_text.ensures
+    (λ text listed. (c.in_ok-plain.plain, c.in_ok-plain.ensures, listed)) c.list_text_split.ensures
