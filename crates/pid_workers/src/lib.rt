@@ -18,4 +18,6 @@ pub use pid_script::tally::{RunScriptFault, Tally};
 pub use script::{MOST_READS, run, run_limited, run_state};
 
 #[cfg(test)]
+mod long_runs;
+#[cfg(test)]
 mod tests;
