@@ -10,11 +10,11 @@ use crate::fault::Fault;
 use crate::jobs::read_jobs;
 use crate::show::write_finished;
 use crate::status::{Status, say_fault, say_usage};
-use crate::words::{Command, JobFiles, WordsFault, read_words};
-use pid_jobs::{OpenGate, run_workers};
+use pid_jobs::{JobFiles, OpenGate, run_workers};
 use pid_types::call::Call;
 use pid_types::config::Config;
 use pid_types::device::{DeviceFault, FromReader, Sink, Source, ToWriter};
+use pid_words::{Command, WordsFault, read_words};
 use pid_workers::{MOST_READS, list_record, run, run_state};
 use std::alloc::Global;
 use std::io::{BufWriter, Read, Write};
@@ -79,7 +79,21 @@ fn run_script<I: Read + Drop, O: Write>(
 ) -> Result<(), Fault> {
     let mut source = FromReader::new(input);
     let mut sink = ToWriter::new(output);
-    run::<Brand, _, _>(alloc, Blank::new(1), &mut source, &mut sink, config)?;
+    answer_script::<Brand, _, _>(alloc, Blank::new(1), &mut source, &mut sink, config)
+}
+
+/// Answers a script on a table of its own.
+fn answer_script<L: Ledger, S: Source, K: Sink>(
+    alloc: Global,
+    blank: Blank,
+    source: &mut S,
+    sink: &mut K,
+    config: &Config,
+) -> Result<(), Fault>
+    requires name { blank.name ≡ L.name }
+    requires parts { (blank.parts ≡ L.parts) × (L.parts ≡ 1) }
+{
+    run::<L, S, K>(alloc, blank, source, sink, config)?;
     Ok(())
 }
 

@@ -5,7 +5,9 @@ ghost use Rattle.std.specs.List.{flat_map};
 ghost use Rattle.std.specs.Io.KnownBytes.{Appends};
 ghost use Rattle.pid_types.specs.Shown.{Shows};
 ghost use Rattle.pid_types.specs.declared.plain.Plain.{Plain};
+ghost use Rattle.pid_script.specs.Answers.{reply_text};
 ghost use Rattle.pid_script.specs.Lists.{list_of};
+ghost use Rattle.pid_script.specs.Script.{with_newline};
 ghost use Rattle.pid_commands.specs.Output.{receipt_line, work_lines, works_text};
 
 use crate::fault::Fault;
@@ -87,6 +89,13 @@ fn write_receipt<W: Write>(writer: &mut W, receipt: Receipt) -> io::Result<()>
 {
     let ordinal = receipt.ordinal;
     write!(writer, "{ordinal} ")?;
+    write_answer(writer, receipt)
+}
+
+/// Writes the answer that the receipt has, and a newline.
+fn write_answer<W: Write>(writer: &mut W, receipt: Receipt) -> io::Result<()>
+    ensures { OnOk result (Appends (W.contents writer.old) (W.contents writer.new) (with_newline (reply_text receipt.reply))) }
+{
     writer.write_all(answer_text(&Ok(receipt)).as_slice())?;
     writer.write_all(b"\n")
 }

@@ -1,9 +1,10 @@
-ghost use Rattle.std.specs.Prelude.{◌≡◌, ◌<◌, ◌≤◌, length, Option, Some, List, ℕ};
+//! Scripts on a table of their own, from sources and to sinks that fail.
+ghost use Rattle.std.specs.Prelude.{◌≡◌, Some};
 
-use super::*;
 use arrayvec::ArrayVec;
 use pid_types::config::Config;
 use pid_types::device::{DeviceFault, Sink, Source};
+use pid_workers::{RunScriptFault, Tally, run_limited};
 use std::alloc::Global;
 use std::marker::Brand;
 use std::sync::ledger::{Blank, Ledger};

@@ -1,39 +1,11 @@
 //! The words of the command line: [`read_words`] reads them, and opens and runs nothing.
-ghost use Rattle.std.specs.Prelude.{◌≡◌, ◌≤◌, ◌↔◌, vec_len, IsSome, IfSome};
-
 use clap::error::ErrorKind;
 use clap::{Arg, ArgAction, ArgMatches, Error};
+use pid_jobs::JobFiles;
 use pid_script::number::read_u32;
 use pid_types::config::Config;
 use std::alloc::{AllocError, Global};
 use std::convert::AsStr;
-
-/// The names of 2 to 16 job files, in the order given. A name may come twice.
-#[derive(Debug, Drop, PartialEq, Eq)]
-pub struct JobFiles {
-    names: Vec<String>,
-    ghost count: { (2 ≤ vec_len names) × (vec_len names ≤ 16) },
-}
-
-impl JobFiles {
-    /// The names, if they are 2 to 16.
-    pub fn new(names: Vec<String>) -> Option<JobFiles>
-        ensures when { IsSome result ↔ ((2 ≤ vec_len names) × (vec_len names ≤ 16)) }
-        ensures names { IfSome result (λ files. files.names ≡ names) }
-    {
-        if names.len() < 2 || names.len() > 16 {
-            return None;
-        }
-        Some(JobFiles { names })
-    }
-
-    /// The names.
-    pub fn into_names(self) -> Vec<String>
-        ensures { result ≡ self.names }
-    {
-        self.names
-    }
-}
 
 /// What the program is asked for, with the table's configuration.
 #[derive(Debug, Drop, PartialEq, Eq)]
@@ -61,12 +33,11 @@ impl From<AllocError> for WordsFault {
     }
 }
 
-impl From<Error> for WordsFault {
-    fn from(error: Error) -> WordsFault {
-        match error.kind() {
-            ErrorKind::OutOfMemory => WordsFault::NoMemory,
-            _ => WordsFault::Usage,
-        }
+/// The fault of words that clap refuses. It is no `From`, so that no crate above reads clap.
+fn fault_of(error: Error) -> WordsFault {
+    match error.kind() {
+        ErrorKind::OutOfMemory => WordsFault::NoMemory,
+        _ => WordsFault::Usage,
     }
 }
 
@@ -89,7 +60,9 @@ pub fn read_words<S: AsStr>(alloc: Global, words: &[S]) -> Result<Command, Words
         .subcommand(clap::Command::new(alloc, "list").arg(pid_max(alloc))?)?
         .subcommand(work)?;
     let line = with_name(alloc, words)?;
-    let matches = command.try_get_matches_from(line.as_slice())?;
+    let matches = command
+        .try_get_matches_from(line.as_slice())
+        .map_err(fault_of)?;
     match matches.subcommand() {
         Some(("run", options)) => Ok(Command::Run(read_config(options)?)),
         Some(("list", options)) => Ok(Command::List(read_config(options)?)),

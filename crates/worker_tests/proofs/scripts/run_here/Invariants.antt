@@ -1,4 +1,4 @@
-use Rattle.pid_workers.proofs.tests.run_here.Given as goal
+use Rattle.worker_tests.proofs.scripts.run_here.Given as goal
 
 -- the table's one ledger is the one that the blank names
 abbrev pub ghosts-run_branded : goal.ghosts-run_branded

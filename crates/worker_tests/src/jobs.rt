@@ -1,7 +1,8 @@
-ghost use Rattle.std.specs.Prelude.{◌≡◌, ℕ};
+//! Jobs at one table: two that take turns, and sixteen at once.
+ghost use Rattle.std.specs.Prelude.{◌≡◌, ◌<◌, ℕ};
 
-use super::*;
-use locked_table::{Record, Seat};
+use locked_table::Record;
+use pid_jobs::{Desk, Finished, Gate, OpenGate, Work, audit, run_workers, work};
 use pid_types::call::Call;
 use pid_types::config::Config;
 use pid_types::entry::Receipt;
@@ -22,6 +23,103 @@ const FORK: Call = Call::Fork {
     caller: 1,
     new_space: false,
 };
+
+/// What a run leaves, for any ledger.
+#[derive(Drop)]
+struct Ran {
+    works: Vec<Work>,
+    /// How many calls of each worker were recorded.
+    recorded: Vec<u64>,
+    total: u64,
+    plain: Plain,
+    /// Whether the receipts are those of the history.
+    audited: bool,
+}
+
+/// Runs a job for each of two workers.
+fn run_two<L: Ledger + Send + Sync, G: Gate + Sync, R: Threads + Wait + Clock + Abort + Sync>(
+    rt: &R,
+    alloc: Global,
+    blank: Blank,
+    config: &Config,
+    jobs: &[Vec<Call>],
+    gate: &G,
+) -> Result<Ran, Fail>
+    requires name { blank.name ≡ L.name }
+    requires parts { blank.parts ≡ L.parts }
+    requires two { blank.parts ≡ 2 }
+{
+    assert_eq!(rt; jobs.len(), 2);
+    let finished = run_workers::<L, G, R, 2>(rt, alloc, blank, config, jobs, gate)?;
+    look_at(rt, alloc, finished)
+}
+
+/// Runs a job for each of sixteen workers.
+fn run_sixteen<L: Ledger + Send + Sync, G: Gate + Sync, R: Threads + Wait + Clock + Abort + Sync>(
+    rt: &R,
+    alloc: Global,
+    blank: Blank,
+    config: &Config,
+    jobs: &[Vec<Call>],
+    gate: &G,
+) -> Result<Ran, Fail>
+    requires name { blank.name ≡ L.name }
+    requires parts { blank.parts ≡ L.parts }
+    requires sixteen { blank.parts ≡ 16 }
+{
+    assert_eq!(rt; jobs.len(), 16);
+    let finished = run_workers::<L, G, R, 16>(rt, alloc, blank, config, jobs, gate)?;
+    look_at(rt, alloc, finished)
+}
+
+/// What the finished run leaves.
+fn look_at<L: Ledger, const N: usize>(
+    rt: &impl Abort,
+    alloc: Global,
+    finished: Finished<L, N>,
+) -> Result<Ran, Fail> {
+    let Finished { kept, works } = finished;
+    Ok(Ran {
+        audited: is_audited(rt, &kept, works.as_slice()),
+        works,
+        recorded: recorded_of_each(alloc, &kept)?,
+        total: total_of(&kept),
+        plain: kept.snapshot()?,
+    })
+}
+
+/// Whether the audit finds no fault.
+fn is_audited<L: Ledger, const N: usize>(
+    rt: &impl Abort,
+    kept: &Record<L, N>,
+    works: &[Work],
+) -> bool {
+    assert_eq!(rt; works.len(), N);
+    audit(kept, works).is_ok()
+}
+
+fn recorded_of_each<L: Ledger, const N: usize>(
+    alloc: Global,
+    kept: &Record<L, N>,
+) -> Result<Vec<u64>, AllocError> {
+    let mut recorded = Vec::new(alloc);
+    for worker in 0..N {
+        recorded.push(recorded_of(kept, worker))?;
+    }
+    Ok(recorded)
+}
+
+/// How many calls of the worker were recorded. The callers know nothing more of it.
+fn recorded_of<L: Ledger, const N: usize>(kept: &Record<L, N>, worker: usize) -> u64
+    requires { worker < N }
+{
+    kept.recorded(worker)
+}
+
+/// The total, of which the callers know nothing more.
+fn total_of<L: Ledger, const N: usize>(kept: &Record<L, N>) -> u64 {
+    kept.total()
+}
 
 /// Waits until the flag is up, for 5,000 milliseconds at most, and says whether it gave up.
 fn gives_up(clock: &impl Clock, flag: &AtomicBool) -> bool {
@@ -77,87 +175,45 @@ impl Gate for TurnGate {
     }
 }
 
-fn two_workers<L: Ledger + Send + Sync, R: Threads + Wait + Clock + Abort + Sync>(
-    rt: &R,
-    alloc: Global,
-    blank: Blank,
-) -> Result<(), Fail>
-    requires name { blank.name ≡ L.name }
-    requires parts { blank.parts ≡ L.parts }
-    requires two { blank.parts ≡ 2 }
-{
-    let jobs = [
+/// A fork of each, and then a look at the parent of the other's child.
+fn crossed_jobs(alloc: Global) -> Result<[Vec<Call>; 2], AllocError> {
+    Ok([
         vec![in alloc; FORK, Call::GetPpid { caller: 3 }]?,
         vec![in alloc; FORK, Call::GetPpid { caller: 2 }]?,
-    ];
-    let gate = TurnGate::new();
-    let config = Config::default_values();
-    let Finished { kept, works } = run_workers::<L, TurnGate, R, 2>(
-        rt, alloc, blank, &config, &jobs, &gate,
-    )?;
-    assert!(rt; !gate.gave_up.load(Ordering::SeqCst), "a wait gave up");
-    assert_eq!(rt; works.len(), 2);
-    // Worker 1 goes first.
-    for (worker, ordinal, child) in [(1usize, 0u64, 2u32), (0, 1, 3)] {
-        let receipts = &works[worker].receipts;
-        assert_eq!(rt; receipts.len(), 2);
-        assert_eq!(rt; receipts[0].ordinal, ordinal);
-        assert_eq!(rt; receipts[0].reply, Reply::Forked { child, root: child });
-        assert_eq!(rt; receipts[1].reply, Reply::Number(1));
-        assert_eq!(rt; works[worker].refused, 0);
-        assert_eq!(rt; kept.recorded(worker), 2);
-    }
-    assert_eq!(rt; kept.total(), 4);
-    assert!(rt; audit(&kept, works.as_slice()).is_ok());
-    Ok(())
+    ])
+}
+
+fn assert_forked(rt: &impl Abort, work: &Work, ordinal: u64, child: u32) {
+    assert_eq!(rt; work.refused, 0);
+    assert_eq!(rt; work.receipts.len(), 2);
+    assert_eq!(rt; work.receipts[0].ordinal, ordinal);
+    assert_reply(rt, &work.receipts[0], Reply::Forked { child, root: child });
+    assert_reply(rt, &work.receipts[1], Reply::Number(1));
+}
+
+fn assert_reply(rt: &impl Abort, receipt: &Receipt, reply: Reply) {
+    assert_eq!(rt; receipt.reply, reply);
 }
 
 #[test]
 fn two_run_at_once(rt: HostRuntime) -> Result<(), Fail> {
-    two_workers::<Brand, HostRuntime>(&rt, rt.alloc(), Blank::new(2))
+    let jobs = crossed_jobs(rt.alloc())?;
+    let gate = TurnGate::new();
+    let config = Config::default_values();
+    let ran = run_two::<Brand, _, _>(&rt, rt.alloc(), Blank::new(2), &config, &jobs, &gate)?;
+    assert!(rt; !gate.gave_up.load(Ordering::SeqCst), "a wait gave up");
+    assert_took_turns(&rt, &ran);
+    Ok(())
 }
 
-/// What a run of sixteen workers leaves, for any ledger.
-#[derive(Drop)]
-struct Ran {
-    works: Vec<Work>,
-    /// How many calls of each worker were recorded.
-    recorded: Vec<u64>,
-    total: u64,
-    plain: Plain,
-}
-
-/// Runs sixteen jobs.
-fn sixteen_workers<
-    L: Ledger + Send + Sync,
-    G: Gate + Sync,
-    R: Threads + Wait + Clock + Abort + Sync,
->(
-    rt: &R,
-    alloc: Global,
-    blank: Blank,
-    config: &Config,
-    jobs: &[Vec<Call>],
-    gate: &G,
-) -> Result<Ran, Fail>
-    requires name { blank.name ≡ L.name }
-    requires parts { blank.parts ≡ L.parts }
-    requires sixteen { blank.parts ≡ 16 }
-{
-    assert_eq!(rt; jobs.len(), 16);
-    let Finished { kept, works } = run_workers::<L, G, R, 16>(
-        rt, alloc, blank, config, jobs, gate,
-    )?;
-    let mut recorded = Vec::new(alloc);
-    for worker in 0..16 {
-        recorded.push(kept.recorded(worker))?;
-    }
-    Ok(Ran {
-        works,
-        recorded,
-        total: kept.total(),
-        plain: kept.snapshot()?,
-    })
+/// Asserts that worker 1 went first.
+fn assert_took_turns(rt: &impl Abort, ran: &Ran) {
+    assert_eq!(rt; ran.works.len(), 2);
+    assert_forked(rt, &ran.works[1], 0, 2);
+    assert_forked(rt, &ran.works[0], 1, 3);
+    assert_eq!(rt; ran.recorded.as_slice(), [2, 2].as_slice());
+    assert_eq!(rt; ran.total, 4);
+    assert!(rt; ran.audited);
 }
 
 /// Holds each first call until as many are there as there are workers.
@@ -209,20 +265,30 @@ fn count_replies(works: &[Work], reply: &Reply) -> usize {
     count
 }
 
-#[test]
-fn sixteen_share_the_numbers(rt: HostRuntime) -> Result<(), Fail> {
-    let alloc = rt.alloc();
+/// Twenty forks of each of sixteen workers.
+fn jobs_of_forks(alloc: Global) -> Result<Vec<Vec<Call>>, Fail> {
     let mut jobs = Vec::new(alloc);
     for _ in 0..16u32 {
         jobs.push(vec![in alloc; FORK; 20]?)?;
     }
+    Ok(jobs)
+}
+
+#[test]
+fn sixteen_share_the_numbers(rt: HostRuntime) -> Result<(), Fail> {
+    let jobs = jobs_of_forks(rt.alloc())?;
     let gate = MeetingGate {
         here: AtomicU64::new(0),
         gave_up: AtomicBool::new(false),
     };
     let config = Config::new(301, 1)?;
-    let ran = sixteen_workers::<Brand, _, _>(&rt, alloc, Blank::new(16), &config, &jobs, &gate)?;
+    let ran = run_sixteen::<Brand, _, _>(&rt, rt.alloc(), Blank::new(16), &config, &jobs, &gate)?;
     assert!(rt; !gate.gave_up.load(Ordering::SeqCst), "a wait gave up");
+    assert_numbers_are_given(&rt, rt.alloc(), &ran)
+}
+
+/// Asserts that each of the 299 numbers was given once, and that the other forks were refused.
+fn assert_numbers_are_given(rt: &impl Abort, alloc: Global, ran: &Ran) -> Result<(), Fail> {
     assert_eq!(rt; ran.total, 320);
     assert_eq!(rt; ran.recorded.as_slice(), [20; 16].as_slice());
     let roots = forked(alloc, ran.works.as_slice())?;
@@ -254,9 +320,8 @@ impl Gate for LimitGate {
     }
 }
 
-#[test]
-fn sixteen_share_a_limit(rt: HostRuntime) -> Result<(), Fail> {
-    let alloc = rt.alloc();
+/// A control group with a limit of nine, the root init in it, and a fork of each of sixteen workers.
+fn jobs_below_a_limit(alloc: Global) -> Result<Vec<Vec<Call>>, Fail> {
     let limit = Call::SetLimit {
         id: 1,
         limit: Some(9),
@@ -268,13 +333,24 @@ fn sixteen_share_a_limit(rt: HostRuntime) -> Result<(), Fail> {
     for _ in 0..15u32 {
         jobs.push(vec![in alloc; FORK]?)?;
     }
+    Ok(jobs)
+}
+
+#[test]
+fn sixteen_share_a_limit(rt: HostRuntime) -> Result<(), Fail> {
+    let jobs = jobs_below_a_limit(rt.alloc())?;
     let gate = LimitGate {
         limited: AtomicBool::new(false),
         gave_up: AtomicBool::new(false),
     };
     let config = Config::default_values();
-    let ran = sixteen_workers::<Brand, _, _>(&rt, alloc, Blank::new(16), &config, &jobs, &gate)?;
+    let ran = run_sixteen::<Brand, _, _>(&rt, rt.alloc(), Blank::new(16), &config, &jobs, &gate)?;
     assert!(rt; !gate.gave_up.load(Ordering::SeqCst), "a wait gave up");
+    assert_limit_is_reached(&rt, rt.alloc(), &ran)
+}
+
+/// Asserts that eight forks were made, and the other eight refused.
+fn assert_limit_is_reached(rt: &impl Abort, alloc: Global, ran: &Ran) -> Result<(), Fail> {
     assert_eq!(rt; ran.total, 19);
     assert_eq!(rt; forked(alloc, ran.works.as_slice())?.len(), 8);
     let limited = Reply::Refused(Refusal::PidsLimit(1));
@@ -282,89 +358,6 @@ fn sixteen_share_a_limit(rt: HostRuntime) -> Result<(), Fail> {
     assert_eq!(rt; ran.plain.controls.len(), 2);
     assert_eq!(rt; ran.plain.controls[1].count, 9);
     Ok(())
-}
-
-/// Makes a call, of which the callers know nothing more.
-fn receipt_for<L: Ledger>(
-    record: &mut Record<L, 2>,
-    seat: &mut Seat<L, 2>,
-    call: Call,
-) -> Result<Receipt, Fail> {
-    Ok(record.act(seat, call)?)
-}
-
-/// A record with one call of each worker, and a checkpoint between them; and their receipts.
-fn two_calls<L: Ledger>(
-    rt: &impl Abort,
-    alloc: Global,
-    blank: Blank,
-) -> Result<(Record<L, 2>, Receipt, Receipt), Fail>
-    requires name { blank.name ≡ L.name }
-    requires parts { blank.parts ≡ L.parts }
-    requires two { blank.parts ≡ 2 }
-{
-    let config = Config::default_values();
-    let (mut record, mut seats) = Record::<L, 2>::new(alloc, blank, &config)?;
-    assert_eq!(rt; seats.len(), 2);
-    let first = receipt_for(&mut record, &mut seats[0], FORK)?;
-    record.checkpoint()?;
-    let query = Call::GetPid { caller: 2 };
-    let second = receipt_for(&mut record, &mut seats[1], query)?;
-    Ok((record, first, second))
-}
-
-fn audit_after_checkpoint<L: Ledger>(
-    rt: &impl Abort,
-    alloc: Global,
-    blank: Blank,
-) -> Result<(), Fail>
-    requires name { blank.name ≡ L.name }
-    requires parts { blank.parts ≡ L.parts }
-    requires two { blank.parts ≡ 2 }
-{
-    let (kept, first, second) = two_calls::<L>(rt, alloc, blank)?;
-    assert_eq!(rt; kept.total(), 2);
-    assert_eq!(rt; kept.first_kept(), 1);
-    assert_eq!(rt; kept.recorded(0), 1);
-    assert_eq!(rt; kept.recorded(1), 1);
-    assert!(rt; kept.entry(0).is_none());
-    let whole = [of(alloc, first.clone()?)?, of(alloc, second.clone()?)?];
-    assert!(rt; audit(&kept, &whole).is_ok());
-    let cut = [none(alloc), of(alloc, second)?];
-    assert!(rt;
-        audit(&kept, &cut).is_ok(),
-        "the first receipt is of an entry that was cut away"
-    );
-    let short = [of(alloc, first)?, none(alloc)];
-    let fault = Audit {
-        worker: 1,
-        place: 0,
-    };
-    assert_eq!(rt; audit(&kept, &short), Err(fault));
-    Ok(())
-}
-
-/// A work with one receipt.
-fn of(alloc: Global, receipt: Receipt) -> Result<Work, Fail> {
-    let mut receipts = Vec::new(alloc);
-    receipts.push(receipt)?;
-    Ok(Work {
-        receipts,
-        refused: 0,
-    })
-}
-
-/// A work with no receipt.
-fn none(alloc: Global) -> Work {
-    Work {
-        receipts: Vec::new(alloc),
-        refused: 0,
-    }
-}
-
-#[test]
-fn audits_what_is_kept(rt: HostRuntime) -> Result<(), Fail> {
-    audit_after_checkpoint::<Brand>(&rt, rt.alloc(), Blank::new(2))
 }
 
 /// A desk that answers each call by its place, and the second one with want of memory. It keeps what
@@ -397,6 +390,16 @@ impl Desk for CountingDesk {
     }
 }
 
+/// What comes of the calls at the desk. The callers know nothing more of it.
+fn work_at<D: Desk, R: Wait + Clock>(
+    rt: &R,
+    alloc: Global,
+    desk: &mut D,
+    calls: &[Call],
+) -> Result<Work, AllocError> {
+    work(rt, alloc, desk, &OpenGate, 0, calls)
+}
+
 #[test]
 fn keeps_answers_in_order(rt: HostRuntime) -> Result<(), Fail> {
     let mut desk = CountingDesk {
@@ -404,7 +407,7 @@ fn keeps_answers_in_order(rt: HostRuntime) -> Result<(), Fail> {
         answers: Vec::with_capacity(rt.alloc(), 2)?,
     };
     let calls = [FORK, Call::SetSid { caller: 2 }, Call::Exec { caller: 2 }];
-    let done = work(&rt, rt.alloc(), &mut desk, &OpenGate, 0, &calls)?;
+    let done = work_at(&rt, rt.alloc(), &mut desk, &calls)?;
     assert_eq!(rt; desk.calls, 3);
     assert_eq!(rt; done.refused, 1);
     assert_eq!(rt; done.receipts.as_slice(), desk.answers.as_slice());
