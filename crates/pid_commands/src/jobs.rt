@@ -6,7 +6,7 @@ ghost use Rattle.std.specs.declared.alloc.Global.{Global};
 ghost use Rattle.pid_commands.specs.Faults.{of_job};
 
 use crate::fault::Fault;
-use crate::words::JobFiles;
+use pid_jobs::JobFiles;
 use pid_script::job::read_job;
 use pid_types::call::Call;
 use pid_types::device::FromReader;

@@ -9,12 +9,9 @@ mod jobs;
 mod serve;
 mod show;
 mod status;
-mod words;
 
 pub use fault::{Fault, write_fault_line};
+pub use pid_jobs::JobFiles;
+pub use pid_words::{Command, WordsFault, read_words};
 pub use serve::run_words;
 pub use status::{Status, say_fault, say_usage};
-pub use words::{Command, JobFiles, WordsFault, read_words};
-
-#[cfg(test)]
-mod tests;

@@ -10,11 +10,11 @@ use crate::fault::Fault;
 use crate::jobs::read_jobs;
 use crate::show::write_finished;
 use crate::status::{Status, say_fault, say_usage};
-use crate::words::{Command, JobFiles, WordsFault, read_words};
-use pid_jobs::{OpenGate, run_workers};
+use pid_jobs::{JobFiles, OpenGate, run_workers};
 use pid_types::call::Call;
 use pid_types::config::Config;
 use pid_types::device::{DeviceFault, FromReader, Sink, Source, ToWriter};
+use pid_words::{Command, WordsFault, read_words};
 use pid_workers::{MOST_READS, list_record, run, run_state};
 use std::alloc::Global;
 use std::io::{BufWriter, Read, Write};
@@ -64,7 +64,7 @@ where
 {
     match command {
         Command::Run(config) => run_script(rt.alloc(), &config, input, output)?,
-        Command::List(config) => list_script(rt.alloc(), &config, input, output)?,
+        Command::List(config) => list_script(rt, &config, input, output)?,
         Command::Work { config, files } => work(rt, &config, files, output)?,
     }
     output.flush().map_err(|_| Fault::Write)
@@ -79,19 +79,33 @@ fn run_script<I: Read + Drop, O: Write>(
 ) -> Result<(), Fault> {
     let mut source = FromReader::new(input);
     let mut sink = ToWriter::new(output);
-    run::<Brand, _, _>(alloc, Blank::new(1), &mut source, &mut sink, config)?;
+    answer_script::<Brand, _, _>(alloc, Blank::new(1), &mut source, &mut sink, config)
+}
+
+/// Answers a script on a table of its own.
+fn answer_script<L: Ledger, S: Source, K: Sink>(
+    alloc: Global,
+    blank: Blank,
+    source: &mut S,
+    sink: &mut K,
+    config: &Config,
+) -> Result<(), Fault>
+    requires name { blank.name ≡ L.name }
+    requires parts { (blank.parts ≡ L.parts) × (L.parts ≡ 1) }
+{
+    run::<L, S, K>(alloc, blank, source, sink, config)?;
     Ok(())
 }
 
 /// Writes the list of the table that a script leaves.
-fn list_script<I: Read + Drop, O: Write>(
-    alloc: Global,
+fn list_script<R: Threads + AllocGlobal, I: Read + Drop, O: Write>(
+    rt: &R,
     config: &Config,
     input: I,
     output: &mut O,
 ) -> Result<(), Fault> {
     let mut source = FromReader::new(input);
-    let list = list_of_script::<Brand, _>(alloc, Blank::new(1), &mut source, config)?;
+    let list = list_of_script::<Brand, _, _>(rt, Blank::new(1), &mut source, config)?;
     output.write_all(list.as_slice()).map_err(|_| Fault::Write)
 }
 
@@ -116,8 +130,8 @@ impl Sink for Discard {
 }
 
 /// The list of the table that a script leaves.
-fn list_of_script<L: Ledger, S: Source>(
-    alloc: Global,
+fn list_of_script<L: Ledger, R: Threads + AllocGlobal, S: Source>(
+    rt: &R,
     blank: Blank,
     source: &mut S,
     config: &Config,
@@ -127,8 +141,8 @@ fn list_of_script<L: Ledger, S: Source>(
     ensures ok { IfOk result (λ list. ListsScript config.now (S.remaining source.old) (S.remaining source.new) list.items) }
     ensures fault { IfErr result (FailsToList MOST_READS config.now (S.remaining source.old) (S.remaining source.new) (S.has_failed source.new)) }
 {
-    let (_tally, record) = run_state::<L, _, _>(alloc, blank, source, &mut Discard, config)?;
-    Ok(list_record(alloc, &record)?)
+    let (_tally, record) = run_state::<L, _, _>(rt.alloc(), blank, source, &mut Discard, config)?;
+    Ok(list_record(rt, rt.alloc(), &record)?)
 }
 
 /// Reads the job files, runs a worker for each, and writes what they had.
@@ -204,5 +218,5 @@ fn run_all<
     )?;
     // What the record promises is the contract of its total.
     let _total = finished.kept.total();
-    write_finished(rt.alloc(), writer, finished)
+    write_finished(rt, writer, finished)
 }

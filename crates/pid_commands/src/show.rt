@@ -5,7 +5,9 @@ ghost use Rattle.std.specs.List.{flat_map};
 ghost use Rattle.std.specs.Io.KnownBytes.{Appends};
 ghost use Rattle.pid_types.specs.Shown.{Shows};
 ghost use Rattle.pid_types.specs.declared.plain.Plain.{Plain};
+ghost use Rattle.pid_script.specs.Answers.{reply_text};
 ghost use Rattle.pid_script.specs.Lists.{list_of};
+ghost use Rattle.pid_script.specs.Script.{with_newline};
 ghost use Rattle.pid_commands.specs.Output.{receipt_line, work_lines, works_text};
 
 use crate::fault::Fault;
@@ -13,18 +15,18 @@ use pid_jobs::{Finished, Work};
 use pid_script::answer::answer_text;
 use pid_types::entry::Receipt;
 use pid_workers::list_record;
-use std::alloc::Global;
 use std::io;
 use std::io::Write;
 use std::sync::ledger::Ledger;
+use std::thread::Threads;
 
 /// Writes what the workers had, in their order, and then the list of the table that they leave. The
 /// writer is not flushed.
 ///
 /// `NoMemory` comes where there is none for the list, and then nothing is written. A writer's error
 /// of any kind is `Write`.
-pub(crate) fn write_finished<L: Ledger, W: Write, const N: usize>(
-    alloc: Global,
+pub(crate) fn write_finished<L: Ledger, R: Threads + AllocGlobal, W: Write, const N: usize>(
+    rt: &R,
     writer: &mut W,
     finished: Finished<L, N>,
 ) -> Result<(), Fault>
@@ -33,7 +35,7 @@ pub(crate) fn write_finished<L: Ledger, W: Write, const N: usize>(
     ensures fault { IfErr result (λ e. (e ≡ NoMemory) ⊎ (e ≡ Write)) }
 {
     let Finished { kept, works } = finished;
-    let list = list_record(alloc, &kept)?;
+    let list = list_record(rt, rt.alloc(), &kept)?;
     match write_shown(writer, works, list.as_slice()) {
         Ok(()) => Ok(()),
         Err(_) => Err(Fault::Write),
@@ -87,6 +89,13 @@ fn write_receipt<W: Write>(writer: &mut W, receipt: Receipt) -> io::Result<()>
 {
     let ordinal = receipt.ordinal;
     write!(writer, "{ordinal} ")?;
+    write_answer(writer, receipt)
+}
+
+/// Writes the answer that the receipt has, and a newline.
+fn write_answer<W: Write>(writer: &mut W, receipt: Receipt) -> io::Result<()>
+    ensures { OnOk result (Appends (W.contents writer.old) (W.contents writer.new) (with_newline (reply_text receipt.reply))) }
+{
     writer.write_all(answer_text(&Ok(receipt)).as_slice())?;
     writer.write_all(b"\n")
 }

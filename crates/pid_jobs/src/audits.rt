@@ -3,7 +3,7 @@ ghost use Rattle.std.specs.Prelude.{◌≡◌, ◌≢◌, true, false, ℕ, ◌<
 ghost use Rattle.pid_jobs.specs.Receipts.{receipt, receipts_kept, owed, DiffersAt, IsAudited, IsFirstFault};
 
 use crate::difference::Audit;
-use crate::replies::is_same_reply;
+use crate::replies::{is_same_call, is_same_reply};
 use crate::result::Work;
 use locked_table::{Entry, Receipt, Record};
 use std::sync::ledger::Ledger;
@@ -29,7 +29,10 @@ fn is_receipt_of(one: &Receipt, ordinal: u64, entry: &Entry) -> bool
     ensures yes { result ≡ true → one.now ≡ receipt ordinal entry.now }
     ensures no { result ≡ false → one.now ≢ receipt ordinal entry.now }
 {
-    if one.ordinal != ordinal || one.worker != entry.worker || one.call != entry.call {
+    if one.ordinal != ordinal || one.worker != entry.worker {
+        return false;
+    }
+    if !is_same_call(&one.call, &entry.call) {
         return false;
     }
     is_same_reply(&one.reply, &entry.reply)

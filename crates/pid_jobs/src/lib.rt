@@ -10,6 +10,7 @@
 mod audits;
 mod desk;
 mod difference;
+mod files;
 mod jobs;
 mod replies;
 mod result;
@@ -18,9 +19,7 @@ mod run;
 pub use audits::audit;
 pub use desk::{Desk, Gate, OpenGate, SeatDesk};
 pub use difference::Audit;
+pub use files::JobFiles;
 pub use jobs::work;
 pub use result::Work;
 pub use run::{Finished, RunFault, run_workers};
-
-#[cfg(test)]
-mod tests;

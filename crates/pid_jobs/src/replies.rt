@@ -1,12 +1,21 @@
-//! Whether two replies are the same, for the audit of receipts.
+//! Whether two calls or two replies are the same, for the audit of receipts.
 ghost use Rattle.std.specs.Prelude.{◌≡◌, ◌≢◌, true, false};
 
 use arrayvec::ArrayVec;
+use pid_types::call::Call;
 use pid_types::plain::LEVELS;
 use pid_types::reply::Reply;
 
+/// Whether two calls are the same.
+pub(crate) fn is_same_call(one: &Call, other: &Call) -> bool
+    ensures yes { result ≡ true → one.now ≡ other.now }
+    ensures no { result ≡ false → one.now ≢ other.now }
+{
+    one == other
+}
+
 /// Whether two lists of numbers are the same.
-fn is_same_list(one: &ArrayVec<u32, LEVELS>, other: &ArrayVec<u32, 33>) -> bool
+fn is_same_list(one: &ArrayVec<u32, LEVELS>, other: &ArrayVec<u32, LEVELS>) -> bool
     ensures yes { result ≡ true → one.now ≡ other.now }
     ensures no { result ≡ false → one.now ≢ other.now }
 {

@@ -16,8 +16,3 @@ pub use listed::{list_record, list_text_split};
 pub use pid_script::job::{JobFault, MOST_JOB_BYTES, read_job};
 pub use pid_script::tally::{RunScriptFault, Tally};
 pub use script::{MOST_READS, run, run_limited, run_state};
-
-#[cfg(test)]
-mod long_runs;
-#[cfg(test)]
-mod tests;

@@ -3,7 +3,7 @@ use Rattle.pid_types.specs.declared.call.Call.TheVariants.{Count}
 use Rattle.pid_types.specs.declared.reply.Reply.TheVariants.{Done}
 use Rattle.pid_types.specs.declared.entry.Receipt.{Receipt}
 use Rattle.pid_jobs.specs.Receipts.{receipts_kept}
-use Rattle.pid_jobs.proofs.Compared.{kept_more, past_other, past_both, too_short, another, too_long}
+use Rattle.pid_jobs.proofs.Compared.{kept_more, past_other, past_both, too_short, another, too_long, all_matched}
 use Rattle.pid_jobs.proofs.audits.first_difference.Goals as goal
 
 pub loop-ordinal-preserved-then-entry-worker : goal.loop-ordinal-preserved-then-entry-worker
@@ -49,3 +49,9 @@ returns-then-skip_cut-receipts g c =
     let lt : c.skip_cut.result < length c.args.receipts.now = search rules in
     let le = rw c.first_kept-first.ensures at (c.skip_cut.ensures.kept d lt) in
     too_long c.args.kept.now _ c.skip_cut.result _ c.args.receipts.now (c.loop-ordinal.ordinal - c.args.kept.now.first_kept) d (omega (arith, c.total-ordinal-end.ensures.value)) lt le (ap length skip ∙ was.2) (skip ∙ was.1)
+
+pub returns : goal.returns
+returns g c =
+    let was = c.loop-ordinal.invariant in
+    let skip = rw c.first_kept-first.ensures at c.skip_cut.ensures.none in
+    all_matched c.args.kept.now _ c.skip_cut.result c.args.receipts.now (c.loop-ordinal.ordinal - c.args.kept.now.first_kept) (omega (arith, c.total-ordinal-end.ensures.value)) (omega arith) (skip ∙ was.1)

@@ -1,0 +1,282 @@
+//! Scripts on a table of their own, from sources and to sinks that fail.
+ghost use Rattle.std.specs.Prelude.{◌≡◌, Some};
+
+use arrayvec::ArrayVec;
+use pid_types::config::Config;
+use pid_types::device::{DeviceFault, Sink, Source};
+use pid_workers::{RunScriptFault, Tally, run_limited};
+use std::alloc::Global;
+use std::marker::Brand;
+use std::sync::ledger::{Blank, Ledger};
+use std::test::Fail;
+
+/// A source that gives so many bytes a read, and may fail at its end.
+#[derive(Drop)]
+struct Pieces<'a> {
+    left: &'a [u8],
+    most: usize,
+    breaks: bool,
+    failed: bool,
+}
+
+impl Source for Pieces<'_> {
+    ghost remaining = { λ s. Some s.left.now };
+
+    ghost has_failed = { λ s. s.failed };
+
+    fn read(&mut self, buffer: &mut [u8]) -> Result<usize, DeviceFault> {
+        let count = self.left.len().min(buffer.len()).min(self.most.max(1));
+        if count == 0 && self.breaks {
+            self.failed = true;
+            return Err(DeviceFault);
+        }
+        buffer[..count].copy_from_slice(&self.left[..count]);
+        self.left = &self.left[count..];
+        Ok(count)
+    }
+
+    fn failed(&self) -> bool {
+        self.failed
+    }
+}
+
+/// A sink with room for so many bytes, which fails or takes nothing once it is full.
+#[derive(Drop)]
+struct Paper {
+    held: ArrayVec<u8, 512>,
+    room: usize,
+    breaks: bool,
+    failed: bool,
+    full: bool,
+}
+
+impl Sink for Paper {
+    ghost contents = { λ s. Some s.held.items };
+
+    ghost has_failed = { λ s. s.failed };
+
+    ghost is_full = { λ s. s.full };
+
+    fn write(&mut self, buffer: &[u8]) -> Result<usize, DeviceFault> {
+        let room = self.room.min(self.held.remaining_capacity());
+        let count = buffer.len().min(room);
+        if count == 0 && self.breaks {
+            self.failed = true;
+            return Err(DeviceFault);
+        }
+        if count == 0 {
+            self.full = true;
+        }
+        self.held.try_extend_from_slice(&buffer[..count]).unwrap();
+        self.room -= count;
+        Ok(count)
+    }
+
+    fn failed(&self) -> bool {
+        self.failed
+    }
+}
+
+fn whole(script: &[u8]) -> Pieces<'_> {
+    Pieces {
+        left: script,
+        most: 4096,
+        breaks: false,
+        failed: false,
+    }
+}
+
+fn make_paper(room: usize, breaks: bool) -> Paper {
+    Paper {
+        held: ArrayVec::new(),
+        room,
+        breaks,
+        failed: false,
+        full: false,
+    }
+}
+
+fn run_branded<L: Ledger>(
+    alloc: Global,
+    blank: Blank,
+    source: &mut Pieces,
+    sink: &mut Paper,
+    config: &Config,
+    turns: u32,
+) -> Result<Tally, RunScriptFault>
+    requires name { blank.name ≡ L.name }
+    requires parts { (blank.parts ≡ L.parts) × (L.parts ≡ 1) }
+{
+    run_limited::<L, Pieces, Paper>(alloc, blank, source, sink, config, turns)
+}
+
+fn run_here(
+    alloc: Global,
+    source: &mut Pieces,
+    sink: &mut Paper,
+    config: &Config,
+    turns: u32,
+) -> Result<Tally, RunScriptFault> {
+    run_branded::<Brand>(alloc, Blank::new(1), source, sink, config, turns)
+}
+
+#[test]
+fn answers_calls_and_bad_lines(rt: HostRuntime) {
+    let usual = Config::default_values();
+    let script =
+        b"\nfork\nfork 01\nfork 4294967296\nexit 2 256\naaaaaaaaaaaaaaaaaaaaaaaaaaaaaaaaaaaaaaaaaaaaaaaaaaaaaaaaaaaaaaaaaaaaaaaaaaaaaaaaaaaaaaaaaaaaaaaaaaaaaaaaaaaaaaaaaaaaaaaaaaaaaaaaaaaaaaaaaaaaaaaaaaaaaaaaaaaaaaaaaaaaaaaaaaaaaaaaaaaaaaaaaaaaaaaaaaaaaaaaa\nfork 1\r\nfo\0rk 1\nfork 1";
+    let text: &[u8] =
+        b"bad line\nbad line\nbad line\nbad line\nbad line\nbad line\nbad line\nchild 2 root 2\n";
+    for most in [1, 7, 4096] {
+        let mut source = whole(script);
+        source.most = most;
+        let mut sink = make_paper(512, false);
+        let tally = Tally {
+            lines: 9,
+            recorded: 1,
+            bad: 7,
+        };
+        assert_eq!(rt;
+            run_here(rt.alloc(), &mut source, &mut sink, &usual, 1000),
+            Ok(tally)
+        );
+        assert_eq!(rt; sink.held.as_slice(), text);
+    }
+}
+
+#[test]
+fn stops_at_faults(rt: HostRuntime) {
+    let usual = Config::default_values();
+    let mut source = whole(b"fork 1\nfork");
+    source.breaks = true;
+    let mut sink = make_paper(512, false);
+    let outcome = run_here(rt.alloc(), &mut source, &mut sink, &usual, 1000);
+    assert_eq!(rt; outcome, Err(RunScriptFault::Read));
+    assert_eq!(rt; sink.held.as_slice(), b"child 2 root 2\n".as_slice());
+    for breaks in [false, true] {
+        let mut sink = make_paper(3, breaks);
+        let outcome = run_here(rt.alloc(), &mut whole(b"fork 1\n"), &mut sink, &usual, 1000);
+        assert_eq!(rt; outcome, Err(RunScriptFault::Write));
+        assert_eq!(rt; sink.held.as_slice(), b"chi".as_slice());
+        assert_eq!(rt; sink.failed(), breaks);
+    }
+}
+
+#[test]
+fn stops_at_its_last_turn(rt: HostRuntime) {
+    let usual = Config::default_values();
+    let one = Tally {
+        lines: 1,
+        recorded: 1,
+        bad: 0,
+    };
+    let late = Err(RunScriptFault::TooManyTurns);
+    let answer: &[u8] = b"child 2 root 2\n";
+    let runs: [(u32, Result<Tally, RunScriptFault>, &[u8]); 4] = [
+        (8, Ok(one), answer),
+        (7, late, answer),
+        (3, late, b""),
+        (0, late, b""),
+    ];
+    for (turns, expected, text) in runs {
+        let mut source = whole(b"fork 1\n");
+        source.most = 1;
+        let mut sink = make_paper(512, false);
+        let outcome = run_here(rt.alloc(), &mut source, &mut sink, &usual, turns);
+        assert_eq!(rt; outcome, expected, "{turns} turns");
+        assert_eq!(rt; sink.held.as_slice(), text, "{turns} turns");
+    }
+}
+
+/// A namespace below the root, and who sees whom.
+const NESTED: &[u8] =
+    b"fork 1 new\nfork 2\nnspid 1 3\nnspid 2 2\nnspid 2 3\ngetppid 2\ngetpgid 2 0\ngetsid 1 3\n";
+
+const NESTED_ANSWERS: [&[u8]; 8] = [
+    b"child 2 root 2\n",
+    b"child 2 root 3\n",
+    b"3 2\n",
+    b"2\n",
+    b"ESRCH no-task\n",
+    b"0\n",
+    b"0\n",
+    b"1\n",
+];
+
+/// The first answers to the nested script.
+fn first_answers(count: usize) -> ArrayVec<u8, 512> {
+    let mut text = ArrayVec::new();
+    for answer in NESTED_ANSWERS.iter().take(count) {
+        let _ = text.try_extend_from_slice(answer);
+    }
+    text
+}
+
+#[test]
+fn answers_whole_lines_before_a_read_fault(rt: HostRuntime) {
+    let usual = Config::default_values();
+    for count in 0..=NESTED.len() {
+        let mut source = whole(&NESTED[..count]);
+        source.breaks = true;
+        let mut sink = make_paper(512, false);
+        let outcome = run_here(rt.alloc(), &mut source, &mut sink, &usual, 1000);
+        assert_eq!(rt; outcome, Err(RunScriptFault::Read), "after {count} bytes");
+        let ended = NESTED[..count].iter().filter(|b| **b == b'\n').count();
+        let text = first_answers(ended);
+        assert_eq!(rt;
+            sink.held.as_slice(),
+            text.as_slice(),
+            "after {count} bytes"
+        );
+    }
+}
+
+#[test]
+fn writes_what_fits_before_a_write_fault(rt: HostRuntime) {
+    let usual = Config::default_values();
+    let all = first_answers(8);
+    for room in 0..all.len() {
+        let mut sink = make_paper(room, true);
+        let outcome = run_here(rt.alloc(), &mut whole(NESTED), &mut sink, &usual, 1000);
+        assert_eq!(rt; outcome, Err(RunScriptFault::Write), "room for {room}");
+        assert_eq!(rt; sink.held.as_slice(), &all[..room], "room for {room}");
+    }
+    let mut sink = make_paper(all.len(), true);
+    let outcome = run_here(rt.alloc(), &mut whole(NESTED), &mut sink, &usual, 1000);
+    assert!(rt; outcome.is_ok());
+    assert_eq!(rt; sink.held.as_slice(), all.as_slice());
+}
+
+#[test]
+fn answers_a_very_long_line_once(rt: HostRuntime) -> Result<(), Fail> {
+    let letters = vec![in rt.alloc(); b'a'; 1_000_000]?;
+    let mut sink = make_paper(512, false);
+    let usual = Config::default_values();
+    let tally = run_here(
+        rt.alloc(),
+        &mut whole(letters.as_slice()),
+        &mut sink,
+        &usual,
+        1000,
+    )?;
+    assert_eq!(rt; sink.held.as_slice(), b"bad line\n".as_slice());
+    assert_eq!(rt; tally.lines, 1);
+    assert_eq!(rt; tally.bad, 1);
+    Ok(())
+}
+
+#[test]
+fn spends_its_stamps(rt: HostRuntime) -> Result<(), Fail> {
+    let last = Config::new(32768, 18_446_744_073_709_551_614)?;
+    let mut sink = make_paper(512, false);
+    let tally = run_here(
+        rt.alloc(),
+        &mut whole(b"fork 1\ngetpid 1\n"),
+        &mut sink,
+        &last,
+        1000,
+    )?;
+    assert_eq!(rt; sink.held.as_slice(), b"child 2 root 2\nspent\n".as_slice());
+    assert_eq!(rt; tally.recorded, 1);
+    Ok(())
+}
