@@ -79,21 +79,7 @@ fn run_script<I: Read + Drop, O: Write>(
 ) -> Result<(), Fault> {
     let mut source = FromReader::new(input);
     let mut sink = ToWriter::new(output);
-    answer_script::<Brand, _, _>(alloc, Blank::new(1), &mut source, &mut sink, config)
-}
-
-/// Answers a script on a table of its own.
-fn answer_script<L: Ledger, S: Source, K: Sink>(
-    alloc: Global,
-    blank: Blank,
-    source: &mut S,
-    sink: &mut K,
-    config: &Config,
-) -> Result<(), Fault>
-    requires name { blank.name ≡ L.name }
-    requires parts { (blank.parts ≡ L.parts) × (L.parts ≡ 1) }
-{
-    run::<L, S, K>(alloc, blank, source, sink, config)?;
+    run::<Brand, _, _>(alloc, Blank::new(1), &mut source, &mut sink, config)?;
     Ok(())
 }
 

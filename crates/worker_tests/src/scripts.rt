@@ -96,18 +96,19 @@ fn make_paper(room: usize, breaks: bool) -> Paper {
     }
 }
 
-fn run_branded<L: Ledger>(
+/// Runs a script, of which the callers know nothing more.
+fn run_branded<L: Ledger, S: Source, K: Sink>(
     alloc: Global,
     blank: Blank,
-    source: &mut Pieces,
-    sink: &mut Paper,
+    source: &mut S,
+    sink: &mut K,
     config: &Config,
     turns: u32,
 ) -> Result<Tally, RunScriptFault>
     requires name { blank.name ≡ L.name }
     requires parts { (blank.parts ≡ L.parts) × (L.parts ≡ 1) }
 {
-    run_limited::<L, Pieces, Paper>(alloc, blank, source, sink, config, turns)
+    run_limited::<L, S, K>(alloc, blank, source, sink, config, turns)
 }
 
 fn run_here(
@@ -117,7 +118,7 @@ fn run_here(
     config: &Config,
     turns: u32,
 ) -> Result<Tally, RunScriptFault> {
-    run_branded::<Brand>(alloc, Blank::new(1), source, sink, config, turns)
+    run_branded::<Brand, _, _>(alloc, Blank::new(1), source, sink, config, turns)
 }
 
 #[test]

@@ -15,7 +15,7 @@ same_receipt r ordinal e there worker call reply =
     ap (λ x. made x r.worker r.call r.reply) there ∙ (ap (λ x. made ordinal x r.call r.reply) worker ∙ (ap (λ x. made ordinal e.worker x r.reply) call ∙ ap (λ x. made ordinal e.worker e.call x) reply))
 
 pub returns-clause-yes : goal.returns-clause-yes
-returns-clause-yes c h = same_receipt c.args.one.now c.args.ordinal c.args.entry.now c.if-one-ordinal.false c.if-one-entry.false (c.is_same_call.ensures.yes (search rules)) (c.is_same_reply.ensures.yes h)
+returns-clause-yes c h = same_receipt c.args.one.now c.args.ordinal c.args.entry.now (search rules) (search rules) (c.is_same_call.ensures.yes (search rules)) (c.is_same_reply.ensures.yes h)
 
 pub returns-clause-no : goal.returns-clause-no
 returns-clause-no c h same = c.is_same_reply.ensures.no h (ap (λ r. r.reply) same)
