@@ -463,6 +463,3 @@ impl<T: Drop> IndexArray<T> {
         }
     }
 }
-
-#[cfg(test)]
-mod tests;
