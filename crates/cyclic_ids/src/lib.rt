@@ -206,6 +206,3 @@ impl<T: Drop> CyclicIds<T> {
         self.ids.next_marked(from, m)
     }
 }
-
-#[cfg(test)]
-mod tests;

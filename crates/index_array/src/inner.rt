@@ -1,14 +1,14 @@
 //! The nodes with children.
 
-ghost use Rattle.std.specs.Prelude.{◌≡◌, ℕ, ◌<◌, ◌≤◌, ◌+◌, ◌^◌, ◌/◌, ◌%◌, ◌*◌, length, Option, None, MatchOption, IsSome, IsNone, true, false, [], ◌∷◌};
+ghost use Rattle.std.specs.Prelude.{◌≡◌, ℕ, ◌<◌, ◌≤◌, ◌+◌, ◌^◌, ◌/◌, ◌%◌, ◌*◌, length, Option, None, MatchOption, IfOk, IsSome, IsNone, true, false, [], ◌∷◌};
 ghost use Rattle.std.specs.List.{list_any};
 ghost use Rattle.index_array.specs.Words.{IsSought};
 ghost use Rattle.index_array.specs.Place.{bare, place_at, entry_at, is_prepared, value_at, entry_with, carries, IsFirst, WritesEntry, KeepsEntries, KeepsPrepared};
-ghost use Rattle.index_array.specs.Tree.{Tree, IsChild, IsBelow};
+ghost use Rattle.index_array.specs.Tree.{Tree, IsNew, IsChild, IsBelow};
 ghost use Rattle.index_array.specs.declared.bits.Sought.{Sought};
 
 use crate::bits::{SlotBits, Sought, Words, has_bit, next_bit};
-use crate::block::{Block, Written};
+use crate::block::{Block, Parent, Written};
 use crate::leaf::empty_slots;
 use std::alloc::{AllocError, Global};
 use std::marker::{Model, PhantomData};
@@ -62,6 +62,18 @@ fn start_of(slot: u32, height: u32) -> u32
 }
 
 impl<T: Drop, C: Block<T>> Inner<T, C> {
+    /// A node with no entry; the error is want of memory.
+    pub fn new(alloc: Global) -> Result<Self, AllocError>
+        requires { C.height < 3 }
+        ensures { IfOk result (λ node. IsNew (C.height + 1) node) }
+    {
+        Ok(Inner {
+            words: Words::none(),
+            children: empty_slots(alloc)?,
+            of: PhantomData,
+        })
+    }
+
     /// The child that an index is below, with the index in it; none where there is no such child.
     #[inline(always)]
     fn below(&self, i: u32) -> Option<(&C, u32)>
@@ -98,20 +110,6 @@ impl<T: Drop, C: Block<T>> Inner<T, C> {
             },
         }
     }
-
-    /// Takes a child for slot 0 of a node with no entry.
-    pub fn adopt(&mut self, child: Box<C>)
-        requires child { IsChild self.old.height (C.tree child.value) }
-        requires empty { (j : ℕ) → entry_at self.old.places j ≡ None }
-        ensures height { self.new.height ≡ self.old.height }
-        ensures whole { length self.new.places ≡ length self.old.places }
-        ensures entries { KeepsEntries (C.tree child.value).places self.new.places }
-        ensures keeps { KeepsPrepared (C.tree child.value).places self.new.places }
-    {
-        let bits = child.together();
-        self.children[0] = Some(child);
-        self.words.set_slot(0, bits, true);
-    }
 }
 
 impl<T: Drop, C: Block<T>> Block<T> for Inner<T, C> {
@@ -128,12 +126,7 @@ impl<T: Drop, C: Block<T>> Block<T> for Inner<T, C> {
 
     #[inline(never)]
     fn empty(alloc: Global) -> Result<Box<Self>, AllocError> {
-        let node = Inner {
-            words: Words::none(),
-            children: empty_slots(alloc)?,
-            of: PhantomData,
-        };
-        Ok(Box::new(alloc, node)?)
+        Ok(Box::new(alloc, Inner::new(alloc)?)?)
     }
 
     #[inline(always)]
@@ -276,5 +269,20 @@ impl<T: Drop, C: Block<T>> Block<T> for Inner<T, C> {
             None => unreachable!(),
             Some(child) => child.give_back(rest_of(i, height)),
         }
+    }
+}
+
+impl<T: Drop, C: Block<T>> Parent<T, C> for Inner<T, C> {
+    fn adopt(&mut self, child: Box<C>)
+        requires child { IsChild self.old.height (C.tree child.value) }
+        requires empty { (j : ℕ) → entry_at self.old.places j ≡ None }
+        ensures height { self.new.height ≡ self.old.height }
+        ensures whole { length self.new.places ≡ length self.old.places }
+        ensures entries { KeepsEntries (C.tree child.value).places self.new.places }
+        ensures keeps { KeepsPrepared (C.tree child.value).places self.new.places }
+    {
+        let bits = child.together();
+        self.children[0] = Some(child);
+        self.words.set_slot(0, bits, true);
     }
 }

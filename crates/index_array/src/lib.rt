@@ -18,12 +18,14 @@ mod bits;
 mod block;
 mod inner;
 mod leaf;
+mod levels;
 mod root;
 
 use bits::Sought;
 use block::Block;
 use inner::Inner;
 use leaf::Leaf;
+use levels::{Node1, Node2};
 use root::{
     Root, erase_in, find_in, gap_in, get_in, give_back_in, is_marked_in, is_prepared_in,
     prepare_in, put_mark_in, raised, store_in,
@@ -186,9 +188,9 @@ impl<T: Drop> IndexArray<T> {
         if i < 64 {
             self.root = Root::Height0(Leaf::empty(alloc)?);
         } else if i < 4096 {
-            self.root = Root::Height1(Inner::empty(alloc)?);
+            self.root = Root::Height1(Node1::empty(alloc)?);
         } else if i < 262_144 {
-            self.root = Root::Height2(Inner::empty(alloc)?);
+            self.root = Root::Height2(Node2::empty(alloc)?);
         } else {
             self.root = Root::Height3(Inner::empty(alloc)?);
         }
@@ -461,6 +463,3 @@ impl<T: Drop> IndexArray<T> {
         }
     }
 }
-
-#[cfg(test)]
-mod tests;

@@ -1,6 +1,10 @@
+use Rattle.std.proofs.Common.{rules}
 use Rattle.cyclic_ids.proofs.Draws.{planned-same}
 use Rattle.cyclic_ids.proofs.CyclicIds.prepare.Goals as goal
 
 pub returns-clause-planned : goal.returns-clause-planned
 returns-clause-planned g c =
     rw (← c.self.view_is) (planned-same c.self.inside.pid_max c.self.inside.cursor c.self.inside.ids c.prepare.new.self c.prepare.ensures.entries)
+
+pub returns-clause-ok : goal.returns-clause-ok
+returns-clause-ok g c = search rules

@@ -1,8 +1,8 @@
-//! Worked draws.
+//! `CyclicIds`: worked draws.
 
 ghost use Rattle.std.specs.Prelude.{◌<◌};
 
-use crate::{CyclicIds, GROUP_MARK, SESSION_MARK, TASK_MARK};
+use cyclic_ids::{CyclicIds, GROUP_MARK, SESSION_MARK, TASK_MARK};
 use std::process::Abort;
 
 /// Draws a number, and tries again where there was no memory; then the next number has to stay.

@@ -1,0 +1,208 @@
+//! The nodes of heights 1 and 2.
+//!
+//! Each is a type of its own, and not an `Inner` of an `Inner` of a leaf: what is proved of a call names
+//! each type in it several times, and so would double with each height.
+
+ghost use Rattle.std.specs.Prelude.{◌≡◌, ℕ, ◌<◌, ◌+◌, ◌^◌, length, None, IsSome, IsNone, true, false, [], ◌∷◌};
+ghost use Rattle.std.specs.List.{list_any};
+ghost use Rattle.index_array.specs.Place.{entry_at, is_prepared, value_at, entry_with, carries, WritesEntry, KeepsEntries, KeepsPrepared};
+ghost use Rattle.index_array.specs.Tree.{IsChild};
+ghost use Rattle.index_array.specs.declared.bits.Sought.{Sought};
+
+use crate::bits::{SlotBits, Sought};
+use crate::block::{Block, Parent, Written};
+use crate::inner::Inner;
+use crate::leaf::Leaf;
+use std::alloc::{AllocError, Global};
+
+/// A node over leaves.
+#[derive(Drop)]
+pub struct Node1<T: Drop>(Inner<T, Leaf<T>>);
+
+impl<T: Drop> Block<T> for Node1<T> {
+    ghost height = { 1 };
+
+    ghost tree = { λ t. t.0 };
+
+    #[inline(always)]
+    fn height() -> u32 {
+        1
+    }
+
+    #[inline(never)]
+    fn empty(alloc: Global) -> Result<Box<Self>, AllocError> {
+        Ok(Box::new(alloc, Node1(Inner::new(alloc)?))?)
+    }
+
+    #[inline(always)]
+    fn together(&self) -> SlotBits {
+        self.0.together()
+    }
+
+    #[inline(always)]
+    fn has_any(&self, sought: Sought) -> bool {
+        self.0.has_any(sought)
+    }
+
+    #[inline(always)]
+    fn value(&self, i: u32) -> Option<&T> {
+        self.0.value(i)
+    }
+
+    #[inline(always)]
+    fn is_marked(&self, i: u32, mark: usize) -> bool {
+        self.0.is_marked(i, mark)
+    }
+
+    #[inline(always)]
+    fn is_prepared(&self, i: u32) -> bool {
+        self.0.is_prepared(i)
+    }
+
+    #[inline(always)]
+    fn find(&self, from: u32, sought: Sought) -> Option<u32> {
+        self.0.find(from, sought)
+    }
+
+    #[inline(always)]
+    fn put(&mut self, i: u32, value: Option<T>, marks: [bool; 3]) -> Written<T>
+        requires covered { i < 64 ^ (self.old.0.height + 1) }
+        requires prepared { IsSome value → is_prepared self.old.0.places i ≡ true }
+        requires unmarked { IsNone value → marks ≡ false ∷ false ∷ false ∷ [] }
+        ensures height { self.new.0.height ≡ self.old.0.height }
+        ensures whole { length self.new.0.places ≡ length self.old.0.places }
+        ensures writes { WritesEntry self.old.0.places self.new.0.places i (entry_with value marks) }
+        ensures keeps { KeepsPrepared self.old.0.places self.new.0.places }
+        ensures answer { result.old ≡ value_at self.old.0.places i }
+        ensures marked { result.marked ≡ false → (m : ℕ)
+            → list_any (carries (Sought.Mark m)) self.new.0.places
+            ≡ list_any (carries (Sought.Mark m)) self.old.0.places }
+    {
+        self.0.put(i, value, marks)
+    }
+
+    #[inline(always)]
+    fn put_mark(&mut self, i: u32, mark: usize, on: bool) -> bool {
+        self.0.put_mark(i, mark, on)
+    }
+
+    #[inline(always)]
+    fn prepare(&mut self, alloc: Global, i: u32) -> Result<(), AllocError> {
+        self.0.prepare(alloc, i)
+    }
+
+    #[inline(always)]
+    fn give_back(&mut self, i: u32) {
+        self.0.give_back(i)
+    }
+}
+
+impl<T: Drop> Parent<T, Leaf<T>> for Node1<T> {
+    #[inline(always)]
+    fn adopt(&mut self, child: Box<Leaf<T>>)
+        requires child { IsChild self.old.0.height child.value }
+        requires empty { (j : ℕ) → entry_at self.old.0.places j ≡ None }
+        ensures height { self.new.0.height ≡ self.old.0.height }
+        ensures whole { length self.new.0.places ≡ length self.old.0.places }
+        ensures entries { KeepsEntries child.value.places self.new.0.places }
+        ensures keeps { KeepsPrepared child.value.places self.new.0.places }
+    {
+        self.0.adopt(child);
+    }
+}
+
+/// A node over those.
+#[derive(Drop)]
+pub struct Node2<T: Drop>(Inner<T, Node1<T>>);
+
+impl<T: Drop> Block<T> for Node2<T> {
+    ghost height = { 2 };
+
+    ghost tree = { λ t. t.0 };
+
+    #[inline(always)]
+    fn height() -> u32 {
+        2
+    }
+
+    #[inline(never)]
+    fn empty(alloc: Global) -> Result<Box<Self>, AllocError> {
+        Ok(Box::new(alloc, Node2(Inner::new(alloc)?))?)
+    }
+
+    #[inline(always)]
+    fn together(&self) -> SlotBits {
+        self.0.together()
+    }
+
+    #[inline(always)]
+    fn has_any(&self, sought: Sought) -> bool {
+        self.0.has_any(sought)
+    }
+
+    #[inline(always)]
+    fn value(&self, i: u32) -> Option<&T> {
+        self.0.value(i)
+    }
+
+    #[inline(always)]
+    fn is_marked(&self, i: u32, mark: usize) -> bool {
+        self.0.is_marked(i, mark)
+    }
+
+    #[inline(always)]
+    fn is_prepared(&self, i: u32) -> bool {
+        self.0.is_prepared(i)
+    }
+
+    #[inline(always)]
+    fn find(&self, from: u32, sought: Sought) -> Option<u32> {
+        self.0.find(from, sought)
+    }
+
+    #[inline(always)]
+    fn put(&mut self, i: u32, value: Option<T>, marks: [bool; 3]) -> Written<T>
+        requires covered { i < 64 ^ (self.old.0.height + 1) }
+        requires prepared { IsSome value → is_prepared self.old.0.places i ≡ true }
+        requires unmarked { IsNone value → marks ≡ false ∷ false ∷ false ∷ [] }
+        ensures height { self.new.0.height ≡ self.old.0.height }
+        ensures whole { length self.new.0.places ≡ length self.old.0.places }
+        ensures writes { WritesEntry self.old.0.places self.new.0.places i (entry_with value marks) }
+        ensures keeps { KeepsPrepared self.old.0.places self.new.0.places }
+        ensures answer { result.old ≡ value_at self.old.0.places i }
+        ensures marked { result.marked ≡ false → (m : ℕ)
+            → list_any (carries (Sought.Mark m)) self.new.0.places
+            ≡ list_any (carries (Sought.Mark m)) self.old.0.places }
+    {
+        self.0.put(i, value, marks)
+    }
+
+    #[inline(always)]
+    fn put_mark(&mut self, i: u32, mark: usize, on: bool) -> bool {
+        self.0.put_mark(i, mark, on)
+    }
+
+    #[inline(always)]
+    fn prepare(&mut self, alloc: Global, i: u32) -> Result<(), AllocError> {
+        self.0.prepare(alloc, i)
+    }
+
+    #[inline(always)]
+    fn give_back(&mut self, i: u32) {
+        self.0.give_back(i)
+    }
+}
+
+impl<T: Drop> Parent<T, Node1<T>> for Node2<T> {
+    #[inline(always)]
+    fn adopt(&mut self, child: Box<Node1<T>>)
+        requires child { IsChild self.old.0.height child.value.0 }
+        requires empty { (j : ℕ) → entry_at self.old.0.places j ≡ None }
+        ensures height { self.new.0.height ≡ self.old.0.height }
+        ensures whole { length self.new.0.places ≡ length self.old.0.places }
+        ensures entries { KeepsEntries child.value.0.places self.new.0.places }
+        ensures keeps { KeepsPrepared child.value.0.places self.new.0.places }
+    {
+        self.0.adopt(child);
+    }
+}
