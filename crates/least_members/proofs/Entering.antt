@@ -196,3 +196,14 @@ module _ (rs : List ℕ) (ns xs : List Node) (k p r f : ℕ) (w : IsHeap rs ns n
         let higher : (node_at ns' f).rank < (node_at ns' k).rank → ⊥ = λ less. not (some, λ _. rw read less) in
         omega (arith, differ, higher);
   }
+
+  -- below a member of the same owner and a lesser rank
+  pub sinks_below : (at : ℕ) → ((node_at xs at).owner ≡ (node_at xs k).owner) × ((node_at xs at).rank < (node_at xs k).rank) → IsSinking rs ns' at k
+  sinks_below at elder =
+      let same : (node_at ns' at).owner ≡ (node_at ns' k).owner = rw read at elder.0 in
+      record {
+        heap = entered;
+        owned = λ _ z. p_there (sym (ap (λ (x : Node). x.owner) k_node) ∙ sym same ∙ z);
+        same = λ _. sym same;
+        lower = λ _. rw read at elder.1;
+      }

@@ -1,9 +1,9 @@
 -- Taking a key out of its tree: one of its sides comes into its place, and the other one is held.
-use Rattle.std.proofs.Common.{◌≡◌, ◌≢◌, ◌⊎◌, inl, inr, ℕ, ◌<◌, ◌≤◌, List, length, set, map, refl, sym, subst, ap, ◌∙◌, arith}
+use Rattle.std.proofs.Common.{◌≡◌, ◌≢◌, ◌⊎◌, inl, inr, ℕ, ◌<◌, ◌≤◌, List, length, set, refl, sym, subst, ap, ◌∙◌, arith}
 use Rattle.std.proofs.lemmas.Bool.{cases_eq}
-use Rattle.std.proofs.lemmas.List.{get_or_past, get_or-set_same, get_or-set_other, length-set, length-map}
+use Rattle.std.proofs.lemmas.List.{get_or_past, get_or-set_same, get_or-set_other, length-set}
 use Rattle.least_members.specs.declared.Node.{Node}
-use Rattle.least_members.specs.Heap.{nil, blank, node_at, root_at, member_in, IsBelow, AreSides, AreRanked, IsTree, IsHeap, IsSinking}
+use Rattle.least_members.specs.Heap.{nil, blank, node_at, root_at, IsBelow, AreSides, AreRanked, IsTree, IsHeap, IsSinking}
 use Rattle.least_members.proofs.Trees.{within, is_some}
 
 -- what taking a key k out makes of the roots and nodes, where b comes into its place
@@ -332,10 +332,6 @@ module _ (rs rs' : List ℕ) (ns n1 n2 : List Node) (k b o : ℕ) (l z : Node) (
     len = length-set n2 k _ ∙ len2 ∙ len1;
     rooms = rooms;
   }
-
--- a list of members as long as before is of as many nodes
-pub as_many : (ns ns' : List Node) → map member_in ns' ≡ map member_in ns → length ns' ≡ length ns
-as_many ns ns' same = let e : length (map member_in ns') ≡ length (map member_in ns) = ap length same in simp length-map at e
 
 -- a side of a key, where there is one
 pub side_within : (rs : List ℕ) (ns : List Node) (k m : ℕ) → IsHeap rs ns nil → (node_at ns k).owner ≢ nil → IsBelow ns k m → m ≢ nil → m < length ns

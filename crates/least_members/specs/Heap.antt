@@ -61,3 +61,8 @@ pub record IsSinking (roots : List ℕ) (nodes : List Node) (at held : ℕ) : Ty
   pub owned : held ≢ nil → (node_at nodes at).owner ≢ nil
   pub same : held ≢ nil → (node_at nodes held).owner ≡ (node_at nodes at).owner
   pub lower : held ≢ nil → (node_at nodes at).rank < (node_at nodes held).rank
+
+-- no key is held, and each owner has a place for the key that came last
+pub record IsKept (roots : List ℕ) (nodes : List Node) (latest : List ℕ) : Type 0 where
+  pub heap : IsHeap roots nodes nil
+  pub places : length latest ≡ length nodes

@@ -35,11 +35,12 @@ struct Forest {
 
 /// Keys, each with an owner and a rank or with neither.
 ///
-/// No two members of an owner have one rank. It takes 24 bytes for each key with the owner of the same
+/// No two members of an owner have one rank. It takes 28 bytes for each key with the owner of the same
 /// number.
 #[derive(Drop)]
 pub struct LeastMembers {
     forest: Forest,
+    latest: Vec<u32>,
 }
 
 impl Model for LeastMembers {
@@ -47,11 +48,11 @@ impl Model for LeastMembers {
 
     ghost Value = { List (Option (ℕ × ℕ)) };
 
-    ghost use Rattle.least_members.specs.Heap.{nil, member_in, IsHeap};
+    ghost use Rattle.least_members.specs.Heap.{member_in, IsKept};
 
     ghost view = { λ a. map member_in a.forest.nodes.items };
 
-    ghost invariant = { λ a. IsHeap a.forest.roots.items a.forest.nodes.items nil };
+    ghost invariant = { λ a. IsKept a.forest.roots.items a.forest.nodes.items a.latest.items };
 }
 
 /// Whether the first key is there and comes before the second, which need not be there.
@@ -63,6 +64,16 @@ fn is_before(nodes: &[Node], a: u32, b: u32) -> bool
     a != NIL && (b == NIL || nodes[a as usize].rank < nodes[b as usize].rank)
 }
 
+/// Whether the first key is there, with the owner of the second, and ranks lower.
+fn is_elder(nodes: &[Node], a: u32, b: u32) -> bool
+    requires { b < length nodes.now }
+    ensures { IsTrue result → ((node_at nodes.now a).owner ≡ (node_at nodes.now b).owner) × ((node_at nodes.now a).rank < (node_at nodes.now b).rank) }
+{
+    (a as usize) < nodes.len()
+        && nodes[a as usize].owner == nodes[b as usize].owner
+        && nodes[a as usize].rank < nodes[b as usize].rank
+}
+
 /// Joins a tree below a key one step further. It answers the next key and what is to go below it.
 fn step(forest: &mut Forest, at: u32, held: u32) -> (u32, u32)
     requires sinking { IsSinking forest.old.roots.items forest.old.nodes.items at held }
@@ -70,6 +81,7 @@ fn step(forest: &mut Forest, at: u32, held: u32) -> (u32, u32)
     ensures sinking { IsSinking forest.new.roots.items forest.new.nodes.items result.0 result.1 }
     ensures on { (node_at forest.old.nodes.items at).rank < (node_at forest.new.nodes.items result.0).rank }
     ensures members { map member_in forest.new.nodes.items ≡ map member_in forest.old.nodes.items }
+    ensures len { length forest.new.nodes.items ≡ length forest.old.nodes.items }
 {
     let Node { left, right, .. } = forest.nodes[at as usize];
     if is_before(forest.nodes.as_slice(), right, held) {
@@ -91,6 +103,7 @@ fn sink(forest: &mut Forest, mut at: u32, mut held: u32)
     requires { IsSinking forest.old.roots.items forest.old.nodes.items at held }
     ensures heap { IsHeap forest.new.roots.items forest.new.nodes.items nil }
     ensures members { map member_in forest.new.nodes.items ≡ map member_in forest.old.nodes.items }
+    ensures len { length forest.new.nodes.items ≡ length forest.old.nodes.items }
 {
     while held != NIL {
         (at, held) = step(forest, at, held);
@@ -109,6 +122,7 @@ fn set_child(forest: &mut Forest, owner: u32, above: u32, key: u32, by: u32)
         → node_at forest.new.nodes.items above ≡ record (node_at forest.old.nodes.items above) { right = by } }
     ensures others { (j : ℕ) → j ≢ above → node_at forest.new.nodes.items j ≡ node_at forest.old.nodes.items j }
     ensures members { map member_in forest.new.nodes.items ≡ map member_in forest.old.nodes.items }
+    ensures len { length forest.new.nodes.items ≡ length forest.old.nodes.items }
     ensures rooms { length forest.new.roots.items ≡ length forest.old.roots.items }
 {
     if above == NIL {
@@ -126,6 +140,7 @@ fn set_above(nodes: &mut Vec<Node>, at: u32, above: u32)
     ensures here { at ≢ nil → node_at nodes.new.items at ≡ record (node_at nodes.old.items at) { above = above } }
     ensures others { (j : ℕ) → j ≢ at → node_at nodes.new.items j ≡ node_at nodes.old.items j }
     ensures members { map member_in nodes.new.items ≡ map member_in nodes.old.items }
+    ensures len { length nodes.new.items ≡ length nodes.old.items }
 {
     if at != NIL {
         nodes[at as usize].above = above;
@@ -140,12 +155,43 @@ fn fill(forest: &mut Forest, key: u32, by: u32, other: u32)
     requires order { other ≢ nil → (by ≢ nil) × ((node_at forest.old.nodes.items by).rank < (node_at forest.old.nodes.items other).rank) }
     ensures heap { IsHeap forest.new.roots.items forest.new.nodes.items nil }
     ensures members { map member_in forest.new.nodes.items ≡ slice_set (map member_in forest.old.nodes.items) key None }
+    ensures len { length forest.new.nodes.items ≡ length forest.old.nodes.items }
 {
     let Node { owner, above, .. } = forest.nodes[key as usize];
     set_child(forest, owner, above, key, by);
     set_above(&mut forest.nodes, by, above);
     forest.nodes[key as usize].owner = NIL;
     sink(forest, by, other);
+}
+
+/// Puts a key into its owner's tree: below the one that came last, where that ranks lower, and else below
+/// the root or over it.
+fn enter(forest: &mut Forest, key: u32, owner: u32, rank: u32, latest: u32)
+    requires heap { IsHeap forest.old.roots.items forest.old.nodes.items nil }
+    requires key { key < length forest.old.nodes.items }
+    requires owner { owner < length forest.old.roots.items }
+    requires free { ranked (map member_in forest.old.nodes.items) key ≡ None }
+    requires distinct { (k : ℕ) → ranked (map member_in forest.old.nodes.items) k ≢ Some (owner, rank) }
+    ensures heap { IsHeap forest.new.roots.items forest.new.nodes.items nil }
+    ensures members { map member_in forest.new.nodes.items ≡ slice_set (map member_in forest.old.nodes.items) key (Some (owner, rank)) }
+    ensures len { length forest.new.nodes.items ≡ length forest.old.nodes.items }
+{
+    forest.nodes[key as usize] = Node {
+        owner,
+        rank,
+        above: NIL,
+        left: NIL,
+        right: NIL,
+    };
+    let root = forest.roots[owner as usize];
+    if is_elder(forest.nodes.as_slice(), latest, key) {
+        sink(forest, latest, key);
+    } else if is_before(forest.nodes.as_slice(), root, key) {
+        sink(forest, root, key);
+    } else {
+        forest.roots[owner as usize] = key;
+        sink(forest, key, root);
+    }
 }
 
 impl LeastMembers {
@@ -158,6 +204,7 @@ impl LeastMembers {
                 roots: Vec::new(alloc),
                 nodes: Vec::new(alloc),
             },
+            latest: Vec::new(alloc),
         }
     }
 
@@ -169,6 +216,7 @@ impl LeastMembers {
         ensures err { OnErr result (self.new ≡ self.old) }
     {
         self.forest.roots.try_reserve(1)?;
+        self.latest.try_reserve(1)?;
         self.forest.nodes.push(Node {
             owner: NIL,
             rank: 0,
@@ -177,6 +225,7 @@ impl LeastMembers {
             right: NIL,
         })?;
         self.forest.roots.push_reserved(NIL);
+        self.latest.push_reserved(NIL);
         Ok(())
     }
 
@@ -206,6 +255,9 @@ impl LeastMembers {
     }
 
     /// Makes a key that has no owner a member of this one, with a rank that no other member has.
+    ///
+    /// Where it ranks above the one that came before it, it goes below that one: so members that come in
+    /// the order of their ranks cost a few reads and writes each.
     pub fn insert(&mut self, key: u32, owner: u32, rank: u32)
         requires key { key < length self.old }
         requires owner { owner < length self.old }
@@ -213,20 +265,9 @@ impl LeastMembers {
         requires distinct { (k : ℕ) → ranked self.old k ≢ Some (owner, rank) }
         ensures { self.new ≡ slice_set self.old key (Some (owner, rank)) }
     {
-        self.forest.nodes[key as usize] = Node {
-            owner,
-            rank,
-            above: NIL,
-            left: NIL,
-            right: NIL,
-        };
-        let root = self.forest.roots[owner as usize];
-        if is_before(self.forest.nodes.as_slice(), root, key) {
-            sink(&mut self.forest, root, key);
-        } else {
-            self.forest.roots[owner as usize] = key;
-            sink(&mut self.forest, key, root);
-        }
+        let latest = self.latest[owner as usize];
+        self.latest[owner as usize] = key;
+        enter(&mut self.forest, key, owner, rank, latest);
     }
 
     /// Takes a key from its owner. A key with none below it costs a few reads and writes.

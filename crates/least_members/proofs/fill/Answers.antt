@@ -11,8 +11,8 @@ sink-requires c =
     let ns : List Node = c.args.forest.now.nodes.items in
     let key = trees.within ns c.args.key c.requires.owned in
     let is = trees.node_is ns c.args.key c.index.result.now key c.index.ensures in
-    let len1 = filling.as_many ns c.set_child.new.forest.nodes.items c.set_child.ensures.members in
-    let len2 = filling.as_many c.set_child.new.forest.nodes.items c.set_above.new.nodes.items c.set_above.ensures.members in
+    let len1 = c.set_child.ensures.len in
+    let len2 = c.set_above.ensures.len in
     let key2 : c.args.key < length c.set_above.new.nodes.items = omega (arith, key, len1, len2) in
     filling.IsSinking-filled c.args.forest.now.roots.items ns c.args.key c.args.by c.args.other c.requires.heap c.requires.owned c.requires.sides c.set_child.new.forest.roots.items _
     (filling.Filled-set c.args.forest.now.roots.items c.set_child.new.forest.roots.items ns c.set_child.new.forest.nodes.items c.set_above.new.nodes.items c.args.key c.args.by c.args.other
