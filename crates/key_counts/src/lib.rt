@@ -9,7 +9,7 @@ ghost use Rattle.key_counts.specs.Counts.{count_of};
 use std::alloc::{AllocError, Global};
 use std::marker::Model;
 
-/// How often each key is used, say. A count is below 2^32, and so is the number of keys.
+/// A count for each key, 0 to 2^32 - 1. It takes 4 bytes for each key.
 #[derive(Drop)]
 pub struct KeyCounts {
     counts: Vec<u32>,
@@ -59,7 +59,7 @@ impl KeyCounts {
         self.counts[key as usize]
     }
 
-    /// Counts one more. A count that is at its greatest stays away from this call.
+    /// Counts one more. The count must have room for it.
     pub fn raise(&mut self, key: u32)
         requires key { key < length self.old }
         requires room { count_of self.old key + 1 < 2 ^ 32 }

@@ -17,7 +17,7 @@ use std::marker::Model;
 const NIL: u32 = u32::MAX;
 
 /// A key's place among the members of its owner. Where it has no owner the rest means nothing.
-#[derive(Clone, Copy, Debug, PartialEq, Eq)]
+#[derive(Clone, Copy)]
 struct Node {
     owner: u32,
     rank: u32,

@@ -18,7 +18,7 @@ use std::marker::Model;
 const NIL: u32 = u32::MAX;
 
 /// The links of one key. Where it has no owner the other two mean nothing.
-#[derive(Clone, Copy, Debug, PartialEq, Eq)]
+#[derive(Clone, Copy)]
 struct Link {
     owner: u32,
     next: u32,

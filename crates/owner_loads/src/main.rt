@@ -92,7 +92,11 @@ fn main(rt: HostRuntime) -> Result<()> {
         }
         return Ok(());
     }
-    let count = args.next().context(usage)?.parse::<u32>().context("a number")?;
+    let count = args
+        .next()
+        .context(usage)?
+        .parse::<u32>()
+        .context("a number")?;
     if name.as_str() == "small" {
         return run_small(&rt, count);
     }

@@ -104,7 +104,11 @@ impl Ranks for PlainRanks {
 pub fn in_order(alloc: Global, name: &str, count: u32) -> Result<Vec<u32>, AllocError> {
     let mut order = Vec::new(alloc);
     for key in 0..count {
-        let place = if name == "ranks.falling" { count - 1 - key } else { key };
+        let place = if name == "ranks.falling" {
+            count - 1 - key
+        } else {
+            key
+        };
         order.push(place)?;
     }
     if name != "ranks.rising" && name != "ranks.falling" {
