@@ -1,0 +1,4 @@
+pub mod Trees
+pub mod Sinking
+pub mod Filling
+pub mod Entering

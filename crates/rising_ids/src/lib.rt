@@ -1,0 +1,137 @@
+//! Ids that only rise, each with a key.
+//!
+//! They stand in a vector in the order of their ids. A removal leaves a mark in its place, and the marks
+//! are cleared away once half of the entries may be marks, so that no call moves all others each time.
+#![tactic(auto)]
+
+ghost use Rattle.std.specs.Prelude.{◌≡◌, ◌≢◌, ℕ, ◌<◌, ◌≤◌, length, Some, None, MatchOption, OnOk, OnErr, [], ◌∷◌, ◌++◌, slice_index_or};
+ghost use Rattle.rising_ids.specs.Ids.{key_of, without, AreBelow, AreRising};
+ghost use Rattle.rising_ids.specs.Entries.{live, Rise, EndsLive};
+
+mod iter;
+
+pub use iter::Iter;
+use std::alloc::{AllocError, Global};
+use std::marker::Model;
+
+/// An id with its key, or with none where it was removed.
+#[derive(Clone, Copy)]
+struct Entry {
+    id: u64,
+    key: Option<u32>,
+}
+
+/// Ids in rising order, each with a key.
+///
+/// It takes 16 bytes for each id, and as much for each mark.
+#[derive(Drop)]
+pub struct RisingIds {
+    entries: Vec<Entry>,
+    removed: usize,
+}
+
+impl Model for RisingIds {
+    ghost use Rattle.std.specs.Prelude.{List, ℕ};
+
+    ghost Value = { List (ℕ × ℕ) };
+
+    ghost use Rattle.rising_ids.specs.Entries.{live, Rise};
+
+    ghost view = { λ a. live a.entries.items };
+
+    ghost invariant = { λ a. Rise a.entries.items };
+}
+
+/// The place of an id among entries that rise.
+fn place_of(entries: &[Entry], id: u64) -> Option<usize>
+    requires { Rise entries.now }
+    ensures { MatchOption result
+        ((k : ℕ) → k < length entries.now → (slice_index_or entries.now k (record { id = 0; key = None })).id ≢ id)
+        (λ i. (i < length entries.now) × ((slice_index_or entries.now i (record { id = 0; key = None })).id ≡ id)) }
+{
+    let i = entries.partition_point(|e| e.id < id);
+    if i >= entries.len() {
+        return None;
+    }
+    if entries[i].id == id { Some(i) } else { None }
+}
+
+/// Drops the marks behind the last id.
+fn trim(entries: &mut Vec<Entry>)
+    requires { Rise entries.old.items }
+    ensures rise { Rise entries.new.items }
+    ensures live { live entries.new.items ≡ live entries.old.items }
+    ensures ends { EndsLive entries.new.items }
+{
+    while let Some(last) = entries.last() {
+        if last.key.is_some() {
+            return;
+        }
+        entries.pop();
+    }
+}
+
+/// Drops all marks.
+fn compact(entries: &mut Vec<Entry>)
+    requires { Rise entries.old.items }
+    ensures rise { Rise entries.new.items }
+    ensures live { live entries.new.items ≡ live entries.old.items }
+{
+    entries.retain(|e| e.key.is_some());
+}
+
+impl RisingIds {
+    /// No ids.
+    pub fn new(alloc: Global) -> Self
+        ensures { result ≡ [] }
+    {
+        RisingIds {
+            entries: Vec::new(alloc),
+            removed: 0,
+        }
+    }
+
+    /// Adds an id that is above all others. The error is want of memory, and then nothing has changed.
+    pub fn push(&mut self, id: u64, key: u32) -> Result<(), AllocError>
+        requires { AreBelow self.old id }
+        ensures ok { OnOk result (self.new ≡ self.old ++ (id, key) ∷ []) }
+        ensures err { OnErr result (self.new ≡ self.old) }
+    {
+        trim(&mut self.entries);
+        self.entries.push(Entry { id, key: Some(key) })?;
+        Ok(())
+    }
+
+    /// The key of an id. It costs a logarithm of the entries.
+    pub fn find(&self, id: u64) -> Option<u32>
+        ensures { result ≡ key_of self.now id }
+    {
+        let i = place_of(self.entries.as_slice(), id)?;
+        self.entries[i].key
+    }
+
+    /// Removes an id, where it is there, and answers its key. It costs a logarithm of the entries, taken
+    /// over many calls.
+    pub fn remove(&mut self, id: u64) -> Option<u32>
+        ensures key { result ≡ key_of self.old id }
+        ensures rest { self.new ≡ without self.old id }
+    {
+        let i = place_of(self.entries.as_slice(), id)?;
+        let key = self.entries[i].key;
+        self.entries[i].key = None;
+        self.removed = self.removed.saturating_add(1);
+        if self.removed > self.entries.len() / 2 {
+            compact(&mut self.entries);
+            self.removed = 0;
+        }
+        key
+    }
+
+    /// The ids in their order, each with its key. A step over marks costs a read for each of them.
+    pub fn iter(&self) -> Iter<'_>
+        ensures all { result ≡ self.now }
+        ensures rising { AreRising self.now }
+    {
+        Iter::from(self.entries.as_slice())
+    }
+}
