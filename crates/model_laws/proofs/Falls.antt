@@ -110,9 +110,11 @@ module _ (state : State) (sound : IsSound state) (init : Row) (status : ℕ) (th
   fallen_rows : (next : State) → next.rows ≡ rows_after_fall state init status
       → ((s t : Space) → IsIn s state.spaces → IsIn space (path_up state.spaces s.id) → IsIn t next.spaces → t.id ≡ s.id → t.fallen ≡ true)
       → ((s : Space) → IsIn s state.spaces → (IsIn space (path_up state.spaces s.id) → ⊥) → s.fallen ≡ false → IsIn s next.spaces)
+      → next.controls ≡ state.controls
       → HasFallen state next init status
   unfolding rows_after_fall
-  fallen_rows next rows below standing = record {
+  fallen_rows next rows below standing controls = record {
+    controls = controls;
     itself = moved (record init { life = Zombie (Exited status) }) (kept_as init (Zombie (Exited status)) there
         (first_fails (same_name init.name init.name) (is_member state.spaces space init) (has_parent_within state space init) (same_name-refl init.name init.name refl))
         (life_after init true (is_member state.spaces space init) (is_live init) (same_name-refl init.name init.name refl) refl refl));
@@ -178,3 +180,4 @@ exit_of_init_falls state stamp n status init sound found one told =
         subst (λ x. IsIn x (sweep (fall state init status)).spaces) same
         (to_kept (fall state init status) (fallen_below state.spaces init.name.space s) (IsIn-map (fallen_below state.spaces init.name.space) s state.spaces i)
         (and_left (fallen_below state.spaces init.name.space s).fallen _ stands)))
+        refl

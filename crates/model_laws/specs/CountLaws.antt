@@ -13,9 +13,8 @@ use Rattle.pid_types.specs.Names.{is_live, live_row, number_or_zero}
 use Rattle.pid_types.specs.Controls.{control_at, count, is_below}
 use Rattle.pid_types.specs.Exit.{is_init, goes_in_fall}
 use Rattle.pid_types.specs.Step.{step}
-use Rattle.pid_types.specs.Sound.{IsSound}
+use Rattle.pid_types.specs.Sound.{IsSound, IsBelow}
 use Rattle.pid_types.specs.Membership.{IsIn}
-use Rattle.pid_types.specs.Sound.{IsBelow}
 
 -- 1 where it holds, and else 0
 abbrev pub one_if : Bool → ℕ

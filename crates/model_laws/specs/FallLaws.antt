@@ -45,6 +45,8 @@ pub record HasFallen (state after : State) (init : Row) (status : ℕ) : Type 0 
   pub below : (s t : Space) → IsIn s state.spaces → IsIn init.name.space (path_up state.spaces s.id) → IsIn t after.spaces → t.id ≡ s.id → t.fallen ≡ true
   -- every other namespace that stood stands
   pub standing : (s : Space) → IsIn s state.spaces → (IsIn init.name.space (path_up state.spaces s.id) → ⊥) → s.fallen ≡ false → IsIn s after.spaces
+  -- no control group changes
+  pub controls : after.controls ≡ state.controls
 
 -- the exit of a namespace's init lets the namespace fall
 abbrev pub ExitOfInitFalls : Type 0

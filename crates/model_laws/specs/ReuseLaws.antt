@@ -7,9 +7,8 @@ use Rattle.pid_types.specs.declared.reply.Reply.TheVariants.{Forked}
 use Rattle.pid_types.specs.State.{State}
 use Rattle.pid_types.specs.Names.{number, names_in_use, row_at}
 use Rattle.pid_types.specs.Replay.{state_after, calls_of, Replays}
-use Rattle.pid_types.specs.Sound.{IsSound}
+use Rattle.pid_types.specs.Sound.{IsSound, IsBelow}
 use Rattle.pid_types.specs.Membership.{IsIn}
-use Rattle.pid_types.specs.Sound.{IsBelow}
 
 -- the state after the first k entries
 abbrev pub state_at : State → ℕ → List Entry → ℕ → State
