@@ -14,6 +14,7 @@ use std::io;
 use std::io::Write;
 use std::marker::Brand;
 use std::sync::ledger::{Blank, Ledger};
+use std::thread::Threads;
 
 fn main(rt: HostRuntime) -> Result<()> {
     let text = io::read_to_string(rt.alloc(), rt.reader())?;
@@ -48,7 +49,7 @@ fn answer(
 }
 
 /// Runs one script, and lists its table where that is asked for.
-fn show<L: Ledger, R: Print + AllocGlobal>(
+fn show<L: Ledger, R: Print + Threads + AllocGlobal>(
     rt: &R,
     blank: Blank,
     config: &Config,
@@ -64,7 +65,7 @@ fn show<L: Ledger, R: Print + AllocGlobal>(
     if !listed {
         return Ok(());
     }
-    let Ok(text) = list_record(rt.alloc(), &record) else {
+    let Ok(text) = list_record(rt, rt.alloc(), &record) else {
         return Err(RunScriptFault::NoMemory);
     };
     io::writer(rt)
