@@ -7,14 +7,14 @@
 ghost use Rattle.std.specs.Prelude.{◌≡◌};
 
 use anyhow::{Context, Result};
+use pid_script::list::list_text;
 use pid_types::config::Config;
 use pid_types::device::{FromReader, ToWriter};
-use pid_workers::{RunScriptFault, list_record, run_state};
+use pid_workers::{RunScriptFault, run_state};
 use std::io;
 use std::io::Write;
 use std::marker::Brand;
 use std::sync::ledger::{Blank, Ledger};
-use std::thread::Threads;
 
 fn main(rt: HostRuntime) -> Result<()> {
     let text = io::read_to_string(rt.alloc(), rt.reader())?;
@@ -49,7 +49,7 @@ fn answer(
 }
 
 /// Runs one script, and lists its table where that is asked for.
-fn show<L: Ledger, R: Print + Threads + AllocGlobal>(
+fn show<L: Ledger, R: Print + AllocGlobal>(
     rt: &R,
     blank: Blank,
     config: &Config,
@@ -65,7 +65,10 @@ fn show<L: Ledger, R: Print + Threads + AllocGlobal>(
     if !listed {
         return Ok(());
     }
-    let Ok(text) = list_record(rt, rt.alloc(), &record) else {
+    let Ok(plain) = record.snapshot() else {
+        return Err(RunScriptFault::NoMemory);
+    };
+    let Ok(text) = list_text(rt.alloc(), &plain) else {
         return Err(RunScriptFault::NoMemory);
     };
     io::writer(rt)
