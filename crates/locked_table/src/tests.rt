@@ -165,6 +165,8 @@ fn two_seats<L: Ledger, R: Wait + Abort>(rt: &R, alloc: Global, blank: Blank) ->
     assert_eq!(rt; record.total(), 4);
     assert_eq!(rt; record.recorded(0), 2);
     assert_eq!(rt; record.recorded(1), 2);
+    assert_eq!(rt; record.tasks(), 3);
+    assert_eq!(rt; record.controls(), 1);
     Ok(())
 }
 

@@ -2,6 +2,7 @@
 use Rattle.std.proofs.Common.{◌≡◌, ◌≢◌, ◌⊎◌, inl, inr, ℕ, zero, suc, ◌+◌, ◌<◌, ◌≤◌, ◌==◌, List, [], ◌∷◌, length, Bool, true, false, ◌||◌, if◌then◌else◌, Some, refl, sym, ap, ◌∙◌, arith, map}
 use Rattle.std.specs.List.{AllByRecursion, IsDistinct, list_any}
 use Rattle.std.proofs.lemmas.Bool.{cases_eq, eq-eqb}
+use Rattle.std.proofs.lemmas.List.Sums.{sum_by-cons}
 use Rattle.std.proofs.lemmas.Map.Steps.{length-le_from_distinct_below}
 use Rattle.owner_lists.specs.declared.Link.{Link}
 use Rattle.owner_lists.specs.Owners.{owner_of, times, AreMembers}
@@ -51,11 +52,14 @@ module _ (ls : List Link) where
   pub over : (k n : ℕ) → k ≡ nil → chain ls k n ≡ []
   over = chain-nil
 
+times-cons : (k j : ℕ) (xs : List ℕ) → times k (j ∷ xs) ≡ (if j == k then 1 else 0) + times k xs
+times-cons k j xs = sum_by-cons (λ i. if i == k then 1 else 0) j xs
+
 times-here : (k : ℕ) (xs : List ℕ) → times k (k ∷ xs) ≡ 1 + times k xs
-times-here k xs = rw (eq-eqb k k refl) refl
+times-here k xs = times-cons k k xs ∙ ap (λ (b : Bool). (if b then 1 else 0) + times k xs) (eq-eqb k k refl)
 
 times-later : (k j : ℕ) (xs : List ℕ) → k ≢ j → times j (k ∷ xs) ≡ times j xs
-times-later k j xs differs = go (k == j) refl
+times-later k j xs differs = times-cons j k xs ∙ go (k == j) refl
   where
     go : (b : Bool) → (k == j) ≡ b → (if b then 1 else 0) + times j xs ≡ times j xs
     go true e = absurd (differs (grind (arith, e)))
@@ -162,7 +166,7 @@ module _ (hs : List ℕ) (ls : List Link) (w : IsLinked hs ls) (h : ℕ) (room :
 
   times_all : (P : ℕ → Type 0) (j : ℕ) (xs : List ℕ) → AllByRecursion P xs → times j xs ≡ 1 → P j
   times_all P j [] all once = cc
-  times_all P j (x ∷ xs) all once = go (λ later. times_all P j xs all.1 later) (x == j) refl once
+  times_all P j (x ∷ xs) all once = go (λ later. times_all P j xs all.1 later) (x == j) refl (sym (times-cons j x xs) ∙ once)
     where
       go : (times j xs ≡ 1 → P j) → (b : Bool) → (x == j) ≡ b → (if b then 1 else 0) + times j xs ≡ 1 → P j
       go rest true e once = let same : x ≡ j = grind (arith, e) in rw same at all.0
@@ -172,7 +176,7 @@ module _ (hs : List ℕ) (ls : List Link) (w : IsLinked hs ls) (h : ℕ) (room :
   times-first zero k mine none = absurd (not_nil k mine none)
   times-first (suc n) k mine more =
       let rest = none_of k (chain ls (next ls k) n) (behind n k mine) in
-      rw (chain-some ls k n (not_nil k mine)) (times-here k _ ∙ ap (λ m. 1 + m) rest)
+      rw (chain-some ls k n (not_nil k mine)) (times-here k (chain ls (next ls k) n) ∙ ap (λ m. 1 + m) rest)
 
   -- the key behind one that comes once does so
   times-next : (n k j : ℕ) → (k ≢ nil → Owned k) → Ends ls k n → times j (chain ls k n) ≡ 1 → next ls j ≢ nil → times (next ls j) (chain ls k n) ≡ 1
@@ -185,12 +189,12 @@ module _ (hs : List ℕ) (ls : List Link) (w : IsLinked hs ls) (h : ℕ) (room :
           | inl same ↦
               let there : next ls k ≢ nil = λ z. more (sym (ap (next ls) same) ∙ z) in
               let lower = next_higher k (start some) there in
-              ap (λ i. times (next ls i) (k ∷ chain ls (next ls k) n)) (sym same) ∙ (times-later k (next ls k) _ (λ z. let r = ap w.rank z in omega (arith, r, lower)) ∙ times-first n (next ls k) (next_owned k (start some) there) (stop some).1)
+              ap (λ i. times (next ls i) (k ∷ chain ls (next ls k) n)) (sym same) ∙ (times-later k (next ls k) (chain ls (next ls k) n) (λ z. let r = ap w.rank z in omega (arith, r, lower)) ∙ times-first n (next ls k) (next_owned k (start some) there) (stop some).1)
           | inr differs ↦
-              let later : times j (chain ls (next ls k) n) ≡ 1 = sym (times-later k j _ differs) ∙ e in
+              let later : times j (chain ls (next ls k) n) ≡ 1 = sym (times-later k j (chain ls (next ls k) n) differs) ∙ e in
               let at = times_all (λ i. Owned i × (w.rank k + 1 ≤ w.rank i)) j (chain ls (next ls k) n) (behind n k (start some)) later in
               let higher = next_higher j at.0 more in
-              times-later k (next ls j) _ (λ z. let r = ap w.rank z in omega (arith, r, higher, at.1)) ∙ times-next n (next ls k) j (next_owned k (start some)) (stop some).1 later more
+              times-later k (next ls j) (chain ls (next ls k) n) (λ z. let r = ap w.rank z in omega (arith, r, higher, at.1)) ∙ times-next n (next ls k) j (next_owned k (start some)) (stop some).1 later more
         ])
   ]
 

@@ -1,5 +1,5 @@
 -- What a contract sees of `OwnerLists`: at each key its owner, or none.
-use Rattle.std.specs.Prelude.{◌≡◌, ℕ, ◌+◌, ◌==◌, List, [], ◌∷◌, Option, Some, None, if◌then◌else◌, slice_index_or}
+use Rattle.std.specs.Prelude.{◌≡◌, ℕ, ◌==◌, List, Option, Some, None, slice_index_or, count_by}
 use Rattle.std.specs.List.{AllByRecursion}
 
 -- the owner of a key
@@ -8,8 +8,7 @@ owner_of owners k = slice_index_or owners k None
 
 -- how often a key comes in a list
 abbrev pub times : ℕ → List ℕ → ℕ
-times k [] = 0
-times k (j ∷ keys) = (if j == k then 1 else 0) + times k keys
+times k keys = count_by (λ j. j == k) keys
 
 -- the list has each member of an owner once, and nobody else
 pub record AreMembers (owners : List (Option ℕ)) (owner : ℕ) (keys : List ℕ) : Type 0 where

@@ -153,7 +153,7 @@ impl OwnerLists {
         if owner == NIL { None } else { Some(owner) }
     }
 
-    /// Some member of an owner, if it has any: the one that came last, unless that has gone.
+    /// Some member of an owner, if it has any.
     pub fn first(&self, owner: u32) -> Option<u32>
         requires { owner < length self.now }
         ensures { MatchOption result ((k : ℕ) → owner_of self.now k ≢ Some owner) (λ k. owner_of self.now k ≡ Some owner) }

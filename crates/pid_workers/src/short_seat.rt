@@ -48,10 +48,10 @@ impl<L: Ledger> ShortSeat<L> {
 }
 
 /// Whether the history is long beside the table.
-fn is_long<L: Ledger>(record: &Record<L, 1>) -> bool {
-    let kept = record.total().saturating_sub(record.first_kept());
+fn is_long<L: Ledger>(table: &Record<L, 1>) -> bool {
+    let kept = table.total().saturating_sub(table.first_kept());
     let share = kept / ENTRIES_FOR_EACH;
-    kept >= FEWEST_ENTRIES && share >= record.tasks() as u64 && share >= record.controls() as u64
+    kept >= FEWEST_ENTRIES && share >= table.tasks() as u64 && share >= table.controls() as u64
 }
 
 impl<L: Ledger> Table for ShortSeat<L> {

@@ -1,6 +1,6 @@
 -- Entries in the order of their ids. One without a key was removed.
-use Rattle.std.specs.Prelude.{ℕ, ◌<◌, List, [], ◌∷◌, Option, Some, None, IsSome}
-use Rattle.std.specs.List.{AllByRecursion}
+use Rattle.std.specs.Prelude.{ℕ, List, [], ◌∷◌, Option, Some, None, IsSome}
+use Rattle.rising_ids.specs.Ids.{Rises}
 use Rattle.rising_ids.specs.declared.Entry.{Entry}
 
 -- an id with its key before others, where it has one
@@ -15,8 +15,7 @@ live (e ∷ entries) = before e.id e.key (live entries)
 
 -- each id is above those before it
 abbrev pub Rise : List Entry → Type 0
-Rise [] = Unit {0}
-Rise (e ∷ entries) = AllByRecursion (λ f. e.id < f.id) entries × Rise entries
+Rise entries = Rises (λ (e : Entry). e.id) entries
 
 -- the last entry was not removed
 abbrev pub EndsLive : List Entry → Type 0

@@ -15,7 +15,11 @@ without ids id = filter (λ p. not (p.0 == id)) ids
 abbrev pub AreBelow : List (ℕ × ℕ) → ℕ → Type 0
 AreBelow ids bound = AllByRecursion (λ p. p.0 < bound) ids
 
+-- the number of each is above those of all before it
+abbrev pub Rises : {A : Type 0} → (A → ℕ) → List A → Type 0
+Rises number [] = Unit {0}
+Rises number (x ∷ xs) = AllByRecursion (λ y. number x < number y) xs × Rises number xs
+
 -- each id is above those before it
 abbrev pub AreRising : List (ℕ × ℕ) → Type 0
-AreRising [] = Unit {0}
-AreRising (p ∷ ids) = AllByRecursion (λ q. p.0 < q.0) ids × AreRising ids
+AreRising ids = Rises (λ p. p.0) ids
