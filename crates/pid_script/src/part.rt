@@ -82,29 +82,3 @@ impl PartLine {
         line
     }
 }
-
-#[cfg(test)]
-mod tests {
-    use super::*;
-    use pid_types::call::Call;
-
-    #[test]
-    fn joins_parts_and_forgets_long_lines(rt: HostRuntime) {
-        let mut part = PartLine::new();
-        assert!(rt; part.is_empty());
-        part.push(b"fo");
-        assert!(rt; !part.is_empty());
-        let fork = Call::Fork {
-            caller: 1,
-            new_space: false,
-        };
-        assert_eq!(rt; part.finish(b"rk 1"), Line::Call(fork));
-        assert!(rt; part.is_empty());
-        part.push(&[b'a'; 200]);
-        part.push(b"a");
-        part.push(b"fork 1");
-        assert_eq!(rt; part.finish(b""), Line::Bad);
-        assert_eq!(rt; part.finish(b"fork 1"), Line::Call(fork));
-        assert_eq!(rt; part.finish(b""), Line::Empty);
-    }
-}

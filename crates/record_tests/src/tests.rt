@@ -1,7 +1,8 @@
+//! One record, by its seats: checkpoints, reserved room, two seats on a shared table.
 ghost use Rattle.std.specs.Prelude.{◌≡◌, true};
 ghost use Rattle.locked_table.specs.SeatState.{AreSeats};
 
-use super::*;
+use locked_table::{Receipt, Record, Seat, Shared};
 use pid_types::call::Call;
 use pid_types::config::Config;
 use pid_types::reply::Reply;

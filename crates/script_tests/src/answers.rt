@@ -1,0 +1,88 @@
+//! What answers read like.
+
+use arrayvec::ArrayVec;
+use pid_script::answer::{LONGEST_ANSWER, answer_text};
+use pid_types::call::Call;
+use pid_types::entry::Receipt;
+use pid_types::plain::Ended;
+use pid_types::reply::{CallFault, Refusal, Reply};
+
+fn text_of(reply: Reply) -> ArrayVec<u8, LONGEST_ANSWER> {
+    answer_text(&Ok(Receipt {
+        ordinal: 0,
+        worker: 0,
+        call: Call::GetPid { caller: 1 },
+        reply,
+    }))
+}
+
+fn reaped(child: u32, ended: Ended) -> Reply {
+    Reply::Reaped { child, ended }
+}
+
+#[test]
+fn writes_each_answer(rt: HostRuntime) {
+    let replies: [(Reply, &[u8]); 9] = [
+        (Reply::Forked { child: 2, root: 3 }, b"child 2 root 3"),
+        (Reply::Done, b"ok"),
+        (Reply::Number(0), b"0"),
+        (reaped(2, Ended::Exited(5)), b"reaped 2 exit 5"),
+        (reaped(5, Ended::Killed), b"reaped 5 killed"),
+        (Reply::NoneYet, b"none"),
+        (
+            Reply::Counted(18_446_744_073_709_551_615),
+            b"18446744073709551615",
+        ),
+        (Reply::Control(8), b"control 8"),
+        (Reply::End, b"end"),
+    ];
+    for (reply, text) in replies {
+        assert_eq!(rt; text_of(reply).as_slice(), text);
+    }
+    let faults: [(CallFault, &[u8]); 2] = [
+        (CallFault::NoMemory, b"no memory"),
+        (CallFault::Spent, b"spent"),
+    ];
+    for (fault, text) in faults {
+        assert_eq!(rt; answer_text(&Err(fault)).as_slice(), text);
+    }
+}
+
+#[test]
+fn writes_each_refusal(rt: HostRuntime) {
+    let refusals: [(Refusal, &[u8]); 19] = [
+        (Refusal::NoCaller, b"ESRCH no-caller"),
+        (Refusal::NoTask, b"ESRCH no-task"),
+        (Refusal::NoChild, b"ECHILD no-child"),
+        (Refusal::NoNumber(0), b"EAGAIN no-number 0"),
+        (Refusal::PidsLimit(1), b"EAGAIN pids-limit 1"),
+        (Refusal::SpaceFallen, b"ENOMEM space-fallen"),
+        (Refusal::TooDeep, b"ENOSPC too-deep"),
+        (Refusal::Elsewhere, b"EINVAL elsewhere"),
+        (Refusal::BadGroup, b"EINVAL bad-group"),
+        (Refusal::OtherSession, b"EPERM other-session"),
+        (Refusal::IsLeader, b"EPERM is-leader"),
+        (Refusal::NoGroup, b"EPERM no-group"),
+        (Refusal::Executed, b"EACCES executed"),
+        (Refusal::RootInit, b"EBUSY root-init"),
+        (Refusal::NoControl, b"ENOENT no-control"),
+        (Refusal::ControlBusy, b"EBUSY control-busy"),
+        (Refusal::RootControl, b"EINVAL root-control"),
+        (Refusal::BadLimit, b"EINVAL bad-limit"),
+        (Refusal::ControlDepth, b"EAGAIN control-depth"),
+    ];
+    for (refusal, text) in refusals {
+        assert_eq!(rt; text_of(Reply::Refused(refusal)).as_slice(), text);
+    }
+}
+
+#[test]
+fn writes_the_longest_answer(rt: HostRuntime) {
+    let mut numbers = ArrayVec::new();
+    for _ in 0..33 {
+        let _ = numbers.try_push(4_294_967_295_u32);
+    }
+    let text = text_of(Reply::Levels(numbers));
+    assert_eq!(rt; text.len(), 362);
+    assert!(rt; text.as_slice().starts_with(b"4294967295 4294967295 "));
+}

@@ -1,0 +1,112 @@
+//! Whole scripts, read before any call is made.
+
+use pid_script::job::{JobFault, MOST_JOB_BYTES, read_job};
+use pid_types::call::Call;
+use pid_types::device::{DeviceFault, FromReader, Source};
+use std::alloc::Global;
+use std::test::Fail;
+
+/// A source that gives its bytes and then fails.
+#[derive(Drop)]
+struct Broken<'a> {
+    left: &'a [u8],
+    failed: bool,
+}
+
+impl Source for Broken<'_> {
+    ghost remaining = { λ s. Some s.left.now };
+
+    ghost has_failed = { λ s. s.failed };
+
+    fn read(&mut self, buffer: &mut [u8]) -> Result<usize, DeviceFault> {
+        let count = self.left.len().min(buffer.len());
+        if count == 0 {
+            self.failed = true;
+            return Err(DeviceFault);
+        }
+        buffer[..count].copy_from_slice(&self.left[..count]);
+        self.left = &self.left[count..];
+        Ok(count)
+    }
+
+    fn failed(&self) -> bool {
+        self.failed
+    }
+}
+
+/// The number of calls, or the fault.
+fn count_calls(alloc: Global, bytes: &[u8]) -> Result<usize, JobFault> {
+    let calls = read_job(alloc, &mut FromReader::new(bytes))?;
+    Ok(calls.len())
+}
+
+#[test]
+fn reads_calls_in_order(rt: HostRuntime) -> Result<(), Fail> {
+    let bytes: &[u8] = b"\nfork 1 new\n\nexit 2 7\ngetpid 1";
+    let calls = read_job(rt.alloc(), &mut FromReader::new(bytes))?;
+    let expected = [
+        Call::Fork {
+            caller: 1,
+            new_space: true,
+        },
+        Call::Exit {
+            caller: 2,
+            status: 7,
+        },
+        Call::GetPid { caller: 1 },
+    ];
+    assert_eq!(rt; calls.as_slice(), expected.as_slice());
+    Ok(())
+}
+
+#[test]
+fn names_the_first_fault(rt: HostRuntime) {
+    let jobs: [(&[u8], Result<usize, JobFault>); 6] = [
+        (b"", Ok(0)),
+        (
+            b"mk 5\nlimit 0 5\nrm 0\nmk 0\nlimit 4 4194305\nlimit 4 4194304\nlimit 4 max\nmove 9 9\nmove 1 9\nmove 1 4\nrm 4\nlimit 4 0\nfork 1\n",
+            Ok(13),
+        ),
+        (b"fork\nmk 5\nlimit 0 5\n", Err(JobFault::BadLine(1))),
+        (b"fork 1\nfork", Err(JobFault::BadLine(2))),
+        (b"fork 1\n\nfork\nfork 1\n", Err(JobFault::BadLine(3))),
+        (&[b'a'; 201], Err(JobFault::BadLine(1))),
+    ];
+    for (bytes, expected) in jobs {
+        assert_eq!(rt; count_calls(rt.alloc(), bytes), expected, "{bytes:?}");
+    }
+    let mut source = Broken {
+        left: b"fork 1\nfork",
+        failed: false,
+    };
+    assert_eq!(rt;
+        read_job(rt.alloc(), &mut source).err(),
+        Some(JobFault::Read)
+    );
+    assert!(rt; source.failed());
+}
+
+#[test]
+fn takes_so_many_bytes(rt: HostRuntime) -> Result<(), Fail> {
+    let mut bytes = vec![in rt.alloc(); b'\n'; MOST_JOB_BYTES]?;
+    assert_eq!(rt; count_calls(rt.alloc(), bytes.as_slice()), Ok(0));
+    bytes[MOST_JOB_BYTES - 1] = b'a';
+    let last = JobFault::BadLine(1_048_576);
+    assert_eq!(rt; count_calls(rt.alloc(), bytes.as_slice()), Err(last));
+    bytes.push(b'\n')?;
+    assert_eq!(rt;
+        count_calls(rt.alloc(), bytes.as_slice()),
+        Err(JobFault::TooLong)
+    );
+    let newlines = vec![in rt.alloc(); b'\n'; MOST_JOB_BYTES + 1]?;
+    assert_eq!(rt;
+        count_calls(rt.alloc(), newlines.as_slice()),
+        Err(JobFault::TooLong)
+    );
+    let letters = vec![in rt.alloc(); b'a'; MOST_JOB_BYTES + 1]?;
+    assert_eq!(rt;
+        count_calls(rt.alloc(), letters.as_slice()),
+        Err(JobFault::TooLong)
+    );
+    Ok(())
+}

@@ -1,0 +1,14 @@
+//! Tests of the script language, by its public calls alone. They stand in a crate of their own, since a
+//! crate is proved once more with its tests.
+#![tactic(auto)]
+
+#[cfg(test)]
+mod answers;
+#[cfg(test)]
+mod jobs;
+#[cfg(test)]
+mod lines;
+#[cfg(test)]
+mod lists;
+#[cfg(test)]
+mod parts;
