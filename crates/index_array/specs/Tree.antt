@@ -5,7 +5,7 @@ use Rattle.std.specs.Option.{option_map}
 use Rattle.std.proofs.Common.{Box}
 use Rattle.std.specs.declared.alloc.Global.{Global}
 use Rattle.index_array.specs.Words.{has_bit, word_of}
-use Rattle.index_array.specs.Place.{Place, bare, place_at, entry_at, entry_with, carries, KeepsEntries, KeepsPrepared}
+use Rattle.index_array.specs.Place.{Place, bare, place_at, entry_at, is_prepared, entry_with, carries, KeepsEntries, KeepsPrepared}
 use Rattle.index_array.specs.declared.bits.Sought.{Sought}
 use Rattle.index_array.specs.declared.bits.Words.{Words}
 
@@ -54,6 +54,12 @@ pub record IsChild {T : Type 0} (h : ℕ) (t : Tree T) : Type 0 where
 pub record IsBelow {T : Type 0} (ps : List (Place T)) (i : ℕ) (child : Tree T) (r : ℕ) : Type 0 where
   pub place : place_at ps i ≡ place_at child.places r
   pub covered : r < 64 ^ (child.height + 1)
+
+-- what is at index i of these places is in slot k of a leaf
+pub record IsInLeaf {T : Type 0} (ps : List (Place T)) (i : ℕ) (leaf : Tree T) (k : ℕ) : Type 0 where
+  pub place : place_at ps i ≡ place_at leaf.places k
+  pub slot : k < 64
+  pub prepared : is_prepared ps i ≡ true
 
 -- a node of this height with no entry
 pub record IsNew {T : Type 0} (h : ℕ) (t : Tree T) : Type 0 where

@@ -9,7 +9,7 @@ ghost use Rattle.index_array.specs.declared.bits.Sought.{Sought};
 
 use crate::bits::{SlotBits, Sought, Words, has_bit, next_bit};
 use crate::block::{Block, Parent, Written};
-use crate::leaf::empty_slots;
+use crate::leaf::{Leaf, empty_slots};
 use std::alloc::{AllocError, Global};
 use std::marker::{Model, PhantomData};
 
@@ -140,26 +140,10 @@ impl<T: Drop, C: Block<T>> Block<T> for Inner<T, C> {
     }
 
     #[inline(always)]
-    fn value(&self, i: u32) -> Option<&T> {
+    fn leaf(&self, i: u32) -> Option<(&Leaf<T>, u32)> {
         match self.below(i) {
             None => None,
-            Some((child, rest)) => child.value(rest),
-        }
-    }
-
-    #[inline(always)]
-    fn is_marked(&self, i: u32, mark: usize) -> bool {
-        match self.below(i) {
-            None => false,
-            Some((child, rest)) => child.is_marked(rest, mark),
-        }
-    }
-
-    #[inline(always)]
-    fn is_prepared(&self, i: u32) -> bool {
-        match self.below(i) {
-            None => false,
-            Some((child, rest)) => child.is_prepared(rest),
+            Some((child, rest)) => child.leaf(rest),
         }
     }
 
@@ -199,11 +183,7 @@ impl<T: Drop, C: Block<T>> Block<T> for Inner<T, C> {
         let slot = slot_of(i, height);
         if self.children[slot as usize].is_none() {
             drop(value);
-            return Written {
-                old: None,
-                marked: false,
-                emptied: false,
-            };
+            return Written::nothing();
         }
         match &mut self.children[slot as usize] {
             None => unreachable!(),

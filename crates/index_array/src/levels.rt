@@ -45,18 +45,8 @@ impl<T: Drop> Block<T> for Node1<T> {
     }
 
     #[inline(always)]
-    fn value(&self, i: u32) -> Option<&T> {
-        self.0.value(i)
-    }
-
-    #[inline(always)]
-    fn is_marked(&self, i: u32, mark: usize) -> bool {
-        self.0.is_marked(i, mark)
-    }
-
-    #[inline(always)]
-    fn is_prepared(&self, i: u32) -> bool {
-        self.0.is_prepared(i)
+    fn leaf(&self, i: u32) -> Option<(&Leaf<T>, u32)> {
+        self.0.leaf(i)
     }
 
     #[inline(always)]
@@ -141,18 +131,8 @@ impl<T: Drop> Block<T> for Node2<T> {
     }
 
     #[inline(always)]
-    fn value(&self, i: u32) -> Option<&T> {
-        self.0.value(i)
-    }
-
-    #[inline(always)]
-    fn is_marked(&self, i: u32, mark: usize) -> bool {
-        self.0.is_marked(i, mark)
-    }
-
-    #[inline(always)]
-    fn is_prepared(&self, i: u32) -> bool {
-        self.0.is_prepared(i)
+    fn leaf(&self, i: u32) -> Option<(&Leaf<T>, u32)> {
+        self.0.leaf(i)
     }
 
     #[inline(always)]

@@ -8,9 +8,10 @@
 //! Memory is taken by `prepare` (and by `store`, which calls it) and by nothing else.
 #![tactic(auto)]
 
-ghost use Rattle.std.specs.Prelude.{◌≡◌, ◌≢◌, ℕ, ◌<◌, ◌≤◌, min, Option, Some, None, MatchOption, IfOk, IfErr, OnOk, OnErr, Err, ◌↔◌, true, false, not, is_some, List, length, ◌*◌};
+ghost use Rattle.std.specs.Prelude.{◌≡◌, ◌≢◌, ℕ, ◌<◌, ◌≤◌, min, Option, Some, None, MatchOption, IsSome, IsNone, IfOk, IfErr, OnOk, OnErr, Err, ◌↔◌, true, false, not, is_some, List, length, ◌*◌, [], ◌∷◌};
 ghost use Rattle.std.specs.Option.{option_copied};
-ghost use Rattle.index_array.specs.Place.{Place, bare, place_at, entry_at, is_prepared, value_at, is_marked, with_mark, IsLeastIndex, IsFirst, WritesEntry, KeepsEntries, KeepsPrepared};
+ghost use Rattle.index_array.specs.Place.{Place, bare, place_at, entry_at, is_prepared, value_at, is_marked, entry_with, with_mark, IsLeastIndex, IsFirst, WritesEntry, KeepsEntries, KeepsPrepared};
+ghost use Rattle.index_array.specs.Tree.{IsInLeaf};
 ghost use Rattle.index_array.specs.Words.{IsSought};
 ghost use Rattle.index_array.specs.declared.bits.Sought.{Sought};
 
@@ -22,14 +23,11 @@ mod levels;
 mod root;
 
 use bits::Sought;
-use block::Block;
+use block::{Block, Written};
 use inner::Inner;
 use leaf::Leaf;
 use levels::{Node1, Node2};
-use root::{
-    Root, erase_in, find_in, gap_in, get_in, give_back_in, is_marked_in, is_prepared_in,
-    prepare_in, put_mark_in, raised, store_in,
-};
+use root::{Root, find_in, give_back_in, leaf_in, prepare_in, put_in, put_mark_in, raised};
 use std::alloc::{AllocError, Global};
 use std::marker::Model;
 use std::mem;
@@ -90,12 +88,23 @@ impl<T: Drop> IndexArray<T> {
     pub fn get(&self, i: u32) -> Option<&T>
         ensures { option_copied result ≡ value_at self.now i }
     {
+        match self.leaf(i) {
+            None => None,
+            Some((leaf, slot)) => leaf.value(slot),
+        }
+    }
+
+    /// The leaf that an index is in, with the slot of the index in it; none where there is no such leaf.
+    #[inline(always)]
+    fn leaf(&self, i: u32) -> Option<(&Leaf<T>, u32)>
+        ensures { MatchOption result (place_at self.now i ≡ bare) (λ p. IsInLeaf self.now i p.0.now p.1) }
+    {
         match &self.root {
             Root::Empty => None,
-            Root::Height0(node) => get_in(&**node, i),
-            Root::Height1(node) => get_in(&**node, i),
-            Root::Height2(node) => get_in(&**node, i),
-            Root::Height3(node) => get_in(&**node, i),
+            Root::Height0(node) => leaf_in(&**node, i),
+            Root::Height1(node) => leaf_in(&**node, i),
+            Root::Height2(node) => leaf_in(&**node, i),
+            Root::Height3(node) => leaf_in(&**node, i),
         }
     }
 
@@ -104,12 +113,9 @@ impl<T: Drop> IndexArray<T> {
         requires { m < 3 }
         ensures { result ≡ is_marked m (entry_at self.now i) }
     {
-        match &self.root {
-            Root::Empty => false,
-            Root::Height0(node) => is_marked_in(&**node, i, m),
-            Root::Height1(node) => is_marked_in(&**node, i, m),
-            Root::Height2(node) => is_marked_in(&**node, i, m),
-            Root::Height3(node) => is_marked_in(&**node, i, m),
+        match self.leaf(i) {
+            None => false,
+            Some((leaf, slot)) => leaf.is_marked(slot, m),
         }
     }
 
@@ -118,13 +124,7 @@ impl<T: Drop> IndexArray<T> {
     pub fn is_prepared(&self, i: u32) -> bool
         ensures { result ≡ is_prepared self.now i }
     {
-        match &self.root {
-            Root::Empty => false,
-            Root::Height0(node) => is_prepared_in(&**node, i),
-            Root::Height1(node) => is_prepared_in(&**node, i),
-            Root::Height2(node) => is_prepared_in(&**node, i),
-            Root::Height3(node) => is_prepared_in(&**node, i),
-        }
+        self.leaf(i).is_some()
     }
 
     /// Takes the memory that a later `store_prepared` at an index needs. It changes no entry.
@@ -287,15 +287,27 @@ impl<T: Drop> IndexArray<T> {
         ensures keeps { KeepsPrepared self.old self.new }
         ensures answer { result ≡ value_at self.old i }
     {
+        self.put(i, Some(v), marks).old
+    }
+
+    /// Writes a value, or none, at an index, with marks. Where no node covers it nothing is written.
+    #[inline(always)]
+    fn put(&mut self, i: u32, value: Option<T>, marks: [bool; 3]) -> Written<T>
+        requires prepared { IsSome value → is_prepared self.old i ≡ true }
+        requires unmarked { IsNone value → marks ≡ false ∷ false ∷ false ∷ [] }
+        ensures writes { WritesEntry self.old self.new i (entry_with value marks) }
+        ensures keeps { KeepsPrepared self.old self.new }
+        ensures answer { result.old ≡ value_at self.old i }
+    {
         match &mut self.root {
             Root::Empty => {
-                drop(v);
-                None
+                drop(value);
+                Written::nothing()
             }
-            Root::Height0(node) => store_in(&mut **node, i, v, marks),
-            Root::Height1(node) => store_in(&mut **node, i, v, marks),
-            Root::Height2(node) => store_in(&mut **node, i, v, marks),
-            Root::Height3(node) => store_in(&mut **node, i, v, marks),
+            Root::Height0(node) => put_in(&mut **node, i, value, marks),
+            Root::Height1(node) => put_in(&mut **node, i, value, marks),
+            Root::Height2(node) => put_in(&mut **node, i, value, marks),
+            Root::Height3(node) => put_in(&mut **node, i, value, marks),
         }
     }
 
@@ -329,17 +341,11 @@ impl<T: Drop> IndexArray<T> {
         ensures answer { result ≡ value_at self.old i }
     {
         self.give_back_other(i);
-        let (old, emptied) = match &mut self.root {
-            Root::Empty => (None, false),
-            Root::Height0(node) => erase_in(&mut **node, i),
-            Root::Height1(node) => erase_in(&mut **node, i),
-            Root::Height2(node) => erase_in(&mut **node, i),
-            Root::Height3(node) => erase_in(&mut **node, i),
-        };
-        if emptied {
+        let written = self.put(i, None, [false; 3]);
+        if written.emptied {
             self.emptied = Some(i);
         }
-        old
+        written.old
     }
 
     /// Gives back the leaf that an erase left empty, unless an index is in it.
@@ -429,6 +435,16 @@ impl<T: Drop> IndexArray<T> {
         requires entry { sought ≢ Sought.Gap }
         ensures { IsFirst sought self.now from INDEX_COUNT result }
     {
+        let _root = &self.root;
+        self.search(from, sought)
+    }
+
+    /// The least index at or above `from` that a node covers and that is what is sought.
+    #[inline(always)]
+    fn search(&self, from: u32, sought: Sought) -> Option<u32>
+        requires { IsSought sought }
+        ensures { IsFirst sought self.now from (length self.now) result }
+    {
         match &self.root {
             Root::Empty => None,
             Root::Height0(node) => find_in(&**node, from, sought),
@@ -454,12 +470,9 @@ impl<T: Drop> IndexArray<T> {
         ensures absent { is_some (entry_at self.now result) ≡ false }
         ensures least { (k : ℕ) → from ≤ k → k < result → is_some (entry_at self.now k) ≡ true }
     {
-        match &self.root {
-            Root::Empty => from,
-            Root::Height0(node) => gap_in(&**node, from),
-            Root::Height1(node) => gap_in(&**node, from),
-            Root::Height2(node) => gap_in(&**node, from),
-            Root::Height3(node) => gap_in(&**node, from),
+        match self.search(from, Sought::Gap) {
+            Some(gap) => gap,
+            None => from.max(self.span()),
         }
     }
 }

@@ -1,8 +1,0 @@
-use Rattle.std.proofs.Common.{ap, sym, ◌<◌, refl}
-use Rattle.index_array.proofs.Leaves.{leaf_index, leaf_prepared}
-use Rattle.index_array.proofs.leaf.LeafBlock.is_prepared.Goals as goal
-
-pub returns : goal.returns
-returns g c =
-    let b : c.args._i < 64 = leaf_index (ap (λ v. v.height) c.self.view_is) c.requires in
-    rw (← c.self.view_is) (sym (leaf_prepared _ _ _ _ c.self.invariant refl c.args._i b))

@@ -1,4 +1,0 @@
-use Rattle.index_array.proofs.root.get_in.Goals as goal
-
-pub returns-then-i-span : goal.returns-then-i-span
-returns-then-i-span g c = c.value.ensures
