@@ -24,10 +24,8 @@ mod root;
 
 use bits::Sought;
 use block::{Block, Written};
-use inner::Inner;
 use leaf::Leaf;
-use levels::{Node1, Node2};
-use root::{Root, find_in, give_back_in, leaf_in, prepare_in, put_in, put_mark_in, raised};
+use root::{Root, find_in, give_back_in, grown, leaf_in, planted, prepare_in, put_in, put_mark_in};
 use std::alloc::{AllocError, Global};
 use std::marker::Model;
 use std::mem;
@@ -184,16 +182,7 @@ impl<T: Drop> IndexArray<T> {
         ensures entries { KeepsEntries self.old self.new }
         ensures keeps { KeepsPrepared self.old self.new }
     {
-        let alloc = self.alloc;
-        if i < 64 {
-            self.root = Root::Height0(Leaf::empty(alloc)?);
-        } else if i < 4096 {
-            self.root = Root::Height1(Node1::empty(alloc)?);
-        } else if i < 262_144 {
-            self.root = Root::Height2(Node2::empty(alloc)?);
-        } else {
-            self.root = Root::Height3(Inner::empty(alloc)?);
-        }
+        self.root = planted(self.alloc, i)?;
         Ok(())
     }
 
@@ -222,44 +211,10 @@ impl<T: Drop> IndexArray<T> {
         ensures entries { KeepsEntries self.old self.new }
         ensures keeps { KeepsPrepared self.old self.new }
     {
-        let alloc = self.alloc;
-        match mem::replace(&mut self.root, Root::Empty) {
-            Root::Empty => Ok(()),
-            Root::Height0(node) => match raised(alloc, node) {
-                Ok(parent) => {
-                    self.root = Root::Height1(parent);
-                    Ok(())
-                }
-                Err((fault, node)) => {
-                    self.root = Root::Height0(node);
-                    Err(fault)
-                }
-            },
-            Root::Height1(node) => match raised(alloc, node) {
-                Ok(parent) => {
-                    self.root = Root::Height2(parent);
-                    Ok(())
-                }
-                Err((fault, node)) => {
-                    self.root = Root::Height1(node);
-                    Err(fault)
-                }
-            },
-            Root::Height2(node) => match raised(alloc, node) {
-                Ok(parent) => {
-                    self.root = Root::Height3(parent);
-                    Ok(())
-                }
-                Err((fault, node)) => {
-                    self.root = Root::Height2(node);
-                    Err(fault)
-                }
-            },
-            Root::Height3(node) => {
-                self.root = Root::Height3(node);
-                Ok(())
-            }
-        }
+        let root = mem::replace(&mut self.root, Root::Empty);
+        let (root, made) = grown(self.alloc, root);
+        self.root = root;
+        made
     }
 
     /// Makes the nodes below the root on the way to an index.
@@ -366,15 +321,23 @@ impl<T: Drop> IndexArray<T> {
     fn give_back(&mut self, i: u32)
         ensures { KeepsEntries self.old self.new }
     {
-        let left = match &mut self.root {
+        if !self.give_back_below(i) {
+            self.root = Root::Empty;
+        }
+    }
+
+    /// Gives back the leaf of an index and the nodes between it and the root, as far as they have no
+    /// entry, and says whether an entry is left anywhere.
+    fn give_back_below(&mut self, i: u32) -> bool
+        ensures entries { KeepsEntries self.old self.new }
+        ensures empty { result ≡ false → (j : ℕ) → entry_at self.new j ≡ None }
+    {
+        match &mut self.root {
             Root::Empty => false,
             Root::Height0(node) => give_back_in(&mut **node, i),
             Root::Height1(node) => give_back_in(&mut **node, i),
             Root::Height2(node) => give_back_in(&mut **node, i),
             Root::Height3(node) => give_back_in(&mut **node, i),
-        };
-        if !left {
-            self.root = Root::Empty;
         }
     }
 
