@@ -1,5 +1,7 @@
 //! Whole scripts, read before any call is made.
 
+ghost use Rattle.std.specs.Prelude.{Some};
+
 use pid_script::job::{JobFault, MOST_JOB_BYTES, read_job};
 use pid_types::call::Call;
 use pid_types::device::{DeviceFault, FromReader, Source};
