@@ -1,12 +1,13 @@
-use Rattle.std.proofs.Common.{ℕ, ◌≡◌, ◌<◌, ◌≤◌, max, sym, ap, ◌∙◌, arith, List, true, false, not, Option, Some, None, is_some, IfSome, cond}
+use Rattle.std.proofs.Common.{ℕ, ◌≡◌, ◌≢◌, ◌<◌, ◌≤◌, max, sym, ap, ◌∙◌, arith, lit≤, refl, inl, inr, List, Bool, if◌then◌else◌, true, false, not, Option, Some, None, is_some, IfSome, cond}
 use Rattle.std.specs.Prelude.{nat_lt}
 use Rattle.std.proofs.Math.Bool.{not-not}
-use Rattle.std.proofs.lemmas.Bool.{false_from_ne_true, true_from_ne_false, false≢true, ltb-true}
+use Rattle.std.proofs.lemmas.Bool.{cases_eq, false_from_ne_true, true_from_ne_false, false≢true, ltb-true}
 use Rattle.std.proofs.lemmas.Bool.Decides.{nat_tests}
-use Rattle.index_array.specs.Place.{Place, entry_at, indexes, IsLeastIndex, KeepsEntries}
+use Rattle.index_array.specs.Place.{Place, Entry, entry_at, indexes, with_mark, IsLeastIndex, WritesEntry, KeepsEntries}
 use Rattle.index_array.proofs.Indexes.{contains_indexes}
 use Rattle.pid_types.specs.Chains.{contains}
 use Rattle.pid_types.specs.Draw.{least_free, restart, cyclic_draw}
+use Rattle.cyclic_ids.specs.Ids.{AreInRange}
 use Rattle.pid_types.proofs.LeastFree.{least_free-found, least_free-IsLeastFree, draw-Some}
 
 -- a gap that was found is the least free number
@@ -75,3 +76,34 @@ planned-same pid_max cursor old new keeps =
 pub drawn-below : (pid_max cursor : ℕ) (ns : List ℕ) (r : Option ℕ) → r ≡ cyclic_draw pid_max cursor ns → IfSome r (λ n. n < pid_max)
 drawn-below pid_max cursor ns None e = tt
 drawn-below pid_max cursor ns (Some n) e = (draw-Some pid_max cursor ns n (sym e)).2
+
+-- a draw never starts at 0
+restart_above : (cursor : ℕ) → 1 ≤ restart cursor
+restart_above cursor = go (nat_lt 300 cursor)
+  where
+    go : (b : Bool) → 1 ≤ (if b then 300 else 1)
+    go true = lit≤ tt
+    go false = lit≤ tt
+
+-- so what is drawn is the number of a process
+pub drawn-range : (pid_max cursor : ℕ) (ns : List ℕ) (n : ℕ) → cyclic_draw pid_max cursor ns ≡ Some n → (1 ≤ n) × (n < pid_max)
+drawn-range pid_max cursor ns n e =
+    let drawn = draw-Some pid_max cursor ns n e in
+    let low = restart_above cursor in
+    (omega (arith, low, drawn.1), drawn.2)
+
+pub drawn-above : (pid_max cursor : ℕ) (ns : List ℕ) (r : Option ℕ) → r ≡ cyclic_draw pid_max cursor ns → IfSome r (λ n. 1 ≤ n)
+drawn-above pid_max cursor ns None e = tt
+drawn-above pid_max cursor ns (Some n) e = (drawn-range pid_max cursor ns n (sym e)).0
+
+-- numbers stay in range where one is written that is in range, or was in use
+pub range_written : {T : Type 0} (pid_max n : ℕ) (old new : List (Place T)) (e : Option (Entry T)) → AreInRange pid_max old → WritesEntry old new n e → (e ≢ None → (1 ≤ n) × (n < pid_max)) → AreInRange pid_max new
+range_written pid_max n old new e range writes here m some = elim (cases_eq m n) [
+  | inl same ↦ rw same (here (λ none. some (ap (entry_at new) same ∙ writes.here ∙ none)))
+  | inr other ↦ range m (λ none. some (writes.others m other ∙ none))
+]
+
+-- a mark makes no entry
+pub marked_some : {T : Type 0} (m : ℕ) (on : Bool) (o : Option (Entry T)) → with_mark m on o ≢ None → o ≢ None
+marked_some m on None some none = some refl
+marked_some m on (Some e) some none = cc

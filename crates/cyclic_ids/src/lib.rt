@@ -9,12 +9,12 @@
 //! it, and `commit` gives it. Only `prepare` takes memory.
 #![tactic(auto)]
 
-ghost use Rattle.std.specs.Prelude.{◌≡◌, ℕ, ◌+◌, ◌<◌, Option, Some, None, OnOk, IfSome, true, false, is_some, [], ◌∷◌};
+ghost use Rattle.std.specs.Prelude.{◌≡◌, ℕ, ◌+◌, ◌<◌, ◌≤◌, Option, Some, None, OnOk, IfSome, true, false, is_some, [], ◌∷◌};
 ghost use Rattle.std.specs.Option.{option_copied};
 ghost use Rattle.index_array.specs.Place.{entry_at, is_prepared, value_at, is_marked, with_mark, IsLeastIndex, WritesEntry, KeepsEntries, KeepsPrepared};
 ghost use Rattle.pid_types.specs.Draw.{restart};
 ghost use Rattle.pid_types.specs.Settings.{HasGoodPidMax};
-ghost use Rattle.cyclic_ids.specs.Ids.{Ids, planned};
+ghost use Rattle.cyclic_ids.specs.Ids.{Ids, planned, AreInRange};
 
 use index_array::IndexArray;
 use std::alloc::{AllocError, Global};
@@ -41,14 +41,13 @@ pub struct CyclicIds<T: Drop> {
 }
 
 impl<T: Drop> Model for CyclicIds<T> {
-    ghost use Rattle.pid_types.specs.Settings.{HasGoodPidMax};
-    ghost use Rattle.cyclic_ids.specs.Ids.{Ids};
+    ghost use Rattle.cyclic_ids.specs.Ids.{Ids, AreIds};
 
     ghost Value = { Ids T };
 
     ghost view = { λ a. record { places = a.ids; pid_max = a.pid_max; cursor = a.cursor } };
 
-    ghost invariant = { λ a. HasGoodPidMax a.pid_max };
+    ghost invariant = { λ a. AreIds a.pid_max a.ids };
 }
 
 impl<T: Drop> CyclicIds<T> {
@@ -66,6 +65,13 @@ impl<T: Drop> CyclicIds<T> {
         }
     }
 
+    /// Does nothing: its contract says that the numbers in use are at least 1 and below the bound.
+    pub fn bounds(&self)
+        ensures { AreInRange self.now.pid_max self.now.places }
+    {
+        let _ids = &self.ids;
+    }
+
     /// Where the next draw begins: one above the number that was given last.
     pub fn cursor(&self) -> u32
         ensures { result ≡ self.now.cursor }
@@ -77,6 +83,7 @@ impl<T: Drop> CyclicIds<T> {
     /// It changes nothing.
     pub fn plan(&self) -> Option<u32>
         ensures draw { result ≡ planned self.now }
+        ensures above { IfSome result (λ n. 1 ≤ n) }
         ensures below { IfSome result (λ n. n < self.now.pid_max) }
     {
         let low = self.restart();

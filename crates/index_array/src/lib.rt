@@ -82,6 +82,13 @@ impl<T: Drop> IndexArray<T> {
         }
     }
 
+    /// Does nothing: its contract says that there is no entry at 2^24 and above.
+    pub fn bounds(&self)
+        ensures { (i : ℕ) → INDEX_COUNT ≤ i → entry_at self.now i ≡ None }
+    {
+        let _root = &self.root;
+    }
+
     /// The value at an index; none at 2^24 and above.
     pub fn get(&self, i: u32) -> Option<&T>
         ensures { option_copied result ≡ value_at self.now i }

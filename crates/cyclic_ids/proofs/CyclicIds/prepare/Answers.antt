@@ -1,4 +1,4 @@
-use Rattle.std.proofs.Common.{rules}
+use Rattle.std.proofs.Common.{rules, ◌∙◌}
 use Rattle.cyclic_ids.proofs.Draws.{planned-same}
 use Rattle.cyclic_ids.proofs.CyclicIds.prepare.Goals as goal
 
@@ -8,3 +8,10 @@ returns-clause-planned g c =
 
 pub returns-clause-ok : goal.returns-clause-ok
 returns-clause-ok g c = search rules
+
+pub invariant_of-self : goal.invariant_of-self
+invariant_of-self g c =
+    record {
+      bound = c.self.invariant.bound;
+      range = λ n some. c.self.invariant.range n (λ none. some (c.prepare.ensures.entries n ∙ none));
+    }

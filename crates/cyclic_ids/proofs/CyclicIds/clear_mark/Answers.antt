@@ -1,0 +1,10 @@
+use Rattle.std.proofs.Common.{false}
+use Rattle.cyclic_ids.proofs.Draws.{range_written, marked_some}
+use Rattle.cyclic_ids.proofs.CyclicIds.clear_mark.Goals as goal
+
+pub invariant_of-self : goal.invariant_of-self
+invariant_of-self g c =
+    record {
+      bound = c.self.invariant.bound;
+      range = range_written c.self.inside.pid_max c.args.n c.self.inside.ids c.clear_mark.new.self _ c.self.invariant.range c.clear_mark.ensures.writes (λ some. c.self.invariant.range c.args.n (marked_some c.args.m false _ some));
+    }
