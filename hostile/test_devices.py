@@ -67,13 +67,10 @@ class Devices(unittest.TestCase):
 
     def each(self):
         """Each build with each command, and what it writes on a good device."""
-        for program in self.programs:
-            for words, text in self.commands.items():
-                with self.subTest(program=program.name, command=words[0]):
-                    yield program, words, text
+        return ((program, words, text) for program in self.programs for words, text in self.commands.items())
 
     def assert_ran(self, ran, status, stdout, stderr):
-        self.assertEqual((ran.returncode, ran.stdout, ran.stderr), (status, stdout, stderr))
+        self.assertEqual((ran.returncode, ran.stdout, ran.stderr), (status, stdout, stderr), ran.args)
 
 
 class Reads(Devices):

@@ -154,6 +154,8 @@ class Growths(unittest.TestCase):
         self.assertGreater(growth, 200)
         # A run makes a call once more behind a checkpoint, so it takes two refusals to have it go on without one.
         self.assertLessEqual(TAKE_MEMORY, kinds)
+        # A call that makes nothing needs memory for its entry.
+        self.assertTrue(kinds - TAKE_MEMORY)
         self.assertGreater(starts, 0)
 
     def test_each_growth_of_a_step_in_turn(self):

@@ -6,7 +6,7 @@ ghost use Rattle.std.specs.Prelude.{◌≡◌};
 use crate::step::Seat as Kind;
 use crate::tell::{MOST_TRIES, tell};
 use anyhow::{Result, bail};
-use locked_table::{Entry, Receipt, Record, Seat};
+use locked_table::{Receipt, Record, Seat};
 use pid_script::answer::answer_text;
 use pid_script::list::list_text;
 use pid_types::config::Config;
@@ -24,16 +24,16 @@ pub struct Seated<L: Ledger> {
     seat: Seat<L, 1>,
 }
 
-/// All that can be read of a table.
-#[derive(Drop, PartialEq)]
-struct Picture {
-    list: Vec<u8>,
-    config: Config,
+/// What the reading calls answer that take no memory.
+#[derive(Clone, Copy)]
+struct Counts {
     total: u64,
     first_kept: u64,
     recorded: u64,
-    seat: u64,
-    last: Option<Entry>,
+    calls: u64,
+    tasks: usize,
+    controls: usize,
+    pid_max: u32,
 }
 
 /// What a step has made.
@@ -41,6 +41,7 @@ struct Picture {
 enum Made {
     Answer(Result<Receipt, CallFault>),
     Nothing,
+    Counts(Counts),
     Snapshot(Plain),
     Text(Vec<u8>),
 }
@@ -82,7 +83,7 @@ impl<L: Ledger> Seated<L> {
                 Ok(made) => return self.show(rt, &made),
                 Err(AllocError) => tell(rt, &[b"- no memory\n"])?,
             }
-            if self.picture(rt.alloc())? != before {
+            if self.picture(rt.alloc())?.as_slice() != before.as_slice() {
                 bail!("something has changed");
             }
         }
@@ -109,6 +110,7 @@ impl<L: Ledger> Seated<L> {
                 self.record.checkpoint()?;
                 Ok(Made::Nothing)
             }
+            Kind::Look => Ok(Made::Counts(self.counts())),
             Kind::Snapshot => Ok(Made::Snapshot(self.record.snapshot()?)),
             Kind::List => Ok(Made::Text(list_text(rt.alloc(), plain)?)),
             Kind::Split => Ok(Made::Text(list_text_split(rt, rt.alloc(), plain)?)),
@@ -120,6 +122,10 @@ impl<L: Ledger> Seated<L> {
         match made {
             Made::Answer(answer) => tell(rt, &[b"= ", answer_text(answer).as_slice(), b"\n"]),
             Made::Nothing => tell(rt, &[b"= ok\n"]),
+            Made::Counts(counts) => {
+                tell(rt, &[b"= "])?;
+                tell(rt, &[count_line(rt.alloc(), counts)?.as_bytes()])
+            }
             Made::Text(text) => tell(rt, &[b"= list\n", text.as_slice()]),
             Made::Snapshot(plain) => {
                 tell(rt, &[b"= snapshot\n"])?;
@@ -128,21 +134,42 @@ impl<L: Ledger> Seated<L> {
         }
     }
 
-    /// All that can be read of the table now.
-    fn picture(&self, alloc: Global) -> Result<Picture> {
-        let total = self.record.total();
-        let last = match self.record.entry(total.saturating_sub(1)) {
-            Some(entry) => Some(entry.clone()?),
-            None => None,
-        };
-        Ok(Picture {
-            list: list_text(alloc, &self.record.snapshot()?)?,
-            config: self.record.config(),
-            total,
+    /// What the reading calls answer now.
+    fn counts(&self) -> Counts {
+        Counts {
+            total: self.record.total(),
             first_kept: self.record.first_kept(),
             recorded: self.record.recorded(0),
-            seat: self.seat.calls(),
-            last,
-        })
+            calls: self.seat.calls(),
+            tasks: self.record.tasks(),
+            controls: self.record.controls(),
+            pid_max: self.record.config().pid_max(),
+        }
     }
+
+    /// All that can be read of the table now: its list, the counts, and the last entry of its history.
+    fn picture(&self, alloc: Global) -> Result<Vec<u8>> {
+        let counts = self.counts();
+        let mut picture = list_text(alloc, &self.record.snapshot()?)?;
+        picture.extend_from_slice(count_line(alloc, &counts)?.as_bytes())?;
+        let last = self.record.entry(counts.total.saturating_sub(1));
+        picture.extend_from_slice(format!(in alloc; "{last:?}")?.as_bytes())?;
+        Ok(picture)
+    }
+}
+
+/// The counts as a line.
+fn count_line(alloc: Global, counts: &Counts) -> Result<String> {
+    let Counts {
+        total,
+        first_kept,
+        recorded,
+        calls,
+        tasks,
+        controls,
+        pid_max,
+    } = *counts;
+    Ok(format!(in alloc;
+        "total {total} kept {first_kept} recorded {recorded} calls {calls} tasks {tasks} controls {controls} pid_max {pid_max}\n"
+    )?)
 }

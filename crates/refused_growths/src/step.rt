@@ -21,6 +21,8 @@ pub enum Seat {
     Reserve(usize),
     /// `checkpoint`.
     Checkpoint,
+    /// `look`: what the reading calls answer that take no memory.
+    Look,
     /// `snapshot`.
     Snapshot,
     /// `list`: the list of a snapshot, by one thread.
@@ -55,6 +57,7 @@ pub fn parse_step(alloc: Global, line: &str) -> Result<Step> {
     let kind = match word {
         "reserve" => Seat::Reserve(rest.parse::<usize>()?),
         "checkpoint" => Seat::Checkpoint,
+        "look" => Seat::Look,
         "snapshot" => Seat::Snapshot,
         "list" => Seat::List,
         "split" => Seat::Split,
