@@ -1,6 +1,6 @@
 # What a person does with this repository. It needs the Rattle toolchain, whose command is `rt`.
 
-.PHONY: run list work try test linux clean
+.PHONY: run list work try test hostile linux clean
 
 # Answers the first script. The first time it proves and builds what the program stands on.
 run:
@@ -18,9 +18,17 @@ work:
 try:
 	@cd crates/pidtab && rt try -- run < ../../examples/first.script
 
-# The gate: proves every crate from nothing, tries the edits that must be refused, and runs the tests.
+# The gate: proves every crate from nothing, tries the edits that must be refused, and runs the tests; then it is hostile to
+# the programs that were built.
 test:
 	rt ci
+	@$(MAKE) -s hostile
+
+# Refuses the built programs memory at each growth in turn, and has their devices fail. It proves and builds none of them: `make
+# test` does, and `make run` the one, and `rt run < stdin` in crates/refused_growths the other.
+hostile:
+	@for it in pidtab refused_growths; do test -x crates/$$it/out/$$it || { echo "no program crates/$$it/out/$$it: make test builds it" >&2; exit 1; }; done
+	@$(MAKE) -s -C hostile check
 
 # Compares the table with real processes: each row of docs/LINUX.md, and 200 random scripts. It needs root or user namespaces.
 linux: run
@@ -32,6 +40,7 @@ linux: run
 clean:
 	rm -rf crates/*/out
 	@$(MAKE) -s -C linux clean
+	@$(MAKE) -s -C hostile clean
 
 .PHONY: built bindings install uninstall
 
