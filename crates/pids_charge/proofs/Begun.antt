@@ -27,6 +27,9 @@ module _ (nodes : Slab Node) (root : get nodes 0 ≡ Some (record { id = 0; pare
   pub no_tasks : (j : ℕ) → tasks_in nodes j ≡ 0
   no_tasks = same (λ o. option_map_or (λ (n : Node). n.live + n.zombies) o 0) 0 refl refl
 
+  pub no_task : all_in nodes ≡ 0
+  no_task = sum-zero (length nodes.slots) (tasks_in nodes) no_tasks
+
   at_root : (k : ℕ) → ContainsKey nodes k → k ≡ 0
   at_root k on = elim (cases_eq k 0) [ inl e ↦ e | inr d ↦ absurd (let h = ap is_some (rest k d) in cc) ]
 

@@ -277,6 +277,9 @@ module _ (nodes : Slab Node) (totals : List ℕ) (at : Option ℕ) (a : ℕ) (n 
                   let same = ap one_if (under-leaf nodes new a updates.others updates.changed bare_leaf p k apart) in
                   omega (arith, same, past)
 
+      pub all-dropped : all_in new ≡ all_in nodes
+      all-dropped = all-leaf nodes new a updates.others updates.changed bare_leaf own_none
+
       pub drops : (init : Slab Node) → DropsEmpty init nodes → DropsEmpty init new
       drops init d = record {
         stand = λ k. elim (cases_eq k a) [

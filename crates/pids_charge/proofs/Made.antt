@@ -12,7 +12,7 @@ use Rattle.pid_types.specs.Chains.{climb}
 use Rattle.pid_types.specs.declared.plain.Control.{Control}
 use Rattle.pid_types.specs.Controls.{parent_control, control_path}
 use Rattle.pids_charge.specs.declared.node.Node.{Node}
-use Rattle.pids_charge.specs.Nodes.{Tree, tree_of, is_under, tasks_in, total_in, IsTree}
+use Rattle.pids_charge.specs.Nodes.{Tree, tree_of, is_under, tasks_in, total_in, all_in, IsTree}
 use Rattle.pids_charge.specs.Charges.{Home}
 use Rattle.pids_charge.specs.Kept.{control_in, child_of, limit_in, seen, standing_key, IsEntry, IsListed, IsCounted, IsKept}
 use Rattle.pids_charge.proofs.Climbs.{up_levels, eqb-apart}
@@ -100,6 +100,9 @@ module _ (nodes new : Slab Node) (a q id level : ℕ) (old : get nodes a ≡ Non
 
   total-made : (k : ℕ) → total_in new k ≡ total_in nodes k
   total-made k = sym (leaves.total-leaf new nodes a back old leaf empty k)
+
+  pub all-made : all_in new ≡ all_in nodes
+  all-made = sym (leaves.all-leaf new nodes a back old leaf empty)
 
   -- who is not there has no tasks below
   none_below : total_in nodes a ≡ 0

@@ -81,7 +81,7 @@ module _ (nodes new : Slab Node) (c p : ℕ) (n : Node) (found : get nodes c ≡
       ∙ sum-ext (length nodes.slots) (λ j. if is_under (tree_of new) j k then tasks_in new j else 0) (λ j. if is_under (tree_of nodes) j k then tasks_in nodes j else 0)
       (λ j. ap (λ (b : Bool). if b then tasks_in new j else 0) (under-same j k) ∙ ap (λ f. if is_under (tree_of nodes) j k then f j else 0) tasks)
 
-  all-same : all_in new ≡ all_in nodes
+  pub all-same : all_in new ≡ all_in nodes
   all-same = ap (λ i. sum_below i (tasks_in new)) slots ∙ ap (λ f. sum_below (length nodes.slots) f) tasks
 
   module _ (w : IsTree (tree_of nodes)) (childless : (k : ℕ) → child_of (tree_of nodes) k ≢ Some c) where

@@ -83,6 +83,7 @@ impl Controls {
     pub fn new(alloc: Global) -> Result<Self, AllocError>
         ensures controls { IfOk result (λ v. v.controls ≡ record { id = 0; parent = None; limit = None } ∷ []) }
         ensures tasks { IfOk result (λ v. (k : ℕ) → tasks_of (home_at v k) ≡ 0) }
+        ensures none { IfOk result (λ v. all_tasks v ≡ 0) }
     {
         let mut nodes = Slab::new(alloc);
         let mut totals = Vec::new(alloc);
@@ -110,6 +111,7 @@ impl Controls {
         ensures fresh { IfOk result (λ key. home_at self.old key ≡ None) }
         ensures here { IfOk result (λ key. home_at self.new key ≡ Some (record { id = stamp; stands = true; live = 0; zombies = 0 })) }
         ensures others { IfOk result (λ key. (k : ℕ) → k ≢ key → home_at self.new k ≡ home_at self.old k) }
+        ensures tasks { OnOk result (all_tasks self.new ≡ all_tasks self.old) }
         ensures deep { (result ≡ Err ControlFault.ControlDepth) ↔ (deepest_control < length (control_path self.old.controls (id_at self.old parent))) }
         ensures err { OnErr result (self.new ≡ self.old) }
     {
@@ -134,6 +136,7 @@ impl Controls {
         ensures controls { OnOk result (self.new.controls ≡ filter (λ g. not (g.id == id_at self.old c)) self.old.controls) }
         ensures homes { OnOk result ((parent : ℕ) → parent_control self.old.controls (id_at self.old c) ≡ Some parent
             → (k : ℕ) → home_at self.new k ≡ option_and_then (handed_on (id_at self.old c) parent) (home_at self.old k)) }
+        ensures tasks { all_tasks self.new ≡ all_tasks self.old }
         ensures err { OnErr result (self.new ≡ self.old) }
     {
         let node = node_at(&self.nodes, c);
@@ -161,6 +164,7 @@ impl Controls {
         ensures refusal { result_err result ≡ limit_refusal self.old c limit }
         ensures controls { OnOk result (self.new.controls ≡ map (limited (id_at self.old c) limit) self.old.controls) }
         ensures homes { (k : ℕ) → home_at self.new k ≡ home_at self.old k }
+        ensures tasks { all_tasks self.new ≡ all_tasks self.old }
         ensures err { OnErr result (self.new ≡ self.old) }
     {
         let node = node_at(&self.nodes, c);
@@ -241,7 +245,8 @@ impl Controls {
     pub fn charge(&mut self, home: u32)
         requires stands { stands self.old home ≡ true }
         requires few { all_tasks self.old + 1 < 2 ^ 64 }
-        ensures { ChangesHome self.old self.new home (option_map (λ (h : Home). record h { live = h.live + 1 }) (home_at self.old home)) }
+        ensures home { ChangesHome self.old self.new home (option_map (λ (h : Home). record h { live = h.live + 1 }) (home_at self.old home)) }
+        ensures tasks { all_tasks self.new ≡ all_tasks self.old + 1 }
     {
         put_live(&mut self.nodes, &mut self.totals, home);
     }
@@ -249,7 +254,8 @@ impl Controls {
     /// A live task became a zombie.
     pub fn died(&mut self, home: u32)
         requires { 0 < live_at self.old home }
-        ensures { ChangesHome self.old self.new home (option_map (λ (h : Home). record h { live = h.live - 1; zombies = h.zombies + 1 }) (home_at self.old home)) }
+        ensures home { ChangesHome self.old self.new home (option_map (λ (h : Home). record h { live = h.live - 1; zombies = h.zombies + 1 }) (home_at self.old home)) }
+        ensures tasks { all_tasks self.new ≡ all_tasks self.old }
     {
         end_live(&mut self.nodes, &self.totals, home);
     }
@@ -257,7 +263,8 @@ impl Controls {
     /// A zombie is gone. With the last task of a removed group its key is gone too.
     pub fn uncharge(&mut self, home: u32)
         requires { 0 < zombies_at self.old home }
-        ensures { ChangesHome self.old self.new home (option_and_then (λ (h : Home). kept (record h { zombies = h.zombies - 1 })) (home_at self.old home)) }
+        ensures home { ChangesHome self.old self.new home (option_and_then (λ (h : Home). kept (record h { zombies = h.zombies - 1 })) (home_at self.old home)) }
+        ensures tasks { all_tasks self.new + 1 ≡ all_tasks self.old }
     {
         take_zombie(&mut self.nodes, &mut self.totals, home);
         drop_empty(&mut self.nodes, &self.totals, home);
@@ -270,6 +277,7 @@ impl Controls {
         requires stands { stands self.old to ≡ true }
         ensures controls { self.new.controls ≡ self.old.controls }
         ensures homes { (k : ℕ) → home_at self.new k ≡ option_map (moved from to k) (home_at self.old k) }
+        ensures tasks { all_tasks self.new ≡ all_tasks self.old }
     {
         take_live(&mut self.nodes, &mut self.totals, from);
         put_live(&mut self.nodes, &mut self.totals, to);

@@ -18,6 +18,7 @@ pub(crate) fn put_live(nodes: &mut Slab<Node>, totals: &mut Vec<u64>, home: u32)
     requires stands { (tree_of nodes.old).stand home ≡ true }
     requires few { all_in nodes.old + 1 < 2 ^ 64 }
     ensures changes { ChangesTasks nodes.old nodes.new home (λ (n : Node). record n { live = n.live + 1 }) }
+    ensures all { all_in nodes.new ≡ all_in nodes.old + 1 }
     ensures counted { IsCounted nodes.new totals.new.items None }
     ensures len { length totals.new.items ≡ length totals.old.items }
 {
@@ -51,6 +52,7 @@ pub(crate) fn take_zombie(nodes: &mut Slab<Node>, totals: &mut Vec<u64>, home: u
     requires room { (k : ℕ) → ContainsKey nodes.old k → k < length totals.old.items }
     requires some { 0 < zombies_in nodes.old home }
     ensures changes { ChangesTasks nodes.old nodes.new home (λ (n : Node). record n { zombies = n.zombies - 1 }) }
+    ensures all { all_in nodes.new + 1 ≡ all_in nodes.old }
     ensures counted { IsCounted nodes.new totals.new.items (Some home) }
     ensures len { length totals.new.items ≡ length totals.old.items }
 {
@@ -66,6 +68,7 @@ pub(crate) fn end_live(nodes: &mut Slab<Node>, totals: &Vec<u64>, home: u32)
     requires counted { IsCounted nodes.old totals.now.items None }
     requires some { 0 < live_in nodes.old home }
     ensures changes { ChangesTasks nodes.old nodes.new home (λ (n : Node). record n { live = n.live - 1; zombies = n.zombies + 1 }) }
+    ensures all { all_in nodes.new ≡ all_in nodes.old }
     ensures counted { IsCounted nodes.new totals.now.items None }
 {
     let node = node_at(nodes, home);
@@ -89,6 +92,7 @@ pub(crate) fn drop_empty(nodes: &mut Slab<Node>, totals: &Vec<u64>, from: u32)
     requires room { (k : ℕ) → ContainsKey nodes.old k → k < length totals.now.items }
     requires there { ContainsKey nodes.old from }
     ensures drops { DropsEmpty nodes.old nodes.new }
+    ensures all { all_in nodes.new ≡ all_in nodes.old }
     ensures tree { IsTree (tree_of nodes.new) }
     ensures counted { IsCounted nodes.new totals.now.items None }
 {

@@ -7,7 +7,7 @@ use Rattle.pid_types.specs.Controls.{control_path}
 use Rattle.pid_types.specs.declared.plain.Control.{Control}
 use Rattle.pids_charge.specs.declared.node.Node.{Node}
 use Rattle.pids_charge.specs.Nodes.{tree_of}
-use Rattle.pids_charge.specs.Charges.{Charges, home_at, id_at}
+use Rattle.pids_charge.specs.Charges.{Charges, home_at, id_at, all_tasks}
 use Rattle.pids_charge.specs.Kept.{charges_of, control_in, limit_in, IsKept}
 use Rattle.pids_charge.proofs.Views as views
 use Rattle.pids_charge.proofs.Made as made
@@ -186,3 +186,24 @@ returns-clause-deep c =
     ∙ made.length-path c.self.inside.nodes c.self.inside.children c.self.inside.ids c.self.invariant.tree c.self.invariant.listed c.args.parent s in
     let level = views.field-is (λ (n : Node). n.level) 0 c.self.inside.nodes c.args.parent c.node_at-level.result c.node_at-level.ensures in
     (λ e. absurd (cc), λ h. absurd (omega (arith, h, long, level, c.if-level-gt-DEEPEST.false)))
+
+pub returns-clause-tasks : goal.returns-clause-tasks
+returns-clause-tasks c =
+    let s = views.stand_in c.self.inside.nodes c.self.inside.ids c.args.self.now c.self.view_is c.args.parent c.requires.stands in
+    let long : length (control_path c.args.self.now.controls (id_at c.args.self.now c.args.parent)) ≡ suc ((tree_of c.self.inside.nodes).level c.args.parent) =
+    ap (λ i. length (control_path c.args.self.now.controls i)) (views.id_in c.self.inside.nodes c.self.inside.ids c.args.self.now c.self.view_is c.args.parent c.requires.stands)
+    ∙ sym (ap (λ (v : Charges). length (control_path v.controls ((tree_of c.self.inside.nodes).id c.args.parent))) c.self.view_is)
+    ∙ made.length-path c.self.inside.nodes c.self.inside.children c.self.inside.ids c.self.invariant.tree c.self.invariant.listed c.args.parent s in
+    let level = views.field-is (λ (n : Node). n.level) 0 c.self.inside.nodes c.args.parent c.node_at-level.result c.node_at-level.ensures in
+    let kv : c.insert_reserved.result ≡ c.in_ok-key.key = c.insert_reserved.ensures.key ∙ sym c.in_ok-key.ensures.key in
+    let u : Updates c.self.inside.nodes c.insert_reserved.new.self c.in_ok-key.key (Some (record { id = c.args.stamp; parent = Some c.args.parent; limit = None; level = c.node_at-level.result.level + 1; standing = true; live = 0; zombies = 0 })) =
+    subst (λ k. Updates c.self.inside.nodes c.insert_reserved.new.self k (Some (record { id = c.args.stamp; parent = Some c.args.parent; limit = None; level = c.node_at-level.result.level + 1; standing = true; live = 0; zombies = 0 }))) kv
+    (made.updates-from c.self.inside.nodes c.make_room.new.nodes c.insert_reserved.new.self c.make_room.new.nodes.capacity c.insert_reserved.result _ c.in_ok-key.ensures.nodes
+    (subst (λ n. Updates c.make_room.new.nodes c.insert_reserved.new.self c.insert_reserved.result (Some n)) c.new.ensures c.insert_reserved.ensures.updates)) in
+    let old : get c.self.inside.nodes c.in_ok-key.key ≡ None = ap (get c.self.inside.nodes) (sym kv) ∙ sym (ap (λ (s : Slab Node). get s c.insert_reserved.result) c.in_ok-key.ensures.nodes) ∙ c.insert_reserved.ensures.was_vacant in
+    let next : c.node_at-level.result.level + 1 ≡ (tree_of c.self.inside.nodes).level c.args.parent + 1 = omega (arith, level) in
+    let low : c.node_at-level.result.level + 1 ≤ 64 = omega (arith, c.if-level-gt-DEEPEST.false) in
+    let was = sym (views.all-is c.self.inside.nodes c.self.inside.ids) ∙ ap (λ (v : Charges). all_tasks v) c.self.view_is in
+    let new = views.all-is c.insert_reserved.new.self c.push.new.self in
+    let same = made.all-made c.self.inside.nodes c.insert_reserved.new.self c.in_ok-key.key c.args.parent c.args.stamp (c.node_at-level.result.level + 1) old u c.self.invariant.tree s next low in
+    omega (arith, was, new, same)

@@ -23,3 +23,10 @@ returns-clause-tasks c k =
     c.new-nodes.ensures.empty (c.in_ok-insert.ensures.key ∙ c.new-nodes.ensures.first_key)
     (subst (λ n. Updates c.new-nodes.result c.insert.new.self c.in_ok-insert.field-0 (Some n)) c.new.ensures c.in_ok-insert.ensures.updates) in
     views.tasks-is c.insert.new.self c.push-2.new.self k ∙ begun.no_tasks c.insert.new.self r.0 r.1 k
+
+pub returns-clause-none : goal.returns-clause-none
+returns-clause-none c =
+    let r = begun.root_from c.new-nodes.result c.insert.new.self c.in_ok-insert.field-0 (record { id = 0; parent = None; limit = None; level = 0; standing = true; live = 0; zombies = 0 })
+    c.new-nodes.ensures.empty (c.in_ok-insert.ensures.key ∙ c.new-nodes.ensures.first_key)
+    (subst (λ n. Updates c.new-nodes.result c.insert.new.self c.in_ok-insert.field-0 (Some n)) c.new.ensures c.in_ok-insert.ensures.updates) in
+    views.all-is c.insert.new.self c.push-2.new.self ∙ begun.no_task c.insert.new.self r.0 r.1

@@ -1,7 +1,7 @@
 use Rattle.std.proofs.Common.{◌≡◌, ◌+◌, ◌-◌, None, option_map, true, false, arith, refl, sym, ap, ◌∙◌}
 use Rattle.pids_charge.specs.declared.node.Node.{Node}
 use Rattle.pids_charge.specs.Nodes.{Tree, tree_of}
-use Rattle.pids_charge.specs.Charges.{Home, Charges, live_at}
+use Rattle.pids_charge.specs.Charges.{Home, Charges, live_at, all_tasks}
 use Rattle.pids_charge.specs.Kept.{standing_key, charges_of}
 use Rattle.pids_charge.proofs.Views as views
 use Rattle.pids_charge.proofs.Written as written
@@ -41,3 +41,9 @@ returns-clause-controls c =
     (written.ChangesHome-tasks c.take_live.new.nodes c.put_live.new.nodes c.args.to (λ (n : Node). record n { live = n.live + 1 }) c.put_live.ensures.changes c.self.inside.ids _ refl).controls
     ∙ (written.ChangesHome-tasks c.self.inside.nodes c.take_live.new.nodes c.args.from (λ (n : Node). record n { live = n.live - 1 }) c.take_live.ensures.changes c.self.inside.ids _ refl).controls
     ∙ ap (λ (v : Charges). v.controls) c.self.view_is
+
+pub returns-clause-tasks : goal.returns-clause-tasks
+returns-clause-tasks c =
+    let old = sym (views.all-is c.self.inside.nodes c.self.inside.ids) ∙ ap (λ (v : Charges). all_tasks v) c.self.view_is in
+    let new = views.all-is c.put_live.new.nodes c.self.inside.ids in
+    omega (arith, old, new, c.take_live.ensures.all, c.put_live.ensures.all)

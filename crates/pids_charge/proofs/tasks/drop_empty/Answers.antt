@@ -1,4 +1,4 @@
-use Rattle.std.proofs.Common.{◌≡◌, inl, inr, arith}
+use Rattle.std.proofs.Common.{◌∙◌, ◌≡◌, inl, inr, arith}
 use Rattle.std.specs.Prelude.{slice_index}
 use Rattle.std.proofs.lemmas.List.{get_or_read}
 use Rattle.pids_charge.proofs.Leaves as leaves
@@ -33,6 +33,7 @@ loop-at-preserved c =
     let none : slice_index c.args.totals.now.items c.in-Some.key ≡ 0 = omega (arith, read, c.if-index-gt0.false) in
     record {
       here = leaves.next_there c.loop-at.nodes c.args.totals.now.items c.loop-at.at c.in-Some.key c.node_at-node.result w.tree w.counted c.in-Some.is c.node_at-node.ensures c.if-node.false none c.try_remove.new.self c.try_remove.ensures.updates;
+      all = leaves.all-dropped c.loop-at.nodes c.args.totals.now.items c.loop-at.at c.in-Some.key c.node_at-node.result w.tree w.counted c.in-Some.is c.node_at-node.ensures c.if-node.false none c.try_remove.new.self c.try_remove.ensures.updates ∙ w.all;
       drops = leaves.drops c.loop-at.nodes c.args.totals.now.items c.loop-at.at c.in-Some.key c.node_at-node.result w.tree w.counted c.in-Some.is c.node_at-node.ensures c.if-node.false none c.try_remove.new.self c.try_remove.ensures.updates c.args.nodes.now w.drops;
       tree = leaves.IsTree-dropped c.loop-at.nodes c.args.totals.now.items c.loop-at.at c.in-Some.key c.node_at-node.result w.tree w.counted c.in-Some.is c.node_at-node.ensures c.if-node.false none c.try_remove.new.self c.try_remove.ensures.updates;
       counted = leaves.IsCounted-dropped c.loop-at.nodes c.args.totals.now.items c.loop-at.at c.in-Some.key c.node_at-node.result w.tree w.counted c.in-Some.is c.node_at-node.ensures c.if-node.false none c.try_remove.new.self c.try_remove.ensures.updates;

@@ -26,3 +26,8 @@ returns-clause-counted c =
     (λ j on gone past. omega (arith, more j, c.requires.counted.filled j on gone past))
     (λ gone. absurd (let s : c.node_at-node.result.standing ≡ true = sym (views.field-is (λ (n : Node). n.standing) false c.args.nodes.now c.args.home c.node_at-node.result c.node_at-node.ensures) ∙ c.requires.stands in cc))
     (omega (arith, all, c.requires.few))
+
+pub returns-clause-all : goal.returns-clause-all
+returns-clause-all c =
+    let all = written.all-changed c.args.nodes.now c.set_node.new.nodes c.args.home c.node_at-node.result _ c.node_at-node.ensures refl c.set_node.ensures in
+    omega (arith, all)

@@ -23,3 +23,9 @@ returns-clause-counted c =
     (λ j on gone past. omega (arith, less j, past, c.requires.counted.filled j on gone refl))
     (λ gone. written.none_live c.args.nodes.now c.args.home c.node_at-node.result c.node_at-node.ensures c.args.totals.now.items None c.requires.counted gone)
     (omega (arith, all, own, c.requires.some, c.requires.counted.few))
+
+pub returns-clause-all : goal.returns-clause-all
+returns-clause-all c =
+    let own = views.field-is (λ (n : Node). n.zombies) 0 c.args.nodes.now c.args.home c.node_at-node.result c.node_at-node.ensures in
+    let all = written.all-changed c.args.nodes.now c.set_node.new.nodes c.args.home c.node_at-node.result _ c.node_at-node.ensures refl c.set_node.ensures in
+    omega (arith, all, own, c.requires.some)
