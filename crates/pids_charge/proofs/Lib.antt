@@ -1,0 +1,12 @@
+pub mod Climbs
+pub mod Sums
+pub mod Views
+pub mod Bridges
+pub mod Written
+pub mod Leaves
+pub mod Dropped
+pub mod Nearest
+pub mod Limited
+pub mod Removed
+pub mod Made
+pub mod Begun

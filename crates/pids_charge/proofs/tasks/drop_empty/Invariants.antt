@@ -1,0 +1,18 @@
+use Rattle.std.proofs.Common.{◌≡◌, ℕ, suc, Some}
+use Rattle.std.specs.Option.{option_map_or}
+use Rattle.slab.specs.Slab.{ContainsKey}
+use Rattle.pids_charge.specs.Nodes.{tree_of, all_in, IsTree}
+use Rattle.pids_charge.specs.Kept.{IsCounted, DropsEmpty}
+use Rattle.pids_charge.proofs.tasks.drop_empty.Given as goal
+
+abbrev pub invariant-loop-at : goal.invariant-loop-at
+invariant-loop-at l = record {
+  here : (a : ℕ) → l.at ≡ Some a → ContainsKey l.nodes a;
+  all : all_in l.nodes ≡ all_in l.initial.nodes;
+  drops : DropsEmpty l.initial.nodes l.nodes;
+  tree : IsTree (tree_of l.nodes);
+  counted : IsCounted l.nodes l.totals.items l.at;
+}
+
+abbrev pub decreases-loop-at : goal.decreases-loop-at
+decreases-loop-at l = option_map_or (λ a. suc ((tree_of l.nodes).level a)) l.at 0

@@ -1,0 +1,94 @@
+-- The view of the nodes, and what ties them to the totals, the lists of children and the ids.
+use Rattle.std.specs.Prelude.{◌≡◌, ◌≢◌, ℕ, zero, suc, ◌<◌, ◌≤◌, ◌^◌, nat_le, Bool, true, false, List, [], ◌∷◌, length, map, Option, Some, None, option_map, option_and_then, if◌then◌else◌, slice_index}
+use Rattle.std.specs.Option.{option_map_or}
+use Rattle.std.specs.List.{AllByRecursion}
+use Rattle.slab.specs.Slab.{Slab, get, ContainsKey}
+use Rattle.owner_lists.specs.Owners.{owner_of}
+use Rattle.rising_ids.specs.Ids.{key_of}
+use Rattle.pid_types.specs.declared.plain.Control.{Control}
+use Rattle.pids_charge.specs.declared.node.Node.{Node}
+use Rattle.pids_charge.specs.Nodes.{Tree, tree_of, left, live_in, total_in, all_in, IsTree}
+use Rattle.pids_charge.specs.Charges.{Home, Charges, kept}
+
+-- the nearest key from one up that stands
+abbrev pub nearest : (ℕ → Bool) → (ℕ → Option ℕ) → ℕ → ℕ → ℕ
+nearest stand up zero k = k
+nearest stand up (suc most) k = if stand k then k else option_map_or (nearest stand up most) (up k) k
+
+abbrev pub standing_key : Tree → ℕ → ℕ
+standing_key t k = nearest t.stand t.up (t.level k) k
+
+-- what a contract sees of a node
+abbrev pub seen : Tree → ℕ → Node → Option Home
+seen t k n = kept (record { id = t.id (standing_key t k); stands = n.standing; live = n.live; zombies = n.zombies })
+
+-- a list, each element changed by its place
+abbrev pub each : {X Y : Type 0} → (ℕ → X → Y) → List X → List Y
+each f [] = []
+each f (x ∷ xs) = f 0 x ∷ each (λ k. f (suc k)) xs
+
+abbrev pub limit_in : Slab Node → ℕ → Option ℕ
+limit_in nodes k = option_and_then (λ n. n.limit) (get nodes k)
+
+-- the control group of an id and its key
+abbrev pub control_in : Tree → (ℕ → Option ℕ) → ℕ × ℕ → Control
+control_in t limit p = record { id = p.0; parent = option_map t.id (t.up p.1); limit = limit p.1 }
+
+abbrev pub charges_of : Slab Node → List (ℕ × ℕ) → Charges
+charges_of nodes ids = record {
+  controls = map (control_in (tree_of nodes) (limit_in nodes)) ids;
+  homes = each (λ k slot. option_and_then (seen (tree_of nodes) k) slot) nodes.slots;
+}
+
+-- whose child in the lists a key is
+abbrev pub child_of : Tree → ℕ → Option ℕ
+child_of t k = if t.stand k then t.up k else None
+
+-- an id's key stands and has it
+abbrev pub IsEntry : Tree → ℕ × ℕ → Type 0
+IsEntry t p = (t.stand p.1 ≡ true) × (t.id p.1 ≡ p.0)
+
+-- the lists of children and the ids are those of the tree
+pub record IsListed (t : Tree) (children : List (Option ℕ)) (ids : List (ℕ × ℕ)) : Type 0 where
+  pub owners : (k : ℕ) → owner_of children k ≡ child_of t k
+  pub entries : AllByRecursion (IsEntry t) ids
+  pub listed : (k : ℕ) → t.stand k ≡ true → key_of ids (t.id k) ≡ Some k
+
+-- each total is the count of the subtree, and what does not stand has zombies in it or below it, but perhaps what a walk is still
+-- to visit
+pub record IsCounted (nodes : Slab Node) (totals : List ℕ) (at : Option ℕ) : Type 0 where
+  pub counts : (k : ℕ) → ContainsKey nodes k → slice_index totals k ≡ total_in nodes k
+  pub filled : (k : ℕ) → ContainsKey nodes k → (tree_of nodes).stand k ≡ false → left (tree_of nodes) at k ≡ 0 → 0 < total_in nodes k
+  pub ended : (k : ℕ) → (tree_of nodes).stand k ≡ false → live_in nodes k ≡ 0
+  pub few : all_in nodes < 2 ^ 64
+
+pub record IsKept (nodes : Slab Node) (totals : List ℕ) (children : List (Option ℕ)) (ids : List (ℕ × ℕ)) : Type 0 where
+  pub tree : IsTree (tree_of nodes)
+  pub counted : IsCounted nodes totals None
+  pub listed : IsListed (tree_of nodes) children ids
+  pub room : (k : ℕ) → ContainsKey nodes k → (k < length totals) × (k < length children)
+  pub small : length children ≤ 2 ^ 30
+
+-- the tasks of one node changed, and no group
+pub record ChangesTasks (old new : Slab Node) (home : ℕ) (change : Node → Node) : Type 0 where
+  pub tree : tree_of new ≡ tree_of old
+  pub limits : (k : ℕ) → limit_in new k ≡ limit_in old k
+  pub here : get new home ≡ option_map change (get old home)
+  pub others : (k : ℕ) → k ≢ home → get new k ≡ get old k
+
+-- what does not stand and has no task may be gone
+pub record DropsEmpty (old new : Slab Node) : Type 0 where
+  pub stand : (k : ℕ) → (tree_of new).stand k ≡ (tree_of old).stand k
+  pub shown : (k : ℕ) → option_and_then (seen (tree_of new) k) (get new k) ≡ option_and_then (seen (tree_of old) k) (get old k)
+  pub standing : (k : ℕ) → (tree_of old).stand k ≡ true → get new k ≡ get old k
+  pub there : (k : ℕ) → ContainsKey new k → ContainsKey old k
+
+-- whether one task more would pass the limit of a node
+abbrev pub is_at_limit : Slab Node → List ℕ → ℕ → Bool
+is_at_limit nodes totals k = option_map_or (λ limit. nat_le limit (slice_index totals k)) (limit_in nodes k) false
+
+-- the nearest node from one up, at most so many steps, whose limit one task more would pass
+abbrev pub first_full : Slab Node → List ℕ → ℕ → ℕ → Option ℕ
+first_full nodes totals zero k = if is_at_limit nodes totals k then Some k else None
+first_full nodes totals (suc most) k =
+    if is_at_limit nodes totals k then Some k else option_map_or (first_full nodes totals most) ((tree_of nodes).up k) None

@@ -1,0 +1,4 @@
+pub mod Sums
+pub mod Nodes
+pub mod Charges
+pub mod Kept

@@ -1,0 +1,285 @@
+//! Control groups of the pids controller, each with a running count of the tasks in it and below it:
+//! `pids.max` and `pids.current` of the kernel's cgroup-v2 document.
+//!
+//! Groups are named by keys, which `find` and `make` answer. A removed group's key stays as long as zombies
+//! were in it, so that none of them is told of the removal: they count for the parent from then on.
+#![tactic(auto)]
+
+ghost use Rattle.std.specs.Prelude.{◌≡◌, ◌≢◌, ℕ, ◌+◌, ◌-◌, ◌<◌, ◌≤◌, ◌^◌, ◌==◌, ◌↔◌, not, true, false, [], ◌∷◌, ◌++◌, length, map, filter, option_map, option_and_then, Some, None, IsSome, MatchOption, OnOk, OnErr, IfOk, IfSome, Err};
+ghost use Rattle.std.specs.Result.{result_err};
+ghost use Rattle.std.specs.List.{AllByRecursion};
+ghost use Rattle.pid_types.specs.Bounds.{deepest_control};
+ghost use Rattle.pid_types.specs.Controls.{control_at, parent_control, control_path};
+ghost use Rattle.pid_types.specs.Changes.{limited};
+ghost use Rattle.pids_charge.specs.declared.ControlFault.{ControlFault};
+ghost use Rattle.pids_charge.specs.Charges.{Home, home_at, stands, id_at, live_at, zombies_at, tasks_of, count as count_of, all_tasks, limit_of, charge_refusal, remove_refusal, limit_refusal, kept, handed_on, moved, ChangesHome};
+
+mod limits;
+mod node;
+mod room;
+mod tasks;
+mod walk;
+
+use limits::{full_above, is_too_high};
+use node::{Node, node_at, set_node};
+use owner_lists::OwnerLists;
+use pid_types::reply::Refusal;
+use rising_ids::{Iter, RisingIds};
+use room::make_room;
+use slab::Slab;
+use std::alloc::{AllocError, Global};
+use std::marker::Model;
+use tasks::{drop_empty, end_live, put_live, take_live, take_zombie};
+use thiserror::Error;
+
+/// The level of the deepest control groups.
+const DEEPEST: u32 = 64;
+
+/// Why a control group cannot be made.
+#[derive(Clone, Copy, Debug, PartialEq, Eq, Hash, Error)]
+pub enum ControlFault {
+    /// The control group above has level 64, the deepest.
+    #[error("too deep")]
+    ControlDepth,
+    /// There was no memory for it.
+    #[error("no memory")]
+    NoMemory,
+}
+
+impl From<AllocError> for ControlFault {
+    ghost use Rattle.std.specs.Prelude.{◌≡◌};
+    ghost use Rattle.pids_charge.specs.declared.ControlFault.TheVariants.{NoMemory};
+
+    ghost from_gives = { λ _ fault. fault ≡ NoMemory };
+
+    fn from(_refused: AllocError) -> ControlFault {
+        ControlFault::NoMemory
+    }
+}
+
+/// Control groups, and how many tasks each has.
+#[derive(Drop)]
+pub struct Controls {
+    nodes: Slab<Node>,
+    totals: Vec<u64>,
+    children: OwnerLists,
+    ids: RisingIds,
+}
+
+impl Model for Controls {
+    ghost use Rattle.pids_charge.specs.Charges.{Charges};
+
+    ghost Value = { Charges };
+
+    ghost use Rattle.pids_charge.specs.Kept.{charges_of, IsKept};
+
+    ghost view = { λ a. charges_of a.nodes a.ids };
+
+    ghost invariant = { λ a. IsKept a.nodes a.totals.items a.children a.ids };
+}
+
+impl Controls {
+    /// The root control group alone, whose id is 0. The error is want of memory.
+    pub fn new(alloc: Global) -> Result<Self, AllocError>
+        ensures controls { IfOk result (λ v. v.controls ≡ record { id = 0; parent = None; limit = None } ∷ []) }
+        ensures tasks { IfOk result (λ v. (k : ℕ) → tasks_of (home_at v k) ≡ 0) }
+        ensures none { IfOk result (λ v. all_tasks v ≡ 0) }
+    {
+        let mut nodes = Slab::new(alloc);
+        let mut totals = Vec::new(alloc);
+        let mut children = OwnerLists::new(alloc);
+        let mut ids = RisingIds::new(alloc);
+        totals.push(0)?;
+        children.grow()?;
+        ids.push(0, 0)?;
+        nodes.insert(Node::new(0, None, 0))?;
+        Ok(Controls {
+            nodes,
+            totals,
+            children,
+            ids,
+        })
+    }
+
+    /// A new control group without a limit below another one, whose id is the stamp. `ControlDepth` comes
+    /// where the other one has level 64, `NoMemory` where there is no memory or no key is left below 2^30;
+    /// then nothing has changed.
+    pub fn make(&mut self, parent: u32, stamp: u64) -> Result<u32, ControlFault>
+        requires stands { stands self.old parent ≡ true }
+        requires above { AllByRecursion (λ g. g.id < stamp) self.old.controls }
+        ensures controls { OnOk result (self.new.controls ≡ self.old.controls ++ record { id = stamp; parent = Some (id_at self.old parent); limit = None } ∷ []) }
+        ensures fresh { IfOk result (λ key. home_at self.old key ≡ None) }
+        ensures here { IfOk result (λ key. home_at self.new key ≡ Some (record { id = stamp; stands = true; live = 0; zombies = 0 })) }
+        ensures others { IfOk result (λ key. (k : ℕ) → k ≢ key → home_at self.new k ≡ home_at self.old k) }
+        ensures tasks { OnOk result (all_tasks self.new ≡ all_tasks self.old) }
+        ensures deep { (result ≡ Err ControlFault.ControlDepth) ↔ (deepest_control < length (control_path self.old.controls (id_at self.old parent))) }
+        ensures err { OnErr result (self.new ≡ self.old) }
+    {
+        let level = node_at(&self.nodes, parent).level + 1;
+        if level > DEEPEST {
+            return Err(ControlFault::ControlDepth);
+        }
+        let key = make_room(&mut self.nodes, &mut self.totals, &mut self.children)?;
+        self.ids.push(stamp, key)?;
+        self.nodes
+            .insert_reserved(Node::new(stamp, Some(parent), level));
+        self.totals[key as usize] = 0;
+        self.children.add(key, parent);
+        Ok(key)
+    }
+
+    /// Removes a control group: `rmdir(2)`. The refusals are `RootControl`, and then `ControlBusy` where a
+    /// control group or a live task is directly in it. Its zombies go to the parent, in no time.
+    pub fn remove(&mut self, c: u32) -> Result<(), Refusal>
+        requires { stands self.old c ≡ true }
+        ensures refusal { result_err result ≡ remove_refusal self.old c }
+        ensures controls { OnOk result (self.new.controls ≡ filter (λ g. not (g.id == id_at self.old c)) self.old.controls) }
+        ensures homes { OnOk result ((parent : ℕ) → parent_control self.old.controls (id_at self.old c) ≡ Some parent
+            → (k : ℕ) → home_at self.new k ≡ option_and_then (handed_on (id_at self.old c) parent) (home_at self.old k)) }
+        ensures tasks { all_tasks self.new ≡ all_tasks self.old }
+        ensures err { OnErr result (self.new ≡ self.old) }
+    {
+        let node = node_at(&self.nodes, c);
+        if node.parent.is_none() {
+            return Err(Refusal::RootControl);
+        }
+        if node.live > 0 {
+            return Err(Refusal::ControlBusy);
+        }
+        if self.children.first(c).is_some() {
+            return Err(Refusal::ControlBusy);
+        }
+        self.ids.remove(node.id);
+        self.children.remove(c);
+        let standing = false;
+        set_node(&mut self.nodes, c, Node { standing, ..node });
+        drop_empty(&mut self.nodes, &self.totals, c);
+        Ok(())
+    }
+
+    /// Sets the limit of a control group, at most 4194304, or takes it away: a write to `pids.max`. The
+    /// refusals are `RootControl`, and then `BadLimit`. A limit below the count is no fault.
+    pub fn set_limit(&mut self, c: u32, limit: Option<u32>) -> Result<(), Refusal>
+        requires { stands self.old c ≡ true }
+        ensures refusal { result_err result ≡ limit_refusal self.old c limit }
+        ensures controls { OnOk result (self.new.controls ≡ map (limited (id_at self.old c) limit) self.old.controls) }
+        ensures homes { (k : ℕ) → home_at self.new k ≡ home_at self.old k }
+        ensures tasks { all_tasks self.new ≡ all_tasks self.old }
+        ensures err { OnErr result (self.new ≡ self.old) }
+    {
+        let node = node_at(&self.nodes, c);
+        if node.parent.is_none() {
+            return Err(Refusal::RootControl);
+        }
+        if is_too_high(limit) {
+            return Err(Refusal::BadLimit);
+        }
+        set_node(&mut self.nodes, c, Node { limit, ..node });
+        Ok(())
+    }
+
+    /// Whether one task more may come to a control group: `PidsLimit` with the id of the nearest one, from it
+    /// to the root, whose count would be above its limit. A walk of at most 65 steps.
+    pub fn may_charge(&self, home: u32) -> Result<(), Refusal>
+        requires { stands self.now home ≡ true }
+        ensures { result_err result ≡ charge_refusal self.now (id_at self.now home) }
+    {
+        match full_above(&self.nodes, self.totals.as_slice(), home) {
+            Some(key) => Err(Refusal::PidsLimit(node_at(&self.nodes, key).id)),
+            None => Ok(()),
+        }
+    }
+
+    /// The control groups in the order of their ids, each id with its key.
+    pub fn keys(&self) -> Iter<'_>
+        ensures ids { map (λ p. p.0) result ≡ map (λ g. g.id) self.now.controls }
+        ensures keys { AllByRecursion (λ p. (stands self.now p.1 ≡ true) × (id_at self.now p.1 ≡ p.0)) result }
+    {
+        self.ids.iter()
+    }
+
+    /// The key of the control group with an id.
+    pub fn find(&self, id: u64) -> Option<u32>
+        ensures there { MatchOption result (control_at self.now.controls id ≡ None) (λ c. IsSome (control_at self.now.controls id)) }
+        ensures stands { IfSome result (λ c. stands self.now c ≡ true) }
+        ensures id { IfSome result (λ c. id_at self.now c ≡ id) }
+        ensures only { IfSome result (λ c. (k : ℕ) → stands self.now k ≡ true → id_at self.now k ≡ id → k ≡ c) }
+    {
+        self.ids.find(id)
+    }
+
+    /// The id of a control group.
+    pub fn id(&self, c: u32) -> u64
+        requires { stands self.now c ≡ true }
+        ensures { result ≡ id_at self.now c }
+    {
+        node_at(&self.nodes, c).id
+    }
+
+    /// The key of the control group that a control group is in; none of the root's.
+    pub fn parent(&self, c: u32) -> Option<u32>
+        requires { stands self.now c ≡ true }
+        ensures id { option_map (id_at self.now) result ≡ parent_control self.now.controls (id_at self.now c) }
+        ensures stands { IfSome result (λ p. stands self.now p ≡ true) }
+    {
+        node_at(&self.nodes, c).parent
+    }
+
+    /// The limit of a control group: `pids.max`.
+    pub fn limit(&self, c: u32) -> Option<u32>
+        requires { stands self.now c ≡ true }
+        ensures { result ≡ limit_of self.now (id_at self.now c) }
+    {
+        node_at(&self.nodes, c).limit
+    }
+
+    /// How many tasks a control group and those below it have, zombies among them: `pids.current`.
+    pub fn count(&self, c: u32) -> u64
+        requires { stands self.now c ≡ true }
+        ensures { result ≡ count_of self.now (id_at self.now c) }
+    {
+        self.totals[c as usize]
+    }
+
+    /// One live task more.
+    pub fn charge(&mut self, home: u32)
+        requires stands { stands self.old home ≡ true }
+        requires few { all_tasks self.old + 1 < 2 ^ 64 }
+        ensures home { ChangesHome self.old self.new home (option_map (λ (h : Home). record h { live = h.live + 1 }) (home_at self.old home)) }
+        ensures tasks { all_tasks self.new ≡ all_tasks self.old + 1 }
+    {
+        put_live(&mut self.nodes, &mut self.totals, home);
+    }
+
+    /// A live task became a zombie.
+    pub fn died(&mut self, home: u32)
+        requires { 0 < live_at self.old home }
+        ensures home { ChangesHome self.old self.new home (option_map (λ (h : Home). record h { live = h.live - 1; zombies = h.zombies + 1 }) (home_at self.old home)) }
+        ensures tasks { all_tasks self.new ≡ all_tasks self.old }
+    {
+        end_live(&mut self.nodes, &self.totals, home);
+    }
+
+    /// A zombie is gone. With the last task of a removed group its key is gone too.
+    pub fn uncharge(&mut self, home: u32)
+        requires { 0 < zombies_at self.old home }
+        ensures home { ChangesHome self.old self.new home (option_and_then (λ (h : Home). kept (record h { zombies = h.zombies - 1 })) (home_at self.old home)) }
+        ensures tasks { all_tasks self.new + 1 ≡ all_tasks self.old }
+    {
+        take_zombie(&mut self.nodes, &mut self.totals, home);
+        drop_empty(&mut self.nodes, &self.totals, home);
+    }
+
+    /// A live task goes to another control group, or to the one that it is in. No limit blocks it: the
+    /// cgroup-v2 document, "Organisational operations are not blocked by cgroup policies".
+    pub fn transfer(&mut self, from: u32, to: u32)
+        requires some { 0 < live_at self.old from }
+        requires stands { stands self.old to ≡ true }
+        ensures controls { self.new.controls ≡ self.old.controls }
+        ensures homes { (k : ℕ) → home_at self.new k ≡ option_map (moved from to k) (home_at self.old k) }
+        ensures tasks { all_tasks self.new ≡ all_tasks self.old }
+    {
+        take_live(&mut self.nodes, &mut self.totals, from);
+        put_live(&mut self.nodes, &mut self.totals, to);
+    }
+}

@@ -1,0 +1,66 @@
+//! Memory for one more node.
+
+ghost use Rattle.std.specs.Prelude.{◌≡◌, ℕ, ◌<◌, ◌≤◌, ◌^◌, length, IfOk, OnOk, slice_index};
+ghost use Rattle.slab.specs.Slab.{HasRoomFor};
+ghost use Rattle.owner_lists.specs.Owners.{owner_of};
+
+use crate::node::Node;
+use owner_lists::OwnerLists;
+use slab::Slab;
+use std::alloc::AllocError;
+
+/// Totals for all keys up to one.
+fn grow_totals(totals: &mut Vec<u64>, key: u32) -> Result<(), AllocError>
+    ensures totals { (k : ℕ) → slice_index totals.new.items k ≡ slice_index totals.old.items k }
+    ensures longer { length totals.old.items ≤ length totals.new.items }
+    ensures room { OnOk result (key < length totals.new.items) }
+{
+    while totals.len() <= key as usize {
+        totals.push(0)?;
+    }
+    Ok(())
+}
+
+/// Lists of children for all keys up to one.
+fn grow_children(children: &mut OwnerLists, key: u32) -> Result<(), AllocError>
+    requires small { length children.old ≤ 2 ^ 30 }
+    requires key { key < 2 ^ 30 }
+    ensures children { (k : ℕ) → owner_of children.new k ≡ owner_of children.old k }
+    ensures longer { length children.old ≤ length children.new }
+    ensures small { length children.new ≤ 2 ^ 30 }
+    ensures room { OnOk result (key < length children.new) }
+{
+    while children.keys() <= key as usize {
+        children.grow()?;
+    }
+    Ok(())
+}
+
+/// Takes the memory for one more node, and answers its key.
+pub(crate) fn make_room(
+    nodes: &mut Slab<Node>,
+    totals: &mut Vec<u64>,
+    children: &mut OwnerLists,
+) -> Result<u32, AllocError>
+    requires small { length children.old ≤ 2 ^ 30 }
+    ensures nodes { nodes.new ≡ record nodes.old { capacity = nodes.new.capacity } }
+    ensures totals { (k : ℕ) → slice_index totals.new.items k ≡ slice_index totals.old.items k }
+    ensures children { (k : ℕ) → owner_of children.new k ≡ owner_of children.old k }
+    ensures longer { length totals.old.items ≤ length totals.new.items }
+    ensures more { length children.old ≤ length children.new }
+    ensures small { length children.new ≤ 2 ^ 30 }
+    ensures reserved { OnOk result (HasRoomFor nodes.new 1) }
+    ensures key { IfOk result (λ key. key ≡ nodes.new.vacant_key) }
+    ensures room { IfOk result (λ key. key < length totals.new.items) }
+    ensures lists { IfOk result (λ key. key < length children.new) }
+{
+    nodes.reserve(1)?;
+    let key = nodes.vacant_key();
+    if key >= 1 << 30 {
+        return Err(AllocError);
+    }
+    let key = key as u32;
+    grow_totals(totals, key)?;
+    grow_children(children, key)?;
+    Ok(key)
+}

@@ -1,0 +1,108 @@
+//! Tasks that come to a node and go: its own numbers, and the totals above it.
+
+ghost use Rattle.std.specs.Prelude.{◌≡◌, ℕ, ◌+◌, ◌-◌, ◌<◌, ◌^◌, length, Some, None, true};
+ghost use Rattle.slab.specs.Slab.{ContainsKey};
+ghost use Rattle.pids_charge.specs.declared.node.Node.{Node};
+ghost use Rattle.pids_charge.specs.Nodes.{Tree, tree_of, all_in, live_in, zombies_in, IsTree};
+ghost use Rattle.pids_charge.specs.Kept.{IsCounted, ChangesTasks, DropsEmpty};
+
+use crate::node::{Node, node_at, set_node};
+use crate::walk::{lower, raise};
+use slab::Slab;
+
+/// A live task comes.
+pub(crate) fn put_live(nodes: &mut Slab<Node>, totals: &mut Vec<u64>, home: u32)
+    requires tree { IsTree (tree_of nodes.old) }
+    requires counted { IsCounted nodes.old totals.old.items None }
+    requires room { (k : ℕ) → ContainsKey nodes.old k → k < length totals.old.items }
+    requires stands { (tree_of nodes.old).stand home ≡ true }
+    requires few { all_in nodes.old + 1 < 2 ^ 64 }
+    ensures changes { ChangesTasks nodes.old nodes.new home (λ (n : Node). record n { live = n.live + 1 }) }
+    ensures all { all_in nodes.new ≡ all_in nodes.old + 1 }
+    ensures counted { IsCounted nodes.new totals.new.items None }
+    ensures len { length totals.new.items ≡ length totals.old.items }
+{
+    let node = node_at(nodes, home);
+    let live = node.live + 1;
+    set_node(nodes, home, Node { live, ..node });
+    raise(nodes, totals, home);
+}
+
+/// A live task goes.
+pub(crate) fn take_live(nodes: &mut Slab<Node>, totals: &mut Vec<u64>, home: u32)
+    requires tree { IsTree (tree_of nodes.old) }
+    requires counted { IsCounted nodes.old totals.old.items None }
+    requires room { (k : ℕ) → ContainsKey nodes.old k → k < length totals.old.items }
+    requires some { 0 < live_in nodes.old home }
+    ensures changes { ChangesTasks nodes.old nodes.new home (λ (n : Node). record n { live = n.live - 1 }) }
+    ensures counted { IsCounted nodes.new totals.new.items None }
+    ensures all { all_in nodes.new + 1 ≡ all_in nodes.old }
+    ensures len { length totals.new.items ≡ length totals.old.items }
+{
+    let node = node_at(nodes, home);
+    let live = node.live - 1;
+    set_node(nodes, home, Node { live, ..node });
+    lower(nodes, totals, home);
+}
+
+/// A zombie goes. What does not stand may then have no tasks, on the way up from there.
+pub(crate) fn take_zombie(nodes: &mut Slab<Node>, totals: &mut Vec<u64>, home: u32)
+    requires tree { IsTree (tree_of nodes.old) }
+    requires counted { IsCounted nodes.old totals.old.items None }
+    requires room { (k : ℕ) → ContainsKey nodes.old k → k < length totals.old.items }
+    requires some { 0 < zombies_in nodes.old home }
+    ensures changes { ChangesTasks nodes.old nodes.new home (λ (n : Node). record n { zombies = n.zombies - 1 }) }
+    ensures all { all_in nodes.new + 1 ≡ all_in nodes.old }
+    ensures counted { IsCounted nodes.new totals.new.items (Some home) }
+    ensures len { length totals.new.items ≡ length totals.old.items }
+{
+    let node = node_at(nodes, home);
+    let zombies = node.zombies - 1;
+    set_node(nodes, home, Node { zombies, ..node });
+    lower(nodes, totals, home);
+}
+
+/// A live task becomes a zombie.
+pub(crate) fn end_live(nodes: &mut Slab<Node>, totals: &Vec<u64>, home: u32)
+    requires tree { IsTree (tree_of nodes.old) }
+    requires counted { IsCounted nodes.old totals.now.items None }
+    requires some { 0 < live_in nodes.old home }
+    ensures changes { ChangesTasks nodes.old nodes.new home (λ (n : Node). record n { live = n.live - 1; zombies = n.zombies + 1 }) }
+    ensures all { all_in nodes.new ≡ all_in nodes.old }
+    ensures counted { IsCounted nodes.new totals.now.items None }
+{
+    let node = node_at(nodes, home);
+    let live = node.live - 1;
+    let zombies = node.zombies + 1;
+    set_node(
+        nodes,
+        home,
+        Node {
+            live,
+            zombies,
+            ..node
+        },
+    );
+}
+
+/// Drops what does not stand and has no tasks left, from a node up.
+pub(crate) fn drop_empty(nodes: &mut Slab<Node>, totals: &Vec<u64>, from: u32)
+    requires tree { IsTree (tree_of nodes.old) }
+    requires counted { IsCounted nodes.old totals.now.items (Some from) }
+    requires room { (k : ℕ) → ContainsKey nodes.old k → k < length totals.now.items }
+    requires there { ContainsKey nodes.old from }
+    ensures drops { DropsEmpty nodes.old nodes.new }
+    ensures all { all_in nodes.new ≡ all_in nodes.old }
+    ensures tree { IsTree (tree_of nodes.new) }
+    ensures counted { IsCounted nodes.new totals.now.items None }
+{
+    let mut at = Some(from);
+    while let Some(key) = at {
+        let node = node_at(nodes, key);
+        if node.standing || totals[key as usize] > 0 {
+            return;
+        }
+        nodes.try_remove(key as usize);
+        at = node.parent;
+    }
+}
