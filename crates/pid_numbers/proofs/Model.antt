@@ -14,7 +14,8 @@ use Rattle.pid_types.specs.Names.{names_in_use, taken}
 use Rattle.pid_types.specs.Draw.{cyclic_draw, cursor_of, draw}
 use Rattle.std.specs.List.{filter_map, cons_option}
 use Rattle.cyclic_ids.proofs.Draws.{cyclic_draw-same}
-use Rattle.pid_numbers.specs.Numbering.{IsPath, Numbering, Namespace, Identifier, namespace_at, identifier_at, number_of, number_in, path_at, taken_in, draw_in}
+use Rattle.pid_numbers.specs.Numbering.{Numbering, Namespace, Identifier, namespace_at, identifier_at, number_of, number_in, path_at, taken_in, draw_in}
+use Rattle.pid_numbers.specs.Slabs.{IsPath}
 use Rattle.pid_numbers.proofs.Ties.{beside-none, distinct-path, listed, listed_from}
 
 abbrev first : (ℕ → ℕ) → List ℕ → Option ℕ

@@ -1,13 +1,17 @@
 -- Look-ups that lead to names, over plain functions.
 use Rattle.std.proofs.Common.{◌≡◌, ◌≢◌, ◌⊎◌, inl, inr, ℕ, zero, suc, ◌+◌, ◌<◌, ◌≤◌, Bool, true, false, ◌==◌, ◌||◌, List, [], ◌∷◌, length, map, get_or, drop, length-drop, Option, Some, None, is_none, if◌then◌else◌, refl, sym, ap, subst, ◌∙◌, arith, option_map, unwrap_or, find}
-use Rattle.std.specs.Prelude.{filter_map}
+use Rattle.std.specs.Prelude.{filter_map, slice_set}
 use Rattle.std.specs.Option.{option_map_or, option_eq}
 use Rattle.std.specs.List.{cons_option}
 use Rattle.std.proofs.lemmas.List.{drop_more, get_or-drop}
 use Rattle.std.proofs.lemmas.Bool.{cases_eq, eq-eqb}
 use Rattle.pid_types.specs.Chains.{contains}
 use Rattle.pid_types.specs.Names.{beside}
-use Rattle.pid_numbers.specs.Numbering.{Identifier, Namespace, stepped, moved, IsDistinct, number_in, IsPath, IsTied, IsNumbering, given}
+use Rattle.index_array.specs.Place.{Entry, with_mark}
+use Rattle.pid_types.specs.declared.call.Kind.{Kind}
+use Rattle.pid_types.specs.declared.call.Kind.TheVariants.{Task, Group, Session}
+use Rattle.pid_numbers.specs.Numbering.{Identifier, Namespace, moved, number_in, is_used_as, with_uses}
+use Rattle.pid_numbers.specs.Slabs.{stepped, IsDistinct, IsPath, IsTree, IsTied, IsNumbering, touched, leads, given_to, mark_of, marks_of, AreMarked, AreInRange}
 
 -- where each draws, each number is the one drawn
 pub planned_each : (d : ℕ → Option ℕ) (path : List ℕ) → find (λ s. is_none (d s)) path ≡ None → (k : ℕ) → k < length path → d (get_or path k 0) ≡ Some (get_or (map (λ s. unwrap_or (d s) 0) path) k 0)
@@ -89,17 +93,17 @@ beside-some s n (t ∷ ts) (m ∷ ms) e = go (λ h. beside-some s n ts ms h) (ca
 
 module _ (a b : ℕ) (ps ns : List ℕ) (absent : beside a ps ns ≡ None) where
   -- one namespace after the other
-  pub given-cons : (v : Option ℕ) (f f' : ℕ → ℕ → Option ℕ) → f' a b ≡ v → ((m : ℕ) → m ≢ b → f' a m ≡ f a m) → ((s : ℕ) → s ≢ a → (m : ℕ) → f' s m ≡ f s m)
-      → (s n : ℕ) → given ps ns v f' s n ≡ given (a ∷ ps) (b ∷ ns) v f s n
-  given-cons v f f' here same others s n = elim (cases_eq s a) [
-    | inl e ↦ ap (λ z. given ps ns v f' z n) e ∙ at_a ∙ sym (ap (λ z. given (a ∷ ps) (b ∷ ns) v f z n) e)
+  pub touched-cons : (h : Option (Entry ℕ) → Option (Entry ℕ)) (f f' : ℕ → ℕ → Option (Entry ℕ)) → f' a b ≡ h (f a b) → ((m : ℕ) → m ≢ b → f' a m ≡ f a m) → ((s : ℕ) → s ≢ a → (m : ℕ) → f' s m ≡ f s m)
+      → (s n : ℕ) → touched ps ns h f' s n ≡ touched (a ∷ ps) (b ∷ ns) h f s n
+  touched-cons h f f' here same others s n = elim (cases_eq s a) [
+    | inl e ↦ ap (λ z. touched ps ns h f' z n) e ∙ at_a ∙ sym (ap (λ z. touched (a ∷ ps) (b ∷ ns) h f z n) e)
     | inr differs ↦
         let m : a ≢ s = λ e. differs (sym e) in
         let off : (a == s) ≡ false = grind (arith, m) in
         rw (off, others s differs n) refl
   ]
     where
-      at_a : given ps ns v f' a n ≡ given (a ∷ ps) (b ∷ ns) v f a n
+      at_a : touched ps ns h f' a n ≡ touched (a ∷ ps) (b ∷ ns) h f a n
       at_a = rw (absent, eq-eqb a a refl) (elim (cases_eq n b) [
         | inl e ↦ rw (e, eq-eqb b b refl) here
         | inr differs ↦
@@ -137,11 +141,11 @@ module _ (path numbers : List ℕ) (distinct : IsDistinct path) (len : length nu
   gone = beside-none key (drop (k + 1) path) (drop (k + 1) numbers) (λ j lt e. distinct k (k + 1 + j) (omega arith) (far j lt) (sym at ∙ sym e ∙ get_or-drop (k + 1) path j 0))
 
   -- the same of what is left of the path
-  pub given-more : (v : Option ℕ) (f f' : ℕ → ℕ → Option ℕ) → f' key n ≡ v → ((m : ℕ) → m ≢ n → f' key m ≡ f key m) → ((s : ℕ) → s ≢ key → (m : ℕ) → f' s m ≡ f s m)
-      → (s m : ℕ) → given (drop (k + 1) path) (drop (k + 1) numbers) v f' s m ≡ given (drop k path) (drop k numbers) v f s m
-  given-more v f f' here same others s m =
-      given-cons key n (drop (k + 1) path) (drop (k + 1) numbers) gone v f f' here same others s m
-      ∙ sym (ap (λ p. given p (drop k numbers) v f s m) head ∙ ap (λ q. given (key ∷ drop (k + 1) path) q v f s m) first)
+  pub touched-more : (h : Option (Entry ℕ) → Option (Entry ℕ)) (f f' : ℕ → ℕ → Option (Entry ℕ)) → f' key n ≡ h (f key n) → ((m : ℕ) → m ≢ n → f' key m ≡ f key m) → ((s : ℕ) → s ≢ key → (m : ℕ) → f' s m ≡ f s m)
+      → (s m : ℕ) → touched (drop (k + 1) path) (drop (k + 1) numbers) h f' s m ≡ touched (drop k path) (drop k numbers) h f s m
+  touched-more h f f' here same others s m =
+      touched-cons key n (drop (k + 1) path) (drop (k + 1) numbers) gone h f f' here same others s m
+      ∙ sym (ap (λ p. touched p (drop k numbers) h f s m) head ∙ ap (λ q. touched (key ∷ drop (k + 1) path) q h f s m) first)
 
   pub moved-more : (g g' : ℕ → Option Namespace) → g' key ≡ option_map (stepped n) (g key) → ((s : ℕ) → s ≢ key → g' s ≡ g s)
       → (s : ℕ) → option_map (moved (drop (k + 1) path) (drop (k + 1) numbers) s) (g' s) ≡ option_map (moved (drop k path) (drop k numbers) s) (g s)
@@ -182,14 +186,16 @@ decide_some (Some m) n = elim (cases_eq m n) [
   | inr d ↦ inr (λ e. d (ap (λ o. unwrap_or o 0) e))
 ]
 
-module _ (path numbers : List ℕ) (v : Option ℕ) (f : ℕ → ℕ → Option ℕ) (s n : ℕ) where
-  given-yes : beside s path numbers ≡ Some n → given path numbers v f s n ≡ v
-  given-yes e = rw (e, eq-eqb n n refl) refl
+-- a change along a path reaches the numbers there
+module _ (path numbers : List ℕ) (h : Option (Entry ℕ) → Option (Entry ℕ)) (f : ℕ → ℕ → Option (Entry ℕ)) (s n : ℕ) where
+  pub touched-hit : beside s path numbers ≡ Some n → touched path numbers h f s n ≡ h (f s n)
+  touched-hit e = rw (e, eq-eqb n n refl) refl
 
-  given-no : beside s path numbers ≢ Some n → given path numbers v f s n ≡ f s n
-  given-no d = go (beside s path numbers) d
+  -- and no others
+  pub touched-miss : beside s path numbers ≢ Some n → touched path numbers h f s n ≡ f s n
+  touched-miss d = go (beside s path numbers) d
     where
-      go : (o : Option ℕ) → o ≢ Some n → (if option_eq ◌==◌ o (Some n) then v else f s n) ≡ f s n
+      go : (o : Option ℕ) → o ≢ Some n → (if option_eq ◌==◌ o (Some n) then h (f s n) else f s n) ≡ f s n
       go None d = refl
       go (Some m) d =
           let x : m ≢ n = λ e. d (ap Some e) in
@@ -213,25 +219,25 @@ module _ (ways ways' : ℕ → List ℕ) (see see' : ℕ → ℕ → Option ℕ)
     -- a new name
     pub tied-given : names i ≡ None → names' i ≡ Some u → length u.numbers ≡ length (ways u.space) → 0 < length u.numbers
         → ((s n : ℕ) → beside s (ways u.space) u.numbers ≡ Some n → see s n ≡ None)
-        → ((s n : ℕ) → see' s n ≡ given (ways u.space) u.numbers (Some i) see s n) → IsTied ways' names' see'
-    tied-given was now len some free sees = record {
+        → ((s n : ℕ) → beside s (ways u.space) u.numbers ≡ Some n → see' s n ≡ Some i) → ((s n : ℕ) → beside s (ways u.space) u.numbers ≢ Some n → see' s n ≡ see s n) → IsTied ways' names' see'
+    tied-given was now len some free hits misses = record {
       found = λ s n j e. elim (decide_some (beside s (ways u.space) u.numbers) n) [
         | inl hit ↦
-            let r : Some i ≡ Some j = sym (given-yes (ways u.space) u.numbers (Some i) see s n hit) ∙ sym (sees s n) ∙ e in
+            let r : Some i ≡ Some j = sym (hits s n hit) ∙ e in
             let same : i ≡ j = ap (λ o. unwrap_or o 0) r in
             number_same s (Some u) (names' j) (ap names' (sym same) ∙ now) ∙ hit
         | inr miss ↦
-            let old : see s n ≡ Some j = sym (given-no (ways u.space) u.numbers (Some i) see s n miss) ∙ sym (sees s n) ∙ e in
+            let old : see s n ≡ Some j = sym (misses s n miss) ∙ e in
             let is : number_in ways s (names j) ≡ Some n = t.found s n j old in
             number_same s (names j) (names' j) (others j (λ z. let bad : Some n ≡ None = sym is ∙ ap (λ k. number_in ways s (names k)) z ∙ ap (number_in ways s) was in cc)) ∙ is
       ];
       kept = λ s n j e. elim (cases_eq j i) [
         | inl same ↦
             let hit : beside s (ways u.space) u.numbers ≡ Some n = sym (number_same s (Some u) (names' j) (ap names' same ∙ now)) ∙ e in
-            sees s n ∙ given-yes (ways u.space) u.numbers (Some i) see s n hit ∙ ap Some (sym same)
+            hits s n hit ∙ ap Some (sym same)
         | inr differs ↦
             let old : see s n ≡ Some j = t.kept s n j (sym (number_same s (names j) (names' j) (others j differs)) ∙ e) in
-            sees s n ∙ given-no (ways u.space) u.numbers (Some i) see s n (λ hit. let bad : Some j ≡ None = sym old ∙ free s n hit in cc) ∙ old
+            misses s n (λ hit. let bad : Some j ≡ None = sym old ∙ free s n hit in cc) ∙ old
       ];
       full = λ j x e. elim (cases_eq j i) [
         | inl same ↦
@@ -250,12 +256,12 @@ module _ (ways ways' : ℕ → List ℕ) (see see' : ℕ → ℕ → Option ℕ)
     }
 
     -- a name that goes
-    pub tied-released : names i ≡ Some u → names' i ≡ None → ((s n : ℕ) → see' s n ≡ given (ways u.space) u.numbers None see s n) → IsTied ways' names' see'
-    tied-released was now sees = record {
+    pub tied-released : names i ≡ Some u → names' i ≡ None → ((s n : ℕ) → beside s (ways u.space) u.numbers ≡ Some n → see' s n ≡ None) → ((s n : ℕ) → beside s (ways u.space) u.numbers ≢ Some n → see' s n ≡ see s n) → IsTied ways' names' see'
+    tied-released was now hits misses = record {
       found = λ s n j e. elim (decide_some (beside s (ways u.space) u.numbers) n) [
-        | inl hit ↦ absurd (let r : None ≡ Some j = sym (given-yes (ways u.space) u.numbers None see s n hit) ∙ sym (sees s n) ∙ e in cc)
+        | inl hit ↦ absurd (let r : None ≡ Some j = sym (hits s n hit) ∙ e in cc)
         | inr miss ↦
-            let old : see s n ≡ Some j = sym (given-no (ways u.space) u.numbers None see s n miss) ∙ sym (sees s n) ∙ e in
+            let old : see s n ≡ Some j = sym (misses s n miss) ∙ e in
             let is : number_in ways s (names j) ≡ Some n = t.found s n j old in
             number_same s (names j) (names' j) (others j (λ z. miss (sym (ap (λ k. number_in ways s (names k)) z ∙ ap (number_in ways s) was) ∙ is))) ∙ is
       ];
@@ -263,7 +269,7 @@ module _ (ways ways' : ℕ → List ℕ) (see see' : ℕ → ℕ → Option ℕ)
         | inl same ↦ absurd (let bad : Some n ≡ None = sym e ∙ ap (number_in ways' s) (ap names' same ∙ now) in cc)
         | inr differs ↦
             let old : see s n ≡ Some j = t.kept s n j (sym (number_same s (names j) (names' j) (others j differs)) ∙ e) in
-            sees s n ∙ given-no (ways u.space) u.numbers None see s n (λ hit. differs (ap (λ o. unwrap_or o 0) (sym old ∙ t.kept s n i (ap (number_in ways s) was ∙ hit)))) ∙ old
+            misses s n (λ hit. differs (ap (λ o. unwrap_or o 0) (sym old ∙ t.kept s n i (ap (number_in ways s) was ∙ hit)))) ∙ old
       ];
       full = λ j x e. elim (cases_eq j i) [
         | inl same ↦ absurd (let bad : Some x ≡ None = sym e ∙ ap names' same ∙ now in cc)
@@ -303,112 +309,166 @@ module _ (ways ways' : ℕ → List ℕ) (see see' : ℕ → ℕ → Option ℕ)
           | inr differs ↦ number_same s (names j) (names' j) (others j differs)
         ]
 
--- the rest of a numbering speaks of paths and bounds alone
-pub numbering-with : (pid_max : ℕ) (ways ways' : ℕ → List ℕ) (see see' : ℕ → ℕ → Option ℕ) (bound bound' : ℕ → Option ℕ) (names names' : ℕ → Option Identifier) → IsNumbering pid_max ways see bound names
-    → ((s : ℕ) → ways' s ≡ ways s) → ((s : ℕ) → bound' s ≡ bound s) → IsTied ways' names' see' → IsNumbering pid_max ways' see' bound' names'
-numbering-with pid_max ways ways' see see' bound bound' names names' b same_ways same_bound t = record {
+-- the marks where the uses of one identifier changed
+module _ (at at' : ℕ → ℕ → Option (Entry ℕ)) (names names' : ℕ → Option Identifier) (old : AreMarked at names) (path numbers : List ℕ) (i : ℕ) (others : (j : ℕ) → j ≢ i → names' j ≡ names j) where
+  pub marks-set : ((s n : ℕ) (e : Entry ℕ) → beside s path numbers ≡ Some n → at' s n ≡ Some e → e.marks ≡ marks_of (names' e.value))
+      → ((s n : ℕ) → beside s path numbers ≢ Some n → at' s n ≡ at s n) → ((s n : ℕ) → beside s path numbers ≢ Some n → leads at s n ≢ Some i) → AreMarked at' names'
+  marks-set hits misses away s n e is = elim (decide_some (beside s path numbers) n) [
+    | inl hit ↦ hits s n e hit is
+    | inr miss ↦
+        let was : at s n ≡ Some e = sym (misses s n miss) ∙ is in
+        let other : e.value ≢ i = λ z. away s n miss (ap (option_map (λ e. e.value)) was ∙ ap Some z) in
+        old s n e was ∙ ap marks_of (sym (others e.value other))
+  ]
+
+-- each number is in range where the new ones are
+pub range-set : (pid_max : ℕ) (see see' : ℕ → ℕ → Option ℕ) → AreInRange pid_max see → (path numbers : List ℕ) → ((s n : ℕ) → beside s path numbers ≡ Some n → (0 < n) × (n < pid_max))
+    → ((s n : ℕ) → beside s path numbers ≢ Some n → see' s n ≡ see s n) → AreInRange pid_max see'
+range-set pid_max see see' old path numbers hits misses s n i e = elim (decide_some (beside s path numbers) n) [
+  | inl hit ↦ hits s n hit
+  | inr miss ↦ old s n i (sym (misses s n miss) ∙ e)
+]
+
+-- what marks are read changes no key
+pub value-marked : (m : ℕ) (on : Bool) (o : Option (Entry ℕ)) → option_map (λ (e : Entry ℕ). e.value) (with_mark m on o) ≡ option_map (λ e. e.value) o
+value-marked m on None = refl
+value-marked m on (Some e) = refl
+
+-- what stands at a number of an identifier leads to it
+pub at_key : (o : Option (Entry ℕ)) (i : ℕ) → option_map (λ (e : Entry ℕ). e.value) o ≡ Some i → (e : Entry ℕ) × (o ≡ Some e) × (e.value ≡ i)
+at_key None i h = absurd (cc)
+at_key (Some e) i h = (e, refl, ap (λ o. unwrap_or o 0) h)
+
+-- the paths and the bounds stay
+pub numbering-with : (pid_max : ℕ) (ways ways' : ℕ → List ℕ) (at at' : ℕ → ℕ → Option (Entry ℕ)) (bound bound' : ℕ → Option ℕ) (names names' : ℕ → Option Identifier) → IsNumbering pid_max ways at bound names
+    → ((s : ℕ) → ways' s ≡ ways s) → ((s : ℕ) → bound' s ≡ bound s) → IsTied ways' names' (leads at') → AreInRange pid_max (leads at') → AreMarked at' names' → IsNumbering pid_max ways' at' bound' names'
+numbering-with pid_max ways ways' at at' bound bound' names names' b same_ways same_bound t r m = record {
   good = b.good;
+  bounds = λ s m e. (let r = b.bounds s m (sym (same_bound s) ∙ e) in (r.0, subst (λ (l : List ℕ). 0 < length l) (sym (same_ways s)) r.1));
+  tree = subst IsTree (λ i s. sym (same_ways s) i) b.tree;
   tied = t;
-  head = λ s. subst (λ (w : ℕ → List ℕ). (w s ≡ []) ⊎ ((rest : List ℕ) × (w s ≡ s ∷ rest))) (λ i s. sym (same_ways s) i) (b.head s);
-  paths = λ s. subst (λ (w : ℕ → List ℕ). IsPath w (w s)) (λ i s. sym (same_ways s) i) (b.paths s);
-  bounds = λ s m e. b.bounds s m (sym (same_bound s) ∙ e);
+  range = r;
+  marks = m;
 }
 
--- a namespace more, at a key that had none
-module _ (pid_max : ℕ) (ways ways' : ℕ → List ℕ) (see see' : ℕ → ℕ → Option ℕ) (bound bound' : ℕ → Option ℕ) (names : ℕ → Option Identifier) (b : IsNumbering pid_max ways see bound names)
-    (key : ℕ) (rest : List ℕ) (was : ways key ≡ []) (now : ways' key ≡ key ∷ rest) (others : (s : ℕ) → s ≢ key → ways' s ≡ ways s) (around : IsPath ways rest)
-    (unseen : (n : ℕ) → see key n ≡ None) (sees : (s n : ℕ) → see' s n ≡ see s n) (good : (m : ℕ) → bound' key ≡ Some m → m ≡ pid_max) (bounds : (s : ℕ) → s ≢ key → bound' s ≡ bound s) where
-  path_kept : (p : List ℕ) → IsPath ways p → IsPath ways' p
-  path_kept [] h = tt
-  path_kept (s ∷ ss) h = (others s (λ e. let bad : s ∷ ss ≡ [] = sym h.0 ∙ ap ways e ∙ was in cc) ∙ h.0, path_kept ss h.1)
+module _ (pid_max : ℕ) (ways ways' : ℕ → List ℕ) (at at' : ℕ → ℕ → Option (Entry ℕ)) (bound bound' : ℕ → Option ℕ) (names names' : ℕ → Option Identifier) (b : IsNumbering pid_max ways at bound names)
+    (same_ways : (s : ℕ) → ways' s ≡ ways s) (same_bound : (s : ℕ) → bound' s ≡ bound s) where
+  -- nothing that is seen has changed
+  pub numbering-same : ((s n : ℕ) → at' s n ≡ at s n) → ((i : ℕ) → names' i ≡ names i) → IsNumbering pid_max ways' at' bound' names'
+  numbering-same same_at same_names =
+      subst (λ (a : ℕ → ℕ → Option (Entry ℕ)). IsNumbering pid_max ways' a bound' names') (λ i s n. sym (same_at s n) i)
+      (subst (λ (a : ℕ → Option Identifier). IsNumbering pid_max ways' at bound' a) (λ i j. sym (same_names j) i)
+      (subst (λ (a : ℕ → Option ℕ). IsNumbering pid_max ways' at a names) (λ i s. sym (same_bound s) i)
+      (subst (λ (a : ℕ → List ℕ). IsNumbering pid_max a at bound names) (λ i s. sym (same_ways s) i) b)))
 
-  away : (i : ℕ) (u : Identifier) → names i ≡ Some u → u.space ≢ key
-  away i u is e =
-      let n : length u.numbers ≡ 0 = b.tied.full i u is ∙ ap length (ap ways e ∙ was) in
-      let some = b.tied.some i u is in
-      omega (arith, n, some)
+  module _ (i : ℕ) (u : Identifier) (others : (j : ℕ) → j ≢ i → names' j ≡ names j) where
+    -- a new identifier
+    pub numbering-given : names i ≡ None → names' i ≡ Some u → length u.numbers ≡ length (ways u.space) → 0 < length u.numbers → marks_of (Some u) ≡ true ∷ false ∷ false ∷ []
+        → ((s n : ℕ) → beside s (ways u.space) u.numbers ≡ Some n → (at s n ≡ None) × (0 < n) × (n < pid_max))
+        → ((s n : ℕ) → at' s n ≡ touched (ways u.space) u.numbers (λ _. given_to i) at s n) → IsNumbering pid_max ways' at' bound' names'
+    numbering-given was now len some marks free is =
+        numbering-with pid_max ways ways' at at' bound bound' names names' b same_ways same_bound
+        (tied-given ways ways' (leads at) (leads at') names names' b.tied same_ways i others u was now len some
+        (λ s n hit. ap (option_map (λ e. e.value)) (free s n hit).0) (λ s n hit. ap (option_map (λ e. e.value)) (hits s n hit)) (λ s n miss. ap (option_map (λ e. e.value)) (misses s n miss)))
+        (range-set pid_max (leads at) (leads at') b.range (ways u.space) u.numbers (λ s n hit. ((free s n hit).1, (free s n hit).2)) (λ s n miss. ap (option_map (λ e. e.value)) (misses s n miss)))
+        (marks-set at at' names names' b.marks (ways u.space) u.numbers i others
+        (λ s n e hit stands. new_marks e (sym (hits s n hit) ∙ stands)) misses (λ s n miss h. let bad : Some n ≡ None = sym (b.tied.found s n i h) ∙ ap (number_in ways s) was in cc))
+      where
+        hits : (s n : ℕ) → beside s (ways u.space) u.numbers ≡ Some n → at' s n ≡ given_to i
+        hits s n hit = is s n ∙ touched-hit (ways u.space) u.numbers (λ _. given_to i) at s n hit
 
-  number_stays : (s i : ℕ) → number_in ways' s (names i) ≡ number_in ways s (names i)
-  number_stays s i = go (names i) refl
+        misses : (s n : ℕ) → beside s (ways u.space) u.numbers ≢ Some n → at' s n ≡ at s n
+        misses s n miss = is s n ∙ touched-miss (ways u.space) u.numbers (λ _. given_to i) at s n miss
+
+        new_marks : (e : Entry ℕ) → given_to i ≡ Some e → e.marks ≡ marks_of (names' e.value)
+        new_marks e same =
+            let r : record { value = i; marks = true ∷ false ∷ false ∷ [] } ≡ e = ap (λ o. option_map_or (λ y. y) o e) same in
+            subst (λ (e : Entry ℕ). e.marks ≡ marks_of (names' e.value)) r (sym marks ∙ ap marks_of (sym now))
+
+    -- an identifier that goes
+    pub numbering-released : names i ≡ Some u → names' i ≡ None → ((s n : ℕ) → at' s n ≡ touched (ways u.space) u.numbers (λ _. None) at s n) → IsNumbering pid_max ways' at' bound' names'
+    numbering-released was now is =
+        numbering-with pid_max ways ways' at at' bound bound' names names' b same_ways same_bound
+        (tied-released ways ways' (leads at) (leads at') names names' b.tied same_ways i others u was now
+        (λ s n hit. ap (option_map (λ e. e.value)) (hits s n hit)) (λ s n miss. ap (option_map (λ e. e.value)) (misses s n miss)))
+        (λ s n j e. elim (decide_some (beside s (ways u.space) u.numbers) n) [
+          | inl hit ↦ absurd (let bad : None ≡ Some j = sym (ap (option_map (λ e. e.value)) (hits s n hit)) ∙ e in cc)
+          | inr miss ↦ b.range s n j (sym (ap (option_map (λ e. e.value)) (misses s n miss)) ∙ e)
+        ])
+        (marks-set at at' names names' b.marks (ways u.space) u.numbers i others
+        (λ s n e hit stands. absurd (let bad : None ≡ Some e = sym (hits s n hit) ∙ stands in cc)) misses
+        (λ s n miss h. miss (sym (ap (number_in ways s) was) ∙ b.tied.found s n i h)))
+      where
+        hits : (s n : ℕ) → beside s (ways u.space) u.numbers ≡ Some n → at' s n ≡ None
+        hits s n hit = is s n ∙ touched-hit (ways u.space) u.numbers (λ _. None) at s n hit
+
+        misses : (s n : ℕ) → beside s (ways u.space) u.numbers ≢ Some n → at' s n ≡ at s n
+        misses s n miss = is s n ∙ touched-miss (ways u.space) u.numbers (λ _. None) at s n miss
+
+    -- an identifier whose uses change
+    pub numbering-used : (v : Identifier) → names i ≡ Some v → names' i ≡ Some u → u.space ≡ v.space → u.numbers ≡ v.numbers
+        → ((s n : ℕ) → leads at' s n ≡ leads at s n) → ((s n : ℕ) → beside s (ways v.space) v.numbers ≢ Some n → at' s n ≡ at s n)
+        → ((s n : ℕ) (e : Entry ℕ) → beside s (ways v.space) v.numbers ≡ Some n → at s n ≡ Some e → e.marks ≡ marks_of (Some v) → (e' : Entry ℕ) → at' s n ≡ Some e' → e'.marks ≡ marks_of (Some u)) → IsNumbering pid_max ways' at' bound' names'
+    numbering-used v was now same_space same_numbers same_leads misses marks =
+        numbering-with pid_max ways ways' at at' bound bound' names names' b same_ways same_bound
+        (tied-renamed ways ways' (leads at) (leads at') names names' b.tied same_ways i others u v was now
+        (λ s. ap (λ p. beside s (ways p) u.numbers) same_space ∙ ap (beside s (ways v.space)) same_numbers) (ap length same_numbers ∙ b.tied.full i v was ∙ ap (λ p. length (ways p)) (sym same_space))
+        (subst (λ (l : List ℕ). 0 < length l) (sym same_numbers) (b.tied.some i v was)) same_leads)
+        (λ s n j e. b.range s n j (sym (same_leads s n) ∙ e))
+        (marks-set at at' names names' b.marks (ways v.space) v.numbers i others
+        (λ s n e' hit stands.
+        let led : leads at s n ≡ Some i = b.tied.kept s n i (ap (number_in ways s) was ∙ hit) in
+        let old = at_key (at s n) i led in
+        let key : e'.value ≡ i = ap (λ o. unwrap_or o 0) (sym (ap (option_map (λ e. e.value)) stands) ∙ same_leads s n ∙ led) in
+        let before : (old.0).marks ≡ marks_of (Some v) = b.marks s n old.0 old.1 ∙ ap (λ k. marks_of (names k)) old.2 ∙ ap marks_of was in
+        marks s n old.0 hit old.1 before e' stands ∙ ap marks_of (sym now) ∙ ap (λ k. marks_of (names' k)) (sym key))
+        misses
+        (λ s n miss h. miss (sym (ap (number_in ways s) was) ∙ b.tied.found s n i h)))
+
+-- the marks where a use of one kind comes or goes
+marks-kept : (kind : Kind) (n : ℕ) (v : Identifier) → is_used_as kind (Some (with_uses kind n v)) ≡ is_used_as kind (Some v) → marks_of (Some (with_uses kind n v)) ≡ marks_of (Some v)
+marks-kept Task n v e = ap (λ b. b ∷ is_used_as Group (Some v) ∷ is_used_as Session (Some v) ∷ []) e
+marks-kept Group n v e = ap (λ b. is_used_as Task (Some v) ∷ b ∷ is_used_as Session (Some v) ∷ []) e
+marks-kept Session n v e = ap (λ b. is_used_as Task (Some v) ∷ is_used_as Group (Some v) ∷ b ∷ []) e
+
+marks-turned : (kind : Kind) (n : ℕ) (v : Identifier) (on : Bool) → is_used_as kind (Some (with_uses kind n v)) ≡ on → slice_set (marks_of (Some v)) (mark_of kind) on ≡ marks_of (Some (with_uses kind n v))
+marks-turned Task n v on e = ap (λ b. b ∷ is_used_as Group (Some v) ∷ is_used_as Session (Some v) ∷ []) (sym e)
+marks-turned Group n v on e = ap (λ b. is_used_as Task (Some v) ∷ b ∷ is_used_as Session (Some v) ∷ []) (sym e)
+marks-turned Session n v on e = ap (λ b. is_used_as Task (Some v) ∷ is_used_as Group (Some v) ∷ b ∷ []) (sym e)
+
+pub space-kept : (kind : Kind) (n : ℕ) (v : Identifier) → (with_uses kind n v).space ≡ v.space
+space-kept Task n v = refl
+space-kept Group n v = refl
+space-kept Session n v = refl
+
+pub numbers-kept : (kind : Kind) (n : ℕ) (v : Identifier) → (with_uses kind n v).numbers ≡ v.numbers
+numbers-kept Task n v = refl
+numbers-kept Group n v = refl
+numbers-kept Session n v = refl
+
+module _ (pid_max : ℕ) (ways ways' : ℕ → List ℕ) (at at' : ℕ → ℕ → Option (Entry ℕ)) (bound bound' : ℕ → Option ℕ) (names names' : ℕ → Option Identifier) (b : IsNumbering pid_max ways at bound names)
+    (same_ways : (s : ℕ) → ways' s ≡ ways s) (same_bound : (s : ℕ) → bound' s ≡ bound s)
+    (i : ℕ) (kind : Kind) (count : ℕ) (v : Identifier) (was : names i ≡ Some v) (now : names' i ≡ Some (with_uses kind count v)) (others : (j : ℕ) → j ≢ i → names' j ≡ names j) where
+  -- another number of uses, but no first and no last one
+  pub numbering-counted : is_used_as kind (Some (with_uses kind count v)) ≡ is_used_as kind (Some v) → ((s n : ℕ) → at' s n ≡ at s n) → IsNumbering pid_max ways' at' bound' names'
+  numbering-counted still same =
+      numbering-used pid_max ways ways' at at' bound bound' names names' b same_ways same_bound i (with_uses kind count v) others v was now (space-kept kind count v) (numbers-kept kind count v)
+      (λ s n. ap (option_map (λ e. e.value)) (same s n)) (λ s n miss. same s n)
+      (λ s n e hit stands old e' stands'.
+      let r : Some e' ≡ Some e = sym stands' ∙ same s n ∙ stands in
+      ap (λ o. option_map_or (λ y. y.marks) o e.marks) r ∙ old ∙ sym (marks-kept kind count v still))
+
+  -- a first or a last use
+  pub numbering-marked : (on : Bool) → is_used_as kind (Some (with_uses kind count v)) ≡ on → ((s n : ℕ) → at' s n ≡ touched (ways v.space) v.numbers (with_mark (mark_of kind) on) at s n) → IsNumbering pid_max ways' at' bound' names'
+  numbering-marked on turned is =
+      numbering-used pid_max ways ways' at at' bound bound' names names' b same_ways same_bound i (with_uses kind count v) others v was now (space-kept kind count v) (numbers-kept kind count v)
+      (λ s n. elim (decide_some (beside s (ways v.space) v.numbers) n) [
+        | inl hit ↦ ap (option_map (λ e. e.value)) (is s n ∙ touched-hit (ways v.space) v.numbers (with_mark (mark_of kind) on) at s n hit) ∙ value-marked (mark_of kind) on (at s n)
+        | inr miss ↦ ap (option_map (λ e. e.value)) (misses s n miss)
+      ]) misses
+      (λ s n e hit stands old e' stands'.
+      let r : Some e' ≡ with_mark (mark_of kind) on (Some e) = sym stands' ∙ is s n ∙ touched-hit (ways v.space) v.numbers (with_mark (mark_of kind) on) at s n hit ∙ ap (with_mark (mark_of kind) on) stands in
+      ap (λ o. option_map_or (λ y. y.marks) o e'.marks) r ∙ ap (λ l. slice_set l (mark_of kind) on) old ∙ marks-turned kind count v on turned)
     where
-      go : (o : Option Identifier) → names i ≡ o → number_in ways' s o ≡ number_in ways s o
-      go None is = refl
-      go (Some u) is = ap (λ p. beside s p u.numbers) (others u.space (away i u is))
-
-  pub numbering-added : IsNumbering pid_max ways' see' bound' names
-  numbering-added = record {
-    good = b.good;
-    tied = record {
-      found = λ s n i e. number_stays s i ∙ b.tied.found s n i (sym (sees s n) ∙ e);
-      kept = λ s n i e. sees s n ∙ b.tied.kept s n i (sym (number_stays s i) ∙ e);
-      full = λ i u e. b.tied.full i u e ∙ ap length (sym (others u.space (away i u e)));
-      some = b.tied.some;
-    };
-    head = λ s. elim (cases_eq s key) [
-      | inl e ↦ inr (rest, ap ways' e ∙ now ∙ ap (λ z. z ∷ rest) (sym e))
-      | inr m ↦ subst (λ (p : List ℕ). (p ≡ []) ⊎ ((rest : List ℕ) × (p ≡ s ∷ rest))) (sym (others s m)) (b.head s)
-    ];
-    paths = λ s. elim (cases_eq s key) [
-      | inl e ↦ subst (IsPath ways') (sym (ap ways' e ∙ now)) (now, path_kept rest around)
-      | inr m ↦ subst (IsPath ways') (sym (others s m)) (path_kept (ways s) (b.paths s))
-    ];
-    bounds = λ s m e. elim (cases_eq s key) [
-      | inl same ↦ good m (sym (ap bound' same) ∙ e)
-      | inr d ↦ b.bounds s m (sym (bounds s d) ∙ e)
-    ];
-  }
-
--- a namespace fewer, that no name and no other namespace stands in
-module _ (pid_max : ℕ) (ways ways' : ℕ → List ℕ) (see see' : ℕ → ℕ → Option ℕ) (bound bound' : ℕ → Option ℕ) (names : ℕ → Option Identifier) (b : IsNumbering pid_max ways see bound names)
-    (key : ℕ) (now : ways' key ≡ []) (others : (s : ℕ) → s ≢ key → ways' s ≡ ways s) (last : (t j : ℕ) → t ≢ key → j < length (ways t) → get_or (ways t) j 0 ≢ key)
-    (unseen : (n : ℕ) → see key n ≡ None) (sees : (s n : ℕ) → see' s n ≡ see s n) (none : bound' key ≡ None) (bounds : (s : ℕ) → s ≢ key → bound' s ≡ bound s) where
-  no_name : (i : ℕ) (u : Identifier) → names i ≡ Some u → u.space ≢ key
-  no_name i u is e = go (b.head key) u.numbers (b.tied.full i u is) (b.tied.some i u is) (b.tied.kept key)
-    where
-      is_key : (n : ℕ) → beside key (ways key) u.numbers ≡ Some n → number_in ways key (names i) ≡ Some n
-      is_key n h = ap (number_in ways key) is ∙ ap (λ s. beside key (ways s) u.numbers) e ∙ h
-
-      go : (ways key ≡ []) ⊎ ((rest : List ℕ) × (ways key ≡ key ∷ rest)) → (ns : List ℕ) → length u.numbers ≡ length (ways u.space) → 0 < length u.numbers → ((n i : ℕ) → number_in ways key (names i) ≡ Some n → see key n ≡ Some i) → ⊥
-      go (inl empty) ns full some kept = let z = ap length (ap ways e ∙ empty) in omega (arith, full, some, z)
-      go (inr way) ns full some kept = by_first u.numbers refl some
-        where
-          by_first : (ns : List ℕ) → u.numbers ≡ ns → 0 < length u.numbers → ⊥
-          by_first [] z some = let l = ap length z in omega (arith, l, some)
-          by_first (n ∷ ns) z some =
-              let h : beside key (ways key) u.numbers ≡ Some n = ap (λ p. beside key p u.numbers) way.1 ∙ ap (beside key (key ∷ way.0)) z ∙ ap (λ t. if t then Some n else beside key way.0 ns) (eq-eqb key key refl) in
-              let bad : Some i ≡ None = sym (kept n i (is_key n h)) ∙ unseen n in
-              cc
-
-  number_left : (s i : ℕ) → number_in ways' s (names i) ≡ number_in ways s (names i)
-  number_left s i = go (names i) refl
-    where
-      go : (o : Option Identifier) → names i ≡ o → number_in ways' s o ≡ number_in ways s o
-      go None is = refl
-      go (Some u) is = ap (λ p. beside s p u.numbers) (others u.space (no_name i u is))
-
-  path_left : (p : List ℕ) → ((j : ℕ) → j < length p → get_or p j 0 ≢ key) → IsPath ways p → IsPath ways' p
-  path_left [] away h = tt
-  path_left (s ∷ ss) away h = (others s (away 0 (omega arith)) ∙ h.0, path_left ss (λ j lt. away (suc j) (omega (arith, lt))) h.1)
-
-  pub numbering-dropped : IsNumbering pid_max ways' see' bound' names
-  numbering-dropped = record {
-    good = b.good;
-    tied = record {
-      found = λ s n i e. number_left s i ∙ b.tied.found s n i (sym (sees s n) ∙ e);
-      kept = λ s n i e. sees s n ∙ b.tied.kept s n i (sym (number_left s i) ∙ e);
-      full = λ i u e. b.tied.full i u e ∙ ap length (sym (others u.space (no_name i u e)));
-      some = b.tied.some;
-    };
-    head = λ s. elim (cases_eq s key) [
-      | inl e ↦ inl (ap ways' e ∙ now)
-      | inr m ↦ subst (λ (p : List ℕ). (p ≡ []) ⊎ ((rest : List ℕ) × (p ≡ s ∷ rest))) (sym (others s m)) (b.head s)
-    ];
-    paths = λ s. elim (cases_eq s key) [
-      | inl e ↦ subst (IsPath ways') (sym (ap ways' e ∙ now)) tt
-      | inr m ↦ subst (IsPath ways') (sym (others s m)) (path_left (ways s) (λ j. last s j m) (b.paths s))
-    ];
-    bounds = λ s m e. elim (cases_eq s key) [
-      | inl same ↦ absurd (let bad : Some m ≡ None = sym e ∙ ap bound' same ∙ none in cc)
-      | inr d ↦ b.bounds s m (sym (bounds s d) ∙ e)
-    ];
-  }
+      misses : (s n : ℕ) → beside s (ways v.space) v.numbers ≢ Some n → at' s n ≡ at s n
+      misses s n miss = is s n ∙ touched-miss (ways v.space) v.numbers (with_mark (mark_of kind) on) at s n miss

@@ -2,27 +2,41 @@
 
 ghost use Rattle.std.specs.Prelude.{◌≡◌, ◌≢◌, ℕ, ◌+◌, ◌<◌, ◌≤◌, length, map, option_map, Some, None, IsSome, IfOk, IfErr, IfSome, OnOk, OnErr, MatchOption, find, is_none, unwrap_or, slice_index_or, true, false, [], ◌∷◌};
 ghost use Rattle.slab.specs.Slab.{get, HasRoomFor};
-ghost use Rattle.pid_numbers.specs.Numbering.{way, seen, plan_on, given, ready, namespaces_of, namespace_on, bound_on, moved, stepped, IsDistinct, ArePlanned, AreReady};
-ghost use Rattle.pid_numbers.specs.declared.spaces.Space.{Space};
+ghost use Rattle.index_array.specs.Place.{Entry, with_mark, is_marked, IsLeastIndex};
+ghost use Rattle.pid_numbers.specs.Slabs.{way, entry_on, leads, plan_on, touched, given_to, ready, namespaces_of, namespace_on, bound_on, stepped, mark_of, IsDistinct, ArePlanned, AreReady};
+ghost use Rattle.pid_numbers.specs.Numbering.{moved};
 
+use crate::levels::LevelNumbers;
 use arrayvec::ArrayVec;
-use cyclic_ids::CyclicIds;
+use cyclic_ids::{CyclicIds, GROUP_MARK, SESSION_MARK, TASK_MARK};
+use pid_types::call::Kind;
 use slab::Slab;
 use std::alloc::AllocError;
 
 /// A namespace, its numbers, and the keys of it and of those around it, innermost first.
 #[derive(Drop)]
-pub struct Space {
+pub(crate) struct Space {
     pub id: u64,
-    pub parent: Option<u32>,
     pub fallen: bool,
     pub path: ArrayVec<u32, 33>,
     pub ids: CyclicIds<u32>,
 }
 
+/// The mark of a kind.
+pub(crate) fn mark(kind: Kind) -> usize
+    ensures value { result ≡ mark_of kind }
+    ensures few { result < 3 }
+{
+    match kind {
+        Kind::Task => TASK_MARK,
+        Kind::Group => GROUP_MARK,
+        Kind::Session => SESSION_MARK,
+    }
+}
+
 /// What a number leads to.
 pub(crate) fn look(spaces: &Slab<Space>, space: u32, n: u32) -> Option<u32>
-    ensures { result ≡ seen spaces.now space n }
+    ensures { result ≡ leads (entry_on spaces.now) space n }
 {
     match spaces.get(space as usize) {
         Some(s) => s.ids.find(n).copied(),
@@ -85,7 +99,7 @@ pub(crate) fn prepare_at(spaces: &mut Slab<Space>, key: u32, n: u32) -> Result<(
     ensures ok { OnOk result (ready spaces.new key n ≡ true) }
     ensures ready { (s m : ℕ) → ready spaces.old s m ≡ true → ready spaces.new s m ≡ true }
     ensures plan { (s : ℕ) → plan_on spaces.new s ≡ plan_on spaces.old s }
-    ensures seen { (s m : ℕ) → seen spaces.new s m ≡ seen spaces.old s m }
+    ensures entries { (s m : ℕ) → entry_on spaces.new s m ≡ entry_on spaces.old s m }
     ensures bound { (s : ℕ) → bound_on spaces.new s ≡ bound_on spaces.old s }
     ensures way { (s : ℕ) → way spaces.new s ≡ way spaces.old s }
     ensures namespaces { namespaces_of spaces.new ≡ namespaces_of spaces.old }
@@ -100,67 +114,103 @@ pub(crate) fn prepare_at(spaces: &mut Slab<Space>, key: u32, n: u32) -> Result<(
 pub(crate) fn prepare_path(
     spaces: &mut Slab<Space>,
     space: u32,
-    numbers: &ArrayVec<u32, 33>,
+    numbers: &LevelNumbers,
 ) -> Result<(), AllocError>
-    requires planned { ArePlanned spaces.old (way spaces.old space) numbers.now.items }
-    requires len { length numbers.now.items ≡ length (way spaces.old space) }
-    ensures ok { OnOk result (AreReady spaces.new (way spaces.old space) numbers.now.items) }
+    requires planned { ArePlanned spaces.old (way spaces.old space) numbers.now }
+    requires len { length numbers.now ≡ length (way spaces.old space) }
+    ensures ok { OnOk result (AreReady spaces.new (way spaces.old space) numbers.now) }
     ensures plan { (s : ℕ) → plan_on spaces.new s ≡ plan_on spaces.old s }
-    ensures seen { (s m : ℕ) → seen spaces.new s m ≡ seen spaces.old s m }
+    ensures entries { (s m : ℕ) → entry_on spaces.new s m ≡ entry_on spaces.old s m }
     ensures bound { (s : ℕ) → bound_on spaces.new s ≡ bound_on spaces.old s }
     ensures way { (s : ℕ) → way spaces.new s ≡ way spaces.old s }
     ensures namespaces { namespaces_of spaces.new ≡ namespaces_of spaces.old }
 {
     for k in 0..levels(spaces, space) {
         let key = key_at(spaces, space, k);
-        prepare_at(spaces, key, numbers[k])?;
+        prepare_at(spaces, key, numbers.at(k))?;
     }
     Ok(())
 }
 
-/// Gives the planned number.
+/// Gives the planned number to a task.
 pub(crate) fn give_at(spaces: &mut Slab<Space>, key: u32, n: u32, value: u32)
     requires planned { plan_on spaces.old key ≡ Some n }
     requires ready { ready spaces.old key n ≡ true }
-    ensures here { seen spaces.new key n ≡ Some value }
-    ensures same { (m : ℕ) → m ≢ n → seen spaces.new key m ≡ seen spaces.old key m }
+    ensures here { entry_on spaces.new key n ≡ given_to value }
+    ensures same { (m : ℕ) → m ≢ n → entry_on spaces.new key m ≡ entry_on spaces.old key m }
     ensures others { (s : ℕ) → s ≢ key → get spaces.new s ≡ get spaces.old s }
     ensures bound { bound_on spaces.new key ≡ bound_on spaces.old key }
     ensures way { way spaces.new key ≡ way spaces.old key }
-    ensures spot { namespace_on spaces.new key ≡ option_map (stepped n) (namespace_on spaces.old key) }
+    ensures namespace { namespace_on spaces.new key ≡ option_map (stepped n) (namespace_on spaces.old key) }
 {
     let Some(space) = spaces.get_mut(key as usize) else {
         unreachable!()
     };
-    space.ids.commit(n, value);
+    space.ids.commit_marked(n, value, [true, false, false]);
 }
 
-/// Gives the planned numbers along a path.
-pub(crate) fn give_path(
-    spaces: &mut Slab<Space>,
-    space: u32,
-    numbers: &ArrayVec<u32, 33>,
-    value: u32,
-)
+/// Gives the planned numbers along a path to a task.
+pub(crate) fn give_path(spaces: &mut Slab<Space>, space: u32, numbers: &LevelNumbers, value: u32)
     requires distinct { IsDistinct (way spaces.old space) }
-    requires planned { ArePlanned spaces.old (way spaces.old space) numbers.now.items }
-    requires ready { AreReady spaces.old (way spaces.old space) numbers.now.items }
-    requires len { length numbers.now.items ≡ length (way spaces.old space) }
-    ensures seen { (s n : ℕ) → seen spaces.new s n ≡ given (way spaces.old space) numbers.now.items (Some value) (seen spaces.old) s n }
+    requires planned { ArePlanned spaces.old (way spaces.old space) numbers.now }
+    requires ready { AreReady spaces.old (way spaces.old space) numbers.now }
+    requires len { length numbers.now ≡ length (way spaces.old space) }
+    ensures entries { (s n : ℕ) → entry_on spaces.new s n ≡ touched (way spaces.old space) numbers.now (λ _. given_to value) (entry_on spaces.old) s n }
     ensures way { (s : ℕ) → way spaces.new s ≡ way spaces.old s }
-    ensures namespaces { (s : ℕ) → namespace_on spaces.new s ≡ option_map (moved (way spaces.old space) numbers.now.items s) (namespace_on spaces.old s) }
+    ensures namespaces { (s : ℕ) → namespace_on spaces.new s ≡ option_map (moved (way spaces.old space) numbers.now s) (namespace_on spaces.old s) }
     ensures bound { (s : ℕ) → bound_on spaces.new s ≡ bound_on spaces.old s }
 {
     for k in 0..levels(spaces, space) {
         let key = key_at(spaces, space, k);
-        give_at(spaces, key, numbers[k], value);
+        give_at(spaces, key, numbers.at(k), value);
+    }
+}
+
+/// Gives a number the mark of a kind, or takes it away.
+pub(crate) fn mark_at(spaces: &mut Slab<Space>, key: u32, n: u32, kind: Kind, on: bool)
+    ensures here { entry_on spaces.new key n ≡ with_mark (mark_of kind) on (entry_on spaces.old key n) }
+    ensures same { (m : ℕ) → m ≢ n → entry_on spaces.new key m ≡ entry_on spaces.old key m }
+    ensures others { (s : ℕ) → s ≢ key → get spaces.new s ≡ get spaces.old s }
+    ensures bound { bound_on spaces.new key ≡ bound_on spaces.old key }
+    ensures way { (s : ℕ) → way spaces.new s ≡ way spaces.old s }
+    ensures namespaces { namespaces_of spaces.new ≡ namespaces_of spaces.old }
+{
+    let Some(space) = spaces.get_mut(key as usize) else {
+        return;
+    };
+    let m = mark(kind);
+    if on {
+        let _ = space.ids.set_mark(n, m);
+    } else {
+        let _ = space.ids.clear_mark(n, m);
+    }
+}
+
+/// Gives the numbers along a path the mark of a kind, or takes it away.
+pub(crate) fn mark_path(
+    spaces: &mut Slab<Space>,
+    space: u32,
+    numbers: &LevelNumbers,
+    kind: Kind,
+    on: bool,
+)
+    requires distinct { IsDistinct (way spaces.old space) }
+    requires len { length numbers.now ≡ length (way spaces.old space) }
+    ensures entries { (s n : ℕ) → entry_on spaces.new s n ≡ touched (way spaces.old space) numbers.now (with_mark (mark_of kind) on) (entry_on spaces.old) s n }
+    ensures way { (s : ℕ) → way spaces.new s ≡ way spaces.old s }
+    ensures namespaces { namespaces_of spaces.new ≡ namespaces_of spaces.old }
+    ensures bound { (s : ℕ) → bound_on spaces.new s ≡ bound_on spaces.old s }
+{
+    for k in 0..levels(spaces, space) {
+        let key = key_at(spaces, space, k);
+        mark_at(spaces, key, numbers.at(k), kind, on);
     }
 }
 
 /// Makes a number free.
 pub(crate) fn release_at(spaces: &mut Slab<Space>, key: u32, n: u32)
-    ensures here { seen spaces.new key n ≡ None }
-    ensures same { (m : ℕ) → m ≢ n → seen spaces.new key m ≡ seen spaces.old key m }
+    ensures here { entry_on spaces.new key n ≡ None }
+    ensures same { (m : ℕ) → m ≢ n → entry_on spaces.new key m ≡ entry_on spaces.old key m }
     ensures others { (s : ℕ) → s ≢ key → get spaces.new s ≡ get spaces.old s }
     ensures bound { bound_on spaces.new key ≡ bound_on spaces.old key }
     ensures way { (s : ℕ) → way spaces.new s ≡ way spaces.old s }
@@ -173,17 +223,27 @@ pub(crate) fn release_at(spaces: &mut Slab<Space>, key: u32, n: u32)
 }
 
 /// Makes the numbers along a path free.
-pub(crate) fn release_path(spaces: &mut Slab<Space>, space: u32, numbers: &ArrayVec<u32, 33>)
+pub(crate) fn release_path(spaces: &mut Slab<Space>, space: u32, numbers: &LevelNumbers)
     requires distinct { IsDistinct (way spaces.old space) }
-    requires len { length numbers.now.items ≡ length (way spaces.old space) }
-    ensures seen { (s n : ℕ) → seen spaces.new s n ≡ given (way spaces.old space) numbers.now.items None (seen spaces.old) s n }
+    requires len { length numbers.now ≡ length (way spaces.old space) }
+    ensures entries { (s n : ℕ) → entry_on spaces.new s n ≡ touched (way spaces.old space) numbers.now (λ _. None) (entry_on spaces.old) s n }
     ensures way { (s : ℕ) → way spaces.new s ≡ way spaces.old s }
     ensures namespaces { namespaces_of spaces.new ≡ namespaces_of spaces.old }
     ensures bound { (s : ℕ) → bound_on spaces.new s ≡ bound_on spaces.old s }
 {
     for k in 0..levels(spaces, space) {
         let key = key_at(spaces, space, k);
-        release_at(spaces, key, numbers[k]);
+        release_at(spaces, key, numbers.at(k));
+    }
+}
+
+/// The least number from one on that has the mark of a kind.
+pub(crate) fn next_at(spaces: &Slab<Space>, space: u32, kind: Kind, from: u32) -> Option<u32>
+    ensures { IsLeastIndex (λ n. is_marked (mark_of kind) (entry_on spaces.now space n)) from 16777216 result }
+{
+    match spaces.get(space as usize) {
+        Some(s) => s.ids.next_marked(from, mark(kind)),
+        None => None,
     }
 }
 

@@ -1,63 +1,89 @@
-use Rattle.std.proofs.Common.{◌≡◌, ◌≢◌, ◌∙◌, sym, ap, subst, arith, ℕ, ◌<◌, length, get_or, find, is_none, Some, None, map, option_map, unwrap_or}
-use Rattle.pid_numbers.specs.Numbering.{Identifier, Numbering, numbering_of, namespace_of, identifier_of, namespace_at, identifier_at, path_at, draw_in, way, seen, plan_on, bound_on, name_at, namespace_on, moved, given, ArePlanned, IsDistinct}
+use Rattle.std.proofs.Common.{List, ◌≡◌, ◌≢◌, ◌∙◌, sym, ap, subst, refl, arith, ℕ, ◌<◌, length, get_or, find, is_none, Some, None, map, option_map, unwrap_or}
+use Rattle.pid_numbers.specs.Numbering.{Identifier, Numbering, namespace_at, identifier_at, path_at, draw_in, moved, new_identifier}
+use Rattle.pid_numbers.specs.Slabs.{numbering_of, namespace_of, identifier_of, way, entry_on, plan_on, bound_on, name_at, namespace_on, touched, given_to, ArePlanned, AreReady, IsDistinct}
 use Rattle.pid_types.specs.Names.{beside}
 use Rattle.pid_numbers.proofs.Views as views
 use Rattle.pid_numbers.proofs.Ties as ties
 use Rattle.pid_numbers.proofs.Numbers.draw.Goals as goal
 
-pub prepare_path-requires-clause-planned : goal.prepare_path-requires-clause-planned
-prepare_path-requires-clause-planned c =
-    views.all_planned c.self.inside.pid_max c.self.inside.spaces c.self.inside.idents c.self.invariant c.args.space c.args.numbers.items
-    (subst (λ b. find (λ s. is_none (draw_in b s)) (path_at b c.args.space) ≡ None) (sym c.self.view_is) c.requires.all)
-    (subst (λ b. c.args.numbers.items ≡ map (λ s. unwrap_or (draw_in b s) 0) (path_at b c.args.space)) (sym c.self.view_is) c.requires.planned)
+pub from-requires : goal.from-requires
+from-requires c =
+    let r = views.there c.self.inside.pid_max c.self.inside.spaces c.self.inside.idents c.self.invariant c.args.self.now c.self.view_is c.args.space c.requires.there in
+    let len : length c.args.numbers.now.items ≡ length (way c.self.inside.spaces c.args.space) = views.planned_len c.self.inside.pid_max c.self.inside.spaces c.self.inside.idents c.self.invariant c.args.space c.args.numbers.now.items
+    (subst (λ b. c.args.numbers.now.items ≡ map (λ s. unwrap_or (draw_in b s) 0) (path_at b c.args.space)) (sym c.self.view_is) c.requires.planned) in
+    omega (arith, r, len)
+
+planned-in : (a b : Numbering) → a ≡ b → (space : ℕ) (numbers : List ℕ) → numbers ≡ map (λ s. unwrap_or (draw_in b s) 0) (path_at b space) → numbers ≡ map (λ s. unwrap_or (draw_in a s) 0) (path_at a space)
+planned-in a b view space numbers h = subst (λ b. numbers ≡ map (λ s. unwrap_or (draw_in b s) 0) (path_at b space)) (sym view) h
+
+all-in : (a b : Numbering) → a ≡ b → (space : ℕ) → find (λ s. is_none (draw_in b s)) (path_at b space) ≡ None → find (λ s. is_none (draw_in a s)) (path_at a space) ≡ None
+all-in a b view space h = subst (λ b. find (λ s. is_none (draw_in b s)) (path_at b space) ≡ None) (sym view) h
+
+pub prepare_path-requires : goal.prepare_path-requires
+prepare_path-requires c =
+    let spaces = c.self.inside.spaces in
+    let numbers = c.args.numbers.now.items in
+    let planned = planned-in (numbering_of c.self.inside.pid_max spaces c.self.inside.idents) c.args.self.now c.self.view_is c.args.space numbers c.requires.planned in
+    let all = all-in (numbering_of c.self.inside.pid_max spaces c.self.inside.idents) c.args.self.now c.self.view_is c.args.space c.requires.all in
+    record {
+      planned = subst (ArePlanned spaces (way spaces c.args.space)) (sym c.in_ok-numbers.ensures) (views.all_planned c.self.inside.pid_max spaces c.self.inside.idents c.self.invariant c.args.space numbers all planned);
+      len = ap length c.in_ok-numbers.ensures ∙ views.planned_len c.self.inside.pid_max spaces c.self.inside.idents c.self.invariant c.args.space numbers planned;
+    }
 
 pub invariant_of-self-in_err-prepare_path : goal.invariant_of-self-in_err-prepare_path
 invariant_of-self-in_err-prepare_path c =
     let e = c.in_err-prepare_path.ensures in
-    ties.numbering-with c.self.inside.pid_max (way c.self.inside.spaces) (way c.prepare_path.new.spaces) (seen c.self.inside.spaces) (seen c.prepare_path.new.spaces) (bound_on c.self.inside.spaces) (bound_on c.prepare_path.new.spaces) (name_at c.self.inside.idents) (name_at c.make_room.new.idents) c.self.invariant e.way e.bound
-    (ties.tied-same (way c.self.inside.spaces) (way c.prepare_path.new.spaces) (seen c.self.inside.spaces) (seen c.prepare_path.new.spaces) (name_at c.self.inside.idents) (name_at c.make_room.new.idents) c.self.invariant.tied e.way e.seen (λ i. ap (λ z. name_at z i) c.in_ok-key.ensures.same))
+    ties.numbering-same c.self.inside.pid_max (way c.self.inside.spaces) (way c.prepare_path.new.spaces) (entry_on c.self.inside.spaces) (entry_on c.prepare_path.new.spaces) (bound_on c.self.inside.spaces) (bound_on c.prepare_path.new.spaces) (name_at c.self.inside.idents) (name_at c.make_room.new.idents) c.self.invariant e.way e.bound e.entries
+    (λ i. ap (λ z. name_at z i) c.in_ok-key.ensures.same)
 
-pub give_path-requires-clause-distinct : goal.give_path-requires-clause-distinct
-give_path-requires-clause-distinct c =
-    subst IsDistinct (sym (c.in_ok-prepare_path.ensures.way c.args.space)) (ties.distinct-path (way c.self.inside.spaces) (way c.self.inside.spaces c.args.space) (c.self.invariant.paths c.args.space))
-
-pub give_path-requires-clause-planned : goal.give_path-requires-clause-planned
-give_path-requires-clause-planned c =
-    let planned : ArePlanned c.self.inside.spaces (way c.self.inside.spaces c.args.space) c.args.numbers.items =
-    views.all_planned c.self.inside.pid_max c.self.inside.spaces c.self.inside.idents c.self.invariant c.args.space c.args.numbers.items
-    (subst (λ b. find (λ s. is_none (draw_in b s)) (path_at b c.args.space) ≡ None) (sym c.self.view_is) c.requires.all)
-    (subst (λ b. c.args.numbers.items ≡ map (λ s. unwrap_or (draw_in b s) 0) (path_at b c.args.space)) (sym c.self.view_is) c.requires.planned) in
-    subst (λ p. ArePlanned c.prepare_path.new.spaces p c.args.numbers.items) (sym (c.in_ok-prepare_path.ensures.way c.args.space))
-    (λ k below. c.in_ok-prepare_path.ensures.plan (get_or (way c.self.inside.spaces c.args.space) k 0) ∙ planned k below)
+pub give_path-requires : goal.give_path-requires
+give_path-requires c =
+    let spaces = c.self.inside.spaces in
+    let numbers = c.args.numbers.now.items in
+    let prep = c.in_ok-prepare_path.ensures in
+    let planned = planned-in (numbering_of c.self.inside.pid_max spaces c.self.inside.idents) c.args.self.now c.self.view_is c.args.space numbers c.requires.planned in
+    let all = all-in (numbering_of c.self.inside.pid_max spaces c.self.inside.idents) c.args.self.now c.self.view_is c.args.space c.requires.all in
+    let each : ArePlanned spaces (way spaces c.args.space) numbers = views.all_planned c.self.inside.pid_max spaces c.self.inside.idents c.self.invariant c.args.space numbers all planned in
+    let len : length numbers ≡ length (way spaces c.args.space) = views.planned_len c.self.inside.pid_max spaces c.self.inside.idents c.self.invariant c.args.space numbers planned in
+    record {
+      distinct = subst IsDistinct (sym (prep.way c.args.space)) (ties.distinct-path (way spaces) (way spaces c.args.space) (c.self.invariant.tree.paths c.args.space));
+      planned = subst (λ p. ArePlanned c.prepare_path.new.spaces p c.in_ok-numbers.numbers) (sym (prep.way c.args.space)) (subst (ArePlanned c.prepare_path.new.spaces (way spaces c.args.space)) (sym c.in_ok-numbers.ensures)
+          (λ k below. prep.plan (get_or (way spaces c.args.space) k 0) ∙ each k below));
+      ready = subst (λ p. AreReady c.prepare_path.new.spaces p c.in_ok-numbers.numbers) (sym (prep.way c.args.space)) prep.ok;
+      len = ap length c.in_ok-numbers.ensures ∙ len ∙ ap length (sym (prep.way c.args.space));
+    }
 
 pub invariant_of-self-2 : goal.invariant_of-self-2
 invariant_of-self-2 c =
     let spaces = c.self.inside.spaces in
     let idents = c.self.inside.idents in
     let path = way spaces c.args.space in
-    let numbers = c.args.numbers.items in
+    let numbers = c.args.numbers.now.items in
+    let stored = c.in_ok-numbers.numbers in
     let key = c.in_ok-key.key in
     let prep = c.in_ok-prepare_path.ensures in
-    let all = subst (λ b. find (λ s. is_none (draw_in b s)) (path_at b c.args.space) ≡ None) (sym c.self.view_is) c.requires.all in
-    let is = subst (λ b. numbers ≡ map (λ s. unwrap_or (draw_in b s) 0) (path_at b c.args.space)) (sym c.self.view_is) c.requires.planned in
+    let is = planned-in (numbering_of c.self.inside.pid_max spaces idents) c.args.self.now c.self.view_is c.args.space numbers c.requires.planned in
+    let all = all-in (numbering_of c.self.inside.pid_max spaces idents) c.args.self.now c.self.view_is c.args.space c.requires.all in
     let planned : ArePlanned spaces path numbers = views.all_planned c.self.inside.pid_max spaces idents c.self.invariant c.args.space numbers all is in
     let len : length numbers ≡ length path = views.planned_len c.self.inside.pid_max spaces idents c.self.invariant c.args.space numbers is in
-    let some : 0 < length numbers = omega (arith, len, subst (λ b. 0 < length (path_at b c.args.space)) (sym c.self.view_is) c.requires.some, ap length (views.path_is c.self.inside.pid_max spaces idents c.args.space)) in
-    let u : Identifier = record { space = c.args.space; numbers = numbers; tasks = 1; groups = 0; sessions = 0 } in
+    let some : 0 < length numbers = omega (arith, len, views.there c.self.inside.pid_max spaces idents c.self.invariant c.args.self.now c.self.view_is c.args.space c.requires.there) in
     let ways : (s : ℕ) → way c.give_path.new.spaces s ≡ way spaces s = λ s. c.give_path.ensures.way s ∙ prep.way s in
     let bounds : (s : ℕ) → bound_on c.give_path.new.spaces s ≡ bound_on spaces s = λ s. c.give_path.ensures.bound s ∙ prep.bound s in
     let key_is : key ≡ c.insert_reserved.result = c.in_ok-key.ensures.key ∙ sym c.insert_reserved.ensures.key in
     let others : (j : ℕ) → j ≢ key → name_at c.insert_reserved.new.self j ≡ name_at idents j = λ j m. ap (option_map identifier_of) (c.insert_reserved.ensures.updates.others j (λ z. m (z ∙ sym key_is))) ∙ ap (λ z. name_at z j) c.in_ok-key.ensures.same in
     let was : name_at idents key ≡ None = ap (option_map identifier_of) c.in_ok-key.ensures.vacant in
-    let now : name_at c.insert_reserved.new.self key ≡ Some u = ap (name_at c.insert_reserved.new.self) key_is ∙ ap (option_map identifier_of) c.insert_reserved.ensures.updates.changed in
-    let free : (s n : ℕ) → beside s path numbers ≡ Some n → seen spaces s n ≡ None = λ s n e.
-    let r = ties.beside-some s n path numbers e in
-    views.plan_free spaces s n (ap (plan_on spaces) (sym r.2) ∙ planned r.0 r.1 ∙ ap Some r.3) in
-    let sees : (s n : ℕ) → seen c.give_path.new.spaces s n ≡ given path numbers (Some key) (seen spaces) s n = λ s n.
-    c.give_path.ensures.seen s n ∙ ap (λ p. given p numbers (Some key) (seen c.prepare_path.new.spaces) s n) (prep.way c.args.space)
-    ∙ ap (λ f. given path numbers (Some key) f s n) (λ i s n. prep.seen s n i) in
-    ties.numbering-with c.self.inside.pid_max (way spaces) (way c.give_path.new.spaces) (seen spaces) (seen c.give_path.new.spaces) (bound_on spaces) (bound_on c.give_path.new.spaces) (name_at idents) (name_at c.insert_reserved.new.self) c.self.invariant ways bounds
-    (ties.tied-given (way spaces) (way c.give_path.new.spaces) (seen spaces) (seen c.give_path.new.spaces) (name_at idents) (name_at c.insert_reserved.new.self) c.self.invariant.tied ways key others u was now len some free sees)
+    let now : name_at c.insert_reserved.new.self key ≡ Some (new_identifier c.args.space numbers) = ap (name_at c.insert_reserved.new.self) key_is ∙ ap (option_map identifier_of) c.insert_reserved.ensures.updates.changed ∙ ap (λ l. Some (new_identifier c.args.space l)) c.in_ok-numbers.ensures in
+    ties.numbering-given c.self.inside.pid_max (way spaces) (way c.give_path.new.spaces) (entry_on spaces) (entry_on c.give_path.new.spaces) (bound_on spaces) (bound_on c.give_path.new.spaces) (name_at idents) (name_at c.insert_reserved.new.self) c.self.invariant ways bounds
+    key (new_identifier c.args.space numbers) others was now len some refl
+    (λ s n hit.
+    let r = ties.beside-some s n path numbers hit in
+    let drawn : plan_on spaces s ≡ Some n = ap (plan_on spaces) (sym r.2) ∙ planned r.0 r.1 ∙ ap Some r.3 in
+    let range = views.plan_in_range c.self.inside.pid_max spaces s n (λ m e. (c.self.invariant.bounds s m e).0) drawn in
+    (views.plan_free spaces s n drawn, range.0, range.1))
+    (λ s n. c.give_path.ensures.entries s n
+    ∙ ap (λ p. touched p stored (λ _. given_to key) (entry_on c.prepare_path.new.spaces) s n) (prep.way c.args.space)
+    ∙ ap (λ l. touched path l (λ _. given_to key) (entry_on c.prepare_path.new.spaces) s n) c.in_ok-numbers.ensures
+    ∙ ap (λ f. touched path numbers (λ _. given_to key) f s n) (λ i s n. prep.entries s n i))
 
 pub returns-clause-others : goal.returns-clause-others
 returns-clause-others c j m =
@@ -69,10 +95,12 @@ returns-clause-others c j m =
 pub returns-clause-namespaces : goal.returns-clause-namespaces
 returns-clause-namespaces c s =
     let spaces = c.self.inside.spaces in
+    let numbers = c.args.numbers.now.items in
     let prep = c.in_ok-prepare_path.ensures in
-    let numbering : Numbering = numbering_of c.self.inside.pid_max spaces c.self.inside.idents in
-    let old : namespace_on c.prepare_path.new.spaces s ≡ namespace_at numbering s = sym (ties.get_or-map_option namespace_of c.prepare_path.new.spaces.slots s) ∙ ap (λ l. get_or l s None) prep.namespaces in
+    let now : Numbering = numbering_of c.self.inside.pid_max spaces c.self.inside.idents in
+    let old : namespace_on c.prepare_path.new.spaces s ≡ namespace_at now s = sym (ties.get_or-map_option namespace_of c.prepare_path.new.spaces.slots s) ∙ ap (λ l. get_or l s None) prep.namespaces in
     ties.get_or-map_option namespace_of c.give_path.new.spaces.slots s ∙ c.give_path.ensures.namespaces s
-    ∙ ap (λ p. option_map (moved p c.args.numbers.items s) (namespace_on c.prepare_path.new.spaces s)) (prep.way c.args.space ∙ sym (views.path_is c.self.inside.pid_max spaces c.self.inside.idents c.args.space))
-    ∙ ap (option_map (moved (path_at numbering c.args.space) c.args.numbers.items s)) old
-    ∙ ap (λ b. option_map (moved (path_at b c.args.space) c.args.numbers.items s) (namespace_at b s)) c.self.view_is
+    ∙ ap (λ p. option_map (moved p c.in_ok-numbers.numbers s) (namespace_on c.prepare_path.new.spaces s)) (prep.way c.args.space ∙ sym (views.path_is c.self.inside.pid_max spaces c.self.inside.idents c.args.space))
+    ∙ ap (λ l. option_map (moved (path_at now c.args.space) l s) (namespace_on c.prepare_path.new.spaces s)) c.in_ok-numbers.ensures
+    ∙ ap (option_map (moved (path_at now c.args.space) numbers s)) old
+    ∙ ap (λ b. option_map (moved (path_at b c.args.space) numbers s) (namespace_at b s)) c.self.view_is

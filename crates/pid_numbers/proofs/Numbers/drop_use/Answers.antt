@@ -1,45 +1,124 @@
-use Rattle.std.proofs.Common.{◌≡◌, ◌∙◌, sym, ap, refl, Some, None, option_map}
-use Rattle.pid_numbers.specs.Numbering.{identifier_of, identifier_at, way, seen, bound_on, name_at, less}
+use Rattle.std.proofs.Common.{◌≡◌, ◌≢◌, ◌∙◌, sym, ap, refl, subst, ℕ, ◌-◌, length, Some, None, true, false, Option, IsSome, IfSome, option_map, unwrap_or, if◌then◌else◌}
+use Rattle.std.specs.Option.{option_map_or}
+use Rattle.index_array.specs.Place.{with_mark}
+use Rattle.pid_numbers.specs.Numbering.{Identifier, identifier_at, less, left_of, uses, is_used, is_used_as}
+use Rattle.pid_numbers.specs.Slabs.{identifier_of, way, entry_on, bound_on, name_at, touched, mark_of}
 use Rattle.pid_numbers.proofs.Views as views
 use Rattle.pid_numbers.proofs.Ties as ties
 use Rattle.pid_numbers.proofs.Numbers.drop_use.Goals as goal
 
+pub less_use-requires : goal.less_use-requires
+less_use-requires c =
+    ap (is_used_as c.args.kind) (sym (views.identifier_is c.self.inside.pid_max c.self.inside.spaces c.self.inside.idents c.args.self.now c.self.view_is c.args.ident)) ∙ c.requires
+
 pub invariant_of-self : goal.invariant_of-self
 invariant_of-self c =
-    let u = views.identifier_from c.self.inside.pid_max c.self.inside.spaces c.self.inside.idents c.args.self.now c.self.view_is c.args.kind c.args.ident c.requires in
-    let t = views.tied-less c.self.inside.pid_max c.self.inside.spaces c.self.inside.idents c.less_use.new.idents c.self.invariant.tied c.args.kind c.args.ident u.0 u.1 (c.less_use.ensures.here u.0 u.1).0 c.less_use.ensures.others in
-    ties.numbering-with c.self.inside.pid_max (way c.self.inside.spaces) (way c.self.inside.spaces) (seen c.self.inside.spaces) (seen c.self.inside.spaces) (bound_on c.self.inside.spaces) (bound_on c.self.inside.spaces) (name_at c.self.inside.idents) (name_at c.less_use.new.idents) c.self.invariant (λ s. refl) (λ s. refl) t
+    let spaces = c.self.inside.spaces in
+    let idents = c.self.inside.idents in
+    let had : is_used_as c.args.kind (name_at idents c.args.ident) ≡ true = ap (is_used_as c.args.kind) (sym (views.identifier_is c.self.inside.pid_max spaces idents c.args.self.now c.self.view_is c.args.ident)) ∙ c.requires in
+    let v = views.used c.args.kind (name_at idents c.args.ident) had in
+    let now = c.less_use.ensures.here v.0 v.1 in
+    ties.numbering-counted c.self.inside.pid_max (way spaces) (way spaces) (entry_on spaces) (entry_on spaces) (bound_on spaces) (bound_on spaces) (name_at idents) (name_at c.less_use.new.idents) c.self.invariant (λ s. refl) (λ s. refl)
+    c.args.ident c.args.kind (uses c.args.kind v.0 - 1) v.0 v.1 now c.less_use.ensures.others
+    (ap (is_used_as c.args.kind) (sym now) ∙ sym c.has_use.ensures ∙ c.if-has_use.true ∙ sym had ∙ ap (is_used_as c.args.kind) v.1) (λ s n. refl)
 
-pub returns-then-less_use-clause-others : goal.returns-then-less_use-clause-others
-returns-then-less_use-clause-others c j m =
+pub returns-then-has_use-clause-here : goal.returns-then-has_use-clause-here
+returns-then-has_use-clause-here c u is =
+    let now = c.less_use.ensures.here u (sym (views.identifier_is c.self.inside.pid_max c.self.inside.spaces c.self.inside.idents c.args.self.now c.self.view_is c.args.ident) ∙ is) in
+    let still = views.used_some c.args.kind (less c.args.kind u) (ap (is_used_as c.args.kind) (sym now) ∙ sym c.has_use.ensures ∙ c.if-has_use.true) in
+    views.name_is c.self.inside.pid_max c.self.inside.spaces c.less_use.new.idents c.args.ident ∙ now ∙ sym (ap (λ b. if b then Some (less c.args.kind u) else None) still)
+
+pub returns-then-has_use-clause-others : goal.returns-then-has_use-clause-others
+returns-then-has_use-clause-others c j m =
     views.name_is c.self.inside.pid_max c.self.inside.spaces c.less_use.new.idents j ∙ c.less_use.ensures.others j m
-    ∙ sym (views.name_is c.self.inside.pid_max c.self.inside.spaces c.self.inside.idents j) ∙ ap (λ b. identifier_at b j) c.self.view_is
+    ∙ sym (views.identifier_is c.self.inside.pid_max c.self.inside.spaces c.self.inside.idents c.args.self.now c.self.view_is j)
+
+pub mark_numbers-requires : goal.mark_numbers-requires
+mark_numbers-requires c =
+    let spaces = c.self.inside.spaces in
+    let idents = c.self.inside.idents in
+    let had : is_used_as c.args.kind (name_at idents c.args.ident) ≡ true = ap (is_used_as c.args.kind) (sym (views.identifier_is c.self.inside.pid_max spaces idents c.args.self.now c.self.view_is c.args.ident)) ∙ c.requires in
+    let v = views.used c.args.kind (name_at idents c.args.ident) had in
+    let now : name_at c.less_use.new.idents c.args.ident ≡ Some (less c.args.kind v.0) = c.less_use.ensures.here v.0 v.1 in
+    record {
+      distinct = λ s. ties.distinct-path (way spaces) (way spaces s) (c.self.invariant.tree.paths s);
+      full = subst (λ o. IfSome o (λ u. length u.numbers ≡ length (way spaces u.space))) (sym now)
+          (ap length (ties.numbers-kept c.args.kind (uses c.args.kind v.0 - 1) v.0) ∙ c.self.invariant.tied.full c.args.ident v.0 v.1 ∙ ap (λ s. length (way spaces s)) (sym (ties.space-kept c.args.kind (uses c.args.kind v.0 - 1) v.0)));
+    }
+
+pub invariant_of-self-then-in_use : goal.invariant_of-self-then-in_use
+invariant_of-self-then-in_use c =
+    let spaces = c.self.inside.spaces in
+    let idents = c.self.inside.idents in
+    let kind = c.args.kind in
+    let had : is_used_as kind (name_at idents c.args.ident) ≡ true = ap (is_used_as kind) (sym (views.identifier_is c.self.inside.pid_max spaces idents c.args.self.now c.self.view_is c.args.ident)) ∙ c.requires in
+    let v = views.used kind (name_at idents c.args.ident) had in
+    let now : name_at c.less_use.new.idents c.args.ident ≡ Some (less kind v.0) = c.less_use.ensures.here v.0 v.1 in
+    let e = views.at-some (λ u. (s n : ℕ) → entry_on c.mark_numbers.new.spaces s n ≡ touched (way spaces u.space) u.numbers (with_mark (mark_of kind) false) (entry_on spaces) s n) (name_at c.less_use.new.idents c.args.ident) (less kind v.0) c.mark_numbers.ensures.entries now in
+    ties.numbering-marked c.self.inside.pid_max (way spaces) (way c.mark_numbers.new.spaces) (entry_on spaces) (entry_on c.mark_numbers.new.spaces) (bound_on spaces) (bound_on c.mark_numbers.new.spaces) (name_at idents) (name_at c.less_use.new.idents) c.self.invariant c.mark_numbers.ensures.way c.mark_numbers.ensures.bound
+    c.args.ident kind (uses kind v.0 - 1) v.0 v.1 now c.less_use.ensures.others false (ap (is_used_as kind) (sym now) ∙ sym c.has_use.ensures ∙ c.if-has_use.false)
+    (λ s n. e s n ∙ ap (λ p. touched (way spaces p) (less kind v.0).numbers (with_mark (mark_of kind) false) (entry_on spaces) s n) (ties.space-kept kind (uses kind v.0 - 1) v.0)
+    ∙ ap (λ l. touched (way spaces v.0.space) l (with_mark (mark_of kind) false) (entry_on spaces) s n) (ties.numbers-kept kind (uses kind v.0 - 1) v.0))
+
+pub returns-then-in_use-clause-here : goal.returns-then-in_use-clause-here
+returns-then-in_use-clause-here c u is =
+    let now = c.less_use.ensures.here u (sym (views.identifier_is c.self.inside.pid_max c.self.inside.spaces c.self.inside.idents c.args.self.now c.self.view_is c.args.ident) ∙ is) in
+    let still : is_used (less c.args.kind u) ≡ true = sym (c.in_use.ensures (less c.args.kind u) now) ∙ c.if-in_use.true in
+    views.name_is c.self.inside.pid_max c.mark_numbers.new.spaces c.less_use.new.idents c.args.ident ∙ now ∙ sym (ap (λ b. if b then Some (less c.args.kind u) else None) still)
+
+pub returns-then-in_use-clause-others : goal.returns-then-in_use-clause-others
+returns-then-in_use-clause-others c j m =
+    views.name_is c.self.inside.pid_max c.mark_numbers.new.spaces c.less_use.new.idents j ∙ c.less_use.ensures.others j m
+    ∙ sym (views.identifier_is c.self.inside.pid_max c.self.inside.spaces c.self.inside.idents c.args.self.now c.self.view_is j)
 
 pub unreachable-requires : goal.unreachable-requires
 unreachable-requires c =
-    let u = views.identifier_from c.self.inside.pid_max c.self.inside.spaces c.self.inside.idents c.args.self.now c.self.view_is c.args.kind c.args.ident c.requires in
-    let there = (c.less_use.ensures.here u.0 u.1).0 in
-    let e : Some (less c.args.kind u.0) ≡ None = sym there ∙ ap (option_map identifier_of) (sym c.try_remove.ensures.value ∙ c.in_default.is) in
+    let had : is_used_as c.args.kind (name_at c.self.inside.idents c.args.ident) ≡ true = ap (is_used_as c.args.kind) (sym (views.identifier_is c.self.inside.pid_max c.self.inside.spaces c.self.inside.idents c.args.self.now c.self.view_is c.args.ident)) ∙ c.requires in
+    let v = views.used c.args.kind (name_at c.self.inside.idents c.args.ident) had in
+    let now = c.less_use.ensures.here v.0 v.1 in
+    let e : Some (less c.args.kind v.0) ≡ None = sym now ∙ ap (option_map identifier_of) (sym c.try_remove.ensures.value ∙ c.in_default.is) in
     cc
 
-pub release_path-requires-clause-distinct : goal.release_path-requires-clause-distinct
-release_path-requires-clause-distinct c = ties.distinct-path (way c.self.inside.spaces) (way c.self.inside.spaces c.in-Some.gone.space) (c.self.invariant.paths c.in-Some.gone.space)
+-- what went is the identifier that lost its last use
+module _ (idents : ℕ → Option Identifier) (i : ℕ) (gone u : Identifier) (now : idents i ≡ Some u) (was : idents i ≡ Some gone) where
+  gone_is : gone ≡ u
+  gone_is = ap (λ o. option_map_or (λ y. y) o u) (sym was ∙ now)
 
-pub release_path-requires-clause-len : goal.release_path-requires-clause-len
-release_path-requires-clause-len c =
-    let u = views.identifier_from c.self.inside.pid_max c.self.inside.spaces c.self.inside.idents c.args.self.now c.self.view_is c.args.kind c.args.ident c.requires in
-    let t = views.tied-less c.self.inside.pid_max c.self.inside.spaces c.self.inside.idents c.less_use.new.idents c.self.invariant.tied c.args.kind c.args.ident u.0 u.1 (c.less_use.ensures.here u.0 u.1).0 c.less_use.ensures.others in
-    t.full c.args.ident (identifier_of c.in-Some.gone) (ap (option_map identifier_of) (sym c.try_remove.ensures.value ∙ c.in-Some.is))
+pub release_path-requires : goal.release_path-requires
+release_path-requires c =
+    let spaces = c.self.inside.spaces in
+    let kind = c.args.kind in
+    let had : is_used_as kind (name_at c.self.inside.idents c.args.ident) ≡ true = ap (is_used_as kind) (sym (views.identifier_is c.self.inside.pid_max spaces c.self.inside.idents c.args.self.now c.self.view_is c.args.ident)) ∙ c.requires in
+    let v = views.used kind (name_at c.self.inside.idents c.args.ident) had in
+    let g : identifier_of c.in-Some.gone ≡ less kind v.0 = gone_is (name_at c.less_use.new.idents) c.args.ident (identifier_of c.in-Some.gone) (less kind v.0) (c.less_use.ensures.here v.0 v.1) (ap (option_map identifier_of) (sym c.try_remove.ensures.value ∙ c.in-Some.is)) in
+    record {
+      distinct = ties.distinct-path (way spaces) (way spaces c.in-Some.gone.space) (c.self.invariant.tree.paths c.in-Some.gone.space);
+      len = ap (λ u. length u.numbers) g ∙ ap length (ties.numbers-kept kind (uses kind v.0 - 1) v.0) ∙ c.self.invariant.tied.full c.args.ident v.0 v.1
+          ∙ ap (λ s. length (way spaces s)) (sym (ap (λ u. u.space) g ∙ ties.space-kept kind (uses kind v.0 - 1) v.0));
+    }
 
 pub invariant_of-self-2 : goal.invariant_of-self-2
 invariant_of-self-2 c =
-    let u = views.identifier_from c.self.inside.pid_max c.self.inside.spaces c.self.inside.idents c.args.self.now c.self.view_is c.args.kind c.args.ident c.requires in
-    let t = views.tied-less c.self.inside.pid_max c.self.inside.spaces c.self.inside.idents c.less_use.new.idents c.self.invariant.tied c.args.kind c.args.ident u.0 u.1 (c.less_use.ensures.here u.0 u.1).0 c.less_use.ensures.others in
-    ties.numbering-with c.self.inside.pid_max (way c.self.inside.spaces) (way c.release_path.new.spaces) (seen c.self.inside.spaces) (seen c.release_path.new.spaces) (bound_on c.self.inside.spaces) (bound_on c.release_path.new.spaces) (name_at c.self.inside.idents) (name_at c.try_remove.new.self) c.self.invariant c.release_path.ensures.way c.release_path.ensures.bound
-    (ties.tied-released (way c.self.inside.spaces) (way c.release_path.new.spaces) (seen c.self.inside.spaces) (seen c.release_path.new.spaces) (name_at c.less_use.new.idents) (name_at c.try_remove.new.self) t c.release_path.ensures.way c.args.ident
-    (λ j m. ap (option_map identifier_of) (c.try_remove.ensures.updates.others j m)) (identifier_of c.in-Some.gone) (ap (option_map identifier_of) (sym c.try_remove.ensures.value ∙ c.in-Some.is)) (ap (option_map identifier_of) c.try_remove.ensures.updates.changed) c.release_path.ensures.seen)
+    let spaces = c.self.inside.spaces in
+    let idents = c.self.inside.idents in
+    let kind = c.args.kind in
+    let had : is_used_as kind (name_at idents c.args.ident) ≡ true = ap (is_used_as kind) (sym (views.identifier_is c.self.inside.pid_max spaces idents c.args.self.now c.self.view_is c.args.ident)) ∙ c.requires in
+    let v = views.used kind (name_at idents c.args.ident) had in
+    let g : identifier_of c.in-Some.gone ≡ less kind v.0 = gone_is (name_at c.less_use.new.idents) c.args.ident (identifier_of c.in-Some.gone) (less kind v.0) (c.less_use.ensures.here v.0 v.1) (ap (option_map identifier_of) (sym c.try_remove.ensures.value ∙ c.in-Some.is)) in
+    ties.numbering-released c.self.inside.pid_max (way spaces) (way c.release_path.new.spaces) (entry_on spaces) (entry_on c.release_path.new.spaces) (bound_on spaces) (bound_on c.release_path.new.spaces) (name_at idents) (name_at c.try_remove.new.self) c.self.invariant c.release_path.ensures.way c.release_path.ensures.bound
+    c.args.ident v.0 (λ j m. ap (option_map identifier_of) (c.try_remove.ensures.updates.others j m) ∙ c.less_use.ensures.others j m) v.1 (ap (option_map identifier_of) c.try_remove.ensures.updates.changed)
+    (λ s n. c.release_path.ensures.entries s n
+    ∙ ap (λ p. touched (way spaces p) c.in-Some.gone.numbers (λ _. None) (entry_on spaces) s n) (ap (λ u. u.space) g ∙ ties.space-kept kind (uses kind v.0 - 1) v.0)
+    ∙ ap (λ l. touched (way spaces v.0.space) l (λ _. None) (entry_on spaces) s n) (ap (λ u. u.numbers) g ∙ ties.numbers-kept kind (uses kind v.0 - 1) v.0))
+
+pub returns-clause-here : goal.returns-clause-here
+returns-clause-here c u is =
+    let now = c.less_use.ensures.here u (sym (views.identifier_is c.self.inside.pid_max c.self.inside.spaces c.self.inside.idents c.args.self.now c.self.view_is c.args.ident) ∙ is) in
+    let none : is_used (less c.args.kind u) ≡ false = sym (c.in_use.ensures (less c.args.kind u) now) ∙ c.if-in_use.false in
+    views.name_is c.self.inside.pid_max c.release_path.new.spaces c.try_remove.new.self c.args.ident ∙ ap (option_map identifier_of) c.try_remove.ensures.updates.changed
+    ∙ sym (ap (λ b. if b then Some (less c.args.kind u) else None) none)
 
 pub returns-clause-others : goal.returns-clause-others
 returns-clause-others c j m =
     views.name_is c.self.inside.pid_max c.release_path.new.spaces c.try_remove.new.self j ∙ ap (option_map identifier_of) (c.try_remove.ensures.updates.others j m) ∙ c.less_use.ensures.others j m
-    ∙ sym (views.name_is c.self.inside.pid_max c.self.inside.spaces c.self.inside.idents j) ∙ ap (λ b. identifier_at b j) c.self.view_is
+    ∙ sym (views.identifier_is c.self.inside.pid_max c.self.inside.spaces c.self.inside.idents c.args.self.now c.self.view_is j)

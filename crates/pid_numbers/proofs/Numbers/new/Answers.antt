@@ -1,6 +1,6 @@
 use Rattle.std.proofs.Common.{◌≡◌, ◌∙◌, ap, get_or, None, option_map}
 use Rattle.slab.specs.Slab.{get}
-use Rattle.pid_numbers.specs.Numbering.{namespace_of}
+use Rattle.pid_numbers.specs.Slabs.{namespace_of}
 use Rattle.pid_numbers.proofs.Ties as ties
 use Rattle.pid_numbers.proofs.Numbers.new.Goals as goal
 

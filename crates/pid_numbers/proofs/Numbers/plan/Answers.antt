@@ -1,5 +1,6 @@
 use Rattle.std.proofs.Common.{◌≡◌, sym, subst, find, is_none, None, map, unwrap_or, Some, IfOk, IfErr}
-use Rattle.pid_numbers.specs.Numbering.{draw_in, path_at, plan_on, numbering_of}
+use Rattle.pid_numbers.specs.Numbering.{draw_in, path_at}
+use Rattle.pid_numbers.specs.Slabs.{plan_on, numbering_of}
 use Rattle.pid_numbers.proofs.Views as views
 use Rattle.pid_numbers.proofs.Numbers.plan.Goals as goal
 

@@ -1,5 +1,5 @@
 use Rattle.std.proofs.Common.{◌≡◌, ◌∷◌, take}
-use Rattle.pid_numbers.specs.Numbering.{way}
+use Rattle.pid_numbers.specs.Slabs.{way}
 use Rattle.pid_numbers.proofs.spaces.path_below.Given as goal
 
 abbrev pub invariant-loop-k : goal.invariant-loop-k

@@ -1,5 +1,5 @@
 use Rattle.std.proofs.Common.{◌≡◌, map, take, drop, find, is_none, unwrap_or}
-use Rattle.pid_numbers.specs.Numbering.{way, plan_on}
+use Rattle.pid_numbers.specs.Slabs.{way, plan_on}
 use Rattle.pid_numbers.proofs.spaces.plan_path.Given as goal
 
 abbrev pub invariant-loop-k : goal.invariant-loop-k
