@@ -1,3 +1,5 @@
 pub mod Ties
+pub mod Sweeps
 pub mod Views
+pub mod Drops
 pub mod Model

@@ -472,3 +472,17 @@ module _ (pid_max : ℕ) (ways ways' : ℕ → List ℕ) (at at' : ℕ → ℕ �
     where
       misses : (s n : ℕ) → beside s (ways v.space) v.numbers ≢ Some n → at' s n ≡ at s n
       misses s n miss = is s n ∙ touched-miss (ways v.space) v.numbers (with_mark (mark_of kind) on) at s n miss
+
+-- a change of marks leads nowhere else
+pub leads-marked : (path numbers : List ℕ) (m : ℕ) (on : Bool) (at at' : ℕ → ℕ → Option (Entry ℕ)) → ((s n : ℕ) → at' s n ≡ touched path numbers (with_mark m on) at s n) → (s n : ℕ) → leads at' s n ≡ leads at s n
+leads-marked path numbers m on at at' is s n = elim (decide_some (beside s path numbers) n) [
+  | inl hit ↦ ap (option_map (λ e. e.value)) (is s n ∙ touched-hit path numbers (with_mark m on) at s n hit) ∙ value-marked m on (at s n)
+  | inr miss ↦ ap (option_map (λ e. e.value)) (is s n ∙ touched-miss path numbers (with_mark m on) at s n miss)
+]
+
+-- a number that was in use is so still once others are given
+pub leads-given : (path numbers : List ℕ) (key : ℕ) (at at' : ℕ → ℕ → Option (Entry ℕ)) → ((s n : ℕ) → at' s n ≡ touched path numbers (λ _. given_to key) at s n) → (s n i : ℕ) → leads at s n ≡ Some i → (j : ℕ) × (leads at' s n ≡ Some j)
+leads-given path numbers key at at' is s n i led = elim (decide_some (beside s path numbers) n) [
+  | inl hit ↦ (key, ap (option_map (λ e. e.value)) (is s n ∙ touched-hit path numbers (λ _. given_to key) at s n hit))
+  | inr miss ↦ (i, ap (option_map (λ e. e.value)) (is s n ∙ touched-miss path numbers (λ _. given_to key) at s n miss) ∙ led)
+]

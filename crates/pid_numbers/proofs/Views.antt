@@ -16,10 +16,10 @@ use Rattle.index_array.proofs.Indexes.{contains_indexes}
 use Rattle.cyclic_ids.proofs.Draws.{cyclic_draw-same}
 use Rattle.pid_numbers.specs.declared.spaces.Space.{Space}
 use Rattle.pid_numbers.specs.declared.names.Ident.{Ident}
-use Rattle.pid_numbers.specs.Numbering.{Numbering, Identifier, namespace_at, identifier_at, path_at, number_in, number_of, taken_in, draw_in, is_used_as, is_used, with_uses, uses, more, IsNumberUsedAs, IsNextUsed}
+use Rattle.pid_numbers.specs.Numbering.{Numbering, Identifier, Namespace, moved, namespace_at, identifier_at, path_at, number_in, number_of, taken_in, draw_in, is_used_as, is_used, with_uses, uses, more, IsNumberUsedAs, IsNextUsed}
 use Rattle.pid_types.specs.declared.call.Kind.{Kind}
 use Rattle.pid_types.specs.declared.call.Kind.TheVariants.{Task, Group, Session}
-use Rattle.pid_numbers.specs.Slabs.{numbering_of, namespace_of, identifier_of, way, entry_on, leads, plan_on, name_at, namespaces_of, marks_of, mark_of, bound_on, ArePlanned, IsTied, IsNumbering}
+use Rattle.pid_numbers.specs.Slabs.{fell, numbering_of, namespace_of, identifier_of, way, entry_on, leads, plan_on, name_at, namespaces_of, marks_of, mark_of, bound_on, ArePlanned, IsTied, IsNumbering}
 use Rattle.pid_numbers.proofs.Ties.{at_key, get_or-map_option, listed_from, listed, planned_each}
 
 module _ (pid_max : ℕ) (spaces : Slab Space) (idents : Slab Ident) where
@@ -237,3 +237,12 @@ module _ (pid_max : ℕ) (spaces : Slab Space) (idents : Slab Ident) (b : IsNumb
       | inr past ↦ past
     ],
   )
+
+-- what has fallen is seen in the namespaces
+pub fell-same : (a b : Slab Space) → namespaces_of a ≡ namespaces_of b → (s : ℕ) → fell a s ≡ fell b s
+fell-same a b same s = ap (λ o. option_map_or (λ t. t.fallen) o false) (sym (get_or-map_option namespace_of a.slots s) ∙ ap (λ l. get_or l s None) same ∙ get_or-map_option namespace_of b.slots s)
+
+-- and a cursor that moves changes none of it
+pub fell-moved : (path numbers : List ℕ) (s : ℕ) (o : Option Namespace) → option_map_or (λ t. t.fallen) (option_map (moved path numbers s) o) false ≡ option_map_or (λ t. t.fallen) o false
+fell-moved path numbers s None = refl
+fell-moved path numbers s (Some t) = refl

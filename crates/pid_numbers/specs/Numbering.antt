@@ -1,5 +1,5 @@
 -- What a contract sees of `Numbers`: the namespaces and the identifiers by key.
-use Rattle.std.specs.Prelude.{◌≡◌, ◌-◌, ℕ, ◌+◌, ◌<◌, ◌≤◌, ◌==◌, ◌&&◌, Bool, true, false, List, [], ◌∷◌, map, filter_map, Option, Some, None, option_and_then, not, if◌then◌else◌, slice_index_or, MatchOption}
+use Rattle.std.specs.Prelude.{◌≡◌, ◌-◌, ℕ, ◌+◌, ◌<◌, ◌≤◌, ◌==◌, ◌&&◌, Bool, true, false, List, [], ◌∷◌, length, map, filter_map, Option, Some, None, option_and_then, not, if◌then◌else◌, slice_index_or, MatchOption}
 use Rattle.std.specs.Option.{option_map_or}
 use Rattle.pid_types.specs.Names.{beside}
 use Rattle.pid_types.specs.Draw.{cyclic_draw}
@@ -54,6 +54,14 @@ taken_in b s = filter_map (number_in (path_at b) s) b.names
 -- the number that the namespace gives next
 abbrev pub draw_in : Numbering → ℕ → Option ℕ
 draw_in b s = option_and_then (λ t. cyclic_draw b.pid_max t.cursor (taken_in b s)) (namespace_at b s)
+
+-- whether the namespace has fallen and no identifier has a number in it any more
+abbrev pub is_dead : Numbering → ℕ → Namespace → Bool
+is_dead b s t = t.fallen && (length (taken_in b s) == 0)
+
+-- the namespace with the key, where it is not dead: what a sweep leaves
+abbrev pub swept_at : Numbering → ℕ → Option Namespace
+swept_at b s = option_and_then (λ t. if is_dead b s t then None else Some t) (namespace_at b s)
 
 -- a new namespace with this path
 abbrev pub new_namespace : ℕ → List ℕ → Namespace

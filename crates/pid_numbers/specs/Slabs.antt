@@ -1,9 +1,10 @@
 -- The slabs of namespaces and identifiers, and what ties them.
-use Rattle.std.specs.Prelude.{◌≡◌, ◌≢◌, ◌⊎◌, ℕ, ◌+◌, ◌<◌, ◌≤◌, ◌==◌, Bool, true, false, List, [], ◌∷◌, length, map, Option, Some, None, option_map, option_and_then, if◌then◌else◌, slice_index_or}
+use Rattle.std.specs.Prelude.{◌≡◌, ◌≢◌, ◌⊎◌, ℕ, ◌+◌, ◌<◌, ◌≤◌, ◌==◌, ◌&&◌, Bool, true, false, List, [], ◌∷◌, length, map, Option, Some, None, option_map, option_and_then, if◌then◌else◌, slice_index_or}
 use Rattle.std.specs.Option.{option_map_or, option_eq}
 use Rattle.slab.specs.Slab.{Slab, get}
-use Rattle.index_array.specs.Place.{Entry, entry_at, is_prepared}
+use Rattle.index_array.specs.Place.{Entry, entry_at, is_prepared, indexes}
 use Rattle.cyclic_ids.specs.Ids.{planned}
+use Rattle.pid_types.specs.Chains.{contains}
 use Rattle.pid_types.specs.Names.{beside}
 use Rattle.pid_types.specs.Settings.{HasGoodPidMax}
 use Rattle.pid_types.specs.declared.call.Kind.{Kind}
@@ -96,6 +97,33 @@ pub record IsNumbering (pid_max : ℕ) (ways : ℕ → List ℕ) (at : ℕ → �
   pub tied : IsTied ways names (leads at)
   pub range : AreInRange pid_max (leads at)
   pub marks : AreMarked at names
+
+-- whether the namespace is there and has fallen
+abbrev pub fell : Slab Space → ℕ → Bool
+fell spaces s = option_map_or (λ t. t.fallen) (namespace_on spaces s) false
+
+-- the root stands, what is in a fallen namespace has fallen, and each fallen namespace has a number in use
+pub record AreFallen (ways : ℕ → List ℕ) (at : ℕ → ℕ → Option (Entry ℕ)) (fell : ℕ → Bool) : Type 0 where
+  pub stands : fell 0 ≡ false
+  pub inner : (t j : ℕ) → j < length (ways t) → fell (slice_index_or (ways t) j 0) ≡ true → fell t ≡ true
+  pub held : (s : ℕ) → fell s ≡ true → (n : ℕ) × (i : ℕ) × (leads at s n ≡ Some i)
+
+-- all of that
+pub record IsWhole (pid_max : ℕ) (ways : ℕ → List ℕ) (at : ℕ → ℕ → Option (Entry ℕ)) (bound : ℕ → Option ℕ) (names : ℕ → Option Identifier) (fell : ℕ → Bool) : Type 0 where
+  pub numbering : IsNumbering pid_max ways at bound names
+  pub fallen : AreFallen ways at fell
+
+-- whether it has fallen and no number in it is in use
+abbrev pub dead_on : Slab Space → ℕ → Bool
+dead_on spaces s = option_map_or (λ t. t.fallen && (length (indexes t.ids.places) == 0)) (get spaces s) false
+
+-- whether it is one of the path that is dead
+abbrev pub goes : List ℕ → Slab Space → ℕ → Bool
+goes path spaces s = contains path s && dead_on spaces s
+
+-- what is there once the dead ones of the path have gone
+abbrev pub left_on : List ℕ → Slab Space → ℕ → Option Space
+left_on path spaces s = if goes path spaces s then None else get spaces s
 
 -- what stands at each number, with a change at the numbers along the path
 abbrev pub touched : List ℕ → List ℕ → (Option (Entry ℕ) → Option (Entry ℕ)) → (ℕ → ℕ → Option (Entry ℕ)) → ℕ → ℕ → Option (Entry ℕ)

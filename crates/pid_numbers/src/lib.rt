@@ -9,7 +9,7 @@
 #![tactic(auto)]
 
 ghost use Rattle.std.specs.Prelude.{◌≡◌, ◌≢◌, ℕ, ◌+◌, ◌<◌, ◌≤◌, ◌^◌, length, map, Some, None, IsSome, IfOk, IfErr, IfSome, OnOk, OnErr, MatchOption, option_map, find, is_none, unwrap_or, slice_index_or, true, [], ◌∷◌};
-ghost use Rattle.pid_numbers.specs.Numbering.{Identifier, namespace_at, identifier_at, number_of, path_at, draw_in, moved, more, less, left_of, uses, is_used_as, new_namespace, new_identifier, IsNextUsed};
+ghost use Rattle.pid_numbers.specs.Numbering.{Identifier, namespace_at, identifier_at, number_of, path_at, draw_in, moved, more, less, left_of, uses, is_used_as, swept_at, new_namespace, new_identifier, IsNextUsed};
 ghost use Rattle.pid_types.specs.Settings.{HasGoodPidMax};
 
 mod levels;
@@ -23,7 +23,8 @@ use names::{Ident, has_use, in_use, less_use, make_room, mark_numbers, more_use}
 use pid_types::call::Kind;
 use slab::Slab;
 use spaces::{
-    Space, give_path, look, next_at, plan_path, prepare_path, release_path, room_for_space,
+    Space, fallen_path, give_path, look, next_at, plan_path, prepare_path, release_path,
+    room_for_space, sweep_path,
 };
 use std::alloc::{AllocError, Global};
 use std::marker::Model;
@@ -39,13 +40,13 @@ pub struct Numbers {
 
 impl Model for Numbers {
     ghost use Rattle.pid_numbers.specs.Numbering.{Numbering};
-    ghost use Rattle.pid_numbers.specs.Slabs.{numbering_of, IsNumbering, way, entry_on, bound_on, name_at};
+    ghost use Rattle.pid_numbers.specs.Slabs.{numbering_of, IsWhole, way, entry_on, bound_on, name_at, fell};
 
     ghost Value = { Numbering };
 
     ghost view = { λ a. numbering_of a.pid_max a.spaces a.idents };
 
-    ghost invariant = { λ a. IsNumbering a.pid_max (way a.spaces) (entry_on a.spaces) (bound_on a.spaces) (name_at a.idents) };
+    ghost invariant = { λ a. IsWhole a.pid_max (way a.spaces) (entry_on a.spaces) (bound_on a.spaces) (name_at a.idents) (fell a.spaces) };
 }
 
 impl Numbers {
@@ -144,13 +145,14 @@ impl Numbers {
         mark_numbers(&mut self.spaces, &self.idents, ident, kind, true);
     }
 
-    /// One use less. With the last use the identifier goes, and its numbers are free. The last use of a
-    /// kind costs a step for each level.
+    /// One use less. With the last use the identifier goes, and its numbers are free; a namespace that
+    /// has fallen goes with the last number in it, as the kernel frees a namespace with its last process
+    /// (`namespaces(7)`, "Namespace lifetime"). The last use of a kind costs a step for each level.
     pub fn drop_use(&mut self, ident: u32, kind: Kind)
         requires { is_used_as kind (identifier_at self.old ident) ≡ true }
         ensures here { (u : Identifier) → identifier_at self.old ident ≡ Some u → identifier_at self.new ident ≡ left_of (less kind u) }
         ensures others { (j : ℕ) → j ≢ ident → identifier_at self.new j ≡ identifier_at self.old j }
-        ensures namespaces { self.new.namespaces ≡ self.old.namespaces }
+        ensures namespaces { (s : ℕ) → namespace_at self.new s ≡ swept_at (record self.old { names = self.new.names }) s }
     {
         less_use(&mut self.idents, ident, kind);
         if has_use(&self.idents, ident, kind) {
@@ -163,6 +165,8 @@ impl Numbers {
         let Some(gone) = self.idents.try_remove(ident as usize) else {
             unreachable!()
         };
+        let path = fallen_path(&self.spaces, gone.space);
         release_path(&mut self.spaces, gone.space, &gone.numbers);
+        sweep_path(&mut self.spaces, &path);
     }
 }

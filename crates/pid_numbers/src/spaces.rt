@@ -1,9 +1,9 @@
 //! Namespaces, and walks along their paths.
 
-ghost use Rattle.std.specs.Prelude.{◌≡◌, ◌≢◌, ℕ, ◌+◌, ◌<◌, ◌≤◌, length, map, option_map, Some, None, IsSome, IfOk, IfErr, IfSome, OnOk, OnErr, MatchOption, find, is_none, unwrap_or, slice_index_or, true, false, [], ◌∷◌};
+ghost use Rattle.std.specs.Prelude.{◌≡◌, ◌≢◌, ℕ, ◌+◌, ◌<◌, ◌≤◌, length, map, option_map, Some, None, IsSome, IfOk, IfErr, IfSome, OnOk, OnErr, MatchOption, find, is_none, unwrap_or, slice_index_or, true, false, [], ◌∷◌, ◌&&◌, ◌==◌, if◌then◌else◌, drop};
 ghost use Rattle.slab.specs.Slab.{get, HasRoomFor};
-ghost use Rattle.index_array.specs.Place.{Entry, with_mark, is_marked, IsLeastIndex};
-ghost use Rattle.pid_numbers.specs.Slabs.{way, entry_on, leads, plan_on, touched, given_to, ready, namespaces_of, namespace_on, bound_on, stepped, mark_of, IsDistinct, ArePlanned, AreReady};
+ghost use Rattle.index_array.specs.Place.{Entry, entry_at, indexes, with_mark, is_marked, IsLeastIndex};
+ghost use Rattle.pid_numbers.specs.Slabs.{way, fell, dead_on, left_on, entry_on, leads, plan_on, touched, given_to, ready, namespaces_of, namespace_on, bound_on, stepped, mark_of, IsDistinct, ArePlanned, AreReady};
 ghost use Rattle.pid_numbers.specs.Numbering.{moved};
 
 use crate::levels::LevelNumbers;
@@ -244,6 +244,63 @@ pub(crate) fn next_at(spaces: &Slab<Space>, space: u32, kind: Kind, from: u32) -
     match spaces.get(space as usize) {
         Some(s) => s.ids.next_marked(from, mark(kind)),
         None => None,
+    }
+}
+
+/// Whether the namespace is there and has fallen.
+pub(crate) fn has_fallen(spaces: &Slab<Space>, space: u32) -> bool
+    ensures { result ≡ fell spaces.now space }
+{
+    match spaces.get(space as usize) {
+        Some(s) => s.fallen,
+        None => false,
+    }
+}
+
+/// The path of the namespace, where it has fallen.
+pub(crate) fn fallen_path(spaces: &Slab<Space>, space: u32) -> ArrayVec<u32, 33>
+    ensures { result.items ≡ if fell spaces.now space then way spaces.now space else [] }
+{
+    let mut path = ArrayVec::<u32, 33>::new();
+    if !has_fallen(spaces, space) {
+        return path;
+    }
+    for k in 0..levels(spaces, space) {
+        path.push(key_at(spaces, space, k));
+    }
+    path
+}
+
+/// Whether the namespace has fallen and no number in it is in use.
+fn is_dead(space: &Space) -> bool
+    requires { (n : ℕ) → entry_at space.now.ids.places n ≢ None → n < 16777216 }
+    ensures { result ≡ space.now.fallen && (length (indexes space.now.ids.places) == 0) }
+{
+    space.fallen && space.ids.next(0).is_none()
+}
+
+/// Drops the namespace, where it is dead.
+fn drop_dead(spaces: &mut Slab<Space>, key: u32)
+    requires { (n : ℕ) → entry_on spaces.old key n ≢ None → n < 16777216 }
+    ensures here { get spaces.new key ≡ if dead_on spaces.old key then None else get spaces.old key }
+    ensures others { (s : ℕ) → s ≢ key → get spaces.new s ≡ get spaces.old s }
+{
+    let dead = match spaces.get(key as usize) {
+        Some(s) => is_dead(s),
+        None => false,
+    };
+    if dead {
+        let _ = spaces.try_remove(key as usize);
+    }
+}
+
+/// Drops the dead namespaces of the path.
+pub(crate) fn sweep_path(spaces: &mut Slab<Space>, path: &ArrayVec<u32, 33>)
+    requires { (s n : ℕ) → entry_on spaces.old s n ≢ None → n < 16777216 }
+    ensures { (s : ℕ) → get spaces.new s ≡ left_on path.now.items spaces.old s }
+{
+    for k in 0..path.len() {
+        drop_dead(spaces, path[k]);
     }
 }
 
