@@ -7,9 +7,10 @@ use Rattle.index_array.specs.Place.{Entry, Place, entry_at, indexes}
 use Rattle.index_array.proofs.Indexes.{contains_indexes}
 use Rattle.pid_numbers.specs.declared.spaces.Space.{Space}
 use Rattle.pid_numbers.specs.declared.names.Ident.{Ident}
-use Rattle.pid_numbers.specs.Numbering.{Identifier, Namespace, Numbering, namespace_at, identifier_at, is_used_as, less, uses, taken_in, is_dead, swept_at}
+use Rattle.pid_numbers.specs.Numbering.{Identifier, Namespace, Numbering, namespace_at, identifier_at, is_used_as, less, uses, number_in, path_at, taken_in, is_dead, swept_at}
 use Rattle.pid_numbers.specs.Slabs.{namespace_of, namespaces_of, namespace_on, numbering_of, name_at, way, entry_on, bound_on, leads, fell, dead_on, goes, left_on, touched, IsTied, IsNumbering, AreFallen, IsWhole}
-use Rattle.pid_numbers.proofs.Ties.{get_or-map_option, at_key}
+use Rattle.pid_numbers.proofs.Ties.{get_or-map_option, at_key, listed_from}
+use Rattle.std.proofs.lemmas.Bool.Decides.{nat_tests}
 use Rattle.pid_numbers.proofs.Views.{taken_same, fell-same}
 use Rattle.pid_types.specs.declared.call.Kind.{Kind}
 use Rattle.pid_numbers.proofs.Views as views
@@ -233,3 +234,12 @@ module _ (pid_max : ℕ) (spaces spaces1 : Slab Space) (names names' : ℕ → O
   -- and in the other namespaces nothing has changed
   pub off-release : (s n : ℕ) → contains (way spaces gone.space) s ≡ false → entry_on spaces1 s n ≡ entry_on spaces s n
   off-release s n out = entries s n ∙ ties.touched-miss (way spaces gone.space) gone.numbers (λ _. None) (entry_on spaces) s n (sweeps.off-path s (way spaces gone.space) gone.numbers (gone-len (way spaces) names (leads (entry_on spaces)) b.tied i gone one) out n)
+
+-- a namespace with a number in use holds one that leads to its identifier
+pub taken-held : (pid_max : ℕ) (spaces : Slab Space) (idents : Slab Ident) → IsNumbering pid_max (way spaces) (entry_on spaces) (bound_on spaces) (name_at idents) → (s : ℕ)
+    → 0 < length (taken_in (numbering_of pid_max spaces idents) s) → (n : ℕ) × (i : ℕ) × (leads (entry_on spaces) s n ≡ Some i)
+unfolding taken_in
+taken-held pid_max spaces idents b s some =
+    let r = sweeps.one_in (taken_in (numbering_of pid_max spaces idents) s) (grind (arith, nat_tests, some)) in
+    let x = listed_from (number_in (path_at (numbering_of pid_max spaces idents)) s) (numbering_of pid_max spaces idents).names r.0 r.1 in
+    (r.0, x.0, b.tied.kept s r.0 x.0 (sym (views.number_is pid_max spaces idents x.0 s) ∙ x.1))

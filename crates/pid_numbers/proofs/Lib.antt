@@ -2,4 +2,5 @@ pub mod Ties
 pub mod Sweeps
 pub mod Views
 pub mod Drops
+pub mod Adds
 pub mod Model

@@ -1,5 +1,5 @@
 -- Namespaces that fall, and those that go.
-use Rattle.std.proofs.Common.{◌≡◌, ◌≢◌, ◌⊎◌, inl, inr, ℕ, zero, suc, ◌+◌, ◌<◌, ◌≤◌, Bool, true, false, ◌==◌, ◌&&◌, ◌||◌, List, [], ◌∷◌, length, get_or, drop, length-drop, Option, Some, None, is_some, is_none, not, option_and_then, if◌then◌else◌, refl, sym, ap, subst, ◌∙◌, arith, option_map, unwrap_or}
+use Rattle.std.proofs.Common.{◌≡◌, ◌≢◌, ◌⊎◌, inl, inr, ℕ, zero, suc, ◌+◌, ◌-◌, ◌<◌, ◌≤◌, Bool, true, false, ◌==◌, ◌&&◌, ◌||◌, List, [], ◌∷◌, length, get_or, drop, length-drop, Option, Some, None, is_some, is_none, not, option_and_then, if◌then◌else◌, refl, sym, ap, subst, ◌∙◌, arith, option_map, unwrap_or}
 use Rattle.std.specs.Option.{option_map_or}
 use Rattle.std.proofs.lemmas.List.{get_or-drop}
 use Rattle.std.proofs.lemmas.Bool.{cases_eq, eq-eqb}
@@ -332,3 +332,64 @@ module _ (key : ℕ) (rest : List ℕ) (old new : Slab Space) (here : get new ke
 pub through : {X Y : Type 0} (h : X → Y) (g : Bool) (a b : X) → h (if g then a else b) ≡ if g then h a else h b
 through h true a b = refl
 through h false a b = refl
+
+-- where a namespace stands on the path of another
+module _ (ways : ℕ → List ℕ) (tree : IsTree ways) (key outer : ℕ) where
+  within : contains (ways key) outer ≡ true → (0 < length (ways outer)) × (length (ways outer) ≤ length (ways key)) × (get_or (ways key) (length (ways key) - length (ways outer)) 0 ≡ outer)
+  within e =
+      let p = place_of (ways key) outer e in
+      let rest : ways outer ≡ drop p.0 (ways key) = ap ways (sym p.2) ∙ at-path ways (ways key) (tree.paths key) p.0 p.1 in
+      let len : length (ways outer) ≡ length (drop p.0 (ways key)) = ap length rest in
+      let dropped = length-drop p.0 (ways key) in
+      let lt = p.1 in
+      let place : length (ways key) - length (ways outer) ≡ p.0 = omega (arith, len, dropped, lt) in
+      (omega (arith, len, dropped, lt), omega (arith, len, dropped, lt), ap (λ j. get_or (ways key) j 0) place ∙ p.2)
+
+  pub not-within : (0 < length (ways outer) → length (ways outer) ≤ length (ways key) → ⊥) → false ≡ contains (ways key) outer
+  not-within h = elim (cases (contains (ways key) outer)) [
+    | inl e ↦ absurd (let w = within e in h w.0 w.1)
+    | inr e ↦ sym e
+  ]
+
+  pub within-by : (j : ℕ) → 0 < length (ways outer) → length (ways outer) ≤ length (ways key) → j ≡ length (ways key) - length (ways outer) → (get_or (ways key) j 0 == outer) ≡ contains (ways key) outer
+  within-by j some few is = elim (cases_eq (get_or (ways key) j 0) outer) [
+    | inl e ↦ eq-eqb (get_or (ways key) j 0) outer e ∙ sym (ap (contains (ways key)) (sym e) ∙ contains_at (ways key) j (omega (arith, some, few, is)))
+    | inr d ↦ elim (cases (contains (ways key) outer)) [
+      | inl e ↦ absurd (d (ap (λ k. get_or (ways key) k 0) is ∙ (within e).2))
+      | inr e ↦ (let off : (get_or (ways key) j 0 == outer) ≡ false = grind (arith, d) in off ∙ sym e)
+    ]
+  ]
+
+-- a namespace falls with all inside it
+module _ (pid_max : ℕ) (ways : ℕ → List ℕ) (at : ℕ → ℕ → Option (Entry ℕ)) (bound : ℕ → Option ℕ) (names : ℕ → Option Identifier) (b : IsNumbering pid_max ways at bound names) (fell fell' : ℕ → Bool) (f : AreFallen ways at fell)
+    (outer : ℕ) (inner : outer ≢ 0) (falls : (s : ℕ) → fell' s ≡ (fell s || contains (ways s) outer)) (held : (s : ℕ) → contains (ways s) outer ≡ true → (n : ℕ) × (i : ℕ) × (leads at s n ≡ Some i)) where
+  either : (x y : Bool) → (x || y) ≡ true → (x ≡ true) ⊎ (y ≡ true)
+  either true y e = inl refl
+  either false y e = inr e
+
+  first : (x y : Bool) → x ≡ true → (x || y) ≡ true
+  first true y e = refl
+  first false y e = absurd (cc)
+
+  second : (x y : Bool) → y ≡ true → (x || y) ≡ true
+  second true y e = refl
+  second false y e = e
+
+  pub fallen-fell : AreFallen ways at fell'
+  fallen-fell = record {
+    stands =
+        let differs : 0 ≢ outer = λ e. inner (sym e) in
+        let off : (0 == outer) ≡ false = grind (arith, differs) in
+        falls 0 ∙ ap (λ p. fell 0 || contains p outer) b.tree.root ∙ ap (λ x. x || (0 == outer || false)) f.stands ∙ ap (λ x. x || false) off;
+    inner = λ t j lt e. elim (either (fell (get_or (ways t) j 0)) (contains (ways (get_or (ways t) j 0)) outer) (sym (falls (get_or (ways t) j 0)) ∙ e)) [
+      | inl was ↦ falls t ∙ first (fell t) (contains (ways t) outer) (f.inner t j lt was)
+      | inr within ↦
+          let p = place_of (ways (get_or (ways t) j 0)) outer within in
+          let r = around-around pid_max ways at bound names b t j p.0 lt p.1 in
+          falls t ∙ second (fell t) (contains (ways t) outer) (ap (contains (ways t)) (sym (r.1 ∙ p.2)) ∙ contains_at (ways t) (j + p.0) r.0)
+    ];
+    held = λ s e. elim (either (fell s) (contains (ways s) outer) (sym (falls s) ∙ e)) [
+      | inl was ↦ f.held s was
+      | inr within ↦ held s within
+    ];
+  }

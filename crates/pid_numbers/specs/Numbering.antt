@@ -1,6 +1,7 @@
 -- What a contract sees of `Numbers`: the namespaces and the identifiers by key.
-use Rattle.std.specs.Prelude.{◌≡◌, ◌-◌, ℕ, ◌+◌, ◌<◌, ◌≤◌, ◌==◌, ◌&&◌, Bool, true, false, List, [], ◌∷◌, length, map, filter_map, Option, Some, None, option_and_then, not, if◌then◌else◌, slice_index_or, MatchOption}
+use Rattle.std.specs.Prelude.{◌≡◌, ◌-◌, ℕ, ◌+◌, ◌<◌, ◌≤◌, ◌==◌, ◌&&◌, ◌||◌, Bool, true, false, List, [], ◌∷◌, length, map, filter_map, Option, Some, None, option_and_then, not, if◌then◌else◌, slice_index_or, MatchOption}
 use Rattle.std.specs.Option.{option_map_or}
+use Rattle.pid_types.specs.Chains.{contains}
 use Rattle.pid_types.specs.Names.{beside}
 use Rattle.pid_types.specs.Draw.{cyclic_draw}
 use Rattle.pid_types.specs.declared.call.Kind.{Kind}
@@ -62,6 +63,10 @@ is_dead b s t = t.fallen && (length (taken_in b s) == 0)
 -- the namespace with the key, where it is not dead: what a sweep leaves
 abbrev pub swept_at : Numbering → ℕ → Option Namespace
 swept_at b s = option_and_then (λ t. if is_dead b s t then None else Some t) (namespace_at b s)
+
+-- the namespace, fallen if it is the other one or inside it
+abbrev pub fallen_within : ℕ → Namespace → Namespace
+fallen_within outer t = record t { fallen = t.fallen || contains t.path outer }
 
 -- a new namespace with this path
 abbrev pub new_namespace : ℕ → List ℕ → Namespace

@@ -8,8 +8,10 @@
 //! an identifier that is gone may be given again.
 #![tactic(auto)]
 
-ghost use Rattle.std.specs.Prelude.{◌≡◌, ◌≢◌, ℕ, ◌+◌, ◌<◌, ◌≤◌, ◌^◌, length, map, Some, None, IsSome, IfOk, IfErr, IfSome, OnOk, OnErr, MatchOption, option_map, find, is_none, unwrap_or, slice_index_or, true, [], ◌∷◌};
-ghost use Rattle.pid_numbers.specs.Numbering.{Identifier, namespace_at, identifier_at, number_of, path_at, draw_in, moved, more, less, left_of, uses, is_used_as, swept_at, new_namespace, new_identifier, IsNextUsed};
+ghost use Rattle.std.specs.Prelude.{◌≡◌, ◌≢◌, ℕ, ◌+◌, ◌<◌, ◌≤◌, ◌^◌, length, map, Some, None, IsSome, IfOk, IfErr, IfSome, OnOk, OnErr, MatchOption, option_map, find, is_none, unwrap_or, slice_index_or, true, false, [], ◌∷◌, drop};
+ghost use Rattle.pid_numbers.specs.Numbering.{Identifier, namespace_at, identifier_at, number_of, path_at, draw_in, moved, more, less, left_of, uses, is_used_as, swept_at, new_namespace, new_identifier, fallen_within, taken_in, IsNextUsed};
+ghost use Rattle.pid_types.specs.Chains.{contains};
+ghost use Rattle.std.specs.Option.{option_map_or};
 ghost use Rattle.pid_types.specs.Settings.{HasGoodPidMax};
 
 mod levels;
@@ -23,8 +25,8 @@ use names::{Ident, has_use, in_use, less_use, make_room, mark_numbers, more_use}
 use pid_types::call::Kind;
 use slab::Slab;
 use spaces::{
-    Space, fallen_path, give_path, look, next_at, plan_path, prepare_path, release_path,
-    room_for_space, sweep_path,
+    Space, fall_all, fallen_path, first_ids, give_path, levels, look, next_at, path_below,
+    plan_path, prepare_path, release_path, room_for_space, sweep_path,
 };
 use std::alloc::{AllocError, Global};
 use std::marker::Model;
@@ -116,17 +118,28 @@ impl Numbers {
         ensures err { OnErr result (self.new ≡ self.old) }
     {
         let key = make_room(&mut self.idents)?;
-        let numbers = LevelNumbers::from(self.alloc, numbers)?;
-        prepare_path(&mut self.spaces, space, &numbers)?;
-        give_path(&mut self.spaces, space, &numbers, key);
+        let stored = LevelNumbers::from(self.alloc, numbers)?;
+        let numbers = numbers.as_slice();
+        prepare_path(&mut self.spaces, space, numbers)?;
+        give_path(&mut self.spaces, space, numbers, key);
         self.idents.insert_reserved(Ident {
             space,
-            numbers,
+            numbers: stored,
             tasks: 1,
             groups: 0,
             sessions: 0,
         });
         Ok(key)
+    }
+
+    /// The namespace and all inside it have fallen. It costs a step for each namespace.
+    pub fn fell(&mut self, space: u32)
+        requires inner { space ≢ 0 }
+        requires used { (s : ℕ) → contains (path_at self.old s) space ≡ true → 0 < length (taken_in self.old s) }
+        ensures names { self.new.names ≡ self.old.names }
+        ensures namespaces { (s : ℕ) → namespace_at self.new s ≡ option_map (fallen_within space) (namespace_at self.old s) }
+    {
+        fall_all(&mut self.spaces, space);
     }
 
     /// One use more. The first of its kind costs a step for each level.

@@ -3,15 +3,17 @@
 ghost use Rattle.std.specs.Prelude.{◌≡◌, ◌≢◌, ℕ, ◌+◌, ◌<◌, ◌≤◌, length, map, option_map, Some, None, IsSome, IfOk, IfErr, IfSome, OnOk, OnErr, MatchOption, find, is_none, unwrap_or, slice_index_or, true, false, [], ◌∷◌, ◌&&◌, ◌==◌, if◌then◌else◌, drop};
 ghost use Rattle.slab.specs.Slab.{get, HasRoomFor};
 ghost use Rattle.index_array.specs.Place.{Entry, entry_at, indexes, with_mark, is_marked, IsLeastIndex};
-ghost use Rattle.pid_numbers.specs.Slabs.{way, fell, dead_on, left_on, entry_on, leads, plan_on, touched, given_to, ready, namespaces_of, namespace_on, bound_on, stepped, mark_of, IsDistinct, ArePlanned, AreReady};
-ghost use Rattle.pid_numbers.specs.Numbering.{moved};
+ghost use Rattle.pid_numbers.specs.Slabs.{way, fell, dead_on, left_on, entry_on, leads, plan_on, touched, given_to, ready, namespaces_of, namespace_on, bound_on, stepped, mark_of, IsTree, IsDistinct, ArePlanned, AreReady};
+ghost use Rattle.pid_numbers.specs.Numbering.{moved, fallen_within};
+ghost use Rattle.pid_types.specs.Settings.{HasGoodPidMax};
+ghost use Rattle.pid_types.specs.Chains.{contains};
 
 use crate::levels::LevelNumbers;
 use arrayvec::ArrayVec;
 use cyclic_ids::{CyclicIds, GROUP_MARK, SESSION_MARK, TASK_MARK};
 use pid_types::call::Kind;
 use slab::Slab;
-use std::alloc::AllocError;
+use std::alloc::{AllocError, Global};
 
 /// A namespace, its numbers, and the keys of it and of those around it, innermost first.
 #[derive(Drop)]
@@ -114,7 +116,7 @@ pub(crate) fn prepare_at(spaces: &mut Slab<Space>, key: u32, n: u32) -> Result<(
 pub(crate) fn prepare_path(
     spaces: &mut Slab<Space>,
     space: u32,
-    numbers: &LevelNumbers,
+    numbers: &[u32],
 ) -> Result<(), AllocError>
     requires planned { ArePlanned spaces.old (way spaces.old space) numbers.now }
     requires len { length numbers.now ≡ length (way spaces.old space) }
@@ -127,7 +129,7 @@ pub(crate) fn prepare_path(
 {
     for k in 0..levels(spaces, space) {
         let key = key_at(spaces, space, k);
-        prepare_at(spaces, key, numbers.at(k))?;
+        prepare_at(spaces, key, numbers[k])?;
     }
     Ok(())
 }
@@ -150,7 +152,7 @@ pub(crate) fn give_at(spaces: &mut Slab<Space>, key: u32, n: u32, value: u32)
 }
 
 /// Gives the planned numbers along a path to a task.
-pub(crate) fn give_path(spaces: &mut Slab<Space>, space: u32, numbers: &LevelNumbers, value: u32)
+pub(crate) fn give_path(spaces: &mut Slab<Space>, space: u32, numbers: &[u32], value: u32)
     requires distinct { IsDistinct (way spaces.old space) }
     requires planned { ArePlanned spaces.old (way spaces.old space) numbers.now }
     requires ready { AreReady spaces.old (way spaces.old space) numbers.now }
@@ -162,7 +164,7 @@ pub(crate) fn give_path(spaces: &mut Slab<Space>, space: u32, numbers: &LevelNum
 {
     for k in 0..levels(spaces, space) {
         let key = key_at(spaces, space, k);
-        give_at(spaces, key, numbers.at(k), value);
+        give_at(spaces, key, numbers[k], value);
     }
 }
 
@@ -330,4 +332,69 @@ pub(crate) fn path_below(spaces: &Slab<Space>, key: u32, parent: u32) -> ArrayVe
         path.push(key_at(spaces, parent, k));
     }
     path
+}
+
+/// The numbers of a new namespace, of which the first is given to a task.
+pub(crate) fn first_ids(
+    alloc: Global,
+    pid_max: u32,
+    value: u32,
+) -> Result<CyclicIds<u32>, AllocError>
+    requires { HasGoodPidMax pid_max }
+    ensures here { IfOk result (λ ids. entry_at ids.places 1 ≡ given_to value) }
+    ensures others { IfOk result (λ ids. (n : ℕ) → n ≢ 1 → entry_at ids.places n ≡ None) }
+    ensures pid_max { IfOk result (λ ids. ids.pid_max ≡ pid_max) }
+    ensures cursor { IfOk result (λ ids. ids.cursor ≡ 2) }
+{
+    let mut ids = CyclicIds::new(alloc, pid_max);
+    ids.prepare(1)?;
+    ids.commit_marked(1, value, [true, false, false]);
+    Ok(ids)
+}
+
+/// Whether the namespace is the other one or inside it.
+pub(crate) fn is_inside(spaces: &Slab<Space>, key: usize, outer: u32) -> bool
+    requires { IsTree (way spaces.now) }
+    ensures { result ≡ contains (way spaces.now key) outer }
+{
+    let from = levels(spaces, outer);
+    let Some(space) = spaces.get(key) else {
+        return false;
+    };
+    let end = space.path.len();
+    if from == 0 || end < from {
+        return false;
+    }
+    space.path[end - from] == outer
+}
+
+/// The namespace has fallen, if it is the other one or inside it.
+fn fall_at(spaces: &mut Slab<Space>, key: usize, outer: u32)
+    requires { IsTree (way spaces.old) }
+    ensures here { namespace_on spaces.new key ≡ option_map (fallen_within outer) (namespace_on spaces.old key) }
+    ensures others { (s : ℕ) → s ≢ key → get spaces.new s ≡ get spaces.old s }
+    ensures entries { (s n : ℕ) → entry_on spaces.new s n ≡ entry_on spaces.old s n }
+    ensures bound { (s : ℕ) → bound_on spaces.new s ≡ bound_on spaces.old s }
+    ensures way { (s : ℕ) → way spaces.new s ≡ way spaces.old s }
+{
+    if !is_inside(spaces, key, outer) {
+        return;
+    }
+    let Some(space) = spaces.get_mut(key) else {
+        return;
+    };
+    space.fallen = true;
+}
+
+/// The namespace and all inside it have fallen.
+pub(crate) fn fall_all(spaces: &mut Slab<Space>, outer: u32)
+    requires { IsTree (way spaces.old) }
+    ensures namespaces { (s : ℕ) → namespace_on spaces.new s ≡ option_map (fallen_within outer) (namespace_on spaces.old s) }
+    ensures entries { (s n : ℕ) → entry_on spaces.new s n ≡ entry_on spaces.old s n }
+    ensures bound { (s : ℕ) → bound_on spaces.new s ≡ bound_on spaces.old s }
+    ensures way { (s : ℕ) → way spaces.new s ≡ way spaces.old s }
+{
+    for key in 0..spaces.capacity() {
+        fall_at(spaces, key, outer);
+    }
 }

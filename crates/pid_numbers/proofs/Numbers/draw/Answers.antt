@@ -28,8 +28,8 @@ prepare_path-requires c =
     let planned = planned-in (numbering_of c.self.inside.pid_max spaces c.self.inside.idents) c.args.self.now c.self.view_is c.args.space numbers c.requires.planned in
     let all = all-in (numbering_of c.self.inside.pid_max spaces c.self.inside.idents) c.args.self.now c.self.view_is c.args.space c.requires.all in
     record {
-      planned = subst (ArePlanned spaces (way spaces c.args.space)) (sym c.in_ok-numbers.ensures) (views.all_planned c.self.inside.pid_max spaces c.self.inside.idents c.self.invariant.numbering c.args.space numbers all planned);
-      len = ap length c.in_ok-numbers.ensures ∙ views.planned_len c.self.inside.pid_max spaces c.self.inside.idents c.self.invariant.numbering c.args.space numbers planned;
+      planned = subst (ArePlanned spaces (way spaces c.args.space)) (sym c.as_slice-numbers.ensures.value) (views.all_planned c.self.inside.pid_max spaces c.self.inside.idents c.self.invariant.numbering c.args.space numbers all planned);
+      len = ap length c.as_slice-numbers.ensures.value ∙ views.planned_len c.self.inside.pid_max spaces c.self.inside.idents c.self.invariant.numbering c.args.space numbers planned;
     }
 
 pub invariant_of-self-in_err-prepare_path : goal.invariant_of-self-in_err-prepare_path
@@ -53,10 +53,10 @@ give_path-requires c =
     let len : length numbers ≡ length (way spaces c.args.space) = views.planned_len c.self.inside.pid_max spaces c.self.inside.idents c.self.invariant.numbering c.args.space numbers planned in
     record {
       distinct = subst IsDistinct (sym (prep.way c.args.space)) (ties.distinct-path (way spaces) (way spaces c.args.space) (c.self.invariant.numbering.tree.paths c.args.space));
-      planned = subst (λ p. ArePlanned c.prepare_path.new.spaces p c.in_ok-numbers.numbers) (sym (prep.way c.args.space)) (subst (ArePlanned c.prepare_path.new.spaces (way spaces c.args.space)) (sym c.in_ok-numbers.ensures)
+      planned = subst (λ p. ArePlanned c.prepare_path.new.spaces p c.as_slice-numbers.result.now) (sym (prep.way c.args.space)) (subst (ArePlanned c.prepare_path.new.spaces (way spaces c.args.space)) (sym c.as_slice-numbers.ensures.value)
           (λ k below. prep.plan (get_or (way spaces c.args.space) k 0) ∙ each k below));
-      ready = subst (λ p. AreReady c.prepare_path.new.spaces p c.in_ok-numbers.numbers) (sym (prep.way c.args.space)) prep.ok;
-      len = ap length c.in_ok-numbers.ensures ∙ len ∙ ap length (sym (prep.way c.args.space));
+      ready = subst (λ p. AreReady c.prepare_path.new.spaces p c.as_slice-numbers.result.now) (sym (prep.way c.args.space)) prep.ok;
+      len = ap length c.as_slice-numbers.ensures.value ∙ len ∙ ap length (sym (prep.way c.args.space));
     }
 
 pub invariant_of-self-2 : goal.invariant_of-self-2
@@ -65,7 +65,7 @@ invariant_of-self-2 c =
     let idents = c.self.inside.idents in
     let path = way spaces c.args.space in
     let numbers = c.args.numbers.now.items in
-    let stored = c.in_ok-numbers.numbers in
+    let stored = c.as_slice-numbers.result.now in
     let key = c.in_ok-key.key in
     let prep = c.in_ok-prepare_path.ensures in
     let is = planned-in (numbering_of c.self.inside.pid_max spaces idents) c.args.self.now c.self.view_is c.args.space numbers c.requires.planned in
@@ -78,11 +78,11 @@ invariant_of-self-2 c =
     let key_is : key ≡ c.insert_reserved.result = c.in_ok-key.ensures.key ∙ sym c.insert_reserved.ensures.key in
     let others : (j : ℕ) → j ≢ key → name_at c.insert_reserved.new.self j ≡ name_at idents j = λ j m. ap (option_map identifier_of) (c.insert_reserved.ensures.updates.others j (λ z. m (z ∙ sym key_is))) ∙ ap (λ z. name_at z j) c.in_ok-key.ensures.same in
     let was : name_at idents key ≡ None = ap (option_map identifier_of) c.in_ok-key.ensures.vacant in
-    let now : name_at c.insert_reserved.new.self key ≡ Some (new_identifier c.args.space numbers) = ap (name_at c.insert_reserved.new.self) key_is ∙ ap (option_map identifier_of) c.insert_reserved.ensures.updates.changed ∙ ap (λ l. Some (new_identifier c.args.space l)) c.in_ok-numbers.ensures in
+    let now : name_at c.insert_reserved.new.self key ≡ Some (new_identifier c.args.space numbers) = ap (name_at c.insert_reserved.new.self) key_is ∙ ap (option_map identifier_of) c.insert_reserved.ensures.updates.changed ∙ ap (λ l. Some (new_identifier c.args.space l)) c.in_ok-stored.ensures in
     let is : (s n : ℕ) → entry_on c.give_path.new.spaces s n ≡ touched path numbers (λ _. given_to key) (entry_on spaces) s n =
     λ s n. c.give_path.ensures.entries s n
     ∙ ap (λ p. touched p stored (λ _. given_to key) (entry_on c.prepare_path.new.spaces) s n) (prep.way c.args.space)
-    ∙ ap (λ l. touched path l (λ _. given_to key) (entry_on c.prepare_path.new.spaces) s n) c.in_ok-numbers.ensures
+    ∙ ap (λ l. touched path l (λ _. given_to key) (entry_on c.prepare_path.new.spaces) s n) c.as_slice-numbers.ensures.value
     ∙ ap (λ f. touched path numbers (λ _. given_to key) f s n) (λ i s n. prep.entries s n i) in
     record {
       numbering = ties.numbering-given c.self.inside.pid_max (way spaces) (way c.give_path.new.spaces) (entry_on spaces) (entry_on c.give_path.new.spaces) (bound_on spaces) (bound_on c.give_path.new.spaces) (name_at idents) (name_at c.insert_reserved.new.self) c.self.invariant.numbering ways bounds
@@ -112,7 +112,7 @@ returns-clause-namespaces c s =
     let now : Numbering = numbering_of c.self.inside.pid_max spaces c.self.inside.idents in
     let old : namespace_on c.prepare_path.new.spaces s ≡ namespace_at now s = sym (ties.get_or-map_option namespace_of c.prepare_path.new.spaces.slots s) ∙ ap (λ l. get_or l s None) prep.namespaces in
     ties.get_or-map_option namespace_of c.give_path.new.spaces.slots s ∙ c.give_path.ensures.namespaces s
-    ∙ ap (λ p. option_map (moved p c.in_ok-numbers.numbers s) (namespace_on c.prepare_path.new.spaces s)) (prep.way c.args.space ∙ sym (views.path_is c.self.inside.pid_max spaces c.self.inside.idents c.args.space))
-    ∙ ap (λ l. option_map (moved (path_at now c.args.space) l s) (namespace_on c.prepare_path.new.spaces s)) c.in_ok-numbers.ensures
+    ∙ ap (λ p. option_map (moved p c.as_slice-numbers.result.now s) (namespace_on c.prepare_path.new.spaces s)) (prep.way c.args.space ∙ sym (views.path_is c.self.inside.pid_max spaces c.self.inside.idents c.args.space))
+    ∙ ap (λ l. option_map (moved (path_at now c.args.space) l s) (namespace_on c.prepare_path.new.spaces s)) c.as_slice-numbers.ensures.value
     ∙ ap (option_map (moved (path_at now c.args.space) numbers s)) old
     ∙ ap (λ b. option_map (moved (path_at b c.args.space) numbers s) (namespace_at b s)) c.self.view_is
