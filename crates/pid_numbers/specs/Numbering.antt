@@ -1,6 +1,9 @@
 -- What a contract sees of `Numbers`: the namespaces and the identifiers by key.
-use Rattle.std.specs.Prelude.{◌≡◌, ◌-◌, ℕ, ◌+◌, ◌<◌, ◌≤◌, ◌==◌, ◌&&◌, ◌||◌, Bool, true, false, List, [], ◌∷◌, length, map, filter_map, Option, Some, None, option_and_then, not, if◌then◌else◌, slice_index_or, MatchOption}
+use Rattle.std.specs.Prelude.{◌≡◌, ◌-◌, ℕ, ◌+◌, ◌<◌, ◌≤◌, ◌==◌, ◌&&◌, ◌||◌, Bool, true, false, List, [], ◌∷◌, length, map, filter_map, Option, Some, None, option_and_then, not, if◌then◌else◌, slice_index_or, MatchOption, find, is_none}
 use Rattle.std.specs.Option.{option_map_or}
+use Rattle.pid_types.specs.Bounds.{deepest_space}
+use Rattle.pid_numbers.specs.declared.plan.PlanFault.{PlanFault}
+use Rattle.pid_numbers.specs.declared.plan.PlanFault.TheVariants.{TooDeep, NoNumber}
 use Rattle.pid_types.specs.Chains.{contains}
 use Rattle.pid_types.specs.Names.{beside}
 use Rattle.pid_types.specs.Draw.{cyclic_draw}
@@ -125,3 +128,8 @@ IsNextUsed b kind s from result =
     MatchOption result
     ((m : ℕ) → from ≤ m → IsNumberUsedAs b kind s m → ⊥)
     (λ n. (from ≤ n) × IsNumberUsedAs b kind s n × ((m : ℕ) → from ≤ m → IsNumberUsedAs b kind s m → n ≤ m))
+
+-- why no namespace can be made inside the one with the key: it has the deepest level, or else a namespace has no number to give
+abbrev pub IsPlanFault : Numbering → ℕ → PlanFault → Type 0
+IsPlanFault b parent TooDeep = deepest_space < length (path_at b parent)
+IsPlanFault b parent (NoNumber s) = (length (path_at b parent) ≤ deepest_space) × (find (λ t. is_none (draw_in b t)) (path_at b parent) ≡ Some s)

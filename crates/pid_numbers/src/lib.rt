@@ -9,13 +9,15 @@
 #![tactic(auto)]
 
 ghost use Rattle.std.specs.Prelude.{◌≡◌, ◌≢◌, ℕ, ◌+◌, ◌<◌, ◌≤◌, ◌^◌, length, map, Some, None, IsSome, IfOk, IfErr, IfSome, OnOk, OnErr, MatchOption, option_map, find, is_none, unwrap_or, slice_index_or, true, false, [], ◌∷◌, drop};
-ghost use Rattle.pid_numbers.specs.Numbering.{Identifier, namespace_at, identifier_at, number_of, path_at, draw_in, moved, more, less, left_of, uses, is_used_as, swept_at, new_namespace, new_identifier, fallen_within, taken_in, IsNextUsed};
+ghost use Rattle.pid_numbers.specs.Numbering.{Identifier, namespace_at, identifier_at, number_of, path_at, draw_in, moved, more, less, left_of, uses, is_used_as, swept_at, new_namespace, new_identifier, fallen_within, taken_in, IsNextUsed, IsPlanFault};
+ghost use Rattle.pid_types.specs.Bounds.{deepest_space};
 ghost use Rattle.pid_types.specs.Chains.{contains};
 ghost use Rattle.std.specs.Option.{option_map_or};
 ghost use Rattle.pid_types.specs.Settings.{HasGoodPidMax};
 
 mod levels;
 mod names;
+mod plan;
 mod spaces;
 
 use arrayvec::ArrayVec;
@@ -23,10 +25,12 @@ use cyclic_ids::CyclicIds;
 use levels::LevelNumbers;
 use names::{Ident, has_use, in_use, less_use, make_room, mark_numbers, more_use};
 use pid_types::call::Kind;
+pub use plan::PlanFault;
+use plan::with_first;
 use slab::Slab;
 use spaces::{
-    Space, fall_all, fallen_path, first_ids, give_path, levels, look, next_at, path_below,
-    plan_path, prepare_path, release_path, room_for_space, sweep_path,
+    Space, add_space, fall_all, fallen_path, first_ids, give_path, levels, look, next_at,
+    path_below, plan_path, prepare_path, release_path, room_for_space, sweep_path,
 };
 use std::alloc::{AllocError, Global};
 use std::marker::Model;
@@ -130,6 +134,63 @@ impl Numbers {
             sessions: 0,
         });
         Ok(key)
+    }
+
+    /// The numbers that a new namespace inside the parent and those around it give next, innermost
+    /// first: 1 in the new one. It costs one or two searches for each level.
+    ///
+    /// The error is that the parent has the deepest level, 32 (`pid_namespaces(7)`, "Nesting PID
+    /// namespaces"), or else the first namespace that has no number to give.
+    pub fn plan_new(&self, parent: u32) -> Result<ArrayVec<u32, 33>, PlanFault>
+        ensures ok { IfOk result (λ numbers. (length (path_at self.now parent) ≤ deepest_space) × (find (λ s. is_none (draw_in self.now s)) (path_at self.now parent) ≡ None)
+            × (numbers.items ≡ 1 ∷ map (λ s. unwrap_or (draw_in self.now s) 0) (path_at self.now parent))) }
+        ensures err { IfErr result (λ fault. IsPlanFault self.now parent fault) }
+    {
+        if levels(&self.spaces, parent) > 32 {
+            return Err(PlanFault::TooDeep);
+        }
+        match plan_path(&self.spaces, parent) {
+            Ok(around) => Ok(with_first(&around)),
+            Err(space) => Err(PlanFault::NoNumber(space)),
+        }
+    }
+
+    /// Makes a namespace inside the parent, whose first identifier has number 1 there and the planned
+    /// numbers around it, and answers the keys of the identifier and of the namespace. The error is
+    /// want of memory, and then nothing has changed.
+    pub fn draw_new(
+        &mut self,
+        parent: u32,
+        id: u64,
+        numbers: &ArrayVec<u32, 33>,
+    ) -> Result<(u32, u32), AllocError>
+        requires stands { option_map_or (λ t. t.fallen) (namespace_at self.old parent) true ≡ false }
+        requires shallow { length (path_at self.old parent) ≤ deepest_space }
+        requires all { find (λ s. is_none (draw_in self.old s)) (path_at self.old parent) ≡ None }
+        requires planned { numbers.now.items ≡ 1 ∷ map (λ s. unwrap_or (draw_in self.old s) 0) (path_at self.old parent) }
+        ensures fresh { IfOk result (λ keys. (identifier_at self.old keys.0 ≡ None) × (namespace_at self.old keys.1 ≡ None)) }
+        ensures named { IfOk result (λ keys. identifier_at self.new keys.0 ≡ Some (new_identifier keys.1 numbers.now.items)) }
+        ensures made { IfOk result (λ keys. namespace_at self.new keys.1 ≡ Some (record (new_namespace id (keys.1 ∷ path_at self.old parent)) { cursor = 2 })) }
+        ensures others { IfOk result (λ keys. (j : ℕ) → j ≢ keys.0 → identifier_at self.new j ≡ identifier_at self.old j) }
+        ensures namespaces { IfOk result (λ keys. (s : ℕ) → s ≢ keys.1 → namespace_at self.new s ≡ option_map (moved (path_at self.old parent) (drop 1 numbers.now.items) s) (namespace_at self.old s)) }
+        ensures err { OnErr result (self.new ≡ self.old) }
+    {
+        let ident = make_room(&mut self.idents)?;
+        let stored = LevelNumbers::from(self.alloc, numbers)?;
+        let ids = first_ids(self.alloc, self.pid_max, ident)?;
+        let numbers = numbers.as_slice();
+        let around = &numbers[1..];
+        prepare_path(&mut self.spaces, parent, around)?;
+        let key = add_space(&mut self.spaces, parent, id, ids)?;
+        give_path(&mut self.spaces, parent, around, ident);
+        self.idents.insert_reserved(Ident {
+            space: key,
+            numbers: stored,
+            tasks: 1,
+            groups: 0,
+            sessions: 0,
+        });
+        Ok((ident, key))
     }
 
     /// The namespace and all inside it have fallen. It costs a step for each namespace.

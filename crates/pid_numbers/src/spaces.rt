@@ -334,6 +334,33 @@ pub(crate) fn path_below(spaces: &Slab<Space>, key: u32, parent: u32) -> ArrayVe
     path
 }
 
+/// Adds a namespace below the parent, and answers its key. The error is want of memory.
+pub(crate) fn add_space(
+    spaces: &mut Slab<Space>,
+    parent: u32,
+    id: u64,
+    ids: CyclicIds<u32>,
+) -> Result<u32, AllocError>
+    requires few { length (way spaces.old parent) < 33 }
+    ensures vacant { IfOk result (λ key. get spaces.old key ≡ None) }
+    ensures here { IfOk result (λ key. namespace_on spaces.new key ≡ Some (record { id = id; fallen = false; path = key ∷ way spaces.old parent; cursor = ids.cursor })) }
+    ensures entries { IfOk result (λ key. (n : ℕ) → entry_on spaces.new key n ≡ entry_at ids.places n) }
+    ensures bound { IfOk result (λ key. bound_on spaces.new key ≡ Some ids.pid_max) }
+    ensures way { IfOk result (λ key. way spaces.new key ≡ key ∷ way spaces.old parent) }
+    ensures others { IfOk result (λ key. (s : ℕ) → s ≢ key → get spaces.new s ≡ get spaces.old s) }
+    ensures err { OnErr result (spaces.new.slots ≡ spaces.old.slots) }
+{
+    let key = room_for_space(spaces)?;
+    let path = path_below(spaces, key, parent);
+    spaces.insert_reserved(Space {
+        id,
+        fallen: false,
+        path,
+        ids,
+    });
+    Ok(key)
+}
+
 /// The numbers of a new namespace, of which the first is given to a task.
 pub(crate) fn first_ids(
     alloc: Global,
