@@ -11,8 +11,8 @@ use Rattle.pid_numbers.specs.declared.spaces.Space.{Space}
 use Rattle.index_array.specs.Place.{Entry, Place, entry_at, indexes, IsLeastIndex}
 use Rattle.index_array.proofs.Indexes.{contains_indexes}
 use Rattle.pid_numbers.specs.Numbering.{Identifier, number_in}
-use Rattle.pid_numbers.specs.Slabs.{IsPath, IsTree, IsTied, IsNumbering, AreFallen, IsWhole, leads, entry_on, dead_on, left_on}
-use Rattle.pid_numbers.proofs.Ties.{at-path}
+use Rattle.pid_numbers.specs.Slabs.{IsPath, IsTree, IsTied, IsNumbering, AreFallen, IsWhole, leads, entry_on, dead_on, left_on, IsDistinct}
+use Rattle.pid_numbers.proofs.Ties.{at-path, distinct-path}
 
 -- the namespaces that have fallen stay, where none loses its last number
 pub fallen-kept : (ways ways' : ℕ → List ℕ) (at at' : ℕ → ℕ → Option (Entry ℕ)) (fell fell' : ℕ → Bool) → AreFallen ways at fell → ((s : ℕ) → ways' s ≡ ways s) → ((s : ℕ) → fell' s ≡ fell s)
@@ -335,7 +335,7 @@ through h false a b = refl
 
 -- where a namespace stands on the path of another
 module _ (ways : ℕ → List ℕ) (tree : IsTree ways) (key outer : ℕ) where
-  within : contains (ways key) outer ≡ true → (0 < length (ways outer)) × (length (ways outer) ≤ length (ways key)) × (get_or (ways key) (length (ways key) - length (ways outer)) 0 ≡ outer)
+  pub within : contains (ways key) outer ≡ true → (0 < length (ways outer)) × (length (ways outer) ≤ length (ways key)) × (get_or (ways key) (length (ways key) - length (ways outer)) 0 ≡ outer)
   within e =
       let p = place_of (ways key) outer e in
       let rest : ways outer ≡ drop p.0 (ways key) = ap ways (sym p.2) ∙ at-path ways (ways key) (tree.paths key) p.0 p.1 in
@@ -393,3 +393,32 @@ module _ (pid_max : ℕ) (ways : ℕ → List ℕ) (at : ℕ → ℕ → Option 
       | inr within ↦ held s within
     ];
   }
+
+-- what stands beside a place of a path without repetition
+beside-get : (s : ℕ) (path numbers : List ℕ) → IsDistinct path → length numbers ≡ length path → (k : ℕ) → k < length path → get_or path k 0 ≡ s → beside s path numbers ≡ Some (get_or numbers k 0)
+beside-get s [] numbers d len k lt at = absurd (omega (arith, lt))
+beside-get s (t ∷ ts) [] d len k lt at = absurd (omega (arith, len))
+beside-get s (t ∷ ts) (n ∷ ns) d len zero lt at = ap (λ b. if b then Some n else beside s ts ns) (eq-eqb t s at)
+beside-get s (t ∷ ts) (n ∷ ns) d len (suc k) lt at =
+    let m : t ≢ s = λ e. d 0 (suc k) (omega arith) lt (e ∙ sym at) in
+    let off : (t == s) ≡ false = grind (arith, m) in
+    ap (λ b. if b then Some n else beside s ts ns) off
+    ∙ beside-get s ts ns (λ i j a b e. d (suc i) (suc j) (omega (arith, a)) (omega (arith, b)) e) (omega (arith, len)) k (omega (arith, lt)) at
+
+-- the number beside a namespace, by the levels
+module _ (ways : ℕ → List ℕ) (tree : IsTree ways) (own s : ℕ) (numbers : List ℕ) (len : length numbers ≡ length (ways own)) where
+  pub beside-within : contains (ways own) s ≡ true → (k : ℕ) → k ≡ length (ways own) - length (ways s) → (k < length numbers) × (beside s (ways own) numbers ≡ Some (get_or numbers k 0))
+  beside-within e k is =
+      let w = within ways tree own s e in
+      let some = w.0 in
+      let few = w.1 in (
+        omega (arith, some, few, is, len),
+        beside-get s (ways own) numbers (distinct-path ways (ways own) (tree.paths own)) len k (omega (arith, some, few, is)) (ap (λ j. get_or (ways own) j 0) is ∙ w.2),
+      )
+
+  pub beside-without : contains (ways own) s ≡ false → beside s (ways own) numbers ≡ None
+  beside-without e = go (beside s (ways own) numbers) (off-path s (ways own) numbers len e)
+    where
+      go : (o : Option ℕ) → ((n : ℕ) → o ≢ Some n) → o ≡ None
+      go None h = refl
+      go (Some n) h = absurd (h n refl)

@@ -246,3 +246,11 @@ fell-same a b same s = ap (λ o. option_map_or (λ t. t.fallen) o false) (sym (g
 pub fell-moved : (path numbers : List ℕ) (s : ℕ) (o : Option Namespace) → option_map_or (λ t. t.fallen) (option_map (moved path numbers s) o) false ≡ option_map_or (λ t. t.fallen) o false
 fell-moved path numbers s None = refl
 fell-moved path numbers s (Some t) = refl
+
+-- a namespace with a key is that of the slab
+pub namespace_is : (pid_max : ℕ) (spaces : Slab Space) (idents : Slab Ident) (b : Numbering) → numbering_of pid_max spaces idents ≡ b → (s : ℕ) → namespace_at b s ≡ option_map namespace_of (get spaces s)
+namespace_is pid_max spaces idents b view s = ap (λ z. namespace_at z s) (sym view) ∙ get_or-map_option namespace_of spaces.slots s
+
+-- and its path
+pub path-of : (pid_max : ℕ) (spaces : Slab Space) (idents : Slab Ident) (b : Numbering) → numbering_of pid_max spaces idents ≡ b → (s : ℕ) → path_at b s ≡ way spaces s
+path-of pid_max spaces idents b view s = ap (λ z. path_at z s) (sym view) ∙ path_is pid_max spaces idents s

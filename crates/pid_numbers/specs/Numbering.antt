@@ -43,6 +43,10 @@ identifier_at b i = slice_index_or b.names i None
 abbrev pub path_at : Numbering → ℕ → List ℕ
 path_at b s = option_map_or (λ t. t.path) (namespace_at b s) []
 
+-- whether the namespace is there and has fallen
+abbrev pub has_fallen_at : Numbering → ℕ → Bool
+has_fallen_at b s = option_map_or (λ t. t.fallen) (namespace_at b s) false
+
 -- the number of an identifier in a namespace
 abbrev pub number_in : (ℕ → List ℕ) → ℕ → Option Identifier → Option ℕ
 number_in ways s o = option_and_then (λ u. beside s (ways u.space) u.numbers) o

@@ -8,8 +8,8 @@
 //! an identifier that is gone may be given again.
 #![tactic(auto)]
 
-ghost use Rattle.std.specs.Prelude.{◌≡◌, ◌≢◌, ℕ, ◌+◌, ◌<◌, ◌≤◌, ◌^◌, length, map, Some, None, IsSome, IfOk, IfErr, IfSome, OnOk, OnErr, MatchOption, option_map, find, is_none, unwrap_or, slice_index_or, true, false, [], ◌∷◌, drop};
-ghost use Rattle.pid_numbers.specs.Numbering.{Identifier, namespace_at, identifier_at, number_of, path_at, draw_in, moved, more, less, left_of, uses, is_used_as, swept_at, new_namespace, new_identifier, fallen_within, taken_in, IsNextUsed, IsPlanFault};
+ghost use Rattle.std.specs.Prelude.{◌≡◌, ◌≢◌, ℕ, ◌+◌, ◌<◌, ◌≤◌, ◌^◌, length, map, Some, None, IsSome, IfOk, IfErr, IfSome, OnOk, OnErr, MatchOption, option_map, find, is_none, unwrap_or, slice_index_or, true, false, [], ◌∷◌, drop, nat_lt, if◌then◌else◌};
+ghost use Rattle.pid_numbers.specs.Numbering.{Identifier, namespace_at, identifier_at, number_of, path_at, draw_in, moved, more, less, left_of, uses, is_used_as, swept_at, new_namespace, new_identifier, fallen_within, taken_in, has_fallen_at, IsNextUsed, IsPlanFault};
 ghost use Rattle.pid_types.specs.Bounds.{deepest_space};
 ghost use Rattle.pid_types.specs.Chains.{contains};
 ghost use Rattle.std.specs.Option.{option_map_or};
@@ -23,14 +23,17 @@ mod spaces;
 use arrayvec::ArrayVec;
 use cyclic_ids::CyclicIds;
 use levels::LevelNumbers;
-use names::{Ident, has_use, in_use, less_use, make_room, mark_numbers, more_use};
+use names::{
+    Ident, has_use, home_of, in_use, less_use, make_room, mark_numbers, more_use, number_at,
+};
 use pid_types::call::Kind;
 pub use plan::PlanFault;
 use plan::with_first;
 use slab::Slab;
 use spaces::{
-    Space, add_space, fall_all, fallen_path, first_ids, give_path, levels, look, next_at,
-    path_below, plan_path, prepare_path, release_path, room_for_space, sweep_path,
+    Space, add_space, cursor_at, fall_all, fallen_path, first_ids, give_path, has_fallen, id_at,
+    is_inside, key_at, levels, look, next_at, path_below, plan_path, prepare_path, release_path,
+    room_for_space, sweep_path,
 };
 use std::alloc::{AllocError, Global};
 use std::marker::Model;
@@ -89,6 +92,94 @@ impl Numbers {
         ensures { MatchOption result ((i : ℕ) → number_of self.now i space ≢ Some n) (λ i. number_of self.now i space ≡ Some n) }
     {
         look(&self.spaces, space, n)
+    }
+
+    /// What is true of all identifiers and namespaces at any time; the call does nothing. No number of a
+    /// namespace names two identifiers, each is above 0 and below `pid_max`, each identifier has one for
+    /// each namespace from its own to the root, and what is in a fallen namespace has fallen.
+    pub fn laws(&self)
+        ensures distinct { (i j s n : ℕ) → number_of self.now i s ≡ Some n → number_of self.now j s ≡ Some n → i ≡ j }
+        ensures range { (i s n : ℕ) → number_of self.now i s ≡ Some n → (0 < n) × (n < self.now.pid_max) }
+        ensures full { (i : ℕ) (u : Identifier) → identifier_at self.now i ≡ Some u → (0 < length u.numbers) × (length u.numbers ≡ length (path_at self.now u.space)) }
+        ensures around { (s j : ℕ) → j < length (path_at self.now s) → path_at self.now (slice_index_or (path_at self.now s) j 0) ≡ drop j (path_at self.now s) }
+        ensures few { (s : ℕ) → length (path_at self.now s) ≤ deepest_space + 1 }
+        ensures fallen { (s j : ℕ) → j < length (path_at self.now s) → has_fallen_at self.now (slice_index_or (path_at self.now s) j 0) ≡ true → has_fallen_at self.now s ≡ true }
+    {
+        let _ = &self.spaces;
+    }
+
+    /// The id of the namespace.
+    pub fn id(&self, space: u32) -> Option<u64>
+        ensures { result ≡ option_map (λ t. t.id) (namespace_at self.now space) }
+    {
+        id_at(&self.spaces, space)
+    }
+
+    /// Where the next draw in the namespace begins.
+    pub fn cursor(&self, space: u32) -> Option<u32>
+        ensures { result ≡ option_map (λ t. t.cursor) (namespace_at self.now space) }
+    {
+        cursor_at(&self.spaces, space)
+    }
+
+    /// Whether the namespace is there and has fallen.
+    pub fn is_fallen(&self, space: u32) -> bool
+        ensures { result ≡ has_fallen_at self.now space }
+    {
+        has_fallen(&self.spaces, space)
+    }
+
+    /// How many namespaces are around the one with the key: 0 for the root.
+    pub fn level(&self, space: u32) -> usize
+        requires { IsSome (namespace_at self.now space) }
+        ensures { result + 1 ≡ length (path_at self.now space) }
+    {
+        levels(&self.spaces, space) - 1
+    }
+
+    /// Whether the first namespace is the second one or inside it.
+    pub fn is_within(&self, space: u32, outer: u32) -> bool
+        ensures { result ≡ contains (path_at self.now space) outer }
+    {
+        is_inside(&self.spaces, space as usize, outer)
+    }
+
+    /// The namespace that the one with the key is in; none for the root.
+    pub fn parent(&self, space: u32) -> Option<u32>
+        ensures { result ≡ if nat_lt 1 (length (path_at self.now space)) then Some (slice_index_or (path_at self.now space) 1 0) else None }
+    {
+        if levels(&self.spaces, space) > 1 {
+            Some(key_at(&self.spaces, space, 1))
+        } else {
+            None
+        }
+    }
+
+    /// The namespace of the identifier.
+    pub fn space_of(&self, ident: u32) -> Option<u32>
+        ensures { result ≡ option_map (λ u. u.space) (identifier_at self.now ident) }
+    {
+        home_of(&self.idents, ident)
+    }
+
+    /// Whether the identifier has a use of the kind.
+    pub fn has_use(&self, ident: u32, kind: Kind) -> bool
+        ensures { result ≡ is_used_as kind (identifier_at self.now ident) }
+    {
+        has_use(&self.idents, ident, kind)
+    }
+
+    /// The identifier's number in the namespace; none where it is not visible there. It costs a few
+    /// reads at any level.
+    pub fn number_in(&self, ident: u32, space: u32) -> Option<u32>
+        ensures { result ≡ number_of self.now ident space }
+    {
+        let own = home_of(&self.idents, ident)?;
+        if !is_inside(&self.spaces, own as usize, space) {
+            return None;
+        }
+        let place = levels(&self.spaces, own) - levels(&self.spaces, space);
+        number_at(&self.idents, ident, place)
     }
 
     /// The least number at or above `from` whose identifier has a use of the kind, in the namespace. It

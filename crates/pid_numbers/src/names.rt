@@ -1,6 +1,6 @@
 //! Identifiers and their uses.
 
-ghost use Rattle.std.specs.Prelude.{◌≡◌, ◌≢◌, ℕ, ◌+◌, ◌<◌, Some, None, IsSome, IfOk, OnOk, IfSome, true, ◌-◌, ◌^◌, length};
+ghost use Rattle.std.specs.Prelude.{◌≡◌, ◌≢◌, ℕ, ◌+◌, ◌<◌, Some, None, IsSome, IfOk, OnOk, IfSome, true, ◌-◌, ◌^◌, length, option_map, slice_index_or};
 ghost use Rattle.slab.specs.Slab.{get, HasRoomFor};
 ghost use Rattle.pid_numbers.specs.Numbering.{Identifier, uses, less, more, is_used, is_used_as};
 ghost use Rattle.pid_numbers.specs.Slabs.{identifier_of, name_at, way, entry_on, touched, mark_of, namespaces_of, bound_on, IsDistinct};
@@ -67,6 +67,27 @@ fn raise(x: &mut Ident, kind: Kind)
         Kind::Session => {
             x.sessions += 1;
         }
+    }
+}
+
+/// The namespace of the identifier.
+pub(crate) fn home_of(idents: &Slab<Ident>, ident: u32) -> Option<u32>
+    ensures { result ≡ option_map (λ u. u.space) (name_at idents.now ident) }
+{
+    match idents.get(ident as usize) {
+        Some(x) => Some(x.space),
+        None => None,
+    }
+}
+
+/// The identifier's number at a place of its path.
+pub(crate) fn number_at(idents: &Slab<Ident>, ident: u32, place: usize) -> Option<u32>
+    requires { IfSome (name_at idents.now ident) (λ u. place < length u.numbers) }
+    ensures { result ≡ option_map (λ u. slice_index_or u.numbers place 0) (name_at idents.now ident) }
+{
+    match idents.get(ident as usize) {
+        Some(x) => Some(x.numbers.at(place)),
+        None => None,
     }
 }
 

@@ -249,6 +249,26 @@ pub(crate) fn next_at(spaces: &Slab<Space>, space: u32, kind: Kind, from: u32) -
     }
 }
 
+/// The id of the namespace.
+pub(crate) fn id_at(spaces: &Slab<Space>, space: u32) -> Option<u64>
+    ensures { result ≡ option_map (λ t. t.id) (namespace_on spaces.now space) }
+{
+    match spaces.get(space as usize) {
+        Some(s) => Some(s.id),
+        None => None,
+    }
+}
+
+/// Where the next draw in the namespace begins.
+pub(crate) fn cursor_at(spaces: &Slab<Space>, space: u32) -> Option<u32>
+    ensures { result ≡ option_map (λ t. t.cursor) (namespace_on spaces.now space) }
+{
+    match spaces.get(space as usize) {
+        Some(s) => Some(s.ids.cursor()),
+        None => None,
+    }
+}
+
 /// Whether the namespace is there and has fallen.
 pub(crate) fn has_fallen(spaces: &Slab<Space>, space: u32) -> bool
     ensures { result ≡ fell spaces.now space }
