@@ -24,7 +24,8 @@ use arrayvec::ArrayVec;
 use cyclic_ids::CyclicIds;
 use levels::LevelNumbers;
 use names::{
-    Ident, has_use, home_of, in_use, less_use, make_room, mark_numbers, more_use, number_at,
+    Ident, count_at, has_use, home_of, in_use, less_use, make_room, mark_numbers, more_use,
+    number_at,
 };
 use pid_types::call::Kind;
 pub use plan::PlanFault;
@@ -167,6 +168,13 @@ impl Numbers {
         ensures { result ≡ is_used_as kind (identifier_at self.now ident) }
     {
         has_use(&self.idents, ident, kind)
+    }
+
+    /// How many uses of the kind the identifier has; 0 where it is not there.
+    pub fn count(&self, ident: u32, kind: Kind) -> u64
+        ensures { result ≡ option_map_or (uses kind) (identifier_at self.now ident) 0 }
+    {
+        count_at(&self.idents, ident, kind)
     }
 
     /// The identifier's number in the namespace; none where it is not visible there. It costs a few

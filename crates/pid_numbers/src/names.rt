@@ -1,6 +1,7 @@
 //! Identifiers and their uses.
 
 ghost use Rattle.std.specs.Prelude.{◌≡◌, ◌≢◌, ℕ, ◌+◌, ◌<◌, Some, None, IsSome, IfOk, OnOk, IfSome, true, ◌-◌, ◌^◌, length, option_map, slice_index_or};
+ghost use Rattle.std.specs.Option.{option_map_or};
 ghost use Rattle.slab.specs.Slab.{get, HasRoomFor};
 ghost use Rattle.pid_numbers.specs.Numbering.{Identifier, uses, less, more, is_used, is_used_as};
 ghost use Rattle.pid_numbers.specs.Slabs.{identifier_of, name_at, way, entry_on, touched, mark_of, namespaces_of, bound_on, IsDistinct};
@@ -88,6 +89,16 @@ pub(crate) fn number_at(idents: &Slab<Ident>, ident: u32, place: usize) -> Optio
     match idents.get(ident as usize) {
         Some(x) => Some(x.numbers.at(place)),
         None => None,
+    }
+}
+
+/// How many uses of the kind the identifier has.
+pub(crate) fn count_at(idents: &Slab<Ident>, ident: u32, kind: Kind) -> u64
+    ensures { result ≡ option_map_or (uses kind) (name_at idents.now ident) 0 }
+{
+    match idents.get(ident as usize) {
+        Some(x) => count(x, kind),
+        None => 0,
     }
 }
 
