@@ -212,4 +212,11 @@ impl<T: Drop> CyclicIds<T> {
     {
         self.ids.next_marked(from, m)
     }
+
+    /// The least number at or above `from` that is in use; none where there is none.
+    pub fn next(&self, from: u32) -> Option<u32>
+        ensures { IsLeastIndex (λ k. is_some (entry_at self.now.places k)) from 16777216 result }
+    {
+        self.ids.next(from)
+    }
 }

@@ -1,0 +1,128 @@
+//! Worked values: numbers on nested levels, their release and their use.
+
+ghost use Rattle.std.specs.Prelude.{◌≡◌, Some, None, IsSome};
+ghost use Rattle.pid_types.specs.Settings.{HasGoodPidMax};
+
+use pid_numbers::{Numbers, PlanFault};
+use pid_types::call::Kind;
+use std::alloc::{AllocError, Global};
+use std::test::Fail;
+
+/// A draw in the namespace, again where there was no memory; it answers the identifier.
+fn draw(numbers: &mut Numbers, space: u32) -> Option<u32> {
+    if numbers.id(space).is_none() {
+        return None;
+    }
+    let planned = numbers.plan(space).ok()?;
+    match numbers.draw(space, &planned) {
+        Ok(ident) => Some(ident),
+        Err(_) => numbers.draw(space, &planned).ok(),
+    }
+}
+
+/// A new namespace inside the parent with its first identifier, again where there was no memory.
+fn draw_new(numbers: &mut Numbers, parent: u32, id: u64) -> Option<(u32, u32)> {
+    if numbers.id(parent).is_none() || numbers.is_fallen(parent) {
+        return None;
+    }
+    let planned = numbers.plan_new(parent).ok()?;
+    match numbers.draw_new(parent, id, &planned) {
+        Ok(keys) => Some(keys),
+        Err(_) => numbers.draw_new(parent, id, &planned).ok(),
+    }
+}
+
+/// A table, made again where there was no memory.
+fn table(alloc: Global, pid_max: u32) -> Result<Numbers, AllocError>
+    requires { HasGoodPidMax pid_max }
+{
+    match Numbers::new(alloc, pid_max) {
+        Ok(numbers) => Ok(numbers),
+        Err(_) => Numbers::new(alloc, pid_max),
+    }
+}
+
+/// One use more, where there is one.
+fn add_use(numbers: &mut Numbers, ident: u32, kind: Kind) {
+    if numbers.has_use(ident, Kind::Task) && numbers.count(ident, kind) < 100 {
+        numbers.add_use(ident, kind);
+    }
+}
+
+/// One use less, where there is one.
+fn drop_use(numbers: &mut Numbers, ident: u32, kind: Kind) {
+    if numbers.has_use(ident, kind) {
+        numbers.drop_use(ident, kind);
+    }
+}
+
+/// The root init is 1, the first of a new namespace 1 there and 2 in the root, and the next of it 2 and 3.
+#[test]
+fn numbers_on_two_levels(rt: HostRuntime) -> Result<(), Fail> {
+    let mut numbers = table(rt.alloc(), 32768)?;
+    numbers.laws();
+    let init = draw(&mut numbers, 0);
+    assert_eq!(rt; numbers.find(0, 1), init);
+    let made = draw_new(&mut numbers, 0, 1);
+    assert!(rt; made.is_some());
+    if let Some((first, space)) = made {
+        let second = draw(&mut numbers, space);
+        assert_eq!(rt; numbers.find(space, 1), Some(first));
+        assert_eq!(rt; numbers.find(0, 2), Some(first));
+        assert_eq!(rt; numbers.find(space, 2), second);
+        assert_eq!(rt; numbers.find(0, 3), second);
+        assert_eq!(rt; numbers.number_in(first, 0), Some(2));
+        assert_eq!(rt; numbers.number_in(first, space), Some(1));
+        assert_eq!(rt; numbers.space_of(first), Some(space));
+        assert_eq!(rt; numbers.cursor(0), Some(4));
+        assert_eq!(rt; numbers.cursor(space), Some(3));
+        assert_eq!(rt; numbers.id(space), Some(1));
+        assert_eq!(rt; numbers.parent(space), Some(0));
+        assert_eq!(rt; numbers.parent(0), None);
+        assert!(rt; numbers.is_within(space, 0));
+        assert!(rt; !numbers.is_within(0, space));
+        assert!(rt; !numbers.is_fallen(space));
+    }
+    Ok(())
+}
+
+/// A number that a group uses outlives its task, and is free after the group's last use.
+#[test]
+fn outlives_its_task(rt: HostRuntime) -> Result<(), Fail> {
+    let mut numbers = table(rt.alloc(), 302)?;
+    for _ in 0..301 {
+        let _ = draw(&mut numbers, 0);
+    }
+    assert!(rt; numbers.plan(0).is_err());
+    assert_eq!(rt; numbers.next_used(0, Kind::Task, 302), None);
+    assert!(rt; numbers.find(0, 301).is_some());
+    if let Some(last) = numbers.find(0, 301) {
+        add_use(&mut numbers, last, Kind::Group);
+        drop_use(&mut numbers, last, Kind::Task);
+        assert_eq!(rt; numbers.find(0, 301), Some(last));
+        assert_eq!(rt; numbers.next_used(0, Kind::Task, 301), None);
+        assert_eq!(rt; numbers.next_used(0, Kind::Group, 2), Some(301));
+        assert!(rt; numbers.plan(0).is_err());
+        drop_use(&mut numbers, last, Kind::Group);
+        assert_eq!(rt; numbers.find(0, 301), None);
+        assert!(rt; numbers.plan(0).is_ok());
+    }
+    Ok(())
+}
+
+/// Thirty-two namespaces, each inside the one before; a thirty-third is too deep.
+#[test]
+fn nests_to_level_32(rt: HostRuntime) -> Result<(), Fail> {
+    let mut numbers = table(rt.alloc(), 32768)?;
+    let mut inner = 0;
+    for id in 1..33 {
+        let made = draw_new(&mut numbers, inner, id);
+        assert!(rt; made.is_some());
+        if let Some((_, space)) = made {
+            inner = space;
+        }
+    }
+    assert_eq!(rt; numbers.find(0, 32), numbers.find(inner, 1));
+    assert_eq!(rt; numbers.plan_new(inner).err(), Some(PlanFault::TooDeep));
+    Ok(())
+}

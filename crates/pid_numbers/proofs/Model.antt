@@ -1,0 +1,168 @@
+-- The model's paths and numbers are those of the keys.
+use Rattle.std.proofs.Common.{◌≡◌, ◌≢◌, ◌⊎◌, inl, inr, ℕ, zero, suc, ◌<◌, ◌≤◌, Bool, true, false, ◌==◌, ◌||◌, List, [], ◌∷◌, ◌++◌, length, map, get_or, Option, Some, None, if◌then◌else◌, refl, sym, ap, ◌∙◌, arith, option_and_then}
+use Rattle.std.specs.Prelude.{reverse}
+use Rattle.std.specs.Option.{option_map_or}
+use Rattle.std.proofs.lemmas.Bool.{cases_eq, eq-eqb}
+use Rattle.std.proofs.lemmas.List.{length-reverse, reverse-append}
+use Rattle.pid_types.specs.declared.plain.Space.{Space}
+use Rattle.pid_types.specs.declared.plain.Name.{Name}
+use Rattle.pid_types.specs.Chains.{climb}
+use Rattle.pid_types.specs.Names.{beside, parent_space, path_up, number}
+use Rattle.pid_types.specs.Chains.{contains}
+use Rattle.pid_types.specs.State.{State, root_name}
+use Rattle.pid_types.specs.Names.{names_in_use, taken}
+use Rattle.pid_types.specs.Draw.{cyclic_draw, cursor_of, draw}
+use Rattle.std.specs.List.{filter_map, cons_option}
+use Rattle.cyclic_ids.proofs.Draws.{cyclic_draw-same}
+use Rattle.pid_numbers.specs.Numbering.{Numbering, Namespace, Identifier, namespace_at, identifier_at, number_of, number_in, path_at, taken_in, draw_in}
+use Rattle.pid_numbers.specs.Slabs.{IsPath}
+use Rattle.pid_numbers.proofs.Ties.{beside-none, distinct-path, listed, listed_from}
+
+abbrev first : (ℕ → ℕ) → List ℕ → Option ℕ
+first id [] = None
+first id (q ∷ qs) = Some (id q)
+
+off_of : (a b : ℕ) → a ≢ b → (a == b) ≡ false
+off_of a b m = grind (arith, m)
+
+-- beside the id is what is beside the key
+pub beside-ids : (id : ℕ → ℕ) (s : ℕ) (p ns : List ℕ) → ((t : ℕ) → id t ≡ id s → t ≡ s) → beside (id s) (map id p) ns ≡ beside s p ns
+beside-ids id s [] ns only = refl
+beside-ids id s (t ∷ ts) [] only = refl
+beside-ids id s (t ∷ ts) (n ∷ ns) only = go (beside-ids id s ts ns only) (cases_eq t s)
+  where
+    go : beside (id s) (map id ts) ns ≡ beside s ts ns → (t ≡ s) ⊎ (t ≢ s) → (if id t == id s then Some n else beside (id s) (map id ts) ns) ≡ (if t == s then Some n else beside s ts ns)
+    go again (inl e) = rw (eq-eqb t s e, eq-eqb (id t) (id s) (ap id e)) refl
+    go again (inr m) = rw (off_of t s m, off_of (id t) (id s) (λ e. m (only t e))) again
+
+abbrev either : Option ℕ → Option ℕ → Option ℕ
+either None b = b
+either (Some a) b = Some a
+
+beside-snoc : (s t n : ℕ) (ts ns : List ℕ) → length ts ≡ length ns → beside s (ts ++ t ∷ []) (ns ++ n ∷ []) ≡ either (beside s ts ns) (if t == s then Some n else None)
+beside-snoc s t n [] [] e = refl
+beside-snoc s t n [] (m ∷ ms) e = absurd (omega (arith, e))
+beside-snoc s t n (u ∷ us) [] e = absurd (omega (arith, e))
+beside-snoc s t n (u ∷ us) (m ∷ ms) e = go (u == s) (beside-snoc s t n us ms (omega (arith, e)))
+  where
+    go : (b : Bool) → beside s (us ++ t ∷ []) (ms ++ n ∷ []) ≡ either (beside s us ms) (if t == s then Some n else None)
+        → (if b then Some m else beside s (us ++ t ∷ []) (ms ++ n ∷ [])) ≡ either (if b then Some m else beside s us ms) (if t == s then Some n else None)
+    go true again = refl
+    go false again = again
+
+module _ (ways : ℕ → List ℕ) where
+  -- the order of the levels does not matter
+  pub beside-reverse : (s : ℕ) (p ns : List ℕ) → IsPath ways p → length p ≡ length ns → beside s (reverse p) (reverse ns) ≡ beside s p ns
+  beside-reverse s [] [] h e = refl
+  beside-reverse s [] (n ∷ ns) h e = absurd (omega (arith, e))
+  beside-reverse s (t ∷ ts) [] h e = absurd (omega (arith, e))
+  beside-reverse s (t ∷ ts) (n ∷ ns) h e =
+      ap (λ p. beside s p (reverse (n ∷ ns))) (reverse-append (t ∷ []) ts) ∙ ap (λ q. beside s (reverse ts ++ t ∷ []) q) (reverse-append (n ∷ []) ns)
+      ∙ beside-snoc s t n (reverse ts) (reverse ns) (length-reverse ts ∙ tails ∙ sym (length-reverse ns))
+      ∙ ap (λ o. either o (if t == s then Some n else None)) (beside-reverse s ts ns h.1 tails)
+      ∙ go (cases_eq t s)
+    where
+      tails : length ts ≡ length ns
+      tails = omega (arith, e)
+
+      plain : (o : Option ℕ) → either o None ≡ o
+      plain None = refl
+      plain (Some a) = refl
+
+      go : (t ≡ s) ⊎ (t ≢ s) → either (beside s ts ns) (if t == s then Some n else None) ≡ (if t == s then Some n else beside s ts ns)
+      go (inl same) =
+          let none : beside s ts ns ≡ None = beside-none s ts ns (λ j lt z. distinct-path ways (t ∷ ts) h 0 (suc j) (omega arith) (omega (arith, lt)) (same ∙ sym z)) in
+          rw (none, eq-eqb t s same) refl
+      go (inr m) = rw (off_of t s m) (plain (beside s ts ns))
+
+  module _ (spaces : List Space) (id : ℕ → ℕ) (up : (s : ℕ) (rest : List ℕ) → ways s ≡ s ∷ rest → parent_space spaces (id s) ≡ first id rest) where
+    climb-is : (fuel s : ℕ) (rest : List ℕ) → IsPath ways (s ∷ rest) → length (s ∷ rest) ≤ fuel → climb (parent_space spaces) fuel (id s) ≡ map id (s ∷ rest)
+    unfolding climb
+    climb-is zero s rest h few = absurd (omega (arith, few))
+    climb-is (suc fuel) s [] h few = ap (λ o. id s ∷ option_map_or (climb (parent_space spaces) fuel) o []) (up s [] h.0)
+    climb-is (suc fuel) s (q ∷ qs) h few =
+        ap (λ o. id s ∷ option_map_or (climb (parent_space spaces) fuel) o []) (up s (q ∷ qs) h.0)
+        ∙ ap (λ l. id s ∷ l) (climb-is fuel q qs h.1 (omega (arith, few)))
+
+    -- the model's path is that of the keys
+    pub path_up-is : (s : ℕ) (rest : List ℕ) → IsPath ways (s ∷ rest) → length (s ∷ rest) ≤ 33 → path_up spaces (id s) ≡ map id (s ∷ rest)
+    unfolding path_up
+    path_up-is s rest h few = climb-is 33 s rest h few
+
+    -- the model's number is that of the keys
+    pub number-is : (s t : ℕ) (rest ns : List ℕ) (name : Name) → IsPath ways (t ∷ rest) → length (t ∷ rest) ≤ 33 → length (t ∷ rest) ≡ length ns → ((k : ℕ) → id k ≡ id s → k ≡ s)
+        → name.space ≡ id t → name.numbers.items ≡ reverse ns → number spaces name (id s) ≡ beside s (t ∷ rest) ns
+    unfolding number
+    number-is s t rest ns name h few len only space numbers =
+        ap (λ q. beside (id s) (reverse (path_up spaces name.space)) q) numbers
+        ∙ ap (λ q. beside (id s) (reverse (path_up spaces q)) (reverse ns)) space
+        ∙ ap (λ p. beside (id s) (reverse p) (reverse ns)) (path_up-is t rest h few)
+        ∙ ap (λ p. beside (id s) p (reverse ns)) (map-reverse (t ∷ rest))
+        ∙ beside-ids id s (reverse (t ∷ rest)) (reverse ns) only
+        ∙ beside-reverse s (t ∷ rest) ns h len
+      where
+        map-append : (xs ys : List ℕ) → map id (xs ++ ys) ≡ map id xs ++ map id ys
+        map-append [] ys = refl
+        map-append (x ∷ xs) ys = ap (λ l. id x ∷ l) (map-append xs ys)
+
+        map-reverse : (p : List ℕ) → reverse (map id p) ≡ map id (reverse p)
+        map-reverse [] = refl
+        map-reverse (x ∷ xs) = reverse-append (id x ∷ []) (map id xs) ∙ ap (λ l. l ++ id x ∷ []) (map-reverse xs) ∙ sym (ap (map id) (reverse-append (x ∷ []) xs) ∙ map-append (reverse xs) (x ∷ []))
+
+module _ {X : Type 0} (f : X → Option ℕ) (d : X) where
+  -- what is listed is some element's
+  among_from : (xs : List X) (n : ℕ) → contains (filter_map f xs) n ≡ true → (i : ℕ) × (i < length xs) × (f (get_or xs i d) ≡ Some n)
+  among_from [] n e = absurd (cc)
+  among_from (x ∷ xs) n e = go (λ h. among_from xs n h) (f x) refl e
+    where
+      go : (contains (filter_map f xs) n ≡ true → (i : ℕ) × (i < length xs) × (f (get_or xs i d) ≡ Some n)) → (o : Option ℕ) → f x ≡ o → contains (cons_option o (filter_map f xs)) n ≡ true → (i : ℕ) × (i < length (x ∷ xs)) × (f (get_or (x ∷ xs) i d) ≡ Some n)
+      go again None is e = let r = again e in (suc r.0, omega (arith, r.1), r.2)
+      go again (Some m) is e = elim (cases_eq m n) [
+        | inl same ↦ (0, omega arith, is ∙ ap Some same)
+        | inr differs ↦ let r = again (rw (off_of m n differs) at e) in (suc r.0, omega (arith, r.1), r.2)
+      ]
+
+  -- and each element's is listed
+  among : (xs : List X) (i n : ℕ) → i < length xs → f (get_or xs i d) ≡ Some n → contains (filter_map f xs) n ≡ true
+  among [] i n lt e = absurd (omega (arith, lt))
+  among (x ∷ xs) zero n lt e = rw (e, eq-eqb n n refl) refl
+  among (x ∷ xs) (suc i) n lt e = go (among xs i n (omega (arith, lt)) e) (f x)
+    where
+      or_right : (a b : Bool) → b ≡ true → (a || b) ≡ true
+      or_right true b e = refl
+      or_right false b e = e
+
+      go : contains (filter_map f xs) n ≡ true → (o : Option ℕ) → contains (cons_option o (filter_map f xs)) n ≡ true
+      go later None = later
+      go later (Some m) = or_right (m == n) (contains (filter_map f xs) n) later
+
+same_test : (a b : Bool) → (a ≡ true → b ≡ true) → (b ≡ true → a ≡ true) → a ≡ b
+same_test true true f g = refl
+same_test false false f g = refl
+same_test true false f g = sym (f refl)
+same_test false true f g = g refl
+
+-- a namespace gives the number that the model draws, where the names in use are the same
+pub draw-is : (state : State) (b : Numbering) (sid s : ℕ) (t : Namespace) → namespace_at b s ≡ Some t → state.pid_max ≡ b.pid_max → cursor_of state sid ≡ t.cursor
+    → ((i : ℕ) (u : Identifier) → identifier_at b i ≡ Some u → (x : ℕ) × (x < length (names_in_use state.rows)) × (number state.spaces (get_or (names_in_use state.rows) x root_name) sid ≡ number_of b i s))
+    → ((x : ℕ) → x < length (names_in_use state.rows) → (i : ℕ) × (number state.spaces (get_or (names_in_use state.rows) x root_name) sid ≡ number_of b i s))
+    → draw state sid ≡ draw_in b s
+unfolding draw taken taken_in
+draw-is state b sid s t at max cursor there back =
+    cyclic_draw-same state.pid_max (cursor_of state sid) (taken state sid) (taken_in b s) same
+    ∙ ap (λ m. cyclic_draw m (cursor_of state sid) (taken_in b s)) max ∙ ap (λ k. cyclic_draw b.pid_max k (taken_in b s)) cursor
+    ∙ sym (ap (option_and_then (λ t. cyclic_draw b.pid_max t.cursor (taken_in b s))) at)
+  where
+    of_key : (i n : ℕ) → number_of b i s ≡ Some n → (o : Option Identifier) → identifier_at b i ≡ o → contains (taken state sid) n ≡ true
+    of_key i n e None is = absurd (let z : Some n ≡ None = sym e ∙ ap (number_in (path_at b) s) is in cc)
+    of_key i n e (Some u) is =
+        let r = there i u is in
+        among (λ name. number state.spaces name sid) root_name (names_in_use state.rows) r.0 n r.1 (r.2 ∙ e)
+
+    same : (n : ℕ) → contains (taken state sid) n ≡ contains (taken_in b s) n
+    same n = same_test (contains (taken state sid) n) (contains (taken_in b s) n)
+        (λ e.
+        let r = among_from (λ name. number state.spaces name sid) root_name (names_in_use state.rows) n e in
+        let k = back r.0 r.1 in
+        listed (number_in (path_at b) s) refl b.names k.0 n (sym k.1 ∙ r.2))
+        (λ e. let r = listed_from (number_in (path_at b) s) b.names n e in of_key r.0 n r.1 (identifier_at b r.0) refl)

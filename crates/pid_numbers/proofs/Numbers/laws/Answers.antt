@@ -1,0 +1,28 @@
+use Rattle.std.proofs.Common.{◌≡◌, ◌∙◌, sym, ap, subst, ℕ, ◌<◌, ◌≤◌, List, length, get_or, drop, Option, Some, true, false, unwrap_or}
+use Rattle.std.specs.Option.{option_map_or}
+use Rattle.pid_numbers.specs.Numbering.{Identifier, number_of, path_at, has_fallen_at}
+use Rattle.pid_numbers.specs.Slabs.{way, entry_on, leads, fell}
+use Rattle.pid_numbers.proofs.Views as views
+use Rattle.pid_numbers.proofs.Ties as ties
+use Rattle.pid_numbers.proofs.Numbers.laws.Goals as goal
+
+pub returns : goal.returns
+returns c =
+    let max = c.self.inside.pid_max in
+    let spaces = c.self.inside.spaces in
+    let idents = c.self.inside.idents in
+    let b = c.self.invariant.numbering in
+    let value = c.args.self.now in
+    let path = views.path-of max spaces idents value c.self.view_is in
+    let led : (i s n : ℕ) → number_of value i s ≡ Some n → leads (entry_on spaces) s n ≡ Some i = λ i s n h.
+    b.tied.kept s n i (sym (views.number_is max spaces idents i s) ∙ ap (λ z. number_of z i s) c.self.view_is ∙ h) in
+    let fallen : (s : ℕ) → has_fallen_at value s ≡ fell spaces s = λ s. ap (λ o. option_map_or (λ t. t.fallen) o false) (views.namespace_is max spaces idents value c.self.view_is s) in
+    record {
+      distinct = λ i j s n x y. ap (λ o. unwrap_or o 0) (sym (led i s n x) ∙ led j s n y);
+      range = λ i s n h. (let r = b.range s n i (led i s n h) in (r.0, subst (λ m. n < m) (ap (λ z. z.pid_max) c.self.view_is) r.1));
+      full = λ i u h. (let e = sym (views.identifier_is max spaces idents value c.self.view_is i) ∙ h in (b.tied.some i u e, b.tied.full i u e ∙ ap length (sym (path u.space))));
+      around = subst (λ (p : ℕ → List ℕ). (s j : ℕ) → j < length (p s) → p (get_or (p s) j 0) ≡ drop j (p s)) (λ i s. sym (path s) i) (λ s j lt. ties.at-path (way spaces) (way spaces s) (b.tree.paths s) j lt);
+      few = λ s. subst (λ (l : List ℕ). length l ≤ 33) (sym (path s)) (b.tree.few s);
+      fallen = λ s j lt e.
+          fallen s ∙ c.self.invariant.fallen.inner s j (subst (λ (l : List ℕ). j < length l) (path s) lt) (ap (λ p. fell spaces (get_or p j 0)) (sym (path s)) ∙ sym (fallen (get_or (path_at value s) j 0)) ∙ e);
+    }

@@ -1,0 +1,33 @@
+use Rattle.std.proofs.Common.{◌≡◌, ◌≤◌, ◌∷◌, ◌∙◌, sym, ap, subst, arith, ℕ, length, find, is_none, None, map, unwrap_or, Some}
+use Rattle.pid_types.specs.Bounds.{deepest_space}
+use Rattle.pid_numbers.specs.Numbering.{Numbering, draw_in, path_at}
+use Rattle.pid_numbers.specs.Slabs.{plan_on, numbering_of, way}
+use Rattle.pid_numbers.proofs.Views as views
+use Rattle.pid_numbers.proofs.Numbers.plan_new.Goals as goal
+
+pub returns-in-Ok-clause-ok : goal.returns-in-Ok-clause-ok
+returns-in-Ok-clause-ok c =
+    let now = numbering_of c.self.inside.pid_max c.self.inside.spaces c.self.inside.idents in
+    let draws = views.draws_same c.self.inside.pid_max c.self.inside.spaces c.self.inside.idents c.self.invariant.numbering in
+    let path = views.path_is c.self.inside.pid_max c.self.inside.spaces c.self.inside.idents c.args.parent in
+    let len = ap length path in
+    let levels = c.levels.ensures.value in
+    let few = c.if-levels-gt32.false in
+    subst (λ b. (length (path_at b c.args.parent) ≤ deepest_space) × (find (λ s. is_none (draw_in b s)) (path_at b c.args.parent) ≡ None) × (c.with_first.result.items ≡ 1 ∷ map (λ s. unwrap_or (draw_in b s) 0) (path_at b c.args.parent))) c.self.view_is (
+      omega (arith, len, levels, few),
+      ap (λ p. find (λ s. is_none (draw_in now s)) p) path ∙ ap (λ d. find (λ s. is_none (d s)) (way c.self.inside.spaces c.args.parent)) (sym draws) ∙ c.in-Ok.ensures.ok.0,
+      c.with_first.ensures ∙ ap (λ l. 1 ∷ l) (c.in-Ok.ensures.ok.1 ∙ ap (λ d. map (λ s. unwrap_or (d s) 0) (way c.self.inside.spaces c.args.parent)) draws ∙ ap (λ p. map (λ s. unwrap_or (draw_in now s) 0) p) (sym path)),
+    )
+
+pub returns-in-Err-clause-err : goal.returns-in-Err-clause-err
+returns-in-Err-clause-err c =
+    let now = numbering_of c.self.inside.pid_max c.self.inside.spaces c.self.inside.idents in
+    let draws = views.draws_same c.self.inside.pid_max c.self.inside.spaces c.self.inside.idents c.self.invariant.numbering in
+    let path = views.path_is c.self.inside.pid_max c.self.inside.spaces c.self.inside.idents c.args.parent in
+    let len = ap length path in
+    let levels = c.levels.ensures.value in
+    let few = c.if-levels-gt32.false in
+    subst (λ b. (length (path_at b c.args.parent) ≤ deepest_space) × (find (λ s. is_none (draw_in b s)) (path_at b c.args.parent) ≡ Some c.in-Err.space)) c.self.view_is (
+      omega (arith, len, levels, few),
+      ap (λ p. find (λ s. is_none (draw_in now s)) p) path ∙ ap (λ d. find (λ s. is_none (d s)) (way c.self.inside.spaces c.args.parent)) (sym draws) ∙ c.in-Err.ensures.err,
+    )

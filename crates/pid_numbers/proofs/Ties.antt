@@ -1,0 +1,488 @@
+-- Look-ups that lead to names, over plain functions.
+use Rattle.std.proofs.Common.{◌≡◌, ◌≢◌, ◌⊎◌, inl, inr, ℕ, zero, suc, ◌+◌, ◌<◌, ◌≤◌, Bool, true, false, ◌==◌, ◌||◌, List, [], ◌∷◌, length, map, get_or, drop, length-drop, Option, Some, None, is_none, if◌then◌else◌, refl, sym, ap, subst, ◌∙◌, arith, option_map, unwrap_or, find}
+use Rattle.std.specs.Prelude.{filter_map, slice_set}
+use Rattle.std.specs.Option.{option_map_or, option_eq}
+use Rattle.std.specs.List.{cons_option}
+use Rattle.std.proofs.lemmas.List.{drop_more, get_or-drop}
+use Rattle.std.proofs.lemmas.Bool.{cases_eq, eq-eqb}
+use Rattle.pid_types.specs.Chains.{contains}
+use Rattle.pid_types.specs.Names.{beside}
+use Rattle.index_array.specs.Place.{Entry, with_mark}
+use Rattle.pid_types.specs.declared.call.Kind.{Kind}
+use Rattle.pid_types.specs.declared.call.Kind.TheVariants.{Task, Group, Session}
+use Rattle.pid_numbers.specs.Numbering.{Identifier, Namespace, moved, number_in, is_used_as, with_uses}
+use Rattle.pid_numbers.specs.Slabs.{stepped, IsDistinct, IsPath, IsTree, IsTied, IsNumbering, touched, leads, given_to, mark_of, marks_of, AreMarked, AreInRange}
+
+-- where each draws, each number is the one drawn
+pub planned_each : (d : ℕ → Option ℕ) (path : List ℕ) → find (λ s. is_none (d s)) path ≡ None → (k : ℕ) → k < length path → d (get_or path k 0) ≡ Some (get_or (map (λ s. unwrap_or (d s) 0) path) k 0)
+planned_each d [] all k below = absurd (omega (arith, below))
+planned_each d (s ∷ ss) all zero below = go (d s) all
+  where
+    go : (o : Option ℕ) → (if is_none o then Some s else find (λ s. is_none (d s)) ss) ≡ None → o ≡ Some (unwrap_or o 0)
+    go None e = absurd (cc)
+    go (Some n) e = refl
+planned_each d (s ∷ ss) all (suc k) below = planned_each d ss (go (d s) all) k (omega (arith, below))
+  where
+    go : (o : Option ℕ) → (if is_none o then Some s else find (λ s. is_none (d s)) ss) ≡ None → find (λ s. is_none (d s)) ss ≡ None
+    go None e = absurd (cc)
+    go (Some n) e = e
+
+-- a look-up in a list that was mapped
+pub get_or-map_option : {X Y : Type 0} (f : X → Y) (xs : List (Option X)) (k : ℕ) → get_or (map (option_map f) xs) k None ≡ option_map f (get_or xs k None)
+get_or-map_option f [] k = refl
+get_or-map_option f (x ∷ xs) zero = refl
+get_or-map_option f (x ∷ xs) (suc k) = get_or-map_option f xs k
+
+bool_cases : (b : Bool) → (b ≡ true) ⊎ (b ≡ false)
+bool_cases true = inl refl
+bool_cases false = inr refl
+
+module _ (f : Option Identifier → Option ℕ) where
+  -- what is listed is some name's
+  pub listed_from : (xs : List (Option Identifier)) (n : ℕ) → contains (filter_map f xs) n ≡ true → (i : ℕ) × (f (get_or xs i None) ≡ Some n)
+  listed_from [] n e = absurd (cc)
+  listed_from (x ∷ xs) n e = go (λ h. listed_from xs n h) (f x) refl e
+    where
+      go : (contains (filter_map f xs) n ≡ true → (i : ℕ) × (f (get_or xs i None) ≡ Some n)) → (o : Option ℕ) → f x ≡ o → contains (cons_option o (filter_map f xs)) n ≡ true → (i : ℕ) × (f (get_or (x ∷ xs) i None) ≡ Some n)
+      go again None is e = let r = again e in (suc r.0, r.1)
+      go again (Some m) is e = elim (cases_eq m n) [
+        | inl same ↦ (0, is ∙ ap Some same)
+        | inr differs ↦
+            let off : (m == n) ≡ false = grind (arith, differs) in
+            let r = again (rw off at e) in (suc r.0, r.1)
+      ]
+
+  -- and each name's is listed
+  pub listed : f None ≡ None → (xs : List (Option Identifier)) (i n : ℕ) → f (get_or xs i None) ≡ Some n → contains (filter_map f xs) n ≡ true
+  listed none [] i n e = absurd (let z : Some n ≡ None = sym e ∙ none in cc)
+  listed none (x ∷ xs) zero n e = rw (e, eq-eqb n n refl) refl
+  listed none (x ∷ xs) (suc i) n e = go (listed none xs i n e) (f x)
+    where
+      or_right : (a b : Bool) → b ≡ true → (a || b) ≡ true
+      or_right true b e = refl
+      or_right false b e = e
+
+      go : contains (filter_map f xs) n ≡ true → (o : Option ℕ) → contains (cons_option o (filter_map f xs)) n ≡ true
+      go later None = later
+      go later (Some m) = or_right (m == n) (contains (filter_map f xs) n) later
+
+-- what stands beside a number that is not in the list
+pub beside-none : (s : ℕ) (path numbers : List ℕ) → ((j : ℕ) → j < length path → get_or path j 0 ≢ s) → beside s path numbers ≡ None
+beside-none s [] numbers h = refl
+beside-none s (t ∷ ts) [] h = refl
+beside-none s (t ∷ ts) (n ∷ ns) h =
+    let m : t ≢ s = h 0 (omega arith) in
+    let off : (t == s) ≡ false = grind (arith, m) in
+    rw off (beside-none s ts ns (λ j lt. h (suc j) (omega (arith, lt))))
+
+-- a number that stands beside another one is in a place
+pub beside-some : (s n : ℕ) (path numbers : List ℕ) → beside s path numbers ≡ Some n → (j : ℕ) × (j < length path) × (get_or path j 0 ≡ s) × (get_or numbers j 0 ≡ n)
+beside-some s n [] numbers e = absurd (cc)
+beside-some s n (t ∷ ts) [] e = absurd (cc)
+beside-some s n (t ∷ ts) (m ∷ ms) e = go (λ h. beside-some s n ts ms h) (cases_eq t s) e
+  where
+    go : (beside s ts ms ≡ Some n → (j : ℕ) × (j < length ts) × (get_or ts j 0 ≡ s) × (get_or ms j 0 ≡ n)) → (t ≡ s) ⊎ (t ≢ s) → (if t == s then Some m else beside s ts ms) ≡ Some n → (j : ℕ) × (j < length (t ∷ ts)) × (get_or (t ∷ ts) j 0 ≡ s) × (get_or (m ∷ ms) j 0 ≡ n)
+    go again (inl same) e =
+        let on : (t == s) ≡ true = eq-eqb t s same in
+        let r : Some m ≡ Some n = rw on at e in
+        (0, omega arith, same, cc)
+    go again (inr differs) e =
+        let off : (t == s) ≡ false = grind (arith, differs) in
+        let r = again (rw off at e) in
+        (suc r.0, omega (arith, r.1), r.2, r.3)
+
+module _ (a b : ℕ) (ps ns : List ℕ) (absent : beside a ps ns ≡ None) where
+  -- one namespace after the other
+  pub touched-cons : (h : Option (Entry ℕ) → Option (Entry ℕ)) (f f' : ℕ → ℕ → Option (Entry ℕ)) → f' a b ≡ h (f a b) → ((m : ℕ) → m ≢ b → f' a m ≡ f a m) → ((s : ℕ) → s ≢ a → (m : ℕ) → f' s m ≡ f s m)
+      → (s n : ℕ) → touched ps ns h f' s n ≡ touched (a ∷ ps) (b ∷ ns) h f s n
+  touched-cons h f f' here same others s n = elim (cases_eq s a) [
+    | inl e ↦ ap (λ z. touched ps ns h f' z n) e ∙ at_a ∙ sym (ap (λ z. touched (a ∷ ps) (b ∷ ns) h f z n) e)
+    | inr differs ↦
+        let m : a ≢ s = λ e. differs (sym e) in
+        let off : (a == s) ≡ false = grind (arith, m) in
+        rw (off, others s differs n) refl
+  ]
+    where
+      at_a : touched ps ns h f' a n ≡ touched (a ∷ ps) (b ∷ ns) h f a n
+      at_a = rw (absent, eq-eqb a a refl) (elim (cases_eq n b) [
+        | inl e ↦ rw (e, eq-eqb b b refl) here
+        | inr differs ↦
+            let m : b ≢ n = λ e. differs (sym e) in
+            let off : (b == n) ≡ false = grind (arith, m) in
+            rw off (same n differs)
+      ])
+
+  pub moved-cons : (g g' : ℕ → Option Namespace) → g' a ≡ option_map (stepped b) (g a) → ((s : ℕ) → s ≢ a → g' s ≡ g s)
+      → (s : ℕ) → option_map (moved ps ns s) (g' s) ≡ option_map (moved (a ∷ ps) (b ∷ ns) s) (g s)
+  moved-cons g g' here others s = elim (cases_eq s a) [
+    | inl e ↦ ap (λ z. option_map (moved ps ns z) (g' z)) e ∙ ap (option_map (moved ps ns a)) here ∙ at_a (g a) ∙ sym (ap (λ z. option_map (moved (a ∷ ps) (b ∷ ns) z) (g z)) e)
+    | inr differs ↦
+        let m : a ≢ s = λ e. differs (sym e) in
+        let off : (a == s) ≡ false = grind (arith, m) in
+        ap (option_map (moved ps ns s)) (others s differs)
+        ∙ sym (ap (λ z. option_map (λ (t : Namespace). record t { cursor = option_map_or (λ n. n + 1) (if z then Some b else beside s ps ns) t.cursor }) (g s)) off)
+  ]
+    where
+      at_a : (o : Option Namespace) → option_map (moved ps ns a) (option_map (stepped b) o) ≡ option_map (moved (a ∷ ps) (b ∷ ns) a) o
+      at_a None = refl
+      at_a (Some t) = rw (absent, eq-eqb a a refl) refl
+
+module _ (path numbers : List ℕ) (distinct : IsDistinct path) (len : length numbers ≡ length path) (k : ℕ) (below : k < length path) (key n : ℕ) (at : key ≡ get_or path k 0) (is : n ≡ get_or numbers k 0) where
+  head : drop k path ≡ key ∷ drop (k + 1) path
+  head = drop_more path k 0 below ∙ ap (λ z. z ∷ drop (k + 1) path) (sym at)
+
+  first : drop k numbers ≡ n ∷ drop (k + 1) numbers
+  first = drop_more numbers k 0 (omega (arith, below, len)) ∙ ap (λ z. z ∷ drop (k + 1) numbers) (sym is)
+
+  far : (j : ℕ) → j < length (drop (k + 1) path) → k + 1 + j < length path
+  far j lt = let h = length-drop (k + 1) path in omega (arith, lt, h)
+
+  gone : beside key (drop (k + 1) path) (drop (k + 1) numbers) ≡ None
+  gone = beside-none key (drop (k + 1) path) (drop (k + 1) numbers) (λ j lt e. distinct k (k + 1 + j) (omega arith) (far j lt) (sym at ∙ sym e ∙ get_or-drop (k + 1) path j 0))
+
+  -- the same of what is left of the path
+  pub touched-more : (h : Option (Entry ℕ) → Option (Entry ℕ)) (f f' : ℕ → ℕ → Option (Entry ℕ)) → f' key n ≡ h (f key n) → ((m : ℕ) → m ≢ n → f' key m ≡ f key m) → ((s : ℕ) → s ≢ key → (m : ℕ) → f' s m ≡ f s m)
+      → (s m : ℕ) → touched (drop (k + 1) path) (drop (k + 1) numbers) h f' s m ≡ touched (drop k path) (drop k numbers) h f s m
+  touched-more h f f' here same others s m =
+      touched-cons key n (drop (k + 1) path) (drop (k + 1) numbers) gone h f f' here same others s m
+      ∙ sym (ap (λ p. touched p (drop k numbers) h f s m) head ∙ ap (λ q. touched (key ∷ drop (k + 1) path) q h f s m) first)
+
+  pub moved-more : (g g' : ℕ → Option Namespace) → g' key ≡ option_map (stepped n) (g key) → ((s : ℕ) → s ≢ key → g' s ≡ g s)
+      → (s : ℕ) → option_map (moved (drop (k + 1) path) (drop (k + 1) numbers) s) (g' s) ≡ option_map (moved (drop k path) (drop k numbers) s) (g s)
+  moved-more g g' here others s =
+      moved-cons key n (drop (k + 1) path) (drop (k + 1) numbers) gone g g' here others s
+      ∙ sym (ap (λ p. option_map (moved p (drop k numbers) s) (g s)) head ∙ ap (λ q. option_map (moved (key ∷ drop (k + 1) path) q s) (g s)) first)
+
+  -- later ones are others
+  pub later : (j : ℕ) → k + 1 ≤ j → j < length path → get_or path j 0 ≢ key
+  later j lo lt e = distinct k j (omega (arith, lo)) lt (sym at ∙ sym e)
+
+-- one key and the others
+pub everywhere : {X : Type 0} (f g : ℕ → X) (key : ℕ) → f key ≡ g key → ((s : ℕ) → s ≢ key → f s ≡ g s) → (s : ℕ) → f s ≡ g s
+everywhere f g key here others s = elim (cases_eq s key) [
+  | inl e ↦ ap f e ∙ here ∙ sym (ap g e)
+  | inr differs ↦ others s differs
+]
+
+-- each namespace of a path leads to the rest of it
+pub at-path : (ways : ℕ → List ℕ) (path : List ℕ) → IsPath ways path → (j : ℕ) → j < length path → ways (get_or path j 0) ≡ drop j path
+at-path ways [] h j lt = absurd (omega (arith, lt))
+at-path ways (s ∷ ss) h zero lt = h.0
+at-path ways (s ∷ ss) h (suc j) lt = at-path ways ss h.1 j (omega (arith, lt))
+
+pub distinct-path : (ways : ℕ → List ℕ) (path : List ℕ) → IsPath ways path → IsDistinct path
+distinct-path ways path h i j lo lt same =
+    let a = at-path ways path h i (omega (arith, lo, lt)) in
+    let b = at-path ways path h j lt in
+    let e : length (drop i path) ≡ length (drop j path) = ap length (sym a ∙ ap ways same ∙ b) in
+    let x = length-drop i path in
+    let y = length-drop j path in
+    omega (arith, lo, lt, e, x, y)
+
+decide_some : (o : Option ℕ) (n : ℕ) → (o ≡ Some n) ⊎ (o ≢ Some n)
+decide_some None n = inr (λ e. cc)
+decide_some (Some m) n = elim (cases_eq m n) [
+  | inl e ↦ inl (ap Some e)
+  | inr d ↦ inr (λ e. d (ap (λ o. unwrap_or o 0) e))
+]
+
+-- a change along a path reaches the numbers there
+module _ (path numbers : List ℕ) (h : Option (Entry ℕ) → Option (Entry ℕ)) (f : ℕ → ℕ → Option (Entry ℕ)) (s n : ℕ) where
+  pub touched-hit : beside s path numbers ≡ Some n → touched path numbers h f s n ≡ h (f s n)
+  touched-hit e = rw (e, eq-eqb n n refl) refl
+
+  -- and no others
+  pub touched-miss : beside s path numbers ≢ Some n → touched path numbers h f s n ≡ f s n
+  touched-miss d = go (beside s path numbers) d
+    where
+      go : (o : Option ℕ) → o ≢ Some n → (if option_eq ◌==◌ o (Some n) then h (f s n) else f s n) ≡ f s n
+      go None d = refl
+      go (Some m) d =
+          let x : m ≢ n = λ e. d (ap Some e) in
+          let off : (m == n) ≡ false = grind (arith, x) in
+          rw off refl
+
+module _ (ways ways' : ℕ → List ℕ) (see see' : ℕ → ℕ → Option ℕ) (names names' : ℕ → Option Identifier) (t : IsTied ways names see) (same_ways : (s : ℕ) → ways' s ≡ ways s) where
+  number_same : (s : ℕ) (o o' : Option Identifier) → o' ≡ o → number_in ways' s o' ≡ number_in ways s o
+  number_same s o o' e = ap (λ w. number_in w s o') (λ i s. same_ways s i) ∙ ap (number_in ways s) e
+
+  -- the look-ups and the names stay
+  pub tied-same : ((s n : ℕ) → see' s n ≡ see s n) → ((i : ℕ) → names' i ≡ names i) → IsTied ways' names' see'
+  tied-same seen_same names_same = record {
+    found = λ s n i e. number_same s (names i) (names' i) (names_same i) ∙ t.found s n i (sym (seen_same s n) ∙ e);
+    kept = λ s n i e. seen_same s n ∙ t.kept s n i (sym (number_same s (names i) (names' i) (names_same i)) ∙ e);
+    full = λ i u e. t.full i u (sym (names_same i) ∙ e) ∙ ap length (sym (same_ways u.space));
+    some = λ i u e. t.some i u (sym (names_same i) ∙ e);
+  }
+
+  module _ (i : ℕ) (others : (j : ℕ) → j ≢ i → names' j ≡ names j) (u : Identifier) where
+    -- a new name
+    pub tied-given : names i ≡ None → names' i ≡ Some u → length u.numbers ≡ length (ways u.space) → 0 < length u.numbers
+        → ((s n : ℕ) → beside s (ways u.space) u.numbers ≡ Some n → see s n ≡ None)
+        → ((s n : ℕ) → beside s (ways u.space) u.numbers ≡ Some n → see' s n ≡ Some i) → ((s n : ℕ) → beside s (ways u.space) u.numbers ≢ Some n → see' s n ≡ see s n) → IsTied ways' names' see'
+    tied-given was now len some free hits misses = record {
+      found = λ s n j e. elim (decide_some (beside s (ways u.space) u.numbers) n) [
+        | inl hit ↦
+            let r : Some i ≡ Some j = sym (hits s n hit) ∙ e in
+            let same : i ≡ j = ap (λ o. unwrap_or o 0) r in
+            number_same s (Some u) (names' j) (ap names' (sym same) ∙ now) ∙ hit
+        | inr miss ↦
+            let old : see s n ≡ Some j = sym (misses s n miss) ∙ e in
+            let is : number_in ways s (names j) ≡ Some n = t.found s n j old in
+            number_same s (names j) (names' j) (others j (λ z. let bad : Some n ≡ None = sym is ∙ ap (λ k. number_in ways s (names k)) z ∙ ap (number_in ways s) was in cc)) ∙ is
+      ];
+      kept = λ s n j e. elim (cases_eq j i) [
+        | inl same ↦
+            let hit : beside s (ways u.space) u.numbers ≡ Some n = sym (number_same s (Some u) (names' j) (ap names' same ∙ now)) ∙ e in
+            hits s n hit ∙ ap Some (sym same)
+        | inr differs ↦
+            let old : see s n ≡ Some j = t.kept s n j (sym (number_same s (names j) (names' j) (others j differs)) ∙ e) in
+            misses s n (λ hit. let bad : Some j ≡ None = sym old ∙ free s n hit in cc) ∙ old
+      ];
+      full = λ j x e. elim (cases_eq j i) [
+        | inl same ↦
+            let r : Some u ≡ Some x = sym now ∙ ap names' (sym same) ∙ e in
+            let z : u ≡ x = ap (λ o. option_map_or (λ y. y) o u) r in
+            ap (λ y. length y.numbers) (sym z) ∙ len ∙ ap length (sym (same_ways u.space)) ∙ ap (λ y. length (ways' y.space)) z
+        | inr differs ↦ t.full j x (sym (others j differs) ∙ e) ∙ ap length (sym (same_ways x.space))
+      ];
+      some = λ j x e. elim (cases_eq j i) [
+        | inl same ↦
+            let r : Some u ≡ Some x = sym now ∙ ap names' (sym same) ∙ e in
+            let z : u ≡ x = ap (λ o. option_map_or (λ y. y) o u) r in
+            subst (λ (y : Identifier). 0 < length y.numbers) z some
+        | inr differs ↦ t.some j x (sym (others j differs) ∙ e)
+      ];
+    }
+
+    -- a name that goes
+    pub tied-released : names i ≡ Some u → names' i ≡ None → ((s n : ℕ) → beside s (ways u.space) u.numbers ≡ Some n → see' s n ≡ None) → ((s n : ℕ) → beside s (ways u.space) u.numbers ≢ Some n → see' s n ≡ see s n) → IsTied ways' names' see'
+    tied-released was now hits misses = record {
+      found = λ s n j e. elim (decide_some (beside s (ways u.space) u.numbers) n) [
+        | inl hit ↦ absurd (let r : None ≡ Some j = sym (hits s n hit) ∙ e in cc)
+        | inr miss ↦
+            let old : see s n ≡ Some j = sym (misses s n miss) ∙ e in
+            let is : number_in ways s (names j) ≡ Some n = t.found s n j old in
+            number_same s (names j) (names' j) (others j (λ z. miss (sym (ap (λ k. number_in ways s (names k)) z ∙ ap (number_in ways s) was) ∙ is))) ∙ is
+      ];
+      kept = λ s n j e. elim (cases_eq j i) [
+        | inl same ↦ absurd (let bad : Some n ≡ None = sym e ∙ ap (number_in ways' s) (ap names' same ∙ now) in cc)
+        | inr differs ↦
+            let old : see s n ≡ Some j = t.kept s n j (sym (number_same s (names j) (names' j) (others j differs)) ∙ e) in
+            misses s n (λ hit. differs (ap (λ o. unwrap_or o 0) (sym old ∙ t.kept s n i (ap (number_in ways s) was ∙ hit)))) ∙ old
+      ];
+      full = λ j x e. elim (cases_eq j i) [
+        | inl same ↦ absurd (let bad : Some x ≡ None = sym e ∙ ap names' same ∙ now in cc)
+        | inr differs ↦ t.full j x (sym (others j differs) ∙ e) ∙ ap length (sym (same_ways x.space))
+      ];
+      some = λ j x e. elim (cases_eq j i) [
+        | inl same ↦ absurd (let bad : Some x ≡ None = sym e ∙ ap names' same ∙ now in cc)
+        | inr differs ↦ t.some j x (sym (others j differs) ∙ e)
+      ];
+    }
+
+    -- a name whose uses change
+    pub tied-renamed : (v : Identifier) → names i ≡ Some v → names' i ≡ Some u → ((s : ℕ) → number_in ways s (Some u) ≡ number_in ways s (Some v)) → length u.numbers ≡ length (ways u.space) → 0 < length u.numbers
+        → ((s n : ℕ) → see' s n ≡ see s n) → IsTied ways' names' see'
+    tied-renamed v was now same_number len some sees = record {
+      found = λ s n j e. number s j ∙ t.found s n j (sym (sees s n) ∙ e);
+      kept = λ s n j e. sees s n ∙ t.kept s n j (sym (number s j) ∙ e);
+      full = λ j x e. elim (cases_eq j i) [
+        | inl same ↦
+            let r : Some u ≡ Some x = sym now ∙ ap names' (sym same) ∙ e in
+            let z : u ≡ x = ap (λ o. option_map_or (λ y. y) o u) r in
+            ap (λ y. length y.numbers) (sym z) ∙ len ∙ ap length (sym (same_ways u.space)) ∙ ap (λ y. length (ways' y.space)) z
+        | inr differs ↦ t.full j x (sym (others j differs) ∙ e) ∙ ap length (sym (same_ways x.space))
+      ];
+      some = λ j x e. elim (cases_eq j i) [
+        | inl same ↦
+            let r : Some u ≡ Some x = sym now ∙ ap names' (sym same) ∙ e in
+            let z : u ≡ x = ap (λ o. option_map_or (λ y. y) o u) r in
+            subst (λ (y : Identifier). 0 < length y.numbers) z some
+        | inr differs ↦ t.some j x (sym (others j differs) ∙ e)
+      ];
+    }
+      where
+        number : (s j : ℕ) → number_in ways' s (names' j) ≡ number_in ways s (names j)
+        number s j = elim (cases_eq j i) [
+          | inl same ↦ number_same s (Some u) (names' j) (ap names' same ∙ now) ∙ same_number s ∙ ap (number_in ways s) (sym was ∙ ap names (sym same))
+          | inr differs ↦ number_same s (names j) (names' j) (others j differs)
+        ]
+
+-- the marks where the uses of one identifier changed
+module _ (at at' : ℕ → ℕ → Option (Entry ℕ)) (names names' : ℕ → Option Identifier) (old : AreMarked at names) (path numbers : List ℕ) (i : ℕ) (others : (j : ℕ) → j ≢ i → names' j ≡ names j) where
+  pub marks-set : ((s n : ℕ) (e : Entry ℕ) → beside s path numbers ≡ Some n → at' s n ≡ Some e → e.marks ≡ marks_of (names' e.value))
+      → ((s n : ℕ) → beside s path numbers ≢ Some n → at' s n ≡ at s n) → ((s n : ℕ) → beside s path numbers ≢ Some n → leads at s n ≢ Some i) → AreMarked at' names'
+  marks-set hits misses away s n e is = elim (decide_some (beside s path numbers) n) [
+    | inl hit ↦ hits s n e hit is
+    | inr miss ↦
+        let was : at s n ≡ Some e = sym (misses s n miss) ∙ is in
+        let other : e.value ≢ i = λ z. away s n miss (ap (option_map (λ e. e.value)) was ∙ ap Some z) in
+        old s n e was ∙ ap marks_of (sym (others e.value other))
+  ]
+
+-- each number is in range where the new ones are
+pub range-set : (pid_max : ℕ) (see see' : ℕ → ℕ → Option ℕ) → AreInRange pid_max see → (path numbers : List ℕ) → ((s n : ℕ) → beside s path numbers ≡ Some n → (0 < n) × (n < pid_max))
+    → ((s n : ℕ) → beside s path numbers ≢ Some n → see' s n ≡ see s n) → AreInRange pid_max see'
+range-set pid_max see see' old path numbers hits misses s n i e = elim (decide_some (beside s path numbers) n) [
+  | inl hit ↦ hits s n hit
+  | inr miss ↦ old s n i (sym (misses s n miss) ∙ e)
+]
+
+-- what marks are read changes no key
+pub value-marked : (m : ℕ) (on : Bool) (o : Option (Entry ℕ)) → option_map (λ (e : Entry ℕ). e.value) (with_mark m on o) ≡ option_map (λ e. e.value) o
+value-marked m on None = refl
+value-marked m on (Some e) = refl
+
+-- what stands at a number of an identifier leads to it
+pub at_key : (o : Option (Entry ℕ)) (i : ℕ) → option_map (λ (e : Entry ℕ). e.value) o ≡ Some i → (e : Entry ℕ) × (o ≡ Some e) × (e.value ≡ i)
+at_key None i h = absurd (cc)
+at_key (Some e) i h = (e, refl, ap (λ o. unwrap_or o 0) h)
+
+-- the paths and the bounds stay
+pub numbering-with : (pid_max : ℕ) (ways ways' : ℕ → List ℕ) (at at' : ℕ → ℕ → Option (Entry ℕ)) (bound bound' : ℕ → Option ℕ) (names names' : ℕ → Option Identifier) → IsNumbering pid_max ways at bound names
+    → ((s : ℕ) → ways' s ≡ ways s) → ((s : ℕ) → bound' s ≡ bound s) → IsTied ways' names' (leads at') → AreInRange pid_max (leads at') → AreMarked at' names' → IsNumbering pid_max ways' at' bound' names'
+numbering-with pid_max ways ways' at at' bound bound' names names' b same_ways same_bound t r m = record {
+  good = b.good;
+  bounds = λ s m e. (let r = b.bounds s m (sym (same_bound s) ∙ e) in (r.0, subst (λ (l : List ℕ). 0 < length l) (sym (same_ways s)) r.1));
+  tree = subst IsTree (λ i s. sym (same_ways s) i) b.tree;
+  tied = t;
+  range = r;
+  marks = m;
+}
+
+module _ (pid_max : ℕ) (ways ways' : ℕ → List ℕ) (at at' : ℕ → ℕ → Option (Entry ℕ)) (bound bound' : ℕ → Option ℕ) (names names' : ℕ → Option Identifier) (b : IsNumbering pid_max ways at bound names)
+    (same_ways : (s : ℕ) → ways' s ≡ ways s) (same_bound : (s : ℕ) → bound' s ≡ bound s) where
+  -- nothing that is seen has changed
+  pub numbering-same : ((s n : ℕ) → at' s n ≡ at s n) → ((i : ℕ) → names' i ≡ names i) → IsNumbering pid_max ways' at' bound' names'
+  numbering-same same_at same_names =
+      subst (λ (a : ℕ → ℕ → Option (Entry ℕ)). IsNumbering pid_max ways' a bound' names') (λ i s n. sym (same_at s n) i)
+      (subst (λ (a : ℕ → Option Identifier). IsNumbering pid_max ways' at bound' a) (λ i j. sym (same_names j) i)
+      (subst (λ (a : ℕ → Option ℕ). IsNumbering pid_max ways' at a names) (λ i s. sym (same_bound s) i)
+      (subst (λ (a : ℕ → List ℕ). IsNumbering pid_max a at bound names) (λ i s. sym (same_ways s) i) b)))
+
+  module _ (i : ℕ) (u : Identifier) (others : (j : ℕ) → j ≢ i → names' j ≡ names j) where
+    -- a new identifier
+    pub numbering-given : names i ≡ None → names' i ≡ Some u → length u.numbers ≡ length (ways u.space) → 0 < length u.numbers → marks_of (Some u) ≡ true ∷ false ∷ false ∷ []
+        → ((s n : ℕ) → beside s (ways u.space) u.numbers ≡ Some n → (at s n ≡ None) × (0 < n) × (n < pid_max))
+        → ((s n : ℕ) → at' s n ≡ touched (ways u.space) u.numbers (λ _. given_to i) at s n) → IsNumbering pid_max ways' at' bound' names'
+    numbering-given was now len some marks free is =
+        numbering-with pid_max ways ways' at at' bound bound' names names' b same_ways same_bound
+        (tied-given ways ways' (leads at) (leads at') names names' b.tied same_ways i others u was now len some
+        (λ s n hit. ap (option_map (λ e. e.value)) (free s n hit).0) (λ s n hit. ap (option_map (λ e. e.value)) (hits s n hit)) (λ s n miss. ap (option_map (λ e. e.value)) (misses s n miss)))
+        (range-set pid_max (leads at) (leads at') b.range (ways u.space) u.numbers (λ s n hit. ((free s n hit).1, (free s n hit).2)) (λ s n miss. ap (option_map (λ e. e.value)) (misses s n miss)))
+        (marks-set at at' names names' b.marks (ways u.space) u.numbers i others
+        (λ s n e hit stands. new_marks e (sym (hits s n hit) ∙ stands)) misses (λ s n miss h. let bad : Some n ≡ None = sym (b.tied.found s n i h) ∙ ap (number_in ways s) was in cc))
+      where
+        hits : (s n : ℕ) → beside s (ways u.space) u.numbers ≡ Some n → at' s n ≡ given_to i
+        hits s n hit = is s n ∙ touched-hit (ways u.space) u.numbers (λ _. given_to i) at s n hit
+
+        misses : (s n : ℕ) → beside s (ways u.space) u.numbers ≢ Some n → at' s n ≡ at s n
+        misses s n miss = is s n ∙ touched-miss (ways u.space) u.numbers (λ _. given_to i) at s n miss
+
+        new_marks : (e : Entry ℕ) → given_to i ≡ Some e → e.marks ≡ marks_of (names' e.value)
+        new_marks e same =
+            let r : record { value = i; marks = true ∷ false ∷ false ∷ [] } ≡ e = ap (λ o. option_map_or (λ y. y) o e) same in
+            subst (λ (e : Entry ℕ). e.marks ≡ marks_of (names' e.value)) r (sym marks ∙ ap marks_of (sym now))
+
+    -- an identifier that goes
+    pub numbering-released : names i ≡ Some u → names' i ≡ None → ((s n : ℕ) → at' s n ≡ touched (ways u.space) u.numbers (λ _. None) at s n) → IsNumbering pid_max ways' at' bound' names'
+    numbering-released was now is =
+        numbering-with pid_max ways ways' at at' bound bound' names names' b same_ways same_bound
+        (tied-released ways ways' (leads at) (leads at') names names' b.tied same_ways i others u was now
+        (λ s n hit. ap (option_map (λ e. e.value)) (hits s n hit)) (λ s n miss. ap (option_map (λ e. e.value)) (misses s n miss)))
+        (λ s n j e. elim (decide_some (beside s (ways u.space) u.numbers) n) [
+          | inl hit ↦ absurd (let bad : None ≡ Some j = sym (ap (option_map (λ e. e.value)) (hits s n hit)) ∙ e in cc)
+          | inr miss ↦ b.range s n j (sym (ap (option_map (λ e. e.value)) (misses s n miss)) ∙ e)
+        ])
+        (marks-set at at' names names' b.marks (ways u.space) u.numbers i others
+        (λ s n e hit stands. absurd (let bad : None ≡ Some e = sym (hits s n hit) ∙ stands in cc)) misses
+        (λ s n miss h. miss (sym (ap (number_in ways s) was) ∙ b.tied.found s n i h)))
+      where
+        hits : (s n : ℕ) → beside s (ways u.space) u.numbers ≡ Some n → at' s n ≡ None
+        hits s n hit = is s n ∙ touched-hit (ways u.space) u.numbers (λ _. None) at s n hit
+
+        misses : (s n : ℕ) → beside s (ways u.space) u.numbers ≢ Some n → at' s n ≡ at s n
+        misses s n miss = is s n ∙ touched-miss (ways u.space) u.numbers (λ _. None) at s n miss
+
+    -- an identifier whose uses change
+    pub numbering-used : (v : Identifier) → names i ≡ Some v → names' i ≡ Some u → u.space ≡ v.space → u.numbers ≡ v.numbers
+        → ((s n : ℕ) → leads at' s n ≡ leads at s n) → ((s n : ℕ) → beside s (ways v.space) v.numbers ≢ Some n → at' s n ≡ at s n)
+        → ((s n : ℕ) (e : Entry ℕ) → beside s (ways v.space) v.numbers ≡ Some n → at s n ≡ Some e → e.marks ≡ marks_of (Some v) → (e' : Entry ℕ) → at' s n ≡ Some e' → e'.marks ≡ marks_of (Some u)) → IsNumbering pid_max ways' at' bound' names'
+    numbering-used v was now same_space same_numbers same_leads misses marks =
+        numbering-with pid_max ways ways' at at' bound bound' names names' b same_ways same_bound
+        (tied-renamed ways ways' (leads at) (leads at') names names' b.tied same_ways i others u v was now
+        (λ s. ap (λ p. beside s (ways p) u.numbers) same_space ∙ ap (beside s (ways v.space)) same_numbers) (ap length same_numbers ∙ b.tied.full i v was ∙ ap (λ p. length (ways p)) (sym same_space))
+        (subst (λ (l : List ℕ). 0 < length l) (sym same_numbers) (b.tied.some i v was)) same_leads)
+        (λ s n j e. b.range s n j (sym (same_leads s n) ∙ e))
+        (marks-set at at' names names' b.marks (ways v.space) v.numbers i others
+        (λ s n e' hit stands.
+        let led : leads at s n ≡ Some i = b.tied.kept s n i (ap (number_in ways s) was ∙ hit) in
+        let old = at_key (at s n) i led in
+        let key : e'.value ≡ i = ap (λ o. unwrap_or o 0) (sym (ap (option_map (λ e. e.value)) stands) ∙ same_leads s n ∙ led) in
+        let before : (old.0).marks ≡ marks_of (Some v) = b.marks s n old.0 old.1 ∙ ap (λ k. marks_of (names k)) old.2 ∙ ap marks_of was in
+        marks s n old.0 hit old.1 before e' stands ∙ ap marks_of (sym now) ∙ ap (λ k. marks_of (names' k)) (sym key))
+        misses
+        (λ s n miss h. miss (sym (ap (number_in ways s) was) ∙ b.tied.found s n i h)))
+
+-- the marks where a use of one kind comes or goes
+marks-kept : (kind : Kind) (n : ℕ) (v : Identifier) → is_used_as kind (Some (with_uses kind n v)) ≡ is_used_as kind (Some v) → marks_of (Some (with_uses kind n v)) ≡ marks_of (Some v)
+marks-kept Task n v e = ap (λ b. b ∷ is_used_as Group (Some v) ∷ is_used_as Session (Some v) ∷ []) e
+marks-kept Group n v e = ap (λ b. is_used_as Task (Some v) ∷ b ∷ is_used_as Session (Some v) ∷ []) e
+marks-kept Session n v e = ap (λ b. is_used_as Task (Some v) ∷ is_used_as Group (Some v) ∷ b ∷ []) e
+
+marks-turned : (kind : Kind) (n : ℕ) (v : Identifier) (on : Bool) → is_used_as kind (Some (with_uses kind n v)) ≡ on → slice_set (marks_of (Some v)) (mark_of kind) on ≡ marks_of (Some (with_uses kind n v))
+marks-turned Task n v on e = ap (λ b. b ∷ is_used_as Group (Some v) ∷ is_used_as Session (Some v) ∷ []) (sym e)
+marks-turned Group n v on e = ap (λ b. is_used_as Task (Some v) ∷ b ∷ is_used_as Session (Some v) ∷ []) (sym e)
+marks-turned Session n v on e = ap (λ b. is_used_as Task (Some v) ∷ is_used_as Group (Some v) ∷ b ∷ []) (sym e)
+
+pub space-kept : (kind : Kind) (n : ℕ) (v : Identifier) → (with_uses kind n v).space ≡ v.space
+space-kept Task n v = refl
+space-kept Group n v = refl
+space-kept Session n v = refl
+
+pub numbers-kept : (kind : Kind) (n : ℕ) (v : Identifier) → (with_uses kind n v).numbers ≡ v.numbers
+numbers-kept Task n v = refl
+numbers-kept Group n v = refl
+numbers-kept Session n v = refl
+
+module _ (pid_max : ℕ) (ways ways' : ℕ → List ℕ) (at at' : ℕ → ℕ → Option (Entry ℕ)) (bound bound' : ℕ → Option ℕ) (names names' : ℕ → Option Identifier) (b : IsNumbering pid_max ways at bound names)
+    (same_ways : (s : ℕ) → ways' s ≡ ways s) (same_bound : (s : ℕ) → bound' s ≡ bound s)
+    (i : ℕ) (kind : Kind) (count : ℕ) (v : Identifier) (was : names i ≡ Some v) (now : names' i ≡ Some (with_uses kind count v)) (others : (j : ℕ) → j ≢ i → names' j ≡ names j) where
+  -- another number of uses, but no first and no last one
+  pub numbering-counted : is_used_as kind (Some (with_uses kind count v)) ≡ is_used_as kind (Some v) → ((s n : ℕ) → at' s n ≡ at s n) → IsNumbering pid_max ways' at' bound' names'
+  numbering-counted still same =
+      numbering-used pid_max ways ways' at at' bound bound' names names' b same_ways same_bound i (with_uses kind count v) others v was now (space-kept kind count v) (numbers-kept kind count v)
+      (λ s n. ap (option_map (λ e. e.value)) (same s n)) (λ s n miss. same s n)
+      (λ s n e hit stands old e' stands'.
+      let r : Some e' ≡ Some e = sym stands' ∙ same s n ∙ stands in
+      ap (λ o. option_map_or (λ y. y.marks) o e.marks) r ∙ old ∙ sym (marks-kept kind count v still))
+
+  -- a first or a last use
+  pub numbering-marked : (on : Bool) → is_used_as kind (Some (with_uses kind count v)) ≡ on → ((s n : ℕ) → at' s n ≡ touched (ways v.space) v.numbers (with_mark (mark_of kind) on) at s n) → IsNumbering pid_max ways' at' bound' names'
+  numbering-marked on turned is =
+      numbering-used pid_max ways ways' at at' bound bound' names names' b same_ways same_bound i (with_uses kind count v) others v was now (space-kept kind count v) (numbers-kept kind count v)
+      (λ s n. elim (decide_some (beside s (ways v.space) v.numbers) n) [
+        | inl hit ↦ ap (option_map (λ e. e.value)) (is s n ∙ touched-hit (ways v.space) v.numbers (with_mark (mark_of kind) on) at s n hit) ∙ value-marked (mark_of kind) on (at s n)
+        | inr miss ↦ ap (option_map (λ e. e.value)) (misses s n miss)
+      ]) misses
+      (λ s n e hit stands old e' stands'.
+      let r : Some e' ≡ with_mark (mark_of kind) on (Some e) = sym stands' ∙ is s n ∙ touched-hit (ways v.space) v.numbers (with_mark (mark_of kind) on) at s n hit ∙ ap (with_mark (mark_of kind) on) stands in
+      ap (λ o. option_map_or (λ y. y.marks) o e'.marks) r ∙ ap (λ l. slice_set l (mark_of kind) on) old ∙ marks-turned kind count v on turned)
+    where
+      misses : (s n : ℕ) → beside s (ways v.space) v.numbers ≢ Some n → at' s n ≡ at s n
+      misses s n miss = is s n ∙ touched-miss (ways v.space) v.numbers (with_mark (mark_of kind) on) at s n miss
+
+-- a change of marks leads nowhere else
+pub leads-marked : (path numbers : List ℕ) (m : ℕ) (on : Bool) (at at' : ℕ → ℕ → Option (Entry ℕ)) → ((s n : ℕ) → at' s n ≡ touched path numbers (with_mark m on) at s n) → (s n : ℕ) → leads at' s n ≡ leads at s n
+leads-marked path numbers m on at at' is s n = elim (decide_some (beside s path numbers) n) [
+  | inl hit ↦ ap (option_map (λ e. e.value)) (is s n ∙ touched-hit path numbers (with_mark m on) at s n hit) ∙ value-marked m on (at s n)
+  | inr miss ↦ ap (option_map (λ e. e.value)) (is s n ∙ touched-miss path numbers (with_mark m on) at s n miss)
+]
+
+-- a number that was in use is so still once others are given
+pub leads-given : (path numbers : List ℕ) (key : ℕ) (at at' : ℕ → ℕ → Option (Entry ℕ)) → ((s n : ℕ) → at' s n ≡ touched path numbers (λ _. given_to key) at s n) → (s n i : ℕ) → leads at s n ≡ Some i → (j : ℕ) × (leads at' s n ≡ Some j)
+leads-given path numbers key at at' is s n i led = elim (decide_some (beside s path numbers) n) [
+  | inl hit ↦ (key, ap (option_map (λ e. e.value)) (is s n ∙ touched-hit path numbers (λ _. given_to key) at s n hit))
+  | inr miss ↦ (i, ap (option_map (λ e. e.value)) (is s n ∙ touched-miss path numbers (λ _. given_to key) at s n miss) ∙ led)
+]

@@ -1,0 +1,2 @@
+pub mod Numbering
+pub mod Slabs

@@ -1,0 +1,149 @@
+-- The slabs of namespaces and identifiers, and what ties them.
+use Rattle.std.specs.Prelude.{◌≡◌, ◌≢◌, ◌⊎◌, ℕ, ◌+◌, ◌<◌, ◌≤◌, ◌==◌, ◌&&◌, Bool, true, false, List, [], ◌∷◌, length, map, Option, Some, None, option_map, option_and_then, if◌then◌else◌, slice_index_or}
+use Rattle.std.specs.Option.{option_map_or, option_eq}
+use Rattle.slab.specs.Slab.{Slab, get}
+use Rattle.index_array.specs.Place.{Entry, entry_at, is_prepared, indexes}
+use Rattle.cyclic_ids.specs.Ids.{planned}
+use Rattle.pid_types.specs.Chains.{contains}
+use Rattle.pid_types.specs.Names.{beside}
+use Rattle.pid_types.specs.Settings.{HasGoodPidMax}
+use Rattle.pid_types.specs.declared.call.Kind.{Kind}
+use Rattle.pid_types.specs.declared.call.Kind.TheVariants.{Task, Group, Session}
+use Rattle.pid_numbers.specs.declared.spaces.Space.{Space}
+use Rattle.pid_numbers.specs.declared.names.Ident.{Ident}
+use Rattle.pid_numbers.specs.Numbering.{Namespace, Identifier, Numbering, number_in, is_used_as}
+
+abbrev pub namespace_of : Space → Namespace
+namespace_of s = record { id = s.id; fallen = s.fallen; path = s.path.items; cursor = s.ids.cursor }
+
+abbrev pub identifier_of : Ident → Identifier
+identifier_of x = record { space = x.space; numbers = x.numbers; tasks = x.tasks; groups = x.groups; sessions = x.sessions }
+
+abbrev pub namespaces_of : Slab Space → List (Option Namespace)
+namespaces_of spaces = map (option_map namespace_of) spaces.slots
+
+abbrev pub numbering_of : ℕ → Slab Space → Slab Ident → Numbering
+numbering_of pid_max spaces idents = record { pid_max = pid_max; namespaces = namespaces_of spaces; names = map (option_map identifier_of) idents.slots }
+
+abbrev pub namespace_on : Slab Space → ℕ → Option Namespace
+namespace_on spaces s = option_map namespace_of (get spaces s)
+
+abbrev pub name_at : Slab Ident → ℕ → Option Identifier
+name_at idents i = option_map identifier_of (get idents i)
+
+-- the path of a namespace, none where there is no such namespace
+abbrev pub way : Slab Space → ℕ → List ℕ
+way spaces s = option_map_or (λ t. t.path.items) (get spaces s) []
+
+-- what stands at a number of a namespace
+abbrev pub entry_on : Slab Space → ℕ → ℕ → Option (Entry ℕ)
+entry_on spaces s n = option_and_then (λ t. entry_at t.ids.places n) (get spaces s)
+
+-- the key that each number leads to
+abbrev pub leads : (ℕ → ℕ → Option (Entry ℕ)) → ℕ → ℕ → Option ℕ
+leads at s n = option_map (λ (e : Entry ℕ). e.value) (at s n)
+
+abbrev pub plan_on : Slab Space → ℕ → Option ℕ
+plan_on spaces s = option_and_then (λ t. planned t.ids) (get spaces s)
+
+abbrev pub bound_on : Slab Space → ℕ → Option ℕ
+bound_on spaces s = option_map (λ t. t.ids.pid_max) (get spaces s)
+
+abbrev pub ready : Slab Space → ℕ → ℕ → Bool
+ready spaces s n = option_map_or (λ t. is_prepared t.ids.places n) (get spaces s) false
+
+-- each namespace of the path is there, and what is around it is the rest of the path
+abbrev pub IsPath : (ℕ → List ℕ) → List ℕ → Type 0
+IsPath ways [] = Unit {0}
+IsPath ways (s ∷ ss) = (ways s ≡ s ∷ ss) × IsPath ways ss
+
+-- the paths are those of a tree below the namespace with key 0
+pub record IsTree (ways : ℕ → List ℕ) : Type 0 where
+  pub root : ways 0 ≡ 0 ∷ []
+  pub head : (s : ℕ) → (ways s ≡ []) ⊎ ((rest : List ℕ) × (ways s ≡ s ∷ rest))
+  pub paths : (s : ℕ) → IsPath ways (ways s)
+  pub few : (s : ℕ) → length (ways s) ≤ 33
+
+-- numbers lead to names and names to numbers
+pub record IsTied (ways : ℕ → List ℕ) (names : ℕ → Option Identifier) (see : ℕ → ℕ → Option ℕ) : Type 0 where
+  pub found : (s n i : ℕ) → see s n ≡ Some i → number_in ways s (names i) ≡ Some n
+  pub kept : (s n i : ℕ) → number_in ways s (names i) ≡ Some n → see s n ≡ Some i
+  pub full : (i : ℕ) (u : Identifier) → names i ≡ Some u → length u.numbers ≡ length (ways u.space)
+  pub some : (i : ℕ) (u : Identifier) → names i ≡ Some u → 0 < length u.numbers
+
+-- the mark of a kind
+abbrev pub mark_of : Kind → ℕ
+mark_of Task = 0
+mark_of Group = 1
+mark_of Session = 2
+
+-- the marks of the numbers of an identifier
+abbrev pub marks_of : Option Identifier → List Bool
+marks_of o = is_used_as Task o ∷ is_used_as Group o ∷ is_used_as Session o ∷ []
+
+-- each number has the marks of its identifier's uses
+abbrev pub AreMarked : (ℕ → ℕ → Option (Entry ℕ)) → (ℕ → Option Identifier) → Type 0
+AreMarked at names = (s n : ℕ) (e : Entry ℕ) → at s n ≡ Some e → e.marks ≡ marks_of (names e.value)
+
+-- each number is in range
+abbrev pub AreInRange : ℕ → (ℕ → ℕ → Option ℕ) → Type 0
+AreInRange pid_max see = (s n i : ℕ) → see s n ≡ Some i → (0 < n) × (n < pid_max)
+
+-- the paths, the look-ups, the bounds and the identifiers agree
+pub record IsNumbering (pid_max : ℕ) (ways : ℕ → List ℕ) (at : ℕ → ℕ → Option (Entry ℕ)) (bound : ℕ → Option ℕ) (names : ℕ → Option Identifier) : Type 0 where
+  pub good : HasGoodPidMax pid_max
+  pub bounds : (s m : ℕ) → bound s ≡ Some m → (m ≡ pid_max) × (0 < length (ways s))
+  pub tree : IsTree ways
+  pub tied : IsTied ways names (leads at)
+  pub range : AreInRange pid_max (leads at)
+  pub marks : AreMarked at names
+
+-- whether the namespace is there and has fallen
+abbrev pub fell : Slab Space → ℕ → Bool
+fell spaces s = option_map_or (λ t. t.fallen) (namespace_on spaces s) false
+
+-- the root stands, what is in a fallen namespace has fallen, and each fallen namespace has a number in use
+pub record AreFallen (ways : ℕ → List ℕ) (at : ℕ → ℕ → Option (Entry ℕ)) (fell : ℕ → Bool) : Type 0 where
+  pub stands : fell 0 ≡ false
+  pub inner : (t j : ℕ) → j < length (ways t) → fell (slice_index_or (ways t) j 0) ≡ true → fell t ≡ true
+  pub held : (s : ℕ) → fell s ≡ true → (n : ℕ) × (i : ℕ) × (leads at s n ≡ Some i)
+
+-- all of that
+pub record IsWhole (pid_max : ℕ) (ways : ℕ → List ℕ) (at : ℕ → ℕ → Option (Entry ℕ)) (bound : ℕ → Option ℕ) (names : ℕ → Option Identifier) (fell : ℕ → Bool) : Type 0 where
+  pub numbering : IsNumbering pid_max ways at bound names
+  pub fallen : AreFallen ways at fell
+
+-- whether it has fallen and no number in it is in use
+abbrev pub dead_on : Slab Space → ℕ → Bool
+dead_on spaces s = option_map_or (λ t. t.fallen && (length (indexes t.ids.places) == 0)) (get spaces s) false
+
+-- whether it is one of the path that is dead
+abbrev pub goes : List ℕ → Slab Space → ℕ → Bool
+goes path spaces s = contains path s && dead_on spaces s
+
+-- what is there once the dead ones of the path have gone
+abbrev pub left_on : List ℕ → Slab Space → ℕ → Option Space
+left_on path spaces s = if goes path spaces s then None else get spaces s
+
+-- what stands at each number, with a change at the numbers along the path
+abbrev pub touched : List ℕ → List ℕ → (Option (Entry ℕ) → Option (Entry ℕ)) → (ℕ → ℕ → Option (Entry ℕ)) → ℕ → ℕ → Option (Entry ℕ)
+touched path numbers change at s n = if option_eq ◌==◌ (beside s path numbers) (Some n) then change (at s n) else at s n
+
+-- the namespace with its cursor behind the number
+abbrev pub stepped : ℕ → Namespace → Namespace
+stepped n t = record t { cursor = n + 1 }
+
+-- what stands at a number that a task was given
+abbrev pub given_to : ℕ → Option (Entry ℕ)
+given_to key = Some (record { value = key; marks = true ∷ false ∷ false ∷ [] })
+
+-- each place has another key than those before
+abbrev pub IsDistinct : List ℕ → Type 0
+IsDistinct path = (i j : ℕ) → i < j → j < length path → slice_index_or path i 0 ≢ slice_index_or path j 0
+
+-- the numbers are those that the namespaces of the path give next
+abbrev pub ArePlanned : Slab Space → List ℕ → List ℕ → Type 0
+ArePlanned spaces path numbers = (k : ℕ) → k < length path → plan_on spaces (slice_index_or path k 0) ≡ Some (slice_index_or numbers k 0)
+
+abbrev pub AreReady : Slab Space → List ℕ → List ℕ → Type 0
+AreReady spaces path numbers = (k : ℕ) → k < length path → ready spaces (slice_index_or path k 0) (slice_index_or numbers k 0) ≡ true

@@ -1,0 +1,50 @@
+//! The numbers of one identifier.
+
+ghost use Rattle.std.specs.Prelude.{◌≡◌, ◌<◌, ◌≤◌, length, IfOk, slice_index_or};
+
+use arrayvec::ArrayVec;
+use std::alloc::{AllocError, Global};
+use std::marker::Model;
+
+/// The numbers of one identifier, one for each level, innermost first.
+///
+/// An identifier of the root namespace takes no memory beside this record.
+#[derive(Drop)]
+pub(crate) struct LevelNumbers {
+    inner: Vec<u32>,
+    root: u32,
+}
+
+impl Model for LevelNumbers {
+    ghost use Rattle.std.specs.Prelude.{List, ℕ, ◌++◌, [], ◌∷◌};
+
+    ghost Value = { List ℕ };
+
+    ghost view = { λ a. a.inner.items ++ a.root ∷ [] };
+}
+
+impl LevelNumbers {
+    /// Keeps the numbers. The error is want of memory.
+    pub(crate) fn from(alloc: Global, numbers: &ArrayVec<u32, 33>) -> Result<Self, AllocError>
+        requires { 0 < length numbers.now.items }
+        ensures { IfOk result (λ r. r ≡ numbers.now.items) }
+    {
+        let last = numbers.len() - 1;
+        let root = numbers[last];
+        let mut inner = Vec::with_capacity(alloc, last)?;
+        inner.extend_from_slice(&numbers.as_slice()[..last])?;
+        Ok(LevelNumbers { inner, root })
+    }
+
+    /// The number at a level, counted from the innermost.
+    pub(crate) fn at(&self, k: usize) -> u32
+        requires { k < length self.now }
+        ensures { result ≡ slice_index_or self.now k 0 }
+    {
+        if k < self.inner.len() {
+            self.inner[k]
+        } else {
+            self.root
+        }
+    }
+}

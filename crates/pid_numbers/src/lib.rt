@@ -1,0 +1,345 @@
+//! Process identifiers: their numbers on all levels of nested namespaces, and their uses.
+//!
+//! An identifier has a number in its own namespace and one in each namespace around it, as a process has
+//! in `pid_namespaces(7)`. It is there as long as a task, a process group or a session uses it, and its
+//! numbers are free again only then (POSIX, "Process ID Reuse").
+//!
+//! Namespaces and identifiers have keys, which the calls that find them answer. A key of a namespace or
+//! an identifier that is gone may be given again.
+#![tactic(auto)]
+
+ghost use Rattle.std.specs.Prelude.{◌≡◌, ◌≢◌, ℕ, ◌+◌, ◌<◌, ◌≤◌, ◌^◌, length, map, Some, None, IsSome, IfOk, IfErr, IfSome, OnOk, OnErr, MatchOption, option_map, find, is_none, unwrap_or, slice_index_or, true, false, [], ◌∷◌, drop, nat_lt, if◌then◌else◌};
+ghost use Rattle.pid_numbers.specs.Numbering.{Identifier, namespace_at, identifier_at, number_of, path_at, draw_in, moved, more, less, left_of, uses, is_used_as, swept_at, new_namespace, new_identifier, fallen_within, taken_in, has_fallen_at, IsNextUsed, IsPlanFault};
+ghost use Rattle.pid_types.specs.Bounds.{deepest_space};
+ghost use Rattle.pid_types.specs.Chains.{contains};
+ghost use Rattle.std.specs.Option.{option_map_or};
+ghost use Rattle.pid_types.specs.Settings.{HasGoodPidMax};
+
+mod levels;
+mod names;
+mod plan;
+mod spaces;
+
+use arrayvec::ArrayVec;
+use cyclic_ids::CyclicIds;
+use levels::LevelNumbers;
+use names::{
+    Ident, count_at, has_use, home_of, in_use, less_use, make_room, mark_numbers, more_use,
+    number_at,
+};
+use pid_types::call::Kind;
+pub use plan::PlanFault;
+use plan::with_first;
+use slab::Slab;
+use spaces::{
+    Space, add_space, cursor_at, fall_all, fallen_path, first_ids, give_path, has_fallen, id_at,
+    is_inside, key_at, levels, look, next_at, path_below, plan_path, prepare_path, release_path,
+    room_for_space, sweep_path,
+};
+use std::alloc::{AllocError, Global};
+use std::marker::Model;
+
+/// Identifiers with their numbers and uses, and the namespaces that the numbers are of.
+#[derive(Drop)]
+pub struct Numbers {
+    alloc: Global,
+    spaces: Slab<Space>,
+    idents: Slab<Ident>,
+    pid_max: u32,
+}
+
+impl Model for Numbers {
+    ghost use Rattle.pid_numbers.specs.Numbering.{Numbering};
+    ghost use Rattle.pid_numbers.specs.Slabs.{numbering_of, IsWhole, way, entry_on, bound_on, name_at, fell};
+
+    ghost Value = { Numbering };
+
+    ghost view = { λ a. numbering_of a.pid_max a.spaces a.idents };
+
+    ghost invariant = { λ a. IsWhole a.pid_max (way a.spaces) (entry_on a.spaces) (bound_on a.spaces) (name_at a.idents) (fell a.spaces) };
+}
+
+impl Numbers {
+    /// The root namespace, which has the id and the key 0, and no identifier. Each number will be below
+    /// `pid_max`. The error is want of memory.
+    pub fn new(alloc: Global, pid_max: u32) -> Result<Self, AllocError>
+        requires { HasGoodPidMax pid_max }
+        ensures pid_max { IfOk result (λ r. r.pid_max ≡ pid_max) }
+        ensures root { IfOk result (λ r. namespace_at r 0 ≡ Some (new_namespace 0 (0 ∷ []))) }
+        ensures others { IfOk result (λ r. (s : ℕ) → s ≢ 0 → namespace_at r s ≡ None) }
+        ensures names { IfOk result (λ r. (i : ℕ) → identifier_at r i ≡ None) }
+    {
+        let mut spaces = Slab::new(alloc);
+        room_for_space(&mut spaces)?;
+        let mut path = ArrayVec::<u32, 33>::new();
+        path.push(0);
+        spaces.insert_reserved(Space {
+            id: 0,
+            fallen: false,
+            path,
+            ids: CyclicIds::new(alloc, pid_max),
+        });
+        Ok(Numbers {
+            alloc,
+            spaces,
+            idents: Slab::new(alloc),
+            pid_max,
+        })
+    }
+
+    /// The identifier that has the number in the namespace; none where the number is free. It costs one
+    /// search in the namespace's tree of numbers.
+    pub fn find(&self, space: u32, n: u32) -> Option<u32>
+        ensures { MatchOption result ((i : ℕ) → number_of self.now i space ≢ Some n) (λ i. number_of self.now i space ≡ Some n) }
+    {
+        look(&self.spaces, space, n)
+    }
+
+    /// What is true of all identifiers and namespaces at any time; the call does nothing. No number of a
+    /// namespace names two identifiers, each is above 0 and below `pid_max`, each identifier has one for
+    /// each namespace from its own to the root, and what is in a fallen namespace has fallen.
+    pub fn laws(&self)
+        ensures distinct { (i j s n : ℕ) → number_of self.now i s ≡ Some n → number_of self.now j s ≡ Some n → i ≡ j }
+        ensures range { (i s n : ℕ) → number_of self.now i s ≡ Some n → (0 < n) × (n < self.now.pid_max) }
+        ensures full { (i : ℕ) (u : Identifier) → identifier_at self.now i ≡ Some u → (0 < length u.numbers) × (length u.numbers ≡ length (path_at self.now u.space)) }
+        ensures around { (s j : ℕ) → j < length (path_at self.now s) → path_at self.now (slice_index_or (path_at self.now s) j 0) ≡ drop j (path_at self.now s) }
+        ensures few { (s : ℕ) → length (path_at self.now s) ≤ deepest_space + 1 }
+        ensures fallen { (s j : ℕ) → j < length (path_at self.now s) → has_fallen_at self.now (slice_index_or (path_at self.now s) j 0) ≡ true → has_fallen_at self.now s ≡ true }
+    {
+        let _ = &self.spaces;
+    }
+
+    /// The id of the namespace.
+    pub fn id(&self, space: u32) -> Option<u64>
+        ensures { result ≡ option_map (λ t. t.id) (namespace_at self.now space) }
+    {
+        id_at(&self.spaces, space)
+    }
+
+    /// Where the next draw in the namespace begins.
+    pub fn cursor(&self, space: u32) -> Option<u32>
+        ensures { result ≡ option_map (λ t. t.cursor) (namespace_at self.now space) }
+    {
+        cursor_at(&self.spaces, space)
+    }
+
+    /// Whether the namespace is there and has fallen.
+    pub fn is_fallen(&self, space: u32) -> bool
+        ensures { result ≡ has_fallen_at self.now space }
+    {
+        has_fallen(&self.spaces, space)
+    }
+
+    /// How many namespaces are around the one with the key: 0 for the root.
+    pub fn level(&self, space: u32) -> usize
+        requires { IsSome (namespace_at self.now space) }
+        ensures { result + 1 ≡ length (path_at self.now space) }
+    {
+        levels(&self.spaces, space) - 1
+    }
+
+    /// Whether the first namespace is the second one or inside it.
+    pub fn is_within(&self, space: u32, outer: u32) -> bool
+        ensures { result ≡ contains (path_at self.now space) outer }
+    {
+        is_inside(&self.spaces, space as usize, outer)
+    }
+
+    /// The namespace that the one with the key is in; none for the root.
+    pub fn parent(&self, space: u32) -> Option<u32>
+        ensures { result ≡ if nat_lt 1 (length (path_at self.now space)) then Some (slice_index_or (path_at self.now space) 1 0) else None }
+    {
+        if levels(&self.spaces, space) > 1 {
+            Some(key_at(&self.spaces, space, 1))
+        } else {
+            None
+        }
+    }
+
+    /// The namespace of the identifier.
+    pub fn space_of(&self, ident: u32) -> Option<u32>
+        ensures { result ≡ option_map (λ u. u.space) (identifier_at self.now ident) }
+    {
+        home_of(&self.idents, ident)
+    }
+
+    /// Whether the identifier has a use of the kind.
+    pub fn has_use(&self, ident: u32, kind: Kind) -> bool
+        ensures { result ≡ is_used_as kind (identifier_at self.now ident) }
+    {
+        has_use(&self.idents, ident, kind)
+    }
+
+    /// How many uses of the kind the identifier has; 0 where it is not there.
+    pub fn count(&self, ident: u32, kind: Kind) -> u64
+        ensures { result ≡ option_map_or (uses kind) (identifier_at self.now ident) 0 }
+    {
+        count_at(&self.idents, ident, kind)
+    }
+
+    /// The identifier's number in the namespace; none where it is not visible there. It costs a few
+    /// reads at any level.
+    pub fn number_in(&self, ident: u32, space: u32) -> Option<u32>
+        ensures { result ≡ number_of self.now ident space }
+    {
+        let own = home_of(&self.idents, ident)?;
+        if !is_inside(&self.spaces, own as usize, space) {
+            return None;
+        }
+        let place = levels(&self.spaces, own) - levels(&self.spaces, space);
+        number_at(&self.idents, ident, place)
+    }
+
+    /// The least number at or above `from` whose identifier has a use of the kind, in the namespace. It
+    /// costs one search in the namespace's tree of numbers.
+    pub fn next_used(&self, space: u32, kind: Kind, from: u32) -> Option<u32>
+        ensures { IsNextUsed self.now kind space from result }
+    {
+        next_at(&self.spaces, space, kind, from)
+    }
+
+    /// The numbers that the namespace and those around it give next, innermost first, or the first
+    /// of them that has none to give. It costs one or two searches for each level.
+    pub fn plan(&self, space: u32) -> Result<ArrayVec<u32, 33>, u32>
+        ensures ok { IfOk result (λ numbers. (find (λ s. is_none (draw_in self.now s)) (path_at self.now space) ≡ None)
+            × (numbers.items ≡ map (λ s. unwrap_or (draw_in self.now s) 0) (path_at self.now space))) }
+        ensures err { IfErr result (λ s. find (λ s. is_none (draw_in self.now s)) (path_at self.now space) ≡ Some s) }
+    {
+        plan_path(&self.spaces, space)
+    }
+
+    /// Gives the planned numbers to a new identifier, which one task uses, and answers its key. The
+    /// error is want of memory, and then nothing has changed.
+    pub fn draw(&mut self, space: u32, numbers: &ArrayVec<u32, 33>) -> Result<u32, AllocError>
+        requires there { IsSome (namespace_at self.old space) }
+        requires all { find (λ s. is_none (draw_in self.old s)) (path_at self.old space) ≡ None }
+        requires planned { numbers.now.items ≡ map (λ s. unwrap_or (draw_in self.old s) 0) (path_at self.old space) }
+        ensures fresh { IfOk result (λ i. identifier_at self.old i ≡ None) }
+        ensures named { IfOk result (λ i. identifier_at self.new i ≡ Some (new_identifier space numbers.now.items)) }
+        ensures others { IfOk result (λ i. (j : ℕ) → j ≢ i → identifier_at self.new j ≡ identifier_at self.old j) }
+        ensures namespaces { OnOk result ((s : ℕ) → namespace_at self.new s ≡ option_map (moved (path_at self.old space) numbers.now.items s) (namespace_at self.old s)) }
+        ensures err { OnErr result (self.new ≡ self.old) }
+    {
+        let key = make_room(&mut self.idents)?;
+        let stored = LevelNumbers::from(self.alloc, numbers)?;
+        let numbers = numbers.as_slice();
+        prepare_path(&mut self.spaces, space, numbers)?;
+        give_path(&mut self.spaces, space, numbers, key);
+        self.idents.insert_reserved(Ident {
+            space,
+            numbers: stored,
+            tasks: 1,
+            groups: 0,
+            sessions: 0,
+        });
+        Ok(key)
+    }
+
+    /// The numbers that a new namespace inside the parent and those around it give next, innermost
+    /// first: 1 in the new one. It costs one or two searches for each level.
+    ///
+    /// The error is that the parent has the deepest level, 32 (`pid_namespaces(7)`, "Nesting PID
+    /// namespaces"), or else the first namespace that has no number to give.
+    pub fn plan_new(&self, parent: u32) -> Result<ArrayVec<u32, 33>, PlanFault>
+        ensures ok { IfOk result (λ numbers. (length (path_at self.now parent) ≤ deepest_space) × (find (λ s. is_none (draw_in self.now s)) (path_at self.now parent) ≡ None)
+            × (numbers.items ≡ 1 ∷ map (λ s. unwrap_or (draw_in self.now s) 0) (path_at self.now parent))) }
+        ensures err { IfErr result (λ fault. IsPlanFault self.now parent fault) }
+    {
+        if levels(&self.spaces, parent) > 32 {
+            return Err(PlanFault::TooDeep);
+        }
+        match plan_path(&self.spaces, parent) {
+            Ok(around) => Ok(with_first(&around)),
+            Err(space) => Err(PlanFault::NoNumber(space)),
+        }
+    }
+
+    /// Makes a namespace inside the parent, whose first identifier has number 1 there and the planned
+    /// numbers around it, and answers the keys of the identifier and of the namespace. The error is
+    /// want of memory, and then nothing has changed.
+    pub fn draw_new(
+        &mut self,
+        parent: u32,
+        id: u64,
+        numbers: &ArrayVec<u32, 33>,
+    ) -> Result<(u32, u32), AllocError>
+        requires stands { option_map_or (λ t. t.fallen) (namespace_at self.old parent) true ≡ false }
+        requires shallow { length (path_at self.old parent) ≤ deepest_space }
+        requires all { find (λ s. is_none (draw_in self.old s)) (path_at self.old parent) ≡ None }
+        requires planned { numbers.now.items ≡ 1 ∷ map (λ s. unwrap_or (draw_in self.old s) 0) (path_at self.old parent) }
+        ensures fresh { IfOk result (λ keys. (identifier_at self.old keys.0 ≡ None) × (namespace_at self.old keys.1 ≡ None)) }
+        ensures named { IfOk result (λ keys. identifier_at self.new keys.0 ≡ Some (new_identifier keys.1 numbers.now.items)) }
+        ensures made { IfOk result (λ keys. namespace_at self.new keys.1 ≡ Some (record (new_namespace id (keys.1 ∷ path_at self.old parent)) { cursor = 2 })) }
+        ensures others { IfOk result (λ keys. (j : ℕ) → j ≢ keys.0 → identifier_at self.new j ≡ identifier_at self.old j) }
+        ensures namespaces { IfOk result (λ keys. (s : ℕ) → s ≢ keys.1 → namespace_at self.new s ≡ option_map (moved (path_at self.old parent) (drop 1 numbers.now.items) s) (namespace_at self.old s)) }
+        ensures err { OnErr result (self.new ≡ self.old) }
+    {
+        let ident = make_room(&mut self.idents)?;
+        let stored = LevelNumbers::from(self.alloc, numbers)?;
+        let ids = first_ids(self.alloc, self.pid_max, ident)?;
+        let numbers = numbers.as_slice();
+        let around = &numbers[1..];
+        prepare_path(&mut self.spaces, parent, around)?;
+        let key = add_space(&mut self.spaces, parent, id, ids)?;
+        give_path(&mut self.spaces, parent, around, ident);
+        self.idents.insert_reserved(Ident {
+            space: key,
+            numbers: stored,
+            tasks: 1,
+            groups: 0,
+            sessions: 0,
+        });
+        Ok((ident, key))
+    }
+
+    /// The namespace and all inside it have fallen. It costs a step for each namespace.
+    pub fn fell(&mut self, space: u32)
+        requires inner { space ≢ 0 }
+        requires used { (s : ℕ) → contains (path_at self.old s) space ≡ true → 0 < length (taken_in self.old s) }
+        ensures names { self.new.names ≡ self.old.names }
+        ensures namespaces { (s : ℕ) → namespace_at self.new s ≡ option_map (fallen_within space) (namespace_at self.old s) }
+    {
+        fall_all(&mut self.spaces, space);
+    }
+
+    /// One use more. The first of its kind costs a step for each level.
+    pub fn add_use(&mut self, ident: u32, kind: Kind)
+        requires there { IsSome (identifier_at self.old ident) }
+        requires few { IfSome (identifier_at self.old ident) (λ u. uses kind u + 1 < 2 ^ 64) }
+        ensures here { (u : Identifier) → identifier_at self.old ident ≡ Some u → identifier_at self.new ident ≡ Some (more kind u) }
+        ensures others { (j : ℕ) → j ≢ ident → identifier_at self.new j ≡ identifier_at self.old j }
+        ensures namespaces { self.new.namespaces ≡ self.old.namespaces }
+    {
+        let had = has_use(&self.idents, ident, kind);
+        more_use(&mut self.idents, ident, kind);
+        if had {
+            return;
+        }
+        mark_numbers(&mut self.spaces, &self.idents, ident, kind, true);
+    }
+
+    /// One use less. With the last use the identifier goes, and its numbers are free; a namespace that
+    /// has fallen goes with the last number in it, as the kernel frees a namespace with its last process
+    /// (`namespaces(7)`, "Namespace lifetime"). The last use of a kind costs a step for each level.
+    pub fn drop_use(&mut self, ident: u32, kind: Kind)
+        requires { is_used_as kind (identifier_at self.old ident) ≡ true }
+        ensures here { (u : Identifier) → identifier_at self.old ident ≡ Some u → identifier_at self.new ident ≡ left_of (less kind u) }
+        ensures others { (j : ℕ) → j ≢ ident → identifier_at self.new j ≡ identifier_at self.old j }
+        ensures namespaces { (s : ℕ) → namespace_at self.new s ≡ swept_at (record self.old { names = self.new.names }) s }
+    {
+        less_use(&mut self.idents, ident, kind);
+        if has_use(&self.idents, ident, kind) {
+            return;
+        }
+        if in_use(&self.idents, ident) {
+            mark_numbers(&mut self.spaces, &self.idents, ident, kind, false);
+            return;
+        }
+        let Some(gone) = self.idents.try_remove(ident as usize) else {
+            unreachable!()
+        };
+        let path = fallen_path(&self.spaces, gone.space);
+        release_path(&mut self.spaces, gone.space, &gone.numbers);
+        sweep_path(&mut self.spaces, &path);
+    }
+}

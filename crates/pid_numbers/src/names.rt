@@ -1,0 +1,184 @@
+//! Identifiers and their uses.
+
+ghost use Rattle.std.specs.Prelude.{◌≡◌, ◌≢◌, ℕ, ◌+◌, ◌<◌, Some, None, IsSome, IfOk, OnOk, IfSome, true, ◌-◌, ◌^◌, length, option_map, slice_index_or};
+ghost use Rattle.std.specs.Option.{option_map_or};
+ghost use Rattle.slab.specs.Slab.{get, HasRoomFor};
+ghost use Rattle.pid_numbers.specs.Numbering.{Identifier, uses, less, more, is_used, is_used_as};
+ghost use Rattle.pid_numbers.specs.Slabs.{identifier_of, name_at, way, entry_on, touched, mark_of, namespaces_of, bound_on, IsDistinct};
+ghost use Rattle.index_array.specs.Place.{with_mark};
+ghost use Rattle.pid_types.specs.declared.call.Kind.{Kind};
+
+use crate::levels::LevelNumbers;
+use crate::spaces::{Space, mark_path};
+use pid_types::call::Kind;
+use slab::Slab;
+use std::alloc::AllocError;
+
+/// An identifier, and how many use it as what.
+#[derive(Drop)]
+pub(crate) struct Ident {
+    pub space: u32,
+    pub numbers: LevelNumbers,
+    pub tasks: u64,
+    pub groups: u64,
+    pub sessions: u64,
+}
+
+/// How many uses of the kind.
+fn count(x: &Ident, kind: Kind) -> u64
+    ensures { result ≡ uses kind (identifier_of x.now) }
+{
+    match kind {
+        Kind::Task => x.tasks,
+        Kind::Group => x.groups,
+        Kind::Session => x.sessions,
+    }
+}
+
+/// One use less.
+fn lessen(x: &mut Ident, kind: Kind)
+    requires { 0 < uses kind (identifier_of x.old) }
+    ensures { identifier_of x.new ≡ less kind (identifier_of x.old) }
+{
+    match kind {
+        Kind::Task => {
+            x.tasks -= 1;
+        }
+        Kind::Group => {
+            x.groups -= 1;
+        }
+        Kind::Session => {
+            x.sessions -= 1;
+        }
+    }
+}
+
+/// One use more.
+fn raise(x: &mut Ident, kind: Kind)
+    requires { uses kind (identifier_of x.old) + 1 < 2 ^ 64 }
+    ensures { identifier_of x.new ≡ more kind (identifier_of x.old) }
+{
+    match kind {
+        Kind::Task => {
+            x.tasks += 1;
+        }
+        Kind::Group => {
+            x.groups += 1;
+        }
+        Kind::Session => {
+            x.sessions += 1;
+        }
+    }
+}
+
+/// The namespace of the identifier.
+pub(crate) fn home_of(idents: &Slab<Ident>, ident: u32) -> Option<u32>
+    ensures { result ≡ option_map (λ u. u.space) (name_at idents.now ident) }
+{
+    match idents.get(ident as usize) {
+        Some(x) => Some(x.space),
+        None => None,
+    }
+}
+
+/// The identifier's number at a place of its path.
+pub(crate) fn number_at(idents: &Slab<Ident>, ident: u32, place: usize) -> Option<u32>
+    requires { IfSome (name_at idents.now ident) (λ u. place < length u.numbers) }
+    ensures { result ≡ option_map (λ u. slice_index_or u.numbers place 0) (name_at idents.now ident) }
+{
+    match idents.get(ident as usize) {
+        Some(x) => Some(x.numbers.at(place)),
+        None => None,
+    }
+}
+
+/// How many uses of the kind the identifier has.
+pub(crate) fn count_at(idents: &Slab<Ident>, ident: u32, kind: Kind) -> u64
+    ensures { result ≡ option_map_or (uses kind) (name_at idents.now ident) 0 }
+{
+    match idents.get(ident as usize) {
+        Some(x) => count(x, kind),
+        None => 0,
+    }
+}
+
+/// Whether the identifier has a use of the kind.
+pub(crate) fn has_use(idents: &Slab<Ident>, ident: u32, kind: Kind) -> bool
+    ensures { result ≡ is_used_as kind (name_at idents.now ident) }
+{
+    match idents.get(ident as usize) {
+        Some(x) => count(x, kind) != 0,
+        None => false,
+    }
+}
+
+/// Whether the identifier has a use.
+pub(crate) fn in_use(idents: &Slab<Ident>, ident: u32) -> bool
+    ensures { (u : Identifier) → name_at idents.now ident ≡ Some u → result ≡ is_used u }
+{
+    match idents.get(ident as usize) {
+        Some(x) => !(x.tasks == 0 && x.groups == 0 && x.sessions == 0),
+        None => false,
+    }
+}
+
+/// One use less.
+pub(crate) fn less_use(idents: &mut Slab<Ident>, ident: u32, kind: Kind)
+    requires { is_used_as kind (name_at idents.old ident) ≡ true }
+    ensures here { (u : Identifier) → name_at idents.old ident ≡ Some u → name_at idents.new ident ≡ Some (less kind u) }
+    ensures others { (j : ℕ) → j ≢ ident → name_at idents.new j ≡ name_at idents.old j }
+{
+    let Some(x) = idents.get_mut(ident as usize) else {
+        unreachable!()
+    };
+    lessen(x, kind);
+}
+
+/// One use more.
+pub(crate) fn more_use(idents: &mut Slab<Ident>, ident: u32, kind: Kind)
+    requires there { IsSome (name_at idents.old ident) }
+    requires few { IfSome (name_at idents.old ident) (λ u. uses kind u + 1 < 2 ^ 64) }
+    ensures here { (u : Identifier) → name_at idents.old ident ≡ Some u → name_at idents.new ident ≡ Some (more kind u) }
+    ensures others { (j : ℕ) → j ≢ ident → name_at idents.new j ≡ name_at idents.old j }
+{
+    let Some(x) = idents.get_mut(ident as usize) else {
+        unreachable!()
+    };
+    raise(x, kind);
+}
+
+/// Gives the numbers of an identifier the mark of a kind, or takes it away.
+pub(crate) fn mark_numbers(
+    spaces: &mut Slab<Space>,
+    idents: &Slab<Ident>,
+    ident: u32,
+    kind: Kind,
+    on: bool,
+)
+    requires distinct { (s : ℕ) → IsDistinct (way spaces.old s) }
+    requires full { IfSome (name_at idents.now ident) (λ u. length u.numbers ≡ length (way spaces.old u.space)) }
+    ensures entries { IfSome (name_at idents.now ident) (λ u. (s n : ℕ) → entry_on spaces.new s n ≡ touched (way spaces.old u.space) u.numbers (with_mark (mark_of kind) on) (entry_on spaces.old) s n) }
+    ensures way { (s : ℕ) → way spaces.new s ≡ way spaces.old s }
+    ensures namespaces { namespaces_of spaces.new ≡ namespaces_of spaces.old }
+    ensures bound { (s : ℕ) → bound_on spaces.new s ≡ bound_on spaces.old s }
+{
+    let Some(x) = idents.get(ident as usize) else {
+        return;
+    };
+    mark_path(spaces, x.space, &x.numbers, kind, on);
+}
+
+/// Takes the memory for one more identifier, and answers its key.
+pub(crate) fn make_room(idents: &mut Slab<Ident>) -> Result<u32, AllocError>
+    ensures same { idents.new ≡ record idents.old { capacity = idents.new.capacity } }
+    ensures room { OnOk result (HasRoomFor idents.new 1) }
+    ensures key { IfOk result (λ key. key ≡ idents.new.vacant_key) }
+    ensures vacant { IfOk result (λ key. get idents.old key ≡ None) }
+{
+    idents.reserve(1)?;
+    let key = idents.vacant_key();
+    if key >= 1 << 30 {
+        return Err(AllocError);
+    }
+    Ok(key as u32)
+}

@@ -1,0 +1,447 @@
+//! Namespaces, and walks along their paths.
+
+ghost use Rattle.std.specs.Prelude.{◌≡◌, ◌≢◌, ℕ, ◌+◌, ◌<◌, ◌≤◌, length, map, option_map, Some, None, IsSome, IfOk, IfErr, IfSome, OnOk, OnErr, MatchOption, find, is_none, unwrap_or, slice_index_or, true, false, [], ◌∷◌, ◌&&◌, ◌==◌, if◌then◌else◌, drop};
+ghost use Rattle.slab.specs.Slab.{get, HasRoomFor};
+ghost use Rattle.index_array.specs.Place.{Entry, entry_at, indexes, with_mark, is_marked, IsLeastIndex};
+ghost use Rattle.pid_numbers.specs.Slabs.{way, fell, dead_on, left_on, entry_on, leads, plan_on, touched, given_to, ready, namespaces_of, namespace_on, bound_on, stepped, mark_of, IsTree, IsDistinct, ArePlanned, AreReady};
+ghost use Rattle.pid_numbers.specs.Numbering.{moved, fallen_within};
+ghost use Rattle.pid_types.specs.Settings.{HasGoodPidMax};
+ghost use Rattle.pid_types.specs.Chains.{contains};
+
+use crate::levels::LevelNumbers;
+use arrayvec::ArrayVec;
+use cyclic_ids::{CyclicIds, GROUP_MARK, SESSION_MARK, TASK_MARK};
+use pid_types::call::Kind;
+use slab::Slab;
+use std::alloc::{AllocError, Global};
+
+/// A namespace, its numbers, and the keys of it and of those around it, innermost first.
+#[derive(Drop)]
+pub(crate) struct Space {
+    pub id: u64,
+    pub fallen: bool,
+    pub path: ArrayVec<u32, 33>,
+    pub ids: CyclicIds<u32>,
+}
+
+/// The mark of a kind.
+pub(crate) fn mark(kind: Kind) -> usize
+    ensures value { result ≡ mark_of kind }
+    ensures few { result < 3 }
+{
+    match kind {
+        Kind::Task => TASK_MARK,
+        Kind::Group => GROUP_MARK,
+        Kind::Session => SESSION_MARK,
+    }
+}
+
+/// What a number leads to.
+pub(crate) fn look(spaces: &Slab<Space>, space: u32, n: u32) -> Option<u32>
+    ensures { result ≡ leads (entry_on spaces.now) space n }
+{
+    match spaces.get(space as usize) {
+        Some(s) => s.ids.find(n).copied(),
+        None => None,
+    }
+}
+
+/// The number of namespaces on the path.
+pub(crate) fn levels(spaces: &Slab<Space>, space: u32) -> usize
+    ensures value { result ≡ length (way spaces.now space) }
+    ensures few { result ≤ 33 }
+{
+    match spaces.get(space as usize) {
+        Some(s) => s.path.len(),
+        None => 0,
+    }
+}
+
+/// One namespace of the path.
+pub(crate) fn key_at(spaces: &Slab<Space>, space: u32, k: usize) -> u32
+    requires { k < length (way spaces.now space) }
+    ensures { result ≡ slice_index_or (way spaces.now space) k 0 }
+{
+    match spaces.get(space as usize) {
+        Some(s) => s.path[k],
+        None => unreachable!(),
+    }
+}
+
+/// The number that the namespace gives next.
+pub(crate) fn plan_at(spaces: &Slab<Space>, space: u32) -> Option<u32>
+    ensures { result ≡ plan_on spaces.now space }
+{
+    match spaces.get(space as usize) {
+        Some(s) => s.ids.plan(),
+        None => None,
+    }
+}
+
+/// The numbers that those on the path give next, or the first that gives none.
+pub(crate) fn plan_path(spaces: &Slab<Space>, space: u32) -> Result<ArrayVec<u32, 33>, u32>
+    ensures ok { IfOk result (λ numbers. (find (λ s. is_none (plan_on spaces.now s)) (way spaces.now space) ≡ None)
+        × (numbers.items ≡ map (λ s. unwrap_or (plan_on spaces.now s) 0) (way spaces.now space))) }
+    ensures err { IfErr result (λ s. find (λ s. is_none (plan_on spaces.now s)) (way spaces.now space) ≡ Some s) }
+{
+    let mut numbers = ArrayVec::<u32, 33>::new();
+    for k in 0..levels(spaces, space) {
+        let key = key_at(spaces, space, k);
+        match plan_at(spaces, key) {
+            Some(n) => numbers.push(n),
+            None => return Err(key),
+        }
+    }
+    Ok(numbers)
+}
+
+/// Takes the memory for a number that the namespace gives next.
+pub(crate) fn prepare_at(spaces: &mut Slab<Space>, key: u32, n: u32) -> Result<(), AllocError>
+    requires { plan_on spaces.old key ≡ Some n }
+    ensures ok { OnOk result (ready spaces.new key n ≡ true) }
+    ensures ready { (s m : ℕ) → ready spaces.old s m ≡ true → ready spaces.new s m ≡ true }
+    ensures plan { (s : ℕ) → plan_on spaces.new s ≡ plan_on spaces.old s }
+    ensures entries { (s m : ℕ) → entry_on spaces.new s m ≡ entry_on spaces.old s m }
+    ensures bound { (s : ℕ) → bound_on spaces.new s ≡ bound_on spaces.old s }
+    ensures way { (s : ℕ) → way spaces.new s ≡ way spaces.old s }
+    ensures namespaces { namespaces_of spaces.new ≡ namespaces_of spaces.old }
+{
+    let Some(space) = spaces.get_mut(key as usize) else {
+        unreachable!()
+    };
+    space.ids.prepare(n)
+}
+
+/// Takes the memory for the numbers along a path.
+pub(crate) fn prepare_path(
+    spaces: &mut Slab<Space>,
+    space: u32,
+    numbers: &[u32],
+) -> Result<(), AllocError>
+    requires planned { ArePlanned spaces.old (way spaces.old space) numbers.now }
+    requires len { length numbers.now ≡ length (way spaces.old space) }
+    ensures ok { OnOk result (AreReady spaces.new (way spaces.old space) numbers.now) }
+    ensures plan { (s : ℕ) → plan_on spaces.new s ≡ plan_on spaces.old s }
+    ensures entries { (s m : ℕ) → entry_on spaces.new s m ≡ entry_on spaces.old s m }
+    ensures bound { (s : ℕ) → bound_on spaces.new s ≡ bound_on spaces.old s }
+    ensures way { (s : ℕ) → way spaces.new s ≡ way spaces.old s }
+    ensures namespaces { namespaces_of spaces.new ≡ namespaces_of spaces.old }
+{
+    for k in 0..levels(spaces, space) {
+        let key = key_at(spaces, space, k);
+        prepare_at(spaces, key, numbers[k])?;
+    }
+    Ok(())
+}
+
+/// Gives the planned number to a task.
+pub(crate) fn give_at(spaces: &mut Slab<Space>, key: u32, n: u32, value: u32)
+    requires planned { plan_on spaces.old key ≡ Some n }
+    requires ready { ready spaces.old key n ≡ true }
+    ensures here { entry_on spaces.new key n ≡ given_to value }
+    ensures same { (m : ℕ) → m ≢ n → entry_on spaces.new key m ≡ entry_on spaces.old key m }
+    ensures others { (s : ℕ) → s ≢ key → get spaces.new s ≡ get spaces.old s }
+    ensures bound { bound_on spaces.new key ≡ bound_on spaces.old key }
+    ensures way { way spaces.new key ≡ way spaces.old key }
+    ensures namespace { namespace_on spaces.new key ≡ option_map (stepped n) (namespace_on spaces.old key) }
+{
+    let Some(space) = spaces.get_mut(key as usize) else {
+        unreachable!()
+    };
+    space.ids.commit_marked(n, value, [true, false, false]);
+}
+
+/// Gives the planned numbers along a path to a task.
+pub(crate) fn give_path(spaces: &mut Slab<Space>, space: u32, numbers: &[u32], value: u32)
+    requires distinct { IsDistinct (way spaces.old space) }
+    requires planned { ArePlanned spaces.old (way spaces.old space) numbers.now }
+    requires ready { AreReady spaces.old (way spaces.old space) numbers.now }
+    requires len { length numbers.now ≡ length (way spaces.old space) }
+    ensures entries { (s n : ℕ) → entry_on spaces.new s n ≡ touched (way spaces.old space) numbers.now (λ _. given_to value) (entry_on spaces.old) s n }
+    ensures way { (s : ℕ) → way spaces.new s ≡ way spaces.old s }
+    ensures namespaces { (s : ℕ) → namespace_on spaces.new s ≡ option_map (moved (way spaces.old space) numbers.now s) (namespace_on spaces.old s) }
+    ensures bound { (s : ℕ) → bound_on spaces.new s ≡ bound_on spaces.old s }
+{
+    for k in 0..levels(spaces, space) {
+        let key = key_at(spaces, space, k);
+        give_at(spaces, key, numbers[k], value);
+    }
+}
+
+/// Gives a number the mark of a kind, or takes it away.
+pub(crate) fn mark_at(spaces: &mut Slab<Space>, key: u32, n: u32, kind: Kind, on: bool)
+    ensures here { entry_on spaces.new key n ≡ with_mark (mark_of kind) on (entry_on spaces.old key n) }
+    ensures same { (m : ℕ) → m ≢ n → entry_on spaces.new key m ≡ entry_on spaces.old key m }
+    ensures others { (s : ℕ) → s ≢ key → get spaces.new s ≡ get spaces.old s }
+    ensures bound { bound_on spaces.new key ≡ bound_on spaces.old key }
+    ensures way { (s : ℕ) → way spaces.new s ≡ way spaces.old s }
+    ensures namespaces { namespaces_of spaces.new ≡ namespaces_of spaces.old }
+{
+    let Some(space) = spaces.get_mut(key as usize) else {
+        return;
+    };
+    let m = mark(kind);
+    if on {
+        let _ = space.ids.set_mark(n, m);
+    } else {
+        let _ = space.ids.clear_mark(n, m);
+    }
+}
+
+/// Gives the numbers along a path the mark of a kind, or takes it away.
+pub(crate) fn mark_path(
+    spaces: &mut Slab<Space>,
+    space: u32,
+    numbers: &LevelNumbers,
+    kind: Kind,
+    on: bool,
+)
+    requires distinct { IsDistinct (way spaces.old space) }
+    requires len { length numbers.now ≡ length (way spaces.old space) }
+    ensures entries { (s n : ℕ) → entry_on spaces.new s n ≡ touched (way spaces.old space) numbers.now (with_mark (mark_of kind) on) (entry_on spaces.old) s n }
+    ensures way { (s : ℕ) → way spaces.new s ≡ way spaces.old s }
+    ensures namespaces { namespaces_of spaces.new ≡ namespaces_of spaces.old }
+    ensures bound { (s : ℕ) → bound_on spaces.new s ≡ bound_on spaces.old s }
+{
+    for k in 0..levels(spaces, space) {
+        let key = key_at(spaces, space, k);
+        mark_at(spaces, key, numbers.at(k), kind, on);
+    }
+}
+
+/// Makes a number free.
+pub(crate) fn release_at(spaces: &mut Slab<Space>, key: u32, n: u32)
+    ensures here { entry_on spaces.new key n ≡ None }
+    ensures same { (m : ℕ) → m ≢ n → entry_on spaces.new key m ≡ entry_on spaces.old key m }
+    ensures others { (s : ℕ) → s ≢ key → get spaces.new s ≡ get spaces.old s }
+    ensures bound { bound_on spaces.new key ≡ bound_on spaces.old key }
+    ensures way { (s : ℕ) → way spaces.new s ≡ way spaces.old s }
+    ensures namespaces { namespaces_of spaces.new ≡ namespaces_of spaces.old }
+{
+    let Some(space) = spaces.get_mut(key as usize) else {
+        return;
+    };
+    let _ = space.ids.release(n);
+}
+
+/// Makes the numbers along a path free.
+pub(crate) fn release_path(spaces: &mut Slab<Space>, space: u32, numbers: &LevelNumbers)
+    requires distinct { IsDistinct (way spaces.old space) }
+    requires len { length numbers.now ≡ length (way spaces.old space) }
+    ensures entries { (s n : ℕ) → entry_on spaces.new s n ≡ touched (way spaces.old space) numbers.now (λ _. None) (entry_on spaces.old) s n }
+    ensures way { (s : ℕ) → way spaces.new s ≡ way spaces.old s }
+    ensures namespaces { namespaces_of spaces.new ≡ namespaces_of spaces.old }
+    ensures bound { (s : ℕ) → bound_on spaces.new s ≡ bound_on spaces.old s }
+{
+    for k in 0..levels(spaces, space) {
+        let key = key_at(spaces, space, k);
+        release_at(spaces, key, numbers.at(k));
+    }
+}
+
+/// The least number from one on that has the mark of a kind.
+pub(crate) fn next_at(spaces: &Slab<Space>, space: u32, kind: Kind, from: u32) -> Option<u32>
+    ensures { IsLeastIndex (λ n. is_marked (mark_of kind) (entry_on spaces.now space n)) from 16777216 result }
+{
+    match spaces.get(space as usize) {
+        Some(s) => s.ids.next_marked(from, mark(kind)),
+        None => None,
+    }
+}
+
+/// The id of the namespace.
+pub(crate) fn id_at(spaces: &Slab<Space>, space: u32) -> Option<u64>
+    ensures { result ≡ option_map (λ t. t.id) (namespace_on spaces.now space) }
+{
+    match spaces.get(space as usize) {
+        Some(s) => Some(s.id),
+        None => None,
+    }
+}
+
+/// Where the next draw in the namespace begins.
+pub(crate) fn cursor_at(spaces: &Slab<Space>, space: u32) -> Option<u32>
+    ensures { result ≡ option_map (λ t. t.cursor) (namespace_on spaces.now space) }
+{
+    match spaces.get(space as usize) {
+        Some(s) => Some(s.ids.cursor()),
+        None => None,
+    }
+}
+
+/// Whether the namespace is there and has fallen.
+pub(crate) fn has_fallen(spaces: &Slab<Space>, space: u32) -> bool
+    ensures { result ≡ fell spaces.now space }
+{
+    match spaces.get(space as usize) {
+        Some(s) => s.fallen,
+        None => false,
+    }
+}
+
+/// The path of the namespace, where it has fallen.
+pub(crate) fn fallen_path(spaces: &Slab<Space>, space: u32) -> ArrayVec<u32, 33>
+    ensures { result.items ≡ if fell spaces.now space then way spaces.now space else [] }
+{
+    let mut path = ArrayVec::<u32, 33>::new();
+    if !has_fallen(spaces, space) {
+        return path;
+    }
+    for k in 0..levels(spaces, space) {
+        path.push(key_at(spaces, space, k));
+    }
+    path
+}
+
+/// Whether the namespace has fallen and no number in it is in use.
+fn is_dead(space: &Space) -> bool
+    requires { (n : ℕ) → entry_at space.now.ids.places n ≢ None → n < 16777216 }
+    ensures { result ≡ space.now.fallen && (length (indexes space.now.ids.places) == 0) }
+{
+    space.fallen && space.ids.next(0).is_none()
+}
+
+/// Drops the namespace, where it is dead.
+fn drop_dead(spaces: &mut Slab<Space>, key: u32)
+    requires { (n : ℕ) → entry_on spaces.old key n ≢ None → n < 16777216 }
+    ensures here { get spaces.new key ≡ if dead_on spaces.old key then None else get spaces.old key }
+    ensures others { (s : ℕ) → s ≢ key → get spaces.new s ≡ get spaces.old s }
+{
+    let dead = match spaces.get(key as usize) {
+        Some(s) => is_dead(s),
+        None => false,
+    };
+    if dead {
+        let _ = spaces.try_remove(key as usize);
+    }
+}
+
+/// Drops the dead namespaces of the path.
+pub(crate) fn sweep_path(spaces: &mut Slab<Space>, path: &ArrayVec<u32, 33>)
+    requires { (s n : ℕ) → entry_on spaces.old s n ≢ None → n < 16777216 }
+    ensures { (s : ℕ) → get spaces.new s ≡ left_on path.now.items spaces.old s }
+{
+    for k in 0..path.len() {
+        drop_dead(spaces, path[k]);
+    }
+}
+
+/// Takes the memory for one more namespace, and answers its key.
+pub(crate) fn room_for_space(spaces: &mut Slab<Space>) -> Result<u32, AllocError>
+    ensures same { spaces.new ≡ record spaces.old { capacity = spaces.new.capacity } }
+    ensures room { OnOk result (HasRoomFor spaces.new 1) }
+    ensures key { IfOk result (λ key. key ≡ spaces.new.vacant_key) }
+    ensures vacant { IfOk result (λ key. get spaces.old key ≡ None) }
+{
+    spaces.reserve(1)?;
+    let key = spaces.vacant_key();
+    if key >= 1 << 30 {
+        return Err(AllocError);
+    }
+    Ok(key as u32)
+}
+
+/// The path of a new namespace below the parent.
+pub(crate) fn path_below(spaces: &Slab<Space>, key: u32, parent: u32) -> ArrayVec<u32, 33>
+    requires { length (way spaces.now parent) < 33 }
+    ensures { result.items ≡ key ∷ way spaces.now parent }
+{
+    let mut path = ArrayVec::<u32, 33>::new();
+    path.push(key);
+    for k in 0..levels(spaces, parent) {
+        path.push(key_at(spaces, parent, k));
+    }
+    path
+}
+
+/// Adds a namespace below the parent, and answers its key. The error is want of memory.
+pub(crate) fn add_space(
+    spaces: &mut Slab<Space>,
+    parent: u32,
+    id: u64,
+    ids: CyclicIds<u32>,
+) -> Result<u32, AllocError>
+    requires few { length (way spaces.old parent) < 33 }
+    ensures vacant { IfOk result (λ key. get spaces.old key ≡ None) }
+    ensures here { IfOk result (λ key. namespace_on spaces.new key ≡ Some (record { id = id; fallen = false; path = key ∷ way spaces.old parent; cursor = ids.cursor })) }
+    ensures entries { IfOk result (λ key. (n : ℕ) → entry_on spaces.new key n ≡ entry_at ids.places n) }
+    ensures bound { IfOk result (λ key. bound_on spaces.new key ≡ Some ids.pid_max) }
+    ensures way { IfOk result (λ key. way spaces.new key ≡ key ∷ way spaces.old parent) }
+    ensures others { IfOk result (λ key. (s : ℕ) → s ≢ key → get spaces.new s ≡ get spaces.old s) }
+    ensures err { OnErr result (spaces.new.slots ≡ spaces.old.slots) }
+{
+    let key = room_for_space(spaces)?;
+    let path = path_below(spaces, key, parent);
+    spaces.insert_reserved(Space {
+        id,
+        fallen: false,
+        path,
+        ids,
+    });
+    Ok(key)
+}
+
+/// The numbers of a new namespace, of which the first is given to a task.
+pub(crate) fn first_ids(
+    alloc: Global,
+    pid_max: u32,
+    value: u32,
+) -> Result<CyclicIds<u32>, AllocError>
+    requires { HasGoodPidMax pid_max }
+    ensures here { IfOk result (λ ids. entry_at ids.places 1 ≡ given_to value) }
+    ensures others { IfOk result (λ ids. (n : ℕ) → n ≢ 1 → entry_at ids.places n ≡ None) }
+    ensures pid_max { IfOk result (λ ids. ids.pid_max ≡ pid_max) }
+    ensures cursor { IfOk result (λ ids. ids.cursor ≡ 2) }
+{
+    let mut ids = CyclicIds::new(alloc, pid_max);
+    ids.prepare(1)?;
+    ids.commit_marked(1, value, [true, false, false]);
+    Ok(ids)
+}
+
+/// Whether the namespace is the other one or inside it.
+pub(crate) fn is_inside(spaces: &Slab<Space>, key: usize, outer: u32) -> bool
+    requires { IsTree (way spaces.now) }
+    ensures { result ≡ contains (way spaces.now key) outer }
+{
+    let from = levels(spaces, outer);
+    let Some(space) = spaces.get(key) else {
+        return false;
+    };
+    let end = space.path.len();
+    if from == 0 || end < from {
+        return false;
+    }
+    space.path[end - from] == outer
+}
+
+/// The namespace has fallen, if it is the other one or inside it.
+fn fall_at(spaces: &mut Slab<Space>, key: usize, outer: u32)
+    requires { IsTree (way spaces.old) }
+    ensures here { namespace_on spaces.new key ≡ option_map (fallen_within outer) (namespace_on spaces.old key) }
+    ensures others { (s : ℕ) → s ≢ key → get spaces.new s ≡ get spaces.old s }
+    ensures entries { (s n : ℕ) → entry_on spaces.new s n ≡ entry_on spaces.old s n }
+    ensures bound { (s : ℕ) → bound_on spaces.new s ≡ bound_on spaces.old s }
+    ensures way { (s : ℕ) → way spaces.new s ≡ way spaces.old s }
+{
+    if !is_inside(spaces, key, outer) {
+        return;
+    }
+    let Some(space) = spaces.get_mut(key) else {
+        return;
+    };
+    space.fallen = true;
+}
+
+/// The namespace and all inside it have fallen.
+pub(crate) fn fall_all(spaces: &mut Slab<Space>, outer: u32)
+    requires { IsTree (way spaces.old) }
+    ensures namespaces { (s : ℕ) → namespace_on spaces.new s ≡ option_map (fallen_within outer) (namespace_on spaces.old s) }
+    ensures entries { (s n : ℕ) → entry_on spaces.new s n ≡ entry_on spaces.old s n }
+    ensures bound { (s : ℕ) → bound_on spaces.new s ≡ bound_on spaces.old s }
+    ensures way { (s : ℕ) → way spaces.new s ≡ way spaces.old s }
+{
+    for key in 0..spaces.capacity() {
+        fall_at(spaces, key, outer);
+    }
+}
