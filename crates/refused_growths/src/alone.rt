@@ -2,7 +2,7 @@
 
 ghost use Rattle.std.specs.Prelude.{◌≡◌};
 
-use crate::step::Alone;
+use crate::step::AloneStep;
 use crate::tell::{MOST_TRIES, tell, tell_answers};
 use anyhow::{Context, Result, bail, ensure};
 use locked_table::{Receipt, Shared};
@@ -31,7 +31,7 @@ pub fn play<R: Print + Threads + Wait + Clock + Sync + AllocGlobal>(
     rt: &R,
     heading: &[u8],
     config: &Config,
-    step: &Alone,
+    step: &AloneStep,
 ) -> Result<()> {
     for _ in 0..MOST_TRIES {
         if play_once(rt, heading, config, step)? {
@@ -46,20 +46,20 @@ fn play_once<R: Print + Threads + Wait + Clock + Sync + AllocGlobal>(
     rt: &R,
     heading: &[u8],
     config: &Config,
-    step: &Alone,
+    step: &AloneStep,
 ) -> Result<bool> {
     match step {
-        Alone::Job(script) => read(rt, heading, script.as_bytes()),
-        Alone::Run(script) => answer_all(rt, heading, config, script.as_bytes()),
-        Alone::Limited(script) => answer_few(rt, heading, config, script.as_bytes()),
-        Alone::State(script) => {
+        AloneStep::Job(script) => read(rt, heading, script.as_bytes()),
+        AloneStep::Run(script) => answer_all(rt, heading, config, script.as_bytes()),
+        AloneStep::Limited(script) => answer_few(rt, heading, config, script.as_bytes()),
+        AloneStep::State(script) => {
             answer_and_list::<Brand, R>(rt, Blank::new(1), heading, config, script.as_bytes())
         }
-        Alone::Work(script) => {
+        AloneStep::Work(script) => {
             let calls = parse_job(rt.alloc(), script.as_bytes())?;
             serve::<Brand, R>(rt, Blank::new(1), heading, config, calls.as_slice())
         }
-        Alone::Workers(first, second) => {
+        AloneStep::Workers(first, second) => {
             let first = parse_job(rt.alloc(), first.as_bytes())?;
             let second = parse_job(rt.alloc(), second.as_bytes())?;
             serve_two::<Brand, R>(rt, Blank::new(2), heading, config, &[first, second])

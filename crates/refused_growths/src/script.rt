@@ -88,7 +88,7 @@ fn play_step<L: Ledger, R: Print + Threads + Wait + Clock + Sync + AllocGlobal>(
 ) -> Result<()> {
     let heading = told.heading.as_bytes();
     match &told.step {
-        Step::Seated(kind) => seated.play(rt, heading, kind),
-        Step::Alone(kind) => play_alone(rt, heading, config, kind),
+        Step::Seated(step) => seated.play(rt, heading, step),
+        Step::Alone(step) => play_alone(rt, heading, config, step),
     }
 }

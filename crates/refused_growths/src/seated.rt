@@ -3,7 +3,7 @@
 
 ghost use Rattle.std.specs.Prelude.{◌≡◌};
 
-use crate::step::Seat as Kind;
+use crate::step::SeatedStep;
 use crate::tell::{MOST_TRIES, tell};
 use anyhow::{Result, bail};
 use locked_table::{Receipt, Record, Seat};
@@ -73,13 +73,13 @@ impl<L: Ledger> Seated<L> {
         &mut self,
         rt: &R,
         heading: &[u8],
-        kind: &Kind,
+        step: &SeatedStep,
     ) -> Result<()> {
         let plain = self.record.snapshot()?;
         let before = self.picture(rt.alloc())?;
         for _ in 0..MOST_TRIES {
             tell(rt, &[heading])?;
-            match self.make(rt, kind, &plain) {
+            match self.make(rt, step, &plain) {
                 Ok(made) => return self.show(rt, &made),
                 Err(AllocError) => tell(rt, &[b"- no memory\n"])?,
             }
@@ -94,26 +94,26 @@ impl<L: Ledger> Seated<L> {
     fn make<R: Threads + AllocGlobal>(
         &mut self,
         rt: &R,
-        kind: &Kind,
+        step: &SeatedStep,
         plain: &Plain,
     ) -> Result<Made, AllocError> {
-        match kind {
-            Kind::Call(call) => match self.record.act(&mut self.seat, *call) {
+        match step {
+            SeatedStep::Call(call) => match self.record.act(&mut self.seat, *call) {
                 Err(CallFault::NoMemory) => Err(AllocError),
                 answer => Ok(Made::Answer(answer)),
             },
-            Kind::Reserve(n) => {
+            SeatedStep::Reserve(n) => {
                 self.record.reserve_calls(*n)?;
                 Ok(Made::Nothing)
             }
-            Kind::Checkpoint => {
+            SeatedStep::Checkpoint => {
                 self.record.checkpoint()?;
                 Ok(Made::Nothing)
             }
-            Kind::Look => Ok(Made::Counts(self.counts())),
-            Kind::Snapshot => Ok(Made::Snapshot(self.record.snapshot()?)),
-            Kind::List => Ok(Made::Text(list_text(rt.alloc(), plain)?)),
-            Kind::Split => Ok(Made::Text(list_text_split(rt, rt.alloc(), plain)?)),
+            SeatedStep::Look => Ok(Made::Counts(self.counts())),
+            SeatedStep::Snapshot => Ok(Made::Snapshot(self.record.snapshot()?)),
+            SeatedStep::List => Ok(Made::Text(list_text(rt.alloc(), plain)?)),
+            SeatedStep::Split => Ok(Made::Text(list_text_split(rt, rt.alloc(), plain)?)),
         }
     }
 

@@ -8,13 +8,13 @@ use std::alloc::Global;
 /// A step on the script's table, or on a table of its own.
 #[derive(Drop)]
 pub enum Step {
-    Seated(Seat),
-    Alone(Alone),
+    Seated(SeatedStep),
+    Alone(AloneStep),
 }
 
 /// A step on the script's table.
 #[derive(Drop)]
-pub enum Seat {
+pub enum SeatedStep {
     /// A call, made and recorded.
     Call(Call),
     /// `reserve N`: room for N more entries.
@@ -33,7 +33,7 @@ pub enum Seat {
 
 /// A step on a table of its own. Scripts have `;` in the place of a newline.
 #[derive(Drop)]
-pub enum Alone {
+pub enum AloneStep {
     /// `job SCRIPT`: the calls of a job.
     Job(String),
     /// `run SCRIPT`.
@@ -55,14 +55,14 @@ pub fn parse_step(alloc: Global, line: &str) -> Result<Step> {
         return Ok(Step::Alone(kind));
     }
     let kind = match word {
-        "reserve" => Seat::Reserve(rest.parse::<usize>()?),
-        "checkpoint" => Seat::Checkpoint,
-        "look" => Seat::Look,
-        "snapshot" => Seat::Snapshot,
-        "list" => Seat::List,
-        "split" => Seat::Split,
+        "reserve" => SeatedStep::Reserve(rest.parse::<usize>()?),
+        "checkpoint" => SeatedStep::Checkpoint,
+        "look" => SeatedStep::Look,
+        "snapshot" => SeatedStep::Snapshot,
+        "list" => SeatedStep::List,
+        "split" => SeatedStep::Split,
         _ => match parse_line(line.as_bytes()) {
-            Line::Call(call) => Seat::Call(call),
+            Line::Call(call) => SeatedStep::Call(call),
             _ => bail!("no step: {line}"),
         },
     };
@@ -70,16 +70,16 @@ pub fn parse_step(alloc: Global, line: &str) -> Result<Step> {
 }
 
 /// The step on a table of its own, if the word names one.
-fn parse_alone(alloc: Global, word: &str, rest: &str) -> Result<Option<Alone>> {
+fn parse_alone(alloc: Global, word: &str, rest: &str) -> Result<Option<AloneStep>> {
     Ok(Some(match word {
-        "job" => Alone::Job(script(alloc, rest)?),
-        "run" => Alone::Run(script(alloc, rest)?),
-        "limited" => Alone::Limited(script(alloc, rest)?),
-        "state" => Alone::State(script(alloc, rest)?),
-        "work" => Alone::Work(script(alloc, rest)?),
+        "job" => AloneStep::Job(script(alloc, rest)?),
+        "run" => AloneStep::Run(script(alloc, rest)?),
+        "limited" => AloneStep::Limited(script(alloc, rest)?),
+        "state" => AloneStep::State(script(alloc, rest)?),
+        "work" => AloneStep::Work(script(alloc, rest)?),
         "workers" => {
             let (first, second) = rest.split_once('|').context("one job alone")?;
-            Alone::Workers(script(alloc, first)?, script(alloc, second)?)
+            AloneStep::Workers(script(alloc, first)?, script(alloc, second)?)
         }
         _ => return Ok(None),
     }))
