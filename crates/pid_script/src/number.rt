@@ -8,7 +8,11 @@ use std::str;
 fn is_plain(word: &[u8]) -> bool
     ensures { IsTrue result ↔ IsPlain word.now }
 {
-    !matches!(word, [] | [b'+', ..] | [b'0', _, ..])
+    match word.first() {
+        None | Some(b'+') => false,
+        Some(b'0') => word.len() == 1,
+        Some(_) => true,
+    }
 }
 
 /// The number of a word, where it is one below 2^64.
