@@ -26,13 +26,19 @@ fn begins_with_the_root(rt: HostRuntime) -> Result<(), Fail> {
 fn sets_limits(rt: HostRuntime) -> Result<(), Fail> {
     let mut controls = Controls::new(rt.alloc())?;
     let root = controls.find(0).ok_or("no root")?;
-    assert_eq!(rt; controls.set_limit(root, Some(5)), Err(Refusal::RootControl));
+    assert_eq!(rt;
+        controls.set_limit(root, Some(5)),
+        Err(Refusal::RootControl)
+    );
     let root = controls.find(0).ok_or("no root")?;
     assert_eq!(rt; controls.remove(root), Err(Refusal::RootControl));
     let root = controls.find(0).ok_or("no root")?;
     assert_eq!(rt; controls.make(root, 4).is_ok(), true);
     let group = controls.find(4).ok_or("no group")?;
-    assert_eq!(rt; controls.set_limit(group, Some(4_194_305)), Err(Refusal::BadLimit));
+    assert_eq!(rt;
+        controls.set_limit(group, Some(4_194_305)),
+        Err(Refusal::BadLimit)
+    );
     let group = controls.find(4).ok_or("no group")?;
     assert_eq!(rt; controls.set_limit(group, Some(0)), Ok(()));
     let group = controls.find(4).ok_or("no group")?;
@@ -43,12 +49,36 @@ fn sets_limits(rt: HostRuntime) -> Result<(), Fail> {
     Ok(())
 }
 
-/// A task below a group counts there too, moves out and ends.
+/// A task moves below a limited group, which lets no other in, and counts there until it is reaped.
 #[test]
 fn counts_tasks(rt: HostRuntime) -> Result<(), Fail> {
     let mut controls = Controls::new(rt.alloc())?;
     let root = controls.find(0).ok_or("no root")?;
+    assert_eq!(rt; controls.make(root, 1).is_ok(), true);
+    let group = controls.find(1).ok_or("no group")?;
+    assert_eq!(rt; controls.set_limit(group, Some(1)), Ok(()));
+    let root = controls.find(0).ok_or("no root")?;
     controls.charge(root);
-    assert_eq!(rt; controls.count(root), 1);
+    let group = controls.find(1).ok_or("no group")?;
+    controls.transfer(root, group);
+    let group = controls.find(1).ok_or("no group")?;
+    assert_eq!(rt; controls.count(group), 1);
+    assert_eq!(rt; controls.may_charge(group), Err(Refusal::PidsLimit(1)));
+    assert_eq!(rt; controls.remove(group), Err(Refusal::ControlBusy));
+    Ok(())
+}
+
+/// A removed group's zombie counts for the parent until it is reaped.
+#[test]
+fn hands_on_zombies(rt: HostRuntime) -> Result<(), Fail> {
+    let mut controls = Controls::new(rt.alloc())?;
+    let root = controls.find(0).ok_or("no root")?;
+    assert_eq!(rt; controls.make(root, 1).is_ok(), true);
+    let group = controls.find(1).ok_or("no group")?;
+    controls.charge(group);
+    controls.died(group);
+    controls.uncharge(group);
+    let root = controls.find(0).ok_or("no root")?;
+    assert_eq!(rt; controls.count(root), 0);
     Ok(())
 }
