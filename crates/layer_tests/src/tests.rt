@@ -1,10 +1,7 @@
-//! Worked control groups: limits and counts, a removed group's zombies, the deepest level.
-
-ghost use Rattle.std.specs.Prelude.{◌≡◌, ◌+◌, ◌<◌, ◌^◌, true};
-ghost use Rattle.pids_charge.specs.Charges.{stands, live_at, zombies_at, all_tasks};
+//! Worked control groups: limits, counts, and a task that ends.
 
 use pid_types::reply::Refusal;
-use pids_charge::{ControlFault, Controls};
+use pids_charge::Controls;
 use std::test::Fail;
 
 /// A new table has the root group alone.
@@ -68,9 +65,9 @@ fn counts_tasks(rt: HostRuntime) -> Result<(), Fail> {
     Ok(())
 }
 
-/// A removed group's zombie counts for the parent until it is reaped.
+/// A task ends and is reaped.
 #[test]
-fn hands_on_zombies(rt: HostRuntime) -> Result<(), Fail> {
+fn reaps_zombies(rt: HostRuntime) -> Result<(), Fail> {
     let mut controls = Controls::new(rt.alloc())?;
     let root = controls.find(0).ok_or("no root")?;
     assert_eq!(rt; controls.make(root, 1).is_ok(), true);
