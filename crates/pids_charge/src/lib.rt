@@ -58,6 +58,10 @@ impl From<AllocError> for ControlFault {
 }
 
 /// Control groups, and how many tasks each has.
+///
+/// `find` and `remove` cost a logarithm of the groups. A task that comes or goes costs a step for each group
+/// from its own to the root, 65 at most. All else costs a few reads. Only `new` and `make` take memory: some
+/// 100 bytes for each group.
 #[derive(Drop)]
 pub struct Controls {
     nodes: Slab<Node>,
@@ -129,7 +133,8 @@ impl Controls {
     }
 
     /// Removes a control group: `rmdir(2)`. The refusals are `RootControl`, and then `ControlBusy` where a
-    /// control group or a live task is directly in it. Its zombies go to the parent, in no time.
+    /// control group or a live task is directly in it. Its zombies go to the parent, and none
+    /// of them is looked at: the cost is that of the look-up of an id.
     pub fn remove(&mut self, c: u32) -> Result<(), Refusal>
         requires { stands self.old c ≡ true }
         ensures refusal { result_err result ≡ remove_refusal self.old c }
@@ -233,7 +238,7 @@ impl Controls {
         node_at(&self.nodes, c).limit
     }
 
-    /// How many tasks a control group and those below it have, zombies among them: `pids.current`.
+    /// How many tasks a control group and those below it have, zombies among them: `pids.current`. One read.
     pub fn count(&self, c: u32) -> u64
         requires { stands self.now c ≡ true }
         ensures { result ≡ count_of self.now (id_at self.now c) }
@@ -241,7 +246,7 @@ impl Controls {
         self.totals[c as usize]
     }
 
-    /// One live task more.
+    /// One live task more: what `fork(2)` charges. No limit is asked; `may_charge` does that.
     pub fn charge(&mut self, home: u32)
         requires stands { stands self.old home ≡ true }
         requires few { all_tasks self.old + 1 < 2 ^ 64 }
