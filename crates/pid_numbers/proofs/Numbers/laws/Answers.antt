@@ -1,6 +1,6 @@
-use Rattle.std.proofs.Common.{◌≡◌, ◌∙◌, sym, ap, subst, ℕ, ◌<◌, ◌≤◌, List, length, get_or, drop, Option, Some, true, false, unwrap_or}
+use Rattle.std.proofs.Common.{◌≡◌, ◌∙◌, sym, ap, subst, ℕ, ◌<◌, ◌≤◌, List, length, get_or, drop, Some, false, unwrap_or}
 use Rattle.std.specs.Option.{option_map_or}
-use Rattle.pid_numbers.specs.Numbering.{Identifier, number_of, path_at, has_fallen_at}
+use Rattle.pid_numbers.specs.Numbering.{number_of, path_at, has_fallen_at}
 use Rattle.pid_numbers.specs.Slabs.{way, entry_on, leads, fell}
 use Rattle.pid_numbers.proofs.Views as views
 use Rattle.pid_numbers.proofs.Ties as ties
