@@ -221,6 +221,7 @@ impl Numbers {
         ensures others { IfOk result (λ i. (j : ℕ) → j ≢ i → identifier_at self.new j ≡ identifier_at self.old j) }
         ensures namespaces { OnOk result ((s : ℕ) → namespace_at self.new s ≡ option_map (moved (path_at self.old space) numbers.now.items s) (namespace_at self.old s)) }
         ensures err { OnErr result (self.new ≡ self.old) }
+        ensures pid_max { self.new.pid_max ≡ self.old.pid_max }
     {
         let key = make_room(&mut self.idents)?;
         let stored = LevelNumbers::from(self.alloc, numbers)?;
@@ -275,6 +276,7 @@ impl Numbers {
         ensures others { IfOk result (λ keys. (j : ℕ) → j ≢ keys.0 → identifier_at self.new j ≡ identifier_at self.old j) }
         ensures namespaces { IfOk result (λ keys. (s : ℕ) → s ≢ keys.1 → namespace_at self.new s ≡ option_map (moved (path_at self.old parent) (drop 1 numbers.now.items) s) (namespace_at self.old s)) }
         ensures err { OnErr result (self.new ≡ self.old) }
+        ensures pid_max { self.new.pid_max ≡ self.old.pid_max }
     {
         let ident = make_room(&mut self.idents)?;
         let stored = LevelNumbers::from(self.alloc, numbers)?;
@@ -300,6 +302,7 @@ impl Numbers {
         requires used { (s : ℕ) → contains (path_at self.old s) space ≡ true → 0 < length (taken_in self.old s) }
         ensures names { self.new.names ≡ self.old.names }
         ensures namespaces { (s : ℕ) → namespace_at self.new s ≡ option_map (fallen_within space) (namespace_at self.old s) }
+        ensures pid_max { self.new.pid_max ≡ self.old.pid_max }
     {
         fall_all(&mut self.spaces, space);
     }
@@ -311,6 +314,7 @@ impl Numbers {
         ensures here { (u : Identifier) → identifier_at self.old ident ≡ Some u → identifier_at self.new ident ≡ Some (more kind u) }
         ensures others { (j : ℕ) → j ≢ ident → identifier_at self.new j ≡ identifier_at self.old j }
         ensures namespaces { self.new.namespaces ≡ self.old.namespaces }
+        ensures pid_max { self.new.pid_max ≡ self.old.pid_max }
     {
         let had = has_use(&self.idents, ident, kind);
         more_use(&mut self.idents, ident, kind);
@@ -328,6 +332,7 @@ impl Numbers {
         ensures here { (u : Identifier) → identifier_at self.old ident ≡ Some u → identifier_at self.new ident ≡ left_of (less kind u) }
         ensures others { (j : ℕ) → j ≢ ident → identifier_at self.new j ≡ identifier_at self.old j }
         ensures namespaces { (s : ℕ) → namespace_at self.new s ≡ swept_at (record self.old { names = self.new.names }) s }
+        ensures pid_max { self.new.pid_max ≡ self.old.pid_max }
     {
         less_use(&mut self.idents, ident, kind);
         if has_use(&self.idents, ident, kind) {
