@@ -1,15 +1,14 @@
 -- A namespace that begins with its first identifier.
-use Rattle.std.proofs.Common.{◌≡◌, ◌≢◌, ◌⊎◌, inl, inr, ℕ, zero, suc, ◌+◌, ◌-◌, ◌<◌, ◌≤◌, Bool, true, false, List, [], ◌∷◌, length, get_or, take, drop, Option, Some, None, refl, sym, ap, subst, ◌∙◌, arith, option_map, option_and_then}
+use Rattle.std.proofs.Common.{◌≡◌, ◌≢◌, ℕ, zero, suc, ◌+◌, ◌-◌, ◌<◌, false, List, [], ◌∷◌, length, get_or, take, drop, Option, Some, None, refl, sym, ap, subst, ◌∙◌, arith, option_map, option_and_then}
 use Rattle.std.specs.Option.{option_map_or}
 use Rattle.std.proofs.Math.Seq.{take-length}
-use Rattle.std.proofs.lemmas.Bool.{cases_eq}
 use Rattle.slab.specs.Slab.{Slab, get}
 use Rattle.pid_types.specs.Names.{beside}
-use Rattle.index_array.specs.Place.{Entry, entry_at, is_prepared}
+use Rattle.index_array.specs.Place.{entry_at, is_prepared}
 use Rattle.cyclic_ids.specs.Ids.{planned}
 use Rattle.pid_numbers.specs.declared.spaces.Space.{Space}
 use Rattle.pid_numbers.specs.Numbering.{Identifier, Namespace, moved, new_identifier}
-use Rattle.pid_numbers.specs.Slabs.{namespace_of, way, entry_on, bound_on, plan_on, leads, fell, ready, touched, given_to, ArePlanned, AreReady, IsDistinct, IsNumbering, IsWhole}
+use Rattle.pid_numbers.specs.Slabs.{namespace_of, way, entry_on, bound_on, plan_on, fell, touched, given_to, ArePlanned, AreReady, IsDistinct, IsNumbering, IsWhole}
 use Rattle.pid_numbers.proofs.Ties as ties
 use Rattle.pid_numbers.proofs.Views as views
 use Rattle.pid_numbers.proofs.Adds as adds

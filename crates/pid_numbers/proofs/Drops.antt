@@ -1,14 +1,14 @@
 -- The sweep after an identifier went.
-use Rattle.std.proofs.Common.{◌≡◌, ◌≢◌, ◌⊎◌, inl, inr, ℕ, ◌<◌, ◌-◌, Bool, true, false, ◌==◌, ◌&&◌, List, [], length, get_or, Option, Some, None, is_some, if◌then◌else◌, refl, sym, ap, subst, arith, ◌∙◌, option_map, option_and_then, unwrap_or}
+use Rattle.std.proofs.Common.{◌≡◌, ◌≢◌, inl, inr, ℕ, ◌<◌, ◌-◌, Bool, true, false, ◌==◌, ◌&&◌, List, [], length, get_or, Option, Some, None, is_some, if◌then◌else◌, refl, sym, ap, subst, arith, ◌∙◌, option_map, option_and_then}
 use Rattle.std.specs.Option.{option_map_or}
 use Rattle.slab.specs.Slab.{Slab, get}
 use Rattle.pid_types.specs.Chains.{contains}
-use Rattle.index_array.specs.Place.{Entry, Place, entry_at, indexes}
+use Rattle.index_array.specs.Place.{Entry, entry_at, indexes}
 use Rattle.index_array.proofs.Indexes.{contains_indexes}
 use Rattle.pid_numbers.specs.declared.spaces.Space.{Space}
 use Rattle.pid_numbers.specs.declared.names.Ident.{Ident}
-use Rattle.pid_numbers.specs.Numbering.{Identifier, Namespace, Numbering, namespace_at, identifier_at, is_used_as, less, uses, number_in, path_at, taken_in, is_dead, swept_at}
-use Rattle.pid_numbers.specs.Slabs.{namespace_of, namespaces_of, namespace_on, numbering_of, name_at, way, entry_on, bound_on, leads, fell, dead_on, goes, left_on, touched, IsTied, IsNumbering, AreFallen, IsWhole}
+use Rattle.pid_numbers.specs.Numbering.{Identifier, Numbering, namespace_at, identifier_at, is_used_as, less, uses, number_in, path_at, taken_in, is_dead, swept_at}
+use Rattle.pid_numbers.specs.Slabs.{namespace_of, namespaces_of, numbering_of, name_at, way, entry_on, bound_on, leads, fell, dead_on, goes, left_on, touched, IsTied, IsNumbering, IsWhole}
 use Rattle.pid_numbers.proofs.Ties.{get_or-map_option, at_key, listed_from}
 use Rattle.std.proofs.lemmas.Bool.Decides.{nat_tests}
 use Rattle.pid_numbers.proofs.Views.{taken_same, fell-same}

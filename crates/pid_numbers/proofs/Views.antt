@@ -1,5 +1,5 @@
 -- What a numbering shows of the slabs.
-use Rattle.std.proofs.Common.{rules, inl, inr, ◌≤◌, ◌≡◌, ◌≢◌, ℕ, ◌<◌, arith, if◌then◌else◌, Bool, true, false, List, [], length, map, get_or, Option, Some, None, IsSome, IfSome, not, ◌&&◌, ◌==◌, ◌+◌, zero, suc, subst, is_some, is_none, refl, sym, ap, ◌∙◌, option_map, option_and_then, unwrap_or, find}
+use Rattle.std.proofs.Common.{rules, inl, inr, ◌≡◌, ◌≢◌, ℕ, ◌<◌, arith, if◌then◌else◌, Bool, true, false, List, [], length, map, get_or, Option, Some, None, IsSome, IfSome, not, ◌&&◌, ◌==◌, ◌+◌, subst, is_some, is_none, refl, sym, ap, ◌∙◌, option_map, option_and_then, unwrap_or, find}
 use Rattle.std.specs.Prelude.{nat_lt}
 use Rattle.std.specs.Option.{option_map_or}
 use Rattle.std.proofs.lemmas.List.{length-map}
@@ -19,7 +19,7 @@ use Rattle.pid_numbers.specs.declared.names.Ident.{Ident}
 use Rattle.pid_numbers.specs.Numbering.{Numbering, Identifier, Namespace, moved, namespace_at, identifier_at, path_at, number_in, number_of, taken_in, draw_in, is_used_as, is_used, with_uses, uses, more, IsNumberUsedAs, IsNextUsed}
 use Rattle.pid_types.specs.declared.call.Kind.{Kind}
 use Rattle.pid_types.specs.declared.call.Kind.TheVariants.{Task, Group, Session}
-use Rattle.pid_numbers.specs.Slabs.{fell, numbering_of, namespace_of, identifier_of, way, entry_on, leads, plan_on, name_at, namespaces_of, marks_of, mark_of, bound_on, ArePlanned, IsTied, IsNumbering}
+use Rattle.pid_numbers.specs.Slabs.{fell, numbering_of, namespace_of, identifier_of, way, entry_on, leads, plan_on, name_at, namespaces_of, marks_of, mark_of, bound_on, ArePlanned, IsNumbering}
 use Rattle.pid_numbers.proofs.Ties.{at_key, get_or-map_option, listed_from, listed, planned_each}
 
 module _ (pid_max : ℕ) (spaces : Slab Space) (idents : Slab Ident) where

@@ -1,5 +1,5 @@
 -- What a contract sees of `Numbers`: the namespaces and the identifiers by key.
-use Rattle.std.specs.Prelude.{◌≡◌, ◌-◌, ℕ, ◌+◌, ◌<◌, ◌≤◌, ◌==◌, ◌&&◌, ◌||◌, Bool, true, false, List, [], ◌∷◌, length, map, filter_map, Option, Some, None, option_and_then, not, if◌then◌else◌, slice_index_or, MatchOption, find, is_none}
+use Rattle.std.specs.Prelude.{◌≡◌, ◌-◌, ℕ, ◌+◌, ◌<◌, ◌≤◌, ◌==◌, ◌&&◌, ◌||◌, Bool, true, false, List, [], length, filter_map, Option, Some, None, option_and_then, not, if◌then◌else◌, slice_index_or, MatchOption, find, is_none}
 use Rattle.std.specs.Option.{option_map_or}
 use Rattle.pid_types.specs.Bounds.{deepest_space}
 use Rattle.pid_numbers.specs.declared.plan.PlanFault.{PlanFault}

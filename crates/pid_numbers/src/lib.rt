@@ -97,11 +97,13 @@ impl Numbers {
 
     /// What is true of all identifiers and namespaces at any time; the call does nothing. No number of a
     /// namespace names two identifiers, each is above 0 and below `pid_max`, each identifier has one for
-    /// each namespace from its own to the root, and what is in a fallen namespace has fallen.
+    /// each namespace from its own to the root, which has the key 0, and what is in a fallen namespace has fallen.
     pub fn laws(&self)
         ensures distinct { (i j s n : ℕ) → number_of self.now i s ≡ Some n → number_of self.now j s ≡ Some n → i ≡ j }
         ensures range { (i s n : ℕ) → number_of self.now i s ≡ Some n → (0 < n) × (n < self.now.pid_max) }
         ensures full { (i : ℕ) (u : Identifier) → identifier_at self.now i ≡ Some u → (0 < length u.numbers) × (length u.numbers ≡ length (path_at self.now u.space)) }
+        ensures root { path_at self.now 0 ≡ 0 ∷ [] }
+        ensures own { (s : ℕ) → 0 < length (path_at self.now s) → slice_index_or (path_at self.now s) 0 0 ≡ s }
         ensures around { (s j : ℕ) → j < length (path_at self.now s) → path_at self.now (slice_index_or (path_at self.now s) j 0) ≡ drop j (path_at self.now s) }
         ensures few { (s : ℕ) → length (path_at self.now s) ≤ deepest_space + 1 }
         ensures fallen { (s j : ℕ) → j < length (path_at self.now s) → has_fallen_at self.now (slice_index_or (path_at self.now s) j 0) ≡ true → has_fallen_at self.now s ≡ true }
@@ -219,6 +221,7 @@ impl Numbers {
         ensures others { IfOk result (λ i. (j : ℕ) → j ≢ i → identifier_at self.new j ≡ identifier_at self.old j) }
         ensures namespaces { OnOk result ((s : ℕ) → namespace_at self.new s ≡ option_map (moved (path_at self.old space) numbers.now.items s) (namespace_at self.old s)) }
         ensures err { OnErr result (self.new ≡ self.old) }
+        ensures pid_max { self.new.pid_max ≡ self.old.pid_max }
     {
         let key = make_room(&mut self.idents)?;
         let stored = LevelNumbers::from(self.alloc, numbers)?;
@@ -273,6 +276,7 @@ impl Numbers {
         ensures others { IfOk result (λ keys. (j : ℕ) → j ≢ keys.0 → identifier_at self.new j ≡ identifier_at self.old j) }
         ensures namespaces { IfOk result (λ keys. (s : ℕ) → s ≢ keys.1 → namespace_at self.new s ≡ option_map (moved (path_at self.old parent) (drop 1 numbers.now.items) s) (namespace_at self.old s)) }
         ensures err { OnErr result (self.new ≡ self.old) }
+        ensures pid_max { self.new.pid_max ≡ self.old.pid_max }
     {
         let ident = make_room(&mut self.idents)?;
         let stored = LevelNumbers::from(self.alloc, numbers)?;
@@ -298,6 +302,7 @@ impl Numbers {
         requires used { (s : ℕ) → contains (path_at self.old s) space ≡ true → 0 < length (taken_in self.old s) }
         ensures names { self.new.names ≡ self.old.names }
         ensures namespaces { (s : ℕ) → namespace_at self.new s ≡ option_map (fallen_within space) (namespace_at self.old s) }
+        ensures pid_max { self.new.pid_max ≡ self.old.pid_max }
     {
         fall_all(&mut self.spaces, space);
     }
@@ -309,6 +314,7 @@ impl Numbers {
         ensures here { (u : Identifier) → identifier_at self.old ident ≡ Some u → identifier_at self.new ident ≡ Some (more kind u) }
         ensures others { (j : ℕ) → j ≢ ident → identifier_at self.new j ≡ identifier_at self.old j }
         ensures namespaces { self.new.namespaces ≡ self.old.namespaces }
+        ensures pid_max { self.new.pid_max ≡ self.old.pid_max }
     {
         let had = has_use(&self.idents, ident, kind);
         more_use(&mut self.idents, ident, kind);
@@ -326,6 +332,7 @@ impl Numbers {
         ensures here { (u : Identifier) → identifier_at self.old ident ≡ Some u → identifier_at self.new ident ≡ left_of (less kind u) }
         ensures others { (j : ℕ) → j ≢ ident → identifier_at self.new j ≡ identifier_at self.old j }
         ensures namespaces { (s : ℕ) → namespace_at self.new s ≡ swept_at (record self.old { names = self.new.names }) s }
+        ensures pid_max { self.new.pid_max ≡ self.old.pid_max }
     {
         less_use(&mut self.idents, ident, kind);
         if has_use(&self.idents, ident, kind) {

@@ -1,7 +1,6 @@
-use Rattle.std.proofs.Common.{◌≡◌, ◌≢◌, ◌∙◌, sym, ap, refl, subst, ℕ, ◌+◌, ◌<◌, ◌^◌, length, Some, None, true, Option, IsSome, IfSome}
+use Rattle.std.proofs.Common.{◌≡◌, ◌∙◌, sym, ap, refl, subst, ℕ, ◌+◌, ◌<◌, ◌^◌, length, Some, true, IsSome, IfSome}
 use Rattle.index_array.specs.Place.{with_mark}
-use Rattle.pid_types.specs.declared.call.Kind.{Kind}
-use Rattle.pid_numbers.specs.Numbering.{Identifier, identifier_at, more, uses, is_used_as}
+use Rattle.pid_numbers.specs.Numbering.{more, uses, is_used_as}
 use Rattle.pid_numbers.specs.Slabs.{way, entry_on, bound_on, name_at, fell, touched, mark_of}
 use Rattle.pid_numbers.proofs.Views as views
 use Rattle.pid_numbers.proofs.Ties as ties

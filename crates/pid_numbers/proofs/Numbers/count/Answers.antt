@@ -1,4 +1,4 @@
-use Rattle.std.proofs.Common.{◌≡◌, ◌∙◌, sym, ap}
+use Rattle.std.proofs.Common.{◌∙◌, sym, ap}
 use Rattle.std.specs.Option.{option_map_or}
 use Rattle.pid_numbers.specs.Numbering.{uses}
 use Rattle.pid_numbers.proofs.Views as views

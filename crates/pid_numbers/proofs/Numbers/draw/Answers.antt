@@ -1,7 +1,6 @@
 use Rattle.std.proofs.Common.{false, List, ◌≡◌, ◌≢◌, ◌∙◌, sym, ap, subst, refl, arith, ℕ, ◌<◌, length, get_or, find, is_none, Some, None, map, option_map, unwrap_or}
-use Rattle.pid_numbers.specs.Numbering.{Identifier, Numbering, namespace_at, identifier_at, path_at, draw_in, moved, new_identifier}
+use Rattle.pid_numbers.specs.Numbering.{Numbering, namespace_at, identifier_at, path_at, draw_in, moved, new_identifier}
 use Rattle.pid_numbers.specs.Slabs.{numbering_of, namespace_of, identifier_of, way, entry_on, plan_on, bound_on, name_at, namespace_on, fell, touched, given_to, ArePlanned, AreReady, IsDistinct}
-use Rattle.pid_types.specs.Names.{beside}
 use Rattle.pid_numbers.proofs.Views as views
 use Rattle.pid_numbers.proofs.Ties as ties
 use Rattle.pid_numbers.proofs.Sweeps as sweeps

@@ -1,11 +1,10 @@
-use Rattle.std.proofs.Common.{◌≡◌, ◌≢◌, ◌∙◌, ◌∷◌, ◌+◌, ◌-◌, ◌≤◌, sym, ap, subst, refl, arith, ℕ, ◌<◌, List, length, get_or, take, drop, find, is_none, Some, None, Option, true, false, map, option_map, option_and_then, unwrap_or, [], Bool}
+use Rattle.std.proofs.Common.{◌≡◌, ◌≢◌, ◌∙◌, ◌∷◌, ◌-◌, sym, ap, subst, refl, arith, ℕ, ◌<◌, List, length, get_or, take, drop, find, is_none, Some, None, Option, true, false, map, option_map, option_and_then, unwrap_or, []}
 use Rattle.std.specs.Option.{option_map_or}
-use Rattle.slab.specs.Slab.{Slab, get}
+use Rattle.slab.specs.Slab.{get}
 use Rattle.index_array.specs.Place.{entry_at}
-use Rattle.pid_types.specs.Bounds.{deepest_space}
 use Rattle.pid_numbers.specs.declared.spaces.Space.{Space}
-use Rattle.pid_numbers.specs.Numbering.{Identifier, Namespace, Numbering, namespace_at, identifier_at, path_at, draw_in, moved, new_identifier}
-use Rattle.pid_numbers.specs.Slabs.{numbering_of, namespaces_of, namespace_of, identifier_of, way, entry_on, plan_on, bound_on, name_at, namespace_on, fell, touched, given_to, ArePlanned, AreReady, IsDistinct}
+use Rattle.pid_numbers.specs.Numbering.{Numbering, namespace_at, identifier_at, path_at, draw_in, moved, new_identifier}
+use Rattle.pid_numbers.specs.Slabs.{numbering_of, namespace_of, identifier_of, way, entry_on, bound_on, name_at, namespace_on, fell, ArePlanned}
 use Rattle.pid_numbers.proofs.Views as views
 use Rattle.pid_numbers.proofs.Ties as ties
 use Rattle.pid_numbers.proofs.Sweeps as sweeps

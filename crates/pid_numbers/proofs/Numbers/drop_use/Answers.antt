@@ -1,9 +1,7 @@
-use Rattle.std.proofs.Common.{◌≡◌, ◌≢◌, ◌∙◌, sym, ap, refl, subst, ℕ, ◌-◌, length, Some, None, true, false, Option, IsSome, IfSome, map, option_map, unwrap_or, if◌then◌else◌}
-use Rattle.std.specs.Option.{option_map_or}
+use Rattle.std.proofs.Common.{◌≡◌, ◌∙◌, sym, ap, refl, subst, ℕ, ◌-◌, length, Some, None, true, false, IfSome, map, option_map, if◌then◌else◌}
 use Rattle.index_array.specs.Place.{with_mark}
-use Rattle.pid_numbers.specs.Numbering.{Identifier, Numbering, identifier_at, less, left_of, uses, is_used, is_used_as, swept_at}
+use Rattle.pid_numbers.specs.Numbering.{less, uses, is_used, is_used_as, swept_at}
 use Rattle.pid_numbers.specs.Slabs.{leads, namespace_of, identifier_of, way, entry_on, bound_on, name_at, fell, touched, mark_of}
-use Rattle.pid_types.specs.Chains.{contains}
 use Rattle.pid_numbers.proofs.Views as views
 use Rattle.pid_numbers.proofs.Ties as ties
 use Rattle.pid_numbers.proofs.Sweeps as sweeps

@@ -1,10 +1,10 @@
-use Rattle.std.proofs.Common.{[], ◌≡◌, ◌∙◌, sym, ap, subst, ℕ, ◌<◌, Bool, true, false, ◌||◌, length, Option, Some, None, option_map, refl}
+use Rattle.std.proofs.Common.{[], ◌≡◌, ◌∙◌, sym, ap, subst, ℕ, ◌<◌, false, ◌||◌, length, Option, Some, None, option_map, refl}
 use Rattle.std.specs.Option.{option_map_or}
 use Rattle.pid_types.specs.Chains.{contains}
 use Rattle.slab.specs.Slab.{get}
 use Rattle.pid_numbers.specs.declared.spaces.Space.{Space}
 use Rattle.pid_numbers.specs.Numbering.{namespace_at, path_at, taken_in, fallen_within}
-use Rattle.pid_numbers.specs.Slabs.{numbering_of, namespace_of, namespace_on, way, entry_on, bound_on, name_at, fell}
+use Rattle.pid_numbers.specs.Slabs.{namespace_of, way, entry_on, bound_on, name_at, fell}
 use Rattle.pid_numbers.proofs.Views as views
 use Rattle.pid_numbers.proofs.Ties as ties
 use Rattle.pid_numbers.proofs.Sweeps as sweeps

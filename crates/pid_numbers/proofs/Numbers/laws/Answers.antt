@@ -1,10 +1,15 @@
-use Rattle.std.proofs.Common.{◌≡◌, ◌∙◌, sym, ap, subst, ℕ, ◌<◌, ◌≤◌, List, length, get_or, drop, Option, Some, true, false, unwrap_or}
+use Rattle.std.proofs.Common.{◌⊎◌, inl, inr, [], ◌∷◌, arith, ◌≡◌, ◌∙◌, sym, ap, subst, ℕ, ◌<◌, ◌≤◌, List, length, get_or, drop, Some, false, unwrap_or}
 use Rattle.std.specs.Option.{option_map_or}
-use Rattle.pid_numbers.specs.Numbering.{Identifier, number_of, path_at, has_fallen_at}
+use Rattle.pid_numbers.specs.Numbering.{number_of, path_at, has_fallen_at}
 use Rattle.pid_numbers.specs.Slabs.{way, entry_on, leads, fell}
 use Rattle.pid_numbers.proofs.Views as views
 use Rattle.pid_numbers.proofs.Ties as ties
 use Rattle.pid_numbers.proofs.Numbers.laws.Goals as goal
+
+-- the first of a path is the namespace itself
+own_first : (s : ℕ) (path : List ℕ) → (path ≡ []) ⊎ ((rest : List ℕ) × (path ≡ s ∷ rest)) → 0 < length path → get_or path 0 0 ≡ s
+own_first s path (inl none) some = absurd (let l = ap length none in omega (arith, l, some))
+own_first s path (inr way) some = ap (λ l. get_or l 0 0) way.1
 
 pub returns : goal.returns
 returns c =
@@ -21,6 +26,8 @@ returns c =
       distinct = λ i j s n x y. ap (λ o. unwrap_or o 0) (sym (led i s n x) ∙ led j s n y);
       range = λ i s n h. (let r = b.range s n i (led i s n h) in (r.0, subst (λ m. n < m) (ap (λ z. z.pid_max) c.self.view_is) r.1));
       full = λ i u h. (let e = sym (views.identifier_is max spaces idents value c.self.view_is i) ∙ h in (b.tied.some i u e, b.tied.full i u e ∙ ap length (sym (path u.space))));
+      root = path 0 ∙ b.tree.root;
+      own = λ s some. ap (λ l. get_or l 0 0) (path s) ∙ own_first s (way spaces s) (b.tree.head s) (subst (λ (l : List ℕ). 0 < length l) (path s) some);
       around = subst (λ (p : ℕ → List ℕ). (s j : ℕ) → j < length (p s) → p (get_or (p s) j 0) ≡ drop j (p s)) (λ i s. sym (path s) i) (λ s j lt. ties.at-path (way spaces) (way spaces s) (b.tree.paths s) j lt);
       few = λ s. subst (λ (l : List ℕ). length l ≤ 33) (sym (path s)) (b.tree.few s);
       fallen = λ s j lt e.

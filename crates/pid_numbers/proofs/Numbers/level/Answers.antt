@@ -1,4 +1,4 @@
-use Rattle.std.proofs.Common.{◌≡◌, ◌∙◌, ap, arith, length}
+use Rattle.std.proofs.Common.{ap, arith, length}
 use Rattle.pid_numbers.proofs.Views as views
 use Rattle.pid_numbers.proofs.Numbers.level.Goals as goal
 

@@ -1,8 +1,7 @@
-use Rattle.std.proofs.Common.{◌≡◌, ◌∙◌, sym, ap, subst, arith, refl, ℕ, ◌<◌, ◌-◌, List, length, get_or, Option, Some, None, IfSome, true, false, not, unwrap_or, option_map, Bool}
-use Rattle.pid_types.specs.Chains.{contains}
+use Rattle.std.proofs.Common.{◌≡◌, ◌∙◌, sym, ap, subst, arith, refl, ℕ, ◌<◌, ◌-◌, length, get_or, Option, Some, None, IfSome, unwrap_or, option_map}
 use Rattle.pid_types.specs.Names.{beside}
 use Rattle.pid_numbers.specs.Numbering.{Identifier, number_of, number_in}
-use Rattle.pid_numbers.specs.Slabs.{way, entry_on, name_at}
+use Rattle.pid_numbers.specs.Slabs.{way, name_at}
 use Rattle.pid_numbers.proofs.Views as views
 use Rattle.pid_numbers.proofs.Sweeps as sweeps
 use Rattle.pid_numbers.proofs.Numbers.number_in.Goals as goal

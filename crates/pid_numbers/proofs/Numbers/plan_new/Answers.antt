@@ -1,7 +1,7 @@
-use Rattle.std.proofs.Common.{◌≡◌, ◌≤◌, ◌∷◌, ◌∙◌, sym, ap, subst, arith, ℕ, length, find, is_none, None, map, unwrap_or, Some}
+use Rattle.std.proofs.Common.{◌≡◌, ◌≤◌, ◌∷◌, ◌∙◌, sym, ap, subst, arith, length, find, is_none, None, map, unwrap_or, Some}
 use Rattle.pid_types.specs.Bounds.{deepest_space}
-use Rattle.pid_numbers.specs.Numbering.{Numbering, draw_in, path_at}
-use Rattle.pid_numbers.specs.Slabs.{plan_on, numbering_of, way}
+use Rattle.pid_numbers.specs.Numbering.{draw_in, path_at}
+use Rattle.pid_numbers.specs.Slabs.{numbering_of, way}
 use Rattle.pid_numbers.proofs.Views as views
 use Rattle.pid_numbers.proofs.Numbers.plan_new.Goals as goal
 

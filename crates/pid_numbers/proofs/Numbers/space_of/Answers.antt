@@ -1,5 +1,4 @@
-use Rattle.std.proofs.Common.{◌≡◌, ◌∙◌, sym, ap, option_map}
-use Rattle.pid_numbers.specs.Numbering.{is_used_as}
+use Rattle.std.proofs.Common.{◌∙◌, sym, ap, option_map}
 use Rattle.pid_numbers.proofs.Views as views
 use Rattle.pid_numbers.proofs.Numbers.space_of.Goals as goal
 

@@ -1,4 +1,4 @@
-use Rattle.std.proofs.Common.{◌≡◌, ◌∙◌, sym, ap, option_and_then}
+use Rattle.std.proofs.Common.{◌∙◌, ap, option_and_then}
 use Rattle.index_array.specs.Place.{entry_at}
 use Rattle.pid_numbers.proofs.spaces.drop_dead.Goals as goal
 

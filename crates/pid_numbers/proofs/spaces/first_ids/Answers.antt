@@ -1,4 +1,4 @@
-use Rattle.std.proofs.Common.{◌≡◌, ◌≤◌, ◌∙◌, sym, subst, arith}
+use Rattle.std.proofs.Common.{◌∙◌, arith}
 use Rattle.pid_numbers.proofs.Adds as adds
 use Rattle.pid_numbers.proofs.spaces.first_ids.Goals as goal
 

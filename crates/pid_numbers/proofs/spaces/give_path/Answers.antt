@@ -1,4 +1,4 @@
-use Rattle.std.proofs.Common.{refl, ◌≡◌, ◌<◌, length, ◌∙◌, ap, arith, Some, get_or, option_map, option_and_then, false, []}
+use Rattle.std.proofs.Common.{refl, ◌≡◌, ◌<◌, length, ◌∙◌, ap, arith, get_or, option_map, option_and_then, false, []}
 use Rattle.std.specs.Option.{option_map_or}
 use Rattle.cyclic_ids.specs.Ids.{planned}
 use Rattle.index_array.specs.Place.{entry_at, is_prepared}

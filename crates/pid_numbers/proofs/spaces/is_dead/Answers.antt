@@ -1,4 +1,4 @@
-use Rattle.std.proofs.Common.{◌≡◌, ◌∙◌, sym, ap, ◌&&◌, ◌==◌, length}
+use Rattle.std.proofs.Common.{◌∙◌, sym, ap, ◌&&◌, ◌==◌, length}
 use Rattle.index_array.specs.Place.{indexes}
 use Rattle.pid_numbers.proofs.Sweeps as sweeps
 use Rattle.pid_numbers.proofs.spaces.is_dead.Goals as goal

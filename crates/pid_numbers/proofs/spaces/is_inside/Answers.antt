@@ -1,4 +1,4 @@
-use Rattle.std.proofs.Common.{inl, inr, ◌≡◌, ◌∙◌, sym, ap, arith, ◌<◌, ◌≤◌, ◌-◌, length, [], get_or, ◌==◌, List, ℕ}
+use Rattle.std.proofs.Common.{inl, inr, ◌≡◌, ◌∙◌, sym, ap, arith, ◌<◌, ◌-◌, length, [], get_or, ◌==◌}
 use Rattle.std.specs.Option.{option_map_or}
 use Rattle.pid_numbers.specs.Slabs.{way}
 use Rattle.pid_numbers.proofs.Sweeps as sweeps

@@ -1,4 +1,4 @@
-use Rattle.std.proofs.Common.{option_map, ◌≡◌, ◌<◌, length, ◌∙◌, ap, arith, None, get_or, option_and_then}
+use Rattle.std.proofs.Common.{option_map, ◌≡◌, ◌<◌, length, ◌∙◌, ap, arith, get_or, option_and_then}
 use Rattle.index_array.specs.Place.{entry_at, with_mark}
 use Rattle.pid_numbers.specs.Slabs.{bound_on, way, entry_on, mark_of}
 use Rattle.pid_numbers.proofs.Ties as ties

@@ -1,4 +1,4 @@
-use Rattle.std.proofs.Common.{◌≡◌, ℕ, drop, None}
+use Rattle.std.proofs.Common.{◌≡◌, ℕ, drop}
 use Rattle.index_array.specs.Place.{with_mark}
 use Rattle.pid_numbers.specs.Slabs.{way, entry_on, bound_on, namespaces_of, touched, mark_of}
 use Rattle.pid_numbers.proofs.spaces.mark_path.Given as goal

@@ -1,6 +1,6 @@
 use Rattle.std.proofs.Common.{option_map, ◌≡◌, ◌<◌, length, ◌∙◌, ap, arith, None, get_or, option_and_then}
-use Rattle.index_array.specs.Place.{entry_at, with_mark}
-use Rattle.pid_numbers.specs.Slabs.{bound_on, way, entry_on, mark_of}
+use Rattle.index_array.specs.Place.{entry_at}
+use Rattle.pid_numbers.specs.Slabs.{bound_on, way, entry_on}
 use Rattle.pid_numbers.proofs.Ties as ties
 use Rattle.pid_numbers.proofs.spaces.release_path.Goals as goal
 

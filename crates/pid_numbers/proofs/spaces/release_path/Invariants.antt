@@ -1,6 +1,5 @@
 use Rattle.std.proofs.Common.{◌≡◌, ℕ, drop, None}
-use Rattle.index_array.specs.Place.{with_mark}
-use Rattle.pid_numbers.specs.Slabs.{way, entry_on, bound_on, namespaces_of, touched, mark_of}
+use Rattle.pid_numbers.specs.Slabs.{way, entry_on, bound_on, namespaces_of, touched}
 use Rattle.pid_numbers.proofs.spaces.release_path.Given as goal
 
 abbrev pub invariant-loop-k : goal.invariant-loop-k

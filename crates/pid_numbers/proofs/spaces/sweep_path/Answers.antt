@@ -1,7 +1,6 @@
-use Rattle.std.proofs.Common.{◌≡◌, ◌≢◌, ◌∙◌, sym, ap, subst, arith, ℕ, ◌<◌, length, get_or, List, ◌∷◌, ◌+◌, drop, None, if◌then◌else◌}
-use Rattle.slab.specs.Slab.{get}
+use Rattle.std.proofs.Common.{◌≡◌, ◌∙◌, sym, ap, arith, get_or, ◌∷◌, ◌+◌, drop}
 use Rattle.std.proofs.lemmas.List.{drop_more}
-use Rattle.pid_numbers.specs.Slabs.{left_on, dead_on}
+use Rattle.pid_numbers.specs.Slabs.{left_on}
 use Rattle.pid_numbers.proofs.Sweeps as sweeps
 use Rattle.pid_numbers.proofs.spaces.sweep_path.Goals as goal
 
