@@ -79,3 +79,20 @@ fn reaps_zombies(rt: HostRuntime) -> Result<(), Fail> {
     assert_eq!(rt; controls.count(root), 0);
     Ok(())
 }
+
+/// A removed group is found no more, and its zombie counts for the one above.
+#[test]
+fn counts_zombies_of_a_removed_group(rt: HostRuntime) -> Result<(), Fail> {
+    let mut controls = Controls::new(rt.alloc())?;
+    let root = controls.find(0).ok_or("no root")?;
+    assert_eq!(rt; controls.make(root, 1).is_ok(), true);
+    let group = controls.find(1).ok_or("no group")?;
+    controls.charge(group);
+    controls.died(group);
+    let group = controls.find(1).ok_or("no group")?;
+    assert_eq!(rt; controls.remove(group), Ok(()));
+    assert_eq!(rt; controls.find(1), None);
+    let root = controls.find(0).ok_or("no root")?;
+    assert_eq!(rt; controls.count(root), 1);
+    Ok(())
+}
