@@ -249,27 +249,15 @@ impl<T: Drop> IndexArray<T> {
         ensures keeps { KeepsPrepared self.old self.new }
         ensures answer { result ≡ value_at self.old i }
     {
-        self.put(i, Some(v), marks).old
-    }
-
-    /// Writes a value, or none, at an index, with marks. Where no node covers it nothing is written.
-    #[inline(always)]
-    fn put(&mut self, i: u32, value: Option<T>, marks: [bool; 3]) -> Written<T>
-        requires prepared { IsSome value → is_prepared self.old i ≡ true }
-        requires unmarked { IsNone value → marks ≡ false ∷ false ∷ false ∷ [] }
-        ensures writes { WritesEntry self.old self.new i (entry_with value marks) }
-        ensures keeps { KeepsPrepared self.old self.new }
-        ensures answer { result.old ≡ value_at self.old i }
-    {
         match &mut self.root {
             Root::Empty => {
-                drop(value);
-                Written::nothing()
+                drop(v);
+                None
             }
-            Root::Height0(node) => put_in(&mut **node, i, value, marks),
-            Root::Height1(node) => put_in(&mut **node, i, value, marks),
-            Root::Height2(node) => put_in(&mut **node, i, value, marks),
-            Root::Height3(node) => put_in(&mut **node, i, value, marks),
+            Root::Height0(node) => put_in(&mut **node, i, Some(v), marks).old,
+            Root::Height1(node) => put_in(&mut **node, i, Some(v), marks).old,
+            Root::Height2(node) => put_in(&mut **node, i, Some(v), marks).old,
+            Root::Height3(node) => put_in(&mut **node, i, Some(v), marks).old,
         }
     }
 
@@ -303,11 +291,26 @@ impl<T: Drop> IndexArray<T> {
         ensures answer { result ≡ value_at self.old i }
     {
         self.give_back_other(i);
-        let written = self.put(i, None, [false; 3]);
+        let written = self.take(i);
         if written.emptied {
             self.emptied = Some(i);
         }
         written.old
+    }
+
+    /// Takes the value at an index out, with its marks, and leaves each node.
+    #[inline(always)]
+    fn take(&mut self, i: u32) -> Written<T>
+        ensures writes { WritesEntry self.old self.new i None }
+        ensures answer { result.old ≡ value_at self.old i }
+    {
+        match &mut self.root {
+            Root::Empty => Written::nothing(),
+            Root::Height0(node) => put_in(&mut **node, i, None, [false; 3]),
+            Root::Height1(node) => put_in(&mut **node, i, None, [false; 3]),
+            Root::Height2(node) => put_in(&mut **node, i, None, [false; 3]),
+            Root::Height3(node) => put_in(&mut **node, i, None, [false; 3]),
+        }
     }
 
     /// Gives back the leaf that an erase left empty, unless an index is in it.
