@@ -8,9 +8,9 @@
 //! Memory is taken by `prepare` (and by `store`, which calls it) and by nothing else.
 #![tactic(auto)]
 
-ghost use Rattle.std.specs.Prelude.{◌≡◌, ◌≢◌, ℕ, ◌<◌, ◌≤◌, min, Option, Some, None, MatchOption, IsSome, IsNone, IfOk, IfErr, OnOk, OnErr, Err, ◌↔◌, true, false, not, is_some, List, length, ◌*◌, [], ◌∷◌};
+ghost use Rattle.std.specs.Prelude.{◌≡◌, ◌≢◌, ℕ, ◌<◌, ◌≤◌, min, Option, Some, None, MatchOption, IfOk, IfErr, OnOk, OnErr, Err, ◌↔◌, true, false, not, is_some, List, length, ◌*◌};
 ghost use Rattle.std.specs.Option.{option_copied};
-ghost use Rattle.index_array.specs.Place.{Place, bare, place_at, entry_at, is_prepared, value_at, is_marked, entry_with, with_mark, IsLeastIndex, IsFirst, WritesEntry, KeepsEntries, KeepsPrepared};
+ghost use Rattle.index_array.specs.Place.{Place, bare, place_at, entry_at, is_prepared, value_at, is_marked, with_mark, IsLeastIndex, IsFirst, WritesEntry, KeepsEntries, KeepsPrepared};
 ghost use Rattle.index_array.specs.Tree.{IsInLeaf};
 ghost use Rattle.index_array.specs.Words.{IsSought};
 ghost use Rattle.index_array.specs.declared.bits.Sought.{Sought};
@@ -23,9 +23,12 @@ mod levels;
 mod root;
 
 use bits::Sought;
-use block::{Block, Written};
+use block::Block;
 use leaf::Leaf;
-use root::{Root, find_in, give_back_in, grown, leaf_in, planted, prepare_in, put_in, put_mark_in};
+use root::{
+    Root, erase_in, find_in, gap_in, give_back_in, grown, leaf_in, planted, prepare_in,
+    put_mark_in, store_in,
+};
 use std::alloc::{AllocError, Global};
 use std::marker::Model;
 use std::mem;
@@ -254,10 +257,10 @@ impl<T: Drop> IndexArray<T> {
                 drop(v);
                 None
             }
-            Root::Height0(node) => put_in(&mut **node, i, Some(v), marks).old,
-            Root::Height1(node) => put_in(&mut **node, i, Some(v), marks).old,
-            Root::Height2(node) => put_in(&mut **node, i, Some(v), marks).old,
-            Root::Height3(node) => put_in(&mut **node, i, Some(v), marks).old,
+            Root::Height0(node) => store_in(&mut **node, i, v, marks),
+            Root::Height1(node) => store_in(&mut **node, i, v, marks),
+            Root::Height2(node) => store_in(&mut **node, i, v, marks),
+            Root::Height3(node) => store_in(&mut **node, i, v, marks),
         }
     }
 
@@ -291,26 +294,17 @@ impl<T: Drop> IndexArray<T> {
         ensures answer { result ≡ value_at self.old i }
     {
         self.give_back_other(i);
-        let written = self.take(i);
-        if written.emptied {
+        let (old, emptied) = match &mut self.root {
+            Root::Empty => (None, false),
+            Root::Height0(node) => erase_in(&mut **node, i),
+            Root::Height1(node) => erase_in(&mut **node, i),
+            Root::Height2(node) => erase_in(&mut **node, i),
+            Root::Height3(node) => erase_in(&mut **node, i),
+        };
+        if emptied {
             self.emptied = Some(i);
         }
-        written.old
-    }
-
-    /// Takes the value at an index out, with its marks, and leaves each node.
-    #[inline(always)]
-    fn take(&mut self, i: u32) -> Written<T>
-        ensures writes { WritesEntry self.old self.new i None }
-        ensures answer { result.old ≡ value_at self.old i }
-    {
-        match &mut self.root {
-            Root::Empty => Written::nothing(),
-            Root::Height0(node) => put_in(&mut **node, i, None, [false; 3]),
-            Root::Height1(node) => put_in(&mut **node, i, None, [false; 3]),
-            Root::Height2(node) => put_in(&mut **node, i, None, [false; 3]),
-            Root::Height3(node) => put_in(&mut **node, i, None, [false; 3]),
-        }
+        old
     }
 
     /// Gives back the leaf that an erase left empty, unless an index is in it.
@@ -443,9 +437,12 @@ impl<T: Drop> IndexArray<T> {
         ensures absent { is_some (entry_at self.now result) ≡ false }
         ensures least { (k : ℕ) → from ≤ k → k < result → is_some (entry_at self.now k) ≡ true }
     {
-        match self.search(from, Sought::Gap) {
-            Some(gap) => gap,
-            None => from.max(self.span()),
+        match &self.root {
+            Root::Empty => from,
+            Root::Height0(node) => gap_in(&**node, from),
+            Root::Height1(node) => gap_in(&**node, from),
+            Root::Height2(node) => gap_in(&**node, from),
+            Root::Height3(node) => gap_in(&**node, from),
         }
     }
 }
