@@ -24,17 +24,17 @@ use arrayvec::ArrayVec;
 use cyclic_ids::CyclicIds;
 use levels::LevelNumbers;
 use names::{
-    Ident, count_at, has_use, home_of, in_use, less_use, make_room, mark_numbers, more_use,
-    number_at,
+    Ident, count_at, has_use, home_of, in_use, less_use, mark_numbers, more_use, number_at,
 };
 use pid_types::call::Kind;
 pub use plan::PlanFault;
 use plan::with_first;
 use slab::Slab;
+use slab_room::make_room;
 use spaces::{
     Space, add_space, cursor_at, fall_all, fallen_path, first_ids, give_path, has_fallen, id_at,
     is_inside, key_at, levels, look, next_at, path_below, plan_path, prepare_path, release_path,
-    room_for_space, sweep_path,
+    sweep_path,
 };
 use std::alloc::{AllocError, Global};
 use std::marker::Model;
@@ -70,7 +70,7 @@ impl Numbers {
         ensures names { IfOk result (λ r. (i : ℕ) → identifier_at r i ≡ None) }
     {
         let mut spaces = Slab::new(alloc);
-        room_for_space(&mut spaces)?;
+        make_room(&mut spaces)?;
         let mut path = ArrayVec::<u32, 33>::new();
         path.push(0);
         spaces.insert_reserved(Space {

@@ -1,8 +1,7 @@
 //! Identifiers and their uses.
 
-ghost use Rattle.std.specs.Prelude.{◌≡◌, ◌≢◌, ℕ, ◌+◌, ◌<◌, Some, None, IsSome, IfOk, OnOk, IfSome, true, ◌-◌, ◌^◌, length, option_map, slice_index_or};
+ghost use Rattle.std.specs.Prelude.{◌≡◌, ◌≢◌, ℕ, ◌+◌, ◌<◌, Some, IsSome, IfSome, true, ◌^◌, length, option_map, slice_index_or};
 ghost use Rattle.std.specs.Option.{option_map_or};
-ghost use Rattle.slab.specs.Slab.{get, HasRoomFor};
 ghost use Rattle.pid_numbers.specs.Numbering.{Identifier, uses, less, more, is_used, is_used_as};
 ghost use Rattle.pid_numbers.specs.Slabs.{identifier_of, name_at, way, entry_on, touched, mark_of, namespaces_of, bound_on, IsDistinct};
 ghost use Rattle.index_array.specs.Place.{with_mark};
@@ -12,7 +11,6 @@ use crate::levels::LevelNumbers;
 use crate::spaces::{Space, mark_path};
 use pid_types::call::Kind;
 use slab::Slab;
-use std::alloc::AllocError;
 
 /// An identifier, and how many use it as what.
 #[derive(Drop)]
@@ -166,19 +164,4 @@ pub(crate) fn mark_numbers(
         return;
     };
     mark_path(spaces, x.space, &x.numbers, kind, on);
-}
-
-/// Takes the memory for one more identifier, and answers its key.
-pub(crate) fn make_room(idents: &mut Slab<Ident>) -> Result<u32, AllocError>
-    ensures same { idents.new ≡ record idents.old { capacity = idents.new.capacity } }
-    ensures room { OnOk result (HasRoomFor idents.new 1) }
-    ensures key { IfOk result (λ key. key ≡ idents.new.vacant_key) }
-    ensures vacant { IfOk result (λ key. get idents.old key ≡ None) }
-{
-    idents.reserve(1)?;
-    let key = idents.vacant_key();
-    if key >= 1 << 30 {
-        return Err(AllocError);
-    }
-    Ok(key as u32)
 }

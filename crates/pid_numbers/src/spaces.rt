@@ -1,7 +1,7 @@
 //! Namespaces, and walks along their paths.
 
 ghost use Rattle.std.specs.Prelude.{◌≡◌, ◌≢◌, ℕ, ◌+◌, ◌<◌, ◌≤◌, length, map, option_map, Some, None, IsSome, IfOk, IfErr, IfSome, OnOk, OnErr, MatchOption, find, is_none, unwrap_or, slice_index_or, true, false, [], ◌∷◌, ◌&&◌, ◌==◌, if◌then◌else◌, drop};
-ghost use Rattle.slab.specs.Slab.{get, HasRoomFor};
+ghost use Rattle.slab.specs.Slab.{get};
 ghost use Rattle.index_array.specs.Place.{Entry, entry_at, indexes, with_mark, is_marked, IsLeastIndex};
 ghost use Rattle.pid_numbers.specs.Slabs.{way, fell, dead_on, left_on, entry_on, leads, plan_on, touched, given_to, ready, namespaces_of, namespace_on, bound_on, stepped, mark_of, IsTree, IsDistinct, ArePlanned, AreReady};
 ghost use Rattle.pid_numbers.specs.Numbering.{moved, fallen_within};
@@ -13,6 +13,7 @@ use arrayvec::ArrayVec;
 use cyclic_ids::{CyclicIds, GROUP_MARK, SESSION_MARK, TASK_MARK};
 use pid_types::call::Kind;
 use slab::Slab;
+use slab_room::make_room;
 use std::alloc::{AllocError, Global};
 
 /// A namespace, its numbers, and the keys of it and of those around it, innermost first.
@@ -326,21 +327,6 @@ pub(crate) fn sweep_path(spaces: &mut Slab<Space>, path: &ArrayVec<u32, 33>)
     }
 }
 
-/// Takes the memory for one more namespace, and answers its key.
-pub(crate) fn room_for_space(spaces: &mut Slab<Space>) -> Result<u32, AllocError>
-    ensures same { spaces.new ≡ record spaces.old { capacity = spaces.new.capacity } }
-    ensures room { OnOk result (HasRoomFor spaces.new 1) }
-    ensures key { IfOk result (λ key. key ≡ spaces.new.vacant_key) }
-    ensures vacant { IfOk result (λ key. get spaces.old key ≡ None) }
-{
-    spaces.reserve(1)?;
-    let key = spaces.vacant_key();
-    if key >= 1 << 30 {
-        return Err(AllocError);
-    }
-    Ok(key as u32)
-}
-
 /// The path of a new namespace below the parent.
 pub(crate) fn path_below(spaces: &Slab<Space>, key: u32, parent: u32) -> ArrayVec<u32, 33>
     requires { length (way spaces.now parent) < 33 }
@@ -370,7 +356,7 @@ pub(crate) fn add_space(
     ensures others { IfOk result (λ key. (s : ℕ) → s ≢ key → get spaces.new s ≡ get spaces.old s) }
     ensures err { OnErr result (spaces.new.slots ≡ spaces.old.slots) }
 {
-    let key = room_for_space(spaces)?;
+    let key = make_room(spaces)?;
     let path = path_below(spaces, key, parent);
     spaces.insert_reserved(Space {
         id,

@@ -35,7 +35,7 @@ pub invariant_of-self-in_err-prepare_path : goal.invariant_of-self-in_err-prepar
 invariant_of-self-in_err-prepare_path c =
     let e = c.in_err-prepare_path.ensures in
     record {
-      numbering = ties.numbering-same c.self.inside.pid_max (way c.self.inside.spaces) (way c.prepare_path.new.spaces) (entry_on c.self.inside.spaces) (entry_on c.prepare_path.new.spaces) (bound_on c.self.inside.spaces) (bound_on c.prepare_path.new.spaces) (name_at c.self.inside.idents) (name_at c.make_room.new.idents) c.self.invariant.numbering e.way e.bound e.entries
+      numbering = ties.numbering-same c.self.inside.pid_max (way c.self.inside.spaces) (way c.prepare_path.new.spaces) (entry_on c.self.inside.spaces) (entry_on c.prepare_path.new.spaces) (bound_on c.self.inside.spaces) (bound_on c.prepare_path.new.spaces) (name_at c.self.inside.idents) (name_at c.make_room.new.slab) c.self.invariant.numbering e.way e.bound e.entries
           (λ i. ap (λ z. name_at z i) c.in_ok-key.ensures.same);
       fallen = sweeps.fallen-kept (way c.self.inside.spaces) (way c.prepare_path.new.spaces) (entry_on c.self.inside.spaces) (entry_on c.prepare_path.new.spaces) (fell c.self.inside.spaces) (fell c.prepare_path.new.spaces) c.self.invariant.fallen e.way (views.fell-same c.prepare_path.new.spaces c.self.inside.spaces e.namespaces)
           (λ s n i led. (i, ap (option_map (λ e. e.value)) (e.entries s n) ∙ led));

@@ -40,7 +40,7 @@ pub invariant_of-self-in_err-prepare_path : goal.invariant_of-self-in_err-prepar
 invariant_of-self-in_err-prepare_path c =
     let e = c.in_err-prepare_path.ensures in
     record {
-      numbering = ties.numbering-same c.self.inside.pid_max (way c.self.inside.spaces) (way c.prepare_path.new.spaces) (entry_on c.self.inside.spaces) (entry_on c.prepare_path.new.spaces) (bound_on c.self.inside.spaces) (bound_on c.prepare_path.new.spaces) (name_at c.self.inside.idents) (name_at c.make_room.new.idents) c.self.invariant.numbering e.way e.bound e.entries
+      numbering = ties.numbering-same c.self.inside.pid_max (way c.self.inside.spaces) (way c.prepare_path.new.spaces) (entry_on c.self.inside.spaces) (entry_on c.prepare_path.new.spaces) (bound_on c.self.inside.spaces) (bound_on c.prepare_path.new.spaces) (name_at c.self.inside.idents) (name_at c.make_room.new.slab) c.self.invariant.numbering e.way e.bound e.entries
           (λ i. ap (λ z. name_at z i) c.in_ok-ident.ensures.same);
       fallen = sweeps.fallen-kept (way c.self.inside.spaces) (way c.prepare_path.new.spaces) (entry_on c.self.inside.spaces) (entry_on c.prepare_path.new.spaces) (fell c.self.inside.spaces) (fell c.prepare_path.new.spaces) c.self.invariant.fallen e.way (views.fell-same c.prepare_path.new.spaces c.self.inside.spaces e.namespaces)
           (λ s n i led. (i, ap (option_map (λ e. e.value)) (e.entries s n) ∙ led));
@@ -55,7 +55,7 @@ invariant_of-self-in_err-key c =
     let entries : (s n : ℕ) → entry_on new s n ≡ entry_on old s n = λ s n. ap (option_and_then (λ t. entry_at t.ids.places n)) (same s) ∙ e.entries s n in
     let ways : (s : ℕ) → way new s ≡ way old s = λ s. ap (λ o. option_map_or (λ t. t.path.items) o []) (same s) ∙ e.way s in
     record {
-      numbering = ties.numbering-same c.self.inside.pid_max (way old) (way new) (entry_on old) (entry_on new) (bound_on old) (bound_on new) (name_at c.self.inside.idents) (name_at c.make_room.new.idents) c.self.invariant.numbering ways
+      numbering = ties.numbering-same c.self.inside.pid_max (way old) (way new) (entry_on old) (entry_on new) (bound_on old) (bound_on new) (name_at c.self.inside.idents) (name_at c.make_room.new.slab) c.self.invariant.numbering ways
           (λ s. ap (option_map (λ t. t.ids.pid_max)) (same s) ∙ e.bound s) entries (λ i. ap (λ z. name_at z i) c.in_ok-ident.ensures.same);
       fallen = sweeps.fallen-kept (way old) (way new) (entry_on old) (entry_on new) (fell old) (fell new) c.self.invariant.fallen ways
           (views.fell-same new old (ap (map (option_map namespace_of)) c.in_err-key.ensures.err ∙ e.namespaces))
