@@ -54,12 +54,7 @@ pub(crate) fn make_room(
     ensures room { IfOk result (λ key. key < length totals.new.items) }
     ensures lists { IfOk result (λ key. key < length children.new) }
 {
-    nodes.reserve(1)?;
-    let key = nodes.vacant_key();
-    if key >= 1 << 30 {
-        return Err(AllocError);
-    }
-    let key = key as u32;
+    let key = slab_room::make_room(nodes)?;
     grow_totals(totals, key)?;
     grow_children(children, key)?;
     Ok(key)
