@@ -1,6 +1,7 @@
 //! Worked values: numbers on nested levels, their release and their use.
 
-ghost use Rattle.std.specs.Prelude.{◌≡◌, Some, None, IsSome};
+ghost use Rattle.std.specs.Prelude.{◌≡◌, Some, None, IsSome, IfSome};
+ghost use Rattle.rising_ids.specs.Ids.{AreBelow};
 ghost use Rattle.pid_types.specs.Settings.{HasGoodPidMax};
 
 use pid_numbers::{Numbers, PlanFault};
@@ -20,12 +21,26 @@ fn draw(numbers: &mut Numbers, space: u32) -> Option<u32> {
     }
 }
 
+/// An id above those of all namespaces.
+fn next_id(numbers: &Numbers) -> Option<u64>
+    ensures { IfSome result (λ id. AreBelow numbers.now.order id) }
+{
+    let mut next: u64 = 0;
+    for (id, _) in numbers.keys() {
+        if id >= next {
+            next = id.checked_add(1)?;
+        }
+    }
+    Some(next)
+}
+
 /// A new namespace inside the parent with its first identifier, again where there was no memory.
-fn draw_new(numbers: &mut Numbers, parent: u32, id: u64) -> Option<(u32, u32)> {
+fn draw_new(numbers: &mut Numbers, parent: u32) -> Option<(u32, u32)> {
     if numbers.id(parent).is_none() || numbers.is_fallen(parent) {
         return None;
     }
     let planned = numbers.plan_new(parent).ok()?;
+    let id = next_id(numbers)?;
     match numbers.draw_new(parent, id, &planned) {
         Ok(keys) => Some(keys),
         Err(_) => numbers.draw_new(parent, id, &planned).ok(),
@@ -63,7 +78,7 @@ fn numbers_on_two_levels(rt: HostRuntime) -> Result<(), Fail> {
     numbers.laws();
     let init = draw(&mut numbers, 0);
     assert_eq!(rt; numbers.find(0, 1), init);
-    let made = draw_new(&mut numbers, 0, 1);
+    let made = draw_new(&mut numbers, 0);
     assert!(rt; made.is_some());
     if let Some((first, space)) = made {
         let second = draw(&mut numbers, space);
@@ -115,8 +130,8 @@ fn outlives_its_task(rt: HostRuntime) -> Result<(), Fail> {
 fn nests_to_level_32(rt: HostRuntime) -> Result<(), Fail> {
     let mut numbers = table(rt.alloc(), 32768)?;
     let mut inner = 0;
-    for id in 1..33 {
-        let made = draw_new(&mut numbers, inner, id);
+    for _ in 1..33 {
+        let made = draw_new(&mut numbers, inner);
         assert!(rt; made.is_some());
         if let Some((_, space)) = made {
             inner = space;

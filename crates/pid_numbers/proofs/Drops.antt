@@ -134,9 +134,9 @@ module _ (pid_max : ℕ) (spaces spaces1 spaces2 : Slab Space) (names names' : �
   }
 
   -- where the look-ups are those of the identifiers, the dead ones are the model's
-  module _ (idents : Slab Ident) (b' : IsNumbering pid_max (way spaces1) (entry_on spaces1) (bound_on spaces1) (name_at idents)) where
+  module _ (idents : Slab Ident) (order : List (ℕ × ℕ)) (b' : IsNumbering pid_max (way spaces1) (entry_on spaces1) (bound_on spaces1) (name_at idents)) where
     abbrev mid : Numbering
-    mid = numbering_of pid_max spaces1 idents
+    mid = numbering_of pid_max spaces1 idents order
 
     goes_dead : (s : ℕ) (z : Space) → get spaces1 s ≡ Some z → goes list spaces1 s ≡ is_dead mid s (namespace_of z)
     goes_dead s z at = same_dead ∙ dead
@@ -144,7 +144,7 @@ module _ (pid_max : ℕ) (spaces spaces1 spaces2 : Slab Space) (names names' : �
         dead : dead_on spaces1 s ≡ is_dead mid s (namespace_of z)
         dead =
             ap (λ o. option_map_or (λ t. t.fallen && (length (indexes t.ids.places) == 0)) o false) at
-            ∙ ap (λ g. z.fallen && g) (sweeps.empty_same (indexes z.ids.places) (taken_in mid s) (taken_same pid_max spaces1 idents b' s z at))
+            ∙ ap (λ g. z.fallen && g) (sweeps.empty_same (indexes z.ids.places) (taken_in mid s) (taken_same pid_max spaces1 idents order b' s z at))
 
         same_dead : goes list spaces1 s ≡ dead_on spaces1 s
         same_dead = elim (sweeps.cases (dead_on spaces1 s)) [
@@ -174,26 +174,26 @@ module _ (pid_max : ℕ) (spaces spaces1 spaces2 : Slab Space) (names names' : �
             ∙ ap (λ g. if g then None else Some (namespace_of z)) (goes_dead s z at)
 
 -- between two calls none is dead
-pub nothing-dead : (pid_max : ℕ) (spaces : Slab Space) (idents : Slab Ident) → IsWhole pid_max (way spaces) (entry_on spaces) (bound_on spaces) (name_at idents) (fell spaces)
-    → (s : ℕ) → namespace_at (numbering_of pid_max spaces idents) s ≡ swept_at (numbering_of pid_max spaces idents) s
-nothing-dead pid_max spaces idents b s =
+pub nothing-dead : (pid_max : ℕ) (spaces : Slab Space) (idents : Slab Ident) (order : List (ℕ × ℕ)) → IsWhole pid_max (way spaces) (entry_on spaces) (bound_on spaces) (name_at idents) (fell spaces)
+    → (s : ℕ) → namespace_at (numbering_of pid_max spaces idents order) s ≡ swept_at (numbering_of pid_max spaces idents order) s
+nothing-dead pid_max spaces idents order b s =
     get_or-map_option namespace_of spaces.slots s ∙ go (get spaces s) refl
-    ∙ sym (ap (option_and_then (λ t. if is_dead (numbering_of pid_max spaces idents) s t then None else Some t)) (get_or-map_option namespace_of spaces.slots s))
+    ∙ sym (ap (option_and_then (λ t. if is_dead (numbering_of pid_max spaces idents order) s t then None else Some t)) (get_or-map_option namespace_of spaces.slots s))
   where
-    lives : (z : Space) → get spaces s ≡ Some z → is_dead (numbering_of pid_max spaces idents) s (namespace_of z) ≡ false
-    lives z at = elim (sweeps.cases (is_dead (numbering_of pid_max spaces idents) s (namespace_of z))) [
+    lives : (z : Space) → get spaces s ≡ Some z → is_dead (numbering_of pid_max spaces idents order) s (namespace_of z) ≡ false
+    lives z at = elim (sweeps.cases (is_dead (numbering_of pid_max spaces idents order) s (namespace_of z))) [
       | inr e ↦ e
       | inl e ↦
-          let parts = both z.fallen (length (taken_in (numbering_of pid_max spaces idents) s) == 0) e in
+          let parts = both z.fallen (length (taken_in (numbering_of pid_max spaces idents order) s) == 0) e in
           let r = b.fallen.held s (ap (λ o. option_map_or (λ t. t.fallen) (option_map namespace_of o) false) at ∙ parts.0) in
           let x = at_key (entry_on spaces s r.0) r.1 r.2 in
           let here : entry_at z.ids.places r.0 ≡ Some x.0 = sym (ap (option_and_then (λ t. entry_at t.ids.places r.0)) at) ∙ x.1 in
           let on : contains (indexes z.ids.places) r.0 ≡ true = contains_indexes z.ids.places r.0 ∙ ap is_some here in
-          let off : contains (taken_in (numbering_of pid_max spaces idents) s) r.0 ≡ false = sweeps.none_in (taken_in (numbering_of pid_max spaces idents) s) parts.1 r.0 in
-          absurd (let bad : true ≡ false = sym on ∙ taken_same pid_max spaces idents b.numbering s z at r.0 ∙ off in cc)
+          let off : contains (taken_in (numbering_of pid_max spaces idents order) s) r.0 ≡ false = sweeps.none_in (taken_in (numbering_of pid_max spaces idents order) s) parts.1 r.0 in
+          absurd (let bad : true ≡ false = sym on ∙ taken_same pid_max spaces idents order b.numbering s z at r.0 ∙ off in cc)
     ]
 
-    go : (o : Option Space) → get spaces s ≡ o → option_map namespace_of o ≡ option_and_then (λ t. if is_dead (numbering_of pid_max spaces idents) s t then None else Some t) (option_map namespace_of o)
+    go : (o : Option Space) → get spaces s ≡ o → option_map namespace_of o ≡ option_and_then (λ t. if is_dead (numbering_of pid_max spaces idents order) s t then None else Some t) (option_map namespace_of o)
     go None at = refl
     go (Some z) at = sym (ap (λ g. if g then None else Some (namespace_of z)) (lives z at))
 
@@ -209,11 +209,11 @@ few-entries pid_max ways at bound names b s n some = go (at s n) refl
         omega (arith, r, g)
 
 -- the identifier that lost its last use
-pub last_one : (pid_max : ℕ) (spaces : Slab Space) (idents idents1 : Slab Ident) (b : Numbering) → numbering_of pid_max spaces idents ≡ b → (i : ℕ) (kind : Kind) → is_used_as kind (identifier_at b i) ≡ true
+pub last_one : (pid_max : ℕ) (spaces : Slab Space) (idents : Slab Ident) (order : List (ℕ × ℕ)) (idents1 : Slab Ident) (b : Numbering) → numbering_of pid_max spaces idents order ≡ b → (i : ℕ) (kind : Kind) → is_used_as kind (identifier_at b i) ≡ true
     → ((u : Identifier) → name_at idents i ≡ Some u → name_at idents1 i ≡ Some (less kind u)) → (gone : Identifier) → name_at idents1 i ≡ Some gone
     → (v : Identifier) × (name_at idents i ≡ Some v) × (gone.space ≡ v.space) × (gone.numbers ≡ v.numbers)
-last_one pid_max spaces idents idents1 b view i kind used here gone is =
-    let v = views.used kind (name_at idents i) (ap (is_used_as kind) (sym (views.identifier_is pid_max spaces idents b view i)) ∙ used) in
+last_one pid_max spaces idents order idents1 b view i kind used here gone is =
+    let v = views.used kind (name_at idents i) (ap (is_used_as kind) (sym (views.identifier_is pid_max spaces idents order b view i)) ∙ used) in
     let g : gone ≡ less kind v.0 = ap (λ o. option_map_or (λ y. y) o gone) (sym is ∙ here v.0 v.1) in
     (v.0, v.1, ap (λ u. u.space) g ∙ ties.space-kept kind (uses kind v.0 - 1) v.0, ap (λ u. u.numbers) g ∙ ties.numbers-kept kind (uses kind v.0 - 1) v.0)
 
@@ -236,10 +236,10 @@ module _ (pid_max : ℕ) (spaces spaces1 : Slab Space) (names names' : ℕ → O
   off-release s n out = entries s n ∙ ties.touched-miss (way spaces gone.space) gone.numbers (λ _. None) (entry_on spaces) s n (sweeps.off-path s (way spaces gone.space) gone.numbers (gone-len (way spaces) names (leads (entry_on spaces)) b.tied i gone one) out n)
 
 -- a namespace with a number in use holds one that leads to its identifier
-pub taken-held : (pid_max : ℕ) (spaces : Slab Space) (idents : Slab Ident) → IsNumbering pid_max (way spaces) (entry_on spaces) (bound_on spaces) (name_at idents) → (s : ℕ)
-    → 0 < length (taken_in (numbering_of pid_max spaces idents) s) → (n : ℕ) × (i : ℕ) × (leads (entry_on spaces) s n ≡ Some i)
+pub taken-held : (pid_max : ℕ) (spaces : Slab Space) (idents : Slab Ident) (order : List (ℕ × ℕ)) → IsNumbering pid_max (way spaces) (entry_on spaces) (bound_on spaces) (name_at idents) → (s : ℕ)
+    → 0 < length (taken_in (numbering_of pid_max spaces idents order) s) → (n : ℕ) × (i : ℕ) × (leads (entry_on spaces) s n ≡ Some i)
 unfolding taken_in
-taken-held pid_max spaces idents b s some =
-    let r = sweeps.one_in (taken_in (numbering_of pid_max spaces idents) s) (grind (arith, nat_tests, some)) in
-    let x = listed_from (number_in (path_at (numbering_of pid_max spaces idents)) s) (numbering_of pid_max spaces idents).names r.0 r.1 in
-    (r.0, x.0, b.tied.kept s r.0 x.0 (sym (views.number_is pid_max spaces idents x.0 s) ∙ x.1))
+taken-held pid_max spaces idents order b s some =
+    let r = sweeps.one_in (taken_in (numbering_of pid_max spaces idents order) s) (grind (arith, nat_tests, some)) in
+    let x = listed_from (number_in (path_at (numbering_of pid_max spaces idents order)) s) (numbering_of pid_max spaces idents order).names r.0 r.1 in
+    (r.0, x.0, b.tied.kept s r.0 x.0 (sym (views.number_is pid_max spaces idents order x.0 s) ∙ x.1))

@@ -4,4 +4,6 @@ pub mod Views
 pub mod Drops
 pub mod Adds
 pub mod Begins
+pub mod Inwards
+pub mod Orders
 pub mod Model

@@ -1,6 +1,7 @@
 -- What a numbering shows of the slabs.
 use Rattle.std.proofs.Common.{rules, inl, inr, ◌≡◌, ◌≢◌, ℕ, ◌<◌, arith, if◌then◌else◌, Bool, true, false, List, [], length, map, get_or, Option, Some, None, IsSome, IfSome, not, ◌&&◌, ◌==◌, ◌+◌, subst, is_some, is_none, refl, sym, ap, ◌∙◌, option_map, option_and_then, unwrap_or, find}
-use Rattle.std.specs.Prelude.{nat_lt}
+use Rattle.std.specs.Prelude.{nat_lt, reverse}
+use Rattle.pid_types.specs.Names.{beside_from}
 use Rattle.std.specs.Option.{option_map_or}
 use Rattle.std.proofs.lemmas.List.{length-map}
 use Rattle.std.proofs.lemmas.Bool.{cases_lt}
@@ -16,15 +17,15 @@ use Rattle.index_array.proofs.Indexes.{contains_indexes}
 use Rattle.cyclic_ids.proofs.Draws.{cyclic_draw-same}
 use Rattle.pid_numbers.specs.declared.spaces.Space.{Space}
 use Rattle.pid_numbers.specs.declared.names.Ident.{Ident}
-use Rattle.pid_numbers.specs.Numbering.{Numbering, Identifier, Namespace, moved, namespace_at, identifier_at, path_at, number_in, number_of, taken_in, draw_in, is_used_as, is_used, with_uses, uses, more, IsNumberUsedAs, IsNextUsed}
+use Rattle.pid_numbers.specs.Numbering.{Numbering, Identifier, Namespace, moved, levels_of, namespace_at, identifier_at, path_at, number_in, number_of, taken_in, draw_in, is_used_as, is_used, with_uses, uses, more, IsNumberUsedAs, IsNextUsed}
 use Rattle.pid_types.specs.declared.call.Kind.{Kind}
 use Rattle.pid_types.specs.declared.call.Kind.TheVariants.{Task, Group, Session}
 use Rattle.pid_numbers.specs.Slabs.{fell, numbering_of, namespace_of, identifier_of, way, entry_on, leads, plan_on, name_at, namespaces_of, marks_of, mark_of, bound_on, ArePlanned, IsNumbering}
 use Rattle.pid_numbers.proofs.Ties.{at_key, get_or-map_option, listed_from, listed, planned_each}
 
-module _ (pid_max : ℕ) (spaces : Slab Space) (idents : Slab Ident) where
+module _ (pid_max : ℕ) (spaces : Slab Space) (idents : Slab Ident) (order : List (ℕ × ℕ)) where
   abbrev numbering : Numbering
-  numbering = numbering_of pid_max spaces idents
+  numbering = numbering_of pid_max spaces idents order
 
   pub path_is : (s : ℕ) → path_at numbering s ≡ way spaces s
   path_is s = ap (λ o. option_map_or (λ t. t.path) o []) (get_or-map_option namespace_of spaces.slots s) ∙ go (get spaces s)
@@ -130,16 +131,16 @@ pub namespaces-same : (spaces : Slab Space) (key : ℕ) (z y : Space) → Some z
 namespaces-same spaces key z y at same = map-set_same (option_map namespace_of) spaces.slots key (Some y) None (ap Some same ∙ ap (option_map namespace_of) at)
 
 -- a namespace that is there has a path
-pub there : (pid_max : ℕ) (spaces : Slab Space) (idents : Slab Ident) → IsNumbering pid_max (way spaces) (entry_on spaces) (bound_on spaces) (name_at idents) → (b : Numbering) → numbering_of pid_max spaces idents ≡ b → (s : ℕ) → IsSome (namespace_at b s) → 0 < length (way spaces s)
-there pid_max spaces idents inv b view s some = go (get spaces s) refl (subst IsSome (ap (λ z. namespace_at z s) (sym view) ∙ get_or-map_option namespace_of spaces.slots s) some)
+pub there : (pid_max : ℕ) (spaces : Slab Space) (idents : Slab Ident) (order : List (ℕ × ℕ)) → IsNumbering pid_max (way spaces) (entry_on spaces) (bound_on spaces) (name_at idents) → (b : Numbering) → numbering_of pid_max spaces idents order ≡ b → (s : ℕ) → IsSome (namespace_at b s) → 0 < length (way spaces s)
+there pid_max spaces idents order inv b view s some = go (get spaces s) refl (subst IsSome (ap (λ z. namespace_at z s) (sym view) ∙ get_or-map_option namespace_of spaces.slots s) some)
   where
     go : (o : Option Space) → get spaces s ≡ o → IsSome (option_map namespace_of o) → 0 < length (way spaces s)
     go None is h = absurd (search rules)
     go (Some z) is h = (inv.bounds s z.ids.pid_max (ap (option_map (λ t. t.ids.pid_max)) is)).1
 
 -- the identifier with a key is that of the slab
-pub identifier_is : (pid_max : ℕ) (spaces : Slab Space) (idents : Slab Ident) (b : Numbering) → numbering_of pid_max spaces idents ≡ b → (k : ℕ) → identifier_at b k ≡ name_at idents k
-identifier_is pid_max spaces idents b view k = ap (λ z. identifier_at z k) (sym view) ∙ name_is pid_max spaces idents k
+pub identifier_is : (pid_max : ℕ) (spaces : Slab Space) (idents : Slab Ident) (order : List (ℕ × ℕ)) (b : Numbering) → numbering_of pid_max spaces idents order ≡ b → (k : ℕ) → identifier_at b k ≡ name_at idents k
+identifier_is pid_max spaces idents order b view k = ap (λ z. identifier_at z k) (sym view) ∙ name_is pid_max spaces idents order k
 
 -- an identifier that is there
 pub held : (o : Option Identifier) → IsSome o → (v : Identifier) × (o ≡ Some v)
@@ -193,9 +194,9 @@ get_mark Task o = refl
 get_mark Group o = refl
 get_mark Session o = refl
 
-module _ (pid_max : ℕ) (spaces : Slab Space) (idents : Slab Ident) (b : IsNumbering pid_max (way spaces) (entry_on spaces) (bound_on spaces) (name_at idents)) (kind : Kind) (s : ℕ) where
+module _ (pid_max : ℕ) (spaces : Slab Space) (idents : Slab Ident) (order : List (ℕ × ℕ)) (b : IsNumbering pid_max (way spaces) (entry_on spaces) (bound_on spaces) (name_at idents)) (kind : Kind) (s : ℕ) where
   abbrev whole : Numbering
-  whole = numbering_of pid_max spaces idents
+  whole = numbering_of pid_max spaces idents order
 
   -- a number with the mark of a kind is used so
   marked_used : (n : ℕ) → is_marked (mark_of kind) (entry_on spaces s n) ≡ true → IsNumberUsedAs whole kind s n
@@ -207,21 +208,21 @@ module _ (pid_max : ℕ) (spaces : Slab Space) (idents : Slab Ident) (b : IsNumb
           let led : leads (entry_on spaces) s n ≡ Some e.value = ap (option_map (λ e. e.value)) is in
           record {
             key = e.value;
-            has = one_found pid_max spaces idents b s n e.value led;
-            used = ap (is_used_as kind) (name_is pid_max spaces idents e.value) ∙ sym (ap (λ l. get_or l (mark_of kind) false) (b.marks s n e is) ∙ get_mark kind (name_at idents e.value)) ∙ h;
+            has = one_found pid_max spaces idents order b s n e.value led;
+            used = ap (is_used_as kind) (name_is pid_max spaces idents order e.value) ∙ sym (ap (λ l. get_or l (mark_of kind) false) (b.marks s n e is) ∙ get_mark kind (name_at idents e.value)) ∙ h;
           }
 
   -- and the other way round
   used_marked : (n : ℕ) → IsNumberUsedAs whole kind s n → is_marked (mark_of kind) (entry_on spaces s n) ≡ true
   used_marked n u =
-      let led : leads (entry_on spaces) s n ≡ Some u.key = b.tied.kept s n u.key (sym (number_is pid_max spaces idents u.key s) ∙ u.has) in
+      let led : leads (entry_on spaces) s n ≡ Some u.key = b.tied.kept s n u.key (sym (number_is pid_max spaces idents order u.key s) ∙ u.has) in
       let r = at_key (entry_on spaces s n) u.key led in
       ap (is_marked (mark_of kind)) r.1 ∙ ap (λ l. get_or l (mark_of kind) false) (b.marks s n r.0 r.1) ∙ get_mark kind (name_at idents r.0.value)
-      ∙ ap (λ k. is_used_as kind (name_at idents k)) r.2 ∙ sym (ap (is_used_as kind) (name_is pid_max spaces idents u.key)) ∙ u.used
+      ∙ ap (λ k. is_used_as kind (name_at idents k)) r.2 ∙ sym (ap (is_used_as kind) (name_is pid_max spaces idents order u.key)) ∙ u.used
 
   below_end : (n : ℕ) → IsNumberUsedAs whole kind s n → n < 16777216
   below_end n u =
-      let led : leads (entry_on spaces) s n ≡ Some u.key = b.tied.kept s n u.key (sym (number_is pid_max spaces idents u.key s) ∙ u.has) in
+      let led : leads (entry_on spaces) s n ≡ Some u.key = b.tied.kept s n u.key (sym (number_is pid_max spaces idents order u.key s) ∙ u.has) in
       let r = (b.range s n u.key led).1 in
       let g = b.good.1 in
       omega (arith, r, g)
@@ -248,9 +249,22 @@ fell-moved path numbers s None = refl
 fell-moved path numbers s (Some t) = refl
 
 -- a namespace with a key is that of the slab
-pub namespace_is : (pid_max : ℕ) (spaces : Slab Space) (idents : Slab Ident) (b : Numbering) → numbering_of pid_max spaces idents ≡ b → (s : ℕ) → namespace_at b s ≡ option_map namespace_of (get spaces s)
-namespace_is pid_max spaces idents b view s = ap (λ z. namespace_at z s) (sym view) ∙ get_or-map_option namespace_of spaces.slots s
+pub namespace_is : (pid_max : ℕ) (spaces : Slab Space) (idents : Slab Ident) (order : List (ℕ × ℕ)) (b : Numbering) → numbering_of pid_max spaces idents order ≡ b → (s : ℕ) → namespace_at b s ≡ option_map namespace_of (get spaces s)
+namespace_is pid_max spaces idents order b view s = ap (λ z. namespace_at z s) (sym view) ∙ get_or-map_option namespace_of spaces.slots s
 
 -- and its path
-pub path-of : (pid_max : ℕ) (spaces : Slab Space) (idents : Slab Ident) (b : Numbering) → numbering_of pid_max spaces idents ≡ b → (s : ℕ) → path_at b s ≡ way spaces s
-path-of pid_max spaces idents b view s = ap (λ z. path_at z s) (sym view) ∙ path_is pid_max spaces idents s
+pub path-of : (pid_max : ℕ) (spaces : Slab Space) (idents : Slab Ident) (order : List (ℕ × ℕ)) (b : Numbering) → numbering_of pid_max spaces idents order ≡ b → (s : ℕ) → path_at b s ≡ way spaces s
+path-of pid_max spaces idents order b view s = ap (λ z. path_at z s) (sym view) ∙ path_is pid_max spaces idents order s
+
+-- the identifier whose namespace was found
+pub home : (o : Option Identifier) (own : ℕ) → Some own ≡ option_map (λ (u : Identifier). u.space) o → (u : Identifier) × (o ≡ Some u) × (u.space ≡ own)
+home None own e = absurd (cc)
+home (Some u) own e = (u, refl, ap (λ o. unwrap_or o 0) (sym e))
+
+-- its numbers from a namespace inwards
+pub levels-of : (pid_max : ℕ) (spaces : Slab Space) (idents : Slab Ident) (order : List (ℕ × ℕ)) (b : Numbering) → numbering_of pid_max spaces idents order ≡ b → (i s own : ℕ) (u : Identifier) → name_at idents i ≡ Some u → u.space ≡ own
+    → levels_of b i s ≡ beside_from s (reverse (way spaces own)) (reverse u.numbers)
+levels-of pid_max spaces idents order b view i s own u is at =
+    ap (λ z. levels_of z i s) (sym view)
+    ∙ ap (λ o. option_map_or (λ v. beside_from s (reverse (path_at (numbering_of pid_max spaces idents order) v.space)) (reverse v.numbers)) o []) (name_is pid_max spaces idents order i ∙ is)
+    ∙ ap (λ p. beside_from s (reverse p) (reverse u.numbers)) (path_is pid_max spaces idents order u.space ∙ ap (way spaces) at)

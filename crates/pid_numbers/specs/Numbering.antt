@@ -1,11 +1,11 @@
 -- What a contract sees of `Numbers`: the namespaces and the identifiers by key.
-use Rattle.std.specs.Prelude.{◌≡◌, ◌-◌, ℕ, ◌+◌, ◌<◌, ◌≤◌, ◌==◌, ◌&&◌, ◌||◌, Bool, true, false, List, [], length, filter_map, Option, Some, None, option_and_then, not, if◌then◌else◌, slice_index_or, MatchOption, find, is_none}
+use Rattle.std.specs.Prelude.{◌≡◌, ◌-◌, ℕ, ◌+◌, ◌<◌, ◌≤◌, ◌==◌, ◌&&◌, ◌||◌, Bool, true, false, List, [], length, reverse, filter_map, Option, Some, None, option_map, option_and_then, is_some, not, if◌then◌else◌, slice_index_or, MatchOption, find, is_none}
 use Rattle.std.specs.Option.{option_map_or}
 use Rattle.pid_types.specs.Bounds.{deepest_space}
 use Rattle.pid_numbers.specs.declared.plan.PlanFault.{PlanFault}
 use Rattle.pid_numbers.specs.declared.plan.PlanFault.TheVariants.{TooDeep, NoNumber}
 use Rattle.pid_types.specs.Chains.{contains}
-use Rattle.pid_types.specs.Names.{beside}
+use Rattle.pid_types.specs.Names.{beside, beside_from}
 use Rattle.pid_types.specs.Draw.{cyclic_draw}
 use Rattle.pid_types.specs.declared.call.Kind.{Kind}
 use Rattle.pid_types.specs.declared.call.Kind.TheVariants.{Task, Group, Session}
@@ -25,15 +25,24 @@ pub record Identifier : Type 0 where
   pub groups : ℕ
   pub sessions : ℕ
 
--- the bound of all numbers, and the namespaces and the identifiers by key
+-- the bound of all numbers, the namespaces and the identifiers by key, and the namespaces in the order of their ids, each id with its key
 pub record Numbering : Type 0 where
   pub pid_max : ℕ
   pub namespaces : List (Option Namespace)
   pub names : List (Option Identifier)
+  pub order : List (ℕ × ℕ)
 
 -- the namespace with the key
 abbrev pub namespace_at : Numbering → ℕ → Option Namespace
 namespace_at b s = slice_index_or b.namespaces s None
+
+-- whether there is a namespace with the key
+abbrev pub is_there : Numbering → ℕ → Bool
+is_there b s = is_some (namespace_at b s)
+
+-- the id of the namespace with the key
+abbrev pub id_at : Numbering → ℕ → Option ℕ
+id_at b s = option_map (λ t. t.id) (namespace_at b s)
 
 -- the identifier with the key
 abbrev pub identifier_at : Numbering → ℕ → Option Identifier
@@ -54,6 +63,10 @@ number_in ways s o = option_and_then (λ u. beside s (ways u.space) u.numbers) o
 -- the number in a namespace of the identifier with the key
 abbrev pub number_of : Numbering → ℕ → ℕ → Option ℕ
 number_of b i s = number_in (path_at b) s (identifier_at b i)
+
+-- the numbers of the identifier with the key from the namespace inwards, outermost first: NSpid of proc_pid_status(5)
+abbrev pub levels_of : Numbering → ℕ → ℕ → List ℕ
+levels_of b i s = option_map_or (λ u. beside_from s (reverse (path_at b u.space)) (reverse u.numbers)) (identifier_at b i) []
 
 -- the numbers in use in the namespace
 unfoldable pub taken_in : Numbering → ℕ → List ℕ

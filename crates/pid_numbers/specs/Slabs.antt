@@ -1,7 +1,9 @@
 -- The slabs of namespaces and identifiers, and what ties them.
 use Rattle.std.specs.Prelude.{◌≡◌, ◌≢◌, ◌⊎◌, ℕ, ◌+◌, ◌<◌, ◌≤◌, ◌==◌, ◌&&◌, Bool, true, false, List, [], ◌∷◌, length, map, Option, Some, None, option_map, option_and_then, if◌then◌else◌, slice_index_or}
 use Rattle.std.specs.Option.{option_map_or, option_eq}
+use Rattle.std.specs.List.{AllByRecursion}
 use Rattle.slab.specs.Slab.{Slab, get}
+use Rattle.rising_ids.specs.Ids.{key_of}
 use Rattle.index_array.specs.Place.{Entry, entry_at, is_prepared, indexes}
 use Rattle.cyclic_ids.specs.Ids.{planned}
 use Rattle.pid_types.specs.Chains.{contains}
@@ -22,8 +24,8 @@ identifier_of x = record { space = x.space; numbers = x.numbers; tasks = x.tasks
 abbrev pub namespaces_of : Slab Space → List (Option Namespace)
 namespaces_of spaces = map (option_map namespace_of) spaces.slots
 
-abbrev pub numbering_of : ℕ → Slab Space → Slab Ident → Numbering
-numbering_of pid_max spaces idents = record { pid_max = pid_max; namespaces = namespaces_of spaces; names = map (option_map identifier_of) idents.slots }
+abbrev pub numbering_of : ℕ → Slab Space → Slab Ident → List (ℕ × ℕ) → Numbering
+numbering_of pid_max spaces idents order = record { pid_max = pid_max; namespaces = namespaces_of spaces; names = map (option_map identifier_of) idents.slots; order = order }
 
 abbrev pub namespace_on : Slab Space → ℕ → Option Namespace
 namespace_on spaces s = option_map namespace_of (get spaces s)
@@ -108,10 +110,24 @@ pub record AreFallen (ways : ℕ → List ℕ) (at : ℕ → ℕ → Option (Ent
   pub inner : (t j : ℕ) → j < length (ways t) → fell (slice_index_or (ways t) j 0) ≡ true → fell t ≡ true
   pub held : (s : ℕ) → fell s ≡ true → (n : ℕ) × (i : ℕ) × (leads at s n ≡ Some i)
 
--- all of that
+-- the numbers, and the namespaces that have fallen
 pub record IsWhole (pid_max : ℕ) (ways : ℕ → List ℕ) (at : ℕ → ℕ → Option (Entry ℕ)) (bound : ℕ → Option ℕ) (names : ℕ → Option Identifier) (fell : ℕ → Bool) : Type 0 where
   pub numbering : IsNumbering pid_max ways at bound names
   pub fallen : AreFallen ways at fell
+
+-- the id of a namespace
+abbrev pub id_on : Slab Space → ℕ → Option ℕ
+id_on spaces s = option_map (λ t. t.id) (namespace_on spaces s)
+
+-- the order has the id and the key of each namespace, and no others
+pub record AreListed (id : ℕ → Option ℕ) (order : List (ℕ × ℕ)) : Type 0 where
+  pub each : AllByRecursion (λ p. id p.1 ≡ Some p.0) order
+  pub listed : (s i : ℕ) → id s ≡ Some i → key_of order i ≡ Some s
+
+-- all of that, and the order
+pub record IsKept (pid_max : ℕ) (spaces : Slab Space) (idents : Slab Ident) (order : List (ℕ × ℕ)) : Type 0 where
+  pub whole : IsWhole pid_max (way spaces) (entry_on spaces) (bound_on spaces) (name_at idents) (fell spaces)
+  pub listed : AreListed (id_on spaces) order
 
 -- whether it has fallen and no number in it is in use
 abbrev pub dead_on : Slab Space → ℕ → Bool

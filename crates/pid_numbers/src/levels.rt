@@ -1,6 +1,6 @@
 //! The numbers of one identifier.
 
-ghost use Rattle.std.specs.Prelude.{◌≡◌, ◌<◌, ◌≤◌, length, IfOk, slice_index_or};
+ghost use Rattle.std.specs.Prelude.{◌≡◌, ◌<◌, ◌≤◌, length, reverse, take, IfOk, slice_index_or};
 
 use arrayvec::ArrayVec;
 use std::alloc::{AllocError, Global};
@@ -46,5 +46,19 @@ impl LevelNumbers {
         } else {
             self.root
         }
+    }
+
+    /// The innermost numbers, so many, the outermost of them first.
+    pub(crate) fn inwards(&self, count: usize) -> ArrayVec<u32, 33>
+        requires there { count ≤ length self.now }
+        requires few { count ≤ 33 }
+        ensures { result.items ≡ reverse (take count self.now) }
+    {
+        let mut numbers = ArrayVec::<u32, 33>::new();
+        for k in 0..count {
+            numbers.push(self.at(k));
+        }
+        numbers.as_mut_slice().reverse();
+        numbers
     }
 }

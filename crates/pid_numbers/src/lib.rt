@@ -8,8 +8,10 @@
 //! an identifier that is gone may be given again.
 #![tactic(auto)]
 
-ghost use Rattle.std.specs.Prelude.{◌≡◌, ◌≢◌, ℕ, ◌+◌, ◌<◌, ◌≤◌, ◌^◌, length, map, Some, None, IsSome, IfOk, IfErr, IfSome, OnOk, OnErr, MatchOption, option_map, find, is_none, unwrap_or, slice_index_or, true, false, [], ◌∷◌, drop, nat_lt, if◌then◌else◌};
-ghost use Rattle.pid_numbers.specs.Numbering.{Identifier, namespace_at, identifier_at, number_of, path_at, draw_in, moved, more, less, left_of, uses, is_used_as, swept_at, new_namespace, new_identifier, fallen_within, taken_in, has_fallen_at, IsNextUsed, IsPlanFault};
+ghost use Rattle.std.specs.Prelude.{◌≡◌, ◌≢◌, ℕ, ◌+◌, ◌<◌, ◌≤◌, ◌^◌, length, map, Some, None, IsSome, IfOk, IfErr, IfSome, OnOk, OnErr, MatchOption, option_map, find, is_none, unwrap_or, slice_index_or, is_some, reverse, true, false, [], ◌∷◌, ◌++◌, drop, nat_lt, if◌then◌else◌};
+ghost use Rattle.std.specs.List.{AllByRecursion, filter};
+ghost use Rattle.rising_ids.specs.Ids.{key_of, AreBelow, AreRising};
+ghost use Rattle.pid_numbers.specs.Numbering.{Identifier, is_there, id_at, namespace_at, identifier_at, number_of, path_at, draw_in, moved, more, less, left_of, uses, is_used_as, swept_at, new_namespace, new_identifier, levels_of, fallen_within, taken_in, has_fallen_at, IsNextUsed, IsPlanFault};
 ghost use Rattle.pid_types.specs.Bounds.{deepest_space};
 ghost use Rattle.pid_types.specs.Chains.{contains};
 ghost use Rattle.std.specs.Option.{option_map_or};
@@ -25,10 +27,13 @@ use cyclic_ids::CyclicIds;
 use levels::LevelNumbers;
 use names::{
     Ident, count_at, has_use, home_of, in_use, less_use, mark_numbers, more_use, number_at,
+    numbers_inwards,
 };
 use pid_types::call::Kind;
+use pid_types::plain::Name;
 pub use plan::PlanFault;
 use plan::with_first;
+use rising_ids::{Iter, RisingIds};
 use slab::Slab;
 use slab_room::make_room;
 use spaces::{
@@ -45,18 +50,19 @@ pub struct Numbers {
     alloc: Global,
     spaces: Slab<Space>,
     idents: Slab<Ident>,
+    order: RisingIds,
     pid_max: u32,
 }
 
 impl Model for Numbers {
     ghost use Rattle.pid_numbers.specs.Numbering.{Numbering};
-    ghost use Rattle.pid_numbers.specs.Slabs.{numbering_of, IsWhole, way, entry_on, bound_on, name_at, fell};
+    ghost use Rattle.pid_numbers.specs.Slabs.{numbering_of, IsKept};
 
     ghost Value = { Numbering };
 
-    ghost view = { λ a. numbering_of a.pid_max a.spaces a.idents };
+    ghost view = { λ a. numbering_of a.pid_max a.spaces a.idents a.order };
 
-    ghost invariant = { λ a. IsWhole a.pid_max (way a.spaces) (entry_on a.spaces) (bound_on a.spaces) (name_at a.idents) (fell a.spaces) };
+    ghost invariant = { λ a. IsKept a.pid_max a.spaces a.idents a.order };
 }
 
 impl Numbers {
@@ -68,7 +74,10 @@ impl Numbers {
         ensures root { IfOk result (λ r. namespace_at r 0 ≡ Some (new_namespace 0 (0 ∷ []))) }
         ensures others { IfOk result (λ r. (s : ℕ) → s ≢ 0 → namespace_at r s ≡ None) }
         ensures names { IfOk result (λ r. (i : ℕ) → identifier_at r i ≡ None) }
+        ensures order { IfOk result (λ r. r.order ≡ (0, 0) ∷ []) }
     {
+        let mut order = RisingIds::new(alloc);
+        order.push(0, 0)?;
         let mut spaces = Slab::new(alloc);
         make_room(&mut spaces)?;
         let mut path = ArrayVec::<u32, 33>::new();
@@ -83,6 +92,7 @@ impl Numbers {
             alloc,
             spaces,
             idents: Slab::new(alloc),
+            order,
             pid_max,
         })
     }
@@ -97,7 +107,8 @@ impl Numbers {
 
     /// What is true of all identifiers and namespaces at any time; the call does nothing. No number of a
     /// namespace names two identifiers, each is above 0 and below `pid_max`, each identifier has one for
-    /// each namespace from its own to the root, which has the key 0, and what is in a fallen namespace has fallen.
+    /// each namespace from its own to the root, which has the key 0, and what is in a fallen namespace has
+    /// fallen. No two namespaces have the same id, and the order has the ids of all of them, rising.
     pub fn laws(&self)
         ensures distinct { (i j s n : ℕ) → number_of self.now i s ≡ Some n → number_of self.now j s ≡ Some n → i ≡ j }
         ensures range { (i s n : ℕ) → number_of self.now i s ≡ Some n → (0 < n) × (n < self.now.pid_max) }
@@ -107,8 +118,26 @@ impl Numbers {
         ensures around { (s j : ℕ) → j < length (path_at self.now s) → path_at self.now (slice_index_or (path_at self.now s) j 0) ≡ drop j (path_at self.now s) }
         ensures few { (s : ℕ) → length (path_at self.now s) ≤ deepest_space + 1 }
         ensures fallen { (s j : ℕ) → j < length (path_at self.now s) → has_fallen_at self.now (slice_index_or (path_at self.now s) j 0) ≡ true → has_fallen_at self.now s ≡ true }
+        ensures ids { (s t i : ℕ) → id_at self.now s ≡ Some i → id_at self.now t ≡ Some i → s ≡ t }
+        ensures listed { (s i : ℕ) → id_at self.now s ≡ Some i → key_of self.now.order i ≡ Some s }
+        ensures each { AllByRecursion (λ p. id_at self.now p.1 ≡ Some p.0) self.now.order }
+        ensures rising { AreRising self.now.order }
     {
-        let _ = &self.spaces;
+        let _ = self.order.iter();
+    }
+
+    /// The namespaces in the order of their ids, each id with its key.
+    pub fn keys(&self) -> Iter<'_>
+        ensures { result ≡ self.now.order }
+    {
+        self.order.iter()
+    }
+
+    /// The key of the namespace with an id. It costs a logarithm of the namespaces.
+    pub fn find_space(&self, id: u64) -> Option<u32>
+        ensures { MatchOption result ((s : ℕ) → id_at self.now s ≢ Some id) (λ s. id_at self.now s ≡ Some id) }
+    {
+        self.order.find(id)
     }
 
     /// The id of the namespace.
@@ -192,6 +221,37 @@ impl Numbers {
         number_at(&self.idents, ident, place)
     }
 
+    /// The identifier's numbers from the namespace inwards, the one there first: `NSpid` of
+    /// `proc_pid_status(5)`. There are none where it is not visible in the namespace.
+    pub fn levels_from(&self, ident: u32, space: u32) -> ArrayVec<u32, 33>
+        ensures { result.items ≡ levels_of self.now ident space }
+    {
+        let Some(own) = home_of(&self.idents, ident) else {
+            return ArrayVec::new();
+        };
+        if !is_inside(&self.spaces, own as usize, space) {
+            return ArrayVec::new();
+        }
+        let above = levels(&self.spaces, own) - levels(&self.spaces, space);
+        numbers_inwards(&self.idents, ident, above + 1)
+    }
+
+    /// The identifier's name: the id of its namespace, and its numbers, the root's first.
+    pub fn name(&self, ident: u32) -> Name
+        requires { IsSome (identifier_at self.now ident) }
+        ensures space { IfSome (identifier_at self.now ident) (λ u. id_at self.now u.space ≡ Some result.space) }
+        ensures numbers { IfSome (identifier_at self.now ident) (λ u. result.numbers.items ≡ reverse u.numbers) }
+    {
+        let Some(own) = home_of(&self.idents, ident) else {
+            unreachable!()
+        };
+        let Some(space) = id_at(&self.spaces, own) else {
+            unreachable!()
+        };
+        let numbers = numbers_inwards(&self.idents, ident, levels(&self.spaces, own));
+        Name { space, numbers }
+    }
+
     /// The least number at or above `from` whose identifier has a use of the kind, in the namespace. It
     /// costs one search in the namespace's tree of numbers.
     pub fn next_used(&self, space: u32, kind: Kind, from: u32) -> Option<u32>
@@ -220,6 +280,7 @@ impl Numbers {
         ensures named { IfOk result (λ i. identifier_at self.new i ≡ Some (new_identifier space numbers.now.items)) }
         ensures others { IfOk result (λ i. (j : ℕ) → j ≢ i → identifier_at self.new j ≡ identifier_at self.old j) }
         ensures namespaces { OnOk result ((s : ℕ) → namespace_at self.new s ≡ option_map (moved (path_at self.old space) numbers.now.items s) (namespace_at self.old s)) }
+        ensures order { self.new.order ≡ self.old.order }
         ensures err { OnErr result (self.new ≡ self.old) }
         ensures pid_max { self.new.pid_max ≡ self.old.pid_max }
     {
@@ -268,6 +329,7 @@ impl Numbers {
     ) -> Result<(u32, u32), AllocError>
         requires stands { option_map_or (λ t. t.fallen) (namespace_at self.old parent) true ≡ false }
         requires shallow { length (path_at self.old parent) ≤ deepest_space }
+        requires above { AreBelow self.old.order id }
         requires all { find (λ s. is_none (draw_in self.old s)) (path_at self.old parent) ≡ None }
         requires planned { numbers.now.items ≡ 1 ∷ map (λ s. unwrap_or (draw_in self.old s) 0) (path_at self.old parent) }
         ensures fresh { IfOk result (λ keys. (identifier_at self.old keys.0 ≡ None) × (namespace_at self.old keys.1 ≡ None)) }
@@ -275,6 +337,7 @@ impl Numbers {
         ensures made { IfOk result (λ keys. namespace_at self.new keys.1 ≡ Some (record (new_namespace id (keys.1 ∷ path_at self.old parent)) { cursor = 2 })) }
         ensures others { IfOk result (λ keys. (j : ℕ) → j ≢ keys.0 → identifier_at self.new j ≡ identifier_at self.old j) }
         ensures namespaces { IfOk result (λ keys. (s : ℕ) → s ≢ keys.1 → namespace_at self.new s ≡ option_map (moved (path_at self.old parent) (drop 1 numbers.now.items) s) (namespace_at self.old s)) }
+        ensures order { IfOk result (λ keys. self.new.order ≡ self.old.order ++ (id, keys.1) ∷ []) }
         ensures err { OnErr result (self.new ≡ self.old) }
         ensures pid_max { self.new.pid_max ≡ self.old.pid_max }
     {
@@ -284,7 +347,7 @@ impl Numbers {
         let numbers = numbers.as_slice();
         let around = &numbers[1..];
         prepare_path(&mut self.spaces, parent, around)?;
-        let key = add_space(&mut self.spaces, parent, id, ids)?;
+        let key = add_space(&mut self.spaces, &mut self.order, parent, id, ids)?;
         give_path(&mut self.spaces, parent, around, ident);
         self.idents.insert_reserved(Ident {
             space: key,
@@ -302,6 +365,7 @@ impl Numbers {
         requires used { (s : ℕ) → contains (path_at self.old s) space ≡ true → 0 < length (taken_in self.old s) }
         ensures names { self.new.names ≡ self.old.names }
         ensures namespaces { (s : ℕ) → namespace_at self.new s ≡ option_map (fallen_within space) (namespace_at self.old s) }
+        ensures order { self.new.order ≡ self.old.order }
         ensures pid_max { self.new.pid_max ≡ self.old.pid_max }
     {
         fall_all(&mut self.spaces, space);
@@ -314,6 +378,7 @@ impl Numbers {
         ensures here { (u : Identifier) → identifier_at self.old ident ≡ Some u → identifier_at self.new ident ≡ Some (more kind u) }
         ensures others { (j : ℕ) → j ≢ ident → identifier_at self.new j ≡ identifier_at self.old j }
         ensures namespaces { self.new.namespaces ≡ self.old.namespaces }
+        ensures order { self.new.order ≡ self.old.order }
         ensures pid_max { self.new.pid_max ≡ self.old.pid_max }
     {
         let had = has_use(&self.idents, ident, kind);
@@ -332,6 +397,7 @@ impl Numbers {
         ensures here { (u : Identifier) → identifier_at self.old ident ≡ Some u → identifier_at self.new ident ≡ left_of (less kind u) }
         ensures others { (j : ℕ) → j ≢ ident → identifier_at self.new j ≡ identifier_at self.old j }
         ensures namespaces { (s : ℕ) → namespace_at self.new s ≡ swept_at (record self.old { names = self.new.names }) s }
+        ensures order { self.new.order ≡ filter (λ p. is_there self.new p.1) self.old.order }
         ensures pid_max { self.new.pid_max ≡ self.old.pid_max }
     {
         less_use(&mut self.idents, ident, kind);
@@ -347,6 +413,6 @@ impl Numbers {
         };
         let path = fallen_path(&self.spaces, gone.space);
         release_path(&mut self.spaces, gone.space, &gone.numbers);
-        sweep_path(&mut self.spaces, &path);
+        sweep_path(&mut self.spaces, &mut self.order, &path);
     }
 }

@@ -1,6 +1,6 @@
 //! Identifiers and their uses.
 
-ghost use Rattle.std.specs.Prelude.{◌≡◌, ◌≢◌, ℕ, ◌+◌, ◌<◌, Some, IsSome, IfSome, true, ◌^◌, length, option_map, slice_index_or};
+ghost use Rattle.std.specs.Prelude.{◌≡◌, ◌≢◌, ℕ, ◌+◌, ◌<◌, ◌≤◌, [], reverse, take, Some, IsSome, IfSome, true, ◌^◌, length, option_map, slice_index_or};
 ghost use Rattle.std.specs.Option.{option_map_or};
 ghost use Rattle.pid_numbers.specs.Numbering.{Identifier, uses, less, more, is_used, is_used_as};
 ghost use Rattle.pid_numbers.specs.Slabs.{identifier_of, name_at, way, entry_on, touched, mark_of, namespaces_of, bound_on, IsDistinct};
@@ -9,6 +9,7 @@ ghost use Rattle.pid_types.specs.declared.call.Kind.{Kind};
 
 use crate::levels::LevelNumbers;
 use crate::spaces::{Space, mark_path};
+use arrayvec::ArrayVec;
 use pid_types::call::Kind;
 use slab::Slab;
 
@@ -87,6 +88,18 @@ pub(crate) fn number_at(idents: &Slab<Ident>, ident: u32, place: usize) -> Optio
     match idents.get(ident as usize) {
         Some(x) => Some(x.numbers.at(place)),
         None => None,
+    }
+}
+
+/// The identifier's innermost numbers, so many, the outermost of them first.
+pub(crate) fn numbers_inwards(idents: &Slab<Ident>, ident: u32, count: usize) -> ArrayVec<u32, 33>
+    requires there { IfSome (name_at idents.now ident) (λ u. count ≤ length u.numbers) }
+    requires few { count ≤ 33 }
+    ensures { result.items ≡ option_map_or (λ u. reverse (take count u.numbers)) (name_at idents.now ident) [] }
+{
+    match idents.get(ident as usize) {
+        Some(x) => x.numbers.inwards(count),
+        None => ArrayVec::new(),
     }
 }
 

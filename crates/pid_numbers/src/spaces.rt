@@ -1,9 +1,11 @@
 //! Namespaces, and walks along their paths.
 
-ghost use Rattle.std.specs.Prelude.{◌≡◌, ◌≢◌, ℕ, ◌+◌, ◌<◌, ◌≤◌, length, map, option_map, Some, None, IsSome, IfOk, IfErr, IfSome, OnOk, OnErr, MatchOption, find, is_none, unwrap_or, slice_index_or, true, false, [], ◌∷◌, ◌&&◌, ◌==◌, if◌then◌else◌, drop};
+ghost use Rattle.std.specs.Prelude.{◌≡◌, ◌≢◌, ℕ, ◌+◌, ◌<◌, ◌≤◌, length, map, option_map, Some, None, IsSome, IfOk, IfErr, IfSome, OnOk, OnErr, MatchOption, find, is_none, is_some, unwrap_or, slice_index_or, true, false, [], ◌∷◌, ◌++◌, ◌&&◌, ◌==◌, if◌then◌else◌, drop};
 ghost use Rattle.slab.specs.Slab.{get};
 ghost use Rattle.index_array.specs.Place.{Entry, entry_at, indexes, with_mark, is_marked, IsLeastIndex};
-ghost use Rattle.pid_numbers.specs.Slabs.{way, fell, dead_on, left_on, entry_on, leads, plan_on, touched, given_to, ready, namespaces_of, namespace_on, bound_on, stepped, mark_of, IsTree, IsDistinct, ArePlanned, AreReady};
+ghost use Rattle.std.specs.List.{filter};
+ghost use Rattle.rising_ids.specs.Ids.{AreBelow};
+ghost use Rattle.pid_numbers.specs.Slabs.{id_on, AreListed, way, fell, dead_on, left_on, entry_on, leads, plan_on, touched, given_to, ready, namespaces_of, namespace_on, bound_on, stepped, mark_of, IsTree, IsDistinct, ArePlanned, AreReady};
 ghost use Rattle.pid_numbers.specs.Numbering.{moved, fallen_within};
 ghost use Rattle.pid_types.specs.Settings.{HasGoodPidMax};
 ghost use Rattle.pid_types.specs.Chains.{contains};
@@ -12,6 +14,7 @@ use crate::levels::LevelNumbers;
 use arrayvec::ArrayVec;
 use cyclic_ids::{CyclicIds, GROUP_MARK, SESSION_MARK, TASK_MARK};
 use pid_types::call::Kind;
+use rising_ids::RisingIds;
 use slab::Slab;
 use slab_room::make_room;
 use std::alloc::{AllocError, Global};
@@ -303,27 +306,35 @@ fn is_dead(space: &Space) -> bool
 }
 
 /// Drops the namespace, where it is dead.
-fn drop_dead(spaces: &mut Slab<Space>, key: u32)
-    requires { (n : ℕ) → entry_on spaces.old key n ≢ None → n < 16777216 }
+fn drop_dead(spaces: &mut Slab<Space>, order: &mut RisingIds, key: u32)
+    requires few { (n : ℕ) → entry_on spaces.old key n ≢ None → n < 16777216 }
+    requires listed { AreListed (id_on spaces.old) order.old }
     ensures here { get spaces.new key ≡ if dead_on spaces.old key then None else get spaces.old key }
     ensures others { (s : ℕ) → s ≢ key → get spaces.new s ≡ get spaces.old s }
+    ensures order { order.new ≡ filter (λ p. is_some (get spaces.new p.1)) order.old }
 {
     let dead = match spaces.get(key as usize) {
         Some(s) => is_dead(s),
         None => false,
     };
-    if dead {
-        let _ = spaces.try_remove(key as usize);
+    if !dead {
+        return;
+    }
+    if let Some(gone) = spaces.try_remove(key as usize) {
+        let _ = order.remove(gone.id);
     }
 }
 
 /// Drops the dead namespaces of the path.
-pub(crate) fn sweep_path(spaces: &mut Slab<Space>, path: &ArrayVec<u32, 33>)
-    requires { (s n : ℕ) → entry_on spaces.old s n ≢ None → n < 16777216 }
-    ensures { (s : ℕ) → get spaces.new s ≡ left_on path.now.items spaces.old s }
+pub(crate) fn sweep_path(spaces: &mut Slab<Space>, order: &mut RisingIds, path: &ArrayVec<u32, 33>)
+    requires few { (s n : ℕ) → entry_on spaces.old s n ≢ None → n < 16777216 }
+    requires listed { AreListed (id_on spaces.old) order.old }
+    ensures left { (s : ℕ) → get spaces.new s ≡ left_on path.now.items spaces.old s }
+    ensures order { order.new ≡ filter (λ p. is_some (get spaces.new p.1)) order.old }
+    ensures listed { AreListed (id_on spaces.new) order.new }
 {
     for k in 0..path.len() {
-        drop_dead(spaces, path[k]);
+        drop_dead(spaces, order, path[k]);
     }
 }
 
@@ -343,20 +354,25 @@ pub(crate) fn path_below(spaces: &Slab<Space>, key: u32, parent: u32) -> ArrayVe
 /// Adds a namespace below the parent, and answers its key. The error is want of memory.
 pub(crate) fn add_space(
     spaces: &mut Slab<Space>,
+    order: &mut RisingIds,
     parent: u32,
     id: u64,
     ids: CyclicIds<u32>,
 ) -> Result<u32, AllocError>
     requires few { length (way spaces.old parent) < 33 }
+    requires above { AreBelow order.old id }
     ensures vacant { IfOk result (λ key. get spaces.old key ≡ None) }
     ensures here { IfOk result (λ key. namespace_on spaces.new key ≡ Some (record { id = id; fallen = false; path = key ∷ way spaces.old parent; cursor = ids.cursor })) }
     ensures entries { IfOk result (λ key. (n : ℕ) → entry_on spaces.new key n ≡ entry_at ids.places n) }
     ensures bound { IfOk result (λ key. bound_on spaces.new key ≡ Some ids.pid_max) }
     ensures way { IfOk result (λ key. way spaces.new key ≡ key ∷ way spaces.old parent) }
     ensures others { IfOk result (λ key. (s : ℕ) → s ≢ key → get spaces.new s ≡ get spaces.old s) }
+    ensures order { IfOk result (λ key. order.new ≡ order.old ++ (id, key) ∷ []) }
     ensures err { OnErr result (spaces.new.slots ≡ spaces.old.slots) }
+    ensures same { OnErr result (order.new ≡ order.old) }
 {
     let key = make_room(spaces)?;
+    order.push(id, key)?;
     let path = path_below(spaces, key, parent);
     spaces.insert_reserved(Space {
         id,

@@ -1,1 +1,2 @@
 pub mod Lives
+pub mod Keys

@@ -1,16 +1,17 @@
 use Rattle.std.proofs.Common.{false, List, ◌≡◌, ◌≢◌, ◌∙◌, sym, ap, subst, refl, arith, ℕ, ◌<◌, length, get_or, find, is_none, Some, None, map, option_map, unwrap_or}
 use Rattle.pid_numbers.specs.Numbering.{Numbering, namespace_at, identifier_at, path_at, draw_in, moved, new_identifier}
-use Rattle.pid_numbers.specs.Slabs.{numbering_of, namespace_of, identifier_of, way, entry_on, plan_on, bound_on, name_at, namespace_on, fell, touched, given_to, ArePlanned, AreReady, IsDistinct}
+use Rattle.pid_numbers.specs.Slabs.{numbering_of, namespace_of, identifier_of, way, entry_on, plan_on, bound_on, name_at, namespace_on, id_on, fell, touched, given_to, ArePlanned, AreReady, IsDistinct}
 use Rattle.pid_numbers.proofs.Views as views
 use Rattle.pid_numbers.proofs.Ties as ties
 use Rattle.pid_numbers.proofs.Sweeps as sweeps
+use Rattle.pid_numbers.proofs.Orders as orders
 use Rattle.std.specs.Option.{option_map_or}
 use Rattle.pid_numbers.proofs.Numbers.draw.Goals as goal
 
 pub from-requires : goal.from-requires
 from-requires c =
-    let r = views.there c.self.inside.pid_max c.self.inside.spaces c.self.inside.idents c.self.invariant.numbering c.args.self.now c.self.view_is c.args.space c.requires.there in
-    let len : length c.args.numbers.now.items ≡ length (way c.self.inside.spaces c.args.space) = views.planned_len c.self.inside.pid_max c.self.inside.spaces c.self.inside.idents c.self.invariant.numbering c.args.space c.args.numbers.now.items
+    let r = views.there c.self.inside.pid_max c.self.inside.spaces c.self.inside.idents c.self.inside.order c.self.invariant.whole.numbering c.args.self.now c.self.view_is c.args.space c.requires.there in
+    let len : length c.args.numbers.now.items ≡ length (way c.self.inside.spaces c.args.space) = views.planned_len c.self.inside.pid_max c.self.inside.spaces c.self.inside.idents c.self.inside.order c.self.invariant.whole.numbering c.args.space c.args.numbers.now.items
     (subst (λ b. c.args.numbers.now.items ≡ map (λ s. unwrap_or (draw_in b s) 0) (path_at b c.args.space)) (sym c.self.view_is) c.requires.planned) in
     omega (arith, r, len)
 
@@ -24,21 +25,24 @@ pub prepare_path-requires : goal.prepare_path-requires
 prepare_path-requires c =
     let spaces = c.self.inside.spaces in
     let numbers = c.args.numbers.now.items in
-    let planned = planned-in (numbering_of c.self.inside.pid_max spaces c.self.inside.idents) c.args.self.now c.self.view_is c.args.space numbers c.requires.planned in
-    let all = all-in (numbering_of c.self.inside.pid_max spaces c.self.inside.idents) c.args.self.now c.self.view_is c.args.space c.requires.all in
+    let planned = planned-in (numbering_of c.self.inside.pid_max spaces c.self.inside.idents c.self.inside.order) c.args.self.now c.self.view_is c.args.space numbers c.requires.planned in
+    let all = all-in (numbering_of c.self.inside.pid_max spaces c.self.inside.idents c.self.inside.order) c.args.self.now c.self.view_is c.args.space c.requires.all in
     record {
-      planned = subst (ArePlanned spaces (way spaces c.args.space)) (sym c.as_slice-numbers.ensures.value) (views.all_planned c.self.inside.pid_max spaces c.self.inside.idents c.self.invariant.numbering c.args.space numbers all planned);
-      len = ap length c.as_slice-numbers.ensures.value ∙ views.planned_len c.self.inside.pid_max spaces c.self.inside.idents c.self.invariant.numbering c.args.space numbers planned;
+      planned = subst (ArePlanned spaces (way spaces c.args.space)) (sym c.as_slice-numbers.ensures.value) (views.all_planned c.self.inside.pid_max spaces c.self.inside.idents c.self.inside.order c.self.invariant.whole.numbering c.args.space numbers all planned);
+      len = ap length c.as_slice-numbers.ensures.value ∙ views.planned_len c.self.inside.pid_max spaces c.self.inside.idents c.self.inside.order c.self.invariant.whole.numbering c.args.space numbers planned;
     }
 
 pub invariant_of-self-in_err-prepare_path : goal.invariant_of-self-in_err-prepare_path
 invariant_of-self-in_err-prepare_path c =
     let e = c.in_err-prepare_path.ensures in
     record {
-      numbering = ties.numbering-same c.self.inside.pid_max (way c.self.inside.spaces) (way c.prepare_path.new.spaces) (entry_on c.self.inside.spaces) (entry_on c.prepare_path.new.spaces) (bound_on c.self.inside.spaces) (bound_on c.prepare_path.new.spaces) (name_at c.self.inside.idents) (name_at c.make_room.new.slab) c.self.invariant.numbering e.way e.bound e.entries
-          (λ i. ap (λ z. name_at z i) c.in_ok-key.ensures.same);
-      fallen = sweeps.fallen-kept (way c.self.inside.spaces) (way c.prepare_path.new.spaces) (entry_on c.self.inside.spaces) (entry_on c.prepare_path.new.spaces) (fell c.self.inside.spaces) (fell c.prepare_path.new.spaces) c.self.invariant.fallen e.way (views.fell-same c.prepare_path.new.spaces c.self.inside.spaces e.namespaces)
-          (λ s n i led. (i, ap (option_map (λ e. e.value)) (e.entries s n) ∙ led));
+      whole = record {
+        numbering = ties.numbering-same c.self.inside.pid_max (way c.self.inside.spaces) (way c.prepare_path.new.spaces) (entry_on c.self.inside.spaces) (entry_on c.prepare_path.new.spaces) (bound_on c.self.inside.spaces) (bound_on c.prepare_path.new.spaces) (name_at c.self.inside.idents) (name_at c.make_room.new.slab) c.self.invariant.whole.numbering e.way e.bound e.entries
+            (λ i. ap (λ z. name_at z i) c.in_ok-key.ensures.same);
+        fallen = sweeps.fallen-kept (way c.self.inside.spaces) (way c.prepare_path.new.spaces) (entry_on c.self.inside.spaces) (entry_on c.prepare_path.new.spaces) (fell c.self.inside.spaces) (fell c.prepare_path.new.spaces) c.self.invariant.whole.fallen e.way (views.fell-same c.prepare_path.new.spaces c.self.inside.spaces e.namespaces)
+            (λ s n i led. (i, ap (option_map (λ e. e.value)) (e.entries s n) ∙ led));
+      };
+      listed = orders.listed-same (id_on c.self.inside.spaces) (id_on c.prepare_path.new.spaces) c.self.inside.order c.self.invariant.listed (orders.ids-same c.prepare_path.new.spaces c.self.inside.spaces e.namespaces);
     }
 
 pub give_path-requires : goal.give_path-requires
@@ -46,12 +50,12 @@ give_path-requires c =
     let spaces = c.self.inside.spaces in
     let numbers = c.args.numbers.now.items in
     let prep = c.in_ok-prepare_path.ensures in
-    let planned = planned-in (numbering_of c.self.inside.pid_max spaces c.self.inside.idents) c.args.self.now c.self.view_is c.args.space numbers c.requires.planned in
-    let all = all-in (numbering_of c.self.inside.pid_max spaces c.self.inside.idents) c.args.self.now c.self.view_is c.args.space c.requires.all in
-    let each : ArePlanned spaces (way spaces c.args.space) numbers = views.all_planned c.self.inside.pid_max spaces c.self.inside.idents c.self.invariant.numbering c.args.space numbers all planned in
-    let len : length numbers ≡ length (way spaces c.args.space) = views.planned_len c.self.inside.pid_max spaces c.self.inside.idents c.self.invariant.numbering c.args.space numbers planned in
+    let planned = planned-in (numbering_of c.self.inside.pid_max spaces c.self.inside.idents c.self.inside.order) c.args.self.now c.self.view_is c.args.space numbers c.requires.planned in
+    let all = all-in (numbering_of c.self.inside.pid_max spaces c.self.inside.idents c.self.inside.order) c.args.self.now c.self.view_is c.args.space c.requires.all in
+    let each : ArePlanned spaces (way spaces c.args.space) numbers = views.all_planned c.self.inside.pid_max spaces c.self.inside.idents c.self.inside.order c.self.invariant.whole.numbering c.args.space numbers all planned in
+    let len : length numbers ≡ length (way spaces c.args.space) = views.planned_len c.self.inside.pid_max spaces c.self.inside.idents c.self.inside.order c.self.invariant.whole.numbering c.args.space numbers planned in
     record {
-      distinct = subst IsDistinct (sym (prep.way c.args.space)) (ties.distinct-path (way spaces) (way spaces c.args.space) (c.self.invariant.numbering.tree.paths c.args.space));
+      distinct = subst IsDistinct (sym (prep.way c.args.space)) (ties.distinct-path (way spaces) (way spaces c.args.space) (c.self.invariant.whole.numbering.tree.paths c.args.space));
       planned = subst (λ p. ArePlanned c.prepare_path.new.spaces p c.as_slice-numbers.result.now) (sym (prep.way c.args.space)) (subst (ArePlanned c.prepare_path.new.spaces (way spaces c.args.space)) (sym c.as_slice-numbers.ensures.value)
           (λ k below. prep.plan (get_or (way spaces c.args.space) k 0) ∙ each k below));
       ready = subst (λ p. AreReady c.prepare_path.new.spaces p c.as_slice-numbers.result.now) (sym (prep.way c.args.space)) prep.ok;
@@ -67,11 +71,11 @@ invariant_of-self-2 c =
     let stored = c.as_slice-numbers.result.now in
     let key = c.in_ok-key.key in
     let prep = c.in_ok-prepare_path.ensures in
-    let is = planned-in (numbering_of c.self.inside.pid_max spaces idents) c.args.self.now c.self.view_is c.args.space numbers c.requires.planned in
-    let all = all-in (numbering_of c.self.inside.pid_max spaces idents) c.args.self.now c.self.view_is c.args.space c.requires.all in
-    let planned : ArePlanned spaces path numbers = views.all_planned c.self.inside.pid_max spaces idents c.self.invariant.numbering c.args.space numbers all is in
-    let len : length numbers ≡ length path = views.planned_len c.self.inside.pid_max spaces idents c.self.invariant.numbering c.args.space numbers is in
-    let some : 0 < length numbers = omega (arith, len, views.there c.self.inside.pid_max spaces idents c.self.invariant.numbering c.args.self.now c.self.view_is c.args.space c.requires.there) in
+    let is = planned-in (numbering_of c.self.inside.pid_max spaces idents c.self.inside.order) c.args.self.now c.self.view_is c.args.space numbers c.requires.planned in
+    let all = all-in (numbering_of c.self.inside.pid_max spaces idents c.self.inside.order) c.args.self.now c.self.view_is c.args.space c.requires.all in
+    let planned : ArePlanned spaces path numbers = views.all_planned c.self.inside.pid_max spaces idents c.self.inside.order c.self.invariant.whole.numbering c.args.space numbers all is in
+    let len : length numbers ≡ length path = views.planned_len c.self.inside.pid_max spaces idents c.self.inside.order c.self.invariant.whole.numbering c.args.space numbers is in
+    let some : 0 < length numbers = omega (arith, len, views.there c.self.inside.pid_max spaces idents c.self.inside.order c.self.invariant.whole.numbering c.args.self.now c.self.view_is c.args.space c.requires.there) in
     let ways : (s : ℕ) → way c.give_path.new.spaces s ≡ way spaces s = λ s. c.give_path.ensures.way s ∙ prep.way s in
     let bounds : (s : ℕ) → bound_on c.give_path.new.spaces s ≡ bound_on spaces s = λ s. c.give_path.ensures.bound s ∙ prep.bound s in
     let key_is : key ≡ c.insert_reserved.result = c.in_ok-key.ensures.key ∙ sym c.insert_reserved.ensures.key in
@@ -84,34 +88,38 @@ invariant_of-self-2 c =
     ∙ ap (λ l. touched path l (λ _. given_to key) (entry_on c.prepare_path.new.spaces) s n) c.as_slice-numbers.ensures.value
     ∙ ap (λ f. touched path numbers (λ _. given_to key) f s n) (λ i s n. prep.entries s n i) in
     record {
-      numbering = ties.numbering-given c.self.inside.pid_max (way spaces) (way c.give_path.new.spaces) (entry_on spaces) (entry_on c.give_path.new.spaces) (bound_on spaces) (bound_on c.give_path.new.spaces) (name_at idents) (name_at c.insert_reserved.new.self) c.self.invariant.numbering ways bounds
-          key (new_identifier c.args.space numbers) others was now len some refl
-          (λ s n hit.
-          let r = ties.beside-some s n path numbers hit in
-          let drawn : plan_on spaces s ≡ Some n = ap (plan_on spaces) (sym r.2) ∙ planned r.0 r.1 ∙ ap Some r.3 in
-          let range = views.plan_in_range c.self.inside.pid_max spaces s n (λ m e. (c.self.invariant.numbering.bounds s m e).0) drawn in
-          (views.plan_free spaces s n drawn, range.0, range.1)) is;
-      fallen = sweeps.fallen-kept (way spaces) (way c.give_path.new.spaces) (entry_on spaces) (entry_on c.give_path.new.spaces) (fell spaces) (fell c.give_path.new.spaces) c.self.invariant.fallen ways
-          (λ s. ap (λ o. option_map_or (λ t. t.fallen) o false) (c.give_path.ensures.namespaces s) ∙ views.fell-moved (way c.prepare_path.new.spaces c.args.space) stored s (namespace_on c.prepare_path.new.spaces s) ∙ views.fell-same c.prepare_path.new.spaces spaces prep.namespaces s)
-          (ties.leads-given path numbers key (entry_on spaces) (entry_on c.give_path.new.spaces) is);
+      whole = record {
+        numbering = ties.numbering-given c.self.inside.pid_max (way spaces) (way c.give_path.new.spaces) (entry_on spaces) (entry_on c.give_path.new.spaces) (bound_on spaces) (bound_on c.give_path.new.spaces) (name_at idents) (name_at c.insert_reserved.new.self) c.self.invariant.whole.numbering ways bounds
+            key (new_identifier c.args.space numbers) others was now len some refl
+            (λ s n hit.
+            let r = ties.beside-some s n path numbers hit in
+            let drawn : plan_on spaces s ≡ Some n = ap (plan_on spaces) (sym r.2) ∙ planned r.0 r.1 ∙ ap Some r.3 in
+            let range = views.plan_in_range c.self.inside.pid_max spaces s n (λ m e. (c.self.invariant.whole.numbering.bounds s m e).0) drawn in
+            (views.plan_free spaces s n drawn, range.0, range.1)) is;
+        fallen = sweeps.fallen-kept (way spaces) (way c.give_path.new.spaces) (entry_on spaces) (entry_on c.give_path.new.spaces) (fell spaces) (fell c.give_path.new.spaces) c.self.invariant.whole.fallen ways
+            (λ s. ap (λ o. option_map_or (λ t. t.fallen) o false) (c.give_path.ensures.namespaces s) ∙ views.fell-moved (way c.prepare_path.new.spaces c.args.space) stored s (namespace_on c.prepare_path.new.spaces s) ∙ views.fell-same c.prepare_path.new.spaces spaces prep.namespaces s)
+            (ties.leads-given path numbers key (entry_on spaces) (entry_on c.give_path.new.spaces) is);
+      };
+      listed = orders.listed-same (id_on spaces) (id_on c.give_path.new.spaces) c.self.inside.order c.self.invariant.listed
+          (λ s. ap (option_map (λ t. t.id)) (c.give_path.ensures.namespaces s) ∙ orders.id-moved (way c.prepare_path.new.spaces c.args.space) stored s (namespace_on c.prepare_path.new.spaces s) ∙ orders.ids-same c.prepare_path.new.spaces spaces prep.namespaces s);
     }
 
 pub returns-clause-others : goal.returns-clause-others
 returns-clause-others c j m =
     let key_is : c.in_ok-key.key ≡ c.insert_reserved.result = c.in_ok-key.ensures.key ∙ sym c.insert_reserved.ensures.key in
-    views.name_is c.self.inside.pid_max c.give_path.new.spaces c.insert_reserved.new.self j
+    views.name_is c.self.inside.pid_max c.give_path.new.spaces c.insert_reserved.new.self c.self.inside.order j
     ∙ ap (option_map identifier_of) (c.insert_reserved.ensures.updates.others j (λ z. m (z ∙ sym key_is))) ∙ ap (λ z. name_at z j) c.in_ok-key.ensures.same
-    ∙ sym (views.name_is c.self.inside.pid_max c.self.inside.spaces c.self.inside.idents j) ∙ ap (λ b. identifier_at b j) c.self.view_is
+    ∙ sym (views.name_is c.self.inside.pid_max c.self.inside.spaces c.self.inside.idents c.self.inside.order j) ∙ ap (λ b. identifier_at b j) c.self.view_is
 
 pub returns-clause-namespaces : goal.returns-clause-namespaces
 returns-clause-namespaces c s =
     let spaces = c.self.inside.spaces in
     let numbers = c.args.numbers.now.items in
     let prep = c.in_ok-prepare_path.ensures in
-    let now : Numbering = numbering_of c.self.inside.pid_max spaces c.self.inside.idents in
+    let now : Numbering = numbering_of c.self.inside.pid_max spaces c.self.inside.idents c.self.inside.order in
     let old : namespace_on c.prepare_path.new.spaces s ≡ namespace_at now s = sym (ties.get_or-map_option namespace_of c.prepare_path.new.spaces.slots s) ∙ ap (λ l. get_or l s None) prep.namespaces in
     ties.get_or-map_option namespace_of c.give_path.new.spaces.slots s ∙ c.give_path.ensures.namespaces s
-    ∙ ap (λ p. option_map (moved p c.as_slice-numbers.result.now s) (namespace_on c.prepare_path.new.spaces s)) (prep.way c.args.space ∙ sym (views.path_is c.self.inside.pid_max spaces c.self.inside.idents c.args.space))
+    ∙ ap (λ p. option_map (moved p c.as_slice-numbers.result.now s) (namespace_on c.prepare_path.new.spaces s)) (prep.way c.args.space ∙ sym (views.path_is c.self.inside.pid_max spaces c.self.inside.idents c.self.inside.order c.args.space))
     ∙ ap (λ l. option_map (moved (path_at now c.args.space) l s) (namespace_on c.prepare_path.new.spaces s)) c.as_slice-numbers.ensures.value
     ∙ ap (option_map (moved (path_at now c.args.space) numbers s)) old
     ∙ ap (λ b. option_map (moved (path_at b c.args.space) numbers s) (namespace_at b s)) c.self.view_is

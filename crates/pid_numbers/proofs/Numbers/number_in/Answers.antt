@@ -1,34 +1,29 @@
-use Rattle.std.proofs.Common.{◌≡◌, ◌∙◌, sym, ap, subst, arith, refl, ℕ, ◌<◌, ◌-◌, length, get_or, Option, Some, None, IfSome, unwrap_or, option_map}
+use Rattle.std.proofs.Common.{◌≡◌, ◌∙◌, sym, ap, subst, arith, ◌<◌, ◌-◌, length, get_or, IfSome, option_map}
 use Rattle.pid_types.specs.Names.{beside}
-use Rattle.pid_numbers.specs.Numbering.{Identifier, number_of, number_in}
+use Rattle.pid_numbers.specs.Numbering.{number_of, number_in}
 use Rattle.pid_numbers.specs.Slabs.{way, name_at}
 use Rattle.pid_numbers.proofs.Views as views
 use Rattle.pid_numbers.proofs.Sweeps as sweeps
 use Rattle.pid_numbers.proofs.Numbers.number_in.Goals as goal
 
--- the identifier whose namespace was found
-home : (o : Option Identifier) (own : ℕ) → Some own ≡ option_map (λ (u : Identifier). u.space) o → (u : Identifier) × (o ≡ Some u) × (u.space ≡ own)
-home None own e = absurd (cc)
-home (Some u) own e = (u, refl, ap (λ o. unwrap_or o 0) (sym e))
-
 pub is_inside-requires : goal.is_inside-requires
-is_inside-requires c = c.self.invariant.numbering.tree
+is_inside-requires c = c.self.invariant.whole.numbering.tree
 
 pub returns-then-not-is_inside : goal.returns-then-not-is_inside
 returns-then-not-is_inside c =
     let max = c.self.inside.pid_max in
     let spaces = c.self.inside.spaces in
     let idents = c.self.inside.idents in
-    let b = c.self.invariant.numbering in
-    let h = home (name_at idents c.args.ident) c.in_ok-own.own c.in_ok-own.ensures in
+    let b = c.self.invariant.whole.numbering in
+    let h = views.home (name_at idents c.args.ident) c.in_ok-own.own c.in_ok-own.ensures in
     let len : length h.0.numbers ≡ length (way spaces c.in_ok-own.own) = b.tied.full c.args.ident h.0 h.1 ∙ ap (λ s. length (way spaces s)) h.2 in
     let is : number_of c.args.self.now c.args.ident c.args.space ≡ beside c.args.space (way spaces c.in_ok-own.own) h.0.numbers =
-    ap (λ z. number_of z c.args.ident c.args.space) (sym c.self.view_is) ∙ views.number_is max spaces idents c.args.ident c.args.space ∙ ap (number_in (way spaces) c.args.space) h.1 ∙ ap (λ s. beside c.args.space (way spaces s) h.0.numbers) h.2 in
+    ap (λ z. number_of z c.args.ident c.args.space) (sym c.self.view_is) ∙ views.number_is max spaces idents c.self.inside.order c.args.ident c.args.space ∙ ap (number_in (way spaces) c.args.space) h.1 ∙ ap (λ s. beside c.args.space (way spaces s) h.0.numbers) h.2 in
     sym (is ∙ sweeps.beside-without (way spaces) b.tree c.in_ok-own.own c.args.space h.0.numbers len (sym c.if-not-is_inside.ensures))
 
 pub overflow_sub-place : goal.overflow_sub-place
 overflow_sub-place c =
-    let few = (sweeps.within (way c.self.inside.spaces) c.self.invariant.numbering.tree c.in_ok-own.own c.args.space (sym c.if-not-is_inside.ensures)).1 in
+    let few = (sweeps.within (way c.self.inside.spaces) c.self.invariant.whole.numbering.tree c.in_ok-own.own c.args.space (sym c.if-not-is_inside.ensures)).1 in
     let a = c.levels.ensures.value in
     let b = c.levels-2.ensures.value in
     omega (arith, few, a, b)
@@ -38,8 +33,8 @@ number_at-requires c =
     let max = c.self.inside.pid_max in
     let spaces = c.self.inside.spaces in
     let idents = c.self.inside.idents in
-    let b = c.self.invariant.numbering in
-    let h = home (name_at idents c.args.ident) c.in_ok-own.own c.in_ok-own.ensures in
+    let b = c.self.invariant.whole.numbering in
+    let h = views.home (name_at idents c.args.ident) c.in_ok-own.own c.in_ok-own.ensures in
     let len : length h.0.numbers ≡ length (way spaces c.in_ok-own.own) = b.tied.full c.args.ident h.0 h.1 ∙ ap (λ s. length (way spaces s)) h.2 in
     let w = sweeps.beside-within (way spaces) b.tree c.in_ok-own.own c.args.space h.0.numbers len (sym c.if-not-is_inside.ensures) (c.levels.result - c.levels-2.result) (ap (λ n. n - c.levels-2.result) c.levels.ensures.value ∙ ap (λ n. length (way spaces c.in_ok-own.own) - n) c.levels-2.ensures.value) in
     subst (λ o. IfSome o (λ u. c.levels.result - c.levels-2.result < length u.numbers)) (sym h.1) w.0
@@ -49,10 +44,10 @@ returns c =
     let max = c.self.inside.pid_max in
     let spaces = c.self.inside.spaces in
     let idents = c.self.inside.idents in
-    let b = c.self.invariant.numbering in
-    let h = home (name_at idents c.args.ident) c.in_ok-own.own c.in_ok-own.ensures in
+    let b = c.self.invariant.whole.numbering in
+    let h = views.home (name_at idents c.args.ident) c.in_ok-own.own c.in_ok-own.ensures in
     let len : length h.0.numbers ≡ length (way spaces c.in_ok-own.own) = b.tied.full c.args.ident h.0 h.1 ∙ ap (λ s. length (way spaces s)) h.2 in
     let is : number_of c.args.self.now c.args.ident c.args.space ≡ beside c.args.space (way spaces c.in_ok-own.own) h.0.numbers =
-    ap (λ z. number_of z c.args.ident c.args.space) (sym c.self.view_is) ∙ views.number_is max spaces idents c.args.ident c.args.space ∙ ap (number_in (way spaces) c.args.space) h.1 ∙ ap (λ s. beside c.args.space (way spaces s) h.0.numbers) h.2 in
+    ap (λ z. number_of z c.args.ident c.args.space) (sym c.self.view_is) ∙ views.number_is max spaces idents c.self.inside.order c.args.ident c.args.space ∙ ap (number_in (way spaces) c.args.space) h.1 ∙ ap (λ s. beside c.args.space (way spaces s) h.0.numbers) h.2 in
     let w = sweeps.beside-within (way spaces) b.tree c.in_ok-own.own c.args.space h.0.numbers len (sym c.if-not-is_inside.ensures) (c.levels.result - c.levels-2.result) (ap (λ n. n - c.levels-2.result) c.levels.ensures.value ∙ ap (λ n. length (way spaces c.in_ok-own.own) - n) c.levels-2.ensures.value) in
     c.number_at.ensures ∙ ap (option_map (λ u. get_or u.numbers (c.levels.result - c.levels-2.result) 0)) h.1 ∙ sym (is ∙ w.1)

@@ -7,9 +7,9 @@ use Rattle.pid_numbers.proofs.Numbers.plan_new.Goals as goal
 
 pub returns-in-Ok-clause-ok : goal.returns-in-Ok-clause-ok
 returns-in-Ok-clause-ok c =
-    let now = numbering_of c.self.inside.pid_max c.self.inside.spaces c.self.inside.idents in
-    let draws = views.draws_same c.self.inside.pid_max c.self.inside.spaces c.self.inside.idents c.self.invariant.numbering in
-    let path = views.path_is c.self.inside.pid_max c.self.inside.spaces c.self.inside.idents c.args.parent in
+    let now = numbering_of c.self.inside.pid_max c.self.inside.spaces c.self.inside.idents c.self.inside.order in
+    let draws = views.draws_same c.self.inside.pid_max c.self.inside.spaces c.self.inside.idents c.self.inside.order c.self.invariant.whole.numbering in
+    let path = views.path_is c.self.inside.pid_max c.self.inside.spaces c.self.inside.idents c.self.inside.order c.args.parent in
     let len = ap length path in
     let levels = c.levels.ensures.value in
     let few = c.if-levels-gt32.false in
@@ -21,9 +21,9 @@ returns-in-Ok-clause-ok c =
 
 pub returns-in-Err-clause-err : goal.returns-in-Err-clause-err
 returns-in-Err-clause-err c =
-    let now = numbering_of c.self.inside.pid_max c.self.inside.spaces c.self.inside.idents in
-    let draws = views.draws_same c.self.inside.pid_max c.self.inside.spaces c.self.inside.idents c.self.invariant.numbering in
-    let path = views.path_is c.self.inside.pid_max c.self.inside.spaces c.self.inside.idents c.args.parent in
+    let now = numbering_of c.self.inside.pid_max c.self.inside.spaces c.self.inside.idents c.self.inside.order in
+    let draws = views.draws_same c.self.inside.pid_max c.self.inside.spaces c.self.inside.idents c.self.inside.order c.self.invariant.whole.numbering in
+    let path = views.path_is c.self.inside.pid_max c.self.inside.spaces c.self.inside.idents c.self.inside.order c.args.parent in
     let len = ap length path in
     let levels = c.levels.ensures.value in
     let few = c.if-levels-gt32.false in

@@ -1,0 +1,65 @@
+-- The numbers from a namespace inwards.
+use Rattle.std.proofs.Common.{◌≡◌, ◌⊎◌, inl, inr, ℕ, zero, suc, ◌<◌, Bool, true, false, ◌==◌, ◌||◌, List, [], ◌∷◌, ◌++◌, length, get_or, take, if◌then◌else◌, refl, sym, ap, ◌∙◌, arith}
+use Rattle.std.specs.Prelude.{reverse}
+use Rattle.std.proofs.lemmas.Bool.{eq-eqb}
+use Rattle.std.proofs.lemmas.List.{length-reverse, reverse-append}
+use Rattle.std.proofs.lemmas.List.Sorted.{list_any-IsPermutation, IsPermutation-reverse}
+use Rattle.pid_types.specs.Chains.{contains}
+use Rattle.pid_types.specs.Names.{beside_from}
+use Rattle.pid_numbers.specs.Slabs.{IsDistinct}
+use Rattle.pid_numbers.proofs.Sweeps.{cases, contains_at, place_of}
+
+contains-reverse : (ts : List ℕ) (s : ℕ) → contains (reverse ts) s ≡ contains ts s
+contains-reverse ts s = sym (list_any-IsPermutation (λ m. m == s) ts (reverse ts) (IsPermutation-reverse ts))
+
+-- one level more
+from-snoc : (s t n : ℕ) (ts ns : List ℕ) → length ts ≡ length ns
+    → beside_from s (ts ++ t ∷ []) (ns ++ n ∷ []) ≡ (if contains ts s then beside_from s ts ns ++ n ∷ [] else (if t == s then n ∷ [] else []))
+from-snoc s t n [] [] e = refl
+from-snoc s t n [] (m ∷ ms) e = absurd (omega (arith, e))
+from-snoc s t n (u ∷ us) [] e = absurd (omega (arith, e))
+from-snoc s t n (u ∷ us) (m ∷ ms) e = go (u == s) (from-snoc s t n us ms (omega (arith, e)))
+  where
+    go : (b : Bool) → beside_from s (us ++ t ∷ []) (ms ++ n ∷ []) ≡ (if contains us s then beside_from s us ms ++ n ∷ [] else (if t == s then n ∷ [] else []))
+        → (if b then m ∷ (ms ++ n ∷ []) else beside_from s (us ++ t ∷ []) (ms ++ n ∷ [])) ≡ (if b || contains us s then (if b then m ∷ ms else beside_from s us ms) ++ n ∷ [] else (if t == s then n ∷ [] else []))
+    go true again = refl
+    go false again = again
+
+module _ (s t n : ℕ) (ts ns : List ℕ) (len : length ns ≡ length ts) where
+  outwards : beside_from s (reverse (t ∷ ts)) (reverse (n ∷ ns)) ≡ (if contains ts s then beside_from s (reverse ts) (reverse ns) ++ n ∷ [] else (if t == s then n ∷ [] else []))
+  outwards =
+      ap (λ p. beside_from s p (reverse (n ∷ ns))) (reverse-append (t ∷ []) ts) ∙ ap (λ q. beside_from s (reverse ts ++ t ∷ []) q) (reverse-append (n ∷ []) ns)
+      ∙ from-snoc s t n (reverse ts) (reverse ns) (length-reverse ts ∙ sym len ∙ sym (length-reverse ns))
+      ∙ ap (λ b. if b then beside_from s (reverse ts) (reverse ns) ++ n ∷ [] else (if t == s then n ∷ [] else [])) (contains-reverse ts s)
+
+-- they are the first ones up to the namespace's place, the other way round
+pub from-place : (s : ℕ) (path numbers : List ℕ) → IsDistinct path → length numbers ≡ length path → (k : ℕ) → k < length path → get_or path k 0 ≡ s → beside_from s (reverse path) (reverse numbers) ≡ reverse (take (suc k) numbers)
+from-place s [] numbers d len k lt at = absurd (omega (arith, lt))
+from-place s (t ∷ ts) [] d len k lt at = absurd (omega (arith, len))
+from-place s (t ∷ ts) (n ∷ ns) d len zero lt at = outwards s t n ts ns (omega (arith, len)) ∙ go (cases (contains ts s))
+  where
+    go : (contains ts s ≡ true) ⊎ (contains ts s ≡ false) → (if contains ts s then beside_from s (reverse ts) (reverse ns) ++ n ∷ [] else (if t == s then n ∷ [] else [])) ≡ n ∷ []
+    go (inl on) = let p = place_of ts s on in absurd (d 0 (suc p.0) (omega arith) (omega (arith, p.1)) (at ∙ sym p.2))
+    go (inr off) =
+        ap (λ b. if b then beside_from s (reverse ts) (reverse ns) ++ n ∷ [] else (if t == s then n ∷ [] else [])) off
+        ∙ ap (λ b. if b then n ∷ [] else []) (eq-eqb t s at)
+from-place s (t ∷ ts) (n ∷ ns) d len (suc k) lt at =
+    let low : k < length ts = omega (arith, lt) in
+    let on : contains ts s ≡ true = ap (contains ts) (sym at) ∙ contains_at ts k low in
+    outwards s t n ts ns (omega (arith, len))
+    ∙ ap (λ b. if b then beside_from s (reverse ts) (reverse ns) ++ n ∷ [] else (if t == s then n ∷ [] else [])) on
+    ∙ ap (λ l. l ++ n ∷ []) (from-place s ts ns (λ i j a b e. d (suc i) (suc j) (omega (arith, a)) (omega (arith, b)) e) (omega (arith, len)) k low at)
+    ∙ sym (reverse-append (n ∷ []) (take (suc k) ns))
+
+-- and none where it is not on the path
+pub from-none : (s : ℕ) (path numbers : List ℕ) → contains path s ≡ false → beside_from s (reverse path) (reverse numbers) ≡ []
+from-none s path numbers off = go (reverse path) (reverse numbers) (contains-reverse path s ∙ off)
+  where
+    go : (ts ns : List ℕ) → contains ts s ≡ false → beside_from s ts ns ≡ []
+    go [] ns off = refl
+    go (t ∷ ts) [] off = refl
+    go (t ∷ ts) (n ∷ ns) off = by (t == s) off (go ts ns)
+      where
+        by : (b : Bool) → (b || contains ts s) ≡ false → (contains ts s ≡ false → beside_from s ts ns ≡ []) → (if b then n ∷ ns else beside_from s ts ns) ≡ []
+        by true off again = absurd (cc)
+        by false off again = again off
