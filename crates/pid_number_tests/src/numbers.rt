@@ -1,11 +1,13 @@
 //! Worked values: numbers on nested levels, their release and their use.
 
-ghost use Rattle.std.specs.Prelude.{◌≡◌, Some, None, IsSome, IfSome};
+ghost use Rattle.std.specs.Prelude.{◌≡◌, ◌≢◌, ℕ, [], ◌∷◌, Some, None, IsSome, IfSome, IfOk};
 ghost use Rattle.rising_ids.specs.Ids.{AreBelow};
+ghost use Rattle.pid_numbers.specs.Numbering.{namespace_at, new_namespace};
 ghost use Rattle.pid_types.specs.Settings.{HasGoodPidMax};
 
 use pid_numbers::{Numbers, PlanFault};
 use pid_types::call::Kind;
+use pid_types::plain::Name;
 use std::alloc::{AllocError, Global};
 use std::test::Fail;
 
@@ -47,9 +49,44 @@ fn draw_new(numbers: &mut Numbers, parent: u32) -> Option<(u32, u32)> {
     }
 }
 
+/// The level of the namespace, where it is there.
+fn level(numbers: &Numbers, space: u32) -> Option<usize> {
+    if numbers.id(space).is_none() {
+        return None;
+    }
+    Some(numbers.level(space))
+}
+
+/// The name of the identifier, where it is there.
+fn name(numbers: &Numbers, ident: u32) -> Option<Name> {
+    if numbers.space_of(ident).is_none() {
+        return None;
+    }
+    Some(numbers.name(ident))
+}
+
+/// A table whose one namespace below the root, with the id 7, has fallen, and the keys of its only
+/// identifier and of it.
+fn fallen(alloc: Global) -> Option<(Numbers, u32, u32)> {
+    let Ok(mut numbers) = table(alloc, 302) else {
+        return None;
+    };
+    let Ok(planned) = numbers.plan_new(0) else {
+        return None;
+    };
+    let Ok((first, space)) = numbers.draw_new(0, 7, &planned) else {
+        return None;
+    };
+    numbers.fell(space);
+    Some((numbers, first, space))
+}
+
 /// A table, made again where there was no memory.
 fn table(alloc: Global, pid_max: u32) -> Result<Numbers, AllocError>
     requires { HasGoodPidMax pid_max }
+    ensures order { IfOk result (λ r. r.order ≡ (0, 0) ∷ []) }
+    ensures root { IfOk result (λ r. namespace_at r 0 ≡ Some (new_namespace 0 (0 ∷ []))) }
+    ensures others { IfOk result (λ r. (s : ℕ) → s ≢ 0 → namespace_at r s ≡ None) }
 {
     match Numbers::new(alloc, pid_max) {
         Ok(numbers) => Ok(numbers),
@@ -125,19 +162,87 @@ fn outlives_its_task(rt: HostRuntime) -> Result<(), Fail> {
     Ok(())
 }
 
-/// Thirty-two namespaces, each inside the one before; a thirty-third is too deep.
+/// Thirty-two namespaces, each inside the one before: the first of the deepest has a number on each of 33
+/// levels, and a namespace inside it is too deep.
 #[test]
 fn nests_to_level_32(rt: HostRuntime) -> Result<(), Fail> {
     let mut numbers = table(rt.alloc(), 32768)?;
     let mut inner = 0;
     for _ in 1..33 {
-        let made = draw_new(&mut numbers, inner);
-        assert!(rt; made.is_some());
-        if let Some((_, space)) = made {
+        assert!(rt; numbers.plan_new(inner).is_ok());
+        if let Some((_, space)) = draw_new(&mut numbers, inner) {
             inner = space;
         }
     }
-    assert_eq!(rt; numbers.find(0, 32), numbers.find(inner, 1));
+    assert_eq!(rt; level(&numbers, 0), Some(0));
+    assert_eq!(rt; level(&numbers, inner), Some(32));
     assert_eq!(rt; numbers.plan_new(inner).err(), Some(PlanFault::TooDeep));
+    assert_eq!(rt; numbers.find(0, 32), numbers.find(inner, 1));
+    let first = numbers.find(inner, 1).ok_or("no first")?;
+    let all = numbers.levels_from(first, 0);
+    assert_eq!(rt; all.as_slice().first().copied(), Some(32));
+    assert_eq!(rt; all.as_slice().get(31).copied(), Some(2));
+    assert_eq!(rt; all.as_slice().get(32).copied(), Some(1));
+    assert_eq!(rt; all.len(), 33);
+    assert_eq!(rt; numbers.levels_from(first, inner).as_slice(), &[1][..]);
+    Ok(())
+}
+
+/// The root init has name 1 of the root; the next of a namespace with id 1 is 3 in the root and 2 there,
+/// and the root init is not visible there.
+#[test]
+fn names_on_two_levels(rt: HostRuntime) -> Result<(), Fail> {
+    let mut numbers = table(rt.alloc(), 32768)?;
+    let init = draw(&mut numbers, 0).ok_or("no init")?;
+    let (_, space) = draw_new(&mut numbers, 0).ok_or("no namespace")?;
+    let second = draw(&mut numbers, space).ok_or("no second")?;
+    let named = name(&numbers, second).ok_or("no name")?;
+    assert_eq!(rt; named.space, 1);
+    assert_eq!(rt; named.numbers.as_slice(), &[3, 2][..]);
+    let named = name(&numbers, init).ok_or("no name")?;
+    assert_eq!(rt; named.space, 0);
+    assert_eq!(rt; named.numbers.as_slice(), &[1][..]);
+    assert_eq!(rt; numbers.levels_from(second, 0).as_slice(), &[3, 2][..]);
+    assert_eq!(rt; numbers.levels_from(second, space).as_slice(), &[2][..]);
+    assert_eq!(rt; numbers.levels_from(init, space).len(), 0);
+    Ok(())
+}
+
+/// Namespaces are listed in the order of their ids, and found by them, wherever they stand.
+#[test]
+fn lists_by_id(rt: HostRuntime) -> Result<(), Fail> {
+    let mut numbers = table(rt.alloc(), 32768)?;
+    let (_, one) = draw_new(&mut numbers, 0).ok_or("no namespace")?;
+    let (_, two) = draw_new(&mut numbers, one).ok_or("no namespace")?;
+    let (_, three) = draw_new(&mut numbers, 0).ok_or("no namespace")?;
+    let mut keys = numbers.keys();
+    assert_eq!(rt; keys.next(), Some((0, 0)));
+    assert_eq!(rt; keys.next(), Some((1, one)));
+    assert_eq!(rt; keys.next(), Some((2, two)));
+    assert_eq!(rt; keys.next(), Some((3, three)));
+    assert_eq!(rt; keys.next(), None);
+    assert_eq!(rt; numbers.find_space(2), Some(two));
+    assert_eq!(rt; numbers.find_space(4), None);
+    assert!(rt; numbers.is_within(two, one));
+    assert!(rt; !numbers.is_within(three, one));
+    Ok(())
+}
+
+/// A fallen namespace goes with the last number in it, and its id with it; the root stays.
+#[test]
+fn falls_and_goes(rt: HostRuntime) -> Result<(), Fail> {
+    let (mut numbers, first, space) = fallen(rt.alloc()).ok_or("no table")?;
+    assert!(rt; numbers.is_fallen(space));
+    assert!(rt; !numbers.is_fallen(0));
+    assert_eq!(rt; numbers.find_space(7), Some(space));
+    drop_use(&mut numbers, first, Kind::Task);
+    assert_eq!(rt; numbers.id(space), None);
+    assert!(rt; !numbers.is_fallen(space));
+    assert_eq!(rt; numbers.find_space(7), None);
+    assert_eq!(rt; numbers.find_space(0), Some(0));
+    assert_eq!(rt; numbers.find(0, 1), None);
+    let mut keys = numbers.keys();
+    assert_eq!(rt; keys.next(), Some((0, 0)));
+    assert_eq!(rt; keys.next(), None);
     Ok(())
 }

@@ -1,5 +1,5 @@
 -- The sweep after an identifier went.
-use Rattle.std.proofs.Common.{◌≡◌, ◌≢◌, inl, inr, ℕ, ◌<◌, ◌-◌, Bool, true, false, ◌==◌, ◌&&◌, List, [], length, get_or, Option, Some, None, is_some, if◌then◌else◌, refl, sym, ap, subst, arith, ◌∙◌, option_map, option_and_then}
+use Rattle.std.proofs.Common.{◌≡◌, ◌≢◌, inl, inr, ℕ, ◌<◌, ◌-◌, Bool, true, false, ◌==◌, ◌&&◌, List, [], ◌∷◌, length, get_or, Option, Some, None, is_some, if◌then◌else◌, refl, sym, ap, subst, arith, ◌∙◌, option_map, option_and_then}
 use Rattle.std.specs.Option.{option_map_or}
 use Rattle.slab.specs.Slab.{Slab, get}
 use Rattle.pid_types.specs.Chains.{contains}
@@ -7,9 +7,10 @@ use Rattle.index_array.specs.Place.{Entry, entry_at, indexes}
 use Rattle.index_array.proofs.Indexes.{contains_indexes}
 use Rattle.pid_numbers.specs.declared.spaces.Space.{Space}
 use Rattle.pid_numbers.specs.declared.names.Ident.{Ident}
-use Rattle.pid_numbers.specs.Numbering.{Identifier, Numbering, namespace_at, identifier_at, is_used_as, less, uses, number_in, path_at, taken_in, is_dead, swept_at}
+use Rattle.pid_numbers.specs.Numbering.{Identifier, Numbering, namespace_at, identifier_at, is_used_as, less, uses, number_in, number_of, path_at, taken_in, is_dead, swept_at}
 use Rattle.pid_numbers.specs.Slabs.{namespace_of, namespaces_of, numbering_of, name_at, way, entry_on, bound_on, leads, fell, dead_on, goes, left_on, touched, IsTied, IsNumbering, IsWhole}
-use Rattle.pid_numbers.proofs.Ties.{get_or-map_option, at_key, listed_from}
+use Rattle.std.specs.Prelude.{filter_map}
+use Rattle.pid_numbers.proofs.Ties.{get_or-map_option, at_key, listed_from, listed}
 use Rattle.std.proofs.lemmas.Bool.Decides.{nat_tests}
 use Rattle.pid_numbers.proofs.Views.{taken_same, fell-same}
 use Rattle.pid_types.specs.declared.call.Kind.{Kind}
@@ -243,3 +244,12 @@ taken-held pid_max spaces idents order b s some =
     let r = sweeps.one_in (taken_in (numbering_of pid_max spaces idents order) s) (grind (arith, nat_tests, some)) in
     let x = listed_from (number_in (path_at (numbering_of pid_max spaces idents order)) s) (numbering_of pid_max spaces idents order).names r.0 r.1 in
     (r.0, x.0, b.tied.kept s r.0 x.0 (sym (views.number_is pid_max spaces idents order x.0 s) ∙ x.1))
+
+-- and one in which an identifier has a number has it in use
+pub taken-some : (b : Numbering) (i s n : ℕ) → number_of b i s ≡ Some n → 0 < length (taken_in b s)
+unfolding taken_in
+taken-some b i s n e = some (filter_map (number_in (path_at b) s) b.names) (listed (number_in (path_at b) s) refl b.names i n e)
+  where
+    some : (ns : List ℕ) → contains ns n ≡ true → 0 < length ns
+    some [] on = absurd (cc)
+    some (m ∷ ms) on = omega arith
