@@ -1,13 +1,15 @@
 -- The order of the namespaces, where one is added and where some go.
-use Rattle.std.proofs.Common.{◌≡◌, ◌≢◌, inl, inr, ℕ, List, [], ◌∷◌, ◌++◌, cond, not, ◌==◌, Bool, true, false, if◌then◌else◌, Option, Some, None, is_some, option_map, unwrap_or, refl, sym, ap, subst, ◌∙◌, arith}
+use Rattle.std.proofs.Common.{map, ◌||◌, ◌≡◌, ◌≢◌, inl, inr, ℕ, List, [], ◌∷◌, ◌++◌, cond, not, ◌==◌, Bool, true, false, if◌then◌else◌, Option, Some, None, is_some, option_map, unwrap_or, refl, sym, ap, subst, ◌∙◌, arith}
 use Rattle.std.specs.Prelude.{slice_index_or}
 use Rattle.std.specs.List.{AllByRecursion, filter}
 use Rattle.std.proofs.lemmas.Bool.{cases_eq, eq-eqb}
+use Rattle.std.proofs.lemmas.List.Folds.{list_any-append}
+use Rattle.pid_types.specs.Chains.{contains}
 use Rattle.slab.specs.Slab.{Slab, get}
 use Rattle.rising_ids.specs.Ids.{key_of, without, AreBelow}
 use Rattle.rising_ids.proofs.Keys.{key_of-push, key_of-new, key_of-kept}
 use Rattle.pid_numbers.specs.declared.spaces.Space.{Space}
-use Rattle.pid_numbers.specs.Numbering.{Namespace, moved}
+use Rattle.pid_numbers.specs.Numbering.{Namespace, moved, fallen_within}
 use Rattle.pid_numbers.specs.Slabs.{namespace_of, namespaces_of, id_on, dead_on, AreListed}
 use Rattle.pid_numbers.proofs.Ties.{get_or-map_option}
 
@@ -147,3 +149,77 @@ module _ (key : ℕ) (old new : Slab Space) (here : get new key ≡ if dead_on o
 
   pub listed-dropped : (order : List (ℕ × ℕ)) → AreListed (id_on old) order → AreListed (id_on new) (filter (λ p. is_some (get new p.1)) order)
   listed-dropped order l = listed-kept (id_on old) (id_on new) order l (λ s. is_some (get new s)) (λ s on. ap (λ o. option_map (λ t. t.id) (option_map namespace_of o)) (kept s on)) (id-gone new)
+
+-- the namespace, fallen where its key is among those that a walk has met
+abbrev pub fallen_among : ℕ → List (ℕ × ℕ) → ℕ → Option Namespace → Option Namespace
+fallen_among outer met s o = if contains (map (λ p. p.1) met) s then option_map (fallen_within outer) o else o
+
+module _ (outer : ℕ) (met : List (ℕ × ℕ)) (id key : ℕ) (first old new : ℕ → Option Namespace) (so_far : (s : ℕ) → old s ≡ fallen_among outer met s (first s))
+    (here : new key ≡ option_map (fallen_within outer) (old key)) (others : (s : ℕ) → s ≢ key → new s ≡ old s) where
+  met-more : (s : ℕ) → contains (map (λ p. p.1) (met ++ (id, key) ∷ [])) s ≡ (contains (map (λ p. p.1) met) s || (key == s))
+  met-more s = ap (λ l. contains l s) (keys met) ∙ list_any-append (λ m. m == s) (map (λ p. p.1) met) (key ∷ []) ∙ ap (λ b. contains (map (λ p. p.1) met) s || b) (plain (key == s))
+    where
+      keys : (ps : List (ℕ × ℕ)) → map (λ p. p.1) (ps ++ (id, key) ∷ []) ≡ map (λ p. p.1) ps ++ key ∷ []
+      keys [] = refl
+      keys (p ∷ ps) = ap (λ l. p.1 ∷ l) (keys ps)
+
+      plain : (b : Bool) → (b || false) ≡ b
+      plain true = refl
+      plain false = refl
+
+  twice : (o : Option Namespace) → option_map (fallen_within outer) (option_map (fallen_within outer) o) ≡ option_map (fallen_within outer) o
+  twice None = refl
+  twice (Some t) = ap (λ b. Some (record t { fallen = b })) (go t.fallen (contains t.path outer))
+    where
+      go : (a b : Bool) → ((a || b) || b) ≡ (a || b)
+      go true b = refl
+      go false true = refl
+      go false false = refl
+
+  -- one namespace after the other
+  pub fallen-more : (s : ℕ) → new s ≡ fallen_among outer (met ++ (id, key) ∷ []) s (first s)
+  fallen-more s = elim (cases_eq s key) [
+    | inl same ↦
+        ap new same ∙ here ∙ ap (option_map (fallen_within outer)) (so_far key) ∙ go (contains (map (λ p. p.1) met) key)
+        ∙ sym (ap (λ z. if contains (map (λ p. p.1) (met ++ (id, key) ∷ [])) z then option_map (fallen_within outer) (first z) else first z) same ∙ ap (λ b. if b then option_map (fallen_within outer) (first key) else first key) (met-more key ∙ on (contains (map (λ p. p.1) met) key)))
+    | inr d ↦
+        let m : key ≢ s = λ e. d (sym e) in
+        let off : (key == s) ≡ false = grind (arith, m) in
+        others s d ∙ so_far s ∙ sym (ap (λ b. if b then option_map (fallen_within outer) (first s) else first s) (met-more s ∙ ap (λ b. contains (map (λ p. p.1) met) s || b) off ∙ right (contains (map (λ p. p.1) met) s)))
+  ]
+    where
+      go : (b : Bool) → option_map (fallen_within outer) (if b then option_map (fallen_within outer) (first key) else first key) ≡ option_map (fallen_within outer) (first key)
+      go true = twice (first key)
+      go false = refl
+
+      on : (b : Bool) → (b || (key == key)) ≡ true
+      on true = refl
+      on false = eq-eqb key key refl
+
+      right : (b : Bool) → (b || false) ≡ b
+      right true = refl
+      right false = refl
+
+-- the walk over all of them meets each that is there
+pub fallen-all : (outer : ℕ) (first : ℕ → Option Namespace) (order : List (ℕ × ℕ)) → ((s i : ℕ) → option_map (λ t. t.id) (first s) ≡ Some i → key_of order i ≡ Some s) → (s : ℕ) → fallen_among outer order s (first s) ≡ option_map (fallen_within outer) (first s)
+fallen-all outer first order listed s = go (first s) refl
+  where
+    meets : (ps : List (ℕ × ℕ)) (i : ℕ) → key_of ps i ≡ Some s → contains (map (λ p. p.1) ps) s ≡ true
+    meets [] i e = absurd (cc)
+    meets (p ∷ ps) i e = by (p.0 == i) (λ f. meets ps i f) e
+      where
+        by : (b : Bool) → (key_of ps i ≡ Some s → contains (map (λ p. p.1) ps) s ≡ true) → (if b then Some p.1 else key_of ps i) ≡ Some s → (p.1 == s || contains (map (λ p. p.1) ps) s) ≡ true
+        by true again e = ap (λ b. b || contains (map (λ p. p.1) ps) s) (eq-eqb p.1 s (ap (λ o. unwrap_or o s) e))
+        by false again e = or_right (p.1 == s) (contains (map (λ p. p.1) ps) s) (again e)
+          where
+            or_right : (a b : Bool) → b ≡ true → (a || b) ≡ true
+            or_right true b e = refl
+            or_right false b e = e
+
+    go : (o : Option Namespace) → first s ≡ o → (if contains (map (λ p. p.1) order) s then option_map (fallen_within outer) (first s) else first s) ≡ option_map (fallen_within outer) (first s)
+    go None is = ap (λ o. if contains (map (λ p. p.1) order) s then option_map (fallen_within outer) o else o) is ∙ same None (contains (map (λ p. p.1) order) s) ∙ sym (ap (option_map (fallen_within outer)) is)
+      where
+        same : (o : Option Namespace) (b : Bool) → (if b then o else o) ≡ o
+        same o true = refl
+        same o false = refl
+    go (Some t) is = ap (λ b. if b then option_map (fallen_within outer) (first s) else first s) (meets order t.id (listed s t.id (ap (option_map (λ t. t.id)) is)))

@@ -359,7 +359,7 @@ impl Numbers {
         Ok((ident, key))
     }
 
-    /// The namespace and all inside it have fallen. It costs a step for each namespace.
+    /// The namespace and all inside it have fallen. It costs a step for each namespace that is there.
     pub fn fell(&mut self, space: u32)
         requires inner { space ≢ 0 }
         requires used { (s : ℕ) → contains (path_at self.old s) space ≡ true → 0 < length (taken_in self.old s) }
@@ -368,7 +368,7 @@ impl Numbers {
         ensures order { self.new.order ≡ self.old.order }
         ensures pid_max { self.new.pid_max ≡ self.old.pid_max }
     {
-        fall_all(&mut self.spaces, space);
+        fall_all(&mut self.spaces, &self.order, space);
     }
 
     /// One use more. The first of its kind costs a step for each level.

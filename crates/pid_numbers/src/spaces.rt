@@ -418,7 +418,7 @@ pub(crate) fn is_inside(spaces: &Slab<Space>, key: usize, outer: u32) -> bool
 }
 
 /// The namespace has fallen, if it is the other one or inside it.
-fn fall_at(spaces: &mut Slab<Space>, key: usize, outer: u32)
+fn fall_at(spaces: &mut Slab<Space>, key: u32, outer: u32)
     requires { IsTree (way spaces.old) }
     ensures here { namespace_on spaces.new key ≡ option_map (fallen_within outer) (namespace_on spaces.old key) }
     ensures others { (s : ℕ) → s ≢ key → get spaces.new s ≡ get spaces.old s }
@@ -426,24 +426,25 @@ fn fall_at(spaces: &mut Slab<Space>, key: usize, outer: u32)
     ensures bound { (s : ℕ) → bound_on spaces.new s ≡ bound_on spaces.old s }
     ensures way { (s : ℕ) → way spaces.new s ≡ way spaces.old s }
 {
-    if !is_inside(spaces, key, outer) {
+    if !is_inside(spaces, key as usize, outer) {
         return;
     }
-    let Some(space) = spaces.get_mut(key) else {
+    let Some(space) = spaces.get_mut(key as usize) else {
         return;
     };
     space.fallen = true;
 }
 
 /// The namespace and all inside it have fallen.
-pub(crate) fn fall_all(spaces: &mut Slab<Space>, outer: u32)
-    requires { IsTree (way spaces.old) }
+pub(crate) fn fall_all(spaces: &mut Slab<Space>, order: &RisingIds, outer: u32)
+    requires tree { IsTree (way spaces.old) }
+    requires listed { AreListed (id_on spaces.old) order.now }
     ensures namespaces { (s : ℕ) → namespace_on spaces.new s ≡ option_map (fallen_within outer) (namespace_on spaces.old s) }
     ensures entries { (s n : ℕ) → entry_on spaces.new s n ≡ entry_on spaces.old s n }
     ensures bound { (s : ℕ) → bound_on spaces.new s ≡ bound_on spaces.old s }
     ensures way { (s : ℕ) → way spaces.new s ≡ way spaces.old s }
 {
-    for key in 0..spaces.capacity() {
+    for (_, key) in order.iter() {
         fall_at(spaces, key, outer);
     }
 }

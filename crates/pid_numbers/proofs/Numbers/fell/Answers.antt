@@ -22,7 +22,7 @@ falls_id outer None = refl
 falls_id outer (Some t) = refl
 
 pub fall_all-requires : goal.fall_all-requires
-fall_all-requires c = c.self.invariant.whole.numbering.tree
+fall_all-requires c = record { tree = c.self.invariant.whole.numbering.tree; listed = c.self.invariant.listed }
 
 pub invariant_of-self : goal.invariant_of-self
 invariant_of-self c =
