@@ -173,7 +173,7 @@ impl Numbers {
     pub fn is_within(&self, space: u32, outer: u32) -> bool
         ensures { result ≡ contains (path_at self.now space) outer }
     {
-        is_inside(&self.spaces, space as usize, outer)
+        is_inside(&self.spaces, space, outer)
     }
 
     /// The namespace that the one with the key is in; none for the root.
@@ -214,7 +214,7 @@ impl Numbers {
         ensures { result ≡ number_of self.now ident space }
     {
         let own = home_of(&self.idents, ident)?;
-        if !is_inside(&self.spaces, own as usize, space) {
+        if !is_inside(&self.spaces, own, space) {
             return None;
         }
         let place = levels(&self.spaces, own) - levels(&self.spaces, space);
@@ -229,7 +229,7 @@ impl Numbers {
         let Some(own) = home_of(&self.idents, ident) else {
             return ArrayVec::new();
         };
-        if !is_inside(&self.spaces, own as usize, space) {
+        if !is_inside(&self.spaces, own, space) {
             return ArrayVec::new();
         }
         let above = levels(&self.spaces, own) - levels(&self.spaces, space);

@@ -402,12 +402,12 @@ pub(crate) fn first_ids(
 }
 
 /// Whether the namespace is the other one or inside it.
-pub(crate) fn is_inside(spaces: &Slab<Space>, key: usize, outer: u32) -> bool
+pub(crate) fn is_inside(spaces: &Slab<Space>, key: u32, outer: u32) -> bool
     requires { IsTree (way spaces.now) }
     ensures { result ≡ contains (way spaces.now key) outer }
 {
     let from = levels(spaces, outer);
-    let Some(space) = spaces.get(key) else {
+    let Some(space) = spaces.get(key as usize) else {
         return false;
     };
     let end = space.path.len();
@@ -426,7 +426,7 @@ fn fall_at(spaces: &mut Slab<Space>, key: u32, outer: u32)
     ensures bound { (s : ℕ) → bound_on spaces.new s ≡ bound_on spaces.old s }
     ensures way { (s : ℕ) → way spaces.new s ≡ way spaces.old s }
 {
-    if !is_inside(spaces, key as usize, outer) {
+    if !is_inside(spaces, key, outer) {
         return;
     }
     let Some(space) = spaces.get_mut(key as usize) else {
