@@ -1,1 +1,2 @@
 pub mod Membership
+pub mod Setpgid

@@ -1,5 +1,5 @@
 -- What a contract sees of `Members`: at each task's key the group and the session that it is in.
-use Rattle.std.specs.Prelude.{◌≡◌, ℕ, ◌<◌, List, Option, Some, None, option_map, map, length, slice_index, slice_index_or}
+use Rattle.std.specs.Prelude.{◌≡◌, ◌≢◌, ℕ, ◌<◌, List, Option, Some, None, option_map, MatchOption, map, length, slice_index, slice_index_or}
 use Rattle.owner_lists.specs.Owners.{owner_of}
 
 -- the keys of the identifiers that a task's group and session are named after
@@ -30,6 +30,10 @@ HasMembers members group = (k : ℕ) × (group_of members k ≡ Some group)
 -- whoever is in the group is in the session
 abbrev pub AreInSession : List (Option Membership) → ℕ → ℕ → Type 0
 AreInSession members group session = (k : ℕ) → group_of members k ≡ Some group → session_of members k ≡ Some session
+
+-- the session of those who are in the group; none where nobody is
+abbrev pub IsSessionOf : List (Option Membership) → ℕ → Option ℕ → Type 0
+IsSessionOf members group session = MatchOption session ((k : ℕ) → group_of members k ≢ Some group) (λ s. HasMembers members group × AreInSession members group s)
 
 -- what those who are in a group are in, where each group has its session
 abbrev pub membership_in : List ℕ → ℕ → Membership

@@ -6,13 +6,17 @@
 //! leaves.
 #![tactic(auto)]
 
-ghost use Rattle.std.specs.Prelude.{◌≡◌, ◌≢◌, ℕ, ◌<◌, ◌≤◌, ◌^◌, ◌↔◌, [], length, option_map, Some, None, IsSome, IsTrue, OnOk, MatchOption, MatchResult, slice_set};
+ghost use Rattle.std.specs.Prelude.{◌≡◌, ◌≢◌, ℕ, ◌<◌, ◌≤◌, ◌^◌, ◌↔◌, [], length, option_map, Some, None, IsSome, IsTrue, OnOk, MatchResult, slice_set};
 ghost use Rattle.owner_lists.specs.Owners.{AreMembers};
-ghost use Rattle.groups_sessions.specs.Membership.{Membership, membership_at, group_of, session_of, groups_of, HasMembers, AreInSession};
+ghost use Rattle.groups_sessions.specs.Membership.{Membership, membership_at, group_of, session_of, groups_of, HasMembers, AreInSession, IsSessionOf};
+ghost use Rattle.groups_sessions.specs.Setpgid.{session_group as session_group_of, group_for as group_for_of, setpgid_answer};
 
+mod ask;
 mod room;
 
+pub use ask::{GroupAsk, Target};
 use owner_lists::{Members as GroupMembers, OwnerLists};
+use pid_numbers::Numbers;
 use pid_types::reply::Refusal;
 use room::{group_in, has_member, make_room};
 use std::alloc::{AllocError, Global};
@@ -137,7 +141,7 @@ impl Members {
 
     /// The session of those who are in the group; none where nobody is.
     pub fn session_of_group(&self, ident: u32) -> Option<u32>
-        ensures { MatchOption result ((k : ℕ) → group_of self.now k ≢ Some ident) (λ s. HasMembers self.now ident × AreInSession self.now ident s) }
+        ensures { IsSessionOf self.now ident result }
     {
         if has_member(&self.groups, ident) {
             Some(self.sessions[ident as usize])
@@ -152,6 +156,50 @@ impl Members {
         ensures { AreMembers (groups_of self.now) ident result }
     {
         self.groups.members(ident)
+    }
+
+    /// The group with the number in the namespace, if some task of the session is in it.
+    fn session_group(&self, numbers: &Numbers, session: u32, space: u32, n: u32) -> Option<u32>
+        ensures { result ≡ session_group_of self.now numbers.now session space n }
+    {
+        numbers.laws();
+        let Some(ident) = numbers.find(space, n) else {
+            return None;
+        };
+        if self.session_of_group(ident) == Some(session) {
+            Some(ident)
+        } else {
+            None
+        }
+    }
+
+    /// The group that the number names for the target.
+    fn group_for(&self, numbers: &Numbers, ask: &GroupAsk, target: &Target) -> Option<u32>
+        ensures { result ≡ group_for_of self.now numbers.now ask.now target.now ask.now.pgid }
+    {
+        let n = u32::try_from(ask.pgid).ok()?;
+        if n == 0 || numbers.number_in(target.ident, ask.space) == Some(n) {
+            return Some(target.ident);
+        }
+        self.session_group(numbers, ask.session, ask.space, n)
+    }
+
+    /// The group that `setpgid(2)` puts the target into, or the first refusal: `BadGroup` for a negative
+    /// number; `NoTask` where there is no target; of a child `OtherSession` and `Executed`; `NoTask` for who is
+    /// neither the caller nor its child; `IsLeader`; and `NoGroup` where nobody of the caller's session,
+    /// zombies included, is in the group. It costs one search in the namespace's tree of numbers.
+    pub fn may_setpgid(&self, numbers: &Numbers, ask: &GroupAsk) -> Result<u32, Refusal>
+        ensures { result ≡ setpgid_answer self.now numbers.now ask.now }
+    {
+        if ask.pgid < 0 {
+            return Err(Refusal::BadGroup);
+        }
+        let Some(target) = ask.target else {
+            return Err(Refusal::NoTask);
+        };
+        ask.check(&target)?;
+        self.group_for(numbers, ask, &target)
+            .ok_or(Refusal::NoGroup)
     }
 
     /// Whether the task with the identifier may lead a new session: `IsLeader` where somebody, the task
