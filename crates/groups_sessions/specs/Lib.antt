@@ -1,2 +1,3 @@
 pub mod Membership
 pub mod Setpgid
+pub mod Counts

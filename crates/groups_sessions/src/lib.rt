@@ -15,7 +15,8 @@ mod ask;
 mod room;
 
 pub use ask::{GroupAsk, Target};
-use owner_lists::{Members as GroupMembers, OwnerLists};
+pub use owner_lists::Members as GroupMembers;
+use owner_lists::OwnerLists;
 use pid_numbers::Numbers;
 use pid_types::reply::Refusal;
 use room::{group_in, has_member, make_room};
@@ -207,7 +208,7 @@ impl Members {
     pub fn may_setsid(&self, ident: u32) -> Result<(), Refusal>
         ensures { MatchResult result (λ _. (k : ℕ) → group_of self.now k ≢ Some ident) (λ refusal. (refusal ≡ Refusal.IsLeader) × HasMembers self.now ident) }
     {
-        if has_member(&self.groups, ident) {
+        if self.any_in_group(ident) {
             Err(Refusal::IsLeader)
         } else {
             Ok(())
