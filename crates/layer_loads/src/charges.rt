@@ -47,20 +47,6 @@ pub fn live(alloc: Global, depth: u64, ops: u32) -> Result<u64, ControlFault>
     Ok(controls.count(home))
 }
 
-/// Asks for the tasks of the deepest control group, which has one, `ops` times, and answers their sum
-/// modulo 2^64. The error is that of `chain`.
-pub fn count(alloc: Global, depth: u64, ops: u32) -> Result<u64, ControlFault>
-    requires { depth < 2 ^ 32 }
-{
-    let (mut controls, home) = chain(alloc, depth)?;
-    controls.charge(home);
-    let mut sum = 0u64;
-    for _ in 0..ops {
-        sum = sum.wrapping_add(controls.count(home));
-    }
-    Ok(sum)
-}
-
 /// Asks whether a task may come to the deepest control group, `ops` times, and answers how often it may.
 /// The error is that of `chain`.
 pub fn may_charge(alloc: Global, depth: u64, ops: u32) -> Result<u64, ControlFault>

@@ -13,7 +13,7 @@ use anyhow::{Context, Result, bail};
 use std::env;
 
 /// The names of the loads.
-const NAMES: [&str; 13] = [
+const NAMES: [&str; 12] = [
     "numbers.lone.0",
     "numbers.lone.8",
     "numbers.lone.32",
@@ -22,7 +22,6 @@ const NAMES: [&str; 13] = [
     "numbers.find",
     "controls.live.1",
     "controls.live.64",
-    "controls.count.64",
     "controls.may_charge.64",
     "groups.enter+leave",
     "groups.join",
@@ -41,7 +40,6 @@ fn run_load(rt: &HostRuntime, name: &str, ops: u32) -> Result<u64> {
         "numbers.find" => Ok(identifiers::find(alloc, ops)?),
         "controls.live.1" => Ok(charges::live(alloc, 1, ops)?),
         "controls.live.64" => Ok(charges::live(alloc, 64, ops)?),
-        "controls.count.64" => Ok(charges::count(alloc, 64, ops)?),
         "controls.may_charge.64" => Ok(charges::may_charge(alloc, 64, ops)?),
         "groups.enter+leave" => Ok(groups::enter_and_leave(alloc, ops)?),
         "groups.join" => Ok(groups::join(alloc, ops)?),
