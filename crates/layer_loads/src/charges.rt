@@ -37,7 +37,7 @@ fn live_once(controls: &mut Controls, home: u32)
 
 /// A task lives in the deepest control group, `ops` times; it answers how many are there then. The error is
 /// that of `chain`.
-pub fn live(alloc: Global, depth: u64, ops: u32) -> Result<u64, ControlFault>
+fn live(alloc: Global, depth: u64, ops: u32) -> Result<u64, ControlFault>
     requires { depth < 2 ^ 32 }
 {
     let (mut controls, home) = chain(alloc, depth)?;
@@ -49,7 +49,7 @@ pub fn live(alloc: Global, depth: u64, ops: u32) -> Result<u64, ControlFault>
 
 /// Asks whether a task may come to the deepest control group, `ops` times, and answers how often it may.
 /// The error is that of `chain`.
-pub fn may_charge(alloc: Global, depth: u64, ops: u32) -> Result<u64, ControlFault>
+fn may_charge(alloc: Global, depth: u64, ops: u32) -> Result<u64, ControlFault>
     requires { depth < 2 ^ 32 }
 {
     let (controls, home) = chain(alloc, depth)?;
@@ -60,4 +60,15 @@ pub fn may_charge(alloc: Global, depth: u64, ops: u32) -> Result<u64, ControlFau
         }
     }
     Ok(sum)
+}
+
+/// Runs a load of this file and answers its checksum; none for another name. The error is that of `chain`.
+pub fn run(alloc: Global, name: &str, ops: u32) -> Result<Option<u64>, ControlFault> {
+    let sum = match name {
+        "controls.live.1" => live(alloc, 1, ops)?,
+        "controls.live.64" => live(alloc, 64, ops)?,
+        "controls.may_charge.64" => may_charge(alloc, 64, ops)?,
+        _ => return Ok(None),
+    };
+    Ok(Some(sum))
 }

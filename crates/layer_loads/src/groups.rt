@@ -41,7 +41,7 @@ fn enter_once(members: &mut Members, task: u32)
 
 /// A task enters a group with one other in it, and leaves it, `ops` times. It answers how many are in it
 /// then. The error is want of memory.
-pub fn enter_and_leave(alloc: Global, ops: u32) -> Result<u64, AllocError> {
+fn enter_and_leave(alloc: Global, ops: u32) -> Result<u64, AllocError> {
     let mut members = one_task(alloc)?;
     for _ in 0..ops {
         enter_once(&mut members, 1);
@@ -65,7 +65,7 @@ fn join_once(members: &mut Members, task: u32, ident: u32)
 
 /// A task goes to another group and back by turns, `ops` times in all. It answers where it is then. The
 /// error is want of memory.
-pub fn join(alloc: Global, ops: u32) -> Result<u64, AllocError> {
+fn join(alloc: Global, ops: u32) -> Result<u64, AllocError> {
     let mut members = one_task(alloc)?;
     for i in 0..ops {
         join_once(&mut members, 0, if i % 2 == 0 { OTHER } else { FIRST });
@@ -75,7 +75,7 @@ pub fn join(alloc: Global, ops: u32) -> Result<u64, AllocError> {
 
 /// A task asks to be put into the group with the number 4, in which one of its session is, `ops` times. It
 /// answers the sum of that group's keys, modulo 2^64. The error is want of memory.
-pub fn may_setpgid(alloc: Global, ops: u32) -> Result<u64, AllocError> {
+fn may_setpgid(alloc: Global, ops: u32) -> Result<u64, AllocError> {
     let members = one_task(alloc)?;
     let (numbers, _) = nested(alloc, 5)?;
     let ask = GroupAsk {
@@ -97,4 +97,15 @@ pub fn may_setpgid(alloc: Global, ops: u32) -> Result<u64, AllocError> {
         }
     }
     Ok(sum)
+}
+
+/// Runs a load of this file and answers its checksum; none for another name. The error is want of memory.
+pub fn run(alloc: Global, name: &str, ops: u32) -> Result<Option<u64>, AllocError> {
+    let sum = match name {
+        "groups.enter+leave" => enter_and_leave(alloc, ops)?,
+        "groups.join" => join(alloc, ops)?,
+        "groups.may_setpgid" => may_setpgid(alloc, ops)?,
+        _ => return Ok(None),
+    };
+    Ok(Some(sum))
 }

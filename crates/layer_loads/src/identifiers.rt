@@ -54,7 +54,7 @@ pub fn nested(alloc: Global, levels: u64) -> Result<(Numbers, u32), AllocError> 
 
 /// Draws an identifier in the innermost of nested namespaces and drops it, `ops` times. It answers where
 /// the next draw there begins. The error is want of memory.
-pub fn come_and_go(alloc: Global, levels: u64, ops: u32) -> Result<u64, AllocError> {
+fn come_and_go(alloc: Global, levels: u64, ops: u32) -> Result<u64, AllocError> {
     let (mut numbers, space) = nested(alloc, levels)?;
     for _ in 0..ops {
         if let Some(ident) = draw(&mut numbers, space) {
@@ -86,7 +86,7 @@ fn half_used(alloc: Global, numbers: &mut Numbers) -> Result<Vec<u32>, AllocErro
 
 /// Drops an identifier and draws the next where half of the numbers are in use, `ops` times. It answers
 /// where the next draw begins. The error is want of memory.
-pub fn replace(alloc: Global, ops: u32) -> Result<u64, AllocError> {
+fn replace(alloc: Global, ops: u32) -> Result<u64, AllocError> {
     let mut numbers = Numbers::new(alloc, PID_MAX)?;
     let mut used = half_used(alloc, &mut numbers)?;
     let mut place = 0;
@@ -104,7 +104,7 @@ pub fn replace(alloc: Global, ops: u32) -> Result<u64, AllocError> {
 
 /// Looks numbers up where half of them are in use, `ops` times. It answers how many were in use. The error
 /// is want of memory.
-pub fn find(alloc: Global, ops: u32) -> Result<u64, AllocError> {
+fn find(alloc: Global, ops: u32) -> Result<u64, AllocError> {
     let mut numbers = Numbers::new(alloc, PID_MAX)?;
     let _ = half_used(alloc, &mut numbers)?;
     let mut n = 0u32;
@@ -120,7 +120,7 @@ pub fn find(alloc: Global, ops: u32) -> Result<u64, AllocError> {
 
 /// Asks for the root number of an identifier of level 32, `ops` times, and answers their sum modulo 2^64.
 /// The error is want of memory.
-pub fn number_in(alloc: Global, ops: u32) -> Result<u64, AllocError> {
+fn number_in(alloc: Global, ops: u32) -> Result<u64, AllocError> {
     let (mut numbers, space) = nested(alloc, 32)?;
     let ident = draw(&mut numbers, space).unwrap_or(0);
     let mut sum = 0u64;
@@ -128,4 +128,18 @@ pub fn number_in(alloc: Global, ops: u32) -> Result<u64, AllocError> {
         sum = sum.wrapping_add(u64::from(numbers.number_in(ident, 0).unwrap_or(0)));
     }
     Ok(sum)
+}
+
+/// Runs a load of this file and answers its checksum; none for another name. The error is want of memory.
+pub fn run(alloc: Global, name: &str, ops: u32) -> Result<Option<u64>, AllocError> {
+    let sum = match name {
+        "numbers.lone.0" => come_and_go(alloc, 0, ops)?,
+        "numbers.lone.8" => come_and_go(alloc, 8, ops)?,
+        "numbers.lone.32" => come_and_go(alloc, 32, ops)?,
+        "numbers.half" => replace(alloc, ops)?,
+        "numbers.number_in" => number_in(alloc, ops)?,
+        "numbers.find" => find(alloc, ops)?,
+        _ => return Ok(None),
+    };
+    Ok(Some(sum))
 }

@@ -30,21 +30,15 @@ const NAMES: [&str; 12] = [
 
 /// Runs a load and answers its checksum. The error is want of memory, or a name that is not in `NAMES`.
 fn run_load(rt: &HostRuntime, name: &str, ops: u32) -> Result<u64> {
-    let alloc = rt.alloc();
-    match name {
-        "numbers.lone.0" => Ok(identifiers::come_and_go(alloc, 0, ops)?),
-        "numbers.lone.8" => Ok(identifiers::come_and_go(alloc, 8, ops)?),
-        "numbers.lone.32" => Ok(identifiers::come_and_go(alloc, 32, ops)?),
-        "numbers.half" => Ok(identifiers::replace(alloc, ops)?),
-        "numbers.number_in" => Ok(identifiers::number_in(alloc, ops)?),
-        "numbers.find" => Ok(identifiers::find(alloc, ops)?),
-        "controls.live.1" => Ok(charges::live(alloc, 1, ops)?),
-        "controls.live.64" => Ok(charges::live(alloc, 64, ops)?),
-        "controls.may_charge.64" => Ok(charges::may_charge(alloc, 64, ops)?),
-        "groups.enter+leave" => Ok(groups::enter_and_leave(alloc, ops)?),
-        "groups.join" => Ok(groups::join(alloc, ops)?),
-        "groups.may_setpgid" => Ok(groups::may_setpgid(alloc, ops)?),
-        _ => bail!("no such load"),
+    if let Some(sum) = identifiers::run(rt.alloc(), name, ops)? {
+        return Ok(sum);
+    }
+    if let Some(sum) = charges::run(rt.alloc(), name, ops)? {
+        return Ok(sum);
+    }
+    match groups::run(rt.alloc(), name, ops)? {
+        Some(sum) => Ok(sum),
+        None => bail!("no such load"),
     }
 }
 
