@@ -73,19 +73,21 @@ fn join(alloc: Global, ops: u32) -> Result<u64, AllocError> {
     Ok(u64::from(members.group(0)))
 }
 
-/// A task asks to be put into the group with the number 4, in which one of its session is, `ops` times. It
-/// answers the sum of that group's keys, modulo 2^64. The error is want of memory.
+/// The second process of the root namespace asks to be put into the group of the fourth, in which one of its
+/// session is, `ops` times. It answers the sum of that group's keys, modulo 2^64. The error is want of memory.
 fn may_setpgid(alloc: Global, ops: u32) -> Result<u64, AllocError> {
     let members = one_task(alloc)?;
     let (numbers, _) = nested(alloc, 5)?;
+    let session = members.session(0);
+    let number = numbers.number_in(session, 0).unwrap_or(0);
     let ask = GroupAsk {
         caller: 1,
-        session: FIRST,
+        session,
         space: 0,
-        pgid: 4,
+        pgid: i32::try_from(number).unwrap_or(0),
         target: Some(Target {
             ident: 1,
-            session: FIRST,
+            session,
             is_child: false,
             executed: false,
         }),
