@@ -2,8 +2,7 @@
 //! `setpgid(2)` and `setsid(2)`.
 //!
 //! Tasks have keys, and so have the identifiers that groups and sessions are named after. Both are numbers
-//! below 2^30 and share one room. A task in one of the tables may be a zombie: it is in its group until it
-//! leaves.
+//! below 2^30 and share one room. A zombie is a task too: it is in its group until it is reaped, and leaves.
 #![tactic(auto)]
 
 ghost use Rattle.std.specs.Prelude.{◌≡◌, ◌≢◌, ℕ, ◌<◌, ◌≤◌, ◌^◌, ◌↔◌, [], length, option_map, Some, None, IsSome, IsTrue, OnOk, MatchResult, slice_set};
@@ -25,9 +24,9 @@ use std::marker::Model;
 
 /// In which group and in which session each task is.
 ///
-/// All tasks of a group are in one session, which is kept with the group. It takes 20 bytes for each key.
-/// Each call costs a few reads and writes, however many tasks and groups there are, and only `reserve`
-/// takes memory.
+/// All tasks of a group are in one session, which is kept with the group. It takes 20 bytes for each key,
+/// and only `reserve` takes memory. But for that one and `may_setpgid` each call costs a few reads and
+/// writes, however many tasks and groups there are.
 #[derive(Drop)]
 pub struct Members {
     groups: OwnerLists,
@@ -56,8 +55,8 @@ impl Members {
         }
     }
 
-    /// Makes room for the key of a task and for that of an identifier. The error is want of memory; then
-    /// each task is where it was.
+    /// Makes room for the key of a task and for that of an identifier. It costs a step for each key that is
+    /// new. The error is want of memory; then each task is where it was.
     pub fn reserve(&mut self, task: u32, ident: u32) -> Result<(), AllocError>
         requires task { task < 2 ^ 30 }
         requires ident { ident < 2 ^ 30 }
