@@ -1,0 +1,102 @@
+-- What each task is in, by the groups of tasks and the sessions of groups.
+use Rattle.std.proofs.Common.{◌≡◌, ◌≢◌, inl, inr, ℕ, ◌<◌, List, length, set, Bool, true, false, IsTrue, Option, Some, None, option_map, refl, sym, ap, subst, ◌∙◌, arith}
+use Rattle.std.specs.Prelude.{slice_index}
+use Rattle.std.proofs.lemmas.Bool.{cases_eq}
+use Rattle.std.proofs.lemmas.List.{ext_get_or, get_or-set_same, get_or-set_other, length-map, map-set}
+use Rattle.std.proofs.Math.ListN.{get_or-map}
+use Rattle.owner_lists.specs.Owners.{owner_of}
+use Rattle.groups_sessions.specs.Membership.{Membership, membership_at, group_of, session_of, groups_of, AreInSession, membership_in, memberships_of, IsKept}
+
+module _ (groups : List (Option ℕ)) (sessions : List ℕ) where
+  pub membership_at-is : (k : ℕ) → membership_at (memberships_of groups sessions) k ≡ option_map (membership_in sessions) (owner_of groups k)
+  membership_at-is k = get_or-map (option_map (membership_in sessions)) groups k None
+
+  pub group_of-is : (k : ℕ) → group_of (memberships_of groups sessions) k ≡ owner_of groups k
+  group_of-is k = ap (option_map (λ (m : Membership). m.group)) (membership_at-is k) ∙ go (owner_of groups k)
+    where
+      go : (o : Option ℕ) → option_map (λ (m : Membership). m.group) (option_map (membership_in sessions) o) ≡ o
+      go None = refl
+      go (Some g) = refl
+
+  -- whoever is in a group is in the session that it has
+  pub in_session : (g s : ℕ) → slice_index sessions g ≡ s → AreInSession (memberships_of groups sessions) g s
+  in_session g s is k mine =
+      ap (option_map (λ (m : Membership). m.session)) (membership_at-is k ∙ ap (option_map (membership_in sessions)) (sym (group_of-is k) ∙ mine)) ∙ ap Some is
+
+  -- a task's group, and its session by that
+  pub told : (k : ℕ) (m : Membership) → membership_at (memberships_of groups sessions) k ≡ Some m → (owner_of groups k ≡ Some m.group) × (slice_index sessions m.group ≡ m.session)
+  told k m is = go (owner_of groups k) refl (sym (membership_at-is k) ∙ is)
+    where
+      go : (o : Option ℕ) → owner_of groups k ≡ o → option_map (membership_in sessions) o ≡ Some m → (owner_of groups k ≡ Some m.group) × (slice_index sessions m.group ≡ m.session)
+      go None e same = absurd (cc)
+      go (Some g) e same = let at : membership_in sessions g ≡ m = cc in (e ∙ ap (λ (x : Membership). Some x.group) at, ap (λ (x : Membership). slice_index sessions x.group) (sym at) ∙ ap (λ (x : Membership). x.session) at)
+
+  module _ (t g s : ℕ) (inside : g < length sessions) (together : AreInSession (memberships_of groups sessions) g s) where
+    -- the group's session is what it was, if somebody is in it
+    session_kept : (k h : ℕ) → owner_of groups k ≡ Some h → slice_index (set sessions g s) h ≡ slice_index sessions h
+    session_kept k h mine = elim (cases_eq h g) [
+      | inl same ↦
+          let at : group_of (memberships_of groups sessions) k ≡ Some g = group_of-is k ∙ mine ∙ ap Some same in
+          let is : Some (slice_index sessions h) ≡ Some s =
+          sym (ap (option_map (λ (m : Membership). m.session)) (membership_at-is k ∙ ap (option_map (membership_in sessions)) mine)) ∙ together k at in
+          let e : slice_index sessions h ≡ s = cc in
+          ap (λ i. slice_index (set sessions g s) i) same ∙ get_or-set_same sessions g s 0 inside ∙ sym e
+      | inr other ↦ get_or-set_other sessions g h s 0 other
+    ]
+
+    kept : (k : ℕ) (o : Option ℕ) → owner_of groups k ≡ o → option_map (membership_in (set sessions g s)) o ≡ option_map (membership_in sessions) o
+    kept k None e = refl
+    kept k (Some h) e = ap (λ (i : ℕ). Some (record { group = h; session = i })) (session_kept k h e)
+
+    others : memberships_of groups (set sessions g s) ≡ memberships_of groups sessions
+    others =
+        ext_get_or None _ _ (length-map groups (option_map (membership_in (set sessions g s))) ∙ sym (length-map groups (option_map (membership_in sessions))))
+        (λ k _. get_or-map (option_map (membership_in (set sessions g s))) groups k None ∙ kept k (owner_of groups k) refl ∙ sym (membership_at-is k))
+
+    -- one task goes into a group, which has its session
+    pub memberships_of-put : memberships_of (set groups t (Some g)) (set sessions g s) ≡ set (memberships_of groups sessions) t (Some (record { group = g; session = s }))
+    memberships_of-put =
+        map-set (option_map (membership_in (set sessions g s))) groups t (Some g)
+        ∙ ap (λ i. set (memberships_of groups (set sessions g s)) t (Some (record { group = g; session = i }))) (get_or-set_same sessions g s 0 inside)
+        ∙ ap (λ v. set v t (Some (record { group = g; session = s }))) others
+
+-- at each key the group is what the lists say
+pub groups_of-is : (groups : List (Option ℕ)) (sessions : List ℕ) → groups_of (memberships_of groups sessions) ≡ groups
+groups_of-is groups sessions =
+    ext_get_or None _ _ (length-map (memberships_of groups sessions) (option_map (λ (m : Membership). m.group)) ∙ length-map groups (option_map (membership_in sessions)))
+    (λ k _. get_or-map (option_map (λ (m : Membership). m.group)) (memberships_of groups sessions) k None ∙ group_of-is groups sessions k)
+
+-- the task in another group, where its session is known
+pub with_group : (v : List (Option Membership)) (t g s : ℕ) → session_of v t ≡ Some s → option_map (λ (m : Membership). record m { group = g }) (membership_at v t) ≡ Some (record { group = g; session = s })
+with_group v t g s is = go (membership_at v t) is
+  where
+    go : (o : Option Membership) → option_map (λ (m : Membership). m.session) o ≡ Some s → option_map (λ (m : Membership). record m { group = g }) o ≡ Some (record { group = g; session = s })
+    go None e = absurd (cc)
+    go (Some m) e = let same : m.session ≡ s = cc in ap (λ i. Some (record { group = g; session = i })) same
+
+-- the same, of a value seen from outside
+pub entered : (groups : List (Option ℕ)) (sessions : List ℕ) (v : List (Option Membership)) → memberships_of groups sessions ≡ v → IsKept groups sessions
+    → (t g s : ℕ) → g < length v → AreInSession v g s → memberships_of (set groups t (Some g)) (set sessions g s) ≡ set v t (Some (record { group = g; session = s }))
+entered groups sessions v is kept t g s room together =
+    let long = ap length is in
+    memberships_of-put groups sessions t g s (omega (arith, kept.room, long, length-map groups (option_map (membership_in sessions)))) (subst (λ (w : List (Option Membership)). AreInSession w g s) (sym is) together)
+    ∙ ap (λ (w : List (Option Membership)). set w t (Some (record { group = g; session = s }))) is
+
+-- who is in no list is in no group
+pub nobody : (groups : List (Option ℕ)) (sessions : List ℕ) (v : List (Option Membership)) → memberships_of groups sessions ≡ v → (g : ℕ)
+    → ((k : ℕ) → owner_of groups k ≢ Some g) → (k : ℕ) → group_of v k ≢ Some g
+nobody groups sessions v is g none k mine = none k (sym (group_of-is groups sessions k) ∙ ap (λ (w : List (Option Membership)). group_of w k) is ∙ mine)
+
+-- more room, and nobody moved
+pub grown : (groups groups' : List (Option ℕ)) (sessions sessions' : List ℕ) → ((k : ℕ) → owner_of groups' k ≡ owner_of groups k)
+    → ((k : ℕ) → slice_index sessions' k ≡ slice_index sessions k) → (k : ℕ) → membership_at (memberships_of groups' sessions') k ≡ membership_at (memberships_of groups sessions) k
+grown groups groups' sessions sessions' same_groups same_sessions k =
+    membership_at-is groups' sessions' k ∙ ap (option_map (membership_in sessions')) (same_groups k) ∙ go (owner_of groups k) ∙ sym (membership_at-is groups sessions k)
+  where
+    go : (o : Option ℕ) → option_map (membership_in sessions') o ≡ option_map (membership_in sessions) o
+    go None = refl
+    go (Some g) = ap (λ (i : ℕ). Some (record { group = g; session = i })) (same_sessions g)
+
+pub true_unless : (b : Bool) → (b ≡ false → ⊥) → IsTrue b
+true_unless true never = refl
+true_unless false never = absurd (never refl)

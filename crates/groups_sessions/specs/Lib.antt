@@ -1,0 +1,3 @@
+pub mod Membership
+pub mod Setpgid
+pub mod Counts

@@ -1,0 +1,225 @@
+//! Process groups and sessions: in which of them each task is, who is in a group, and the rules of
+//! `setpgid(2)` and `setsid(2)`.
+//!
+//! Tasks have keys, and so have the identifiers that groups and sessions are named after. Both are numbers
+//! below 2^30 and share one room. A zombie is a task too: it is in its group until it is reaped, and leaves.
+#![tactic(auto)]
+
+ghost use Rattle.std.specs.Prelude.{◌≡◌, ◌≢◌, ℕ, ◌<◌, ◌≤◌, ◌^◌, ◌↔◌, [], length, option_map, Some, None, IsSome, IsTrue, OnOk, MatchResult, slice_set};
+ghost use Rattle.owner_lists.specs.Owners.{AreMembers};
+ghost use Rattle.groups_sessions.specs.Membership.{Membership, membership_at, group_of, session_of, groups_of, HasMembers, AreInSession, IsSessionOf};
+ghost use Rattle.groups_sessions.specs.Setpgid.{session_group as session_group_of, group_for as group_for_of, setpgid_answer};
+
+mod ask;
+mod room;
+
+pub use ask::{GroupAsk, Target};
+pub use owner_lists::Members as GroupMembers;
+use owner_lists::OwnerLists;
+use pid_numbers::Numbers;
+use pid_types::reply::Refusal;
+use room::{group_in, has_member, make_room};
+use std::alloc::{AllocError, Global};
+use std::marker::Model;
+
+/// In which group and in which session each task is.
+///
+/// All tasks of a group are in one session, which is kept with the group. It takes 20 bytes for each key,
+/// and only `reserve` takes memory. But for that one and `may_setpgid` each call costs a few reads and
+/// writes, however many tasks and groups there are.
+#[derive(Drop)]
+pub struct Members {
+    groups: OwnerLists,
+    sessions: Vec<u32>,
+}
+
+impl Model for Members {
+    ghost use Rattle.std.specs.Prelude.{List, Option};
+    ghost use Rattle.groups_sessions.specs.Membership.{Membership, memberships_of, IsKept};
+
+    ghost Value = { List (Option Membership) };
+
+    ghost view = { λ a. memberships_of a.groups a.sessions.items };
+
+    ghost invariant = { λ a. IsKept a.groups a.sessions.items };
+}
+
+impl Members {
+    /// No task in any group.
+    pub fn new(alloc: Global) -> Self
+        ensures { result ≡ [] }
+    {
+        Members {
+            groups: OwnerLists::new(alloc),
+            sessions: Vec::new(alloc),
+        }
+    }
+
+    /// Makes room for the key of a task and for that of an identifier. It costs a step for each key that is
+    /// new. The error is want of memory; then each task is where it was.
+    pub fn reserve(&mut self, task: u32, ident: u32) -> Result<(), AllocError>
+        requires task { task < 2 ^ 30 }
+        requires ident { ident < 2 ^ 30 }
+        ensures task { OnOk result (task < length self.new) }
+        ensures ident { OnOk result (ident < length self.new) }
+        ensures room { length self.old ≤ length self.new }
+        ensures kept { (k : ℕ) → membership_at self.new k ≡ membership_at self.old k }
+    {
+        make_room(&mut self.groups, &mut self.sessions, task)?;
+        make_room(&mut self.groups, &mut self.sessions, ident)
+    }
+
+    /// A task that is in no group enters one, as `fork(2)` has it enter its parent's. Whoever is in the
+    /// group must be in the session.
+    pub fn enter(&mut self, task: u32, group: u32, session: u32)
+        requires task { task < length self.old }
+        requires group { group < length self.old }
+        requires free { membership_at self.old task ≡ None }
+        requires together { AreInSession self.old group session }
+        ensures { self.new ≡ slice_set self.old task (Some (record { group = group; session = session })) }
+    {
+        self.sessions[group as usize] = session;
+        self.groups.add(task, group);
+    }
+
+    /// A task goes to another group, or to the one that it is in, and stays in its session: `setpgid(2)`.
+    /// Whoever is in the group must be in the task's session.
+    pub fn join_group(&mut self, task: u32, ident: u32)
+        requires group { ident < length self.old }
+        requires there { IsSome (membership_at self.old task) }
+        requires together { (s : ℕ) → session_of self.old task ≡ Some s → AreInSession self.old ident s }
+        ensures { self.new ≡ slice_set self.old task (option_map (λ (m : Membership). record m { group = ident }) (membership_at self.old task)) }
+    {
+        let session = self.session(task);
+        self.sessions[ident as usize] = session;
+        self.groups.move_to(task, ident);
+    }
+
+    /// A task leads a new session and a new group in it, both named after the identifier: `setsid(2)`.
+    /// Nobody may be in that group.
+    pub fn start_session(&mut self, task: u32, ident: u32)
+        requires group { ident < length self.old }
+        requires there { IsSome (membership_at self.old task) }
+        requires free { (k : ℕ) → group_of self.old k ≢ Some ident }
+        ensures { self.new ≡ slice_set self.old task (Some (record { group = ident; session = ident })) }
+    {
+        self.sessions[ident as usize] = ident;
+        self.groups.move_to(task, ident);
+    }
+
+    /// A task is gone: it was reaped.
+    pub fn leave(&mut self, task: u32)
+        requires { IsSome (membership_at self.old task) }
+        ensures { self.new ≡ slice_set self.old task None }
+    {
+        self.groups.remove(task);
+    }
+
+    /// The group that a task is in: `getpgid(2)`.
+    pub fn group(&self, task: u32) -> u32
+        requires { IsSome (membership_at self.now task) }
+        ensures { group_of self.now task ≡ Some result }
+    {
+        group_in(&self.groups, task)
+    }
+
+    /// The session that a task is in: `getsid(2)`.
+    pub fn session(&self, task: u32) -> u32
+        requires { IsSome (membership_at self.now task) }
+        ensures { session_of self.now task ≡ Some result }
+    {
+        let group = group_in(&self.groups, task);
+        self.sessions[group as usize]
+    }
+
+    /// Whether some task is in the group.
+    pub fn any_in_group(&self, ident: u32) -> bool
+        ensures { IsTrue result ↔ HasMembers self.now ident }
+    {
+        has_member(&self.groups, ident)
+    }
+
+    /// The session of those who are in the group; none where nobody is.
+    pub fn session_of_group(&self, ident: u32) -> Option<u32>
+        ensures { IsSessionOf self.now ident result }
+    {
+        if has_member(&self.groups, ident) {
+            Some(self.sessions[ident as usize])
+        } else {
+            None
+        }
+    }
+
+    /// Those who are in the group, one after the other.
+    pub fn group_members(&self, ident: u32) -> GroupMembers<'_>
+        requires { ident < length self.now }
+        ensures { AreMembers (groups_of self.now) ident result }
+    {
+        self.groups.members(ident)
+    }
+
+    /// The group with the number in the namespace, if some task of the session is in it.
+    fn session_group(&self, numbers: &Numbers, session: u32, space: u32, n: u32) -> Option<u32>
+        ensures { result ≡ session_group_of self.now numbers.now session space n }
+    {
+        numbers.laws();
+        let Some(ident) = numbers.find(space, n) else {
+            return None;
+        };
+        if self.session_of_group(ident) == Some(session) {
+            Some(ident)
+        } else {
+            None
+        }
+    }
+
+    /// The group that the number names for the target.
+    fn group_for(&self, numbers: &Numbers, ask: &GroupAsk, target: &Target) -> Option<u32>
+        ensures { result ≡ group_for_of self.now numbers.now ask.now target.now ask.now.pgid }
+    {
+        let n = u32::try_from(ask.pgid).ok()?;
+        if n == 0 || numbers.number_in(target.ident, ask.space) == Some(n) {
+            return Some(target.ident);
+        }
+        self.session_group(numbers, ask.session, ask.space, n)
+    }
+
+    /// The group that `setpgid(2)` puts the target into, or the first refusal: `BadGroup` for a negative
+    /// number; `NoTask` where there is no target; of a child `OtherSession` and `Executed`; `NoTask` for who is
+    /// neither the caller nor its child; `IsLeader`; and `NoGroup` where nobody of the caller's session,
+    /// zombies included, is in the group. It costs one search in the namespace's tree of numbers.
+    pub fn may_setpgid(&self, numbers: &Numbers, ask: &GroupAsk) -> Result<u32, Refusal>
+        ensures { result ≡ setpgid_answer self.now numbers.now ask.now }
+    {
+        if ask.pgid < 0 {
+            return Err(Refusal::BadGroup);
+        }
+        let Some(target) = ask.target else {
+            return Err(Refusal::NoTask);
+        };
+        ask.check(&target)?;
+        self.group_for(numbers, ask, &target)
+            .ok_or(Refusal::NoGroup)
+    }
+
+    /// Whether the task with the identifier may lead a new session: `IsLeader` where somebody, the task
+    /// itself or a zombie too, is in a group of that name (`setsid(2)`, `EPERM`).
+    pub fn may_setsid(&self, ident: u32) -> Result<(), Refusal>
+        ensures { MatchResult result (λ _. (k : ℕ) → group_of self.now k ≢ Some ident) (λ refusal. (refusal ≡ Refusal.IsLeader) × HasMembers self.now ident) }
+    {
+        if self.any_in_group(ident) {
+            Err(Refusal::IsLeader)
+        } else {
+            Ok(())
+        }
+    }
+
+    /// What is true at any time; the call does nothing. The tasks of one group are in one session, and
+    /// there is room for each group's key.
+    pub fn laws(&self)
+        ensures together { (k : ℕ) (m : Membership) → membership_at self.now k ≡ Some m → AreInSession self.now m.group m.session }
+        ensures room { (k : ℕ) (m : Membership) → membership_at self.now k ≡ Some m → m.group < length self.now }
+    {
+        let _ = &self.groups;
+    }
+}

@@ -1,0 +1,64 @@
+//! Memory for one more key, and look-ups in the lists of tasks by group.
+
+ghost use Rattle.std.specs.Prelude.{◌≡◌, ◌≢◌, ℕ, ◌+◌, ◌<◌, ◌≤◌, ◌^◌, length, Some, IsSome, IsTrue, false, OnOk, slice_index};
+ghost use Rattle.owner_lists.specs.Owners.{owner_of};
+ghost use Rattle.groups_sessions.specs.Membership.{IsKept};
+
+use owner_lists::OwnerLists;
+use std::alloc::AllocError;
+
+/// Makes room for one more key.
+fn grow(groups: &mut OwnerLists, sessions: &mut Vec<u32>) -> Result<(), AllocError>
+    requires small { length groups.old < 2 ^ 30 }
+    requires kept { IsKept groups.old sessions.old.items }
+    ensures kept { IsKept groups.new sessions.new.items }
+    ensures groups { (k : ℕ) → owner_of groups.new k ≡ owner_of groups.old k }
+    ensures sessions { (k : ℕ) → slice_index sessions.new.items k ≡ slice_index sessions.old.items k }
+    ensures longer { length groups.old ≤ length groups.new }
+    ensures room { OnOk result (length groups.new ≡ length groups.old + 1) }
+{
+    sessions.try_reserve(1)?;
+    groups.grow()?;
+    sessions.push_reserved(0);
+    Ok(())
+}
+
+/// Makes room for all keys up to one.
+pub(crate) fn make_room(
+    groups: &mut OwnerLists,
+    sessions: &mut Vec<u32>,
+    key: u32,
+) -> Result<(), AllocError>
+    requires key { key < 2 ^ 30 }
+    requires kept { IsKept groups.old sessions.old.items }
+    ensures kept { IsKept groups.new sessions.new.items }
+    ensures groups { (k : ℕ) → owner_of groups.new k ≡ owner_of groups.old k }
+    ensures sessions { (k : ℕ) → slice_index sessions.new.items k ≡ slice_index sessions.old.items k }
+    ensures longer { length groups.old ≤ length groups.new }
+    ensures room { OnOk result (key < length groups.new) }
+{
+    while groups.keys() <= key as usize {
+        grow(groups, sessions)?;
+    }
+    Ok(())
+}
+
+/// The group of a task that is in one.
+pub(crate) fn group_in(groups: &OwnerLists, task: u32) -> u32
+    requires { IsSome (owner_of groups.now task) }
+    ensures { owner_of groups.now task ≡ Some result }
+{
+    match groups.owner(task) {
+        Some(group) => group,
+        None => unreachable!(),
+    }
+}
+
+/// Whether some task is in the group.
+pub(crate) fn has_member(groups: &OwnerLists, ident: u32) -> bool
+    requires { (k g : ℕ) → owner_of groups.now k ≡ Some g → g < length groups.now }
+    ensures some { IsTrue result → (k : ℕ) × (owner_of groups.now k ≡ Some ident) }
+    ensures none { result ≡ false → (k : ℕ) → owner_of groups.now k ≢ Some ident }
+{
+    (ident as usize) < groups.keys() && groups.first(ident).is_some()
+}
