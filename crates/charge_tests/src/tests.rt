@@ -27,14 +27,23 @@ fn key_of(rt: &impl Abort, controls: &Controls, id: u64) -> u32
     controls.find(id).expect(rt, "no group")
 }
 
-/// Makes a control group below the one with the id; its own id is above all.
-fn make_below(rt: &impl Abort, controls: &mut Controls, above: u64, id: u64) -> Option<ControlFault>
+/// Why no control group can be made below the one with the id, or none where it was; its own id is above all.
+fn try_make(rt: &impl Abort, controls: &mut Controls, above: u64, id: u64) -> Option<ControlFault>
     requires above { AllByRecursion (λ g. g.id < id) controls.old.controls }
     ensures above { AllByRecursion (λ g. g.id < id + 1) controls.new.controls }
     ensures tasks { all_tasks controls.new ≡ all_tasks controls.old }
 {
     let key = key_of(rt, controls, above);
     controls.make(key, id).err()
+}
+
+/// Makes a control group below the one with the id.
+fn make_below(rt: &impl Abort, controls: &mut Controls, above: u64, id: u64)
+    requires above { AllByRecursion (λ g. g.id < id) controls.old.controls }
+    ensures above { AllByRecursion (λ g. g.id < id + 1) controls.new.controls }
+    ensures tasks { all_tasks controls.new ≡ all_tasks controls.old }
+{
+    assert_eq!(rt; try_make(rt, controls, above, id), None);
 }
 
 fn remove(rt: &impl Abort, controls: &mut Controls, id: u64) -> Option<Refusal> {
@@ -102,6 +111,16 @@ fn reap(controls: &mut Controls, home: u32)
     controls.uncharge(home);
 }
 
+/// The control group with the id has as many tasks.
+fn expect_count(rt: &impl Abort, controls: &Controls, id: u64, count: u64) {
+    assert_eq!(rt; count_of(rt, controls, id), count, "group {id}");
+}
+
+/// The refusal is the one that is told, or none.
+fn expect_refusal(rt: &impl Abort, refused: Option<Refusal>, told: Option<Refusal>) {
+    assert_eq!(rt; refused, told);
+}
+
 /// A new table has the root group alone.
 #[test]
 fn begins_with_the_root(rt: HostRuntime) -> Result<(), Fail> {
@@ -111,7 +130,7 @@ fn begins_with_the_root(rt: HostRuntime) -> Result<(), Fail> {
     assert_eq!(rt; controls.parent(root), None);
     assert_eq!(rt; controls.keys().next(), Some((0, root)));
     assert_eq!(rt; limit_of(&rt, &controls, 0), None);
-    assert_eq!(rt; count_of(&rt, &controls, 0), 0);
+    expect_count(&rt, &controls, 0, 0);
     assert_eq!(rt; controls.find(1), None);
     Ok(())
 }
@@ -120,16 +139,24 @@ fn begins_with_the_root(rt: HostRuntime) -> Result<(), Fail> {
 #[test]
 fn sets_limits(rt: HostRuntime) -> Result<(), Fail> {
     let mut controls = root_alone(rt.alloc())?;
-    assert_eq!(rt; make_below(&rt, &mut controls, 0, 1), None);
+    make_below(&rt, &mut controls, 0, 1);
     let refused = set_limit(&rt, &mut controls, 0, Some(5));
-    assert_eq!(rt; refused, Some(Refusal::RootControl));
-    assert_eq!(rt; remove(&rt, &mut controls, 0), Some(Refusal::RootControl));
+    expect_refusal(&rt, refused, Some(Refusal::RootControl));
+    expect_refusal(
+        &rt,
+        remove(&rt, &mut controls, 0),
+        Some(Refusal::RootControl),
+    );
     let refused = set_limit(&rt, &mut controls, 1, Some(4_194_305));
-    assert_eq!(rt; refused, Some(Refusal::BadLimit));
-    assert_eq!(rt; set_limit(&rt, &mut controls, 1, Some(0)), None);
+    expect_refusal(&rt, refused, Some(Refusal::BadLimit));
+    expect_refusal(&rt, set_limit(&rt, &mut controls, 1, Some(0)), None);
     assert_eq!(rt; limit_of(&rt, &controls, 1), Some(0));
-    assert_eq!(rt; refusal_of(&rt, &controls, 1), Some(Refusal::PidsLimit(1)));
-    assert_eq!(rt; refusal_of(&rt, &controls, 0), None);
+    expect_refusal(
+        &rt,
+        refusal_of(&rt, &controls, 1),
+        Some(Refusal::PidsLimit(1)),
+    );
+    expect_refusal(&rt, refusal_of(&rt, &controls, 0), None);
     Ok(())
 }
 
@@ -137,13 +164,21 @@ fn sets_limits(rt: HostRuntime) -> Result<(), Fail> {
 #[test]
 fn counts_tasks(rt: HostRuntime) -> Result<(), Fail> {
     let mut controls = root_alone(rt.alloc())?;
-    assert_eq!(rt; make_below(&rt, &mut controls, 0, 1), None);
-    assert_eq!(rt; set_limit(&rt, &mut controls, 1, Some(1)), None);
+    make_below(&rt, &mut controls, 0, 1);
+    expect_refusal(&rt, set_limit(&rt, &mut controls, 1, Some(1)), None);
     let home = charge(&rt, &mut controls, 0);
     transfer(&rt, &mut controls, home, 1);
-    assert_eq!(rt; count_of(&rt, &controls, 1), 1);
-    assert_eq!(rt; refusal_of(&rt, &controls, 1), Some(Refusal::PidsLimit(1)));
-    assert_eq!(rt; remove(&rt, &mut controls, 1), Some(Refusal::ControlBusy));
+    expect_count(&rt, &controls, 1, 1);
+    expect_refusal(
+        &rt,
+        refusal_of(&rt, &controls, 1),
+        Some(Refusal::PidsLimit(1)),
+    );
+    expect_refusal(
+        &rt,
+        remove(&rt, &mut controls, 1),
+        Some(Refusal::ControlBusy),
+    );
     Ok(())
 }
 
@@ -151,12 +186,12 @@ fn counts_tasks(rt: HostRuntime) -> Result<(), Fail> {
 #[test]
 fn reaps_zombies(rt: HostRuntime) -> Result<(), Fail> {
     let mut controls = root_alone(rt.alloc())?;
-    assert_eq!(rt; make_below(&rt, &mut controls, 0, 1), None);
+    make_below(&rt, &mut controls, 0, 1);
     let home = charge(&rt, &mut controls, 1);
     end(&mut controls, home);
-    assert_eq!(rt; count_of(&rt, &controls, 0), 1);
+    expect_count(&rt, &controls, 0, 1);
     reap(&mut controls, home);
-    assert_eq!(rt; count_of(&rt, &controls, 0), 0);
+    expect_count(&rt, &controls, 0, 0);
     Ok(())
 }
 
@@ -164,12 +199,12 @@ fn reaps_zombies(rt: HostRuntime) -> Result<(), Fail> {
 #[test]
 fn counts_zombies_of_a_removed_group(rt: HostRuntime) -> Result<(), Fail> {
     let mut controls = root_alone(rt.alloc())?;
-    assert_eq!(rt; make_below(&rt, &mut controls, 0, 1), None);
+    make_below(&rt, &mut controls, 0, 1);
     let home = charge(&rt, &mut controls, 1);
     end(&mut controls, home);
-    assert_eq!(rt; remove(&rt, &mut controls, 1), None);
+    expect_refusal(&rt, remove(&rt, &mut controls, 1), None);
     assert_eq!(rt; controls.find(1), None);
-    assert_eq!(rt; count_of(&rt, &controls, 0), 1);
+    expect_count(&rt, &controls, 0, 1);
     Ok(())
 }
 
@@ -180,7 +215,7 @@ fn make_64(rt: &impl Abort, controls: &mut Controls)
     ensures tasks { all_tasks controls.new ≡ all_tasks controls.old }
 {
     for above in 0..64 {
-        assert_eq!(rt; make_below(rt, controls, above, above + 1), None);
+        make_below(rt, controls, above, above + 1);
     }
 }
 
@@ -189,16 +224,16 @@ fn make_64(rt: &impl Abort, controls: &mut Controls)
 fn counts_on_64_levels(rt: HostRuntime) -> Result<(), Fail> {
     let mut controls = root_alone(rt.alloc())?;
     make_64(&rt, &mut controls);
-    let refused = make_below(&rt, &mut controls, 64, 65);
+    let refused = try_make(&rt, &mut controls, 64, 65);
     assert_eq!(rt; refused, Some(ControlFault::ControlDepth));
     let home = charge(&rt, &mut controls, 64);
     for id in 0..65 {
-        assert_eq!(rt; count_of(&rt, &controls, id), 1, "group {id}");
+        expect_count(&rt, &controls, id, 1);
     }
     end(&mut controls, home);
     reap(&mut controls, home);
     for id in 0..65 {
-        assert_eq!(rt; count_of(&rt, &controls, id), 0, "group {id}");
+        expect_count(&rt, &controls, id, 0);
     }
     Ok(())
 }
