@@ -6,6 +6,7 @@ ghost use Rattle.pid_types.specs.Settings.{HasGoodPidMax};
 use pid_numbers::{Numbers, PlanFault};
 use pid_types::call::Kind;
 use std::alloc::{AllocError, Global};
+use std::process::Abort;
 use std::test::Fail;
 
 /// A draw in the namespace, again where there was no memory; it answers the identifier.
@@ -56,32 +57,68 @@ fn drop_use(numbers: &mut Numbers, ident: u32, kind: Kind) {
     }
 }
 
+// What a table answers, of which the tests know nothing more.
+
+fn find(numbers: &Numbers, space: u32, n: u32) -> Option<u32> {
+    numbers.find(space, n)
+}
+
+fn expect_found(rt: &impl Abort, numbers: &Numbers, space: u32, n: u32, ident: Option<u32>) {
+    assert_eq!(rt; numbers.find(space, n), ident, "{n} in {space}");
+}
+
+fn expect_number(rt: &impl Abort, numbers: &Numbers, ident: u32, space: u32, n: u32) {
+    assert_eq!(rt; numbers.number_in(ident, space), Some(n));
+}
+
+fn expect_cursor(rt: &impl Abort, numbers: &Numbers, space: u32, cursor: u32) {
+    assert_eq!(rt; numbers.cursor(space), Some(cursor));
+}
+
+fn expect_used(rt: &impl Abort, numbers: &Numbers, kind: Kind, from: u32, used: Option<u32>) {
+    assert_eq!(rt; numbers.next_used(0, kind, from), used);
+}
+
+/// Whether a number can be drawn in the root namespace.
+fn has_plan(numbers: &Numbers) -> bool {
+    numbers.plan(0).is_ok()
+}
+
+fn fault_of_new(numbers: &Numbers, parent: u32) -> Option<PlanFault> {
+    numbers.plan_new(parent).err()
+}
+
+/// A namespace directly in the root one, which stands.
+fn expect_inner(rt: &impl Abort, numbers: &Numbers, space: u32, id: u64) {
+    assert_eq!(rt; numbers.id(space), Some(id));
+    assert_eq!(rt; numbers.parent(space), Some(0));
+    assert_eq!(rt; numbers.parent(0), None);
+    assert!(rt; numbers.is_within(space, 0));
+    assert!(rt; !numbers.is_within(0, space));
+    assert!(rt; !numbers.is_fallen(space));
+}
+
 /// The root init is 1, the first of a new namespace 1 there and 2 in the root, and the next of it 2 and 3.
 #[test]
 fn numbers_on_two_levels(rt: HostRuntime) -> Result<(), Fail> {
     let mut numbers = table(rt.alloc(), 32768)?;
     numbers.laws();
     let init = draw(&mut numbers, 0);
-    assert_eq!(rt; numbers.find(0, 1), init);
+    expect_found(&rt, &numbers, 0, 1, init);
     let made = draw_new(&mut numbers, 0, 1);
     assert!(rt; made.is_some());
     if let Some((first, space)) = made {
         let second = draw(&mut numbers, space);
-        assert_eq!(rt; numbers.find(space, 1), Some(first));
-        assert_eq!(rt; numbers.find(0, 2), Some(first));
-        assert_eq!(rt; numbers.find(space, 2), second);
-        assert_eq!(rt; numbers.find(0, 3), second);
-        assert_eq!(rt; numbers.number_in(first, 0), Some(2));
-        assert_eq!(rt; numbers.number_in(first, space), Some(1));
+        expect_found(&rt, &numbers, space, 1, Some(first));
+        expect_found(&rt, &numbers, 0, 2, Some(first));
+        expect_found(&rt, &numbers, space, 2, second);
+        expect_found(&rt, &numbers, 0, 3, second);
+        expect_number(&rt, &numbers, first, 0, 2);
+        expect_number(&rt, &numbers, first, space, 1);
         assert_eq!(rt; numbers.space_of(first), Some(space));
-        assert_eq!(rt; numbers.cursor(0), Some(4));
-        assert_eq!(rt; numbers.cursor(space), Some(3));
-        assert_eq!(rt; numbers.id(space), Some(1));
-        assert_eq!(rt; numbers.parent(space), Some(0));
-        assert_eq!(rt; numbers.parent(0), None);
-        assert!(rt; numbers.is_within(space, 0));
-        assert!(rt; !numbers.is_within(0, space));
-        assert!(rt; !numbers.is_fallen(space));
+        expect_cursor(&rt, &numbers, 0, 4);
+        expect_cursor(&rt, &numbers, space, 3);
+        expect_inner(&rt, &numbers, space, 1);
     }
     Ok(())
 }
@@ -93,19 +130,19 @@ fn outlives_its_task(rt: HostRuntime) -> Result<(), Fail> {
     for _ in 0..301 {
         let _ = draw(&mut numbers, 0);
     }
-    assert!(rt; numbers.plan(0).is_err());
-    assert_eq!(rt; numbers.next_used(0, Kind::Task, 302), None);
-    assert!(rt; numbers.find(0, 301).is_some());
-    if let Some(last) = numbers.find(0, 301) {
+    assert!(rt; !has_plan(&numbers));
+    expect_used(&rt, &numbers, Kind::Task, 302, None);
+    assert!(rt; find(&numbers, 0, 301).is_some());
+    if let Some(last) = find(&numbers, 0, 301) {
         add_use(&mut numbers, last, Kind::Group);
         drop_use(&mut numbers, last, Kind::Task);
-        assert_eq!(rt; numbers.find(0, 301), Some(last));
-        assert_eq!(rt; numbers.next_used(0, Kind::Task, 301), None);
-        assert_eq!(rt; numbers.next_used(0, Kind::Group, 2), Some(301));
-        assert!(rt; numbers.plan(0).is_err());
+        expect_found(&rt, &numbers, 0, 301, Some(last));
+        expect_used(&rt, &numbers, Kind::Task, 301, None);
+        expect_used(&rt, &numbers, Kind::Group, 2, Some(301));
+        assert!(rt; !has_plan(&numbers));
         drop_use(&mut numbers, last, Kind::Group);
-        assert_eq!(rt; numbers.find(0, 301), None);
-        assert!(rt; numbers.plan(0).is_ok());
+        expect_found(&rt, &numbers, 0, 301, None);
+        assert!(rt; has_plan(&numbers));
     }
     Ok(())
 }
@@ -122,7 +159,7 @@ fn nests_to_level_32(rt: HostRuntime) -> Result<(), Fail> {
             inner = space;
         }
     }
-    assert_eq!(rt; numbers.find(0, 32), numbers.find(inner, 1));
-    assert_eq!(rt; numbers.plan_new(inner).err(), Some(PlanFault::TooDeep));
+    expect_found(&rt, &numbers, 0, 32, find(&numbers, inner, 1));
+    assert_eq!(rt; fault_of_new(&numbers, inner), Some(PlanFault::TooDeep));
     Ok(())
 }
