@@ -18,21 +18,63 @@ fn draw(rt: &impl Abort, ids: &mut CyclicIds<u32>) -> Option<u32> {
     Some(n)
 }
 
+// What the ids answer, of which the tests know nothing more.
+
+fn expect_draw(rt: &impl Abort, ids: &mut CyclicIds<u32>, drawn: Option<u32>) {
+    assert_eq!(rt; draw(rt, ids), drawn);
+}
+
+/// Releases a number that was drawn, whose entry is itself.
+fn expect_release(rt: &impl Abort, ids: &mut CyclicIds<u32>, n: u32) {
+    assert_eq!(rt; ids.release(n), Some(n));
+}
+
+fn expect_entry(rt: &impl Abort, ids: &CyclicIds<u32>, n: u32, entry: u32) {
+    assert_eq!(rt; ids.find(n).copied(), Some(entry));
+}
+
+fn expect_marked(rt: &impl Abort, ids: &CyclicIds<u32>, mark: usize, next: Option<u32>)
+    requires { mark < 3 }
+{
+    assert_eq!(rt; ids.next_marked(0, mark), next);
+}
+
+/// Gives the planned number with marks, again where there was no memory.
+fn give_marked(ids: &mut CyclicIds<u32>, entry: u32, marks: [bool; 3]) {
+    if let Some(n) = ids.plan() {
+        if ids.prepare(n).is_ok() || ids.prepare(n).is_ok() {
+            ids.commit_marked(n, entry, marks);
+        }
+    }
+}
+
+fn set_mark(ids: &mut CyclicIds<u32>, n: u32, mark: usize) -> bool
+    requires { mark < 3 }
+{
+    ids.set_mark(n, mark)
+}
+
+fn clear_mark(ids: &mut CyclicIds<u32>, n: u32, mark: usize) -> bool
+    requires { mark < 3 }
+{
+    ids.clear_mark(n, mark)
+}
+
 /// 1 to 300, and then only what is freed from 300 on.
 #[test]
 fn draws_in_turn(rt: HostRuntime) {
     let mut ids = CyclicIds::new(rt.alloc(), 301);
     for n in 1..=300 {
-        assert_eq!(rt; draw(&rt, &mut ids), Some(n));
+        expect_draw(&rt, &mut ids, Some(n));
     }
     assert_eq!(rt; ids.cursor(), 301);
-    assert_eq!(rt; draw(&rt, &mut ids), None);
-    assert_eq!(rt; ids.release(7), Some(7));
-    assert_eq!(rt; draw(&rt, &mut ids), None);
-    assert_eq!(rt; ids.release(300), Some(300));
+    expect_draw(&rt, &mut ids, None);
+    expect_release(&rt, &mut ids, 7);
+    expect_draw(&rt, &mut ids, None);
+    expect_release(&rt, &mut ids, 300);
     assert_eq!(rt; ids.cursor(), 301);
-    assert_eq!(rt; draw(&rt, &mut ids), Some(300));
-    assert_eq!(rt; ids.find(300).copied(), Some(300));
+    expect_draw(&rt, &mut ids, Some(300));
+    expect_entry(&rt, &ids, 300, 300);
 }
 
 /// Past the bound a draw starts again at 300: 5, which is free, is not drawn.
@@ -40,29 +82,25 @@ fn draws_in_turn(rt: HostRuntime) {
 fn restarts_at_300(rt: HostRuntime) {
     let mut ids = CyclicIds::new(rt.alloc(), 303);
     for n in 1..=302 {
-        assert_eq!(rt; draw(&rt, &mut ids), Some(n));
+        expect_draw(&rt, &mut ids, Some(n));
     }
-    assert_eq!(rt; ids.release(5), Some(5));
-    assert_eq!(rt; ids.release(301), Some(301));
-    assert_eq!(rt; ids.release(302), Some(302));
-    assert_eq!(rt; draw(&rt, &mut ids), Some(301));
-    assert_eq!(rt; ids.release(300), Some(300));
-    assert_eq!(rt; draw(&rt, &mut ids), Some(302));
-    assert_eq!(rt; draw(&rt, &mut ids), Some(300));
-    assert_eq!(rt; draw(&rt, &mut ids), None);
+    expect_release(&rt, &mut ids, 5);
+    expect_release(&rt, &mut ids, 301);
+    expect_release(&rt, &mut ids, 302);
+    expect_draw(&rt, &mut ids, Some(301));
+    expect_release(&rt, &mut ids, 300);
+    expect_draw(&rt, &mut ids, Some(302));
+    expect_draw(&rt, &mut ids, Some(300));
+    expect_draw(&rt, &mut ids, None);
 }
 
 /// A number that is given with marks has those, and no other.
 #[test]
 fn gives_with_marks(rt: HostRuntime) {
     let mut ids = CyclicIds::new(rt.alloc(), 301);
-    if let Some(n) = ids.plan() {
-        if ids.prepare(n).is_ok() || ids.prepare(n).is_ok() {
-            ids.commit_marked(n, 9, [true, false, true]);
-        }
-    }
-    assert_eq!(rt; ids.find(1).copied(), Some(9));
-    assert_eq!(rt; ids.next_marked(0, TASK_MARK), Some(1));
+    give_marked(&mut ids, 9, [true, false, true]);
+    expect_entry(&rt, &ids, 1, 9);
+    expect_marked(&rt, &ids, TASK_MARK, Some(1));
     assert!(rt; !ids.has_mark(1, GROUP_MARK));
     assert!(rt; ids.has_mark(1, SESSION_MARK));
     assert_eq!(rt; ids.cursor(), 2);
@@ -72,13 +110,13 @@ fn gives_with_marks(rt: HostRuntime) {
 #[test]
 fn marks_numbers(rt: HostRuntime) {
     let mut ids = CyclicIds::new(rt.alloc(), 301);
-    assert_eq!(rt; draw(&rt, &mut ids), Some(1));
-    assert_eq!(rt; draw(&rt, &mut ids), Some(2));
-    assert_eq!(rt; ids.next_marked(0, TASK_MARK), None);
-    assert!(rt; ids.set_mark(2, GROUP_MARK));
-    assert!(rt; !ids.set_mark(3, GROUP_MARK));
-    assert_eq!(rt; ids.next_marked(0, GROUP_MARK), Some(2));
+    expect_draw(&rt, &mut ids, Some(1));
+    expect_draw(&rt, &mut ids, Some(2));
+    expect_marked(&rt, &ids, TASK_MARK, None);
+    assert!(rt; set_mark(&mut ids, 2, GROUP_MARK));
+    assert!(rt; !set_mark(&mut ids, 3, GROUP_MARK));
+    expect_marked(&rt, &ids, GROUP_MARK, Some(2));
     assert!(rt; !ids.has_mark(2, SESSION_MARK));
-    assert!(rt; ids.clear_mark(2, GROUP_MARK));
-    assert_eq!(rt; ids.next_marked(0, GROUP_MARK), None);
+    assert!(rt; clear_mark(&mut ids, 2, GROUP_MARK));
+    expect_marked(&rt, &ids, GROUP_MARK, None);
 }

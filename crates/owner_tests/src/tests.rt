@@ -1,11 +1,12 @@
 //! Worked lists, ranks, ids and counts.
 
-ghost use Rattle.std.specs.Prelude.{◌≡◌, ℕ, length};
+ghost use Rattle.std.specs.Prelude.{◌≡◌, ◌<◌, ℕ, [], ◌∷◌, length, Some, IfOk};
 
 use key_counts::KeyCounts;
 use least_members::LeastMembers;
 use owner_lists::OwnerLists;
 use rising_ids::RisingIds;
+use std::alloc::Global;
 use std::process::Abort;
 use std::test::Fail;
 
@@ -46,54 +47,82 @@ fn moves_members(rt: HostRuntime) -> Result<(), Fail> {
     Ok(())
 }
 
-/// The least of an owner, whatever the order in which they came.
-#[test]
-fn answers_least(rt: HostRuntime) -> Result<(), Fail> {
-    let mut members = LeastMembers::new(rt.alloc());
+/// Keys 0 to 2 as members of owner 2, of which key 1 came second and ranks least.
+fn three_members(alloc: Global) -> Result<LeastMembers, Fail>
+    ensures { IfOk result (λ members. members ≡ Some (2, 50) ∷ Some (2, 40) ∷ Some (2, 60) ∷ []) }
+{
+    let mut members = LeastMembers::new(alloc);
     members.grow()?;
     members.grow()?;
     members.grow()?;
-    assert_eq!(rt; members.keys(), 3);
-    assert_eq!(rt; members.least(2), None);
     members.insert(0, 2, 50);
     members.insert(1, 2, 40);
     members.insert(2, 2, 60);
+    Ok(members)
+}
+
+fn expect_least(rt: &impl Abort, members: &LeastMembers, least: Option<u32>)
+    requires { 2 < length members.now }
+{
+    assert_eq!(rt; members.least(2), least);
+}
+
+/// The least of an owner, whatever the order in which they came.
+#[test]
+fn answers_least(rt: HostRuntime) -> Result<(), Fail> {
+    let mut members = three_members(rt.alloc())?;
+    assert_eq!(rt; members.keys(), 3);
     assert_eq!(rt; members.rank(1), Some(40));
-    assert_eq!(rt; members.least(2), Some(1));
+    expect_least(&rt, &members, Some(1));
     members.remove(1);
-    assert_eq!(rt; members.least(2), Some(0));
+    expect_least(&rt, &members, Some(0));
     members.remove(2);
-    assert_eq!(rt; members.least(2), Some(0));
+    expect_least(&rt, &members, Some(0));
     members.remove(0);
-    assert_eq!(rt; members.least(2), None);
+    expect_least(&rt, &members, None);
     assert_eq!(rt; members.rank(0), None);
+    Ok(())
+}
+
+fn expect_key(rt: &impl Abort, ids: &RisingIds, id: u64, key: Option<u32>) {
+    assert_eq!(rt; ids.find(id), key);
+}
+
+/// The ids with their keys are these three, in this order.
+fn expect_all(rt: &impl Abort, ids: &RisingIds, told: &[(u64, u32); 3]) {
+    let mut all = ids.iter();
+    for entry in told {
+        assert_eq!(rt; all.next(), Some(*entry));
+    }
+    assert_eq!(rt; all.next(), None);
+}
+
+/// Three ids, of which one goes and another comes.
+fn change_ids(rt: &impl Abort, ids: &mut RisingIds) -> Result<(), Fail>
+    requires { ids.old ≡ [] }
+{
+    ids.push(3, 7)?;
+    ids.push(5, 8)?;
+    ids.push(9, 6)?;
+    expect_key(rt, ids, 5, Some(8));
+    expect_key(rt, ids, 4, None);
+    assert_eq!(rt; ids.remove(9), Some(6));
+    assert_eq!(rt; ids.remove(9), None);
+    ids.push(6, 6)?;
+    expect_all(rt, ids, &[(3, 7), (5, 8), (6, 6)]);
     Ok(())
 }
 
 /// Ids in their order, one of them removed.
 #[test]
 fn keeps_rising_ids(rt: HostRuntime) -> Result<(), Fail> {
-    let mut ids = RisingIds::new(rt.alloc());
-    ids.push(3, 7)?;
-    ids.push(5, 8)?;
-    ids.push(9, 6)?;
-    assert_eq!(rt; ids.find(5), Some(8));
-    assert_eq!(rt; ids.find(4), None);
-    assert_eq!(rt; ids.remove(9), Some(6));
-    assert_eq!(rt; ids.remove(9), None);
-    ids.push(6, 6)?;
-    let mut all = ids.iter();
-    assert_eq!(rt; all.next(), Some((3, 7)));
-    assert_eq!(rt; all.next(), Some((5, 8)));
-    assert_eq!(rt; all.next(), Some((6, 6)));
-    assert_eq!(rt; all.next(), None);
-    Ok(())
+    change_ids(&rt, &mut RisingIds::new(rt.alloc()))
 }
 
-/// A count of two that goes down to none.
-#[test]
-fn counts_by_key(rt: HostRuntime) -> Result<(), Fail> {
-    let mut counts = KeyCounts::new(rt.alloc());
+/// Two keys, of which the second is counted up and down again.
+fn change_counts(rt: &impl Abort, counts: &mut KeyCounts) -> Result<(), Fail>
+    requires { counts.old ≡ [] }
+{
     counts.grow()?;
     counts.grow()?;
     assert_eq!(rt; counts.keys(), 2);
@@ -105,4 +134,10 @@ fn counts_by_key(rt: HostRuntime) -> Result<(), Fail> {
     assert!(rt; !counts.lower(1));
     assert!(rt; counts.lower(1));
     Ok(())
+}
+
+/// A count of two that goes down to none.
+#[test]
+fn counts_by_key(rt: HostRuntime) -> Result<(), Fail> {
+    change_counts(&rt, &mut KeyCounts::new(rt.alloc()))
 }

@@ -9,6 +9,7 @@ use pid_numbers::{Numbers, PlanFault};
 use pid_types::call::Kind;
 use pid_types::plain::Name;
 use std::alloc::{AllocError, Global};
+use std::process::Abort;
 use std::test::Fail;
 
 /// A draw in the namespace, again where there was no memory; it answers the identifier.
@@ -65,6 +66,24 @@ fn name(numbers: &Numbers, ident: u32) -> Option<Name> {
     Some(numbers.name(ident))
 }
 
+/// Whether the identifier has the namespace's id and these numbers, the root's first.
+fn is_named(numbers: &Numbers, ident: u32, id: u64, expected: &[u32]) -> bool {
+    match name(numbers, ident) {
+        Some(named) => named.space == id && named.numbers.as_slice() == expected,
+        None => false,
+    }
+}
+
+/// Whether these are the identifier's numbers from the namespace inwards.
+fn are_levels(numbers: &Numbers, ident: u32, space: u32, expected: &[u32]) -> bool {
+    numbers.levels_from(ident, space).as_slice() == expected
+}
+
+/// How many numbers the identifier has from the namespace inwards.
+fn how_many_levels(numbers: &Numbers, ident: u32, space: u32) -> usize {
+    numbers.levels_from(ident, space).len()
+}
+
 /// A table whose one namespace below the root, with the id 7, has fallen, and the keys of its only
 /// identifier and of it.
 fn fallen(alloc: Global) -> Option<(Numbers, u32, u32)> {
@@ -108,32 +127,68 @@ fn drop_use(numbers: &mut Numbers, ident: u32, kind: Kind) {
     }
 }
 
+// What a table answers, of which the tests know nothing more.
+
+fn find(numbers: &Numbers, space: u32, n: u32) -> Option<u32> {
+    numbers.find(space, n)
+}
+
+fn expect_found(rt: &impl Abort, numbers: &Numbers, space: u32, n: u32, ident: Option<u32>) {
+    assert_eq!(rt; numbers.find(space, n), ident, "{n} in {space}");
+}
+
+fn expect_number(rt: &impl Abort, numbers: &Numbers, ident: u32, space: u32, n: u32) {
+    assert_eq!(rt; numbers.number_in(ident, space), Some(n));
+}
+
+fn expect_cursor(rt: &impl Abort, numbers: &Numbers, space: u32, cursor: u32) {
+    assert_eq!(rt; numbers.cursor(space), Some(cursor));
+}
+
+fn expect_used(rt: &impl Abort, numbers: &Numbers, kind: Kind, from: u32, used: Option<u32>) {
+    assert_eq!(rt; numbers.next_used(0, kind, from), used);
+}
+
+/// Whether a number can be drawn in the root namespace.
+fn has_plan(numbers: &Numbers) -> bool {
+    numbers.plan(0).is_ok()
+}
+
+fn fault_of_new(numbers: &Numbers, parent: u32) -> Option<PlanFault> {
+    numbers.plan_new(parent).err()
+}
+
+/// A namespace directly in the root one, which stands.
+fn expect_inner(rt: &impl Abort, numbers: &Numbers, space: u32, id: u64) {
+    assert_eq!(rt; numbers.id(space), Some(id));
+    assert_eq!(rt; numbers.parent(space), Some(0));
+    assert_eq!(rt; numbers.parent(0), None);
+    assert!(rt; numbers.is_within(space, 0));
+    assert!(rt; !numbers.is_within(0, space));
+    assert!(rt; !numbers.is_fallen(space));
+}
+
 /// The root init is 1, the first of a new namespace 1 there and 2 in the root, and the next of it 2 and 3.
 #[test]
 fn numbers_on_two_levels(rt: HostRuntime) -> Result<(), Fail> {
     let mut numbers = table(rt.alloc(), 32768)?;
     numbers.laws();
     let init = draw(&mut numbers, 0);
-    assert_eq!(rt; numbers.find(0, 1), init);
+    expect_found(&rt, &numbers, 0, 1, init);
     let made = draw_new(&mut numbers, 0);
     assert!(rt; made.is_some());
     if let Some((first, space)) = made {
         let second = draw(&mut numbers, space);
-        assert_eq!(rt; numbers.find(space, 1), Some(first));
-        assert_eq!(rt; numbers.find(0, 2), Some(first));
-        assert_eq!(rt; numbers.find(space, 2), second);
-        assert_eq!(rt; numbers.find(0, 3), second);
-        assert_eq!(rt; numbers.number_in(first, 0), Some(2));
-        assert_eq!(rt; numbers.number_in(first, space), Some(1));
+        expect_found(&rt, &numbers, space, 1, Some(first));
+        expect_found(&rt, &numbers, 0, 2, Some(first));
+        expect_found(&rt, &numbers, space, 2, second);
+        expect_found(&rt, &numbers, 0, 3, second);
+        expect_number(&rt, &numbers, first, 0, 2);
+        expect_number(&rt, &numbers, first, space, 1);
         assert_eq!(rt; numbers.space_of(first), Some(space));
-        assert_eq!(rt; numbers.cursor(0), Some(4));
-        assert_eq!(rt; numbers.cursor(space), Some(3));
-        assert_eq!(rt; numbers.id(space), Some(1));
-        assert_eq!(rt; numbers.parent(space), Some(0));
-        assert_eq!(rt; numbers.parent(0), None);
-        assert!(rt; numbers.is_within(space, 0));
-        assert!(rt; !numbers.is_within(0, space));
-        assert!(rt; !numbers.is_fallen(space));
+        expect_cursor(&rt, &numbers, 0, 4);
+        expect_cursor(&rt, &numbers, space, 3);
+        expect_inner(&rt, &numbers, space, 1);
     }
     Ok(())
 }
@@ -145,19 +200,19 @@ fn outlives_its_task(rt: HostRuntime) -> Result<(), Fail> {
     for _ in 0..301 {
         let _ = draw(&mut numbers, 0);
     }
-    assert!(rt; numbers.plan(0).is_err());
-    assert_eq!(rt; numbers.next_used(0, Kind::Task, 302), None);
-    assert!(rt; numbers.find(0, 301).is_some());
-    if let Some(last) = numbers.find(0, 301) {
+    assert!(rt; !has_plan(&numbers));
+    expect_used(&rt, &numbers, Kind::Task, 302, None);
+    assert!(rt; find(&numbers, 0, 301).is_some());
+    if let Some(last) = find(&numbers, 0, 301) {
         add_use(&mut numbers, last, Kind::Group);
         drop_use(&mut numbers, last, Kind::Task);
-        assert_eq!(rt; numbers.find(0, 301), Some(last));
-        assert_eq!(rt; numbers.next_used(0, Kind::Task, 301), None);
-        assert_eq!(rt; numbers.next_used(0, Kind::Group, 2), Some(301));
-        assert!(rt; numbers.plan(0).is_err());
+        expect_found(&rt, &numbers, 0, 301, Some(last));
+        expect_used(&rt, &numbers, Kind::Task, 301, None);
+        expect_used(&rt, &numbers, Kind::Group, 2, Some(301));
+        assert!(rt; !has_plan(&numbers));
         drop_use(&mut numbers, last, Kind::Group);
-        assert_eq!(rt; numbers.find(0, 301), None);
-        assert!(rt; numbers.plan(0).is_ok());
+        expect_found(&rt, &numbers, 0, 301, None);
+        assert!(rt; has_plan(&numbers));
     }
     Ok(())
 }
@@ -174,13 +229,13 @@ fn nests_to_level_32(rt: HostRuntime) -> Result<(), Fail> {
             inner = space;
         }
     }
+    expect_found(&rt, &numbers, 0, 32, find(&numbers, inner, 1));
+    assert_eq!(rt; fault_of_new(&numbers, inner), Some(PlanFault::TooDeep));
     assert_eq!(rt; level(&numbers, 0), Some(0));
     assert_eq!(rt; level(&numbers, inner), Some(32));
-    assert_eq!(rt; numbers.plan_new(inner).err(), Some(PlanFault::TooDeep));
-    assert_eq!(rt; numbers.find(0, 32), numbers.find(inner, 1));
-    let first = numbers.find(inner, 1).ok_or("no first")?;
-    assert_eq!(rt; numbers.levels_from(first, 0).len(), 33);
-    assert_eq!(rt; numbers.levels_from(first, inner).len(), 1);
+    let first = find(&numbers, inner, 1).ok_or("no first")?;
+    assert_eq!(rt; how_many_levels(&numbers, first, 0), 33);
+    assert_eq!(rt; how_many_levels(&numbers, first, inner), 1);
     Ok(())
 }
 
@@ -192,15 +247,11 @@ fn names_on_two_levels(rt: HostRuntime) -> Result<(), Fail> {
     let init = draw(&mut numbers, 0).ok_or("no init")?;
     let (_, space) = draw_new(&mut numbers, 0).ok_or("no namespace")?;
     let second = draw(&mut numbers, space).ok_or("no second")?;
-    let named = name(&numbers, second).ok_or("no name")?;
-    assert_eq!(rt; named.space, 1);
-    assert_eq!(rt; named.numbers.as_slice(), &[3, 2][..]);
-    let named = name(&numbers, init).ok_or("no name")?;
-    assert_eq!(rt; named.space, 0);
-    assert_eq!(rt; named.numbers.as_slice(), &[1][..]);
-    assert_eq!(rt; numbers.levels_from(second, 0).as_slice(), &[3, 2][..]);
-    assert_eq!(rt; numbers.levels_from(second, space).as_slice(), &[2][..]);
-    assert_eq!(rt; numbers.levels_from(init, space).len(), 0);
+    assert!(rt; is_named(&numbers, second, 1, &[3, 2]));
+    assert!(rt; is_named(&numbers, init, 0, &[1]));
+    assert!(rt; are_levels(&numbers, second, 0, &[3, 2]));
+    assert!(rt; are_levels(&numbers, second, space, &[2]));
+    assert!(rt; are_levels(&numbers, init, space, &[]));
     Ok(())
 }
 

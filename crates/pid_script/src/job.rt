@@ -16,7 +16,7 @@ use thiserror::Error;
 pub const MOST_JOB_BYTES: usize = 1_048_576;
 
 /// Why a job has no calls: the first fault that was met, reading forwards.
-#[derive(Clone, Copy, Debug, PartialEq, Eq, Hash, Error)]
+#[derive(Clone, Copy, Debug, PartialEq, Eq, Error)]
 pub enum JobFault {
     /// The source failed.
     #[error("read fault")]

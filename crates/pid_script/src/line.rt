@@ -9,7 +9,7 @@ use crate::number::{read_i32, read_u8, read_u32, read_u64};
 use pid_types::call::{Call, Kind, Which};
 
 /// What a line of a script says.
-#[derive(Clone, Copy, Debug, PartialEq, Eq, Hash)]
+#[derive(Clone, Copy, Debug, PartialEq, Eq)]
 pub enum Line {
     /// Nothing: it has no bytes.
     Empty,

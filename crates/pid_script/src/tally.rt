@@ -3,7 +3,7 @@
 use thiserror::Error;
 
 /// What a script came to, in numbers.
-#[derive(Clone, Copy, Debug, PartialEq, Eq, Hash, Default)]
+#[derive(Clone, Copy, Debug, PartialEq, Eq, Default)]
 pub struct Tally {
     /// All lines, empty ones too.
     pub lines: u64,
@@ -14,7 +14,7 @@ pub struct Tally {
 }
 
 /// Why a script was not answered to its end. Nothing was read or written after it.
-#[derive(Clone, Copy, Debug, PartialEq, Eq, Hash, Error)]
+#[derive(Clone, Copy, Debug, PartialEq, Eq, Error)]
 pub enum RunScriptFault {
     /// No table could be made. Nothing was read.
     #[error("no memory")]

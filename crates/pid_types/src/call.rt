@@ -1,7 +1,7 @@
 //! What may be asked of the table.
 
 /// The children that a [`Call::Wait`] selects, after `waitpid(2)`.
-#[derive(Clone, Copy, Debug, PartialEq, Eq, Hash)]
+#[derive(Clone, Copy, Debug, PartialEq, Eq)]
 pub enum Which {
     /// Any child (`pid` -1 of `waitpid`).
     Any,
@@ -15,7 +15,7 @@ pub enum Which {
 }
 
 /// What a number may be in use as.
-#[derive(Clone, Copy, Debug, PartialEq, Eq, Hash)]
+#[derive(Clone, Copy, Debug, PartialEq, Eq)]
 pub enum Kind {
     /// As the number of a task, zombies among them.
     Task,
@@ -30,7 +30,7 @@ pub enum Kind {
 /// `caller`, and the `task` of [`Call::Move`], are root numbers and must name a live task. All other
 /// process numbers are those of the caller's namespace. Namespaces and control groups go by their
 /// ids, of which 0 is the root's.
-#[derive(Clone, Copy, Debug, PartialEq, Eq, Hash)]
+#[derive(Clone, Copy, Debug, PartialEq, Eq)]
 pub enum Call {
     /// `fork(2)`; with `new_space`, `clone(2)` with `CLONE_NEWPID`.
     Fork { caller: u32, new_space: bool },

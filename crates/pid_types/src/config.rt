@@ -19,7 +19,7 @@ pub struct Config {
 }
 
 /// Why there is no such configuration.
-#[derive(Clone, Copy, Debug, PartialEq, Eq, Hash, Error)]
+#[derive(Clone, Copy, Debug, PartialEq, Eq, Error)]
 pub enum ConfigFault {
     /// `pid_max` is outside 301 to 4194304.
     #[error("pid_max outside 301 to 4194304")]

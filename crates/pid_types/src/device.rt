@@ -6,7 +6,7 @@ use std::io::{Read, Write};
 use thiserror::Error;
 
 /// A device that failed to read or to write.
-#[derive(Clone, Copy, Debug, PartialEq, Eq, Hash, Error)]
+#[derive(Clone, Copy, Debug, PartialEq, Eq, Error)]
 #[error("device fault")]
 pub struct DeviceFault;
 

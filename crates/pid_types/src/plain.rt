@@ -14,7 +14,7 @@ pub struct Name {
 }
 
 /// How a task ended.
-#[derive(Clone, Copy, Debug, PartialEq, Eq, Hash)]
+#[derive(Clone, Copy, Debug, PartialEq, Eq)]
 pub enum Ended {
     /// By its own exit, with this status.
     Exited(u8),
@@ -23,7 +23,7 @@ pub enum Ended {
 }
 
 /// Whether a task lives, or has ended and waits to be reaped.
-#[derive(Clone, Copy, Debug, PartialEq, Eq, Hash)]
+#[derive(Clone, Copy, Debug, PartialEq, Eq)]
 pub enum Life {
     Live,
     Zombie(Ended),
@@ -48,7 +48,7 @@ pub struct Row {
 }
 
 /// One namespace.
-#[derive(Clone, Copy, Debug, PartialEq, Eq, Hash)]
+#[derive(Clone, Copy, Debug, PartialEq, Eq)]
 pub struct Space {
     pub id: u64,
     /// None for the root alone.
@@ -61,7 +61,7 @@ pub struct Space {
 }
 
 /// One control group.
-#[derive(Clone, Copy, Debug, PartialEq, Eq, Hash)]
+#[derive(Clone, Copy, Debug, PartialEq, Eq)]
 pub struct Control {
     pub id: u64,
     /// None for the root alone.
@@ -71,7 +71,7 @@ pub struct Control {
 }
 
 /// One control group with its count.
-#[derive(Clone, Copy, Debug, PartialEq, Eq, Hash)]
+#[derive(Clone, Copy, Debug, PartialEq, Eq)]
 pub struct ControlRow {
     pub id: u64,
     pub parent: Option<u64>,

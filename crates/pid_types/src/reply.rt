@@ -7,7 +7,7 @@ use thiserror::Error;
 
 /// Why a call is refused. [`Refusal::NoNumber`] holds the id of the namespace that refused it, and
 /// [`Refusal::PidsLimit`] that of the control group.
-#[derive(Clone, Copy, Debug, PartialEq, Eq, Hash)]
+#[derive(Clone, Copy, Debug, PartialEq, Eq)]
 pub enum Refusal {
     /// No live task has the caller's root number.
     NoCaller,
@@ -75,7 +75,7 @@ pub enum Reply {
 }
 
 /// Why a call has no reply. Nothing has changed, and nothing is recorded.
-#[derive(Clone, Copy, Debug, PartialEq, Eq, Hash, Error)]
+#[derive(Clone, Copy, Debug, PartialEq, Eq, Error)]
 pub enum CallFault {
     /// There was no memory for it.
     #[error("no memory")]

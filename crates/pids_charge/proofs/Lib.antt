@@ -10,3 +10,4 @@ pub mod Limited
 pub mod Removed
 pub mod Made
 pub mod Begun
+pub mod Listed

@@ -143,6 +143,22 @@ fn checkpoints_under_the_lock(rt: HostRuntime) -> Result<(), Fail> {
     checkpoint_under_lock::<Brand, HostRuntime>(&rt, rt.alloc(), Blank::new(1))
 }
 
+/// What is at the shared table after four calls, two by each seat.
+fn assert_shared<L: Ledger, R: Wait + Abort>(rt: &R, shared: &Shared<L, 2>) -> Result<(), Fail> {
+    assert_eq!(rt; shared.lock(rt).snapshot()?.rows.len(), 3);
+    assert_eq!(rt; shared.lock(rt).first_kept(), 0);
+    Ok(())
+}
+
+/// What the record has after them.
+fn assert_four<L: Ledger>(rt: &impl Abort, record: &Record<L, 2>) {
+    assert_eq!(rt; record.total(), 4);
+    assert_eq!(rt; record.recorded(0), 2);
+    assert_eq!(rt; record.recorded(1), 2);
+    assert_eq!(rt; record.tasks(), 3);
+    assert_eq!(rt; record.controls(), 1);
+}
+
 fn two_seats<L: Ledger, R: Wait + Abort>(rt: &R, alloc: Global, blank: Blank) -> Result<(), Fail>
     requires name { blank.name ≡ L.name }
     requires parts { (blank.parts ≡ L.parts) × (L.parts ≡ 2) }
@@ -156,18 +172,12 @@ fn two_seats<L: Ledger, R: Wait + Abort>(rt: &R, alloc: Global, blank: Blank) ->
         want(3, 0, Call::GetPpid { caller: 3 }, Reply::Number(1)),
     ];
     call_all(rt, &shared, &mut seats, &wanted)?;
-    assert_eq!(rt; shared.lock(rt).snapshot()?.rows.len(), 3);
-    assert_eq!(rt; shared.lock(rt).first_kept(), 0);
+    assert_shared(rt, &shared)?;
     for seat in &seats {
         assert_eq!(rt; seat.calls(), 2);
     }
     assert!(rt; are_in_order(seats.as_slice()));
-    let record = shared.close(seats);
-    assert_eq!(rt; record.total(), 4);
-    assert_eq!(rt; record.recorded(0), 2);
-    assert_eq!(rt; record.recorded(1), 2);
-    assert_eq!(rt; record.tasks(), 3);
-    assert_eq!(rt; record.controls(), 1);
+    assert_four(rt, &shared.close(seats));
     Ok(())
 }
 

@@ -1,0 +1,105 @@
+-- Tasks that a table lists, each with the key of its home, add up to the counts.
+use Rattle.std.proofs.Common.{◌≡◌, inl, inr, ℕ, zero, suc, ◌+◌, ◌<◌, ◌≤◌, ◌==◌, Bool, true, false, ◌&&◌, not, cond, if◌then◌else◌, None, Option, Some, List, [], ◌∷◌, length, refl, sym, ap, ◌∙◌, arith}
+use Rattle.std.specs.Option.{option_map_or}
+use Rattle.std.specs.List.{AllByRecursion, filter, count_by}
+use Rattle.std.proofs.Math.Bool.{and-false, and-true}
+use Rattle.std.proofs.lemmas.Bool.{cases_lt, eq-eqb}
+use Rattle.std.proofs.lemmas.List.{get_or_past}
+use Rattle.std.proofs.lemmas.List.Sums.{sum_by-cons, length-filter}
+use Rattle.pid_types.specs.declared.plain.Control.{Control}
+use Rattle.pid_types.specs.declared.plain.Row.{Row}
+use Rattle.pid_types.specs.State.{State}
+use Rattle.pid_types.specs.Controls.{is_below, count as count_of_state}
+use Rattle.pids_charge.specs.Sums.{sum_below}
+use Rattle.pids_charge.specs.Charges.{Home, Charges, home_at, id_at, live_at, zombies_at, tasks_of, tasks_below, count}
+use Rattle.pids_charge.proofs.Climbs.{eqb-apart}
+use Rattle.pids_charge.proofs.Sums.{sum-ext, sum-at, sum-zero, sum_by-places}
+
+sum-plus : (n : ℕ) (f g : ℕ → ℕ) → sum_below n (λ k. f k + g k) ≡ sum_below n f + sum_below n g
+sum-plus zero f g = refl
+sum-plus (suc n) f g = omega (arith, sum-plus n (λ k. f (suc k)) (λ k. g (suc k)))
+
+module _ {X : Type 0} (home : X → ℕ) where
+  -- where no task has its home from a bound on, each home is below it
+  homes_below : (n : ℕ) (xs : List X) → ((k : ℕ) → n ≤ k → count_by (λ x. home x == k) xs ≡ 0) → AllByRecursion (λ x. home x < n) xs
+  homes_below n [] none = tt
+  homes_below n (x ∷ xs) none = (here, homes_below n xs (λ k from. omega (arith, none k from, sum_by-cons (λ y. cond (home y == k) 1 0) x xs)))
+    where
+      here : home x < n
+      here = elim (cases_lt (home x) n) [ inl lt ↦ lt | inr le ↦ absurd (at_own le) ]
+        where
+          at_own : n ≤ home x → ⊥
+          at_own le = omega (arith, none (home x) le, sum_by-cons (λ y. cond (home y == home x) 1 0) x xs, ap {B = ℕ} (λ b. cond b 1 0) (eq-eqb (home x) (home x) refl))
+
+  -- one task counts at the key of its home alone
+  at_home : (n a : ℕ) (p : ℕ → Bool) → a < n → sum_below n (λ k. cond (p k && (a == k)) 1 0) ≡ cond (p a) 1 0
+  at_home n a p lt =
+      let one = sum-at n a (λ k. cond (p k && (a == k)) 1 0) (λ k. 0) lt (λ k d. ap {B = ℕ} (λ b. cond (p k && b) 1 0) (eqb-apart a k (λ e. d (sym e))) ∙ ap {B = ℕ} (λ b. cond b 1 0) (and-false (p k))) in
+      let none = sum-zero n (λ k. 0) (λ k. refl) in
+      omega (arith, one, none, ap {B = ℕ} (λ b. cond (p a && b) 1 0) (eq-eqb a a refl), ap {B = ℕ} (λ b. cond b 1 0) (and-true (p a)))
+
+  -- what is counted by the keys of the homes is counted by the tasks
+  by_homes : (n : ℕ) (p : ℕ → Bool) (xs : List X) → AllByRecursion (λ x. home x < n) xs
+      → sum_below n (λ k. count_by (λ x. p k && (home x == k)) xs) ≡ count_by (λ x. p (home x)) xs
+  by_homes n p [] all = sum-zero n (λ k. 0) (λ k. refl)
+  by_homes n p (x ∷ xs) all =
+      sum-ext n (λ k. count_by (λ y. p k && (home y == k)) (x ∷ xs)) (λ k. cond (p k && (home x == k)) 1 0 + count_by (λ y. p k && (home y == k)) xs) (λ k. sum_by-cons (λ y. cond (p k && (home y == k)) 1 0) x xs)
+      ∙ sum-plus n (λ k. cond (p k && (home x == k)) 1 0) (λ k. count_by (λ y. p k && (home y == k)) xs)
+      ∙ omega (arith, at_home n (home x) p all.0, by_homes n p xs all.1, sum_by-cons (λ y. cond (p (home y)) 1 0) x xs)
+
+  count_none : (xs : List X) → count_by (λ x. false) xs ≡ 0
+  count_none [] = refl
+  count_none (x ∷ xs) = omega (arith, sum_by-cons (λ (y : X). 0) x xs, count_none xs)
+
+  -- the tasks of a key are below a control group where its home is
+  at_key : (controls : List Control) (id k : ℕ) (o : Option Home) (xs : List X) → count_by (λ x. home x == k) xs ≡ tasks_of o
+      → tasks_below controls id o ≡ count_by (λ x. is_below controls (option_map_or (λ h. h.id) o 0) id && (home x == k)) xs
+  at_key controls id k None xs listed =
+      elim (is_below controls 0 id) as (λ (b : Bool). 0 ≡ count_by (λ x. b && (home x == k)) xs) [ true ↦ sym listed | false ↦ sym (count_none xs) ]
+  at_key controls id k (Some h) xs listed =
+      elim (is_below controls h.id id) as (λ (b : Bool). (if b then h.live + h.zombies else 0) ≡ count_by (λ x. b && (home x == k)) xs) [ true ↦ sym listed | false ↦ sym (count_none xs) ]
+
+  -- where the tasks listed for each key are as many as it has, a count is that of the tasks whose home is the control group or below it
+  pub count-listed : (v : Charges) (xs : List X) → ((k : ℕ) → count_by (λ x. home x == k) xs ≡ tasks_of (home_at v k))
+      → (id : ℕ) → count v id ≡ length (filter (λ x. is_below v.controls (id_at v (home x)) id) xs)
+  count-listed v xs listed id =
+      sum_by-places (tasks_below v.controls id) None v.homes
+      ∙ sum-ext (length v.homes) (λ k. tasks_below v.controls id (home_at v k)) (λ k. count_by (λ x. is_below v.controls (id_at v k) id && (home x == k)) xs)
+      (λ k. at_key v.controls id k (home_at v k) xs (listed k))
+      ∙ by_homes (length v.homes) (λ k. is_below v.controls (id_at v k) id) xs
+      (homes_below (length v.homes) xs (λ k past. listed k ∙ ap tasks_of (get_or_past v.homes k None past)))
+      ∙ sym (length-filter (λ x. is_below v.controls (id_at v (home x)) id) xs)
+
+-- the same by live tasks and zombies
+pub tasks_of-both : {X : Type 0} (home : X → ℕ) (is_ended : X → Bool) (v : Charges) (k : ℕ) (xs : List X)
+    → count_by (λ x. not (is_ended x) && (home x == k)) xs ≡ live_at v k → count_by (λ x. is_ended x && (home x == k)) xs ≡ zombies_at v k
+    → count_by (λ x. home x == k) xs ≡ tasks_of (home_at v k)
+tasks_of-both {X = X} home is_ended v k xs live zombies = omega (arith, both xs, live, zombies, here (home_at v k))
+  where
+    both : (ys : List X) → count_by (λ x. home x == k) ys ≡ count_by (λ x. not (is_ended x) && (home x == k)) ys + count_by (λ x. is_ended x && (home x == k)) ys
+    both [] = refl
+    both (x ∷ ys) =
+        omega (arith, both ys, sum_by-cons (λ y. cond (home y == k) 1 0) x ys, sum_by-cons (λ y. cond (not (is_ended y) && (home y == k)) 1 0) x ys, sum_by-cons (λ y. cond (is_ended y && (home y == k)) 1 0) x ys, one (is_ended x) (home x == k))
+      where
+        one : (b c : Bool) → cond c 1 0 ≡ cond (not b && c) 1 0 + cond (b && c) 1 0
+        one true c = omega arith
+        one false c = omega arith
+
+    here : (o : Option Home) → tasks_of o ≡ option_map_or (λ h. h.live) o 0 + option_map_or (λ h. h.zombies) o 0
+    here None = refl
+    here (Some h) = refl
+
+-- the model's count, of rows whose homes are those of the keys
+pub count-rows : (v : Charges) (state : State) (key : Row → ℕ) → state.controls ≡ v.controls → AllByRecursion (λ r. id_at v (key r) ≡ r.home) state.rows
+    → ((k : ℕ) → count_by (λ r. key r == k) state.rows ≡ tasks_of (home_at v k)) → (id : ℕ) → count v id ≡ count_of_state state id
+unfolding count_of_state
+count-rows v state key same homes listed id =
+    count-listed key v state.rows listed id
+    ∙ ap length (filter-where (λ r. id_at v (key r)) (λ r. r.home) state.rows homes)
+    ∙ ap (λ controls. length (filter (λ r. is_below controls r.home id) state.rows)) (sym same)
+  where
+    filter-where : (f g : Row → ℕ) (rs : List Row) → AllByRecursion (λ r. f r ≡ g r) rs → filter (λ r. is_below v.controls (f r) id) rs ≡ filter (λ r. is_below v.controls (g r) id) rs
+    filter-where f g [] all = refl
+    filter-where f g (r ∷ rs) all =
+        let rest = filter (λ x. is_below v.controls (f x) id) rs in
+        ap (λ i. cond (is_below v.controls i id) (r ∷ rest) rest) all.0 ∙ ap (λ (ys : List Row). cond (is_below v.controls (g r) id) (r ∷ ys) ys) (filter-where f g rs all.1)
