@@ -24,7 +24,7 @@ fn draw(numbers: &mut Numbers, space: u32) -> Option<u32> {
 
 /// Makes a namespace inside another one; none where no number is left, or no memory.
 fn nest(numbers: &mut Numbers, parent: u32, id: u64) -> Option<u32> {
-    if numbers.id(parent).is_none() || numbers.is_fallen(parent) {
+    if numbers.id(parent).is_none() || numbers.is_fallen(parent) || !numbers.is_next_id(id) {
         return None;
     }
     let planned = numbers.plan_new(parent).ok()?;

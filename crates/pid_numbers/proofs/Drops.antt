@@ -174,6 +174,11 @@ module _ (pid_max : ℕ) (spaces spaces1 spaces2 : Slab Space) (names names' : �
             ∙ sweeps.through (option_map namespace_of) (goes list spaces1 s) None (Some z)
             ∙ ap (λ g. if g then None else Some (namespace_of z)) (goes_dead s z at)
 
+-- what a sweep leaves does not hang on the key of the next identifier
+pub swept-next : (b : Numbering) (next s : ℕ) → swept_at b s ≡ swept_at (record b { next = next }) s
+unfolding taken_in
+swept-next b next s = refl
+
 -- between two calls none is dead
 pub nothing-dead : (pid_max : ℕ) (spaces : Slab Space) (idents : Slab Ident) (order : List (ℕ × ℕ)) → IsWhole pid_max (way spaces) (entry_on spaces) (bound_on spaces) (name_at idents) (fell spaces)
     → (s : ℕ) → namespace_at (numbering_of pid_max spaces idents order) s ≡ swept_at (numbering_of pid_max spaces idents order) s

@@ -25,9 +25,10 @@ pub record Identifier : Type 0 where
   pub groups : ℕ
   pub sessions : ℕ
 
--- the bound of all numbers, the namespaces and the identifiers by key, and the namespaces in the order of their ids, each id with its key
+-- the bound of all numbers, the key of the next identifier, the namespaces and the identifiers by key, and the namespaces in the order of their ids, each id with its key
 pub record Numbering : Type 0 where
   pub pid_max : ℕ
+  pub next : ℕ
   pub namespaces : List (Option Namespace)
   pub names : List (Option Identifier)
   pub order : List (ℕ × ℕ)

@@ -25,7 +25,7 @@ abbrev pub namespaces_of : Slab Space → List (Option Namespace)
 namespaces_of spaces = map (option_map namespace_of) spaces.slots
 
 abbrev pub numbering_of : ℕ → Slab Space → Slab Ident → List (ℕ × ℕ) → Numbering
-numbering_of pid_max spaces idents order = record { pid_max = pid_max; namespaces = namespaces_of spaces; names = map (option_map identifier_of) idents.slots; order = order }
+numbering_of pid_max spaces idents order = record { pid_max = pid_max; next = idents.vacant_key; namespaces = namespaces_of spaces; names = map (option_map identifier_of) idents.slots; order = order }
 
 abbrev pub namespace_on : Slab Space → ℕ → Option Namespace
 namespace_on spaces s = option_map namespace_of (get spaces s)

@@ -8,7 +8,7 @@
 //! an identifier that is gone may be given again.
 #![tactic(auto)]
 
-ghost use Rattle.std.specs.Prelude.{◌≡◌, ◌≢◌, ℕ, ◌+◌, ◌<◌, ◌≤◌, ◌^◌, length, map, Some, None, IsSome, IfOk, IfErr, IfSome, OnOk, OnErr, MatchOption, option_map, find, is_none, unwrap_or, slice_index_or, is_some, reverse, true, false, [], ◌∷◌, ◌++◌, drop, nat_lt, if◌then◌else◌};
+ghost use Rattle.std.specs.Prelude.{◌≡◌, ◌≢◌, ℕ, ◌+◌, ◌<◌, ◌≤◌, ◌^◌, length, map, Some, None, IsSome, IsTrue, IfOk, IfErr, IfSome, OnOk, OnErr, MatchOption, option_map, find, is_none, unwrap_or, slice_index_or, is_some, reverse, true, false, [], ◌∷◌, ◌++◌, drop, nat_lt, if◌then◌else◌};
 ghost use Rattle.std.specs.List.{AllByRecursion, filter};
 ghost use Rattle.rising_ids.specs.Ids.{key_of, AreBelow, AreRising};
 ghost use Rattle.pid_numbers.specs.Numbering.{Identifier, is_there, id_at, namespace_at, identifier_at, number_of, path_at, draw_in, moved, more, less, left_of, uses, is_used_as, swept_at, new_namespace, new_identifier, levels_of, fallen_within, taken_in, has_fallen_at, IsNextUsed, IsPlanFault};
@@ -131,6 +131,14 @@ impl Numbers {
         ensures { result ≡ self.now.order }
     {
         self.order.iter()
+    }
+
+    /// Whether an id may be that of the next namespace: it is above those of all that are there. It costs one read,
+    /// and answers false too where only a namespace that is gone had one as high.
+    pub fn is_next_id(&self, id: u64) -> bool
+        ensures { IsTrue result → AreBelow self.now.order id }
+    {
+        self.order.is_above(id)
     }
 
     /// The key of the namespace with an id. It costs a logarithm of the namespaces.
@@ -270,12 +278,22 @@ impl Numbers {
         plan_path(&self.spaces, space)
     }
 
+    /// Takes the memory for one identifier, and answers the key that the next one will have, which is below
+    /// 2^30. The error is want of memory.
+    pub fn reserve(&mut self) -> Result<u32, AllocError>
+        ensures same { self.new ≡ self.old }
+        ensures next { IfOk result (λ key. (key ≡ self.new.next) × (key < 2 ^ 30)) }
+    {
+        make_room(&mut self.idents)
+    }
+
     /// Gives the planned numbers to a new identifier, which one task uses, and answers its key. The
     /// error is want of memory, and then nothing has changed.
     pub fn draw(&mut self, space: u32, numbers: &ArrayVec<u32, 33>) -> Result<u32, AllocError>
         requires there { IsSome (namespace_at self.old space) }
         requires all { find (λ s. is_none (draw_in self.old s)) (path_at self.old space) ≡ None }
         requires planned { numbers.now.items ≡ map (λ s. unwrap_or (draw_in self.old s) 0) (path_at self.old space) }
+        ensures key { IfOk result (λ i. i ≡ self.old.next) }
         ensures fresh { IfOk result (λ i. identifier_at self.old i ≡ None) }
         ensures named { IfOk result (λ i. identifier_at self.new i ≡ Some (new_identifier space numbers.now.items)) }
         ensures others { IfOk result (λ i. (j : ℕ) → j ≢ i → identifier_at self.new j ≡ identifier_at self.old j) }
@@ -332,6 +350,7 @@ impl Numbers {
         requires above { AreBelow self.old.order id }
         requires all { find (λ s. is_none (draw_in self.old s)) (path_at self.old parent) ≡ None }
         requires planned { numbers.now.items ≡ 1 ∷ map (λ s. unwrap_or (draw_in self.old s) 0) (path_at self.old parent) }
+        ensures key { IfOk result (λ keys. keys.0 ≡ self.old.next) }
         ensures fresh { IfOk result (λ keys. (identifier_at self.old keys.0 ≡ None) × (namespace_at self.old keys.1 ≡ None)) }
         ensures named { IfOk result (λ keys. identifier_at self.new keys.0 ≡ Some (new_identifier keys.1 numbers.now.items)) }
         ensures made { IfOk result (λ keys. namespace_at self.new keys.1 ≡ Some (record (new_namespace id (keys.1 ∷ path_at self.old parent)) { cursor = 2 })) }

@@ -281,3 +281,20 @@ at_place es xs id i f g w read found ef eg =
 pub EndsLive-last_at : (es : List Entry) (x : Entry) → slice_get es (length es - 1) ≡ Some x → IsSome x.key → EndsLive es
 EndsLive-last_at [] x is some = tt
 EndsLive-last_at (e ∷ es) x is some = let len : length (e ∷ es) - 1 ≡ length es = omega arith in EndsLive-at (e ∷ es) (length es) x refl (rw len at is) some
+
+-- what is above the last entry is above all ids
+pub below-last : (id : ℕ) (es : List Entry) → Rise es → ((k : ℕ) → suc k ≡ length es → (get_or es k none).id < id) → AreBelow (live es) id
+below-last id [] w last = tt
+below-last id (e ∷ []) w last = go e.key
+  where
+    go : (key : Option ℕ) → AreBelow (before e.id key []) id
+    go None = tt
+    go (Some k) = (last 0 refl, tt)
+below-last id (e ∷ f ∷ es) w last = go e.key (below-last id (f ∷ es) w.1 (λ k is. last (suc k) (ap suc is)))
+  where
+    less : e.id < id
+    less = let a = last (suc (length es)) refl in let b = all_at (λ g. e.id < g.id) (f ∷ es) (length es) w.0 (omega arith) in omega (arith, a, b)
+
+    go : (key : Option ℕ) → AreBelow (live (f ∷ es)) id → AreBelow (before e.id key (live (f ∷ es))) id
+    go None rest = rest
+    go (Some k) rest = (less, rest)

@@ -4,7 +4,7 @@
 //! are cleared away once half of the entries may be marks, so that no call moves all others each time.
 #![tactic(auto)]
 
-ghost use Rattle.std.specs.Prelude.{◌≡◌, ◌≢◌, ℕ, ◌<◌, ◌≤◌, length, Some, None, MatchOption, OnOk, OnErr, [], ◌∷◌, ◌++◌, slice_index_or};
+ghost use Rattle.std.specs.Prelude.{◌≡◌, ◌≢◌, ℕ, ◌<◌, ◌≤◌, length, Some, None, IsTrue, MatchOption, OnOk, OnErr, [], ◌∷◌, ◌++◌, slice_index_or};
 ghost use Rattle.rising_ids.specs.Ids.{key_of, without, AreBelow, AreRising};
 ghost use Rattle.rising_ids.specs.Entries.{live, Rise, EndsLive};
 
@@ -100,6 +100,15 @@ impl RisingIds {
         trim(&mut self.entries);
         self.entries.push(Entry { id, key: Some(key) })?;
         Ok(())
+    }
+
+    /// Whether an id is above all that are there. It costs one read, of the last entry, so it answers false too
+    /// where only an id that was removed is as high.
+    pub fn is_above(&self, id: u64) -> bool
+        ensures { IsTrue result → AreBelow self.now id }
+    {
+        let entries = self.entries.len();
+        entries == 0 || self.entries[entries - 1].id < id
     }
 
     /// The key of an id. It costs a logarithm of the entries.

@@ -150,18 +150,21 @@ returns-clause-namespaces c s =
     ties.get_or-map_option namespace_of c.sweep_path.new.spaces.slots s
     ∙ drops.swept-same c.self.inside.pid_max spaces c.release_path.new.spaces c.sweep_path.new.spaces (name_at idents) (name_at c.try_remove.new.self) c.self.invariant.whole b
     c.in-Some.gone.space c.release_path.ensures.way c.release_path.ensures.namespaces kept c.fallen_path-path.result.items c.fallen_path-path.ensures c.sweep_path.ensures.left c.try_remove.new.self c.self.inside.order b s
-    ∙ ap (λ l. swept_at (record { pid_max = c.self.inside.pid_max; namespaces = l; names = map (option_map identifier_of) c.try_remove.new.self.slots; order = c.self.inside.order }) s) c.release_path.ensures.namespaces
+    ∙ drops.swept-next (numbering_of c.self.inside.pid_max c.release_path.new.spaces c.try_remove.new.self c.self.inside.order) c.self.inside.idents.vacant_key s
+    ∙ ap (λ l. swept_at (record { pid_max = c.self.inside.pid_max; next = c.self.inside.idents.vacant_key; namespaces = l; names = map (option_map identifier_of) c.try_remove.new.self.slots; order = c.self.inside.order }) s) c.release_path.ensures.namespaces
     ∙ ap (λ b. swept_at (record b { names = map (option_map identifier_of) c.try_remove.new.self.slots }) s) c.self.view_is
 
 pub returns-then-has_use-clause-namespaces : goal.returns-then-has_use-clause-namespaces
 returns-then-has_use-clause-namespaces c s =
     drops.nothing-dead c.self.inside.pid_max c.self.inside.spaces c.less_use.new.idents c.self.inside.order (invariant_of-self c).whole s
+    ∙ drops.swept-next (numbering_of c.self.inside.pid_max c.self.inside.spaces c.less_use.new.idents c.self.inside.order) c.self.inside.idents.vacant_key s
     ∙ ap (λ b. swept_at (record b { names = map (option_map identifier_of) c.less_use.new.idents.slots }) s) c.self.view_is
 
 pub returns-then-in_use-clause-namespaces : goal.returns-then-in_use-clause-namespaces
 returns-then-in_use-clause-namespaces c s =
     drops.nothing-dead c.self.inside.pid_max c.mark_numbers.new.spaces c.less_use.new.idents c.self.inside.order (invariant_of-self-then-in_use c).whole s
-    ∙ ap (λ l. swept_at (record { pid_max = c.self.inside.pid_max; namespaces = l; names = map (option_map identifier_of) c.less_use.new.idents.slots; order = c.self.inside.order }) s) c.mark_numbers.ensures.namespaces
+    ∙ drops.swept-next (numbering_of c.self.inside.pid_max c.mark_numbers.new.spaces c.less_use.new.idents c.self.inside.order) c.self.inside.idents.vacant_key s
+    ∙ ap (λ l. swept_at (record { pid_max = c.self.inside.pid_max; next = c.self.inside.idents.vacant_key; namespaces = l; names = map (option_map identifier_of) c.less_use.new.idents.slots; order = c.self.inside.order }) s) c.mark_numbers.ensures.namespaces
     ∙ ap (λ b. swept_at (record b { names = map (option_map identifier_of) c.less_use.new.idents.slots }) s) c.self.view_is
 
 pub returns-clause-here : goal.returns-clause-here
