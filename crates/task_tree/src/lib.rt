@@ -1,0 +1,224 @@
+//! Tasks, their parents, and the children that have ended and wait to be reaped.
+//!
+//! Tasks stand at keys, numbers below 2^30 that the caller picks. Each task has its children in a list and
+//! those of them that have ended in a heap by rank, so that the one that `waitpid(2)` reaps is found by one
+//! read and no live child is touched. Each call but `grow` takes no memory.
+//!
+//! A task may be removed while it has children; they keep its key as their parent's.
+#![tactic(auto)]
+
+ghost use Rattle.std.specs.Prelude.{◌≡◌, ◌≢◌, ℕ, ◌+◌, ◌<◌, ◌≤◌, ◌^◌, length, option_map, Some, None, true, false, IsSome, MatchOption, OnOk, OnErr, [], ◌∷◌, ◌++◌, slice_set};
+ghost use Rattle.pid_types.specs.declared.plain.Life.{Life};
+ghost use Rattle.owner_lists.specs.Owners.{AreMembers};
+ghost use Rattle.least_members.specs.Ranks.{IsLeast};
+ghost use Rattle.task_tree.specs.Tree.{task_at, parent_of, rank_of, lives, is_zombie, waits_for, handed};
+
+mod links;
+
+use least_members::LeastMembers;
+use links::{enter_ended, forget_ended, hand_all, leave_parent, room_for_parent, room_for_rank};
+use owner_lists::{Members, OwnerLists};
+use pid_types::plain::{Ended, Life};
+use std::alloc::{AllocError, Global};
+use std::marker::Model;
+
+/// What a task is, besides its place in the tree.
+#[derive(Clone, Copy, Debug, PartialEq, Eq)]
+pub struct Task {
+    /// The id of the namespace that its children go into, which may have been dropped since.
+    pub children_space: u64,
+    /// The key of its control group.
+    pub home: u32,
+    /// Whether it has executed, after which its parent can move it to no other group.
+    pub executed: bool,
+    /// Whether it takes the children of its descendants that end (`PR_SET_CHILD_SUBREAPER(2const)`).
+    pub subreaper: bool,
+    pub life: Life,
+}
+
+/// Tasks by key, in a tree.
+///
+/// It takes some 70 bytes for each key.
+#[derive(Drop)]
+pub struct TaskTree {
+    tasks: Vec<Option<Task>>,
+    children: OwnerLists,
+    ended: LeastMembers,
+}
+
+impl Model for TaskTree {
+    ghost use Rattle.task_tree.specs.Tree.{Tree, IsTree};
+
+    ghost Value = { Tree };
+
+    ghost view = { λ a. record { tasks = a.tasks.items; parents = a.children; ended = a.ended } };
+
+    ghost invariant = { λ a. IsTree a.tasks.items a.children a.ended };
+}
+
+impl TaskTree {
+    /// No tasks, and room for none.
+    pub fn new(alloc: Global) -> Self
+        ensures { length result.tasks ≡ 0 }
+    {
+        TaskTree {
+            tasks: Vec::new(alloc),
+            children: OwnerLists::new(alloc),
+            ended: LeastMembers::new(alloc),
+        }
+    }
+
+    /// Makes room for one key more. The error is want of memory, and then nothing has changed that another
+    /// call shows.
+    pub fn grow(&mut self) -> Result<(), AllocError>
+        requires { length self.old.tasks < 2 ^ 30 }
+        ensures ok { OnOk result (self.new.tasks ≡ self.old.tasks ++ None ∷ []) }
+        ensures err { OnErr result (self.new.tasks ≡ self.old.tasks) }
+        ensures parents { (k : ℕ) → parent_of self.new k ≡ parent_of self.old k }
+        ensures ranks { (k : ℕ) → rank_of self.new k ≡ rank_of self.old k }
+    {
+        let keys = self.tasks.len();
+        room_for_parent(&mut self.children, keys)?;
+        room_for_rank(&mut self.ended, keys)?;
+        self.tasks.push(None)?;
+        Ok(())
+    }
+
+    /// How many keys there is room for: those below this number.
+    pub fn keys(&self) -> usize
+        ensures { result ≡ length self.now.tasks }
+    {
+        self.tasks.len()
+    }
+
+    /// The task with the key.
+    pub fn task(&self, key: u32) -> Option<Task>
+        ensures { result ≡ task_at self.now key }
+    {
+        *self.tasks.get(key as usize)?
+    }
+
+    /// The key of the task's parent; none of a task that began without one.
+    pub fn parent(&self, key: u32) -> Option<u32>
+        requires { key < length self.now.tasks }
+        ensures { result ≡ parent_of self.now key }
+    {
+        self.children.owner(key)
+    }
+
+    /// Some child of the task, if it has any.
+    pub fn first_child(&self, parent: u32) -> Option<u32>
+        requires { parent < length self.now.tasks }
+        ensures { MatchOption result ((k : ℕ) → parent_of self.now k ≢ Some parent) (λ k. parent_of self.now k ≡ Some parent) }
+    {
+        self.children.first(parent)
+    }
+
+    /// The children of the task, one after the other, each once.
+    pub fn children(&self, parent: u32) -> Members<'_>
+        requires { parent < length self.now.tasks }
+        ensures { AreMembers self.now.parents parent result }
+    {
+        self.children.members(parent)
+    }
+
+    /// Of the children of the task that have ended, the one with the least rank: whom a wait for any child
+    /// reaps.
+    pub fn least_ended(&self, parent: u32) -> Option<u32>
+        requires { parent < length self.now.tasks }
+        ensures least { MatchOption result ((k r : ℕ) → rank_of self.now k ≢ Some (parent, r)) (λ k. IsLeast self.now.ended parent k) }
+    {
+        self.ended.least(parent)
+    }
+
+    /// The rank that the task ended with; none of one that lives or has no parent.
+    pub fn rank(&self, key: u32) -> Option<u32>
+        requires { key < length self.now.tasks }
+        ensures { result ≡ option_map (λ (m : ℕ × ℕ). m.1) (rank_of self.now key) }
+    {
+        self.ended.rank(key)
+    }
+
+    /// What is true of all tasks at any time; the call does nothing. Those that have ended, and no others, wait
+    /// for their parent, and no parent has two with one rank. Who has a parent is a task.
+    pub fn bounds(&self)
+        ensures waiting { (k : ℕ) → option_map (λ (m : ℕ × ℕ). m.0) (rank_of self.now k) ≡ waits_for (task_at self.now k) (parent_of self.now k) }
+        ensures apart { (j k p r : ℕ) → rank_of self.now j ≡ Some (p, r) → rank_of self.now k ≡ Some (p, r) → j ≡ k }
+        ensures absent { (k : ℕ) → task_at self.now k ≡ None → parent_of self.now k ≡ None }
+        ensures known { (k p : ℕ) → parent_of self.now k ≡ Some p → p < length self.now.tasks }
+        ensures few { length self.now.tasks ≤ 2 ^ 30 }
+    {
+        let _ = &self.tasks;
+    }
+
+    /// A live task begins at a key that has none, as a child of the parent.
+    pub fn enter(&mut self, key: u32, parent: Option<u32>, task: Task)
+        requires key { key < length self.old.tasks }
+        requires vacant { task_at self.old key ≡ None }
+        requires live { lives task ≡ true }
+        requires parent { (p : ℕ) → parent ≡ Some p → p < length self.old.tasks }
+        ensures tasks { self.new.tasks ≡ slice_set self.old.tasks key (Some task) }
+        ensures parent { parent_of self.new key ≡ parent }
+        ensures others { (k : ℕ) → k ≢ key → parent_of self.new k ≡ parent_of self.old k }
+        ensures ranks { self.new.ended ≡ self.old.ended }
+    {
+        self.tasks[key as usize] = Some(task);
+        if let Some(parent) = parent {
+            self.children.add(key, parent);
+        }
+    }
+
+    /// The task becomes another one in the same place, with the same life.
+    pub fn update(&mut self, key: u32, task: Task)
+        requires { option_map (λ (t : Task). t.life) (task_at self.old key) ≡ Some task.life }
+        ensures tasks { self.new.tasks ≡ slice_set self.old.tasks key (Some task) }
+        ensures parents { self.new.parents ≡ self.old.parents }
+        ensures ranks { self.new.ended ≡ self.old.ended }
+    {
+        self.tasks[key as usize] = Some(task);
+    }
+
+    /// The live task ends, and waits for its parent with the rank. It costs a logarithm of the parent's children
+    /// that have ended, taken over many calls.
+    pub fn finish(&mut self, key: u32, task: Task, end: Ended, rank: u32)
+        requires there { task_at self.old key ≡ Some task }
+        requires live { lives task ≡ true }
+        requires apart { (k p : ℕ) → parent_of self.old key ≡ Some p → rank_of self.old k ≢ Some (p, rank) }
+        ensures tasks { self.new.tasks ≡ slice_set self.old.tasks key (Some (record task { life = Life.Zombie end })) }
+        ensures parents { self.new.parents ≡ self.old.parents }
+        ensures rank { rank_of self.new key ≡ option_map (λ p. (p, rank)) (parent_of self.old key) }
+        ensures others { (k : ℕ) → k ≢ key → rank_of self.new k ≡ rank_of self.old k }
+    {
+        let life = Life::Zombie(end);
+        self.tasks[key as usize] = Some(Task { life, ..task });
+        enter_ended(&mut self.ended, &self.children, key, rank);
+    }
+
+    /// All children of the one task become the other's, and those that have ended keep their ranks. It costs a few
+    /// writes for each child, and a logarithm for each that has ended.
+    pub fn hand_on(&mut self, from: u32, to: u32)
+        requires differ { from ≢ to }
+        requires from { from < length self.old.tasks }
+        requires to { to < length self.old.tasks }
+        requires apart { (j k r : ℕ) → rank_of self.old j ≡ Some (from, r) → rank_of self.old k ≢ Some (to, r) }
+        ensures tasks { self.new.tasks ≡ self.old.tasks }
+        ensures parents { (k : ℕ) → parent_of self.new k ≡ option_map (handed from to) (parent_of self.old k) }
+        ensures ranks { (k : ℕ) → rank_of self.new k ≡ option_map (λ (m : ℕ × ℕ). (handed from to m.0, m.1)) (rank_of self.old k) }
+    {
+        hand_all(&mut self.children, &mut self.ended, from, to);
+    }
+
+    /// The task is gone. Its children, if it has any, keep its key as their parent's.
+    pub fn remove(&mut self, key: u32)
+        requires { IsSome (task_at self.old key) }
+        ensures tasks { self.new.tasks ≡ slice_set self.old.tasks key None }
+        ensures parent { parent_of self.new key ≡ None }
+        ensures rank { rank_of self.new key ≡ None }
+        ensures parents { (k : ℕ) → k ≢ key → parent_of self.new k ≡ parent_of self.old k }
+        ensures ranks { (k : ℕ) → k ≢ key → rank_of self.new k ≡ rank_of self.old k }
+    {
+        self.tasks[key as usize] = None;
+        leave_parent(&mut self.children, key);
+        forget_ended(&mut self.ended, key);
+    }
+}

@@ -1,0 +1,112 @@
+//! Children and ended children, as links by key.
+
+ghost use Rattle.std.specs.Prelude.{◌≡◌, ◌≢◌, ℕ, ◌<◌, ◌≤◌, ◌^◌, length, option_map, Some, None, OnOk};
+ghost use Rattle.owner_lists.specs.Owners.{owner_of};
+ghost use Rattle.least_members.specs.Ranks.{ranked};
+ghost use Rattle.task_tree.specs.Tree.{handed};
+ghost use Rattle.task_tree.specs.Waiting.{IsWaiting};
+
+use least_members::LeastMembers;
+use owner_lists::OwnerLists;
+use std::alloc::AllocError;
+
+/// Makes room for a key among the parents, where there is none yet.
+pub(crate) fn room_for_parent(children: &mut OwnerLists, key: usize) -> Result<(), AllocError>
+    requires next { key ≤ length children.old }
+    requires few { key < 2 ^ 30 }
+    ensures ok { OnOk result (key < length children.new) }
+    ensures more { length children.old ≤ length children.new }
+    ensures kept { (k : ℕ) → owner_of children.new k ≡ owner_of children.old k }
+{
+    if children.keys() > key {
+        return Ok(());
+    }
+    children.grow()
+}
+
+/// Makes room for a key among the ranks, where there is none yet.
+pub(crate) fn room_for_rank(ended: &mut LeastMembers, key: usize) -> Result<(), AllocError>
+    requires next { key ≤ length ended.old }
+    requires few { key < 2 ^ 30 }
+    ensures ok { OnOk result (key < length ended.new) }
+    ensures more { length ended.old ≤ length ended.new }
+    ensures kept { (k : ℕ) → ranked ended.new k ≡ ranked ended.old k }
+{
+    if ended.keys() > key {
+        return Ok(());
+    }
+    ended.grow()
+}
+
+/// The key enters its parent's ended children, if it has a parent.
+pub(crate) fn enter_ended(ended: &mut LeastMembers, children: &OwnerLists, key: u32, rank: u32)
+    requires key { key < length ended.old }
+    requires parents { key < length children.now }
+    requires free { ranked ended.old key ≡ None }
+    requires known { (p : ℕ) → owner_of children.now key ≡ Some p → p < length ended.old }
+    requires apart { (k p : ℕ) → owner_of children.now key ≡ Some p → ranked ended.old k ≢ Some (p, rank) }
+    ensures here { ranked ended.new key ≡ option_map (λ p. (p, rank)) (owner_of children.now key) }
+    ensures others { (k : ℕ) → k ≢ key → ranked ended.new k ≡ ranked ended.old k }
+    ensures keys { length ended.new ≡ length ended.old }
+{
+    if let Some(parent) = children.owner(key) {
+        ended.insert(key, parent, rank);
+    }
+}
+
+/// The key leaves the ended children that it is among.
+pub(crate) fn forget_ended(ended: &mut LeastMembers, key: u32)
+    requires { key < length ended.old }
+    ensures here { ranked ended.new key ≡ None }
+    ensures others { (k : ℕ) → k ≢ key → ranked ended.new k ≡ ranked ended.old k }
+    ensures keys { length ended.new ≡ length ended.old }
+{
+    if ended.rank(key).is_some() {
+        ended.remove(key);
+    }
+}
+
+/// The key leaves its parent, if it has one.
+pub(crate) fn leave_parent(children: &mut OwnerLists, key: u32)
+    requires { key < length children.old }
+    ensures here { owner_of children.new key ≡ None }
+    ensures others { (k : ℕ) → k ≢ key → owner_of children.new k ≡ owner_of children.old k }
+    ensures keys { length children.new ≡ length children.old }
+{
+    if children.owner(key).is_some() {
+        children.remove(key);
+    }
+}
+
+/// The ended child goes to the ended children of another task, where it has ended.
+fn hand_ended(ended: &mut LeastMembers, child: u32, to: u32)
+    requires key { child < length ended.old }
+    requires to { to < length ended.old }
+    requires apart { (k p r : ℕ) → ranked ended.old child ≡ Some (p, r) → ranked ended.old k ≢ Some (to, r) }
+    ensures here { ranked ended.new child ≡ option_map (λ (m : ℕ × ℕ). (to, m.1)) (ranked ended.old child) }
+    ensures others { (k : ℕ) → k ≢ child → ranked ended.new k ≡ ranked ended.old k }
+    ensures keys { length ended.new ≡ length ended.old }
+{
+    if let Some(rank) = ended.rank(child) {
+        ended.remove(child);
+        ended.insert(child, to, rank);
+    }
+}
+
+/// All children of the one become the other's.
+pub(crate) fn hand_all(children: &mut OwnerLists, ended: &mut LeastMembers, from: u32, to: u32)
+    requires differ { from ≢ to }
+    requires from { from < length children.old }
+    requires to { to < length children.old }
+    requires ranks { to < length ended.old }
+    requires waiting { IsWaiting children.old ended.old }
+    requires apart { (j k r : ℕ) → ranked ended.old j ≡ Some (from, r) → ranked ended.old k ≢ Some (to, r) }
+    ensures parents { (k : ℕ) → owner_of children.new k ≡ option_map (handed from to) (owner_of children.old k) }
+    ensures ranks { (k : ℕ) → ranked ended.new k ≡ option_map (λ (m : ℕ × ℕ). (handed from to m.0, m.1)) (ranked ended.old k) }
+    ensures keys { (length children.new ≡ length children.old) × (length ended.new ≡ length ended.old) }
+{
+    while let Some(child) = children.first(from) {
+        children.move_to(child, to);
+        hand_ended(ended, child, to);
+    }
+}
