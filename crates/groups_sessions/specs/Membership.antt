@@ -1,5 +1,5 @@
 -- What a contract sees of `Members`: at each task's key the group and the session that it is in.
-use Rattle.std.specs.Prelude.{◌≡◌, ◌≢◌, ℕ, ◌<◌, List, Option, Some, None, option_map, MatchOption, map, length, slice_index, slice_index_or}
+use Rattle.std.specs.Prelude.{◌≤◌, ◌≡◌, ◌≢◌, ℕ, ◌<◌, List, Option, Some, None, option_map, MatchOption, map, length, slice_index, slice_index_or}
 use Rattle.owner_lists.specs.Owners.{owner_of}
 
 -- the keys of the identifiers that a task's group and session are named after
@@ -46,4 +46,5 @@ memberships_of groups sessions = map (option_map (membership_in sessions)) group
 -- each group's key has a session
 pub record IsKept (groups : List (Option ℕ)) (sessions : List ℕ) : Type 0 where
   pub room : length sessions ≡ length groups
+  pub few : length groups ≤ 1073741824
   pub inside : (k g : ℕ) → owner_of groups k ≡ Some g → g < length groups

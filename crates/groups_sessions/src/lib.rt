@@ -214,11 +214,12 @@ impl Members {
         }
     }
 
-    /// What is true at any time; the call does nothing. The tasks of one group are in one session, and
-    /// there is room for each group's key.
+    /// What is true at any time; the call does nothing. The tasks of one group are in one session, there
+    /// is room for each group's key, and there are at most 2^30 keys.
     pub fn laws(&self)
         ensures together { (k : ℕ) (m : Membership) → membership_at self.now k ≡ Some m → AreInSession self.now m.group m.session }
         ensures room { (k : ℕ) (m : Membership) → membership_at self.now k ≡ Some m → m.group < length self.now }
+        ensures few { length self.now ≤ 2 ^ 30 }
     {
         let _ = &self.groups;
     }

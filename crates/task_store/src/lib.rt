@@ -1,0 +1,401 @@
+//! All that a table of processes holds, by key: identifiers and namespaces, the tree of tasks, process
+//! groups and sessions, and control groups, each part kept in line with the others.
+//!
+//! A task has the key of its identifier, so that a number leads to its task by one search. The calls here
+//! refuse nothing and decide nothing: each makes one change that a call of the table is made of.
+#![tactic(auto)]
+
+ghost use Rattle.std.specs.Prelude.{◌≡◌, ◌≢◌, ℕ, ◌+◌, ◌-◌, ◌<◌, ◌≤◌, ◌^◌, length, option_map, option_and_then, Some, None, true, false, IsSome, IfOk, OnOk, OnErr, [], ◌∷◌, slice_set};
+ghost use Rattle.std.specs.Prelude.{◌==◌, ◌↔◌, ◌++◌, not, map, filter, find, is_none, unwrap_or, drop, Err};
+ghost use Rattle.std.specs.List.{AllByRecursion};
+ghost use Rattle.std.specs.Result.{result_err};
+ghost use Rattle.std.specs.Option.{option_map_or};
+ghost use Rattle.rising_ids.specs.Ids.{AreBelow};
+ghost use Rattle.pid_types.specs.Bounds.{deepest_space};
+ghost use Rattle.pid_types.specs.Settings.{HasGoodPidMax};
+ghost use Rattle.pid_types.specs.Bounds.{deepest_control};
+ghost use Rattle.pid_types.specs.Chains.{contains};
+ghost use Rattle.pid_types.specs.Controls.{control_path, parent_control};
+ghost use Rattle.pid_types.specs.Changes.{limited};
+ghost use Rattle.pids_charge.specs.declared.ControlFault.{ControlFault};
+ghost use Rattle.pid_types.specs.declared.plain.Life.{Life};
+ghost use Rattle.pid_numbers.specs.Numbering.{namespace_at, identifier_at, number_of, path_at, taken_in, fallen_within, draw_in, moved as cursor_moved, new_namespace, new_identifier, Identifier};
+ghost use Rattle.pids_charge.specs.Charges.{Charges, Home, home_at, id_at, stands, kept, moved, handed_on, remove_refusal, limit_refusal, ChangesHome};
+ghost use Rattle.task_tree.specs.Tree.{task_at, parent_of, rank_of, lives, handed};
+ghost use Rattle.groups_sessions.specs.Membership.{Membership, membership_at, group_of, session_of, AreInSession};
+ghost use Rattle.task_store.specs.Store.{IsStore, IsLess, IsSame, Begins, home_without};
+
+mod homes;
+mod room;
+mod settle;
+mod uses;
+
+use arrayvec::ArrayVec;
+use groups_sessions::Members;
+use homes::leave_home;
+use pid_numbers::Numbers;
+use pid_types::call::Kind;
+use pid_types::plain::{Ended, Life};
+use pid_types::reply::Refusal;
+use pids_charge::{ControlFault, Controls};
+use room::room_for;
+use settle::settle;
+use std::alloc::{AllocError, Global};
+use std::marker::Model;
+use task_tree::{Task, TaskTree};
+use uses::{add_uses, take_use, take_uses};
+
+/// What a table of processes holds.
+#[derive(Drop)]
+pub struct TaskStore {
+    numbers: Numbers,
+    tree: TaskTree,
+    members: Members,
+    controls: Controls,
+}
+
+impl Model for TaskStore {
+    ghost use Rattle.task_store.specs.Store.{Store, IsStore};
+
+    ghost Value = { Store };
+
+    ghost view = { λ a. record { numbering = a.numbers; tree = a.tree; members = a.members; charges = a.controls } };
+
+    ghost invariant = { λ a. IsStore (record { numbering = a.numbers; tree = a.tree; members = a.members; charges = a.controls }) };
+}
+
+impl TaskStore {
+    /// The root namespace and the root control group, and no task. The error is want of memory.
+    pub fn new(alloc: Global, pid_max: u32) -> Result<Self, AllocError>
+        requires { HasGoodPidMax pid_max }
+        ensures pid_max { IfOk result (λ r. r.numbering.pid_max ≡ pid_max) }
+        ensures root { IfOk result (λ r. namespace_at r.numbering 0 ≡ Some (new_namespace 0 (0 ∷ []))) }
+        ensures others { IfOk result (λ r. (s : ℕ) → s ≢ 0 → namespace_at r.numbering s ≡ None) }
+        ensures tasks { IfOk result (λ r. (k : ℕ) → task_at r.tree k ≡ None) }
+        ensures controls { IfOk result (λ r. r.charges.controls ≡ record { id = 0; parent = None; limit = None } ∷ []) }
+    {
+        Ok(TaskStore {
+            numbers: Numbers::new(alloc, pid_max)?,
+            tree: TaskTree::new(alloc),
+            members: Members::new(alloc),
+            controls: Controls::new(alloc)?,
+        })
+    }
+
+    /// The identifiers and the namespaces.
+    pub fn numbers(&self) -> &Numbers
+        ensures { result.now ≡ self.now.numbering }
+    {
+        &self.numbers
+    }
+
+    /// The tree of tasks.
+    pub fn tree(&self) -> &TaskTree
+        ensures { result.now ≡ self.now.tree }
+    {
+        &self.tree
+    }
+
+    /// Who is in which group and session.
+    pub fn members(&self) -> &Members
+        ensures { result.now ≡ self.now.members }
+    {
+        &self.members
+    }
+
+    /// The control groups.
+    pub fn controls(&self) -> &Controls
+        ensures { result.now ≡ self.now.charges }
+    {
+        &self.controls
+    }
+
+    /// What is true at any time; the call does nothing. The four parts agree.
+    pub fn bounds(&self)
+        ensures { IsStore self.now }
+    {
+        let _ = &self.numbers;
+    }
+
+    /// A task becomes another one in the same place, with the same life and the same home.
+    pub fn update(&mut self, key: u32, task: Task)
+        requires life { option_map (λ (t : Task). t.life) (task_at self.old.tree key) ≡ Some task.life }
+        requires home { option_map (λ (t : Task). t.home) (task_at self.old.tree key) ≡ Some task.home }
+        ensures tasks { self.new.tree.tasks ≡ slice_set self.old.tree.tasks key (Some task) }
+        ensures rest { self.new ≡ record self.old { tree = record self.old.tree { tasks = self.new.tree.tasks } } }
+    {
+        self.tree.update(key, task);
+    }
+
+    /// A live task goes to another control group.
+    pub fn move_home(&mut self, key: u32, task: Task, to: u32)
+        requires there { task_at self.old.tree key ≡ Some task }
+        requires live { lives task ≡ true }
+        requires stands { stands self.old.charges to ≡ true }
+        ensures tasks { self.new.tree.tasks ≡ slice_set self.old.tree.tasks key (Some (record task { home = to })) }
+        ensures controls { self.new.charges.controls ≡ self.old.charges.controls }
+        ensures homes { (k : ℕ) → home_at self.new.charges k ≡ option_map (moved task.home to k) (home_at self.old.charges k) }
+        ensures rest { self.new ≡ record self.old { tree = record self.old.tree { tasks = self.new.tree.tasks }; charges = self.new.charges } }
+    {
+        self.controls.transfer(task.home, to);
+        self.tree.update(key, Task { home: to, ..task });
+    }
+
+    /// A live task ends, and waits for its parent by its number in the parent's namespace.
+    pub fn finish(&mut self, key: u32, task: Task, end: Ended)
+        requires there { task_at self.old.tree key ≡ Some task }
+        requires live { lives task ≡ true }
+        requires visible { (p : ℕ) → parent_of self.old.tree key ≡ Some p → (u : Identifier) × (identifier_at self.old.numbering p ≡ Some u) × IsSome (number_of self.old.numbering key u.space) }
+        ensures tasks { self.new.tree.tasks ≡ slice_set self.old.tree.tasks key (Some (record task { life = Life.Zombie end })) }
+        ensures parents { self.new.tree.parents ≡ self.old.tree.parents }
+        ensures home { ChangesHome self.old.charges self.new.charges task.home (option_map (λ (h : Home). record h { live = h.live - 1; zombies = h.zombies + 1 }) (home_at self.old.charges task.home)) }
+        ensures rest { (self.new.numbering ≡ self.old.numbering) × (self.new.members ≡ self.old.members) }
+    {
+        self.numbers.laws();
+        self.tree.bounds();
+        let rank = self.rank_for(key);
+        self.tree.finish(key, task, end, rank);
+        self.controls.died(task.home);
+    }
+
+    /// The number of a task in its parent's namespace; 0 where it has no parent.
+    fn rank_for(&self, key: u32) -> u32
+        requires key { key < length self.now.tree.tasks }
+        requires visible { (p : ℕ) → parent_of self.now.tree key ≡ Some p → (u : Identifier) × (identifier_at self.now.numbering p ≡ Some u) × IsSome (number_of self.now.numbering key u.space) }
+        ensures { (p : ℕ) → parent_of self.now.tree key ≡ Some p → (u : Identifier) → identifier_at self.now.numbering p ≡ Some u → number_of self.now.numbering key u.space ≡ Some result }
+    {
+        let Some(parent) = self.tree.parent(key) else {
+            return 0;
+        };
+        match self.numbers.space_of(parent) {
+            Some(space) => self.numbers.number_in(key, space).unwrap_or(0),
+            None => 0,
+        }
+    }
+
+    /// All children of the one task become the other's, whose own namespace is the same.
+    pub fn hand_on(&mut self, from: u32, to: u32)
+        requires differ { from ≢ to }
+        requires from { from < length self.old.tree.tasks }
+        requires to { to < length self.old.tree.tasks }
+        requires beside { (u : Identifier) × (v : Identifier) × (identifier_at self.old.numbering from ≡ Some u) × (identifier_at self.old.numbering to ≡ Some v) × (u.space ≡ v.space) }
+        ensures tasks { self.new.tree.tasks ≡ self.old.tree.tasks }
+        ensures parents { (k : ℕ) → parent_of self.new.tree k ≡ option_map (handed from to) (parent_of self.old.tree k) }
+        ensures rest { self.new ≡ record self.old { tree = self.new.tree } }
+    {
+        self.numbers.laws();
+        self.tree.hand_on(from, to);
+    }
+
+    /// A task goes to another group, all of whose members are in its session.
+    pub fn set_group(&mut self, key: u32, group: u32)
+        requires there { IsSome (membership_at self.old.members key) }
+        requires group { IsSome (identifier_at self.old.numbering group) }
+        requires room { group < length self.old.members }
+        requires together { (s : ℕ) → session_of self.old.members key ≡ Some s → AreInSession self.old.members group s }
+        ensures members { self.new.members ≡ slice_set self.old.members key (option_map (λ (m : Membership). record m { group = group }) (membership_at self.old.members key)) }
+        ensures numbers { IsLess self.old.numbering self.new.numbering }
+        ensures rest { (self.new.tree ≡ self.old.tree) × (self.new.charges ≡ self.old.charges) }
+    {
+        self.numbers.laws();
+        self.tree.bounds();
+        self.members.laws();
+        let old = self.members.group(key);
+        self.numbers.add_use(group, Kind::Group);
+        self.members.join_group(key, group);
+        take_use(&mut self.numbers, old, Kind::Group);
+    }
+
+    /// A task leads a new session and a new group in it, both named after its identifier. Nobody is in that
+    /// group.
+    pub fn start_session(&mut self, key: u32)
+        requires there { IsSome (membership_at self.old.members key) }
+        requires free { (k : ℕ) → group_of self.old.members k ≢ Some key }
+        ensures members { self.new.members ≡ slice_set self.old.members key (Some (record { group = key; session = key })) }
+        ensures numbers { IsLess self.old.numbering self.new.numbering }
+        ensures rest { (self.new.tree ≡ self.old.tree) × (self.new.charges ≡ self.old.charges) }
+    {
+        self.numbers.laws();
+        self.tree.bounds();
+        self.members.laws();
+        let group = self.members.group(key);
+        let session = self.members.session(key);
+        add_uses(&mut self.numbers, key, key);
+        self.members.start_session(key, key);
+        take_uses(&mut self.numbers, group, session);
+    }
+
+    /// A task is gone. Its children, if it has any, keep its key as their parent's.
+    pub fn remove(&mut self, key: u32, task: Task)
+        requires { task_at self.old.tree key ≡ Some task }
+        ensures tasks { self.new.tree.tasks ≡ slice_set self.old.tree.tasks key None }
+        ensures parent { parent_of self.new.tree key ≡ None }
+        ensures parents { (k : ℕ) → k ≢ key → parent_of self.new.tree k ≡ parent_of self.old.tree k }
+        ensures members { self.new.members ≡ slice_set self.old.members key None }
+        ensures home { ChangesHome self.old.charges self.new.charges task.home (option_and_then (λ (h : Home). kept (home_without task h)) (home_at self.old.charges task.home)) }
+        ensures numbers { IsLess self.old.numbering self.new.numbering }
+    {
+        self.numbers.laws();
+        let group = self.members.group(key);
+        let session = self.members.session(key);
+        self.tree.remove(key);
+        self.tree.bounds();
+        self.members.leave(key);
+        leave_home(&mut self.controls, &task);
+        take_uses(&mut self.numbers, group, session);
+        take_use(&mut self.numbers, key, Kind::Task);
+    }
+
+    /// A new control group below another one: [`Controls::make`]. No task is in it yet.
+    pub fn make_control(&mut self, parent: u32, stamp: u64) -> Result<u32, ControlFault>
+        requires stands { stands self.old.charges parent ≡ true }
+        requires above { AllByRecursion (λ g. g.id < stamp) self.old.charges.controls }
+        ensures controls { OnOk result (self.new.charges.controls ≡ self.old.charges.controls ++ record { id = stamp; parent = Some (id_at self.old.charges parent); limit = None } ∷ []) }
+        ensures fresh { IfOk result (λ key. home_at self.old.charges key ≡ None) }
+        ensures here { IfOk result (λ key. home_at self.new.charges key ≡ Some (record { id = stamp; stands = true; live = 0; zombies = 0 })) }
+        ensures others { IfOk result (λ key. (k : ℕ) → k ≢ key → home_at self.new.charges k ≡ home_at self.old.charges k) }
+        ensures deep { (result ≡ Err ControlFault.ControlDepth) ↔ (deepest_control < length (control_path self.old.charges.controls (id_at self.old.charges parent))) }
+        ensures err { OnErr result (self.new ≡ self.old) }
+        ensures rest { self.new ≡ record self.old { charges = self.new.charges } }
+    {
+        self.controls.make(parent, stamp)
+    }
+
+    /// Removes a control group: [`Controls::remove`]. Its zombies go to the parent.
+    pub fn remove_control(&mut self, c: u32) -> Result<(), Refusal>
+        requires { stands self.old.charges c ≡ true }
+        ensures refusal { result_err result ≡ remove_refusal self.old.charges c }
+        ensures controls { OnOk result (self.new.charges.controls ≡ filter (λ g. not (g.id == id_at self.old.charges c)) self.old.charges.controls) }
+        ensures homes { OnOk result ((parent : ℕ) → parent_control self.old.charges.controls (id_at self.old.charges c) ≡ Some parent
+            → (k : ℕ) → home_at self.new.charges k ≡ option_and_then (handed_on (id_at self.old.charges c) parent) (home_at self.old.charges k)) }
+        ensures err { OnErr result (self.new ≡ self.old) }
+        ensures rest { self.new ≡ record self.old { charges = self.new.charges } }
+    {
+        self.controls.remove(c)
+    }
+
+    /// Sets the limit of a control group or takes it away: [`Controls::set_limit`].
+    pub fn set_limit(&mut self, c: u32, limit: Option<u32>) -> Result<(), Refusal>
+        requires { stands self.old.charges c ≡ true }
+        ensures refusal { result_err result ≡ limit_refusal self.old.charges c limit }
+        ensures controls { OnOk result (self.new.charges.controls ≡ map (limited (id_at self.old.charges c) limit) self.old.charges.controls) }
+        ensures homes { (k : ℕ) → home_at self.new.charges k ≡ home_at self.old.charges k }
+        ensures err { OnErr result (self.new ≡ self.old) }
+        ensures rest { self.new ≡ record self.old { charges = self.new.charges } }
+    {
+        self.controls.set_limit(c, limit)
+    }
+
+    /// The namespace and all inside it have fallen: [`Numbers::fell`].
+    pub fn fell(&mut self, space: u32)
+        requires inner { space ≢ 0 }
+        requires used { (s : ℕ) → contains (path_at self.old.numbering s) space ≡ true → 0 < length (taken_in self.old.numbering s) }
+        ensures names { self.new.numbering.names ≡ self.old.numbering.names }
+        ensures order { self.new.numbering.order ≡ self.old.numbering.order }
+        ensures namespaces { (s : ℕ) → namespace_at self.new.numbering s ≡ option_map (fallen_within space) (namespace_at self.old.numbering s) }
+        ensures bound { self.new.numbering.pid_max ≡ self.old.numbering.pid_max }
+        ensures rest { self.new ≡ record self.old { numbering = self.new.numbering } }
+    {
+        self.numbers.fell(space);
+    }
+
+    /// Takes the memory for one task more, and answers its key. The error is want of memory. Nothing changes
+    /// but the room.
+    fn make_room(&mut self) -> Result<u32, AllocError>
+        ensures same { IsSame self.old self.new }
+        ensures key { IfOk result (λ key. key ≡ self.new.numbering.next) }
+        ensures tasks { IfOk result (λ key. key < length self.new.tree.tasks) }
+        ensures members { IfOk result (λ key. key < length self.new.members) }
+        ensures kept { length self.old.members ≤ length self.new.members }
+    {
+        let key = self.numbers.reserve()?;
+        room_for(&mut self.tree, key)?;
+        self.members.reserve(key, key)?;
+        Ok(key)
+    }
+
+    /// A live task begins, with the planned numbers in the namespace and those around it: the child of a task,
+    /// whose group and session it has, or else the first of all, which leads its own. Its key is answered. The
+    /// error is want of memory, and then nothing has changed but the room.
+    pub fn fork(
+        &mut self,
+        from: Option<u32>,
+        space: u32,
+        numbers: &ArrayVec<u32, 33>,
+        task: Task,
+    ) -> Result<u32, AllocError>
+        requires from { (p : ℕ) → from ≡ Some p → IsSome (task_at self.old.tree p) }
+        requires parents { (k p : ℕ) → parent_of self.old.tree k ≡ Some p → IsSome (task_at self.old.tree p) }
+        requires live { lives task ≡ true }
+        requires home { stands self.old.charges task.home ≡ true }
+        requires there { IsSome (namespace_at self.old.numbering space) }
+        requires all { find (λ s. is_none (draw_in self.old.numbering s)) (path_at self.old.numbering space) ≡ None }
+        requires planned { numbers.now.items ≡ map (λ s. unwrap_or (draw_in self.old.numbering s) 0) (path_at self.old.numbering space) }
+        ensures begun { IfOk result (λ key. Begins self.old self.new key from task (new_identifier space numbers.now.items)) }
+        ensures order { self.new.numbering.order ≡ self.old.numbering.order }
+        ensures namespaces { OnOk result ((s : ℕ) → namespace_at self.new.numbering s ≡ option_map (cursor_moved (path_at self.old.numbering space) numbers.now.items s) (namespace_at self.old.numbering s)) }
+        ensures err { OnErr result (IsSame self.old self.new) }
+    {
+        let key = self.make_room()?;
+        self.bounds();
+        self.numbers.laws();
+        self.tree.bounds();
+        self.members.laws();
+        self.numbers.draw(space, numbers)?;
+        settle(
+            &mut self.numbers,
+            &mut self.tree,
+            &mut self.members,
+            &mut self.controls,
+            key,
+            from,
+            task,
+        );
+        Ok(key)
+    }
+
+    /// The child of a task begins in a new namespace inside another one, with number 1 there and the planned
+    /// numbers around it: [`fork`](TaskStore::fork) with `CLONE_NEWPID`. The keys of the task and of the
+    /// namespace are answered.
+    pub fn fork_new(
+        &mut self,
+        from: u32,
+        outer: u32,
+        id: u64,
+        numbers: &ArrayVec<u32, 33>,
+        task: Task,
+    ) -> Result<(u32, u32), AllocError>
+        requires from { IsSome (task_at self.old.tree from) }
+        requires parents { (k p : ℕ) → parent_of self.old.tree k ≡ Some p → IsSome (task_at self.old.tree p) }
+        requires live { lives task ≡ true }
+        requires home { stands self.old.charges task.home ≡ true }
+        requires outer { option_map_or (λ t. t.fallen) (namespace_at self.old.numbering outer) true ≡ false }
+        requires shallow { length (path_at self.old.numbering outer) ≤ deepest_space }
+        requires above { AreBelow self.old.numbering.order id }
+        requires all { find (λ s. is_none (draw_in self.old.numbering s)) (path_at self.old.numbering outer) ≡ None }
+        requires planned { numbers.now.items ≡ 1 ∷ map (λ s. unwrap_or (draw_in self.old.numbering s) 0) (path_at self.old.numbering outer) }
+        ensures begun { IfOk result (λ keys. Begins self.old self.new keys.0 (Some from) task (new_identifier keys.1 numbers.now.items)) }
+        ensures fresh { IfOk result (λ keys. namespace_at self.old.numbering keys.1 ≡ None) }
+        ensures made { IfOk result (λ keys. namespace_at self.new.numbering keys.1 ≡ Some (record (new_namespace id (keys.1 ∷ path_at self.old.numbering outer)) { cursor = 2 })) }
+        ensures namespaces { IfOk result (λ keys. (s : ℕ) → s ≢ keys.1 → namespace_at self.new.numbering s ≡ option_map (cursor_moved (path_at self.old.numbering outer) (drop 1 numbers.now.items) s) (namespace_at self.old.numbering s)) }
+        ensures order { IfOk result (λ keys. self.new.numbering.order ≡ self.old.numbering.order ++ (id, keys.1) ∷ []) }
+        ensures err { OnErr result (IsSame self.old self.new) }
+    {
+        let key = self.make_room()?;
+        self.bounds();
+        self.numbers.laws();
+        self.tree.bounds();
+        self.members.laws();
+        let (_, space) = self.numbers.draw_new(outer, id, numbers)?;
+        settle(
+            &mut self.numbers,
+            &mut self.tree,
+            &mut self.members,
+            &mut self.controls,
+            key,
+            Some(from),
+            task,
+        );
+        Ok((key, space))
+    }
+}
