@@ -8,6 +8,8 @@
 #![tactic(auto)]
 
 mod alone;
+mod layers;
+mod parts;
 mod script;
 mod seated;
 mod step;

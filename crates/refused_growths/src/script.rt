@@ -3,6 +3,7 @@
 ghost use Rattle.std.specs.Prelude.{◌≡◌};
 
 use crate::alone::play as play_alone;
+use crate::layers::play as play_layer;
 use crate::seated::{Seated, open};
 use crate::step::{Step, parse_step};
 use crate::tell::MOST_TRIES;
@@ -90,5 +91,6 @@ fn play_step<L: Ledger, R: Print + Threads + Wait + Clock + Sync + AllocGlobal>(
     match &told.step {
         Step::Seated(step) => seated.play(rt, heading, step),
         Step::Alone(step) => play_alone(rt, heading, config, step),
+        Step::Layer(layer) => play_layer(rt, heading, *layer),
     }
 }

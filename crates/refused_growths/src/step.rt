@@ -5,11 +5,22 @@ use pid_script::line::{Line, parse_line};
 use pid_types::call::Call;
 use std::alloc::Global;
 
-/// A step on the script's table, or on a table of its own.
+/// A step on the script's table, on a table of its own, or on a layer of one.
 #[derive(Drop)]
 pub enum Step {
     Seated(SeatedStep),
     Alone(AloneStep),
+    /// `numbers`, `controls`, `groups`, `tree`: a layer is filled.
+    Layer(Layer),
+}
+
+/// A layer of a table.
+#[derive(Clone, Copy)]
+pub enum Layer {
+    Numbers,
+    Controls,
+    Groups,
+    Tree,
 }
 
 /// A step on the script's table.
@@ -54,6 +65,9 @@ pub fn parse_step(alloc: Global, line: &str) -> Result<Step> {
     if let Some(kind) = parse_alone(alloc, word, rest)? {
         return Ok(Step::Alone(kind));
     }
+    if let Some(layer) = parse_layer(word) {
+        return Ok(Step::Layer(layer));
+    }
     let kind = match word {
         "reserve" => SeatedStep::Reserve(rest.parse::<usize>()?),
         "checkpoint" => SeatedStep::Checkpoint,
@@ -67,6 +81,17 @@ pub fn parse_step(alloc: Global, line: &str) -> Result<Step> {
         },
     };
     Ok(Step::Seated(kind))
+}
+
+/// The layer that the word names, if it names one.
+fn parse_layer(word: &str) -> Option<Layer> {
+    Some(match word {
+        "numbers" => Layer::Numbers,
+        "controls" => Layer::Controls,
+        "groups" => Layer::Groups,
+        "tree" => Layer::Tree,
+        _ => return None,
+    })
 }
 
 /// The step on a table of its own, if the word names one.
