@@ -1,3 +1,2 @@
 pub mod Membership
 pub mod Setpgid
-pub mod Counts
