@@ -1,5 +1,5 @@
 -- A new namespace.
-use Rattle.std.proofs.Common.{◌≡◌, ◌≢◌, ◌⊎◌, inl, inr, ℕ, zero, suc, ◌<◌, ◌≤◌, Bool, true, false, List, [], ◌∷◌, length, get_or, Option, Some, None, is_some, if◌then◌else◌, refl, sym, ap, subst, ◌∙◌, arith}
+use Rattle.std.proofs.Common.{◌≡◌, ◌≢◌, ◌⊎◌, inl, inr, ℕ, zero, suc, ◌<◌, ◌≤◌, ◌==◌, ◌||◌, Bool, true, false, List, [], ◌∷◌, length, get_or, Option, Some, None, is_some, if◌then◌else◌, refl, sym, ap, subst, ◌∙◌, arith}
 use Rattle.std.specs.Prelude.{nat_lt}
 use Rattle.std.proofs.lemmas.Bool.{cases_eq}
 use Rattle.std.proofs.lemmas.Bool.Decides.{nat_tests}
@@ -26,6 +26,10 @@ pub fresh : (ids : Ids ℕ) → ids.cursor ≡ 0 → 301 ≤ ids.pid_max → ((n
 fresh ids cursor good empty =
     ap (λ k. cyclic_draw ids.pid_max k (indexes ids.places)) cursor
     ∙ draws_one ids.pid_max (indexes ids.places) good (λ n. contains_indexes ids.places n ∙ ap is_some (empty n))
+
+or_right : (a b : Bool) → b ≡ true → (a || b) ≡ true
+or_right true b e = refl
+or_right false b e = e
 
 -- a namespace more, at a key that had none
 module _ (pid_max : ℕ) (ways ways' : ℕ → List ℕ) (at : ℕ → ℕ → Option (Entry ℕ)) (bound bound' : ℕ → Option ℕ) (names : ℕ → Option Identifier) (b : IsNumbering pid_max ways at bound names)
@@ -56,8 +60,8 @@ module _ (pid_max : ℕ) (ways ways' : ℕ → List ℕ) (at : ℕ → ℕ → O
       go None is = refl
       go (Some u) is = ap (λ p. beside s p u.numbers) (others u.space (away i u is))
 
-  pub numbering-added : ((m : ℕ) → bound' key ≡ Some m → m ≡ pid_max) → ((s : ℕ) → s ≢ key → bound' s ≡ bound s) → IsNumbering pid_max ways' at bound' names
-  numbering-added good bounds = record {
+  pub numbering-added : 0 < length (ways parent) → ((m : ℕ) → bound' key ≡ Some m → m ≡ pid_max) → ((s : ℕ) → s ≢ key → bound' s ≡ bound s) → IsNumbering pid_max ways' at bound' names
+  numbering-added there good bounds = record {
     good = b.good;
     bounds = λ s m e. elim (cases_eq s key) [
       | inl same ↦ (good m (sym (ap bound' same) ∙ e), (let l = ap length (ap ways' same ∙ now) in omega (arith, l)))
@@ -78,6 +82,10 @@ module _ (pid_max : ℕ) (ways ways' : ℕ → List ℕ) (at : ℕ → ℕ → O
       few = λ s. elim (cases_eq s key) [
         | inl e ↦ (let l = ap length (ap ways' e ∙ now) in omega (arith, l, few))
         | inr m ↦ subst (λ (p : List ℕ). length p ≤ 33) (sym (others s m)) (b.tree.few s)
+      ];
+      ends = λ s some. elim (cases_eq s key) [
+        | inl e ↦ ap (λ p. contains p 0) (ap ways' e ∙ now) ∙ or_right (key == 0) (contains (ways parent) 0) (b.tree.ends parent there)
+        | inr m ↦ ap (λ p. contains p 0) (others s m) ∙ b.tree.ends s (subst (λ (p : List ℕ). 0 < length p) (others s m) some)
       ];
     };
     tied = record {

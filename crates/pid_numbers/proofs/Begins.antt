@@ -95,7 +95,7 @@ module _ (pid_max : ℕ) (spaces spaces1 spaces3 : Slab Space) (names : ℕ → 
 
       added : IsNumbering pid_max (way spaces4) (entry_on spaces) (bound_on spaces4) names
       added =
-          adds.numbering-added pid_max (way spaces) (way spaces4) (entry_on spaces) (bound_on spaces) (bound_on spaces4) names whole.numbering key parent was way_here way_new few
+          adds.numbering-added pid_max (way spaces) (way spaces4) (entry_on spaces) (bound_on spaces) (bound_on spaces4) names whole.numbering key parent was way_here way_new few there
           (λ m e. ap (λ o. option_map_or (λ y. y) o m) (sym e ∙ bound4 key ∙ bound3)) bound_new
 
       free : (s n : ℕ) → beside s (way spaces4 key) (1 ∷ around) ≡ Some n → (entry_on spaces s n ≡ None) × (0 < n) × (n < pid_max)

@@ -8,7 +8,7 @@ use Rattle.index_array.proofs.Indexes.{contains_indexes}
 use Rattle.pid_numbers.specs.declared.spaces.Space.{Space}
 use Rattle.pid_numbers.specs.declared.names.Ident.{Ident}
 use Rattle.pid_numbers.specs.Numbering.{Identifier, Numbering, namespace_at, identifier_at, is_used_as, less, uses, number_in, number_of, path_at, taken_in, is_dead, swept_at}
-use Rattle.pid_numbers.specs.Slabs.{namespace_of, namespaces_of, numbering_of, name_at, way, entry_on, bound_on, leads, fell, dead_on, goes, left_on, touched, IsTied, IsNumbering, IsWhole}
+use Rattle.pid_numbers.specs.Slabs.{AreFallen, namespace_of, namespaces_of, numbering_of, name_at, way, entry_on, bound_on, leads, fell, dead_on, goes, left_on, touched, IsTied, IsNumbering, IsWhole}
 use Rattle.std.specs.Prelude.{filter_map}
 use Rattle.pid_numbers.proofs.Ties.{get_or-map_option, at_key, listed_from, listed}
 use Rattle.std.proofs.lemmas.Bool.Decides.{nat_tests}
@@ -258,3 +258,11 @@ taken-some b i s n e = some (filter_map (number_in (path_at b) s) b.names) (list
     some : (ns : List ℕ) → contains ns n ≡ true → 0 < length ns
     some [] on = absurd (cc)
     some (m ∷ ms) on = omega arith
+
+-- and a fallen one has a number in use
+pub held-taken : (pid_max : ℕ) (spaces : Slab Space) (idents : Slab Ident) (order : List (ℕ × ℕ)) (b : Numbering) → numbering_of pid_max spaces idents order ≡ b
+    → IsNumbering pid_max (way spaces) (entry_on spaces) (bound_on spaces) (name_at idents) → AreFallen (way spaces) (entry_on spaces) (fell spaces) → (s : ℕ) → fell spaces s ≡ true → 0 < length (taken_in b s)
+held-taken pid_max spaces idents order b view w fallen s on =
+    let r = fallen.held s on in
+    subst (λ (c : Numbering). 0 < length (taken_in c s)) view
+    (taken-some (numbering_of pid_max spaces idents order) r.1 s r.0 (views.number_is pid_max spaces idents order r.1 s ∙ w.tied.found s r.0 r.1 r.2))

@@ -193,6 +193,10 @@ module _ (pid_max : ℕ) (ways : ℕ → List ℕ) (at : ℕ → ℕ → Option 
         | inl g ↦ (let l = ap length (went s g) in omega (arith, l))
         | inr g ↦ subst (λ (p : List ℕ). length p ≤ 33) (sym (stays s g)) (b.tree.few s)
       ];
+      ends = λ s some. elim (cases (gone s)) [
+        | inl g ↦ absurd (let l = ap length (went s g) in omega (arith, l, some))
+        | inr g ↦ ap (λ p. contains p 0) (stays s g) ∙ b.tree.ends s (subst (λ (p : List ℕ). 0 < length p) (stays s g) some)
+      ];
     }
 
     pub numbering-swept : IsNumbering pid_max ways' at' bound' names

@@ -65,6 +65,7 @@ pub record IsTree (ways : ℕ → List ℕ) : Type 0 where
   pub head : (s : ℕ) → (ways s ≡ []) ⊎ ((rest : List ℕ) × (ways s ≡ s ∷ rest))
   pub paths : (s : ℕ) → IsPath ways (ways s)
   pub few : (s : ℕ) → length (ways s) ≤ 33
+  pub ends : (s : ℕ) → 0 < length (ways s) → contains (ways s) 0 ≡ true
 
 -- numbers lead to names and names to numbers
 pub record IsTied (ways : ℕ → List ℕ) (names : ℕ → Option Identifier) (see : ℕ → ℕ → Option ℕ) : Type 0 where

@@ -107,8 +107,9 @@ impl Numbers {
 
     /// What is true of all identifiers and namespaces at any time; the call does nothing. No number of a
     /// namespace names two identifiers, each is above 0 and below `pid_max`, each identifier has one for
-    /// each namespace from its own to the root, which has the key 0, and what is in a fallen namespace has
-    /// fallen. No two namespaces have the same id, and the order has the ids of all of them, rising.
+    /// each namespace from its own to the root, which has the key 0 and at which every path ends. What is in a
+    /// fallen namespace has fallen, and a number in it is in use. No two namespaces have the same id, and the order
+    /// has the ids of all of them, rising.
     pub fn laws(&self)
         ensures distinct { (i j s n : ℕ) → number_of self.now i s ≡ Some n → number_of self.now j s ≡ Some n → i ≡ j }
         ensures range { (i s n : ℕ) → number_of self.now i s ≡ Some n → (0 < n) × (n < self.now.pid_max) }
@@ -117,7 +118,9 @@ impl Numbers {
         ensures own { (s : ℕ) → 0 < length (path_at self.now s) → slice_index_or (path_at self.now s) 0 0 ≡ s }
         ensures around { (s j : ℕ) → j < length (path_at self.now s) → path_at self.now (slice_index_or (path_at self.now s) j 0) ≡ drop j (path_at self.now s) }
         ensures few { (s : ℕ) → length (path_at self.now s) ≤ deepest_space + 1 }
+        ensures ends { (s : ℕ) → 0 < length (path_at self.now s) → contains (path_at self.now s) 0 ≡ true }
         ensures fallen { (s j : ℕ) → j < length (path_at self.now s) → has_fallen_at self.now (slice_index_or (path_at self.now s) j 0) ≡ true → has_fallen_at self.now s ≡ true }
+        ensures held { (s : ℕ) → has_fallen_at self.now s ≡ true → 0 < length (taken_in self.now s) }
         ensures ids { (s t i : ℕ) → id_at self.now s ≡ Some i → id_at self.now t ≡ Some i → s ≡ t }
         ensures listed { (s i : ℕ) → id_at self.now s ≡ Some i → key_of self.now.order i ≡ Some s }
         ensures each { AllByRecursion (λ p. id_at self.now p.1 ≡ Some p.0) self.now.order }

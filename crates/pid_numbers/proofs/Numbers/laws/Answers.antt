@@ -7,6 +7,8 @@ use Rattle.pid_numbers.specs.Slabs.{numbering_of, id_on, way, entry_on, leads, f
 use Rattle.pid_numbers.proofs.Views as views
 use Rattle.pid_numbers.proofs.Ties as ties
 use Rattle.pid_numbers.proofs.Orders as orders
+use Rattle.pid_numbers.proofs.Drops as drops
+use Rattle.pid_types.specs.Chains.{contains}
 use Rattle.pid_numbers.proofs.Numbers.laws.Goals as goal
 
 -- the first of a path is the namespace itself
@@ -34,6 +36,8 @@ returns c =
       root = path 0 ∙ b.tree.root;
       own = λ s some. ap (λ l. get_or l 0 0) (path s) ∙ own_first s (way spaces s) (b.tree.head s) (subst (λ (l : List ℕ). 0 < length l) (path s) some);
       around = subst (λ (p : ℕ → List ℕ). (s j : ℕ) → j < length (p s) → p (get_or (p s) j 0) ≡ drop j (p s)) (λ i s. sym (path s) i) (λ s j lt. ties.at-path (way spaces) (way spaces s) (b.tree.paths s) j lt);
+      ends = λ s some. ap (λ l. contains l 0) (path s) ∙ b.tree.ends s (subst (λ (l : List ℕ). 0 < length l) (path s) some);
+      held = λ s e. drops.held-taken max spaces idents c.self.inside.order value c.self.view_is b c.self.invariant.whole.fallen s (sym (fallen s) ∙ e);
       few = λ s. subst (λ (l : List ℕ). length l ≤ 33) (sym (path s)) (b.tree.few s);
       fallen = λ s j lt e.
           fallen s ∙ c.self.invariant.whole.fallen.inner s j (subst (λ (l : List ℕ). j < length l) (path s) lt) (ap (λ p. fell spaces (get_or p j 0)) (sym (path s)) ∙ sym (fallen (get_or (path_at value s) j 0)) ∙ e);
