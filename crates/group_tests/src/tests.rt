@@ -3,6 +3,7 @@
 use groups_sessions::{GroupAsk, Members, Target};
 use pid_numbers::Numbers;
 use pid_types::reply::Refusal;
+use std::alloc::{AllocError, Global};
 use std::test::Fail;
 
 /// Two tasks enter a group, and leave it.
@@ -107,6 +108,15 @@ fn asks() -> [(GroupAsk, Result<u32, Refusal>); 12] {
     ]
 }
 
+/// Two tasks, each in a group and a session of its own.
+fn two_groups(alloc: Global) -> Result<Members, AllocError> {
+    let mut members = Members::new(alloc);
+    members.reserve(3, 3)?;
+    members.enter(0, 0, 0);
+    members.enter(2, 2, 2);
+    Ok(members)
+}
+
 /// Process 2 is a child of 1, 3 of 2 and 4 of 3. Process 3 leads a session of its own.
 #[test]
 fn refuses_groups(rt: HostRuntime) -> Result<(), Fail> {
@@ -114,10 +124,7 @@ fn refuses_groups(rt: HostRuntime) -> Result<(), Fail> {
     for ident in 0..4 {
         assert_eq!(rt; draw(&mut numbers), Some(ident));
     }
-    let mut members = Members::new(rt.alloc());
-    members.reserve(3, 3)?;
-    members.enter(0, 0, 0);
-    members.enter(2, 2, 2);
+    let members = two_groups(rt.alloc())?;
     for (asked, want) in asks() {
         assert_eq!(rt; members.may_setpgid(&numbers, &asked), want);
     }
