@@ -372,20 +372,20 @@ module _ (state : State) (sound : IsCoherent state) (stamp : ℕ) (below : IsBel
   with_new = state.spaces ++ new ∷ []
 
   -- its parent is there, and stands
-  parent_there : (t : Space) × (space_at state.spaces p ≡ Some t) × (t.fallen ≡ false)
+  pub parent_there : (t : Space) × (space_at state.spaces p ≡ Some t) × (t.fallen ≡ false)
   parent_there = standing_space state p stands
 
   -- those from before are found as before
-  at_old : (x : ℕ) (s : Space) → space_at state.spaces x ≡ Some s → space_at with_new x ≡ Some s
+  pub at_old : (x : ℕ) (s : Space) → space_at state.spaces x ≡ Some s → space_at with_new x ≡ Some s
   at_old x s e = at-push_old Space (λ t. t.id) (λ t. t.parent) state.spaces new below.spaces x s e
 
   -- the paths from before stay
-  path_old : (id : ℕ) → IsOnTree state.spaces id → path_up with_new id ≡ path_up state.spaces id
+  pub path_old : (id : ℕ) → IsOnTree state.spaces id → path_up with_new id ≡ path_up state.spaces id
   unfolding path_up
   path_old id on = chain-push Space (λ t. t.id) (λ t. t.parent) state.spaces new below.spaces (path_up state.spaces) sound.spaces 33 id on
 
   -- its parent's path ends at the root
-  on_parent : IsOnTree state.spaces p
+  pub on_parent : IsOnTree state.spaces p
   on_parent = IsOnTree-listed state.spaces sound.spaces p parent_there.0 parent_there.1
 
   -- what is around the new namespace is it, or around its parent
@@ -406,11 +406,11 @@ module _ (state : State) (sound : IsCoherent state) (stamp : ℕ) (below : IsBel
   name_on_tree a i = IsOnTree-name state.spaces state.pid_max sound.spaces a (sound.numbered a i)
 
   -- their paths stay
-  name_path_old : (a : Name) → IsIn a (names_in_use state.rows) → path_up with_new a.space ≡ path_up state.spaces a.space
+  pub name_path_old : (a : Name) → IsIn a (names_in_use state.rows) → path_up with_new a.space ≡ path_up state.spaces a.space
   name_path_old a i = path_old a.space (name_on_tree a i)
 
   -- and their numbers
-  number_old : (a : Name) → IsIn a (names_in_use state.rows) → (s : ℕ) → number with_new a s ≡ number state.spaces a s
+  pub number_old : (a : Name) → IsIn a (names_in_use state.rows) → (s : ℕ) → number with_new a s ≡ number state.spaces a s
   number_old a i s = number-same_path state.spaces with_new a s (name_path_old a i)
 
   -- the namespaces with the new one are a tree
@@ -430,7 +430,7 @@ module _ (state : State) (sound : IsCoherent state) (stamp : ℕ) (below : IsBel
           inr (subst (IsIn r.name.space) (sym (path_old r.children_space (IsOnTree-listed state.spaces sound.spaces r.children_space s e))) j)
 
   -- nothing has a number in the new namespace yet
-  nothing_taken : taken (with_space state p stamp) stamp ≡ []
+  pub nothing_taken : taken (with_space state p stamp) stamp ≡ []
   nothing_taken = go (taken (with_space state p stamp) stamp) refl
     where
       go : (ns : List ℕ) → taken (with_space state p stamp) stamp ≡ ns → taken (with_space state p stamp) stamp ≡ []
@@ -444,7 +444,7 @@ module _ (state : State) (sound : IsCoherent state) (stamp : ℕ) (below : IsBel
           absurd (cc)
 
   -- the new namespace has drawn no number
-  new_cursor : cursor_of (with_space state p stamp) stamp ≡ 0
+  pub new_cursor : cursor_of (with_space state p stamp) stamp ≡ 0
   new_cursor = ap (λ o. unwrap_or (option_map (λ (t : Space). t.cursor) o) 0) (at-push_new Space (λ t. t.id) (λ t. t.parent) state.spaces new below.spaces)
 
   -- so it gives 1

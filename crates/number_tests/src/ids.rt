@@ -39,6 +39,16 @@ fn expect_marked(rt: &impl Abort, ids: &CyclicIds<u32>, mark: usize, next: Optio
     assert_eq!(rt; ids.next_marked(0, mark), next);
 }
 
+fn expect_cursor(rt: &impl Abort, ids: &CyclicIds<u32>, cursor: u32) {
+    assert_eq!(rt; ids.cursor(), cursor);
+}
+
+fn has_mark(ids: &CyclicIds<u32>, n: u32, mark: usize) -> bool
+    requires { mark < 3 }
+{
+    ids.has_mark(n, mark)
+}
+
 /// Gives the planned number with marks, again where there was no memory.
 fn give_marked(ids: &mut CyclicIds<u32>, entry: u32, marks: [bool; 3]) {
     if let Some(n) = ids.plan() {
@@ -67,12 +77,12 @@ fn draws_in_turn(rt: HostRuntime) {
     for n in 1..=300 {
         expect_draw(&rt, &mut ids, Some(n));
     }
-    assert_eq!(rt; ids.cursor(), 301);
+    expect_cursor(&rt, &ids, 301);
     expect_draw(&rt, &mut ids, None);
     expect_release(&rt, &mut ids, 7);
     expect_draw(&rt, &mut ids, None);
     expect_release(&rt, &mut ids, 300);
-    assert_eq!(rt; ids.cursor(), 301);
+    expect_cursor(&rt, &ids, 301);
     expect_draw(&rt, &mut ids, Some(300));
     expect_entry(&rt, &ids, 300, 300);
 }
@@ -101,9 +111,9 @@ fn gives_with_marks(rt: HostRuntime) {
     give_marked(&mut ids, 9, [true, false, true]);
     expect_entry(&rt, &ids, 1, 9);
     expect_marked(&rt, &ids, TASK_MARK, Some(1));
-    assert!(rt; !ids.has_mark(1, GROUP_MARK));
-    assert!(rt; ids.has_mark(1, SESSION_MARK));
-    assert_eq!(rt; ids.cursor(), 2);
+    assert!(rt; !has_mark(&ids, 1, GROUP_MARK));
+    assert!(rt; has_mark(&ids, 1, SESSION_MARK));
+    expect_cursor(&rt, &ids, 2);
 }
 
 /// A mark is on a number that is in use, and on no other.
@@ -116,7 +126,7 @@ fn marks_numbers(rt: HostRuntime) {
     assert!(rt; set_mark(&mut ids, 2, GROUP_MARK));
     assert!(rt; !set_mark(&mut ids, 3, GROUP_MARK));
     expect_marked(&rt, &ids, GROUP_MARK, Some(2));
-    assert!(rt; !ids.has_mark(2, SESSION_MARK));
+    assert!(rt; !has_mark(&ids, 2, SESSION_MARK));
     assert!(rt; clear_mark(&mut ids, 2, GROUP_MARK));
     expect_marked(&rt, &ids, GROUP_MARK, None);
 }

@@ -149,6 +149,44 @@ fn expect_used(rt: &impl Abort, numbers: &Numbers, kind: Kind, from: u32, used: 
     assert_eq!(rt; numbers.next_used(0, kind, from), used);
 }
 
+fn expect_fallen(rt: &impl Abort, numbers: &Numbers, space: u32, fallen: bool) {
+    assert_eq!(rt; numbers.is_fallen(space), fallen, "fall of {space}");
+}
+
+fn expect_within(rt: &impl Abort, numbers: &Numbers, space: u32, outer: u32, within: bool) {
+    assert_eq!(rt;
+        numbers.is_within(space, outer),
+        within,
+        "{space} in {outer}"
+    );
+}
+
+fn expect_id(rt: &impl Abort, numbers: &Numbers, space: u32, id: Option<u64>) {
+    assert_eq!(rt; numbers.id(space), id);
+}
+
+fn expect_parent(rt: &impl Abort, numbers: &Numbers, space: u32, parent: Option<u32>) {
+    assert_eq!(rt; numbers.parent(space), parent, "parent of {space}");
+}
+
+fn expect_space(rt: &impl Abort, numbers: &Numbers, id: u64, space: Option<u32>) {
+    assert_eq!(rt; numbers.find_space(id), space, "namespace {id}");
+}
+
+/// The identifier is of the namespace.
+fn expect_home(rt: &impl Abort, numbers: &Numbers, ident: u32, space: u32) {
+    assert_eq!(rt; numbers.space_of(ident), Some(space));
+}
+
+/// The namespaces are these, by id and key.
+fn expect_spaces(rt: &impl Abort, numbers: &Numbers, spaces: &[(u64, u32)]) {
+    let mut keys = numbers.keys();
+    for space in spaces {
+        assert_eq!(rt; keys.next(), Some(*space));
+    }
+    assert_eq!(rt; keys.next(), None);
+}
+
 /// Whether a number can be drawn in the root namespace.
 fn has_plan(numbers: &Numbers) -> bool {
     numbers.plan(0).is_ok()
@@ -158,14 +196,18 @@ fn fault_of_new(numbers: &Numbers, parent: u32) -> Option<PlanFault> {
     numbers.plan_new(parent).err()
 }
 
+fn expect_new(rt: &impl Abort, numbers: &Numbers, parent: u32, fault: Option<PlanFault>) {
+    assert_eq!(rt; fault_of_new(numbers, parent), fault);
+}
+
 /// A namespace directly in the root one, which stands.
 fn expect_inner(rt: &impl Abort, numbers: &Numbers, space: u32, id: u64) {
-    assert_eq!(rt; numbers.id(space), Some(id));
-    assert_eq!(rt; numbers.parent(space), Some(0));
-    assert_eq!(rt; numbers.parent(0), None);
-    assert!(rt; numbers.is_within(space, 0));
-    assert!(rt; !numbers.is_within(0, space));
-    assert!(rt; !numbers.is_fallen(space));
+    expect_id(rt, numbers, space, Some(id));
+    expect_parent(rt, numbers, space, Some(0));
+    expect_parent(rt, numbers, 0, None);
+    expect_within(rt, numbers, space, 0, true);
+    expect_within(rt, numbers, 0, space, false);
+    expect_fallen(rt, numbers, space, false);
 }
 
 /// The root init is 1, the first of a new namespace 1 there and 2 in the root, and the next of it 2 and 3.
@@ -185,7 +227,7 @@ fn numbers_on_two_levels(rt: HostRuntime) -> Result<(), Fail> {
         expect_found(&rt, &numbers, 0, 3, second);
         expect_number(&rt, &numbers, first, 0, 2);
         expect_number(&rt, &numbers, first, space, 1);
-        assert_eq!(rt; numbers.space_of(first), Some(space));
+        expect_home(&rt, &numbers, first, space);
         expect_cursor(&rt, &numbers, 0, 4);
         expect_cursor(&rt, &numbers, space, 3);
         expect_inner(&rt, &numbers, space, 1);
@@ -217,6 +259,23 @@ fn outlives_its_task(rt: HostRuntime) -> Result<(), Fail> {
     Ok(())
 }
 
+/// A new namespace inside this one, in which there can be one; its key.
+fn deepen(rt: &impl Abort, numbers: &mut Numbers, inner: u32) -> u32 {
+    expect_new(rt, numbers, inner, None);
+    match draw_new(numbers, inner) {
+        Some((_, space)) => space,
+        None => inner,
+    }
+}
+
+fn expect_level(rt: &impl Abort, numbers: &Numbers, space: u32, depth: usize) {
+    assert_eq!(rt; level(numbers, space), Some(depth), "level of {space}");
+}
+
+fn expect_many(rt: &impl Abort, numbers: &Numbers, ident: u32, space: u32, count: usize) {
+    assert_eq!(rt; how_many_levels(numbers, ident, space), count);
+}
+
 /// Thirty-two namespaces, each inside the one before: the first of the deepest has a number on each of 33
 /// levels, and a namespace inside it is too deep.
 #[test]
@@ -224,18 +283,15 @@ fn nests_to_level_32(rt: HostRuntime) -> Result<(), Fail> {
     let mut numbers = table(rt.alloc(), 32768)?;
     let mut inner = 0;
     for _ in 1..33 {
-        assert!(rt; numbers.plan_new(inner).is_ok());
-        if let Some((_, space)) = draw_new(&mut numbers, inner) {
-            inner = space;
-        }
+        inner = deepen(&rt, &mut numbers, inner);
     }
     expect_found(&rt, &numbers, 0, 32, find(&numbers, inner, 1));
-    assert_eq!(rt; fault_of_new(&numbers, inner), Some(PlanFault::TooDeep));
-    assert_eq!(rt; level(&numbers, 0), Some(0));
-    assert_eq!(rt; level(&numbers, inner), Some(32));
-    let first = find(&numbers, inner, 1).ok_or("no first")?;
-    assert_eq!(rt; how_many_levels(&numbers, first, 0), 33);
-    assert_eq!(rt; how_many_levels(&numbers, first, inner), 1);
+    expect_new(&rt, &numbers, inner, Some(PlanFault::TooDeep));
+    expect_level(&rt, &numbers, 0, 0);
+    expect_level(&rt, &numbers, inner, 32);
+    let first = find(&numbers, inner, 1).expect(&rt, "no first");
+    expect_many(&rt, &numbers, first, 0, 33);
+    expect_many(&rt, &numbers, first, inner, 1);
     Ok(())
 }
 
@@ -244,9 +300,9 @@ fn nests_to_level_32(rt: HostRuntime) -> Result<(), Fail> {
 #[test]
 fn names_on_two_levels(rt: HostRuntime) -> Result<(), Fail> {
     let mut numbers = table(rt.alloc(), 32768)?;
-    let init = draw(&mut numbers, 0).ok_or("no init")?;
-    let (_, space) = draw_new(&mut numbers, 0).ok_or("no namespace")?;
-    let second = draw(&mut numbers, space).ok_or("no second")?;
+    let init = draw(&mut numbers, 0).expect(&rt, "no init");
+    let (_, space) = draw_new(&mut numbers, 0).expect(&rt, "no namespace");
+    let second = draw(&mut numbers, space).expect(&rt, "no second");
     assert!(rt; is_named(&numbers, second, 1, &[3, 2]));
     assert!(rt; is_named(&numbers, init, 0, &[1]));
     assert!(rt; are_levels(&numbers, second, 0, &[3, 2]));
@@ -259,37 +315,29 @@ fn names_on_two_levels(rt: HostRuntime) -> Result<(), Fail> {
 #[test]
 fn lists_by_id(rt: HostRuntime) -> Result<(), Fail> {
     let mut numbers = table(rt.alloc(), 32768)?;
-    let (_, one) = draw_new(&mut numbers, 0).ok_or("no namespace")?;
-    let (_, two) = draw_new(&mut numbers, one).ok_or("no namespace")?;
-    let (_, three) = draw_new(&mut numbers, 0).ok_or("no namespace")?;
-    let mut keys = numbers.keys();
-    assert_eq!(rt; keys.next(), Some((0, 0)));
-    assert_eq!(rt; keys.next(), Some((1, one)));
-    assert_eq!(rt; keys.next(), Some((2, two)));
-    assert_eq!(rt; keys.next(), Some((3, three)));
-    assert_eq!(rt; keys.next(), None);
-    assert_eq!(rt; numbers.find_space(2), Some(two));
-    assert_eq!(rt; numbers.find_space(4), None);
-    assert!(rt; numbers.is_within(two, one));
-    assert!(rt; !numbers.is_within(three, one));
+    let (_, one) = draw_new(&mut numbers, 0).expect(&rt, "no namespace");
+    let (_, two) = draw_new(&mut numbers, one).expect(&rt, "no namespace");
+    let (_, three) = draw_new(&mut numbers, 0).expect(&rt, "no namespace");
+    expect_spaces(&rt, &numbers, &[(0, 0), (1, one), (2, two), (3, three)]);
+    expect_space(&rt, &numbers, 2, Some(two));
+    expect_space(&rt, &numbers, 4, None);
+    expect_within(&rt, &numbers, two, one, true);
+    expect_within(&rt, &numbers, three, one, false);
     Ok(())
 }
 
 /// A fallen namespace goes with the last number in it, and its id with it; the root stays.
 #[test]
-fn falls_and_goes(rt: HostRuntime) -> Result<(), Fail> {
-    let (mut numbers, first, space) = fallen(rt.alloc()).ok_or("no table")?;
-    assert!(rt; numbers.is_fallen(space));
-    assert!(rt; !numbers.is_fallen(0));
-    assert_eq!(rt; numbers.find_space(7), Some(space));
+fn falls_and_goes(rt: HostRuntime) {
+    let (mut numbers, first, space) = fallen(rt.alloc()).expect(&rt, "no table");
+    expect_fallen(&rt, &numbers, space, true);
+    expect_fallen(&rt, &numbers, 0, false);
+    expect_space(&rt, &numbers, 7, Some(space));
     drop_use(&mut numbers, first, Kind::Task);
-    assert_eq!(rt; numbers.id(space), None);
-    assert!(rt; !numbers.is_fallen(space));
-    assert_eq!(rt; numbers.find_space(7), None);
-    assert_eq!(rt; numbers.find_space(0), Some(0));
-    assert_eq!(rt; numbers.find(0, 1), None);
-    let mut keys = numbers.keys();
-    assert_eq!(rt; keys.next(), Some((0, 0)));
-    assert_eq!(rt; keys.next(), None);
-    Ok(())
+    expect_id(&rt, &numbers, space, None);
+    expect_fallen(&rt, &numbers, space, false);
+    expect_space(&rt, &numbers, 7, None);
+    expect_space(&rt, &numbers, 0, Some(0));
+    expect_found(&rt, &numbers, 0, 1, None);
+    expect_spaces(&rt, &numbers, &[(0, 0)]);
 }

@@ -93,6 +93,7 @@ module _ (pid_max : ℕ) (ways ways' : ℕ → List ℕ) (at : ℕ → ℕ → O
       kept = λ s n i e. b.tied.kept s n i (sym (number_stays s i) ∙ e);
       full = λ i u e. b.tied.full i u e ∙ ap length (sym (others u.space (away i u e)));
       some = b.tied.some;
+      live = b.tied.live;
     };
     range = b.range;
     marks = b.marks;

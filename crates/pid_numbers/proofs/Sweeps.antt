@@ -216,6 +216,7 @@ module _ (pid_max : ℕ) (ways : ℕ → List ℕ) (at : ℕ → ℕ → Option 
             ap (option_map (λ e. e.value)) (at_stays s n (not_gone s n i led)) ∙ led;
         full = λ i u e. b.tied.full i u e ∙ ap length (sym (stays u.space (home_stays i u e)));
         some = b.tied.some;
+        live = b.tied.live;
       };
       range = λ s n i e. b.range s n i (leads_was s n i e);
       marks = λ s n e is. b.marks s n e (at_was s n e is);

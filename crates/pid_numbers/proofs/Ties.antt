@@ -1,6 +1,6 @@
 -- Look-ups that lead to names, over plain functions.
-use Rattle.std.proofs.Common.{◌≡◌, ◌≢◌, ◌⊎◌, inl, inr, ℕ, zero, suc, ◌+◌, ◌<◌, ◌≤◌, Bool, true, false, ◌==◌, ◌||◌, List, [], ◌∷◌, length, map, get_or, drop, length-drop, Option, Some, None, is_none, if◌then◌else◌, refl, sym, ap, subst, ◌∙◌, arith, option_map, unwrap_or, find}
-use Rattle.std.specs.Prelude.{filter_map, slice_set}
+use Rattle.std.proofs.Common.{◌≡◌, ◌≢◌, ◌⊎◌, inl, inr, ℕ, zero, suc, ◌+◌, ◌<◌, ◌≤◌, Bool, true, false, not, ◌==◌, ◌&&◌, ◌||◌, List, [], ◌∷◌, length, map, get_or, drop, length-drop, Option, Some, None, is_none, if◌then◌else◌, refl, sym, ap, subst, ◌∙◌, arith, option_map, unwrap_or, find}
+use Rattle.std.specs.Prelude.{filter_map, slice_set, slice_index_or}
 use Rattle.std.specs.Option.{option_map_or, option_eq}
 use Rattle.std.specs.List.{cons_option}
 use Rattle.std.proofs.lemmas.List.{drop_more, get_or-drop}
@@ -10,7 +10,7 @@ use Rattle.pid_types.specs.Names.{beside}
 use Rattle.index_array.specs.Place.{Entry, with_mark}
 use Rattle.pid_types.specs.declared.call.Kind.{Kind}
 use Rattle.pid_types.specs.declared.call.Kind.TheVariants.{Task, Group, Session}
-use Rattle.pid_numbers.specs.Numbering.{Identifier, Namespace, moved, number_in, is_used_as, with_uses}
+use Rattle.pid_numbers.specs.Numbering.{Identifier, Namespace, moved, number_in, is_used, is_used_as, with_uses}
 use Rattle.pid_numbers.specs.Slabs.{stepped, IsDistinct, IsPath, IsTree, IsTied, IsNumbering, touched, leads, given_to, mark_of, marks_of, AreMarked, AreInRange}
 
 -- where each draws, each number is the one drawn
@@ -202,6 +202,30 @@ module _ (path numbers : List ℕ) (h : Option (Entry ℕ) → Option (Entry ℕ
           let off : (m == n) ≡ false = grind (arith, x) in
           rw off refl
 
+-- an identifier with the marks of a new one is used
+first-live : (u : Identifier) → marks_of (Some u) ≡ true ∷ false ∷ false ∷ [] → is_used u ≡ true
+first-live u e = go (u.tasks == 0) (ap (λ l. slice_index_or l 0 false) e)
+  where
+    go : (a : Bool) → not a ≡ true → not (a && ((u.groups == 0) && (u.sessions == 0))) ≡ true
+    go true e = absurd (cc)
+    go false e = refl
+
+-- the marks tell whether an identifier is used
+marks-live : (u v : Identifier) → marks_of (Some u) ≡ marks_of (Some v) → is_used v ≡ true → is_used u ≡ true
+marks-live u v e live = told u ∙ ap any_of e ∙ sym (told v) ∙ live
+  where
+    any_of : List Bool → Bool
+    any_of l = not (not (slice_index_or l 0 false) && (not (slice_index_or l 1 false) && not (slice_index_or l 2 false)))
+
+    twice : (a b d : Bool) → not (a && (b && d)) ≡ not (not (not a) && (not (not b) && not (not d)))
+    twice true true true = refl
+    twice true true false = refl
+    twice true false d = refl
+    twice false b d = refl
+
+    told : (w : Identifier) → is_used w ≡ any_of (marks_of (Some w))
+    told w = twice (w.tasks == 0) (w.groups == 0) (w.sessions == 0)
+
 module _ (ways ways' : ℕ → List ℕ) (see see' : ℕ → ℕ → Option ℕ) (names names' : ℕ → Option Identifier) (t : IsTied ways names see) (same_ways : (s : ℕ) → ways' s ≡ ways s) where
   number_same : (s : ℕ) (o o' : Option Identifier) → o' ≡ o → number_in ways' s o' ≡ number_in ways s o
   number_same s o o' e = ap (λ w. number_in w s o') (λ i s. same_ways s i) ∙ ap (number_in ways s) e
@@ -213,14 +237,15 @@ module _ (ways ways' : ℕ → List ℕ) (see see' : ℕ → ℕ → Option ℕ)
     kept = λ s n i e. seen_same s n ∙ t.kept s n i (sym (number_same s (names i) (names' i) (names_same i)) ∙ e);
     full = λ i u e. t.full i u (sym (names_same i) ∙ e) ∙ ap length (sym (same_ways u.space));
     some = λ i u e. t.some i u (sym (names_same i) ∙ e);
+    live = λ i u e. t.live i u (sym (names_same i) ∙ e);
   }
 
   module _ (i : ℕ) (others : (j : ℕ) → j ≢ i → names' j ≡ names j) (u : Identifier) where
     -- a new name
-    pub tied-given : names i ≡ None → names' i ≡ Some u → length u.numbers ≡ length (ways u.space) → 0 < length u.numbers
+    pub tied-given : names i ≡ None → names' i ≡ Some u → length u.numbers ≡ length (ways u.space) → 0 < length u.numbers → is_used u ≡ true
         → ((s n : ℕ) → beside s (ways u.space) u.numbers ≡ Some n → see s n ≡ None)
         → ((s n : ℕ) → beside s (ways u.space) u.numbers ≡ Some n → see' s n ≡ Some i) → ((s n : ℕ) → beside s (ways u.space) u.numbers ≢ Some n → see' s n ≡ see s n) → IsTied ways' names' see'
-    tied-given was now len some free hits misses = record {
+    tied-given was now len some live free hits misses = record {
       found = λ s n j e. elim (decide_some (beside s (ways u.space) u.numbers) n) [
         | inl hit ↦
             let r : Some i ≡ Some j = sym (hits s n hit) ∙ e in
@@ -253,6 +278,13 @@ module _ (ways ways' : ℕ → List ℕ) (see see' : ℕ → ℕ → Option ℕ)
             subst (λ (y : Identifier). 0 < length y.numbers) z some
         | inr differs ↦ t.some j x (sym (others j differs) ∙ e)
       ];
+      live = λ j x e. elim (cases_eq j i) [
+        | inl same ↦
+            let r : Some u ≡ Some x = sym now ∙ ap names' (sym same) ∙ e in
+            let z : u ≡ x = ap (λ o. option_map_or (λ y. y) o u) r in
+            sym (ap is_used z) ∙ live
+        | inr differs ↦ t.live j x (sym (others j differs) ∙ e)
+      ];
     }
 
     -- a name that goes
@@ -279,12 +311,16 @@ module _ (ways ways' : ℕ → List ℕ) (see see' : ℕ → ℕ → Option ℕ)
         | inl same ↦ absurd (let bad : Some x ≡ None = sym e ∙ ap names' same ∙ now in cc)
         | inr differs ↦ t.some j x (sym (others j differs) ∙ e)
       ];
+      live = λ j x e. elim (cases_eq j i) [
+        | inl same ↦ absurd (let bad : Some x ≡ None = sym e ∙ ap names' same ∙ now in cc)
+        | inr differs ↦ t.live j x (sym (others j differs) ∙ e)
+      ];
     }
 
     -- a name whose uses change
-    pub tied-renamed : (v : Identifier) → names i ≡ Some v → names' i ≡ Some u → ((s : ℕ) → number_in ways s (Some u) ≡ number_in ways s (Some v)) → length u.numbers ≡ length (ways u.space) → 0 < length u.numbers
+    pub tied-renamed : (v : Identifier) → names i ≡ Some v → names' i ≡ Some u → ((s : ℕ) → number_in ways s (Some u) ≡ number_in ways s (Some v)) → length u.numbers ≡ length (ways u.space) → 0 < length u.numbers → is_used u ≡ true
         → ((s n : ℕ) → see' s n ≡ see s n) → IsTied ways' names' see'
-    tied-renamed v was now same_number len some sees = record {
+    tied-renamed v was now same_number len some live sees = record {
       found = λ s n j e. number s j ∙ t.found s n j (sym (sees s n) ∙ e);
       kept = λ s n j e. sees s n ∙ t.kept s n j (sym (number s j) ∙ e);
       full = λ j x e. elim (cases_eq j i) [
@@ -300,6 +336,13 @@ module _ (ways ways' : ℕ → List ℕ) (see see' : ℕ → ℕ → Option ℕ)
             let z : u ≡ x = ap (λ o. option_map_or (λ y. y) o u) r in
             subst (λ (y : Identifier). 0 < length y.numbers) z some
         | inr differs ↦ t.some j x (sym (others j differs) ∙ e)
+      ];
+      live = λ j x e. elim (cases_eq j i) [
+        | inl same ↦
+            let r : Some u ≡ Some x = sym now ∙ ap names' (sym same) ∙ e in
+            let z : u ≡ x = ap (λ o. option_map_or (λ y. y) o u) r in
+            sym (ap is_used z) ∙ live
+        | inr differs ↦ t.live j x (sym (others j differs) ∙ e)
       ];
     }
       where
@@ -368,7 +411,7 @@ module _ (pid_max : ℕ) (ways ways' : ℕ → List ℕ) (at at' : ℕ → ℕ �
         → ((s n : ℕ) → at' s n ≡ touched (ways u.space) u.numbers (λ _. given_to i) at s n) → IsNumbering pid_max ways' at' bound' names'
     numbering-given was now len some marks free is =
         numbering-with pid_max ways ways' at at' bound bound' names names' b same_ways same_bound
-        (tied-given ways ways' (leads at) (leads at') names names' b.tied same_ways i others u was now len some
+        (tied-given ways ways' (leads at) (leads at') names names' b.tied same_ways i others u was now len some (first-live u marks)
         (λ s n hit. ap (option_map (λ e. e.value)) (free s n hit).0) (λ s n hit. ap (option_map (λ e. e.value)) (hits s n hit)) (λ s n miss. ap (option_map (λ e. e.value)) (misses s n miss)))
         (range-set pid_max (leads at) (leads at') b.range (ways u.space) u.numbers (λ s n hit. ((free s n hit).1, (free s n hit).2)) (λ s n miss. ap (option_map (λ e. e.value)) (misses s n miss)))
         (marks-set at at' names names' b.marks (ways u.space) u.numbers i others
@@ -406,14 +449,14 @@ module _ (pid_max : ℕ) (ways ways' : ℕ → List ℕ) (at at' : ℕ → ℕ �
         misses s n miss = is s n ∙ touched-miss (ways u.space) u.numbers (λ _. None) at s n miss
 
     -- an identifier whose uses change
-    pub numbering-used : (v : Identifier) → names i ≡ Some v → names' i ≡ Some u → u.space ≡ v.space → u.numbers ≡ v.numbers
+    pub numbering-used : (v : Identifier) → names i ≡ Some v → names' i ≡ Some u → u.space ≡ v.space → u.numbers ≡ v.numbers → is_used u ≡ true
         → ((s n : ℕ) → leads at' s n ≡ leads at s n) → ((s n : ℕ) → beside s (ways v.space) v.numbers ≢ Some n → at' s n ≡ at s n)
         → ((s n : ℕ) (e : Entry ℕ) → beside s (ways v.space) v.numbers ≡ Some n → at s n ≡ Some e → e.marks ≡ marks_of (Some v) → (e' : Entry ℕ) → at' s n ≡ Some e' → e'.marks ≡ marks_of (Some u)) → IsNumbering pid_max ways' at' bound' names'
-    numbering-used v was now same_space same_numbers same_leads misses marks =
+    numbering-used v was now same_space same_numbers live same_leads misses marks =
         numbering-with pid_max ways ways' at at' bound bound' names names' b same_ways same_bound
         (tied-renamed ways ways' (leads at) (leads at') names names' b.tied same_ways i others u v was now
         (λ s. ap (λ p. beside s (ways p) u.numbers) same_space ∙ ap (beside s (ways v.space)) same_numbers) (ap length same_numbers ∙ b.tied.full i v was ∙ ap (λ p. length (ways p)) (sym same_space))
-        (subst (λ (l : List ℕ). 0 < length l) (sym same_numbers) (b.tied.some i v was)) same_leads)
+        (subst (λ (l : List ℕ). 0 < length l) (sym same_numbers) (b.tied.some i v was)) live same_leads)
         (λ s n j e. b.range s n j (sym (same_leads s n) ∙ e))
         (marks-set at at' names names' b.marks (ways v.space) v.numbers i others
         (λ s n e' hit stands.
@@ -453,15 +496,16 @@ module _ (pid_max : ℕ) (ways ways' : ℕ → List ℕ) (at at' : ℕ → ℕ �
   pub numbering-counted : is_used_as kind (Some (with_uses kind count v)) ≡ is_used_as kind (Some v) → ((s n : ℕ) → at' s n ≡ at s n) → IsNumbering pid_max ways' at' bound' names'
   numbering-counted still same =
       numbering-used pid_max ways ways' at at' bound bound' names names' b same_ways same_bound i (with_uses kind count v) others v was now (space-kept kind count v) (numbers-kept kind count v)
+      (marks-live (with_uses kind count v) v (marks-kept kind count v still) (b.tied.live i v was))
       (λ s n. ap (option_map (λ e. e.value)) (same s n)) (λ s n miss. same s n)
       (λ s n e hit stands old e' stands'.
       let r : Some e' ≡ Some e = sym stands' ∙ same s n ∙ stands in
       ap (λ o. option_map_or (λ y. y.marks) o e.marks) r ∙ old ∙ sym (marks-kept kind count v still))
 
   -- a first or a last use
-  pub numbering-marked : (on : Bool) → is_used_as kind (Some (with_uses kind count v)) ≡ on → ((s n : ℕ) → at' s n ≡ touched (ways v.space) v.numbers (with_mark (mark_of kind) on) at s n) → IsNumbering pid_max ways' at' bound' names'
-  numbering-marked on turned is =
-      numbering-used pid_max ways ways' at at' bound bound' names names' b same_ways same_bound i (with_uses kind count v) others v was now (space-kept kind count v) (numbers-kept kind count v)
+  pub numbering-marked : (on : Bool) → is_used_as kind (Some (with_uses kind count v)) ≡ on → is_used (with_uses kind count v) ≡ true → ((s n : ℕ) → at' s n ≡ touched (ways v.space) v.numbers (with_mark (mark_of kind) on) at s n) → IsNumbering pid_max ways' at' bound' names'
+  numbering-marked on turned live is =
+      numbering-used pid_max ways ways' at at' bound bound' names names' b same_ways same_bound i (with_uses kind count v) others v was now (space-kept kind count v) (numbers-kept kind count v) live
       (λ s n. elim (decide_some (beside s (ways v.space) v.numbers) n) [
         | inl hit ↦ ap (option_map (λ e. e.value)) (is s n ∙ touched-hit (ways v.space) v.numbers (with_mark (mark_of kind) on) at s n hit) ∙ value-marked (mark_of kind) on (at s n)
         | inr miss ↦ ap (option_map (λ e. e.value)) (misses s n miss)

@@ -13,7 +13,7 @@ use Rattle.pid_types.specs.declared.call.Kind.{Kind}
 use Rattle.pid_types.specs.declared.call.Kind.TheVariants.{Task, Group, Session}
 use Rattle.pid_numbers.specs.declared.spaces.Space.{Space}
 use Rattle.pid_numbers.specs.declared.names.Ident.{Ident}
-use Rattle.pid_numbers.specs.Numbering.{Namespace, Identifier, Numbering, number_in, is_used_as}
+use Rattle.pid_numbers.specs.Numbering.{Namespace, Identifier, Numbering, number_in, is_used_as, is_used}
 
 abbrev pub namespace_of : Space → Namespace
 namespace_of s = record { id = s.id; fallen = s.fallen; path = s.path.items; cursor = s.ids.cursor }
@@ -73,6 +73,8 @@ pub record IsTied (ways : ℕ → List ℕ) (names : ℕ → Option Identifier) 
   pub kept : (s n i : ℕ) → number_in ways s (names i) ≡ Some n → see s n ≡ Some i
   pub full : (i : ℕ) (u : Identifier) → names i ≡ Some u → length u.numbers ≡ length (ways u.space)
   pub some : (i : ℕ) (u : Identifier) → names i ≡ Some u → 0 < length u.numbers
+  -- an identifier is there as long as something uses it
+  pub live : (i : ℕ) (u : Identifier) → names i ≡ Some u → is_used u ≡ true
 
 -- the mark of a kind
 abbrev pub mark_of : Kind → ℕ

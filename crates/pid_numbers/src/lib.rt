@@ -11,7 +11,7 @@
 ghost use Rattle.std.specs.Prelude.{◌≡◌, ◌≢◌, ℕ, ◌+◌, ◌<◌, ◌≤◌, ◌^◌, length, map, Some, None, IsSome, IsTrue, IfOk, IfErr, IfSome, OnOk, OnErr, MatchOption, option_map, find, is_none, unwrap_or, slice_index_or, is_some, reverse, true, false, [], ◌∷◌, ◌++◌, drop, nat_lt, if◌then◌else◌};
 ghost use Rattle.std.specs.List.{AllByRecursion, filter};
 ghost use Rattle.rising_ids.specs.Ids.{key_of, AreBelow, AreRising};
-ghost use Rattle.pid_numbers.specs.Numbering.{Identifier, is_there, id_at, namespace_at, identifier_at, number_of, path_at, draw_in, moved, more, less, left_of, uses, is_used_as, swept_at, new_namespace, new_identifier, levels_of, fallen_within, taken_in, has_fallen_at, IsNextUsed, IsPlanFault};
+ghost use Rattle.pid_numbers.specs.Numbering.{Identifier, is_there, id_at, namespace_at, identifier_at, number_of, path_at, draw_in, moved, more, less, left_of, uses, is_used, is_used_as, swept_at, new_namespace, new_identifier, levels_of, fallen_within, taken_in, has_fallen_at, IsNextUsed, IsPlanFault};
 ghost use Rattle.pid_types.specs.Bounds.{deepest_space};
 ghost use Rattle.pid_types.specs.Chains.{contains};
 ghost use Rattle.std.specs.Option.{option_map_or};
@@ -97,6 +97,18 @@ impl Numbers {
         })
     }
 
+    /// Each number is below this.
+    pub fn pid_max(&self) -> u32
+        ensures { result ≡ self.now.pid_max }
+    {
+        self.pid_max
+    }
+
+    /// Where it takes its memory.
+    pub fn allocator(&self) -> Global {
+        self.alloc
+    }
+
     /// The identifier that has the number in the namespace; none where the number is free. It costs one
     /// search in the namespace's tree of numbers.
     pub fn find(&self, space: u32, n: u32) -> Option<u32>
@@ -107,17 +119,21 @@ impl Numbers {
 
     /// What is true of all identifiers and namespaces at any time; the call does nothing. No number of a
     /// namespace names two identifiers, each is above 0 and below `pid_max`, each identifier has one for
-    /// each namespace from its own to the root, which has the key 0 and at which every path ends. What is in a
+    /// each namespace from its own to the root, which has the key 0 and at which every path ends, and something
+    /// uses it. What is in a
     /// fallen namespace has fallen, and a number in it is in use. No two namespaces have the same id, and the order
     /// has the ids of all of them, rising.
     pub fn laws(&self)
         ensures distinct { (i j s n : ℕ) → number_of self.now i s ≡ Some n → number_of self.now j s ≡ Some n → i ≡ j }
         ensures range { (i s n : ℕ) → number_of self.now i s ≡ Some n → (0 < n) × (n < self.now.pid_max) }
         ensures full { (i : ℕ) (u : Identifier) → identifier_at self.now i ≡ Some u → (0 < length u.numbers) × (length u.numbers ≡ length (path_at self.now u.space)) }
+        ensures good { HasGoodPidMax self.now.pid_max }
+        ensures used { (i : ℕ) (u : Identifier) → identifier_at self.now i ≡ Some u → is_used u ≡ true }
         ensures root { path_at self.now 0 ≡ 0 ∷ [] }
         ensures own { (s : ℕ) → 0 < length (path_at self.now s) → slice_index_or (path_at self.now s) 0 0 ≡ s }
         ensures around { (s j : ℕ) → j < length (path_at self.now s) → path_at self.now (slice_index_or (path_at self.now s) j 0) ≡ drop j (path_at self.now s) }
         ensures few { (s : ℕ) → length (path_at self.now s) ≤ deepest_space + 1 }
+        ensures some { (s i : ℕ) → id_at self.now s ≡ Some i → 0 < length (path_at self.now s) }
         ensures ends { (s : ℕ) → 0 < length (path_at self.now s) → contains (path_at self.now s) 0 ≡ true }
         ensures fallen { (s j : ℕ) → j < length (path_at self.now s) → has_fallen_at self.now (slice_index_or (path_at self.now s) j 0) ≡ true → has_fallen_at self.now s ≡ true }
         ensures held { (s : ℕ) → has_fallen_at self.now s ≡ true → 0 < length (taken_in self.now s) }

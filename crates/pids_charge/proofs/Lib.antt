@@ -11,3 +11,4 @@ pub mod Removed
 pub mod Made
 pub mod Begun
 pub mod Listed
+pub mod HomeIds

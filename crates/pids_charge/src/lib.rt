@@ -17,6 +17,7 @@ ghost use Rattle.pids_charge.specs.Charges.{Home, home_at, stands, id_at, live_a
 mod limits;
 mod node;
 mod room;
+mod standing;
 mod tasks;
 mod walk;
 
@@ -27,6 +28,7 @@ use pid_types::reply::Refusal;
 use rising_ids::{Iter, RisingIds};
 use room::make_room;
 use slab::Slab;
+use standing::standing_from;
 use std::alloc::{AllocError, Global};
 use std::marker::Model;
 use tasks::{drop_empty, end_live, put_live, take_live, take_zombie};
@@ -221,6 +223,15 @@ impl Controls {
         node_at(&self.nodes, c).id
     }
 
+    /// The id of the control group that the tasks of a key are in: its own, or that of the nearest above that
+    /// was not removed. It costs a step for each that was, up to there.
+    pub fn home_id(&self, home: u32) -> u64
+        requires { IsSome (home_at self.now home) }
+        ensures { result ≡ id_at self.now home }
+    {
+        node_at(&self.nodes, standing_from(&self.nodes, home)).id
+    }
+
     /// The key of the control group that a control group is in; none of the root's.
     pub fn parent(&self, c: u32) -> Option<u32>
         requires { stands self.now c ≡ true }
@@ -244,6 +255,23 @@ impl Controls {
         ensures { result ≡ count_of self.now (id_at self.now c) }
     {
         self.totals[c as usize]
+    }
+
+    /// How many control groups there are, the root group too. It costs one read.
+    pub fn len(&self) -> usize
+        ensures { result ≡ length self.now.controls }
+    {
+        self.ids.count()
+    }
+
+    /// What is true of all control groups at any time; the call does nothing. Only zombies are in a group that
+    /// was removed, and a group that stands has an id of its own, by which it is listed.
+    pub fn laws(&self)
+        ensures ended { (k : ℕ) → stands self.now k ≡ false → live_at self.now k ≡ 0 }
+        ensures ids { (j k : ℕ) → stands self.now j ≡ true → stands self.now k ≡ true → id_at self.now j ≡ id_at self.now k → j ≡ k }
+        ensures listed { (k : ℕ) → stands self.now k ≡ true → IsSome (control_at self.now.controls (id_at self.now k)) }
+    {
+        let _ = self.ids.iter();
     }
 
     /// One live task more: what `fork(2)` charges. No limit is asked; `may_charge` does that.

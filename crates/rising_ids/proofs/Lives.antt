@@ -278,6 +278,12 @@ at_place es xs id i f g w read found ef eg =
       Rise-set es i (record { id = g.id; key = None }) w here.0 (ap (λ (e : Entry). e.id) g_is),
     )
 
+pub key-at : (es xs : List Entry) (id i : ℕ) (f : Entry) → Rise es → xs ≡ es → (i < length xs) × ((get_or xs i none).id ≡ id) → f ≡ get_or es i f → key_of (live es) id ≡ f.key
+key-at es xs id i f w read found ef =
+    let here : (i < length es) × ((get_or es i none).id ≡ id) = rw read at found in
+    let f_is : f ≡ get_or es i none = ef ∙ get_or_default es i f none here.0 in
+    key-place id es i w here.0 here.1 ∙ ap (λ (e : Entry). e.key) (sym f_is)
+
 pub EndsLive-last_at : (es : List Entry) (x : Entry) → slice_get es (length es - 1) ≡ Some x → IsSome x.key → EndsLive es
 EndsLive-last_at [] x is some = tt
 EndsLive-last_at (e ∷ es) x is some = let len : length (e ∷ es) - 1 ≡ length es = omega arith in EndsLive-at (e ∷ es) (length es) x refl (rw len at is) some
@@ -298,3 +304,40 @@ below-last id (e ∷ f ∷ es) w last = go e.key (below-last id (f ∷ es) w.1 (
     go : (key : Option ℕ) → AreBelow (live (f ∷ es)) id → AreBelow (before e.id key (live (f ∷ es))) id
     go None rest = rest
     go (Some k) rest = (less, rest)
+
+-- there are no more ids than entries
+pub live-few : (es : List Entry) → length (live es) ≤ length es
+live-few [] = omega arith
+live-few (e ∷ es) = go e.key (live-few es)
+  where
+    go : (key : Option ℕ) → length (live es) ≤ length es → length (before e.id key (live es)) ≤ suc (length es)
+    go None few = omega (arith, few)
+    go (Some k) few = omega (arith, few)
+
+-- without an id that is not there all stay
+pub without-none : (ids : List (ℕ × ℕ)) (id : ℕ) → key_of ids id ≡ None → without ids id ≡ ids
+without-none [] id gone = refl
+without-none (p ∷ ids) id gone = go (p.0 == id) refl (λ e. without-none ids id e) gone
+  where
+    go : (b : Bool) → (p.0 == id) ≡ b → (key_of ids id ≡ None → without ids id ≡ ids) → (if b then Some p.1 else key_of ids id) ≡ None → without (p ∷ ids) id ≡ p ∷ ids
+    go true is stay e = absurd (cc)
+    go false is stay e = rw is (ap (λ rest. p ∷ rest) (stay e))
+
+all_stay : (ids : List (ℕ × ℕ)) (id : ℕ) → AllByRecursion (λ q. id < q.0) ids → without ids id ≡ ids
+all_stay [] id all = refl
+all_stay (q ∷ ids) id all = let off = apart q.0 id all.0 in rw off (ap (λ rest. q ∷ rest) (all_stay ids id all.1))
+  where
+    apart : (a b : ℕ) → b < a → (a == b) ≡ false
+    apart a b less = grind (arith, less)
+
+-- without an id that is there they are one less
+pub without-some : (ids : List (ℕ × ℕ)) (id k : ℕ) → AreRising ids → key_of ids id ≡ Some k → suc (length (without ids id)) ≡ length ids
+without-some [] id k w some = absurd (cc)
+without-some (p ∷ ids) id k w some = go (p.0 == id) refl (λ e. without-some ids id k w.1 e) some
+  where
+    same_id : (a b : ℕ) → (a == b) ≡ true → a ≡ b
+    same_id a b e = grind (arith, e)
+
+    go : (b : Bool) → (p.0 == id) ≡ b → (key_of ids id ≡ Some k → suc (length (without ids id)) ≡ length ids) → (if b then Some p.1 else key_of ids id) ≡ Some k → suc (length (without (p ∷ ids) id)) ≡ suc (length ids)
+    go true is less e = rw is (ap (λ rest. suc (length rest)) (all_stay ids id (let same = same_id p.0 id is in rw same at w.0)))
+    go false is less e = rw is (ap suc (less e))

@@ -27,11 +27,12 @@ struct Entry {
 #[derive(Drop)]
 pub struct RisingIds {
     entries: Vec<Entry>,
-    removed: usize,
+    /// How many of the entries are no marks.
+    count: usize,
 }
 
 impl Model for RisingIds {
-    ghost use Rattle.std.specs.Prelude.{List, ℕ};
+    ghost use Rattle.std.specs.Prelude.{◌≡◌, List, ℕ, length};
 
     ghost Value = { List (ℕ × ℕ) };
 
@@ -39,7 +40,7 @@ impl Model for RisingIds {
 
     ghost view = { λ a. live a.entries.items };
 
-    ghost invariant = { λ a. Rise a.entries.items };
+    ghost invariant = { λ a. Rise a.entries.items × (a.count ≡ length (live a.entries.items)) };
 }
 
 /// The place of an id among entries that rise.
@@ -80,6 +81,17 @@ fn compact(entries: &mut Vec<Entry>)
     entries.retain(|e| e.key.is_some());
 }
 
+/// Drops all marks, where most entries are marks.
+fn tidy(entries: &mut Vec<Entry>, count: usize)
+    requires { Rise entries.old.items }
+    ensures rise { Rise entries.new.items }
+    ensures live { live entries.new.items ≡ live entries.old.items }
+{
+    if count < entries.len() / 2 {
+        compact(entries);
+    }
+}
+
 impl RisingIds {
     /// No ids.
     pub fn new(alloc: Global) -> Self
@@ -87,7 +99,7 @@ impl RisingIds {
     {
         RisingIds {
             entries: Vec::new(alloc),
-            removed: 0,
+            count: 0,
         }
     }
 
@@ -99,6 +111,8 @@ impl RisingIds {
     {
         trim(&mut self.entries);
         self.entries.push(Entry { id, key: Some(key) })?;
+        prove!(self.count < self.entries.len());
+        self.count += 1;
         Ok(())
     }
 
@@ -126,14 +140,18 @@ impl RisingIds {
         ensures rest { self.new ≡ without self.old id }
     {
         let i = place_of(self.entries.as_slice(), id)?;
-        let key = self.entries[i].key;
+        let key = self.entries[i].key?;
         self.entries[i].key = None;
-        self.removed = self.removed.saturating_add(1);
-        if self.removed > self.entries.len() / 2 {
-            compact(&mut self.entries);
-            self.removed = 0;
-        }
-        key
+        self.count -= 1;
+        tidy(&mut self.entries, self.count);
+        Some(key)
+    }
+
+    /// How many ids there are. It costs one read.
+    pub fn count(&self) -> usize
+        ensures { result ≡ length self.now }
+    {
+        self.count
     }
 
     /// The ids in their order, each with its key. A step over marks costs a read for each of them.

@@ -71,7 +71,10 @@ impl TaskStore {
         ensures pid_max { IfOk result (λ r. r.numbering.pid_max ≡ pid_max) }
         ensures root { IfOk result (λ r. namespace_at r.numbering 0 ≡ Some (new_namespace 0 (0 ∷ []))) }
         ensures others { IfOk result (λ r. (s : ℕ) → s ≢ 0 → namespace_at r.numbering s ≡ None) }
+        ensures order { IfOk result (λ r. r.numbering.order ≡ (0, 0) ∷ []) }
+        ensures names { IfOk result (λ r. (i : ℕ) → identifier_at r.numbering i ≡ None) }
         ensures tasks { IfOk result (λ r. (k : ℕ) → task_at r.tree k ≡ None) }
+        ensures members { IfOk result (λ r. r.members ≡ []) }
         ensures controls { IfOk result (λ r. r.charges.controls ≡ record { id = 0; parent = None; limit = None } ∷ []) }
     {
         Ok(TaskStore {

@@ -9,13 +9,19 @@ use std::process::Abort;
 use std::test::Fail;
 use task_tree::{Task, TaskTree};
 
+/// One key more, where there are not seven.
+fn grow(tree: &mut TaskTree) -> Result<(), AllocError> {
+    if tree.keys() < 7 {
+        tree.grow()?;
+    }
+    Ok(())
+}
+
 /// A tree with room for seven keys.
 fn seven(alloc: Global) -> Result<TaskTree, AllocError> {
     let mut tree = TaskTree::new(alloc);
     for _turn in 0..7 {
-        if tree.keys() < 7 {
-            tree.grow()?;
-        }
+        grow(&mut tree)?;
     }
     Ok(tree)
 }
@@ -60,14 +66,23 @@ fn end(rt: &impl Abort, tree: &mut TaskTree, key: u32, rank: u32) -> Option<()> 
     Some(())
 }
 
-/// The least ended child of the parent is removed; its key and its rank.
-fn reap(rt: &impl Abort, tree: &mut TaskTree, parent: u32) -> Option<(u32, u32)> {
+/// The least ended child of the parent, and its rank.
+fn least(rt: &impl Abort, tree: &TaskTree, parent: u32) -> Option<(u32, u32)> {
     assert!(rt; (parent as usize) < tree.keys());
     let key = tree.least_ended(parent)?;
+    Some((key, rank(rt, tree, key)?))
+}
+
+/// The rank of the task.
+fn rank(rt: &impl Abort, tree: &TaskTree, key: u32) -> Option<u32> {
     assert!(rt; (key as usize) < tree.keys());
-    let rank = tree.rank(key)?;
-    assert!(rt; tree.task(key).is_some());
-    tree.remove(key);
+    tree.rank(key)
+}
+
+/// The least ended child of the parent is removed; its key and its rank.
+fn reap(rt: &impl Abort, tree: &mut TaskTree, parent: u32) -> Option<(u32, u32)> {
+    let (key, rank) = least(rt, tree, parent)?;
+    go(rt, tree, key);
     Some((key, rank))
 }
 
@@ -128,15 +143,52 @@ fn four(rt: &impl Abort, tree: &TaskTree, parent: u32) -> [u32; 4] {
     found
 }
 
+// What a tree answers, of which the tests know nothing more.
+
+fn expect_keys(rt: &impl Abort, tree: &TaskTree, keys: usize) {
+    assert_eq!(rt; tree.keys(), keys);
+}
+
+fn expect_task(rt: &impl Abort, tree: &TaskTree, key: u32, task: Option<Task>) {
+    assert_eq!(rt; tree.task(key), task, "task {key}");
+}
+
+fn expect_place(
+    rt: &impl Abort,
+    tree: &TaskTree,
+    key: u32,
+    parent: Option<u32>,
+    rank: Option<u32>,
+) {
+    assert_eq!(rt; place(rt, tree, key), (parent, rank), "place of {key}");
+}
+
+fn expect_child(rt: &impl Abort, tree: &TaskTree, parent: u32, key: Option<u32>) {
+    assert_eq!(rt; child(rt, tree, parent), key, "child of {parent}");
+}
+
+fn expect_four(rt: &impl Abort, tree: &TaskTree, parent: u32, keys: [u32; 4]) {
+    assert_eq!(rt; four(rt, tree, parent), keys, "children of {parent}");
+}
+
+fn expect_reaped(rt: &impl Abort, tree: &mut TaskTree, parent: u32, reaped: Option<(u32, u32)>) {
+    assert_eq!(rt; reap(rt, tree, parent), reaped, "reaped by {parent}");
+}
+
+/// The bounds hold in each tree, and change none.
+fn know_bounds(tree: &TaskTree) {
+    tree.bounds();
+}
+
 /// Each key has no task at first.
 #[test]
 fn grows(rt: HostRuntime) -> Result<(), Fail> {
-    assert_eq!(rt; TaskTree::new(rt.alloc()).keys(), 0);
+    expect_keys(&rt, &TaskTree::new(rt.alloc()), 0);
     let tree = seven(rt.alloc())?;
-    assert_eq!(rt; tree.keys(), 7);
-    assert_eq!(rt; tree.task(6), None);
-    assert_eq!(rt; place(&rt, &tree, 6), (None, None));
-    assert_eq!(rt; child(&rt, &tree, 6), None);
+    expect_keys(&rt, &tree, 7);
+    expect_task(&rt, &tree, 6, None);
+    expect_place(&rt, &tree, 6, None, None);
+    expect_child(&rt, &tree, 6, None);
     Ok(())
 }
 
@@ -154,21 +206,15 @@ fn reaps_by_rank(rt: HostRuntime) -> Result<(), Fail> {
     end(&rt, &mut tree, 3, 45);
     end(&rt, &mut tree, 5, 40);
     end(&rt, &mut tree, 4, 30);
-    assert_eq!(rt; place(&rt, &tree, 4), (Some(0), Some(30)));
-    assert_eq!(rt; place(&rt, &tree, 1), (Some(0), None));
-    let of_first = [
-        reap(&rt, &mut tree, 0),
-        reap(&rt, &mut tree, 0),
-        reap(&rt, &mut tree, 0),
-    ];
-    let of_second = [
-        reap(&rt, &mut tree, 1),
-        reap(&rt, &mut tree, 1),
-        reap(&rt, &mut tree, 1),
-    ];
-    assert_eq!(rt; of_first, [Some((4, 30)), Some((2, 50)), None]);
-    assert_eq!(rt; of_second, [Some((5, 40)), Some((3, 45)), None]);
-    assert_eq!(rt; four(&rt, &tree, 0), [1, 9, 9, 9]);
+    expect_place(&rt, &tree, 4, Some(0), Some(30));
+    expect_place(&rt, &tree, 1, Some(0), None);
+    expect_reaped(&rt, &mut tree, 0, Some((4, 30)));
+    expect_reaped(&rt, &mut tree, 0, Some((2, 50)));
+    expect_reaped(&rt, &mut tree, 0, None);
+    expect_reaped(&rt, &mut tree, 1, Some((5, 40)));
+    expect_reaped(&rt, &mut tree, 1, Some((3, 45)));
+    expect_reaped(&rt, &mut tree, 1, None);
+    expect_four(&rt, &tree, 0, [1, 9, 9, 9]);
     Ok(())
 }
 
@@ -183,16 +229,16 @@ fn hands_on_children(rt: HostRuntime) -> Result<(), Fail> {
     begin(&rt, &mut tree, 4, Some(1));
     end(&rt, &mut tree, 2, 9);
     end(&rt, &mut tree, 4, 8);
-    assert_eq!(rt; four(&rt, &tree, 1), [2, 3, 4, 9]);
+    expect_four(&rt, &tree, 1, [2, 3, 4, 9]);
     hand(&rt, &mut tree, 1, 0);
-    assert_eq!(rt; place(&rt, &tree, 2), (Some(0), Some(9)));
-    assert_eq!(rt; place(&rt, &tree, 3), (Some(0), None));
-    assert_eq!(rt; child(&rt, &tree, 1), None);
-    assert_eq!(rt; four(&rt, &tree, 0), [1, 2, 3, 4]);
-    assert_eq!(rt; reap(&rt, &mut tree, 1), None);
-    assert_eq!(rt; reap(&rt, &mut tree, 0), Some((4, 8)));
-    assert_eq!(rt; reap(&rt, &mut tree, 0), Some((2, 9)));
-    assert_eq!(rt; reap(&rt, &mut tree, 0), None);
+    expect_place(&rt, &tree, 2, Some(0), Some(9));
+    expect_place(&rt, &tree, 3, Some(0), None);
+    expect_child(&rt, &tree, 1, None);
+    expect_four(&rt, &tree, 0, [1, 2, 3, 4]);
+    expect_reaped(&rt, &mut tree, 1, None);
+    expect_reaped(&rt, &mut tree, 0, Some((4, 8)));
+    expect_reaped(&rt, &mut tree, 0, Some((2, 9)));
+    expect_reaped(&rt, &mut tree, 0, None);
     Ok(())
 }
 
@@ -210,9 +256,9 @@ fn updates_marks(rt: HostRuntime) -> Result<(), Fail> {
         subreaper: true,
         life: Life::Live,
     };
-    assert_eq!(rt; tree.task(1), Some(expected));
-    tree.bounds();
-    assert_eq!(rt; place(&rt, &tree, 1), (Some(0), None));
+    expect_task(&rt, &tree, 1, Some(expected));
+    know_bounds(&tree);
+    expect_place(&rt, &tree, 1, Some(0), None);
     Ok(())
 }
 
@@ -224,10 +270,10 @@ fn keeps_the_parent_key(rt: HostRuntime) -> Result<(), Fail> {
     begin(&rt, &mut tree, 1, Some(0));
     begin(&rt, &mut tree, 2, Some(1));
     go(&rt, &mut tree, 1);
-    assert_eq!(rt; tree.task(1), None);
-    assert_eq!(rt; place(&rt, &tree, 1), (None, None));
-    assert_eq!(rt; place(&rt, &tree, 2), (Some(1), None));
-    assert_eq!(rt; child(&rt, &tree, 1), Some(2));
-    assert_eq!(rt; child(&rt, &tree, 0), None);
+    expect_task(&rt, &tree, 1, None);
+    expect_place(&rt, &tree, 1, None, None);
+    expect_place(&rt, &tree, 2, Some(1), None);
+    expect_child(&rt, &tree, 1, Some(2));
+    expect_child(&rt, &tree, 0, None);
     Ok(())
 }

@@ -67,7 +67,7 @@ invariant_of-self-2 c =
     record {
       whole = record {
         numbering = ties.numbering-marked c.self.inside.pid_max (way spaces) (way c.mark_numbers.new.spaces) (entry_on spaces) (entry_on c.mark_numbers.new.spaces) (bound_on spaces) (bound_on c.mark_numbers.new.spaces) (name_at idents) (name_at c.more_use.new.idents) c.self.invariant.whole.numbering c.mark_numbers.ensures.way c.mark_numbers.ensures.bound
-            c.args.ident kind (uses kind v.0 + 1) v.0 v.1 now c.more_use.ensures.others true (views.more_used kind v.0) is;
+            c.args.ident kind (uses kind v.0 + 1) v.0 v.1 now c.more_use.ensures.others true (views.more_used kind v.0) (views.used_some kind (more kind v.0) (views.more_used kind v.0)) is;
         fallen = sweeps.fallen-kept (way spaces) (way c.mark_numbers.new.spaces) (entry_on spaces) (entry_on c.mark_numbers.new.spaces) (fell spaces) (fell c.mark_numbers.new.spaces) c.self.invariant.whole.fallen c.mark_numbers.ensures.way (views.fell-same c.mark_numbers.new.spaces spaces c.mark_numbers.ensures.namespaces)
             (λ s n i led. (i, ties.leads-marked (way spaces v.0.space) v.0.numbers (mark_of kind) true (entry_on spaces) (entry_on c.mark_numbers.new.spaces) is s n ∙ led));
       };

@@ -73,7 +73,7 @@ invariant_of-self-then-in_use c =
     record {
       whole = record {
         numbering = ties.numbering-marked c.self.inside.pid_max (way spaces) (way c.mark_numbers.new.spaces) (entry_on spaces) (entry_on c.mark_numbers.new.spaces) (bound_on spaces) (bound_on c.mark_numbers.new.spaces) (name_at idents) (name_at c.less_use.new.idents) c.self.invariant.whole.numbering c.mark_numbers.ensures.way c.mark_numbers.ensures.bound
-            c.args.ident kind (uses kind v.0 - 1) v.0 v.1 now c.less_use.ensures.others false (ap (is_used_as kind) (sym now) ∙ sym c.has_use.ensures ∙ c.if-has_use.false) is;
+            c.args.ident kind (uses kind v.0 - 1) v.0 v.1 now c.less_use.ensures.others false (ap (is_used_as kind) (sym now) ∙ sym c.has_use.ensures ∙ c.if-has_use.false) (sym (c.in_use.ensures (less kind v.0) now) ∙ c.if-in_use.true) is;
         fallen = sweeps.fallen-kept (way spaces) (way c.mark_numbers.new.spaces) (entry_on spaces) (entry_on c.mark_numbers.new.spaces) (fell spaces) (fell c.mark_numbers.new.spaces) c.self.invariant.whole.fallen c.mark_numbers.ensures.way (views.fell-same c.mark_numbers.new.spaces spaces c.mark_numbers.ensures.namespaces)
             (λ s n i led. (i, ties.leads-marked (way spaces v.0.space) v.0.numbers (mark_of kind) false (entry_on spaces) (entry_on c.mark_numbers.new.spaces) is s n ∙ led));
       };

@@ -1,13 +1,17 @@
-use Rattle.std.proofs.Common.{◌⊎◌, inl, inr, [], ◌∷◌, arith, ◌≡◌, ◌∙◌, sym, ap, subst, ℕ, ◌<◌, ◌≤◌, List, length, get_or, drop, Some, false, unwrap_or}
+use Rattle.std.proofs.Common.{◌⊎◌, inl, inr, [], ◌∷◌, arith, ◌≡◌, ◌∙◌, refl, sym, ap, subst, ℕ, ◌<◌, ◌≤◌, List, length, get_or, drop, Option, Some, None, false, unwrap_or, option_map}
 use Rattle.std.specs.Option.{option_map_or}
 use Rattle.std.specs.List.{AllByRecursion}
 use Rattle.rising_ids.specs.Ids.{key_of, AreRising}
 use Rattle.pid_numbers.specs.Numbering.{Numbering, id_at, number_of, path_at, has_fallen_at}
-use Rattle.pid_numbers.specs.Slabs.{numbering_of, id_on, way, entry_on, leads, fell}
+use Rattle.slab.specs.Slab.{Slab, get}
+use Rattle.pid_numbers.specs.declared.spaces.Space.{Space}
+use Rattle.pid_numbers.specs.declared.names.Ident.{Ident}
+use Rattle.pid_numbers.specs.Slabs.{IsNumbering, numbering_of, namespace_of, id_on, way, entry_on, bound_on, name_at, leads, fell}
 use Rattle.pid_numbers.proofs.Views as views
 use Rattle.pid_numbers.proofs.Ties as ties
 use Rattle.pid_numbers.proofs.Orders as orders
 use Rattle.pid_numbers.proofs.Drops as drops
+use Rattle.pid_types.specs.Settings.{HasGoodPidMax}
 use Rattle.pid_types.specs.Chains.{contains}
 use Rattle.pid_numbers.proofs.Numbers.laws.Goals as goal
 
@@ -15,6 +19,12 @@ use Rattle.pid_numbers.proofs.Numbers.laws.Goals as goal
 own_first : (s : ℕ) (path : List ℕ) → (path ≡ []) ⊎ ((rest : List ℕ) × (path ≡ s ∷ rest)) → 0 < length path → get_or path 0 0 ≡ s
 own_first s path (inl none) some = absurd (let l = ap length none in omega (arith, l, some))
 own_first s path (inr way) some = ap (λ l. get_or l 0 0) way.1
+
+-- a namespace that is there has a path
+filled : (pid_max : ℕ) (spaces : Slab Space) (idents : Slab Ident) → IsNumbering pid_max (way spaces) (entry_on spaces) (bound_on spaces) (name_at idents) → (o : Option Space) (s : ℕ) → get spaces s ≡ o → (i : ℕ)
+    → id_on spaces s ≡ Some i → 0 < length (way spaces s)
+filled pid_max spaces idents b None s is i e = absurd (let z : None ≡ Some i = sym (ap (λ o. option_map (λ t. t.id) (option_map namespace_of o)) is) ∙ e in cc)
+filled pid_max spaces idents b (Some t) s is i e = (b.bounds s t.ids.pid_max (ap (option_map (λ t. t.ids.pid_max)) is)).1
 
 pub returns : goal.returns
 returns c =
@@ -33,9 +43,12 @@ returns c =
       distinct = λ i j s n x y. ap (λ o. unwrap_or o 0) (sym (led i s n x) ∙ led j s n y);
       range = λ i s n h. (let r = b.range s n i (led i s n h) in (r.0, subst (λ m. n < m) (ap (λ z. z.pid_max) c.self.view_is) r.1));
       full = λ i u h. (let e = sym (views.identifier_is max spaces idents c.self.inside.order value c.self.view_is i) ∙ h in (b.tied.some i u e, b.tied.full i u e ∙ ap length (sym (path u.space))));
+      good = subst HasGoodPidMax (ap (λ z. z.pid_max) c.self.view_is) b.good;
+      used = λ i u h. b.tied.live i u (sym (views.identifier_is max spaces idents c.self.inside.order value c.self.view_is i) ∙ h);
       root = path 0 ∙ b.tree.root;
       own = λ s some. ap (λ l. get_or l 0 0) (path s) ∙ own_first s (way spaces s) (b.tree.head s) (subst (λ (l : List ℕ). 0 < length l) (path s) some);
       around = subst (λ (p : ℕ → List ℕ). (s j : ℕ) → j < length (p s) → p (get_or (p s) j 0) ≡ drop j (p s)) (λ i s. sym (path s) i) (λ s j lt. ties.at-path (way spaces) (way spaces s) (b.tree.paths s) j lt);
+      some = λ s i e. subst (λ (l : List ℕ). 0 < length l) (sym (path s)) (filled max spaces idents b (get spaces s) s refl i (sym (orders.id-is spaces s) ∙ ap (λ b. id_at b s) c.self.view_is ∙ e));
       ends = λ s some. ap (λ l. contains l 0) (path s) ∙ b.tree.ends s (subst (λ (l : List ℕ). 0 < length l) (path s) some);
       held = λ s e. drops.held-taken max spaces idents c.self.inside.order value c.self.view_is b c.self.invariant.whole.fallen s (sym (fallen s) ∙ e);
       few = λ s. subst (λ (l : List ℕ). length l ≤ 33) (sym (path s)) (b.tree.few s);

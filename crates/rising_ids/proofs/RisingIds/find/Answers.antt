@@ -9,5 +9,5 @@ returns-in_err-i c =
 
 pub returns : goal.returns
 returns c =
-    let a = lives.at_place c.self.inside.entries.items c.as_slice.result.now c.args.id c.in_ok-i.i c.index.result.now c.index.result.now c.self.invariant c.as_slice.ensures.value c.in_ok-i.ensures c.index.ensures c.index.ensures in
+    let a = lives.at_place c.self.inside.entries.items c.as_slice.result.now c.args.id c.in_ok-i.i c.index.result.now c.index.result.now c.self.invariant.0 c.as_slice.ensures.value c.in_ok-i.ensures c.index.ensures c.index.ensures in
     rw (← c.self.view_is) (sym a.0.key_is)

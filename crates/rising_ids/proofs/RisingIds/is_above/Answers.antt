@@ -1,4 +1,4 @@
-use Rattle.std.proofs.Common.{◌≡◌, ◌∙◌, ℕ, suc, List, ◌+◌, ◌-◌, ◌<◌, subst, sym, ap, arith, get_or}
+use Rattle.std.proofs.Common.{◌≡◌, ◌∙◌, ℕ, List, ◌-◌, subst, sym, ap, arith, get_or}
 use Rattle.std.proofs.lemmas.Bool.Decides.{nat_tests}
 use Rattle.std.proofs.lemmas.List.{get_or_default}
 use Rattle.rising_ids.specs.Ids.{AreBelow}
@@ -9,7 +9,7 @@ use Rattle.rising_ids.proofs.RisingIds.is_above.Goals as goal
 pub returns-else-entries-eq0 : goal.returns-else-entries-eq0
 returns-else-entries-eq0 c h =
     subst (λ (ids : List (ℕ × ℕ)). AreBelow ids c.args.id) c.self.view_is
-    (lives.below-last c.args.id c.self.inside.entries.items c.self.invariant
+    (lives.below-last c.args.id c.self.inside.entries.items c.self.invariant.0
     (λ k is.
     let place : c.len-entries.result - 1 ≡ k = omega (arith, is, c.len-entries.ensures) in
     let at = ap (λ (e : Entry). e.id) (get_or_default c.self.inside.entries.items k lives.none c.index.result.now (omega (arith, is)) ∙ ap (λ j. get_or c.self.inside.entries.items j c.index.result.now) (sym place) ∙ sym c.index.ensures) in

@@ -1,4 +1,5 @@
-use Rattle.std.proofs.Common.{sym, ◌∙◌}
+use Rattle.std.proofs.Common.{◌∙◌, ap, sym, arith, length}
+use Rattle.rising_ids.specs.Entries.{live}
 use Rattle.rising_ids.proofs.Lives as lives
 use Rattle.rising_ids.proofs.RisingIds.remove.Goals as goal
 
@@ -12,30 +13,40 @@ returns-in_err-i-clause-rest c =
     let a = lives.at_none c.self.inside.entries.items c.as_slice.result.now c.args.id c.as_slice.ensures.value c.in_err-i.ensures in
     rw (← c.self.view_is) a.left_is
 
-pub compact-requires : goal.compact-requires
-compact-requires c =
-    (lives.at_place c.self.inside.entries.items c.as_slice.result.now c.args.id c.in_ok-i.i c.index.result.now c.index_mut.result.now c.self.invariant c.as_slice.ensures.value c.in_ok-i.ensures c.index.ensures c.index_mut.ensures.value).1
+pub returns-in_err-key-clause-key : goal.returns-in_err-key-clause-key
+returns-in_err-key-clause-key c =
+    let k = lives.key-at c.self.inside.entries.items c.as_slice.result.now c.args.id c.in_ok-i.i c.index.result.now c.self.invariant.0 c.as_slice.ensures.value c.in_ok-i.ensures c.index.ensures in
+    c.from_residual-in_err-key.ensures ∙ rw (← c.self.view_is) (sym (c.in_err-key.was) ∙ sym k)
 
-pub invariant_of-self-else-self-len : goal.invariant_of-self-else-self-len
-invariant_of-self-else-self-len c =
-    (lives.at_place c.self.inside.entries.items c.as_slice.result.now c.args.id c.in_ok-i.i c.index.result.now c.index_mut.result.now c.self.invariant c.as_slice.ensures.value c.in_ok-i.ensures c.index.ensures c.index_mut.ensures.value).1
+pub returns-in_err-key-clause-rest : goal.returns-in_err-key-clause-rest
+returns-in_err-key-clause-rest c =
+    let k = lives.key-at c.self.inside.entries.items c.as_slice.result.now c.args.id c.in_ok-i.i c.index.result.now c.self.invariant.0 c.as_slice.ensures.value c.in_ok-i.ensures c.index.ensures in
+    rw (← c.self.view_is) (sym (lives.without-none (live c.self.inside.entries.items) c.args.id (k ∙ c.in_err-key.was)))
 
-pub returns-then-self-len-clause-key : goal.returns-then-self-len-clause-key
-returns-then-self-len-clause-key c =
-    let a = lives.at_place c.self.inside.entries.items c.as_slice.result.now c.args.id c.in_ok-i.i c.index.result.now c.index_mut.result.now c.self.invariant c.as_slice.ensures.value c.in_ok-i.ensures c.index.ensures c.index_mut.ensures.value in
-    rw (← c.self.view_is) (sym a.0.key_is)
+pub overflow_sub-self : goal.overflow_sub-self
+overflow_sub-self c =
+    let k = lives.key-at c.self.inside.entries.items c.as_slice.result.now c.args.id c.in_ok-i.i c.index.result.now c.self.invariant.0 c.as_slice.ensures.value c.in_ok-i.ensures c.index.ensures in
+    let less = lives.without-some (live c.self.inside.entries.items) c.args.id c.in_ok-key.key (lives.AreRising-live c.self.inside.entries.items c.self.invariant.0) (k ∙ c.in_ok-key.was) in
+    omega (arith, less, c.self.invariant.1)
 
-pub returns-else-self-len-clause-key : goal.returns-else-self-len-clause-key
-returns-else-self-len-clause-key c =
-    let a = lives.at_place c.self.inside.entries.items c.as_slice.result.now c.args.id c.in_ok-i.i c.index.result.now c.index_mut.result.now c.self.invariant c.as_slice.ensures.value c.in_ok-i.ensures c.index.ensures c.index_mut.ensures.value in
-    rw (← c.self.view_is) (sym a.0.key_is)
+pub tidy-requires : goal.tidy-requires
+tidy-requires c =
+    (lives.at_place c.self.inside.entries.items c.as_slice.result.now c.args.id c.in_ok-i.i c.index.result.now c.index_mut.result.now c.self.invariant.0 c.as_slice.ensures.value c.in_ok-i.ensures c.index.ensures c.index_mut.ensures.value).1
 
-pub returns-then-self-len-clause-rest : goal.returns-then-self-len-clause-rest
-returns-then-self-len-clause-rest c =
-    let a = lives.at_place c.self.inside.entries.items c.as_slice.result.now c.args.id c.in_ok-i.i c.index.result.now c.index_mut.result.now c.self.invariant c.as_slice.ensures.value c.in_ok-i.ensures c.index.ensures c.index_mut.ensures.value in
-    rw (← c.self.view_is) (c.compact.ensures.live ∙ a.0.left_is)
+pub invariant_of-self : goal.invariant_of-self
+invariant_of-self c =
+    let k = lives.key-at c.self.inside.entries.items c.as_slice.result.now c.args.id c.in_ok-i.i c.index.result.now c.self.invariant.0 c.as_slice.ensures.value c.in_ok-i.ensures c.index.ensures in
+    let less = lives.without-some (live c.self.inside.entries.items) c.args.id c.in_ok-key.key (lives.AreRising-live c.self.inside.entries.items c.self.invariant.0) (k ∙ c.in_ok-key.was) in
+    let a = lives.at_place c.self.inside.entries.items c.as_slice.result.now c.args.id c.in_ok-i.i c.index.result.now c.index_mut.result.now c.self.invariant.0 c.as_slice.ensures.value c.in_ok-i.ensures c.index.ensures c.index_mut.ensures.value in
+    let left = ap length (c.tidy.ensures.live ∙ a.0.left_is) in
+    (c.tidy.ensures.rise, omega (arith, less, left, c.self.invariant.1))
 
-pub returns-else-self-len-clause-rest : goal.returns-else-self-len-clause-rest
-returns-else-self-len-clause-rest c =
-    let a = lives.at_place c.self.inside.entries.items c.as_slice.result.now c.args.id c.in_ok-i.i c.index.result.now c.index_mut.result.now c.self.invariant c.as_slice.ensures.value c.in_ok-i.ensures c.index.ensures c.index_mut.ensures.value in
-    rw (← c.self.view_is) a.0.left_is
+pub returns-clause-key : goal.returns-clause-key
+returns-clause-key c =
+    let k = lives.key-at c.self.inside.entries.items c.as_slice.result.now c.args.id c.in_ok-i.i c.index.result.now c.self.invariant.0 c.as_slice.ensures.value c.in_ok-i.ensures c.index.ensures in
+    rw (← c.self.view_is) (sym (k ∙ c.in_ok-key.was))
+
+pub returns-clause-rest : goal.returns-clause-rest
+returns-clause-rest c =
+    let a = lives.at_place c.self.inside.entries.items c.as_slice.result.now c.args.id c.in_ok-i.i c.index.result.now c.index_mut.result.now c.self.invariant.0 c.as_slice.ensures.value c.in_ok-i.ensures c.index.ensures c.index_mut.ensures.value in
+    rw (← c.self.view_is) (c.tidy.ensures.live ∙ a.0.left_is)
