@@ -1,0 +1,4 @@
+pub mod Collect
+pub mod View
+pub mod Lawful
+pub mod Whole
