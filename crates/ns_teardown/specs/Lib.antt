@@ -1,0 +1,3 @@
+pub mod GoodTasks
+pub mod Heirs
+pub mod Fall

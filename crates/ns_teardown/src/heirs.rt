@@ -1,0 +1,42 @@
+//! Ancestors that are subreapers (`PR_SET_CHILD_SUBREAPER(2const)`).
+ghost use Rattle.std.specs.Prelude.{◌≡◌, false, Some, IsSome, option_map};
+ghost use Rattle.std.specs.Option.{option_map_or};
+ghost use Rattle.pid_numbers.specs.Numbering.{identifier_at};
+ghost use Rattle.task_tree.specs.Tree.{task_at};
+ghost use Rattle.ns_teardown.specs.GoodTasks.{HasGoodTasks};
+ghost use Rattle.ns_teardown.specs.Heirs.{nearest_subreaper as nearest_subreaper_of};
+
+use store_view::laws;
+use task_store::TaskStore;
+
+/// Whether the task is a subreaper.
+fn is_subreaper(store: &TaskStore, key: u32) -> bool
+    ensures { result ≡ option_map_or (λ t. t.subreaper) (task_at store.now.tree key) false }
+{
+    match store.tree().task(key) {
+        Some(task) => task.subreaper,
+        None => false,
+    }
+}
+
+/// The nearest ancestor of a task of the namespace that is a subreaper there. It costs a step for each
+/// ancestor up to that one, or else up to the first in another namespace, above which none is in this one.
+pub fn nearest_subreaper(store: &TaskStore, space: u32, key: u32) -> Option<u32>
+    requires good { HasGoodTasks store.now }
+    requires there { IsSome (task_at store.now.tree key) }
+    requires own { option_map (λ u. u.space) (identifier_at store.now.numbering key) ≡ Some space }
+    ensures { result ≡ nearest_subreaper_of store.now space key }
+{
+    laws(store);
+    let mut at = key;
+    for _ in 0..store.tree().keys() {
+        at = store.tree().parent(at)?;
+        if store.numbers().space_of(at) != Some(space) {
+            return None;
+        }
+        if is_subreaper(store, at) {
+            return Some(at);
+        }
+    }
+    None
+}

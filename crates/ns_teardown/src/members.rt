@@ -1,0 +1,95 @@
+//! The end of the members of a namespace that has fallen (`pid_namespaces(7)`).
+ghost use Rattle.std.specs.Prelude.{◌≡◌, ◌≢◌, ℕ, ◌<◌, ◌==◌, length, Some, IsSome, true, false};
+ghost use Rattle.std.specs.Option.{option_map_or};
+ghost use Rattle.pid_types.specs.Settings.{HasGoodPidMax};
+ghost use Rattle.pid_numbers.specs.Numbering.{Identifier, identifier_at, number_of};
+ghost use Rattle.task_tree.specs.Tree.{task_at, parent_of, lives};
+ghost use Rattle.task_store.specs.Store.{IsLess};
+ghost use Rattle.store_view.specs.Whole.{HasParents};
+ghost use Rattle.ns_teardown.specs.Fall.{slot_at, member_after_fall, slot_after_fall, parent_falls_at, KeepsHomes};
+
+use pid_types::call::Kind;
+use pid_types::plain::{Ended, Life};
+use store_view::laws;
+use task_store::TaskStore;
+use task_tree::Task;
+
+/// Whether the task goes with its parent: that is a member of the namespace, or it has gone.
+fn parent_falls(store: &TaskStore, space: u32, key: u32) -> bool
+    requires { key < length store.now.tree.tasks }
+    ensures { result ≡ parent_falls_at store.now space key }
+{
+    match store.tree().parent(key) {
+        None => false,
+        Some(parent) => {
+            store.tree().task(parent).is_none()
+                || store.numbers().number_in(parent, space).is_some()
+        }
+    }
+}
+
+/// The member ends in its place, if it lives: the init by its exit, and another one is killed.
+fn finish_member(store: &mut TaskStore, is_init: bool, status: u8, key: u32, task: Task)
+    requires there { task_at store.old.tree key ≡ Some task }
+    requires live { is_init ≡ true → lives task ≡ true }
+    requires visible { (p : ℕ) → parent_of store.old.tree key ≡ Some p → (u : Identifier) × (identifier_at store.old.numbering p ≡ Some u) × IsSome (number_of store.old.numbering key u.space) }
+    ensures here { slot_at store.new key ≡ member_after_fall false is_init status (slot_at store.old key) }
+    ensures others { (k : ℕ) → k ≢ key → slot_at store.new k ≡ slot_at store.old k }
+    ensures numbers { store.new.numbering ≡ store.old.numbering }
+    ensures homes { KeepsHomes store.old.charges store.new.charges }
+{
+    if matches!(task.life, Life::Zombie(_)) {
+        return;
+    }
+    let end = if is_init {
+        Ended::Exited(status)
+    } else {
+        Ended::Killed
+    };
+    store.finish(key, task, end);
+}
+
+/// The member goes with its parent, or ends in its place.
+fn end_member(store: &mut TaskStore, space: u32, init: u32, status: u8, key: u32)
+    requires there { IsSome (task_at store.old.tree key) }
+    requires live { key ≡ init → option_map_or lives (task_at store.old.tree key) false ≡ true }
+    requires visible { (p : ℕ) → parent_of store.old.tree key ≡ Some p → IsSome (task_at store.old.tree p) → (u : Identifier) × (identifier_at store.old.numbering p ≡ Some u) × IsSome (number_of store.old.numbering key u.space) }
+    ensures here { slot_at store.new key ≡ member_after_fall (parent_falls_at store.old space key) (key == init) status (slot_at store.old key) }
+    ensures others { (k : ℕ) → k ≢ key → slot_at store.new k ≡ slot_at store.old k }
+    ensures numbers { IsLess store.old.numbering store.new.numbering }
+    ensures homes { KeepsHomes store.old.charges store.new.charges }
+{
+    laws(store);
+    let Some(task) = store.tree().task(key) else {
+        unreachable!()
+    };
+    if parent_falls(store, space, key) {
+        store.remove(key, task);
+        return;
+    }
+    finish_member(store, key == init, status, key, task);
+}
+
+/// All members of the namespace end, in the order of their numbers there. Nothing is handed on: a member
+/// whose parent has gone already goes too.
+pub fn end_members(store: &mut TaskStore, space: u32, init: u32, status: u8)
+    requires bound { HasGoodPidMax store.old.numbering.pid_max }
+    requires live { option_map_or lives (task_at store.old.tree init) false ≡ true }
+    requires parents { HasParents store.old }
+    requires visible { (k p : ℕ) (u : Identifier) → parent_of store.old.tree k ≡ Some p → identifier_at store.old.numbering p ≡ Some u → IsSome (number_of store.old.numbering k u.space) }
+    ensures slots { (k : ℕ) → slot_at store.new k ≡ slot_after_fall store.old space init status k }
+    ensures numbers { IsLess store.old.numbering store.new.numbering }
+    ensures homes { KeepsHomes store.old.charges store.new.charges }
+{
+    laws(store);
+    let mut from = 0u32;
+    while let Some(number) = store.numbers().next_used(space, Kind::Task, from) {
+        laws(store);
+        let Some(key) = store.numbers().find(space, number) else {
+            unreachable!()
+        };
+        end_member(store, space, init, status, key);
+        from = number + 1;
+    }
+    laws(store);
+}

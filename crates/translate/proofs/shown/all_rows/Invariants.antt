@@ -1,0 +1,13 @@
+use Rattle.std.proofs.Common.{◌≡◌, ◌++◌, ◌-◌, ◌≤◌}
+use Rattle.store_view.specs.Collect.{collect}
+use Rattle.store_view.specs.View.{row_numbered, state_of}
+use Rattle.translate.proofs.shown.all_rows.Given as goal
+
+abbrev pub invariant-loop-number : goal.invariant-loop-number
+invariant-loop-number l = record {
+  walk : l.rows.items ++ collect (row_numbered l.store 0) l.from (l.store.numbering.pid_max - l.from) ≡ (state_of l.store).rows;
+  below : l.from ≤ l.store.numbering.pid_max;
+}
+
+abbrev pub decreases-loop-number : goal.decreases-loop-number
+decreases-loop-number l = l.store.numbering.pid_max - l.from

@@ -1,0 +1,171 @@
+//! The queries: `getpid(2)`, `getppid(2)`, `getpgid(2)`, `getsid(2)`, `NSpid` of `proc_pid_status(5)`, and the
+//! next number in use. In `shown` is the plain state as a whole.
+//!
+//! Each query costs a search or two in a tree of numbers and a few reads, `NSpid` a read for each level. They take no
+//! memory and change nothing.
+#![tactic(auto)]
+
+ghost use Rattle.std.specs.Prelude.{◌≡◌, ℕ, Some, IsSome, IfSome, option_map};
+ghost use Rattle.pid_types.specs.Names.{number_or_zero};
+ghost use Rattle.pid_types.specs.Queries.{get_pid as get_pid_of, get_ppid as get_ppid_of, get_pgid as get_pgid_of, get_sid as get_sid_of, ns_pid as ns_pid_of, next as next_of, self_or_task};
+ghost use Rattle.pid_numbers.specs.Numbering.{id_at, identifier_at};
+ghost use Rattle.task_tree.specs.declared.Task.{Task};
+ghost use Rattle.task_tree.specs.Tree.{task_at};
+ghost use Rattle.store_view.specs.declared.Found.{Found};
+ghost use Rattle.store_view.specs.View.{name_at, row_of, state_of};
+ghost use Rattle.store_view.specs.Whole.{IsWhole};
+
+pub mod shown;
+
+use pid_types::call::Kind;
+use pid_types::reply::{Refusal, Reply};
+use store_view::{Found, find_live, find_task, laws, own_space};
+use task_store::TaskStore;
+
+/// The number of an identifier in a namespace, 0 where it is not visible there.
+fn seen(store: &TaskStore, space: u32, key: u32) -> u32
+    requires { IsSome (identifier_at store.now.numbering key) }
+    ensures { (i : ℕ) → id_at store.now.numbering space ≡ Some i → result ≡ number_or_zero (state_of store.now).spaces (name_at store.now.numbering key) i }
+{
+    laws(store);
+    store.numbers().number_in(key, space).unwrap_or(0)
+}
+
+/// The number of a task in a namespace.
+fn seen_task(store: &TaskStore, space: u32, key: u32) -> u32
+    requires { IsSome (task_at store.now.tree key) }
+    ensures { (i : ℕ) → id_at store.now.numbering space ≡ Some i → result ≡ number_or_zero (state_of store.now).spaces (name_at store.now.numbering key) i }
+{
+    laws(store);
+    seen(store, space, key)
+}
+
+/// The number of a task's group in a namespace.
+fn seen_group(store: &TaskStore, space: u32, found: &Found) -> u32
+    requires { task_at store.now.tree found.now.key ≡ Some found.now.task }
+    ensures { (i : ℕ) → id_at store.now.numbering space ≡ Some i → result ≡ number_or_zero (state_of store.now).spaces (row_of store.now found.now.key found.now.task).group i }
+{
+    laws(store);
+    let group = store.members().group(found.key);
+    seen(store, space, group)
+}
+
+/// The number of a task's session in a namespace.
+fn seen_session(store: &TaskStore, space: u32, found: &Found) -> u32
+    requires { task_at store.now.tree found.now.key ≡ Some found.now.task }
+    ensures { (i : ℕ) → id_at store.now.numbering space ≡ Some i → result ≡ number_or_zero (state_of store.now).spaces (row_of store.now found.now.key found.now.task).session i }
+{
+    laws(store);
+    let session = store.members().session(found.key);
+    seen(store, space, session)
+}
+
+/// `getpid(2)`.
+#[tactic(auto, unfolding(pid_types::specs::Queries::get_pid))]
+pub fn get_pid(store: &TaskStore, caller: u32) -> Reply
+    requires { IsWhole store.now }
+    ensures { result ≡ get_pid_of (state_of store.now) caller }
+{
+    let Some(found) = find_live(store, caller) else {
+        return Reply::Refused(Refusal::NoCaller);
+    };
+    let space = own_space(store, found.key);
+    Reply::Number(seen_task(store, space, found.key))
+}
+
+/// `getppid(2)`: 0 for a parent that the caller cannot see, and for the root init.
+#[tactic(auto, unfolding(pid_types::specs::Queries::get_ppid))]
+pub fn get_ppid(store: &TaskStore, caller: u32) -> Reply
+    requires { IsWhole store.now }
+    ensures { result ≡ get_ppid_of (state_of store.now) caller }
+{
+    let Some(found) = find_live(store, caller) else {
+        return Reply::Refused(Refusal::NoCaller);
+    };
+    let space = own_space(store, found.key);
+    match store.tree().parent(found.key) {
+        Some(parent) => Reply::Number(seen_task(store, space, parent)),
+        None => Reply::Number(0),
+    }
+}
+
+/// The task with the number in the caller's namespace, where 0 is the caller.
+fn self_or_task(store: &TaskStore, caller: &Found, space: u32, pid: u32) -> Option<Found>
+    requires there { task_at store.now.tree caller.now.key ≡ Some caller.now.task }
+    requires own { id_at store.now.numbering space ≡ Some (name_at store.now.numbering caller.now.key).space }
+    ensures there { IfSome result (λ f. task_at store.now.tree f.key ≡ Some f.task) }
+    ensures row { option_map (λ (f : Found). row_of store.now f.key f.task) result ≡ self_or_task (state_of store.now) (row_of store.now caller.now.key caller.now.task) pid }
+{
+    if pid == 0 {
+        Some(*caller)
+    } else {
+        find_task(store, space, pid)
+    }
+}
+
+/// `getpgid(2)`: 0 for a group that the caller cannot see.
+#[tactic(auto, unfolding(pid_types::specs::Queries::get_pgid))]
+pub fn get_pgid(store: &TaskStore, caller: u32, pid: u32) -> Reply
+    requires { IsWhole store.now }
+    ensures { result ≡ get_pgid_of (state_of store.now) caller pid }
+{
+    let Some(found) = find_live(store, caller) else {
+        return Reply::Refused(Refusal::NoCaller);
+    };
+    let space = own_space(store, found.key);
+    let Some(task) = self_or_task(store, &found, space, pid) else {
+        return Reply::Refused(Refusal::NoTask);
+    };
+    Reply::Number(seen_group(store, space, &task))
+}
+
+/// `getsid(2)`: 0 for a session that the caller cannot see.
+#[tactic(auto, unfolding(pid_types::specs::Queries::get_sid))]
+pub fn get_sid(store: &TaskStore, caller: u32, pid: u32) -> Reply
+    requires { IsWhole store.now }
+    ensures { result ≡ get_sid_of (state_of store.now) caller pid }
+{
+    let Some(found) = find_live(store, caller) else {
+        return Reply::Refused(Refusal::NoCaller);
+    };
+    let space = own_space(store, found.key);
+    let Some(task) = self_or_task(store, &found, space, pid) else {
+        return Reply::Refused(Refusal::NoTask);
+    };
+    Reply::Number(seen_session(store, space, &task))
+}
+
+/// `NSpid` of `proc_pid_status(5)`: the target's numbers from the caller's namespace inwards.
+#[tactic(auto, unfolding(pid_types::specs::Queries::ns_pid))]
+pub fn ns_pid(store: &TaskStore, caller: u32, target: u32) -> Reply
+    requires { IsWhole store.now }
+    ensures { result ≡ ns_pid_of (state_of store.now) caller target }
+{
+    laws(store);
+    let Some(found) = find_live(store, caller) else {
+        return Reply::Refused(Refusal::NoCaller);
+    };
+    let space = own_space(store, found.key);
+    let Some(task) = find_task(store, space, target) else {
+        return Reply::Refused(Refusal::NoTask);
+    };
+    Reply::Levels(store.numbers().levels_from(task.key, space))
+}
+
+/// The least number from the given one on that is in use as the kind, in the caller's namespace. It costs one
+/// search by marks.
+#[tactic(auto, unfolding(pid_types::specs::Queries::next))]
+pub fn next(store: &TaskStore, caller: u32, kind: Kind, from: u32) -> Reply
+    requires { IsWhole store.now }
+    ensures { result ≡ next_of (state_of store.now) caller kind from }
+{
+    laws(store);
+    let Some(found) = find_live(store, caller) else {
+        return Reply::Refused(Refusal::NoCaller);
+    };
+    let space = own_space(store, found.key);
+    match store.numbers().next_used(space, kind, from) {
+        Some(number) => Reply::Number(number),
+        None => Reply::End,
+    }
+}

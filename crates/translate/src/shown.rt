@@ -1,0 +1,166 @@
+//! The plain state of a store: what a snapshot shows.
+
+ghost use Rattle.std.specs.Prelude.{◌≡◌, Some, true, IsSome, IfOk, map, option_map};
+ghost use Rattle.pid_types.specs.Controls.{parent_control};
+ghost use Rattle.pid_types.specs.Shown.{Shows, with_count};
+ghost use Rattle.pid_numbers.specs.Numbering.{id_at, identifier_at};
+ghost use Rattle.task_tree.specs.Tree.{task_at, parent_of};
+ghost use Rattle.pids_charge.specs.Charges.{stands, id_at as home_id};
+ghost use Rattle.store_view.specs.View.{name_at, row_of, parent_id, space_of, state_of};
+ghost use Rattle.store_view.specs.Whole.{IsWhole, HasParents};
+ghost use Rattle.translate.specs.ById.{control_row_of};
+
+use pid_types::call::Kind;
+use pid_types::plain::{ControlRow, Name, Plain, Row, Space};
+use std::alloc::AllocError;
+use store_view::{Found, find_task, laws};
+use task_store::TaskStore;
+
+/// The name of an identifier.
+fn identifier_name(store: &TaskStore, key: u32) -> Name
+    requires { IsSome (identifier_at store.now.numbering key) }
+    ensures { result ≡ name_at store.now.numbering key }
+{
+    store.numbers().name(key)
+}
+
+/// The name of a task's parent; none of the root init's.
+fn parent_name(store: &TaskStore, key: u32) -> Option<Name>
+    requires parents { HasParents store.now }
+    requires there { IsSome (task_at store.now.tree key) }
+    ensures { result ≡ option_map (name_at store.now.numbering) (parent_of store.now.tree key) }
+{
+    laws(store);
+    match store.tree().parent(key) {
+        Some(parent) => Some(identifier_name(store, parent)),
+        None => None,
+    }
+}
+
+/// The row of a task.
+fn task_row(store: &TaskStore, found: &Found) -> Row
+    requires parents { HasParents store.now }
+    requires there { task_at store.now.tree found.now.key ≡ Some found.now.task }
+    ensures { result ≡ row_of store.now found.now.key found.now.task }
+{
+    laws(store);
+    let group = store.members().group(found.key);
+    let session = store.members().session(found.key);
+    Row {
+        name: identifier_name(store, found.key),
+        parent: parent_name(store, found.key),
+        group: identifier_name(store, group),
+        session: identifier_name(store, session),
+        executed: found.task.executed,
+        life: found.task.life,
+        home: store.controls().home_id(found.task.home),
+        children_space: found.task.children_space,
+        subreaper: found.task.subreaper,
+    }
+}
+
+/// The tasks by their numbers in the root namespace.
+fn all_rows(store: &TaskStore) -> Result<Vec<Row>, AllocError>
+    requires { HasParents store.now }
+    ensures { IfOk result (λ rows. rows.items ≡ (state_of store.now).rows) }
+{
+    laws(store);
+    let mut rows = Vec::new(store.numbers().allocator());
+    let mut from = 0u32;
+    while let Some(number) = store.numbers().next_used(0, Kind::Task, from) {
+        let Some(found) = find_task(store, 0, number) else {
+            unreachable!()
+        };
+        rows.push(task_row(store, &found))?;
+        from = number + 1;
+    }
+    Ok(rows)
+}
+
+/// The id of the namespace that a namespace is in; none of the root's.
+fn outer_id(store: &TaskStore, key: u32) -> Option<u64>
+    ensures { result ≡ parent_id store.now.numbering key }
+{
+    match store.numbers().parent(key) {
+        Some(parent) => store.numbers().id(parent),
+        None => None,
+    }
+}
+
+/// A namespace.
+fn space_row(store: &TaskStore, id: u64, key: u32) -> Space
+    ensures { result ≡ space_of store.now.numbering (id, key) }
+{
+    Space {
+        id,
+        parent: outer_id(store, key),
+        cursor: store.numbers().cursor(key).unwrap_or(0),
+        fallen: store.numbers().is_fallen(key),
+    }
+}
+
+/// The namespaces by their ids.
+fn all_spaces(store: &TaskStore) -> Result<Vec<Space>, AllocError>
+    ensures { IfOk result (λ spaces. spaces.items ≡ (state_of store.now).spaces) }
+{
+    let mut spaces = Vec::new(store.numbers().allocator());
+    for (id, key) in store.numbers().keys() {
+        spaces.push(space_row(store, id, key))?;
+    }
+    Ok(spaces)
+}
+
+/// The id of the control group that a control group is in; none of the root's.
+fn outer_control(store: &TaskStore, key: u32) -> Option<u64>
+    requires { stands store.now.charges key ≡ true }
+    ensures { result ≡ parent_control store.now.charges.controls (home_id store.now.charges key) }
+{
+    match store.controls().parent(key) {
+        Some(parent) => Some(store.controls().id(parent)),
+        None => None,
+    }
+}
+
+/// A control group with its count.
+fn control_row(store: &TaskStore, id: u64, key: u32) -> ControlRow
+    requires stands { stands store.now.charges key ≡ true }
+    requires id { home_id store.now.charges key ≡ id }
+    ensures { result ≡ control_row_of (state_of store.now) id }
+{
+    laws(store);
+    ControlRow {
+        id,
+        parent: outer_control(store, key),
+        limit: store.controls().limit(key),
+        count: store.controls().count(key),
+    }
+}
+
+/// The control groups by their ids, each with its count.
+fn all_controls(store: &TaskStore) -> Result<Vec<ControlRow>, AllocError>
+    requires { IsWhole store.now }
+    ensures { IfOk result (λ rows. rows.items ≡ map (with_count (state_of store.now)) (state_of store.now).controls) }
+{
+    let mut rows = Vec::new(store.numbers().allocator());
+    for (id, key) in store.controls().keys() {
+        rows.push(control_row(store, id, key))?;
+    }
+    Ok(rows)
+}
+
+/// The plain state: the tasks by their numbers in the root namespace, the namespaces and the control groups by their
+/// ids, each group with its count.
+///
+/// It costs two searches in the root's tree of numbers and a few reads for each task, and a few reads for each
+/// namespace and each control group; a name has a number for each level, 33 at most. The error is want of memory.
+pub fn snapshot(store: &TaskStore) -> Result<Plain, AllocError>
+    requires { IsWhole store.now }
+    ensures { IfOk result (Shows (state_of store.now)) }
+{
+    Ok(Plain {
+        pid_max: store.numbers().pid_max(),
+        rows: all_rows(store)?,
+        spaces: all_spaces(store)?,
+        controls: all_controls(store)?,
+    })
+}
