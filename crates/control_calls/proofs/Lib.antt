@@ -1,0 +1,3 @@
+pub mod Rehomed
+pub mod Busy
+pub mod Answered

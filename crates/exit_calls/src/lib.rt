@@ -1,0 +1,86 @@
+//! Exit over a store, told in the model's words: `_exit(2)`, and the fall of a namespace with its init
+//! (`pid_namespaces(7)`).
+#![tactic(auto)]
+
+ghost use Rattle.std.specs.Prelude.{◌≡◌, ◌≢◌, ◌==◌, Some, true};
+ghost use Rattle.std.specs.Option.{option_eq};
+ghost use Rattle.pid_types.specs.Outcome.{sweep};
+ghost use Rattle.pid_types.specs.Exit.{exit as exit_of, fall as fall_of, rows_after_exit};
+ghost use Rattle.pid_numbers.specs.Numbering.{Identifier, identifier_at, number_of};
+ghost use Rattle.task_tree.specs.Tree.{task_at, lives};
+ghost use Rattle.store_view.specs.View.{row_of, state_of};
+ghost use Rattle.store_view.specs.Whole.{HasParents, IsWhole};
+
+use pid_types::reply::{Refusal, Reply};
+use store_view::{find_live, laws, own_space};
+use task_store::TaskStore;
+use task_tree::Task;
+
+/// Whether the task has number 1 in the namespace.
+fn is_first(store: &TaskStore, space: u32, key: u32) -> bool
+    ensures { result ≡ option_eq ◌==◌ (number_of store.now.numbering key space) (Some 1) }
+{
+    store.numbers().number_in(key, space) == Some(1)
+}
+
+/// A live task that is no init ends, and its children have a new parent.
+fn end(store: &mut TaskStore, key: u32, task: Task, status: u8)
+    requires whole { IsWhole store.old }
+    requires there { task_at store.old.tree key ≡ Some task }
+    requires live { lives task ≡ true }
+    requires inner { (u : Identifier) → identifier_at store.old.numbering key ≡ Some u → number_of store.old.numbering key u.space ≢ Some 1 }
+    ensures state { state_of store.new ≡ sweep (record (state_of store.old) { rows = rows_after_exit (state_of store.old) (row_of store.old key task) status }) }
+    ensures parents { HasParents store.new }
+{
+    laws(store);
+    ns_teardown::exit(store, key, task, status);
+    laws(store);
+}
+
+/// The live init of a namespace other than the root ends, and the namespace falls.
+fn fall(store: &mut TaskStore, init: u32, task: Task, status: u8)
+    requires whole { IsWhole store.old }
+    requires there { task_at store.old.tree init ≡ Some task }
+    requires live { lives task ≡ true }
+    requires top { (u : Identifier) → identifier_at store.old.numbering init ≡ Some u → (number_of store.old.numbering init u.space ≡ Some 1) × (u.space ≢ 0) }
+    ensures state { state_of store.new ≡ sweep (fall_of (state_of store.old) (row_of store.old init task) status) }
+    ensures parents { HasParents store.new }
+{
+    laws(store);
+    ns_teardown::fall(store, init, status);
+    laws(store);
+}
+
+/// `_exit(2)`: the caller is a zombie until its parent waits, and its children go to its nearest ancestor
+/// that is a subreaper in its own namespace, or else to the init there (`PR_SET_CHILD_SUBREAPER(2const)`).
+/// The exit of a namespace's init ends all its members, and the namespace falls with all inside it
+/// (`pid_namespaces(7)`).
+///
+/// It is refused where no live task has the caller's number, and to the init of the root namespace. It takes
+/// no memory.
+///
+/// It costs one search for the caller, and a few writes for each child. If there is a child, it also costs a
+/// step for each ancestor up to that subreaper, or else up to the first in another namespace. A fall costs a
+/// step for each namespace that is there, and a search for each member and each level of its identifier.
+#[tactic(auto, unfolding(pid_types::specs::Exit::exit))]
+pub fn exit(store: &mut TaskStore, caller: u32, status: u8) -> Reply
+    requires { IsWhole store.old }
+    ensures state { state_of store.new ≡ (exit_of (state_of store.old) caller status).state }
+    ensures reply { result ≡ (exit_of (state_of store.old) caller status).reply }
+    ensures parents { HasParents store.new }
+{
+    laws(store);
+    let Some(found) = find_live(store, caller) else {
+        return Reply::Refused(Refusal::NoCaller);
+    };
+    if is_first(store, 0, found.key) {
+        return Reply::Refused(Refusal::RootInit);
+    }
+    let space = own_space(store, found.key);
+    if is_first(store, space, found.key) {
+        fall(store, found.key, found.task, status);
+    } else {
+        end(store, found.key, found.task, status);
+    }
+    Reply::Done
+}

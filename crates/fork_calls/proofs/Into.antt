@@ -1,0 +1,56 @@
+-- A child in a namespace that stands.
+use Rattle.std.proofs.Common.{◌≡◌, ℕ, false, List, [], map, Some, None, Option, refl, sym, ap, ◌∙◌, option_map, unwrap_or}
+use Rattle.std.specs.Option.{option_map_or}
+use Rattle.pid_types.specs.declared.plain.Life.TheVariants.{Live}
+use Rattle.pid_types.specs.declared.reply.Reply.TheVariants.{Forked}
+use Rattle.pid_types.specs.Names.{path_up, number_or_zero, root_number}
+use Rattle.pid_types.specs.Outcome.{unless_found}
+use Rattle.pid_types.specs.Fork.{drawn, child_of, forked, no_room, with_cursors}
+use Rattle.pid_numbers.specs.Numbering.{Namespace, namespace_at, id_at, path_at, draw_in, moved, new_identifier}
+use Rattle.task_tree.specs.declared.Task.{Task}
+use Rattle.task_tree.specs.Tree.{task_at}
+use Rattle.task_store.specs.Store.{Store, Begins}
+use Rattle.store_view.specs.View.{name_at, row_of, spaces_of, state_of}
+use Rattle.store_view.specs.Lawful.{IsLawful}
+use Rattle.store_view.specs.Whole.{HasParents}
+use Rattle.store_view.proofs.Keys.{path-is}
+use Rattle.fork_calls.specs.Outcomes.{forked_into}
+use Rattle.fork_calls.proofs.Draws.{map-draws}
+use Rattle.fork_calls.proofs.Born.{KeepsNamespaces, state-born, reply-born}
+use Rattle.fork_calls.proofs.Cursors.{IsPlanned-own, spaces-moved}
+
+module _ (s s' : Store) (l : IsLawful s) (l' : IsLawful s') (kin : HasParents s) (key from : ℕ) (task caller : Task) (at : task_at s.tree from ≡ Some caller) (space t : ℕ) (numbers : List ℕ)
+    (begun : Begins s s' key (Some from) task (new_identifier space numbers))
+    (order : s'.numbering.order ≡ s.numbering.order) (now : (q : ℕ) → namespace_at s'.numbering q ≡ option_map (moved (path_at s.numbering space) numbers q) (namespace_at s.numbering q))
+    (id : id_at s.numbering space ≡ Some t) (planned : numbers ≡ map (λ q. unwrap_or (draw_in s.numbering q) 0) (path_at s.numbering space))
+    (made : task ≡ record { children_space = t; home = caller.home; executed = false; subreaper = false; life = Live })
+    (room : no_room (state_of s) (row_of s from caller) t ≡ None) where
+  keeps : KeepsNamespaces s.numbering s'.numbering
+  keeps q n e =
+      let z = now q ∙ ap (option_map (moved (path_at s.numbering space) numbers q)) e in
+      (ap (option_map (λ t. t.id)) z ∙ sym (ap (option_map (λ t. t.id)) e), ap (λ o. option_map_or (λ t. t.path) o []) z ∙ sym (ap (λ o. option_map_or (λ t. t.path) o []) e))
+
+  pub id-after : (q i : ℕ) → id_at s.numbering q ≡ Some i → id_at s'.numbering q ≡ Some i
+  id-after q i e = go (namespace_at s.numbering q) refl e
+    where
+      go : (o : Option Namespace) → namespace_at s.numbering q ≡ o → option_map (λ t. t.id) o ≡ Some i → id_at s'.numbering q ≡ Some i
+      go None is e = absurd (cc)
+      go (Some n) is e = (keeps q n is).0 ∙ ap (option_map (λ t. t.id)) is ∙ e
+
+  drew : numbers ≡ map (drawn (state_of s)) (path_up (spaces_of s.numbering) t)
+  drew = planned ∙ sym (ap (map (drawn (state_of s))) (path-is s.numbering l.numbering space t 0 id (l.numbering.some space t id)) ∙ map-draws s l (state_of s) (IsPlanned-own s l) 0 space)
+
+  cursors : with_cursors (state_of s) (path_up (spaces_of s.numbering) t) ≡ spaces_of s'.numbering
+  cursors = spaces-moved s l s'.numbering keeps space t id (l.numbering.some space t id) order
+      (λ q. now q ∙ ap (λ ns. option_map (moved (path_at s.numbering space) ns q) (namespace_at s.numbering q)) planned)
+
+  pub into-state : state_of s' ≡ (forked_into (state_of s) (state_of s) (row_of s from caller) t).state
+  into-state = sym (ap (λ o. (unless_found (state_of s) o (λ r. r) (forked (state_of s) (row_of s from caller) t)).state) room
+      ∙ state-born s s' l l' kin key from task space numbers begun keeps caller at t (id-after space t id) (state_of s) drew made refl refl refl cursors)
+
+  pub into-reply : (i : ℕ) → i ≡ (row_of s from caller).name.space
+      → Forked (number_or_zero (spaces_of s'.numbering) (name_at s'.numbering key) i) (root_number (name_at s'.numbering key)) ≡ (forked_into (state_of s) (state_of s) (row_of s from caller) t).reply
+  into-reply i own =
+      reply-born s s' l l' kin key from task space numbers begun keeps caller at t (id-after space t id) (state_of s) drew made cursors i
+      ∙ ap (λ j. Forked (number_or_zero (spaces_of s.numbering) (child_of (state_of s) (row_of s from caller) t).name j) (root_number (child_of (state_of s) (row_of s from caller) t).name)) own
+      ∙ sym (ap (λ o. (unless_found (state_of s) o (λ r. r) (forked (state_of s) (row_of s from caller) t)).reply) room)

@@ -1,0 +1,9 @@
+pub mod Draws
+pub mod Born
+pub mod Cursors
+pub mod Limits
+pub mod Plans
+pub mod Into
+pub mod Inside
+pub mod Inner
+pub mod Places

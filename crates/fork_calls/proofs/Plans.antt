@@ -1,0 +1,39 @@
+-- Why a fork has no room, in the model and in a store.
+use Rattle.std.proofs.Common.{◌≡◌, ℕ, find, Some, None, is_none, sym, ap, ◌∙◌, option_map}
+use Rattle.std.specs.Option.{option_map_or}
+use Rattle.pid_types.specs.declared.reply.Refusal.TheVariants.{NoNumber, PidsLimit}
+use Rattle.pid_types.specs.declared.plain.Row.{Row}
+use Rattle.pid_types.specs.Names.{path_up}
+use Rattle.pid_types.specs.Controls.{passed_limit}
+use Rattle.pid_types.specs.Draw.{draw}
+use Rattle.pid_types.specs.Fork.{no_room}
+use Rattle.model_laws.proofs.Lists.{find-Some}
+use Rattle.pid_numbers.specs.Numbering.{id_at, path_at, draw_in}
+use Rattle.task_store.specs.Store.{Store}
+use Rattle.store_view.specs.View.{state_of}
+use Rattle.store_view.specs.Lawful.{IsLawful}
+use Rattle.store_view.proofs.Keys.{id_for, path-is, path-there}
+use Rattle.fork_calls.proofs.Draws.{find-draws}
+use Rattle.fork_calls.proofs.Cursors.{IsPlanned-own}
+
+module _ (s : Store) (l : IsLawful s) (sp t : ℕ) (at : id_at s.numbering sp ≡ Some t) (caller : Row) where
+  -- the first namespace with no number to give
+  pub full-is : find (λ i. is_none (draw (state_of s) i)) (path_up (state_of s).spaces t) ≡ option_map (id_for s.numbering l.numbering 0) (find (λ q. is_none (draw_in s.numbering q)) (path_at s.numbering sp))
+  full-is = ap (find (λ i. is_none (draw (state_of s) i))) (path-is s.numbering l.numbering sp t 0 at (l.numbering.some sp t at)) ∙ find-draws s l (state_of s) (IsPlanned-own s l) 0 sp
+
+  -- there is a number in each, so the limits decide
+  pub room-ok : find (λ q. is_none (draw_in s.numbering q)) (path_at s.numbering sp) ≡ None → no_room (state_of s) caller t ≡ option_map PidsLimit (passed_limit (state_of s) caller.home)
+  unfolding no_room
+  room-ok none = ap (λ o. option_map_or (λ i. Some (NoNumber i)) o (option_map PidsLimit (passed_limit (state_of s) caller.home))) (full-is ∙ ap (option_map (id_for s.numbering l.numbering 0)) none)
+
+  -- one has none
+  pub room-full : (q i : ℕ) → find (λ q. is_none (draw_in s.numbering q)) (path_at s.numbering sp) ≡ Some q → id_at s.numbering q ≡ Some i → no_room (state_of s) caller t ≡ Some (NoNumber i)
+  unfolding no_room
+  room-full q i full id =
+      let z : Some (id_for s.numbering l.numbering 0 q) ≡ Some i = sym (path-there s.numbering l.numbering sp 0 q (find-Some (λ q. is_none (draw_in s.numbering q)) (path_at s.numbering sp) q full).0) ∙ id in
+      ap (λ o. option_map_or (λ i. Some (NoNumber i)) o (option_map PidsLimit (passed_limit (state_of s) caller.home))) (full-is ∙ ap (option_map (id_for s.numbering l.numbering 0)) full)
+      ∙ ap (λ o. option_map NoNumber o) z
+
+  -- the namespace that has none is there
+  pub full-there : (q : ℕ) → find (λ q. is_none (draw_in s.numbering q)) (path_at s.numbering sp) ≡ Some q → id_at s.numbering q ≡ Some (id_for s.numbering l.numbering 0 q)
+  full-there q full = path-there s.numbering l.numbering sp 0 q (find-Some (λ q. is_none (draw_in s.numbering q)) (path_at s.numbering sp) q full).0

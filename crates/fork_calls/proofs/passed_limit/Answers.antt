@@ -1,0 +1,19 @@
+use Rattle.std.proofs.Common.{◌∙◌, sym, ap}
+use Rattle.std.specs.Result.{result_err}
+use Rattle.pids_charge.specs.Charges.{charge_refusal, stands, id_at as home_id}
+use Rattle.store_view.proofs.Uses.{live-home}
+use Rattle.fork_calls.proofs.Limits.{limit-is}
+use Rattle.fork_calls.proofs.passed_limit.Goals as goal
+
+pub may_charge-requires : goal.may_charge-requires
+may_charge-requires c = ap (λ v. stands v c.args.found.now.task.home) c.controls.ensures ∙ live-home c.args.store.now c.laws.ensures c.args.found.now.key c.args.found.now.task c.requires.there c.requires.live
+
+pub returns-in-Ok : goal.returns-in-Ok
+returns-in-Ok c =
+    sym (ap result_err c.in-Ok.is) ∙ c.may_charge.ensures ∙ ap (λ v. charge_refusal v (home_id v c.args.found.now.task.home)) c.controls.ensures
+    ∙ limit-is c.args.store.now c.laws.ensures (home_id c.args.store.now.charges c.args.found.now.task.home)
+
+pub returns-in-Err : goal.returns-in-Err
+returns-in-Err c =
+    sym (ap result_err c.in-Err.is) ∙ c.may_charge.ensures ∙ ap (λ v. charge_refusal v (home_id v c.args.found.now.task.home)) c.controls.ensures
+    ∙ limit-is c.args.store.now c.laws.ensures (home_id c.args.store.now.charges c.args.found.now.task.home)

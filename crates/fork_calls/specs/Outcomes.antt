@@ -1,0 +1,31 @@
+-- What a fork comes to.
+use Rattle.std.specs.Prelude.{◌≡◌, ◌≢◌, ℕ, Bool, not, ◌==◌, nat_le, Option, Some, None, MatchOption, if◌then◌else◌}
+use Rattle.std.specs.Option.{option_map_or}
+use Rattle.pid_types.specs.declared.plain.Row.{Row}
+use Rattle.pid_types.specs.declared.reply.Refusal.{Refusal}
+use Rattle.pid_types.specs.declared.reply.Refusal.TheVariants.{TooDeep, Elsewhere, SpaceFallen}
+use Rattle.pid_types.specs.Bounds.{deepest_space}
+use Rattle.pid_types.specs.State.{State}
+use Rattle.pid_types.specs.Names.{level}
+use Rattle.pid_types.specs.Outcome.{Outcome, unless_found}
+use Rattle.pid_types.specs.Fork.{forked, no_room, is_gone}
+use Rattle.pid_numbers.specs.Numbering.{Numbering, id_at}
+
+-- the caller's child in a namespace of the planned state, or why there can be none
+abbrev pub forked_into : State → State → Row → ℕ → Outcome
+forked_into state planned caller t = unless_found state (no_room planned caller t) (λ r. r) (forked planned caller t)
+
+-- why a caller whose own namespace is the second one can have no new namespace below the first: it has the deepest level, or is not
+-- the caller's own
+abbrev pub nest_refusal : State → ℕ → ℕ → Option Refusal
+nest_refusal state space own = if nat_le deepest_space (level state.spaces space) then Some TooDeep else (if not (space == own) then Some Elsewhere else None)
+
+-- why the caller can have no child in the namespace for its children, or in a new one below it
+abbrev pub space_refusal : State → Row → Bool → Option Refusal
+space_refusal state caller new_space =
+    option_map_or Some (if new_space then nest_refusal state caller.children_space caller.name.space else None)
+    (if is_gone state caller.children_space then Some SpaceFallen else None)
+
+-- the key of the namespace with the id, if there is one
+abbrev pub IsKeyOf : Numbering → ℕ → Option ℕ → Type 0
+IsKeyOf b id key = MatchOption key ((s : ℕ) → id_at b s ≢ Some id) (λ s. id_at b s ≡ Some id)

@@ -1,0 +1,301 @@
+//! Fork: `fork(2)`, and `clone(2)` with `CLONE_NEWPID`, in the model's words over a store.
+//!
+//! A fork is planned on the unchanged store, then memory is taken, then the store changes: so neither a refusal
+//! nor want of memory changes anything. It costs one or two searches for each level, and a step for each control
+//! group around the caller's.
+#![tactic(auto)]
+
+ghost use Rattle.std.specs.Prelude.{◌≡◌, ℕ, Some, None, true, false, map, find, is_none, option_map, unwrap_or, IfOk, IfErr, IfSome, OnOk, OnErr, IsSome, nat_le, ◌∷◌, ◌==◌};
+ghost use Rattle.pid_types.specs.Outcome.{unless_found};
+ghost use Rattle.pid_types.specs.Names.{level, number_or_zero, root_number};
+ghost use Rattle.pid_types.specs.declared.plain.Life.{Life};
+ghost use Rattle.pid_types.specs.declared.reply.Reply.{Reply};
+ghost use Rattle.fork_calls.specs.Outcomes.{forked_into, nest_refusal as nest_refusal_of, space_refusal, IsKeyOf};
+ghost use Rattle.pid_types.specs.Controls.{passed_limit as passed_limit_of};
+ghost use Rattle.pid_types.specs.Fork.{fork as fork_of, forked, no_room, is_gone, with_space};
+ghost use Rattle.pid_types.specs.Sound.{IsBelow};
+ghost use Rattle.pid_types.specs.declared.reply.Refusal.{Refusal};
+ghost use Rattle.pid_numbers.specs.Numbering.{id_at, path_at, draw_in, has_fallen_at, namespace_at};
+ghost use Rattle.task_tree.specs.declared.Task.{Task};
+ghost use Rattle.task_tree.specs.Tree.{task_at, lives};
+ghost use Rattle.store_view.specs.View.{name_at, row_of, state_of};
+ghost use Rattle.store_view.specs.Whole.{IsWhole, HasParents};
+
+use arrayvec::ArrayVec;
+use pid_numbers::PlanFault;
+use pid_types::plain::Life;
+use pid_types::reply::{Refusal, Reply};
+use std::alloc::AllocError;
+use store_view::{Found, find_live, laws, own_space};
+use task_store::TaskStore;
+use task_tree::Task;
+
+/// The control group whose limit one task more beside the caller would pass.
+fn passed_limit(store: &TaskStore, found: &Found) -> Option<Refusal>
+    requires there { task_at store.now.tree found.now.key ≡ Some found.now.task }
+    requires live { lives found.now.task ≡ true }
+    ensures { result ≡ option_map Refusal.PidsLimit (passed_limit_of (state_of store.now) (row_of store.now found.now.key found.now.task).home) }
+{
+    laws(store);
+    match store.controls().may_charge(found.task.home) {
+        Ok(()) => None,
+        Err(refusal) => Some(refusal),
+    }
+}
+
+/// The id of a namespace that is there.
+fn id_of(store: &TaskStore, space: u32) -> u64
+    requires { IsSome (namespace_at store.now.numbering space) }
+    ensures { id_at store.now.numbering space ≡ Some result }
+{
+    match store.numbers().id(space) {
+        Some(id) => id,
+        None => unreachable!(),
+    }
+}
+
+/// The numbers for a child in the namespace, or why there can be none.
+fn plan_into(store: &TaskStore, found: &Found, space: u32) -> Result<ArrayVec<u32, 33>, Refusal>
+    requires there { task_at store.now.tree found.now.key ≡ Some found.now.task }
+    requires live { lives found.now.task ≡ true }
+    requires id { id_at store.now.numbering space ≡ Some found.now.task.children_space }
+    ensures ok { IfOk result (λ numbers. (no_room (state_of store.now) (row_of store.now found.now.key found.now.task) found.now.task.children_space ≡ None)
+        × (find (λ s. is_none (draw_in store.now.numbering s)) (path_at store.now.numbering space) ≡ None)
+        × (numbers.items ≡ map (λ s. unwrap_or (draw_in store.now.numbering s) 0) (path_at store.now.numbering space))) }
+    ensures err { IfErr result (λ r. no_room (state_of store.now) (row_of store.now found.now.key found.now.task) found.now.task.children_space ≡ Some r) }
+{
+    laws(store);
+    match store.numbers().plan(space) {
+        Err(full) => Err(Refusal::NoNumber(id_of(store, full))),
+        Ok(numbers) => match passed_limit(store, found) {
+            Some(refusal) => Err(refusal),
+            None => Ok(numbers),
+        },
+    }
+}
+
+/// A child of the task, before it has executed, whose own children go into the namespace with the id.
+fn child_of(found: &Found, children_space: u64) -> Task
+    ensures { result ≡ record { children_space = children_space; home = found.now.task.home; executed = false; subreaper = false; life = Life.Live } }
+{
+    Task {
+        children_space,
+        home: found.task.home,
+        executed: false,
+        subreaper: false,
+        life: Life::Live,
+    }
+}
+
+/// The reply for a new task: its numbers in the caller's namespace and in the root.
+fn reply_for(store: &TaskStore, key: u32, own: u32) -> Reply
+    requires { IsSome (task_at store.now.tree key) }
+    ensures { (i : ℕ) → id_at store.now.numbering own ≡ Some i
+        → result ≡ Reply.Forked (number_or_zero (state_of store.now).spaces (name_at store.now.numbering key) i) (root_number (name_at store.now.numbering key)) }
+{
+    laws(store);
+    Reply::Forked {
+        child: store.numbers().number_in(key, own).unwrap_or(0),
+        root: store.numbers().number_in(key, 0).unwrap_or(0),
+    }
+}
+
+/// The caller's child in a namespace that stands. The error is want of memory.
+fn fork_into(
+    store: &mut TaskStore,
+    found: &Found,
+    own: u32,
+    space: u32,
+) -> Result<Reply, AllocError>
+    requires whole { IsWhole store.old }
+    requires there { task_at store.old.tree found.now.key ≡ Some found.now.task }
+    requires live { lives found.now.task ≡ true }
+    requires own { id_at store.old.numbering own ≡ Some (name_at store.old.numbering found.now.key).space }
+    requires id { id_at store.old.numbering space ≡ Some found.now.task.children_space }
+    ensures state { OnOk result (state_of store.new ≡ (forked_into (state_of store.old) (state_of store.old) (row_of store.old found.now.key found.now.task) found.now.task.children_space).state) }
+    ensures reply { IfOk result (λ reply. reply ≡ (forked_into (state_of store.old) (state_of store.old) (row_of store.old found.now.key found.now.task) found.now.task.children_space).reply) }
+    ensures err { OnErr result (state_of store.new ≡ state_of store.old) }
+    ensures parents { HasParents store.new }
+{
+    laws(store);
+    let numbers = match plan_into(store, found, space) {
+        Ok(numbers) => numbers,
+        Err(refusal) => return Ok(Reply::Refused(refusal)),
+    };
+    let task = child_of(found, found.task.children_space);
+    let key = store.fork(Some(found.key), space, &numbers, task)?;
+    laws(store);
+    Ok(reply_for(store, key, own))
+}
+
+/// The numbers for a child in a new namespace inside the caller's own, or why there can be none.
+fn plan_inside(
+    store: &TaskStore,
+    found: &Found,
+    own: u32,
+    stamp: u64,
+) -> Result<ArrayVec<u32, 33>, Refusal>
+    requires whole { IsWhole store.now }
+    requires below { IsBelow stamp (state_of store.now) }
+    requires there { task_at store.now.tree found.now.key ≡ Some found.now.task }
+    requires live { lives found.now.task ≡ true }
+    requires id { id_at store.now.numbering own ≡ Some found.now.task.children_space }
+    requires stands { is_gone (state_of store.now) found.now.task.children_space ≡ false }
+    requires shallow { nat_le 32 (level (state_of store.now).spaces found.now.task.children_space) ≡ false }
+    ensures ok { IfOk result (λ numbers. (no_room (with_space (state_of store.now) found.now.task.children_space stamp) (row_of store.now found.now.key found.now.task) stamp ≡ None)
+        × (find (λ s. is_none (draw_in store.now.numbering s)) (path_at store.now.numbering own) ≡ None)
+        × (numbers.items ≡ 1 ∷ map (λ s. unwrap_or (draw_in store.now.numbering s) 0) (path_at store.now.numbering own))) }
+    ensures err { IfErr result (λ r. no_room (with_space (state_of store.now) found.now.task.children_space stamp) (row_of store.now found.now.key found.now.task) stamp ≡ Some r) }
+{
+    laws(store);
+    match store.numbers().plan_new(own) {
+        Err(PlanFault::TooDeep) => unreachable!(),
+        Err(PlanFault::NoNumber(full)) => Err(Refusal::NoNumber(id_of(store, full))),
+        Ok(numbers) => match passed_limit(store, found) {
+            Some(refusal) => Err(refusal),
+            None => Ok(numbers),
+        },
+    }
+}
+
+/// The caller's child in a new namespace inside the caller's own, in which it is the init. The error is want of
+/// memory.
+fn fork_inside(
+    store: &mut TaskStore,
+    found: &Found,
+    own: u32,
+    stamp: u64,
+) -> Result<Reply, AllocError>
+    requires whole { IsWhole store.old }
+    requires below { IsBelow stamp (state_of store.old) }
+    requires there { task_at store.old.tree found.now.key ≡ Some found.now.task }
+    requires live { lives found.now.task ≡ true }
+    requires own { id_at store.old.numbering own ≡ Some (name_at store.old.numbering found.now.key).space }
+    requires id { id_at store.old.numbering own ≡ Some found.now.task.children_space }
+    requires stands { is_gone (state_of store.old) found.now.task.children_space ≡ false }
+    requires shallow { nat_le 32 (level (state_of store.old).spaces found.now.task.children_space) ≡ false }
+    ensures state { OnOk result (state_of store.new ≡ (forked_into (state_of store.old) (with_space (state_of store.old) found.now.task.children_space stamp) (row_of store.old found.now.key found.now.task) stamp).state) }
+    ensures reply { IfOk result (λ reply. reply ≡ (forked_into (state_of store.old) (with_space (state_of store.old) found.now.task.children_space stamp) (row_of store.old found.now.key found.now.task) stamp).reply) }
+    ensures err { OnErr result (state_of store.new ≡ state_of store.old) }
+    ensures parents { HasParents store.new }
+{
+    laws(store);
+    let numbers = match plan_inside(store, found, own, stamp) {
+        Ok(numbers) => numbers,
+        Err(refusal) => return Ok(Reply::Refused(refusal)),
+    };
+    let task = child_of(found, stamp);
+    let keys = store.fork_new(found.key, own, stamp, &numbers, task)?;
+    laws(store);
+    Ok(reply_for(store, keys.0, own))
+}
+
+/// Whether the namespace, if it is there, has the deepest level.
+fn is_deepest(store: &TaskStore, space: Option<u32>) -> bool
+    requires { IfSome space (λ s. IsSome (id_at store.now.numbering s)) }
+    ensures { (id : ℕ) → IsKeyOf store.now.numbering id space → result ≡ nat_le 32 (level (state_of store.now).spaces id) }
+{
+    laws(store);
+    match space {
+        Some(space) => store.numbers().level(space) >= 32,
+        None => false,
+    }
+}
+
+/// Whether the namespace, which is there, has fallen.
+fn has_fallen(store: &TaskStore, space: u32) -> bool
+    ensures { (id : ℕ) → id_at store.now.numbering space ≡ Some id → result ≡ is_gone (state_of store.now) id }
+{
+    laws(store);
+    store.numbers().is_fallen(space)
+}
+
+/// Whether the namespace is the caller's own.
+fn is_own(store: &TaskStore, space: Option<u32>, own: u32) -> bool
+    ensures { (id i : ℕ) → IsKeyOf store.now.numbering id space → id_at store.now.numbering own ≡ Some i → result ≡ (id == i) }
+{
+    laws(store);
+    match space {
+        Some(space) => space == own,
+        None => false,
+    }
+}
+
+/// Why the caller can have no new namespace in the namespace for its children.
+fn nest_refusal(store: &TaskStore, space: Option<u32>, own: u32) -> Option<Refusal>
+    requires { IfSome space (λ s. IsSome (id_at store.now.numbering s)) }
+    ensures { (id i : ℕ) → IsKeyOf store.now.numbering id space → id_at store.now.numbering own ≡ Some i → result ≡ nest_refusal_of (state_of store.now) id i }
+{
+    if is_deepest(store, space) {
+        return Some(Refusal::TooDeep);
+    }
+    if !is_own(store, space, own) {
+        return Some(Refusal::Elsewhere);
+    }
+    None
+}
+
+/// The namespace for the caller's children, or why it can have none there.
+fn standing(store: &TaskStore, found: &Found, space: Option<u32>) -> Result<u32, Refusal>
+    requires { IsKeyOf store.now.numbering found.now.task.children_space space }
+    ensures ok { IfOk result (λ space. (is_gone (state_of store.now) found.now.task.children_space ≡ false) × (id_at store.now.numbering space ≡ Some found.now.task.children_space)) }
+    ensures err { IfErr result (λ r. (is_gone (state_of store.now) found.now.task.children_space ≡ true) × (r ≡ Refusal.SpaceFallen)) }
+{
+    laws(store);
+    let Some(key) = space else {
+        return Err(Refusal::SpaceFallen);
+    };
+    if has_fallen(store, key) {
+        return Err(Refusal::SpaceFallen);
+    }
+    Ok(key)
+}
+
+/// The namespace for the caller's children, or why it can have none there or in a new one below it.
+fn namespace_for(
+    store: &TaskStore,
+    found: &Found,
+    own: u32,
+    new_space: bool,
+) -> Result<u32, Refusal>
+    requires there { task_at store.now.tree found.now.key ≡ Some found.now.task }
+    requires own { id_at store.now.numbering own ≡ Some (name_at store.now.numbering found.now.key).space }
+    ensures ok { IfOk result (λ space. (space_refusal (state_of store.now) (row_of store.now found.now.key found.now.task) new_space ≡ None) × (id_at store.now.numbering space ≡ Some found.now.task.children_space)) }
+    ensures err { IfErr result (λ r. space_refusal (state_of store.now) (row_of store.now found.now.key found.now.task) new_space ≡ Some r) }
+{
+    let space = store.numbers().find_space(found.task.children_space);
+    if !new_space {
+        return standing(store, found, space);
+    }
+    match nest_refusal(store, space, own) {
+        Some(refusal) => Err(refusal),
+        None => standing(store, found, space),
+    }
+}
+
+/// `fork(2)`; with `new_space`, `clone(2)` with `CLONE_NEWPID`, where the stamp is the id of the new namespace. A
+/// refused fork leaves every cursor as it was. The error is want of memory.
+#[tactic(auto, unfolding(pid_types::specs::Fork::fork))]
+pub fn fork(
+    store: &mut TaskStore,
+    caller: u32,
+    new_space: bool,
+    stamp: u64,
+) -> Result<Reply, AllocError>
+    requires whole { IsWhole store.old }
+    requires below { IsBelow stamp (state_of store.old) }
+    ensures state { OnOk result (state_of store.new ≡ (fork_of (state_of store.old) stamp caller new_space).state) }
+    ensures reply { IfOk result (λ reply. reply ≡ (fork_of (state_of store.old) stamp caller new_space).reply) }
+    ensures err { OnErr result (state_of store.new ≡ state_of store.old) }
+    ensures parents { HasParents store.new }
+{
+    let Some(found) = find_live(store, caller) else {
+        return Ok(Reply::Refused(Refusal::NoCaller));
+    };
+    let own = own_space(store, found.key);
+    match namespace_for(store, &found, own, new_space) {
+        Err(refusal) => Ok(Reply::Refused(refusal)),
+        Ok(_) if new_space => fork_inside(store, &found, own, stamp),
+        Ok(space) => fork_into(store, &found, own, space),
+    }
+}

@@ -1,0 +1,5 @@
+pub mod Members
+pub mod InSession
+pub mod Asked
+pub mod Regrouped
+pub mod Led

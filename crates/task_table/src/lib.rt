@@ -1,0 +1,103 @@
+//! The process table: one store of tasks, namespaces, groups, sessions and control groups, told as the model's state.
+//!
+//! A store holds what its calls leave in it; the table holds one in which every two calls find a sound state.
+#![tactic(auto)]
+
+ghost use Rattle.std.specs.Prelude.{◌≡◌, IfOk, OnOk, length};
+ghost use Rattle.pid_types.specs.Shown.{Shows};
+ghost use Rattle.pid_types.specs.State.{root_state};
+ghost use Rattle.store_view.specs.View.{state_of};
+ghost use Rattle.store_view.specs.Whole.{IsWhole};
+ghost use Rattle.task_table.specs.Bare.{IsBare};
+
+mod step;
+
+use model_laws::soundness::root_state_is_sound;
+use pid_types::config::Config;
+use pid_types::plain::{Life, Plain};
+use std::alloc::{AllocError, Global};
+use std::marker::Model;
+use store_view::laws;
+use task_store::TaskStore;
+use task_tree::Task;
+use translate::shown;
+
+/// The process table: what it holds, and that this is sound.
+#[derive(Drop)]
+pub struct TaskTable {
+    store: TaskStore,
+}
+
+impl Model for TaskTable {
+    ghost use Rattle.pid_types.specs.State.{State};
+    ghost use Rattle.store_view.specs.View.{state_of};
+    ghost use Rattle.store_view.specs.Whole.{IsWhole};
+
+    ghost Value = { State };
+
+    ghost view = { λ t. state_of t.store };
+
+    ghost invariant = { λ t. IsWhole t.store };
+}
+
+/// The root init begins in a bare store. The error is want of memory.
+fn begin_root_init(store: &mut TaskStore) -> Result<(), AllocError>
+    requires { IsBare store.old }
+    ensures state { OnOk result (state_of store.new ≡ root_state store.old.numbering.pid_max) }
+    ensures whole { OnOk result (IsWhole store.new) }
+{
+    laws(store);
+    root_state_is_sound();
+    let Ok(numbers) = store.numbers().plan(0) else {
+        unreachable!()
+    };
+    let Some(home) = store.controls().find(0) else {
+        unreachable!()
+    };
+    let task = Task {
+        children_space: 0,
+        home,
+        executed: false,
+        subreaper: false,
+        life: Life::Live,
+    };
+    store.fork(None, 0, &numbers, task)?;
+    laws(store);
+    Ok(())
+}
+
+impl TaskTable {
+    /// A table with the root init, the root namespace and the root control group alone. The error is want of memory.
+    pub fn new(alloc: Global, config: &Config) -> Result<TaskTable, AllocError>
+        ensures { IfOk result (λ table. table ≡ root_state config.now.pid_max) }
+    {
+        let mut store = TaskStore::new(alloc, config.pid_max())?;
+        begin_root_init(&mut store)?;
+        Ok(TaskTable { store })
+    }
+
+    /// How many tasks there are, ended ones too. It costs a logarithm of the control groups.
+    pub fn tasks(&self) -> usize
+        ensures { result ≡ length self.now.rows }
+    {
+        laws(&self.store);
+        let Some(root) = self.store.controls().find(0) else {
+            unreachable!()
+        };
+        self.store.controls().count(root) as usize
+    }
+
+    /// How many control groups there are, the root group too. It costs one read.
+    pub fn controls(&self) -> usize
+        ensures { result ≡ length self.now.controls }
+    {
+        self.store.controls().len()
+    }
+
+    /// The plain state, with the count of each control group: [`shown::snapshot`]. The error is want of memory.
+    pub fn snapshot(&self) -> Result<Plain, AllocError>
+        ensures { IfOk result (Shows self.now) }
+    {
+        shown::snapshot(&self.store)
+    }
+}

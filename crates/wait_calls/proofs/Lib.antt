@@ -1,0 +1,4 @@
+pub mod Least
+pub mod Told
+pub mod Gone
+pub mod Reaped

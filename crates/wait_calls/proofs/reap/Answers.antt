@@ -1,0 +1,21 @@
+use Rattle.std.proofs.Common.{rules, sym}
+use Rattle.wait_calls.proofs.Gone.{IsGone, reaped, parents-left}
+use Rattle.wait_calls.proofs.reap.Goals as goal
+
+pub returns-in-Zombie : goal.returns-in-Zombie
+returns-in-Zombie c =
+    let old = c.args.store.now in
+    let new = c.remove.new.self in
+    let g : IsGone old new c.args.child c.args.task = record {
+      tasks = c.remove.ensures.tasks;
+      parent = c.remove.ensures.parent;
+      parents = c.remove.ensures.parents;
+      members = c.remove.ensures.members;
+      home = c.remove.ensures.home;
+      numbers = c.remove.ensures.numbers;
+    } in
+    record {
+      state = sym (reaped old new c.laws.ensures c.laws-2.ensures c.requires.whole c.args.child c.args.task c.requires.there c.requires.ended g);
+      ended = search rules;
+      parents = parents-left old new c.laws.ensures c.laws-2.ensures c.requires.whole c.args.child c.args.task c.requires.there c.requires.ended g;
+    }

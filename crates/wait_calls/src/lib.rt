@@ -1,0 +1,92 @@
+//! Waits over a store, told in the model's words: `waitpid(2)` with `WNOHANG`.
+#![tactic(auto)]
+
+ghost use Rattle.std.specs.Prelude.{◌≡◌, Some, IsSome, MatchOption, false};
+ghost use Rattle.pid_types.specs.Outcome.{sweep};
+ghost use Rattle.pid_types.specs.Wait.{end_of, without_row, wait as wait_of};
+ghost use Rattle.task_tree.specs.declared.Task.{Task};
+ghost use Rattle.task_tree.specs.Tree.{task_at, lives};
+ghost use Rattle.store_view.specs.View.{row_of, state_of};
+ghost use Rattle.store_view.specs.Whole.{HasParents, IsWhole};
+ghost use Rattle.wait_calls.specs.Told.{Means, IsUnknown, IsTold};
+
+use pid_types::call::Which;
+use pid_types::plain::{Ended, Life};
+use pid_types::reply::{Refusal, Reply};
+use store_view::{find_live, laws, own_space};
+use task_store::TaskStore;
+use task_tree::Task;
+use task_waits::{Choice, Selected, choose};
+
+/// By which key the wait selects; none where it names a number that nobody has in the caller's namespace.
+fn selected(store: &TaskStore, caller: u32, space: u32, which: Which) -> Option<Selected>
+    requires { IsSome (task_at store.now.tree caller) }
+    ensures { MatchOption result (IsUnknown store.now space which) (λ selected. Means store.now caller space which selected) }
+{
+    store.bounds();
+    match which {
+        Which::Any => Some(Selected::Any),
+        Which::Pid(number) => store.numbers().find(space, number).map(Selected::Task),
+        Which::OwnGroup => Some(Selected::Group(store.members().group(caller))),
+        Which::Group(number) => store.numbers().find(space, number).map(Selected::Group),
+    }
+}
+
+/// Whom the caller's wait reaps.
+fn choose_child(store: &TaskStore, caller: u32, which: Which) -> Choice
+    requires parents { HasParents store.now }
+    requires caller { IsSome (task_at store.now.tree caller) }
+    ensures { (t : Task) → task_at store.now.tree caller ≡ Some t → IsTold store.now (row_of store.now caller t) which result }
+{
+    laws(store);
+    store.tree().bounds();
+    let space = own_space(store, caller);
+    let Some(selected) = selected(store, caller, space, which) else {
+        return Choice::NoChild;
+    };
+    choose(store, caller, selected)
+}
+
+/// A zombie is gone, and how it ended is answered.
+#[tactic(auto, unfolding(pid_types::specs::Wait::without_row))]
+fn reap(store: &mut TaskStore, child: u32, task: Task) -> Ended
+    requires whole { IsWhole store.old }
+    requires there { task_at store.old.tree child ≡ Some task }
+    requires ended { lives task ≡ false }
+    ensures state { state_of store.new ≡ sweep (without_row (state_of store.old) (row_of store.old child task)) }
+    ensures ended { result ≡ end_of (row_of store.old child task) }
+    ensures parents { HasParents store.new }
+{
+    laws(store);
+    store.remove(child, task);
+    laws(store);
+    match task.life {
+        // Asked of no live task. The model's definition answers so, and this is that definition.
+        Life::Live => Ended::Killed,
+        Life::Zombie(ended) => ended,
+    }
+}
+
+/// `waitpid(2)` with `WNOHANG`: reaps the selected child with the least number that has ended.
+#[tactic(auto, unfolding(pid_types::specs::Wait::wait))]
+pub fn wait(store: &mut TaskStore, caller: u32, which: Which) -> Reply
+    requires { IsWhole store.old }
+    ensures state { state_of store.new ≡ (wait_of (state_of store.old) caller which).state }
+    ensures reply { result ≡ (wait_of (state_of store.old) caller which).reply }
+    ensures parents { HasParents store.new }
+{
+    let Some(found) = find_live(store, caller) else {
+        return Reply::Refused(Refusal::NoCaller);
+    };
+    match choose_child(store, found.key, which) {
+        Choice::NoChild => Reply::Refused(Refusal::NoChild),
+        Choice::NoneEnded => Reply::NoneYet,
+        Choice::Ended { child, rank } => {
+            let Some(task) = store.tree().task(child) else {
+                unreachable!();
+            };
+            let ended = reap(store, child, task);
+            Reply::Reaped { child: rank, ended }
+        }
+    }
+}
