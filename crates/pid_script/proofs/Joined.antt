@@ -1,16 +1,18 @@
 -- Numbers with a byte between them.
-use Rattle.std.proofs.Common.{◌≡◌, ℕ, ◌+◌, ◌<◌, List, [], ◌∷◌, ◌++◌, length, get_or, take, decimal, refl, sym, ap, ◌∙◌, append_assoc}
-use Rattle.std.proofs.lemmas.List.{take_more}
+use Rattle.std.proofs.Common.{◌≡◌, ℕ, ◌-◌, ◌≤◌, List, [], ◌∷◌, ◌++◌, length, take, drop, decimal, get_or, sym, ap, ◌∙◌, append-nil, arith}
+use Rattle.std.specs.List.{flat_map}
+use Rattle.std.proofs.lemmas.List.{take_all}
 use Rattle.pid_script.specs.Answers.{joined}
 
-joined-push : (separator x : ℕ) (xs : List ℕ) (y : ℕ) → joined separator (x ∷ (xs ++ y ∷ [])) ≡ joined separator (x ∷ xs) ++ (separator ∷ decimal y)
-joined-push separator x [] y = refl
-joined-push separator x (z ∷ zs) y =
-    ap (λ rest. decimal x ++ separator ∷ rest) (joined-push separator z zs y)
-    ∙ sym (append_assoc (decimal x) (separator ∷ joined separator (z ∷ zs)) (separator ∷ decimal y))
+-- the first number, and the byte before each of the others
+joined_first : (separator x : ℕ) (xs : List ℕ) → joined separator (x ∷ xs) ≡ decimal x ++ flat_map (λ n. separator ∷ decimal n) xs
+joined_first separator x [] = sym (append-nil (decimal x))
+joined_first separator x (y ∷ ys) = ap (λ rest. decimal x ++ separator ∷ rest) (joined_first separator y ys)
 
--- one number more
-pub joined-more : (separator x : ℕ) (xs : List ℕ) (i : ℕ) → i < length xs
-    → joined separator (x ∷ take (i + 1) xs) ≡ joined separator (x ∷ take i xs) ++ (separator ∷ decimal (get_or xs i 0))
-joined-more separator x xs i lt =
-    ap (λ ys. joined separator (x ∷ ys)) (take_more xs i 0 lt) ∙ joined-push separator x (take i xs) (get_or xs i 0)
+-- the same, of a slice in two parts
+pub joined_parts : (separator : ℕ) (xs : List ℕ) → 1 ≤ length xs
+    → joined separator xs ≡ decimal (get_or xs 0 0) ++ flat_map (λ n. separator ∷ decimal n) (take (length xs - 1) (drop 1 xs))
+joined_parts separator [] some = absurd (omega (arith, some))
+joined_parts separator (x ∷ xs) some =
+    joined_first separator x xs
+    ∙ ap (λ rest. decimal x ++ flat_map (λ n. separator ∷ decimal n) rest) (sym (take_all (length (x ∷ xs) - 1) xs (omega arith)))

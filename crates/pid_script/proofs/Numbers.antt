@@ -1,18 +1,20 @@
 -- Numbers, and the words that they are written as.
-use Rattle.std.proofs.Common.{◌≡◌, ◌≢◌, ℕ, ◌+◌, ◌^◌, ◌<◌, ◌≤◌, Bool, true, false, cond, ◌&&◌, eqb, ltb, List, [], ◌∷◌, length, get_or, Option, Some, None, Result, Ok, Err, OkIff, decimal, refl, sym, ap, ◌∙◌, subst, arith, bytes_eq, MatchResult, IsUtf8, lt-ltb, ltb-true, zero, suc, lit<, lit≤, drop, ℤ, pos, neg_ℤ, ◌-ℤ◌, FitsSigned, SomeIff, option_map, eq-eqb, eqb-true, ⊎_elim}
+use Rattle.std.proofs.Common.{◌≡◌, ◌≢◌, ℕ, ◌+◌, ◌*◌, ◌^◌, ◌<◌, ◌≤◌, Bool, true, false, cond, ◌&&◌, eqb, ltb, List, [], ◌∷◌, length, get_or, Option, Some, None, IfSome, IfNone, Result, Ok, Err, OkIff, decimal, refl, sym, ap, ◌∙◌, subst, arith, bytes_eq, lt-ltb, ltb-true, zero, suc, lit<, lit≤, take, drop, ℤ, pos, neg_ℤ, ◌-ℤ◌, FitsSigned, SomeIff, option_map, eq-eqb, eqb-true, ⊎_elim}
 use Rattle.std.specs.Result.{result_ok}
 use Rattle.std.specs.Int.{w32}
 use Rattle.std.specs.Fmt.{signed_decimal}
+use Rattle.std.specs.Char.{digit_value}
 use lib.IntN.{negsuc, +ℤ_idl}
 use Rattle.std.proofs.lemmas.Bool.{cases_lt}
 use Rattle.std.proofs.lemmas.Bool.Decides.{nat_tests}
-use Rattle.std.specs.Str.Parse.{AllDigits, digits_value, ParsesUnsigned}
+use Rattle.std.specs.Str.Parse.{AllDigits, digits_value}
 use Rattle.std.proofs.lemmas.Slice.Eq.{bytes_eq-Decides}
-use Rattle.std.proofs.lemmas.Str.Parse.{IsNumeralModel, numerals_by_value, tells_digits, parse_plain, not_in_digits}
-use Rattle.std.proofs.lemmas.Str.{IsUtf8-from_ascii}
+use Rattle.std.proofs.lemmas.Str.Parse.{IsNumeralModel, numerals_by_value, tells_digits, not_in_digits, digit_from_value, digits_value-take-le}
+use Rattle.std.proofs.lemmas.Int.Digits.{digits_value_more}
+use Rattle.std.proofs.lemmas.Str.{digit_value_digit}
 use Rattle.std.proofs.lemmas.Option.{none-some, same_Some, option_and_then_some}
 use Rattle.pid_script.proofs.Cuts.{option_map_some}
-use Rattle.std.proofs.lemmas.Fmt.{digits_decimal, digits_value-decimal, decimal-digits_value, decimal_nonempty, first_decimal, decimal_digit, IsAscii-decimal}
+use Rattle.std.proofs.lemmas.Fmt.{digits_decimal, digits_value-decimal, decimal-digits_value, decimal_nonempty, first_decimal, decimal_digit}
 use Rattle.pid_script.specs.Reading.{IsPlain, number_below, negative_of, signed_of}
 
 -- std's words for digits and their value
@@ -58,34 +60,37 @@ pub number_below-not_plain : (word : List ℕ) → (IsPlain word → ⊥) → nu
 number_below-not_plain word not_plain =
     number_below-None (2 ^ 64) word (λ n below is. not_plain (subst IsPlain is (plain_decimal n below)))
 
--- nor does one that is no text
-pub number_below-not_text : (word : List ℕ) → (IsUtf8 word → ⊥) → number_below (2 ^ 64) word ≡ None
-number_below-not_text word not_text =
-    number_below-None (2 ^ 64) word (λ n below is. not_text (subst IsUtf8 is (IsUtf8-from_ascii _ (IsAscii-decimal n below))))
+-- the value of a digit
+pub ruleset digit = (digit_value_digit, digit_from_value)
 
--- std reads what a plain word says
-pub number_below-parsed : (E : Type 0) (word : List ℕ) (r : Result ℕ E) → IsPlain word → ParsesUnsigned 64 10 word r → result_ok r ≡ number_below (2 ^ 64) word
-number_below-parsed E word (Ok n) plain parses =
-    let read = parse_plain numerals {E = E} 64 word (Ok n) parses plain.1 in
-    let small : n < 2 ^ 64 = subst (λ m. m < 2 ^ 64) (sym read.1) read.0.2 in
-    let written = decimal-digits_value numerals word read.0.0 plain.0 plain.2 read.0.2 in
-    sym (subst (λ w. number_below (2 ^ 64) w ≡ Some n) written (subst (λ m. number_below (2 ^ 64) (decimal m) ≡ Some n) read.1 (number_below-decimal (2 ^ 64) n small small)))
-number_below-parsed E word (Err e) plain parses =
-    let read = parse_plain numerals 64 word (Err e) parses plain.1 in
-    sym (number_below-None (2 ^ 64) word (λ n below is. read (
-      subst (AllDigits 10) is (digits_decimal numerals n below),
-      subst (λ w. 0 < length w) is (decimal_nonempty n below),
-      subst (λ w. digits_value 10 w < 2 ^ 64) is (subst (λ m. m < 2 ^ 64) (sym (digits_value-decimal numerals n below)) below),
-    )))
+-- a plain word of digits says what they write
+pub number_below-digits : (word : List ℕ) (n : ℕ) → IsPlain word → AllDigits 10 word → n ≡ digits_value 10 word → n < 2 ^ 64 → Some n ≡ number_below (2 ^ 64) word
+number_below-digits word n plain digits is small =
+    let written = decimal-digits_value numerals word digits plain.0 plain.2 (subst (λ m. m < 2 ^ 64) is small) in
+    sym (subst (λ w. number_below (2 ^ 64) w ≡ Some n) written (subst (λ m. number_below (2 ^ 64) (decimal m) ≡ Some n) is (number_below-decimal (2 ^ 64) n small small)))
 
--- what a `Result` holds, from the `Option` that `ok` makes of it
-pub err_part : (T E : Type 0) (r : Result T E) (P : T → Type 0) (Q : E → Type 0) → None ≡ result_ok r → MatchResult r P Q → (e : E) × Q e
-err_part T E (Ok x) P Q none h = absurd (none-some x none)
-err_part T E (Err e) P Q none h = (e, h)
+-- a word with another byte, or of too great a number, says none
+pub number_below-no_digits : (word : List ℕ) → (AllDigits 10 word → digits_value 10 word < 2 ^ 64 → ⊥) → None ≡ number_below (2 ^ 64) word
+number_below-no_digits word refused =
+    sym (number_below-None (2 ^ 64) word (λ n below is. refused (subst (AllDigits 10) is (digits_decimal numerals n below))
+    (subst (λ w. digits_value 10 w < 2 ^ 64) is (subst (λ m. m < 2 ^ 64) (sym (digits_value-decimal numerals n below)) below))))
 
-pub ok_part : (T E : Type 0) (r : Result T E) (P : T → Type 0) (Q : E → Type 0) (x : T) → Some x ≡ result_ok r → MatchResult r P Q → P x
-ok_part T E (Ok y) P Q x some h = subst P (sym (same_Some x y some)) h
-ok_part T E (Err e) P Q x some h = absurd (none-some x (sym some))
+digit_at : (ds : List ℕ) (i : ℕ) → i < length ds → AllDigits 10 ds → digit_value (get_or ds i 0) < 10
+digit_at [] i lt digits = absurd (omega (arith, lt))
+digit_at (d ∷ ds) zero lt digits = digits.0
+digit_at (d ∷ ds) (suc i) lt digits = digit_at ds i (omega (arith, lt)) digits.1
+
+-- a byte that is no digit, or one too many, stands for the whole word
+pub digits_stop : (word : List ℕ) (i n : ℕ) → i < length word → n ≡ digits_value 10 (take i word)
+    → (digit_value (get_or word i 0) < 10 → n * 10 + digit_value (get_or word i 0) < 2 ^ 64 → ⊥) → AllDigits 10 word → digits_value 10 word < 2 ^ 64 → ⊥
+digits_stop word i n lt is refused digits small =
+    refused (digit_at word i lt digits) (omega (arith, is, small, digits_value_more 10 word i lt, digits_value-take-le 10 word (i + 1) (lit≤ tt)))
+
+-- what is read of a plain word
+pub read_plain : (word : List ℕ) (r : Option ℕ) → IsPlain word → IfSome r (λ n. AllDigits 10 word × (n ≡ digits_value 10 word))
+    → IfNone r (AllDigits 10 word → digits_value 10 word < 2 ^ 64 → ⊥) → IfSome r (λ n. n < 2 ^ 64) → r ≡ number_below (2 ^ 64) word
+read_plain word (Some n) plain some none small = number_below-digits word n plain some.0 some.1 small
+read_plain word None plain some none small = number_below-no_digits word none
 
 -- two bounds, of which the second is no larger
 module _ (wide bound : ℕ) (word : List ℕ) (fits : wide ≤ 2 ^ 64) (le : bound ≤ wide) where

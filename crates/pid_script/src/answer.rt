@@ -1,7 +1,8 @@
 //! Replies to answers: [`answer_text`] is the table of all answers. A text is at most 362 bytes and
 //! held in place, so nothing here takes memory or fails.
-ghost use Rattle.std.specs.Prelude.{◌≡◌, ◌+◌, ◌≤◌, ◌++◌, length, codes, decimal};
-ghost use Rattle.pid_script.specs.Answers.{joined, refused_by, refusal_text, ended_text, reply_text, fault_text, answer_of};
+ghost use Rattle.std.specs.Prelude.{◌≡◌, ◌+◌, ◌*◌, ◌≤◌, ◌++◌, ◌∷◌, length, codes, decimal};
+ghost use Rattle.std.specs.List.{flat_map};
+ghost use Rattle.pid_script.specs.Answers.{joined, refused_by, refusal_text, ended_text, reply_text, answer_of};
 
 use arrayvec::ArrayVec;
 use itoa::Buffer;
@@ -12,8 +13,8 @@ use pid_types::reply::{CallFault, Refusal, Reply};
 /// The length of the longest answer: 33 numbers of ten digits, and a space between.
 pub const LONGEST_ANSWER: usize = 362;
 
-fn push_bytes(text: &mut ArrayVec<u8, LONGEST_ANSWER>, bytes: &[u8])
-    requires { length text.old.items + length bytes.now ≤ 362 }
+fn push_bytes<const N: usize>(text: &mut ArrayVec<u8, N>, bytes: &[u8])
+    requires { length text.old.items + length bytes.now ≤ N }
     ensures items { text.new.items ≡ text.old.items ++ bytes.now }
     ensures len { length text.new.items ≡ length text.old.items + length bytes.now }
 {
@@ -21,8 +22,8 @@ fn push_bytes(text: &mut ArrayVec<u8, LONGEST_ANSWER>, bytes: &[u8])
 }
 
 #[tactic(auto, using(crate::proofs::Room::room))]
-fn push_number(text: &mut ArrayVec<u8, LONGEST_ANSWER>, number: u64)
-    requires { length text.old.items + length (decimal number) ≤ 362 }
+fn push_number<const N: usize>(text: &mut ArrayVec<u8, N>, number: u64)
+    requires { length text.old.items + length (decimal number) ≤ N }
     ensures items { text.new.items ≡ text.old.items ++ decimal number }
     ensures len { length text.new.items ≡ length text.old.items + length (decimal number) }
 {
@@ -32,75 +33,98 @@ fn push_number(text: &mut ArrayVec<u8, LONGEST_ANSWER>, number: u64)
 
 /// The label, and the number behind it.
 #[tactic(auto, using(crate::proofs::Room::room))]
-fn labelled(label: &[u8], number: u64) -> ArrayVec<u8, LONGEST_ANSWER>
-    requires { length label.now ≤ 30 }
-    ensures items { result.items ≡ label.now ++ decimal number }
-    ensures short { length result.items ≤ length label.now + 20 }
+fn push_labelled<const N: usize>(text: &mut ArrayVec<u8, N>, label: &[u8], number: u64)
+    requires { length text.old.items + length label.now + 20 ≤ N }
+    ensures items { text.new.items ≡ text.old.items ++ label.now ++ decimal number }
+    ensures len { length text.new.items ≤ length text.old.items + length label.now + 20 }
 {
-    let mut text = ArrayVec::new();
-    push_bytes(&mut text, label);
-    push_number(&mut text, number);
-    text
-}
-
-fn words(bytes: &[u8]) -> ArrayVec<u8, LONGEST_ANSWER>
-    requires { length bytes.now ≤ 30 }
-    ensures { result.items ≡ bytes.now }
-{
-    let mut text = ArrayVec::new();
-    push_bytes(&mut text, bytes);
-    text
+    push_bytes(text, label);
+    push_number(text, number);
 }
 
 /// The id behind its space, where the refusal names what refused.
-#[tactic(auto, using(crate::proofs::Room::room))]
-fn push_id(text: &mut ArrayVec<u8, LONGEST_ANSWER>, refusal: Refusal)
-    requires { length text.old.items ≤ 30 }
-    ensures { text.new.items ≡ text.old.items ++ refused_by refusal }
+fn push_id<const N: usize>(text: &mut ArrayVec<u8, N>, refusal: Refusal)
+    requires { length text.old.items + 21 ≤ N }
+    ensures items { text.new.items ≡ text.old.items ++ refused_by refusal }
+    ensures len { length text.new.items ≤ length text.old.items + 21 }
 {
     if let Refusal::NoNumber(id) | Refusal::PidsLimit(id) = refusal {
-        push_bytes(text, b" ");
-        push_number(text, id);
+        push_labelled(text, b" ", id);
     }
 }
 
-fn refusal_text(refusal: Refusal) -> ArrayVec<u8, LONGEST_ANSWER>
-    ensures { result.items ≡ refusal_text refusal }
+fn push_refusal<const N: usize>(text: &mut ArrayVec<u8, N>, refusal: Refusal)
+    requires { length text.old.items + 362 ≤ N }
+    ensures items { text.new.items ≡ text.old.items ++ refusal_text refusal }
+    ensures len { length text.new.items ≤ length text.old.items + 362 }
 {
-    let mut text = words(refusal.error().name());
-    push_bytes(&mut text, b" ");
-    push_bytes(&mut text, refusal.word());
-    push_id(&mut text, refusal);
-    text
+    push_bytes(text, refusal.error().name());
+    push_bytes(text, b" ");
+    push_bytes(text, refusal.word());
+    push_id(text, refusal);
 }
 
-#[tactic(auto, using(crate::proofs::Room::room))]
-fn forked_text(child: u32, root: u32) -> ArrayVec<u8, LONGEST_ANSWER>
-    ensures { result.items ≡ codes "child " ++ decimal child ++ codes " root " ++ decimal root }
+fn push_forked<const N: usize>(text: &mut ArrayVec<u8, N>, child: u32, root: u32)
+    requires { length text.old.items + 362 ≤ N }
+    ensures items { text.new.items ≡ text.old.items ++ codes "child " ++ decimal child ++ codes " root " ++ decimal root }
+    ensures len { length text.new.items ≤ length text.old.items + 362 }
 {
-    let mut text = labelled(b"child ", u64::from(child));
-    push_bytes(&mut text, b" root ");
-    push_number(&mut text, u64::from(root));
-    text
+    push_labelled(text, b"child ", u64::from(child));
+    push_labelled(text, b" root ", u64::from(root));
 }
 
-#[tactic(auto, using(crate::proofs::Room::room))]
-fn reaped_text(child: u32, ended: Ended) -> ArrayVec<u8, LONGEST_ANSWER>
-    ensures { result.items ≡ codes "reaped " ++ decimal child ++ ended_text ended }
+fn push_reaped<const N: usize>(text: &mut ArrayVec<u8, N>, child: u32, ended: Ended)
+    requires { length text.old.items + 362 ≤ N }
+    ensures items { text.new.items ≡ text.old.items ++ codes "reaped " ++ decimal child ++ ended_text ended }
+    ensures len { length text.new.items ≤ length text.old.items + 362 }
 {
-    let mut text = labelled(b"reaped ", u64::from(child));
+    push_labelled(text, b"reaped ", u64::from(child));
     match ended {
-        Ended::Exited(status) => {
-            push_bytes(&mut text, b" exit ");
-            push_number(&mut text, u64::from(status));
-        }
-        Ended::Killed => push_bytes(&mut text, b" killed"),
+        Ended::Exited(status) => push_labelled(text, b" exit ", u64::from(status)),
+        Ended::Killed => push_bytes(text, b" killed"),
     }
-    text
+}
+
+/// The byte, and the number behind it.
+#[tactic(auto, using(crate::proofs::Room::room))]
+fn push_behind<const N: usize>(text: &mut ArrayVec<u8, N>, separator: u8, number: u32)
+    requires { length text.old.items + 11 ≤ N }
+    ensures items { text.new.items ≡ text.old.items ++ separator ∷ decimal number }
+    ensures len { length text.new.items ≤ length text.old.items + 11 }
+{
+    text.push(separator);
+    push_number(text, u64::from(number));
+}
+
+/// The numbers in order, with the byte before each.
+fn push_rest<const N: usize>(text: &mut ArrayVec<u8, N>, separator: u8, numbers: &[u32])
+    requires { length text.old.items + 11 * length numbers.now ≤ N }
+    ensures items { text.new.items ≡ text.old.items ++ flat_map (λ n. separator ∷ decimal n) numbers.now }
+    ensures len { length text.new.items ≤ length text.old.items + 11 * length numbers.now }
+{
+    for number in numbers {
+        push_behind(text, separator, *number);
+    }
 }
 
 /// The numbers in order, with the byte between them.
 #[tactic(auto, using(crate::proofs::Room::room))]
+fn push_joined<const N: usize>(
+    text: &mut ArrayVec<u8, N>,
+    separator: u8,
+    numbers: &ArrayVec<u32, LEVELS>,
+)
+    requires { length text.old.items + 362 ≤ N }
+    ensures items { text.new.items ≡ text.old.items ++ joined separator numbers.now.items }
+    ensures len { length text.new.items ≤ length text.old.items + 362 }
+{
+    if let [first, rest @ ..] = numbers.as_slice() {
+        push_number(text, u64::from(*first));
+        push_rest(text, separator, rest);
+    }
+}
+
+/// The numbers in order, with the byte between them.
 pub fn joined_numbers(
     numbers: &ArrayVec<u32, LEVELS>,
     separator: u8,
@@ -108,31 +132,40 @@ pub fn joined_numbers(
     ensures { result.items ≡ joined separator numbers.now.items }
 {
     let mut text = ArrayVec::new();
-    if let [first, rest @ ..] = numbers.as_slice() {
-        push_number(&mut text, u64::from(*first));
-        for number in rest {
-            push_bytes(&mut text, &[separator]);
-            push_number(&mut text, u64::from(*number));
-        }
-    }
+    push_joined(&mut text, separator, numbers);
     text
 }
 
-#[tactic(auto, unfolding(crate::specs::Answers::reply_text))]
-fn reply_text(reply: &Reply) -> ArrayVec<u8, LONGEST_ANSWER>
-    ensures { result.items ≡ reply_text reply.now }
+#[tactic(auto, unfolding(crate::specs::Answers::reply_text), using(crate::proofs::Room::room))]
+fn push_reply<const N: usize>(text: &mut ArrayVec<u8, N>, reply: &Reply)
+    requires { length text.old.items + 362 ≤ N }
+    ensures items { text.new.items ≡ text.old.items ++ reply_text reply.now }
+    ensures len { length text.new.items ≤ length text.old.items + 362 }
 {
     match reply {
-        Reply::Forked { child, root } => forked_text(*child, *root),
-        Reply::Done => words(b"ok"),
-        Reply::Number(number) => labelled(b"", u64::from(*number)),
-        Reply::Levels(numbers) => joined_numbers(numbers, b' '),
-        Reply::Reaped { child, ended } => reaped_text(*child, *ended),
-        Reply::NoneYet => words(b"none"),
-        Reply::Counted(count) => labelled(b"", *count),
-        Reply::Control(id) => labelled(b"control ", *id),
-        Reply::End => words(b"end"),
-        Reply::Refused(refusal) => refusal_text(*refusal),
+        Reply::Forked { child, root } => push_forked(text, *child, *root),
+        Reply::Done => push_bytes(text, b"ok"),
+        Reply::Number(number) => push_number(text, u64::from(*number)),
+        Reply::Levels(numbers) => push_joined(text, b' ', numbers),
+        Reply::Reaped { child, ended } => push_reaped(text, *child, *ended),
+        Reply::NoneYet => push_bytes(text, b"none"),
+        Reply::Counted(count) => push_number(text, *count),
+        Reply::Control(id) => push_labelled(text, b"control ", *id),
+        Reply::End => push_bytes(text, b"end"),
+        Reply::Refused(refusal) => push_refusal(text, *refusal),
+    }
+}
+
+/// Appends the answer to a call, without its newline, as [`answer_text`] says it.
+pub fn push_answer<const N: usize>(text: &mut ArrayVec<u8, N>, answer: &Result<Receipt, CallFault>)
+    requires { length text.old.items + 362 ≤ N }
+    ensures items { text.new.items ≡ text.old.items ++ answer_of answer.now }
+    ensures len { length text.new.items ≤ length text.old.items + 362 }
+{
+    match answer {
+        Ok(receipt) => push_reply(text, &receipt.reply),
+        Err(CallFault::NoMemory) => push_bytes(text, b"no memory"),
+        Err(CallFault::Spent) => push_bytes(text, b"spent"),
     }
 }
 
@@ -156,9 +189,7 @@ fn reply_text(reply: &Reply) -> ArrayVec<u8, LONGEST_ANSWER>
 pub fn answer_text(answer: &Result<Receipt, CallFault>) -> ArrayVec<u8, LONGEST_ANSWER>
     ensures { result.items ≡ answer_of answer.now }
 {
-    match answer {
-        Ok(receipt) => reply_text(&receipt.reply),
-        Err(CallFault::NoMemory) => words(b"no memory"),
-        Err(CallFault::Spent) => words(b"spent"),
-    }
+    let mut text = ArrayVec::new();
+    push_answer(&mut text, answer);
+    text
 }

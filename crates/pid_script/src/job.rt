@@ -99,7 +99,7 @@ impl Job {
         if self.part.is_empty() {
             return Ok(());
         }
-        let line = self.part.finish(b"");
+        let line = self.part.finish_kept(b"");
         self.push(line)
     }
 }

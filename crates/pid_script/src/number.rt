@@ -1,8 +1,8 @@
 //! Numbers as scripts write them: decimal digits without a leading zero.
-ghost use Rattle.std.specs.Prelude.{◌≡◌, ◌^◌, ◌↔◌, IsTrue};
+ghost use Rattle.std.specs.Prelude.{◌≡◌, ◌+◌, ◌*◌, ◌^◌, ◌<◌, ◌↔◌, IsTrue, IfSome, IfNone};
+ghost use Rattle.std.specs.Char.{digit_value};
+ghost use Rattle.std.specs.Str.Parse.{AllDigits, digits_value};
 ghost use Rattle.pid_script.specs.Reading.{IsPlain, number_below, negative_of, signed_of};
-
-use std::str;
 
 /// Whether the word begins with no plus sign and no leading zero, both of which std reads.
 fn is_plain(word: &[u8]) -> bool
@@ -15,6 +15,32 @@ fn is_plain(word: &[u8]) -> bool
     }
 }
 
+/// The number with the digit behind it, where the byte is a digit and the number one below 2^64.
+#[tactic(auto, using(crate::proofs::Numbers::digit))]
+fn with_digit(number: u64, byte: u8) -> Option<u64>
+    ensures some { IfSome result (λ n. (digit_value byte < 10) × (n ≡ number * 10 + digit_value byte)) }
+    ensures none { IfNone result (digit_value byte < 10 → number * 10 + digit_value byte < 2 ^ 64 → ⊥) }
+    ensures small { IfSome result (λ n. n < 2 ^ 64) }
+{
+    if !byte.is_ascii_digit() {
+        return None;
+    }
+    number.checked_mul(10)?.checked_add(u64::from(byte - b'0'))
+}
+
+/// The number that the digits write, where they are digits and it is one below 2^64.
+fn read_digits(word: &[u8]) -> Option<u64>
+    ensures some { IfSome result (λ n. AllDigits 10 word.now × (n ≡ digits_value 10 word.now)) }
+    ensures none { IfNone result (AllDigits 10 word.now → digits_value 10 word.now < 2 ^ 64 → ⊥) }
+    ensures small { IfSome result (λ n. n < 2 ^ 64) }
+{
+    let mut number = 0_u64;
+    for byte in word {
+        number = with_digit(number, *byte)?;
+    }
+    Some(number)
+}
+
 /// The number of a word, where it is one below 2^64.
 pub fn read_u64(word: &[u8]) -> Option<u64>
     ensures { result ≡ number_below (2 ^ 64) word.now }
@@ -22,7 +48,7 @@ pub fn read_u64(word: &[u8]) -> Option<u64>
     if !is_plain(word) {
         return None;
     }
-    str::from_utf8(word).ok()?.parse().ok()
+    read_digits(word)
 }
 
 /// The number of a word, where it is one below 2^32.

@@ -3,10 +3,14 @@ ghost use Rattle.std.specs.Prelude.{◌≡◌, ◌<◌, ◌≤◌, ◌++◌, [],
 ghost use Rattle.std.specs.Io.KnownBytes.{Appends};
 ghost use Rattle.pid_script.specs.declared.tally.RunScriptFault.TheVariants.{Write};
 ghost use Rattle.pid_script.specs.Script.{with_newline, HasStopped};
+ghost use Rattle.pid_script.specs.Answers.{answer_of};
 
+use crate::answer::{LONGEST_ANSWER, push_answer};
 use crate::tally::RunScriptFault;
 use arrayvec::ArrayVec;
 use pid_types::device::Sink;
+use pid_types::entry::Receipt;
+use pid_types::reply::CallFault;
 use std::marker::Model;
 
 /// How many bytes wait at most.
@@ -78,6 +82,25 @@ impl Outbox {
             self.flush(sink)?;
         }
         self.held.try_extend_from_slice(line).unwrap();
+        self.held.push(b'\n');
+        Ok(())
+    }
+
+    /// Holds the answer and its newline, and makes room for the longest answer first.
+    pub fn push_answer<K: Sink>(
+        &mut self,
+        sink: &mut K,
+        answer: &Result<Receipt, CallFault>,
+    ) -> Result<(), RunScriptFault>
+        ensures ok { OnOk result ((sent : List ℕ) × Appends (K.contents sink.old) (K.contents sink.new) sent × (self.old ++ with_newline (answer_of answer.now) ≡ sent ++ self.new)) }
+        ensures err { OnErr result ((sent left : List ℕ) × Appends (K.contents sink.old) (K.contents sink.new) sent × (self.old ++ with_newline (answer_of answer.now) ≡ sent ++ left) × (0 < length left)) }
+        ensures fault { IfErr result (λ e. e ≡ Write) }
+        ensures stopped { OnErr result (HasStopped (K.has_failed sink.new) (K.is_full sink.new)) }
+    {
+        if self.held.remaining_capacity() <= LONGEST_ANSWER {
+            self.flush(sink)?;
+        }
+        push_answer(&mut self.held, answer);
         self.held.push(b'\n');
         Ok(())
     }

@@ -66,6 +66,20 @@ impl PartLine {
         parse_line(self.kept.as_slice())
     }
 
+    /// The same of a line of which something has come.
+    #[tactic(auto, using(crate::proofs::Kept::said_by_kept))]
+    pub fn finish_kept(&mut self, end: &[u8]) -> Line
+        ensures value { result ≡ said_by (kept_more self.old end.now) }
+        ensures line { (part : List ℕ) → self.old ≡ kept_line part → result ≡ parsed (part ++ end.now) }
+        ensures next { self.new ≡ Some [] }
+    {
+        self.push(end);
+        let line = self.said();
+        self.kept.clear();
+        self.is_long = false;
+        line
+    }
+
     /// Ends the line with these bytes, and says what it says. The next line begins.
     #[tactic(auto, using(crate::proofs::Kept::said_by_kept))]
     pub fn finish(&mut self, end: &[u8]) -> Line
@@ -73,12 +87,11 @@ impl PartLine {
         ensures line { (part : List ℕ) → self.old ≡ kept_line part → result ≡ parsed (part ++ end.now) }
         ensures next { self.new ≡ Some [] }
     {
+        // Most lines come whole, and are read where they stand.
         if self.is_empty() {
-            return parse_line(end);
+            parse_line(end)
+        } else {
+            self.finish_kept(end)
         }
-        self.push(end);
-        let line = self.said();
-        *self = PartLine::new();
-        line
     }
 }

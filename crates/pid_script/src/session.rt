@@ -1,14 +1,15 @@
 //! Scripts answered line by line: [`run_script`], over any [`Table`], source and sink. A session
 //! holds one line that has not ended and at most 8,192 bytes of answers; it takes no memory of its
 //! own.
-ghost use Rattle.std.specs.Prelude.{◌≡◌, ◌≢◌, Some, ◌+◌, ◌^◌, ◌<◌, ◌≤◌, ◌++◌, ◌∷◌, [], List, ℕ, length, OnOk, OnErr, IfOk, IfErr, Err};
+ghost use Rattle.std.specs.Prelude.{◌≡◌, ◌≢◌, Some, ◌+◌, ◌^◌, ◌<◌, ◌≤◌, ◌++◌, ◌∷◌, [], List, ℕ, length, OnOk, OnErr, IfOk, IfErr, Err, IsTrue, if◌then◌else◌};
+ghost use Rattle.std.specs.Result.{is_ok};
+ghost use Rattle.std.specs.Io.KnownBytes.{Appends};
 ghost use Rattle.pid_types.specs.State.{State};
 ghost use Rattle.pid_script.specs.declared.tally.RunScriptFault.TheVariants.{NoMemory, Write};
 ghost use Rattle.pid_script.specs.Script.{begun, with_newline, HasStopped, said_within, kept_after, last_said};
 ghost use Rattle.pid_script.specs.Answers.{answer_of};
 ghost use Rattle.pid_script.specs.Session.{Acts, Leads, progress_of, Answers, StopsShort, IsTallied, Finishes, Leaves};
 
-use crate::answer::answer_text;
 use crate::bytes::split_at_first;
 use crate::line::Line;
 use crate::outbox::Outbox;
@@ -32,6 +33,12 @@ pub trait Table {
     /// Makes the call. After a fault the table is as it was.
     fn act(&mut self, call: Call) -> Result<Receipt, CallFault>
         ensures { Acts (state self.old) (stamp self.old) call result (state self.new) (stamp self.new) };
+
+    /// Makes room after a call that found no memory, if it can, and says whether the call may be made
+    /// once more. The table stays as it is.
+    fn make_room(&mut self) -> bool
+        ensures state { state self.new ≡ state self.old }
+        ensures stamp { stamp self.new ≡ stamp self.old };
 }
 
 /// A script on its way: the line that has not ended, the answers that are not written, and the
@@ -43,21 +50,99 @@ pub struct Session {
     pub tally: Tally,
 }
 
-/// Makes a call, and counts it.
-fn make_call<T: Table>(table: &mut T, tally: &mut Tally, call: Call) -> Result<Receipt, CallFault>
+/// Counts a call.
+fn count_call(tally: &mut Tally, is_recorded: bool)
     requires counted { IsTallied tally.old }
     requires room { tally.old.lines + 1 < 2 ^ 64 }
-    ensures leads { Leads (T.state table.old) (T.stamp table.old) tally.old (Line.Call call) (with_newline (answer_of result))
-        (T.state table.new) (T.stamp table.new) tally.new }
-    ensures counted { IsTallied tally.new }
     ensures lines { tally.new.lines ≡ tally.old.lines + 1 }
+    ensures recorded { tally.new.recorded ≡ (if is_recorded then tally.old.recorded + 1 else tally.old.recorded) }
+    ensures bad { tally.new.bad ≡ tally.old.bad }
+    ensures counted { IsTallied tally.new }
 {
-    let answer = table.act(call);
     tally.lines += 1;
-    if answer.is_ok() {
+    if is_recorded {
         tally.recorded += 1;
     }
-    answer
+}
+
+/// Counts a call, and answers it.
+fn tell_answer<K: Sink>(
+    session: &mut Session,
+    sink: &mut K,
+    answer: &Result<Receipt, CallFault>,
+) -> Result<(), RunScriptFault>
+    requires counted { IsTallied session.old.tally }
+    requires room { session.old.tally.lines + 1 < 2 ^ 64 }
+    ensures ok { OnOk result ((sent : List ℕ) × Appends (K.contents sink.old) (K.contents sink.new) sent × (session.old.outbox ++ with_newline (answer_of answer.now) ≡ sent ++ session.new.outbox)) }
+    ensures err { OnErr result ((sent left : List ℕ) × Appends (K.contents sink.old) (K.contents sink.new) sent × (session.old.outbox ++ with_newline (answer_of answer.now) ≡ sent ++ left) × (0 < length left)) }
+    ensures fault { IfErr result (λ e. e ≡ Write) }
+    ensures stopped { OnErr result (HasStopped (K.has_failed sink.new) (K.is_full sink.new)) }
+    ensures part { session.new.part ≡ session.old.part }
+    ensures counted { IsTallied session.new.tally }
+    ensures lines { session.new.tally.lines ≡ session.old.tally.lines + 1 }
+    ensures recorded { session.new.tally.recorded ≡ (if is_ok answer.now then session.old.tally.recorded + 1 else session.old.tally.recorded) }
+    ensures bad { session.new.tally.bad ≡ session.old.tally.bad }
+{
+    count_call(&mut session.tally, answer.is_ok());
+    session.outbox.push_answer(sink, answer)
+}
+
+/// Makes a call once, and answers it.
+fn answer_once<T: Table, K: Sink>(
+    session: &mut Session,
+    table: &mut T,
+    sink: &mut K,
+    call: Call,
+) -> Result<(), RunScriptFault>
+    requires counted { IsTallied session.old.tally }
+    requires room { session.old.tally.lines + 1 < 2 ^ 64 }
+    ensures ok { OnOk result (Answers (progress_of (T.state table.old) (T.stamp table.old) session.old.tally session.old.outbox)
+        (progress_of (T.state table.new) (T.stamp table.new) session.new.tally session.new.outbox)
+        (K.contents sink.old) (K.contents sink.new) (Line.Call call ∷ [])) }
+    ensures err { OnErr result (StopsShort (progress_of (T.state table.old) (T.stamp table.old) session.old.tally session.old.outbox)
+        (K.contents sink.old) (K.contents sink.new) (Line.Call call ∷ [])) }
+    ensures fault { IfErr result (λ e. e ≡ Write) }
+    ensures stopped { OnErr result (HasStopped (K.has_failed sink.new) (K.is_full sink.new)) }
+    ensures part { session.new.part ≡ session.old.part }
+    ensures counted { IsTallied session.new.tally }
+    ensures lines { session.new.tally.lines ≡ session.old.tally.lines + 1 }
+{
+    let answer = table.act(call);
+    tell_answer(session, sink, &answer)
+}
+
+/// Whether a call found no memory.
+fn is_starved(answer: &Result<Receipt, CallFault>) -> bool
+    ensures { IsTrue result → answer.now ≡ Err CallFault.NoMemory }
+{
+    matches!(answer, Err(CallFault::NoMemory))
+}
+
+/// Makes a call, once more where it found no memory and the table has made room, and answers it.
+fn answer_call<T: Table, K: Sink>(
+    session: &mut Session,
+    table: &mut T,
+    sink: &mut K,
+    call: Call,
+) -> Result<(), RunScriptFault>
+    requires counted { IsTallied session.old.tally }
+    requires room { session.old.tally.lines + 1 < 2 ^ 64 }
+    ensures ok { OnOk result (Answers (progress_of (T.state table.old) (T.stamp table.old) session.old.tally session.old.outbox)
+        (progress_of (T.state table.new) (T.stamp table.new) session.new.tally session.new.outbox)
+        (K.contents sink.old) (K.contents sink.new) (Line.Call call ∷ [])) }
+    ensures err { OnErr result (StopsShort (progress_of (T.state table.old) (T.stamp table.old) session.old.tally session.old.outbox)
+        (K.contents sink.old) (K.contents sink.new) (Line.Call call ∷ [])) }
+    ensures fault { IfErr result (λ e. e ≡ Write) }
+    ensures stopped { OnErr result (HasStopped (K.has_failed sink.new) (K.is_full sink.new)) }
+    ensures part { session.new.part ≡ session.old.part }
+    ensures counted { IsTallied session.new.tally }
+    ensures lines { session.new.tally.lines ≡ session.old.tally.lines + 1 }
+{
+    let first = table.act(call);
+    if is_starved(&first) && table.make_room() {
+        return answer_once(session, table, sink, call);
+    }
+    tell_answer(session, sink, &first)
 }
 
 /// Answers a line.
@@ -85,11 +170,7 @@ fn answer_line<T: Table, K: Sink>(
             session.tally.lines += 1;
             Ok(())
         }
-        Line::Call(call) => {
-            let answer = make_call(table, &mut session.tally, call);
-            let text = answer_text(&answer);
-            session.outbox.push_line(sink, text.as_slice())
-        }
+        Line::Call(call) => answer_call(session, table, sink, call),
         Line::Bad => {
             session.tally.lines += 1;
             session.tally.bad += 1;
@@ -147,7 +228,7 @@ fn answer_last<T: Table, K: Sink>(
     if session.part.is_empty() {
         return Ok(());
     }
-    let line = session.part.finish(b"");
+    let line = session.part.finish_kept(b"");
     answer_line(session, table, sink, line)
 }
 
@@ -193,10 +274,11 @@ impl Session {
 /// Reads a script to its end, and writes the answer to each line.
 ///
 /// A line ends at a newline; what follows the last newline is a line if it has a byte. An empty
-/// line is answered with nothing, a call with [`answer_text`], and each other line, also one of
-/// more than [`crate::part::LONGEST_LINE`] bytes, with `bad line`. The answers of all lines that
-/// have ended are written before the next read. A read asks for at most 4096 bytes, and there are
-/// at most `turns`.
+/// line is answered with nothing, a call with [`crate::answer::answer_text`], and each other line,
+/// also one of more than [`crate::part::LONGEST_LINE`] bytes, with `bad line`. A call that found no
+/// memory is made once more where [`Table::make_room`] says so. The answers of all lines that have
+/// ended are written before the next read. A read asks for at most 4096 bytes, and there are at most
+/// `turns`.
 ///
 /// `Read` comes where the source has failed, `Write` where the sink has failed or took nothing of a
 /// write, and `TooManyTurns` where the source did not end within the bound on reads; what is

@@ -45,4 +45,8 @@ impl<L: Ledger> Table for OneSeat<L> {
     fn act(&mut self, call: Call) -> Result<Receipt, CallFault> {
         self.record.act(&mut self.seat, call)
     }
+
+    fn make_room(&mut self) -> bool {
+        false
+    }
 }

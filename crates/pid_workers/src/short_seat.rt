@@ -65,9 +65,10 @@ impl<L: Ledger> Table for ShortSeat<L> {
         if is_long(&self.inner.record) {
             self.cut_history();
         }
-        match self.inner.act(call) {
-            Err(CallFault::NoMemory) if self.cut_history() => self.inner.act(call),
-            answer => answer,
-        }
+        self.inner.act(call)
+    }
+
+    fn make_room(&mut self) -> bool {
+        self.cut_history()
     }
 }

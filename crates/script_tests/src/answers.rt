@@ -6,6 +6,7 @@ use pid_types::call::Call;
 use pid_types::entry::Receipt;
 use pid_types::plain::Ended;
 use pid_types::reply::{CallFault, Refusal, Reply};
+use std::process::Abort;
 
 fn text_of(reply: Reply) -> ArrayVec<u8, LONGEST_ANSWER> {
     answer_text(&Ok(Receipt {
@@ -14,6 +15,14 @@ fn text_of(reply: Reply) -> ArrayVec<u8, LONGEST_ANSWER> {
         call: Call::GetPid { caller: 1 },
         reply,
     }))
+}
+
+fn expect_text(rt: &impl Abort, reply: Reply, text: &[u8]) {
+    assert_eq!(rt; text_of(reply).as_slice(), text);
+}
+
+fn expect_fault(rt: &impl Abort, fault: CallFault, text: &[u8]) {
+    assert_eq!(rt; answer_text(&Err(fault)).as_slice(), text);
 }
 
 fn reaped(child: u32, ended: Ended) -> Reply {
@@ -37,15 +46,10 @@ fn writes_each_answer(rt: HostRuntime) {
         (Reply::End, b"end"),
     ];
     for (reply, text) in replies {
-        assert_eq!(rt; text_of(reply).as_slice(), text);
+        expect_text(&rt, reply, text);
     }
-    let faults: [(CallFault, &[u8]); 2] = [
-        (CallFault::NoMemory, b"no memory"),
-        (CallFault::Spent, b"spent"),
-    ];
-    for (fault, text) in faults {
-        assert_eq!(rt; answer_text(&Err(fault)).as_slice(), text);
-    }
+    expect_fault(&rt, CallFault::NoMemory, b"no memory");
+    expect_fault(&rt, CallFault::Spent, b"spent");
 }
 
 #[test]
@@ -72,7 +76,7 @@ fn writes_each_refusal(rt: HostRuntime) {
         (Refusal::ControlDepth, b"EAGAIN control-depth"),
     ];
     for (refusal, text) in refusals {
-        assert_eq!(rt; text_of(Reply::Refused(refusal)).as_slice(), text);
+        expect_text(&rt, Reply::Refused(refusal), text);
     }
 }
 

@@ -6,6 +6,7 @@ use pid_script::job::{JobFault, MOST_JOB_BYTES, read_job};
 use pid_types::call::Call;
 use pid_types::device::{DeviceFault, FromReader, Source};
 use std::alloc::Global;
+use std::process::Abort;
 use std::test::Fail;
 
 /// A source that gives its bytes and then fails.
@@ -42,10 +43,18 @@ fn count_calls(alloc: Global, bytes: &[u8]) -> Result<usize, JobFault> {
     Ok(calls.len())
 }
 
+fn expect_count(rt: &(impl AllocGlobal + Abort), bytes: &[u8], count: Result<usize, JobFault>) {
+    assert_eq!(rt; count_calls(rt.alloc(), bytes), count);
+}
+
+/// The calls of a job without fault, of which the callers know nothing more.
+fn calls_of(rt: &(impl AllocGlobal + Abort), bytes: &[u8]) -> Vec<Call> {
+    read_job(rt.alloc(), &mut FromReader::new(bytes)).expect(rt, "a fault")
+}
+
 #[test]
-fn reads_calls_in_order(rt: HostRuntime) -> Result<(), Fail> {
-    let bytes: &[u8] = b"\nfork 1 new\n\nexit 2 7\ngetpid 1";
-    let calls = read_job(rt.alloc(), &mut FromReader::new(bytes))?;
+fn reads_calls_in_order(rt: HostRuntime) {
+    let calls = calls_of(&rt, b"\nfork 1 new\n\nexit 2 7\ngetpid 1");
     let expected = [
         Call::Fork {
             caller: 1,
@@ -58,7 +67,12 @@ fn reads_calls_in_order(rt: HostRuntime) -> Result<(), Fail> {
         Call::GetPid { caller: 1 },
     ];
     assert_eq!(rt; calls.as_slice(), expected.as_slice());
-    Ok(())
+}
+
+/// Asserts that the job is not read where its source fails.
+fn expect_read_fault(rt: &(impl AllocGlobal + Abort), source: &mut Broken) {
+    let fault = read_job(rt.alloc(), source).err();
+    assert_eq!(rt; fault, Some(JobFault::Read));
 }
 
 #[test]
@@ -75,40 +89,33 @@ fn names_the_first_fault(rt: HostRuntime) {
         (&[b'a'; 201], Err(JobFault::BadLine(1))),
     ];
     for (bytes, expected) in jobs {
-        assert_eq!(rt; count_calls(rt.alloc(), bytes), expected, "{bytes:?}");
+        expect_count(&rt, bytes, expected);
     }
     let mut source = Broken {
         left: b"fork 1\nfork",
         failed: false,
     };
-    assert_eq!(rt;
-        read_job(rt.alloc(), &mut source).err(),
-        Some(JobFault::Read)
-    );
+    expect_read_fault(&rt, &mut source);
     assert!(rt; source.failed());
+}
+
+/// So many bytes, all the same.
+fn repeated(rt: &(impl AllocGlobal + Abort), byte: u8, count: usize) -> Vec<u8> {
+    vec![in rt.alloc(); byte; count].expect(rt, "no memory")
 }
 
 #[test]
 fn takes_so_many_bytes(rt: HostRuntime) -> Result<(), Fail> {
     let mut bytes = vec![in rt.alloc(); b'\n'; MOST_JOB_BYTES]?;
-    assert_eq!(rt; count_calls(rt.alloc(), bytes.as_slice()), Ok(0));
+    expect_count(&rt, bytes.as_slice(), Ok(0));
     bytes[MOST_JOB_BYTES - 1] = b'a';
     let last = JobFault::BadLine(1_048_576);
-    assert_eq!(rt; count_calls(rt.alloc(), bytes.as_slice()), Err(last));
+    expect_count(&rt, bytes.as_slice(), Err(last));
     bytes.push(b'\n')?;
-    assert_eq!(rt;
-        count_calls(rt.alloc(), bytes.as_slice()),
-        Err(JobFault::TooLong)
-    );
-    let newlines = vec![in rt.alloc(); b'\n'; MOST_JOB_BYTES + 1]?;
-    assert_eq!(rt;
-        count_calls(rt.alloc(), newlines.as_slice()),
-        Err(JobFault::TooLong)
-    );
-    let letters = vec![in rt.alloc(); b'a'; MOST_JOB_BYTES + 1]?;
-    assert_eq!(rt;
-        count_calls(rt.alloc(), letters.as_slice()),
-        Err(JobFault::TooLong)
-    );
+    expect_count(&rt, bytes.as_slice(), Err(JobFault::TooLong));
+    let newlines = repeated(&rt, b'\n', MOST_JOB_BYTES + 1);
+    expect_count(&rt, newlines.as_slice(), Err(JobFault::TooLong));
+    let letters = repeated(&rt, b'a', MOST_JOB_BYTES + 1);
+    expect_count(&rt, letters.as_slice(), Err(JobFault::TooLong));
     Ok(())
 }

@@ -2,6 +2,11 @@
 
 use pid_script::line::{Line, parse_line};
 use pid_types::call::{Call, Kind, Which};
+use std::process::Abort;
+
+fn expect_line(rt: &impl Abort, text: &[u8], line: Line) {
+    assert_eq!(rt; parse_line(text), line, "{text:?}");
+}
 
 fn fork(caller: u32, new_space: bool) -> Call {
     Call::Fork { caller, new_space }
@@ -53,9 +58,9 @@ fn reads_calls_of_processes(rt: HostRuntime) {
         ),
     ];
     for (line, call) in lines {
-        assert_eq!(rt; parse_line(line), Line::Call(call));
+        expect_line(&rt, line, Line::Call(call));
     }
-    assert_eq!(rt; parse_line(b""), Line::Empty);
+    expect_line(&rt, b"", Line::Empty);
 }
 
 #[test]
@@ -94,7 +99,7 @@ fn reads_queries_and_control_calls(rt: HostRuntime) {
         (b"count 1", Call::Count { id: 1 }),
     ];
     for (line, call) in lines {
-        assert_eq!(rt; parse_line(line), Line::Call(call));
+        expect_line(&rt, line, Line::Call(call));
     }
 }
 
@@ -124,6 +129,6 @@ fn refuses_other_forms(rt: HostRuntime) {
         &[b'a'; 201],
     ];
     for line in lines {
-        assert_eq!(rt; parse_line(line), Line::Bad, "{line:?}");
+        expect_line(&rt, line, Line::Bad);
     }
 }

@@ -19,31 +19,70 @@ const FORK: Call = Call::Fork {
 
 /// Makes a call, of which the callers know nothing more.
 fn receipt_for<L: Ledger>(
+    rt: &impl Abort,
     record: &mut Record<L, 2>,
     seat: &mut Seat<L, 2>,
     call: Call,
-) -> Result<Receipt, Fail> {
-    Ok(record.act(seat, call)?)
+) -> Receipt {
+    record.act(seat, call).expect(rt, "no receipt")
 }
 
-/// A record with one call of each worker, and a checkpoint between them; and their receipts.
-fn two_calls<L: Ledger>(
+/// Cuts what was recorded away.
+fn cut<L: Ledger>(rt: &impl Abort, record: &mut Record<L, 2>) {
+    record.checkpoint().expect(rt, "no checkpoint");
+}
+
+/// One call of each worker, and a checkpoint between them; their receipts.
+fn call_twice<L: Ledger>(
+    rt: &impl Abort,
+    record: &mut Record<L, 2>,
+    seats: &mut [Seat<L, 2>],
+) -> (Receipt, Receipt) {
+    assert_eq!(rt; seats.len(), 2);
+    let first = receipt_for(rt, record, &mut seats[0], FORK);
+    cut(rt, record);
+    let second = receipt_for(rt, record, &mut seats[1], Call::GetPid { caller: 2 });
+    (first, second)
+}
+
+/// What a record has after them.
+fn expect_cut<L: Ledger>(rt: &impl Abort, kept: &Record<L, 2>) {
+    assert_eq!(rt; kept.total(), 2);
+    assert_eq!(rt; kept.first_kept(), 1);
+    assert_eq!(rt; kept.recorded(0), 1);
+    assert_eq!(rt; kept.recorded(1), 1);
+    assert!(rt; kept.entry(0).is_none());
+}
+
+/// What the audit of the receipts of both workers finds.
+fn expect_audit<L: Ledger>(
+    rt: &impl Abort,
+    kept: &Record<L, 2>,
+    works: &[Work; 2],
+    found: Result<(), Audit>,
+) {
+    assert_eq!(rt; audit(kept, works), found);
+}
+
+/// The audits of both receipts, of the second alone, and of the first alone.
+fn audit_receipts<L: Ledger>(
     rt: &impl Abort,
     alloc: Global,
-    blank: Blank,
-) -> Result<(Record<L, 2>, Receipt, Receipt), Fail>
-    requires name { blank.name ≡ L.name }
-    requires parts { blank.parts ≡ L.parts }
-    requires two { blank.parts ≡ 2 }
-{
-    let config = Config::default_values();
-    let (mut record, mut seats) = Record::<L, 2>::new(alloc, blank, &config)?;
-    assert_eq!(rt; seats.len(), 2);
-    let first = receipt_for(&mut record, &mut seats[0], FORK)?;
-    record.checkpoint()?;
-    let query = Call::GetPid { caller: 2 };
-    let second = receipt_for(&mut record, &mut seats[1], query)?;
-    Ok((record, first, second))
+    kept: &Record<L, 2>,
+    receipts: (Receipt, Receipt),
+) {
+    let (first, second) = receipts;
+    let whole = [of(rt, alloc, &first), of(rt, alloc, &second)];
+    expect_audit(rt, kept, &whole, Ok(()));
+    // The first receipt is of an entry that was cut away.
+    let cut = [none(alloc), of(rt, alloc, &second)];
+    expect_audit(rt, kept, &cut, Ok(()));
+    let short = [of(rt, alloc, &first), none(alloc)];
+    let fault = Audit {
+        worker: 1,
+        place: 0,
+    };
+    expect_audit(rt, kept, &short, Err(fault));
 }
 
 fn audit_after_checkpoint<L: Ledger>(
@@ -55,36 +94,23 @@ fn audit_after_checkpoint<L: Ledger>(
     requires parts { blank.parts ≡ L.parts }
     requires two { blank.parts ≡ 2 }
 {
-    let (kept, first, second) = two_calls::<L>(rt, alloc, blank)?;
-    assert_eq!(rt; kept.total(), 2);
-    assert_eq!(rt; kept.first_kept(), 1);
-    assert_eq!(rt; kept.recorded(0), 1);
-    assert_eq!(rt; kept.recorded(1), 1);
-    assert!(rt; kept.entry(0).is_none());
-    let whole = [of(alloc, first.clone()?)?, of(alloc, second.clone()?)?];
-    assert!(rt; audit(&kept, &whole).is_ok());
-    let cut = [none(alloc), of(alloc, second)?];
-    assert!(rt;
-        audit(&kept, &cut).is_ok(),
-        "the first receipt is of an entry that was cut away"
-    );
-    let short = [of(alloc, first)?, none(alloc)];
-    let fault = Audit {
-        worker: 1,
-        place: 0,
-    };
-    assert_eq!(rt; audit(&kept, &short), Err(fault));
+    let config = Config::default_values();
+    let (mut record, mut seats) = Record::<L, 2>::new(alloc, blank, &config)?;
+    let receipts = call_twice(rt, &mut record, &mut seats);
+    expect_cut(rt, &record);
+    audit_receipts(rt, alloc, &record, receipts);
     Ok(())
 }
 
 /// A work with one receipt.
-fn of(alloc: Global, receipt: Receipt) -> Result<Work, Fail> {
+fn of(rt: &impl Abort, alloc: Global, receipt: &Receipt) -> Work {
     let mut receipts = Vec::new(alloc);
-    receipts.push(receipt)?;
-    Ok(Work {
+    let same = receipt.clone().expect(rt, "no memory");
+    receipts.push(same).expect(rt, "no memory");
+    Work {
         receipts,
         refused: 0,
-    })
+    }
 }
 
 /// A work with no receipt.

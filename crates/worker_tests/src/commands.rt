@@ -3,6 +3,7 @@
 use crate::words::owned;
 use pid_commands::{Fault, Status, run_words, write_fault_line};
 use std::io::{ErrorKind, Read, Write};
+use std::process::Abort;
 use std::rt::Files;
 use std::sync::Wait;
 use std::test::Fail;
@@ -34,11 +35,16 @@ fn writes_each_fault_line(rt: HostRuntime) -> Result<(), Fail> {
         ),
     ];
     for (fault, line) in lines {
-        let mut text = Vec::new(rt.alloc());
-        write_fault_line(&mut text, &fault)?;
-        assert_eq!(rt; text.as_slice(), line.as_bytes());
+        expect_line(&rt, &fault, line);
     }
     Ok(())
+}
+
+/// Asserts what the line of the fault is.
+fn expect_line(rt: &(impl AllocGlobal + Abort), fault: &Fault, line: &str) {
+    let mut text = Vec::new(rt.alloc());
+    write_fault_line(&mut text, fault).expect(rt, "not written");
+    assert_eq!(rt; text.as_slice(), line.as_bytes());
 }
 
 /// A writer with room for so many bytes, which fails once it is full.
@@ -64,19 +70,36 @@ impl Write for Paper {
     }
 }
 
+/// Runs the words; the status and what is written of a fault.
+fn status_of<R: Files + Threads + Wait + Clock + Sync + AllocGlobal, I: Read + Drop, W: Write>(
+    rt: &R,
+    words: &[String],
+    input: I,
+    writer: &mut W,
+) -> (Status, Vec<u8>) {
+    let mut errors = Vec::new(rt.alloc());
+    let status = run_words(rt, words, input, writer, &mut errors);
+    (status, errors)
+}
+
+/// Asserts that a run failed, and what is written of it.
+fn assert_failed(rt: &impl Abort, told: &(Status, Vec<u8>), line: &[u8]) {
+    assert_eq!(rt; told.0, Status::Failed);
+    assert_eq!(rt; told.1.as_slice(), line);
+}
+
 /// Runs two job files as the program does, of which the first makes a fork and the second no call.
 /// The first is written to `file`. It gives the status and what is written of a fault.
-fn work_two<R: Files + Threads + Wait + Clock + Sync + AllocGlobal, W: Write>(
+fn work_two<R: Files + Threads + Wait + Clock + Sync + AllocGlobal + Abort, W: Write>(
     rt: &R,
     file: &str,
     writer: &mut W,
-) -> Result<(Status, Vec<u8>), Fail> {
-    fs::write(rt, file, b"fork 1\n")?;
-    let words = owned(rt.alloc(), &["work", file, "/dev/null"])?;
-    let mut errors = Vec::new(rt.alloc());
-    let status = run_words(rt, &words, b"".as_slice(), writer, &mut errors);
-    fs::remove_file(rt, file)?;
-    Ok((status, errors))
+) -> (Status, Vec<u8>) {
+    fs::write(rt, file, b"fork 1\n").expect(rt, "no file");
+    let words = owned(rt.alloc(), &["work", file, "/dev/null"]).expect(rt, "no memory");
+    let told = status_of(rt, &words, b"".as_slice(), writer);
+    fs::remove_file(rt, file).expect(rt, "no file");
+    told
 }
 
 const TWO_FILES: &str = "worker 0
@@ -91,28 +114,31 @@ control 0 parent - limit max count 2
 ";
 
 #[test]
-fn shows_two_workers(rt: HostRuntime) -> Result<(), Fail> {
+fn shows_two_workers(rt: HostRuntime) {
     let mut text = Vec::new(rt.alloc());
-    let (status, errors) = work_two(&rt, "shown.script", &mut text)?;
+    let (status, errors) = work_two(&rt, "shown.script", &mut text);
     assert_eq!(rt; status, Status::Done);
     assert!(rt; errors.is_empty());
     assert_eq!(rt; text.as_slice(), TWO_FILES.as_bytes());
-    Ok(())
+}
+
+/// Runs two job files where the writer has room for so many bytes.
+fn stop_after<R: Files + Threads + Wait + Clock + Sync + AllocGlobal + Abort>(rt: &R, room: usize) {
+    assert!(rt; room < TWO_FILES.len());
+    let mut paper = Paper {
+        held: Vec::new(rt.alloc()),
+        room,
+    };
+    let told = work_two(rt, "stopped.script", &mut paper);
+    assert_failed(rt, &told, b"pidtab: write fault\n");
+    assert_eq!(rt; paper.held.as_slice(), &TWO_FILES.as_bytes()[..room]);
 }
 
 #[test]
-fn stops_at_a_writer_that_fails(rt: HostRuntime) -> Result<(), Fail> {
+fn stops_at_a_writer_that_fails(rt: HostRuntime) {
     for room in [0, 8, 20, 60, TWO_FILES.len() - 1] {
-        let mut paper = Paper {
-            held: Vec::new(rt.alloc()),
-            room,
-        };
-        let (status, errors) = work_two(&rt, "stopped.script", &mut paper)?;
-        assert_eq!(rt; status, Status::Failed);
-        assert_eq!(rt; errors.as_slice(), b"pidtab: write fault\n".as_slice());
-        assert_eq!(rt; paper.held.as_slice(), &TWO_FILES.as_bytes()[..room]);
+        stop_after(&rt, room);
     }
-    Ok(())
 }
 
 /// A reader that fails at once.
@@ -125,24 +151,26 @@ impl Read for Broken {
     }
 }
 
+/// Runs the command with a reader that fails, and then with a writer that does.
+fn tell_faults<R: Files + Threads + Wait + Clock + Sync + AllocGlobal + Abort>(
+    rt: &R,
+    command: &str,
+) {
+    let words = owned(rt.alloc(), &[command]).expect(rt, "no memory");
+    let mut paper = Paper {
+        held: Vec::new(rt.alloc()),
+        room: 5,
+    };
+    let told = status_of(rt, &words, Broken, &mut paper);
+    assert_failed(rt, &told, b"pidtab: read fault\n");
+    assert!(rt; paper.held.is_empty());
+    let told = status_of(rt, &words, b"fork 1\n".as_slice(), &mut paper);
+    assert_failed(rt, &told, b"pidtab: write fault\n");
+}
+
 #[test]
-fn tells_faults_of_devices(rt: HostRuntime) -> Result<(), Fail> {
+fn tells_faults_of_devices(rt: HostRuntime) {
     for command in ["run", "list"] {
-        let words = owned(rt.alloc(), &[command])?;
-        let mut paper = Paper {
-            held: Vec::new(rt.alloc()),
-            room: 5,
-        };
-        let mut errors = Vec::new(rt.alloc());
-        let status = run_words(&rt, &words, Broken, &mut paper, &mut errors);
-        assert_eq!(rt; status, Status::Failed);
-        assert_eq!(rt; errors.as_slice(), b"pidtab: read fault\n".as_slice());
-        assert!(rt; paper.held.is_empty());
-        errors.clear();
-        let script = b"fork 1\n".as_slice();
-        let status = run_words(&rt, &words, script, &mut paper, &mut errors);
-        assert_eq!(rt; status, Status::Failed);
-        assert_eq!(rt; errors.as_slice(), b"pidtab: write fault\n".as_slice());
+        tell_faults(&rt, command);
     }
-    Ok(())
 }

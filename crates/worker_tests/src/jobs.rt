@@ -44,14 +44,14 @@ fn run_two<L: Ledger + Send + Sync, G: Gate + Sync, R: Threads + Wait + Clock + 
     config: &Config,
     jobs: &[Vec<Call>],
     gate: &G,
-) -> Result<Ran, Fail>
+) -> Ran
     requires name { blank.name ≡ L.name }
     requires parts { blank.parts ≡ L.parts }
     requires two { blank.parts ≡ 2 }
 {
     assert_eq!(rt; jobs.len(), 2);
-    let finished = run_workers::<L, G, R, 2>(rt, alloc, blank, config, jobs, gate)?;
-    look_at(rt, alloc, finished)
+    let finished = run_workers::<L, G, R, 2>(rt, alloc, blank, config, jobs, gate);
+    look_at(rt, alloc, finished.expect(rt, "no run"))
 }
 
 /// Runs a job for each of sixteen workers.
@@ -62,14 +62,14 @@ fn run_sixteen<L: Ledger + Send + Sync, G: Gate + Sync, R: Threads + Wait + Cloc
     config: &Config,
     jobs: &[Vec<Call>],
     gate: &G,
-) -> Result<Ran, Fail>
+) -> Ran
     requires name { blank.name ≡ L.name }
     requires parts { blank.parts ≡ L.parts }
     requires sixteen { blank.parts ≡ 16 }
 {
     assert_eq!(rt; jobs.len(), 16);
-    let finished = run_workers::<L, G, R, 16>(rt, alloc, blank, config, jobs, gate)?;
-    look_at(rt, alloc, finished)
+    let finished = run_workers::<L, G, R, 16>(rt, alloc, blank, config, jobs, gate);
+    look_at(rt, alloc, finished.expect(rt, "no run"))
 }
 
 /// What the finished run leaves.
@@ -77,15 +77,15 @@ fn look_at<L: Ledger, const N: usize>(
     rt: &impl Abort,
     alloc: Global,
     finished: Finished<L, N>,
-) -> Result<Ran, Fail> {
+) -> Ran {
     let Finished { kept, works } = finished;
-    Ok(Ran {
+    Ran {
         audited: is_audited(rt, &kept, works.as_slice()),
         works,
-        recorded: recorded_of_each(alloc, &kept)?,
+        recorded: recorded_of_each(rt, alloc, &kept),
         total: total_of(&kept),
-        plain: kept.snapshot()?,
-    })
+        plain: snapshot_of(rt, &kept),
+    }
 }
 
 /// Whether the audit finds no fault.
@@ -99,14 +99,16 @@ fn is_audited<L: Ledger, const N: usize>(
 }
 
 fn recorded_of_each<L: Ledger, const N: usize>(
+    rt: &impl Abort,
     alloc: Global,
     kept: &Record<L, N>,
-) -> Result<Vec<u64>, AllocError> {
+) -> Vec<u64> {
     let mut recorded = Vec::new(alloc);
     for worker in 0..N {
-        recorded.push(recorded_of(kept, worker))?;
+        let count = recorded_of(kept, worker);
+        recorded.push(count).expect(rt, "no memory");
     }
-    Ok(recorded)
+    recorded
 }
 
 /// How many calls of the worker were recorded. The callers know nothing more of it.
@@ -119,6 +121,11 @@ fn recorded_of<L: Ledger, const N: usize>(kept: &Record<L, N>, worker: usize) ->
 /// The total, of which the callers know nothing more.
 fn total_of<L: Ledger, const N: usize>(kept: &Record<L, N>) -> u64 {
     kept.total()
+}
+
+/// The plain table, of which the callers know nothing more.
+fn snapshot_of<L: Ledger, const N: usize>(rt: &impl Abort, kept: &Record<L, N>) -> Plain {
+    kept.snapshot().expect(rt, "no memory")
 }
 
 /// Waits until the flag is up, for 5,000 milliseconds at most, and says whether it gave up.
@@ -176,11 +183,13 @@ impl Gate for TurnGate {
 }
 
 /// A fork of each, and then a look at the parent of the other's child.
-fn crossed_jobs(alloc: Global) -> Result<[Vec<Call>; 2], AllocError> {
-    Ok([
-        vec![in alloc; FORK, Call::GetPpid { caller: 3 }]?,
-        vec![in alloc; FORK, Call::GetPpid { caller: 2 }]?,
-    ])
+fn crossed_jobs(rt: &impl Abort, alloc: Global) -> [Vec<Call>; 2] {
+    let first = vec![in alloc; FORK, Call::GetPpid { caller: 3 }];
+    let second = vec![in alloc; FORK, Call::GetPpid { caller: 2 }];
+    [
+        first.expect(rt, "no memory"),
+        second.expect(rt, "no memory"),
+    ]
 }
 
 fn assert_forked(rt: &impl Abort, work: &Work, ordinal: u64, child: u32) {
@@ -196,14 +205,18 @@ fn assert_reply(rt: &impl Abort, receipt: &Receipt, reply: Reply) {
 }
 
 #[test]
-fn two_run_at_once(rt: HostRuntime) -> Result<(), Fail> {
-    let jobs = crossed_jobs(rt.alloc())?;
+fn two_run_at_once(rt: HostRuntime) {
+    let jobs = crossed_jobs(&rt, rt.alloc());
     let gate = TurnGate::new();
     let config = Config::default_values();
-    let ran = run_two::<Brand, _, _>(&rt, rt.alloc(), Blank::new(2), &config, &jobs, &gate)?;
-    assert!(rt; !gate.gave_up.load(Ordering::SeqCst), "a wait gave up");
+    let ran = run_two::<Brand, _, _>(&rt, rt.alloc(), Blank::new(2), &config, &jobs, &gate);
+    assert_met(&rt, &gate.gave_up);
     assert_took_turns(&rt, &ran);
-    Ok(())
+}
+
+/// Asserts that no wait gave up.
+fn assert_met(rt: &impl Abort, gave_up: &AtomicBool) {
+    assert!(rt; !gave_up.load(Ordering::SeqCst), "a wait gave up");
 }
 
 /// Asserts that worker 1 went first.
@@ -211,9 +224,14 @@ fn assert_took_turns(rt: &impl Abort, ran: &Ran) {
     assert_eq!(rt; ran.works.len(), 2);
     assert_forked(rt, &ran.works[1], 0, 2);
     assert_forked(rt, &ran.works[0], 1, 3);
-    assert_eq!(rt; ran.recorded.as_slice(), [2, 2].as_slice());
+    assert_recorded(rt, ran, &[2, 2]);
     assert_eq!(rt; ran.total, 4);
     assert!(rt; ran.audited);
+}
+
+/// Asserts how many calls of each worker were recorded.
+fn assert_recorded(rt: &impl Abort, ran: &Ran, counts: &[u64]) {
+    assert_eq!(rt; ran.recorded.as_slice(), counts);
 }
 
 /// Holds each first call until as many are there as there are workers.
@@ -241,62 +259,96 @@ impl Gate for MeetingGate {
     fn after<R: Wait + Clock>(&self, _rt: &R, _worker: usize, _k: u64) {}
 }
 
-/// The root numbers of all forks, in rising order.
-fn forked(alloc: Global, works: &[Work]) -> Result<Vec<u32>, AllocError> {
-    let mut roots = Vec::new(alloc);
-    for work in works {
-        for receipt in &work.receipts {
-            if let Reply::Forked { root, .. } = receipt.reply {
-                roots.push(root)?;
-            }
+/// Adds the root number of each fork among the receipts.
+fn add_roots(rt: &impl Abort, roots: &mut Vec<u32>, receipts: &[Receipt]) {
+    for receipt in receipts {
+        if let Reply::Forked { root, .. } = receipt.reply {
+            roots.push(root).expect(rt, "no memory");
         }
     }
-    roots.sort()?;
-    Ok(roots)
+}
+
+/// The root numbers of all forks, in rising order.
+fn forked(rt: &impl Abort, alloc: Global, works: &[Work]) -> Vec<u32> {
+    let mut roots = Vec::new(alloc);
+    for work in works {
+        add_roots(rt, &mut roots, work.receipts.as_slice());
+    }
+    roots.sort().expect(rt, "no memory");
+    roots
+}
+
+/// Asserts that the numbers rise one by one from 2 on.
+fn assert_all_from_2(rt: &impl Abort, roots: &[u32]) {
+    for (place, root) in roots.iter().enumerate() {
+        assert_eq!(rt; *root as usize, place + 2);
+    }
+}
+
+/// How many of these receipts have the reply.
+fn count_here(receipts: &[Receipt], reply: &Reply) -> usize {
+    let mut count = 0usize;
+    for receipt in receipts {
+        if receipt.reply == *reply {
+            count = count.saturating_add(1);
+        }
+    }
+    count
 }
 
 /// How many receipts have the reply.
 fn count_replies(works: &[Work], reply: &Reply) -> usize {
     let mut count = 0usize;
     for work in works {
-        let here = work.receipts.iter().filter(|r| r.reply == *reply).count();
-        count = count.saturating_add(here);
+        count = count.saturating_add(count_here(work.receipts.as_slice(), reply));
     }
     count
 }
 
+/// Asserts that so many receipts have the reply.
+fn assert_replies(rt: &impl Abort, works: &[Work], reply: &Reply, count: usize) {
+    assert_eq!(rt; count_replies(works, reply), count);
+}
+
+/// Adds a job of so many forks.
+fn add_forks(rt: &impl Abort, alloc: Global, jobs: &mut Vec<Vec<Call>>, count: usize) {
+    let job = vec![in alloc; FORK; count].expect(rt, "no memory");
+    jobs.push(job).expect(rt, "no memory");
+}
+
 /// Twenty forks of each of sixteen workers.
-fn jobs_of_forks(alloc: Global) -> Result<Vec<Vec<Call>>, Fail> {
+fn jobs_of_forks(rt: &impl Abort, alloc: Global) -> Vec<Vec<Call>> {
     let mut jobs = Vec::new(alloc);
     for _ in 0..16u32 {
-        jobs.push(vec![in alloc; FORK; 20]?)?;
+        add_forks(rt, alloc, &mut jobs, 20);
     }
-    Ok(jobs)
+    jobs
 }
 
 #[test]
 fn sixteen_share_the_numbers(rt: HostRuntime) -> Result<(), Fail> {
-    let jobs = jobs_of_forks(rt.alloc())?;
+    let config = Config::new(301, 1)?;
+    let jobs = jobs_of_forks(&rt, rt.alloc());
     let gate = MeetingGate {
         here: AtomicU64::new(0),
         gave_up: AtomicBool::new(false),
     };
-    let config = Config::new(301, 1)?;
-    let ran = run_sixteen::<Brand, _, _>(&rt, rt.alloc(), Blank::new(16), &config, &jobs, &gate)?;
-    assert!(rt; !gate.gave_up.load(Ordering::SeqCst), "a wait gave up");
-    assert_numbers_are_given(&rt, rt.alloc(), &ran)
+    let ran = run_sixteen::<Brand, _, _>(&rt, rt.alloc(), Blank::new(16), &config, &jobs, &gate);
+    assert_met(&rt, &gate.gave_up);
+    assert_numbers_are_given(&rt, rt.alloc(), &ran);
+    Ok(())
 }
 
 /// Asserts that each of the 299 numbers was given once, and that the other forks were refused.
-fn assert_numbers_are_given(rt: &impl Abort, alloc: Global, ran: &Ran) -> Result<(), Fail> {
+fn assert_numbers_are_given(rt: &impl Abort, alloc: Global, ran: &Ran) {
     assert_eq!(rt; ran.total, 320);
-    assert_eq!(rt; ran.recorded.as_slice(), [20; 16].as_slice());
-    let roots = forked(alloc, ran.works.as_slice())?;
-    assert!(rt; roots.iter().copied().eq(2..=300));
+    assert_recorded(rt, ran, &[20; 16]);
+    let roots = forked(rt, alloc, ran.works.as_slice());
+    assert_eq!(rt; roots.len(), 299);
+    assert_all_from_2(rt, roots.as_slice());
     let full = Reply::Refused(Refusal::NoNumber(0));
-    assert_eq!(rt; count_replies(ran.works.as_slice(), &full), 21);
+    assert_replies(rt, ran.works.as_slice(), &full, 21);
     assert_eq!(rt; ran.plain.rows.len(), 300);
-    Ok(())
 }
 
 /// Holds the first call of each worker but the first until that one's third call is answered.
@@ -321,43 +373,44 @@ impl Gate for LimitGate {
 }
 
 /// A control group with a limit of nine, the root init in it, and a fork of each of sixteen workers.
-fn jobs_below_a_limit(alloc: Global) -> Result<Vec<Vec<Call>>, Fail> {
+fn jobs_below_a_limit(rt: &impl Abort, alloc: Global) -> Vec<Vec<Call>> {
     let limit = Call::SetLimit {
         id: 1,
         limit: Some(9),
     };
     let into = Call::Move { task: 1, id: 1 };
     let make = Call::MakeControl { parent: 0 };
+    let first = vec![in alloc; make, limit, into, FORK];
     let mut jobs = Vec::new(alloc);
-    jobs.push(vec![in alloc; make, limit, into, FORK]?)?;
+    jobs.push(first.expect(rt, "no memory"))
+        .expect(rt, "no memory");
     for _ in 0..15u32 {
-        jobs.push(vec![in alloc; FORK]?)?;
+        add_forks(rt, alloc, &mut jobs, 1);
     }
-    Ok(jobs)
+    jobs
 }
 
 #[test]
-fn sixteen_share_a_limit(rt: HostRuntime) -> Result<(), Fail> {
-    let jobs = jobs_below_a_limit(rt.alloc())?;
+fn sixteen_share_a_limit(rt: HostRuntime) {
+    let jobs = jobs_below_a_limit(&rt, rt.alloc());
     let gate = LimitGate {
         limited: AtomicBool::new(false),
         gave_up: AtomicBool::new(false),
     };
     let config = Config::default_values();
-    let ran = run_sixteen::<Brand, _, _>(&rt, rt.alloc(), Blank::new(16), &config, &jobs, &gate)?;
-    assert!(rt; !gate.gave_up.load(Ordering::SeqCst), "a wait gave up");
-    assert_limit_is_reached(&rt, rt.alloc(), &ran)
+    let ran = run_sixteen::<Brand, _, _>(&rt, rt.alloc(), Blank::new(16), &config, &jobs, &gate);
+    assert_met(&rt, &gate.gave_up);
+    assert_limit_is_reached(&rt, rt.alloc(), &ran);
 }
 
 /// Asserts that eight forks were made, and the other eight refused.
-fn assert_limit_is_reached(rt: &impl Abort, alloc: Global, ran: &Ran) -> Result<(), Fail> {
+fn assert_limit_is_reached(rt: &impl Abort, alloc: Global, ran: &Ran) {
     assert_eq!(rt; ran.total, 19);
-    assert_eq!(rt; forked(alloc, ran.works.as_slice())?.len(), 8);
+    assert_eq!(rt; forked(rt, alloc, ran.works.as_slice()).len(), 8);
     let limited = Reply::Refused(Refusal::PidsLimit(1));
-    assert_eq!(rt; count_replies(ran.works.as_slice(), &limited), 8);
+    assert_replies(rt, ran.works.as_slice(), &limited, 8);
     assert_eq!(rt; ran.plain.controls.len(), 2);
     assert_eq!(rt; ran.plain.controls[1].count, 9);
-    Ok(())
 }
 
 /// A desk that answers each call by its place, and the second one with want of memory. It keeps what
@@ -408,11 +461,20 @@ fn keeps_answers_in_order(rt: HostRuntime) -> Result<(), Fail> {
     };
     let calls = [FORK, Call::SetSid { caller: 2 }, Call::Exec { caller: 2 }];
     let done = work_at(&rt, rt.alloc(), &mut desk, &calls)?;
+    assert_in_order(&rt, &desk, &done);
+    Ok(())
+}
+
+/// Asserts that the first and the third call were answered, in this order.
+fn assert_in_order(rt: &impl Abort, desk: &CountingDesk, done: &Work) {
     assert_eq!(rt; desk.calls, 3);
     assert_eq!(rt; done.refused, 1);
-    assert_eq!(rt; done.receipts.as_slice(), desk.answers.as_slice());
+    assert_same(rt, done.receipts.as_slice(), desk.answers.as_slice());
     assert_eq!(rt; done.receipts.len(), 2);
     assert_eq!(rt; done.receipts[0].call, FORK);
     assert_eq!(rt; done.receipts[1].call, Call::Exec { caller: 2 });
-    Ok(())
+}
+
+fn assert_same(rt: &impl Abort, receipts: &[Receipt], answers: &[Receipt]) {
+    assert_eq!(rt; receipts, answers);
 }

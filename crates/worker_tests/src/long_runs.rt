@@ -78,11 +78,20 @@ fn run_queries<L: Ledger>(
     run::<L, Queries, Counter>(alloc, blank, &mut source, sink, &Config::default_values())
 }
 
-/// The most memory that this process has held, in KiB: `VmHWM` of `proc_pid_status(5)`.
+/// `VmHWM` of `proc_pid_status(5)`.
+fn peak_in(text: &str) -> Option<u64> {
+    for line in text.lines() {
+        if line.starts_with("VmHWM:") {
+            return line.split_whitespace().nth(1)?.parse().ok();
+        }
+    }
+    None
+}
+
+/// The most memory that this process has held, in KiB.
 fn peak_kib<R: Files + AllocGlobal>(rt: &R) -> Option<u64> {
     let text = fs::read_to_string(rt, "/proc/self/status").ok()?;
-    let line = text.lines().find(|line| line.starts_with("VmHWM:"))?;
-    line.split_whitespace().nth(1)?.parse().ok()
+    peak_in(text.as_str())
 }
 
 #[test]

@@ -7,6 +7,7 @@ use pid_types::device::{DeviceFault, Sink, Source};
 use pid_workers::{RunScriptFault, Tally, run_limited};
 use std::alloc::Global;
 use std::marker::Brand;
+use std::process::Abort;
 use std::sync::ledger::{Blank, Ledger};
 use std::test::Fail;
 
@@ -121,9 +122,28 @@ fn run_here(
     run_branded::<Brand, _, _>(alloc, Blank::new(1), source, sink, config, turns)
 }
 
+/// Runs a script in at most so many turns, and asserts what comes of it and what was written.
+fn expect_run(
+    rt: &(impl AllocGlobal + Abort),
+    source: &mut Pieces,
+    sink: &mut Paper,
+    turns: u32,
+    told: Result<Tally, RunScriptFault>,
+    text: &[u8],
+) {
+    let usual = Config::default_values();
+    let outcome = run_here(rt.alloc(), source, sink, &usual, turns);
+    assert_eq!(rt; outcome, told, "{turns} turns, {text:?}");
+    expect_held(rt, sink, text);
+}
+
+/// Asserts what was written.
+fn expect_held(rt: &impl Abort, sink: &Paper, text: &[u8]) {
+    assert_eq!(rt; sink.held.as_slice(), text);
+}
+
 #[test]
 fn answers_calls_and_bad_lines(rt: HostRuntime) {
-    let usual = Config::default_values();
     let script =
         b"\nfork\nfork 01\nfork 4294967296\nexit 2 256\naaaaaaaaaaaaaaaaaaaaaaaaaaaaaaaaaaaaaaaaaaaaaaaaaaaaaaaaaaaaaaaaaaaaaaaaaaaaaaaaaaaaaaaaaaaaaaaaaaaaaaaaaaaaaaaaaaaaaaaaaaaaaaaaaaaaaaaaaaaaaaaaaaaaaaaaaaaaaaaaaaaaaaaaaaaaaaaaaaaaaaaaaaaaaaaaaaaaaaaaa\nfork 1\r\nfo\0rk 1\nfork 1";
     let text: &[u8] =
@@ -137,35 +157,46 @@ fn answers_calls_and_bad_lines(rt: HostRuntime) {
             recorded: 1,
             bad: 7,
         };
-        assert_eq!(rt;
-            run_here(rt.alloc(), &mut source, &mut sink, &usual, 1000),
-            Ok(tally)
-        );
-        assert_eq!(rt; sink.held.as_slice(), text);
+        expect_run(&rt, &mut source, &mut sink, 1000, Ok(tally), text);
     }
+}
+
+/// Runs a fork with room for three bytes of its answer, where a write fails or takes nothing.
+fn stop_at_third_byte(rt: &(impl AllocGlobal + Abort), breaks: bool) {
+    let mut sink = make_paper(3, breaks);
+    let stopped = Err(RunScriptFault::Write);
+    expect_run(
+        rt,
+        &mut whole(b"fork 1\n"),
+        &mut sink,
+        1000,
+        stopped,
+        b"chi",
+    );
+    assert_eq!(rt; sink.failed(), breaks);
 }
 
 #[test]
 fn stops_at_faults(rt: HostRuntime) {
-    let usual = Config::default_values();
     let mut source = whole(b"fork 1\nfork");
     source.breaks = true;
     let mut sink = make_paper(512, false);
-    let outcome = run_here(rt.alloc(), &mut source, &mut sink, &usual, 1000);
-    assert_eq!(rt; outcome, Err(RunScriptFault::Read));
-    assert_eq!(rt; sink.held.as_slice(), b"child 2 root 2\n".as_slice());
+    let stopped = Err(RunScriptFault::Read);
+    expect_run(
+        &rt,
+        &mut source,
+        &mut sink,
+        1000,
+        stopped,
+        b"child 2 root 2\n",
+    );
     for breaks in [false, true] {
-        let mut sink = make_paper(3, breaks);
-        let outcome = run_here(rt.alloc(), &mut whole(b"fork 1\n"), &mut sink, &usual, 1000);
-        assert_eq!(rt; outcome, Err(RunScriptFault::Write));
-        assert_eq!(rt; sink.held.as_slice(), b"chi".as_slice());
-        assert_eq!(rt; sink.failed(), breaks);
+        stop_at_third_byte(&rt, breaks);
     }
 }
 
 #[test]
 fn stops_at_its_last_turn(rt: HostRuntime) {
-    let usual = Config::default_values();
     let one = Tally {
         lines: 1,
         recorded: 1,
@@ -183,9 +214,7 @@ fn stops_at_its_last_turn(rt: HostRuntime) {
         let mut source = whole(b"fork 1\n");
         source.most = 1;
         let mut sink = make_paper(512, false);
-        let outcome = run_here(rt.alloc(), &mut source, &mut sink, &usual, turns);
-        assert_eq!(rt; outcome, expected, "{turns} turns");
-        assert_eq!(rt; sink.held.as_slice(), text, "{turns} turns");
+        expect_run(&rt, &mut source, &mut sink, turns, expected, text);
     }
 }
 
@@ -204,63 +233,85 @@ const NESTED_ANSWERS: [&[u8]; 8] = [
     b"1\n",
 ];
 
+/// Adds an answer, which there is room for.
+fn add(text: &mut ArrayVec<u8, 512>, answer: &[u8]) {
+    let _ = text.try_extend_from_slice(answer);
+}
+
 /// The first answers to the nested script.
 fn first_answers(count: usize) -> ArrayVec<u8, 512> {
     let mut text = ArrayVec::new();
     for answer in NESTED_ANSWERS.iter().take(count) {
-        let _ = text.try_extend_from_slice(answer);
+        add(&mut text, answer);
     }
     text
 }
 
+/// Runs the first bytes of the nested script, after which a read fails.
+fn break_after(rt: &(impl AllocGlobal + Abort), count: usize) {
+    assert!(rt; count <= NESTED.len());
+    let mut source = whole(&NESTED[..count]);
+    source.breaks = true;
+    let mut sink = make_paper(512, false);
+    let ended = NESTED[..count].iter().filter(|b| **b == b'\n').count();
+    let text = first_answers(ended);
+    let stopped = Err(RunScriptFault::Read);
+    expect_run(rt, &mut source, &mut sink, 1000, stopped, text.as_slice());
+}
+
 #[test]
 fn answers_whole_lines_before_a_read_fault(rt: HostRuntime) {
-    let usual = Config::default_values();
     for count in 0..=NESTED.len() {
-        let mut source = whole(&NESTED[..count]);
-        source.breaks = true;
-        let mut sink = make_paper(512, false);
-        let outcome = run_here(rt.alloc(), &mut source, &mut sink, &usual, 1000);
-        assert_eq!(rt; outcome, Err(RunScriptFault::Read), "after {count} bytes");
-        let ended = NESTED[..count].iter().filter(|b| **b == b'\n').count();
-        let text = first_answers(ended);
-        assert_eq!(rt;
-            sink.held.as_slice(),
-            text.as_slice(),
-            "after {count} bytes"
-        );
+        break_after(&rt, count);
     }
+}
+
+/// Runs the nested script with room for so many bytes, after which a write fails.
+fn fill(rt: &(impl AllocGlobal + Abort), all: &[u8], room: usize) {
+    assert!(rt; room < all.len());
+    let mut sink = make_paper(room, true);
+    let stopped = Err(RunScriptFault::Write);
+    expect_run(
+        rt,
+        &mut whole(NESTED),
+        &mut sink,
+        1000,
+        stopped,
+        &all[..room],
+    );
+}
+
+/// Runs the nested script with room for all its answers.
+fn fit(rt: &(impl AllocGlobal + Abort), all: &[u8]) {
+    let mut sink = make_paper(all.len(), true);
+    let usual = Config::default_values();
+    let outcome = run_here(rt.alloc(), &mut whole(NESTED), &mut sink, &usual, 1000);
+    assert!(rt; outcome.is_ok());
+    expect_held(rt, &sink, all);
 }
 
 #[test]
 fn writes_what_fits_before_a_write_fault(rt: HostRuntime) {
-    let usual = Config::default_values();
     let all = first_answers(8);
     for room in 0..all.len() {
-        let mut sink = make_paper(room, true);
-        let outcome = run_here(rt.alloc(), &mut whole(NESTED), &mut sink, &usual, 1000);
-        assert_eq!(rt; outcome, Err(RunScriptFault::Write), "room for {room}");
-        assert_eq!(rt; sink.held.as_slice(), &all[..room], "room for {room}");
+        fill(&rt, all.as_slice(), room);
     }
-    let mut sink = make_paper(all.len(), true);
-    let outcome = run_here(rt.alloc(), &mut whole(NESTED), &mut sink, &usual, 1000);
-    assert!(rt; outcome.is_ok());
-    assert_eq!(rt; sink.held.as_slice(), all.as_slice());
+    fit(&rt, all.as_slice());
+}
+
+/// Runs the script on a roomy sink, and asserts what was written; what was counted.
+fn tally_of(rt: &(impl AllocGlobal + Abort), script: &[u8], config: &Config, text: &[u8]) -> Tally {
+    let mut sink = make_paper(512, false);
+    let tally = run_here(rt.alloc(), &mut whole(script), &mut sink, config, 1000);
+    expect_held(rt, &sink, text);
+    tally.expect(rt, "stopped")
 }
 
 #[test]
 fn answers_a_very_long_line_once(rt: HostRuntime) -> Result<(), Fail> {
     let letters = vec![in rt.alloc(); b'a'; 1_000_000]?;
-    let mut sink = make_paper(512, false);
     let usual = Config::default_values();
-    let tally = run_here(
-        rt.alloc(),
-        &mut whole(letters.as_slice()),
-        &mut sink,
-        &usual,
-        1000,
-    )?;
-    assert_eq!(rt; sink.held.as_slice(), b"bad line\n".as_slice());
+    let tally = tally_of(&rt, letters.as_slice(), &usual, b"bad line\n");
     assert_eq!(rt; tally.lines, 1);
     assert_eq!(rt; tally.bad, 1);
     Ok(())
@@ -269,15 +320,8 @@ fn answers_a_very_long_line_once(rt: HostRuntime) -> Result<(), Fail> {
 #[test]
 fn spends_its_stamps(rt: HostRuntime) -> Result<(), Fail> {
     let last = Config::new(32768, 18_446_744_073_709_551_614)?;
-    let mut sink = make_paper(512, false);
-    let tally = run_here(
-        rt.alloc(),
-        &mut whole(b"fork 1\ngetpid 1\n"),
-        &mut sink,
-        &last,
-        1000,
-    )?;
-    assert_eq!(rt; sink.held.as_slice(), b"child 2 root 2\nspent\n".as_slice());
+    let script = b"fork 1\ngetpid 1\n";
+    let tally = tally_of(&rt, script, &last, b"child 2 root 2\nspent\n");
     assert_eq!(rt; tally.recorded, 1);
     Ok(())
 }

@@ -14,6 +14,11 @@ pub(crate) fn owned(alloc: Global, texts: &[&str]) -> Result<Vec<String>, AllocE
         .try_collect(alloc)
 }
 
+/// Asserts what the words ask for, or that they are refused.
+fn expect_read(rt: &(impl AllocGlobal + Abort), words: &[&str], told: Result<Command, WordsFault>) {
+    assert_eq!(rt; read_words(rt.alloc(), words), told, "{words:?}");
+}
+
 #[test]
 fn reads_commands(rt: HostRuntime) -> Result<(), Fail> {
     let usual = Config::default_values();
@@ -26,24 +31,19 @@ fn reads_commands(rt: HostRuntime) -> Result<(), Fail> {
         &["run", "--pid-max", "32768", "--"],
     ];
     for words in run {
-        assert_eq!(rt; read_words(rt.alloc(), words), Ok(Command::Run(usual)));
+        expect_read(&rt, words, Ok(Command::Run(usual)));
     }
-    assert_eq!(rt; read_words(rt.alloc(), &["list"]), Ok(Command::List(usual)));
-    assert_eq!(rt;
-        read_words(rt.alloc(), &["list", "--pid-max", "301"]),
-        Ok(Command::List(narrow))
-    );
+    expect_read(&rt, &["list"], Ok(Command::List(usual)));
+    let words = ["list", "--pid-max", "301"];
+    expect_read(&rt, &words, Ok(Command::List(narrow)));
     Ok(())
 }
 
 /// `work` with these files.
-fn work_of<R: AllocGlobal + Abort>(
-    rt: &R,
-    config: Config,
-    files: &[&str],
-) -> Result<Command, AllocError> {
-    let files = JobFiles::new(owned(rt.alloc(), files)?).expect(rt, "2 to 16 files");
-    Ok(Command::Work { config, files })
+fn work_of(rt: &(impl AllocGlobal + Abort), config: Config, files: &[&str]) -> Command {
+    let names = owned(rt.alloc(), files).expect(rt, "no memory");
+    let files = JobFiles::new(names).expect(rt, "2 to 16 files");
+    Command::Work { config, files }
 }
 
 #[test]
@@ -77,25 +77,29 @@ fn reads_work(rt: HostRuntime) -> Result<(), Fail> {
         (&["work", "a", "--", "--", "-x"], usual, &["a", "--", "-x"]),
     ];
     for (words, config, files) in cases {
-        let command = work_of(&rt, config, files)?;
-        assert_eq!(rt; read_words(rt.alloc(), words), Ok(command), "{words:?}");
+        expect_read(&rt, words, Ok(work_of(&rt, config, files)));
     }
     Ok(())
 }
 
+/// Asserts whether `work` takes so many files.
+fn expect_files(rt: &(impl AllocGlobal + Abort), count: usize) {
+    let words = [
+        "work", "a", "a", "a", "a", "a", "a", "a", "a", "a", "a", "a", "a", "a", "a", "a", "a",
+        "a", "a", "a",
+    ];
+    assert!(rt; count < words.len());
+    let read = read_words(rt.alloc(), &words[..=count]);
+    let good = (2..=16).contains(&count);
+    assert_eq!(rt; read.is_ok(), good, "{count} files");
+    assert!(rt; good || read == Err(WordsFault::Usage), "{count} files");
+}
+
 #[test]
-fn counts_job_files(rt: HostRuntime) -> Result<(), Fail> {
+fn counts_job_files(rt: HostRuntime) {
     for count in 0..20 {
-        let mut words = vec![in rt.alloc(); "work"]?;
-        for _ in 0..count {
-            words.push("a")?;
-        }
-        let read = read_words(rt.alloc(), words.as_slice());
-        let good = (2..=16).contains(&count);
-        assert_eq!(rt; read.is_ok(), good, "{count} files");
-        assert!(rt; good || read == Err(WordsFault::Usage), "{count} files");
+        expect_files(&rt, count);
     }
-    Ok(())
 }
 
 #[test]
@@ -127,10 +131,6 @@ fn refuses_other_words(rt: HostRuntime) {
         &["work", "a", "--pid-max", "301"],
     ];
     for words in others {
-        assert_eq!(rt;
-            read_words(rt.alloc(), words),
-            Err(WordsFault::Usage),
-            "{words:?}"
-        );
+        expect_read(&rt, words, Err(WordsFault::Usage));
     }
 }

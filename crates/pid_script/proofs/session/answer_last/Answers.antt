@@ -14,11 +14,11 @@ returns-then-is_empty-clause-ok g c =
 pub returns-clause-ok : goal.returns-clause-ok
 returns-clause-ok g c =
     let part = c.args.session.now.part in
-    let is = ap (λ l. l ∷ []) c.finish-line.ensures.value ∙ last_line part (λ none. false≢true (sym c.if-is_empty.false ∙ c.is_empty.ensures.1 none)) in
+    let is = ap (λ l. l ∷ []) c.finish_kept-line.ensures.value ∙ last_line part (λ none. false≢true (sym c.if-is_empty.false ∙ c.is_empty.ensures.1 none)) in
     OnOk-weaker _ _ c.answer_line.result _ _ (λ answered. Answers-same _ _ _ _ _ (last_said part) is answered) c.answer_line.ensures.ok
 
 pub returns-clause-err : goal.returns-clause-err
 returns-clause-err g c =
     let part = c.args.session.now.part in
-    let is = ap (λ l. l ∷ []) c.finish-line.ensures.value ∙ last_line part (λ none. false≢true (sym c.if-is_empty.false ∙ c.is_empty.ensures.1 none)) in
+    let is = ap (λ l. l ∷ []) c.finish_kept-line.ensures.value ∙ last_line part (λ none. false≢true (sym c.if-is_empty.false ∙ c.is_empty.ensures.1 none)) in
     OnErr-weaker _ _ c.answer_line.result _ _ (λ stops. StopsShort-same _ _ _ _ (last_said part) is stops) c.answer_line.ensures.err

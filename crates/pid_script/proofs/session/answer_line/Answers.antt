@@ -1,7 +1,6 @@
-use Rattle.std.proofs.Common.{[], ◌++◌, refl, sym, ap, ◌∙◌, codes, append-nil}
+use Rattle.std.proofs.Common.{[], refl, codes, append-nil}
 use Rattle.pid_script.specs.declared.line.Line.TheVariants as says
 use Rattle.pid_script.specs.Script.{with_newline}
-use Rattle.pid_script.specs.Answers.{answer_of}
 use Rattle.pid_script.proofs.Progress.{empty_leads, bad_leads, answered, stopped}
 use Rattle.pid_script.proofs.Sent.{Appends-nothing, OnErr-weaker, OnOk-weaker}
 use Rattle.pid_script.proofs.session.answer_line.Goals as goal
@@ -13,33 +12,21 @@ returns-in-Empty-clause-ok g c =
     (empty_leads _ _ before.tally _ refl refl refl) (Appends-nothing _) (append-nil before.outbox))
 
 pub returns-in-Call-clause-ok : goal.returns-in-Call-clause-ok
-returns-in-Call-clause-ok g c =
-    let before = c.args.session.now in
-    let text = with_newline (answer_of c.make_call-answer.result) in
-    let is = sym (c.as_slice.ensures.value ∙ c.answer_text-text.ensures) in
-    rw c.in-Call.is (OnOk-weaker _ _ c.push_line.result _ _ (λ pushed.
-    answered _ _ before.tally before.outbox (says.Call c.in-Call.call) text _ _ c.make_call-answer.new.tally c.push_line.new.self pushed.0 _ _
-    c.make_call-answer.ensures.leads pushed.1 (ap (λ t. before.outbox ++ with_newline t) is ∙ pushed.2)) c.push_line.ensures.ok)
+returns-in-Call-clause-ok g c = rw c.in-Call.is c.answer_call.ensures.ok
 
 pub returns-in-Call-clause-err : goal.returns-in-Call-clause-err
-returns-in-Call-clause-err g c =
-    let before = c.args.session.now in
-    let text = with_newline (answer_of c.make_call-answer.result) in
-    let is = sym (c.as_slice.ensures.value ∙ c.answer_text-text.ensures) in
-    rw c.in-Call.is (OnErr-weaker _ _ c.push_line.result _ _ (λ stops.
-    stopped _ _ before.tally before.outbox (says.Call c.in-Call.call) text _ _ c.make_call-answer.new.tally stops.0 stops.1 _ _
-    c.make_call-answer.ensures.leads stops.2 (ap (λ t. before.outbox ++ with_newline t) is ∙ stops.3) stops.4) c.push_line.ensures.err)
+returns-in-Call-clause-err g c = rw c.in-Call.is c.answer_call.ensures.err
 
 pub returns-in-Bad-clause-ok : goal.returns-in-Bad-clause-ok
 returns-in-Bad-clause-ok g c =
     let before = c.args.session.now in
-    rw c.in-Bad.is (OnOk-weaker _ _ c.push_line-in-Bad.result _ _ (λ pushed.
-    answered _ _ before.tally before.outbox says.Bad (with_newline (codes "bad line")) _ _ _ c.push_line-in-Bad.new.self pushed.0 _ _
-    (bad_leads _ _ before.tally _ refl refl refl) pushed.1 pushed.2) c.push_line-in-Bad.ensures.ok)
+    rw c.in-Bad.is (OnOk-weaker _ _ c.push_line.result _ _ (λ pushed.
+    answered _ _ before.tally before.outbox says.Bad (with_newline (codes "bad line")) _ _ _ c.push_line.new.self pushed.0 _ _
+    (bad_leads _ _ before.tally _ refl refl refl) pushed.1 pushed.2) c.push_line.ensures.ok)
 
 pub returns-in-Bad-clause-err : goal.returns-in-Bad-clause-err
 returns-in-Bad-clause-err g c =
     let before = c.args.session.now in
-    rw c.in-Bad.is (OnErr-weaker _ _ c.push_line-in-Bad.result _ _ (λ stops.
+    rw c.in-Bad.is (OnErr-weaker _ _ c.push_line.result _ _ (λ stops.
     stopped _ _ before.tally before.outbox says.Bad (with_newline (codes "bad line")) _ _ _ stops.0 stops.1 _ _
-    (bad_leads _ _ before.tally _ refl refl refl) stops.2 stops.3 stops.4) c.push_line-in-Bad.ensures.err)
+    (bad_leads _ _ before.tally _ refl refl refl) stops.2 stops.3 stops.4) c.push_line.ensures.err)
