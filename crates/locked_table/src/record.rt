@@ -22,10 +22,10 @@ use pid_types::config::Config;
 use pid_types::entry::{Entry, Receipt};
 use pid_types::plain::Plain;
 use pid_types::reply::{CallFault, Reply};
-use plain_table::table::PlainTable;
 use std::alloc::{AllocError, Global};
 use std::marker::Model;
 use std::sync::ledger::{Blank, Book, Ledger, Share};
+use task_table::TaskTable;
 
 /// The record of a process table with N workers. Contracts see its configuration, the opening and
 /// the present state, the kept history, what was cut away before it, and the room for more entries.
@@ -36,7 +36,7 @@ pub struct Record<L: Ledger, const N: usize> {
     first_kept: u64,
     cut: Vec<u64>,
     history: Vec<Entry>,
-    table: PlainTable,
+    table: TaskTable,
     book: Book<L>,
 }
 
@@ -82,7 +82,7 @@ impl<L: Ledger, const N: usize> Record<L, N> {
         let (book, rest) = blank.open::<L>();
         let seats = take_seats::<L, N>(alloc, rest)?;
         let cut = vec![in alloc; 0u64; N]?;
-        let table = PlainTable::new(alloc, config)?;
+        let table = TaskTable::new(alloc, config)?;
         let opening = table.snapshot()?;
         let record = Record {
             config: *config,
@@ -214,8 +214,8 @@ impl<L: Ledger, const N: usize> Record<L, N> {
     /// is answered first, where the call's stamp would be `u64::MAX`. A call that finds no memory,
     /// for what it makes or for its entry, changes nothing and is not recorded.
     ///
-    /// It waits for nobody. Its cost is that of the call on the plain table ([`PlainTable::step`]),
-    /// and that of an entry.
+    /// It waits for nobody. Its cost is that of the call on the table ([`TaskTable::step`]), and that
+    /// of an entry.
     pub fn act(&mut self, seat: &mut Seat<L, N>, call: Call) -> Result<Receipt, CallFault>
         ensures step { IfOk result (λ r. record { state = self.new.present; reply = r.reply } ≡ step self.old.present (next_stamp self.old) call) }
         ensures history { IfOk result (λ r. self.new.entries ≡ self.old.entries ++ record { worker = seat.old.worker; call = call; reply = r.reply } ∷ []) }
@@ -234,6 +234,7 @@ impl<L: Ledger, const N: usize> Record<L, N> {
             return Err(CallFault::Spent);
         };
         self.history.reserve(1)?;
+        soundness_is_kept();
         let reply = self.table.step(stamp, call)?;
         let ordinal = self.first_kept + self.history.len() as u64;
         Ok(book_call(

@@ -1,9 +1,10 @@
--- A job that is one call longer.
-use Rattle.std.proofs.Common.{◌≡◌, ℕ, ◌+◌, List, [], ◌∷◌, ◌++◌, length, take, get_or, ◌<◌, refl, sym, ap, ◌∙◌, subst, arith, inl, inr, length-append}
+-- A job that is one call longer, and settings that no test tells apart.
+use Rattle.std.proofs.Common.{◌≡◌, ℕ, ◌+◌, ◌==◌, ◌&&◌, not, Bool, true, false, List, [], ◌∷◌, ◌++◌, length, take, get_or, ◌<◌, refl, sym, ap, ◌∙◌, subst, arith, inl, inr, length-append}
 use Rattle.std.proofs.lemmas.List.{take_more, map-append, get_or_append_left}
 use Rattle.std.proofs.lemmas.Bool.{cases_lt}
 use Rattle.pid_types.specs.declared.call.Call.{Call}
 use Rattle.pid_types.specs.declared.entry.Receipt.{Receipt}
+use Rattle.pid_types.specs.Settings.{Settings}
 use Rattle.pid_jobs.specs.Job.{IsPartOf, calls_in, Fulfils}
 
 -- one more that is left out
@@ -59,3 +60,15 @@ each_more {X} P xs x n len old new k d below =
 pub some_element : {X : Type 0} (xs : List X) → 0 < length xs → X
 some_element [] h = absurd (omega arith)
 some_element (x ∷ xs) h = x
+
+-- settings of which no part differs are the same
+pub same_settings : (a b : Settings) → not ((a.pid_max == b.pid_max) && (a.first_stamp == b.first_stamp)) ≡ false → a ≡ b
+same_settings a b e = go (a.pid_max == b.pid_max) refl (a.first_stamp == b.first_stamp) refl e
+  where
+    same_number : (x y : ℕ) → (x == y) ≡ true → x ≡ y
+    same_number x y is = grind (arith, is)
+
+    go : (p : Bool) → (a.pid_max == b.pid_max) ≡ p → (q : Bool) → (a.first_stamp == b.first_stamp) ≡ q → not (p && q) ≡ false → a ≡ b
+    go true is true at e = let m = same_number a.pid_max b.pid_max is in let s = same_number a.first_stamp b.first_stamp at in λ i. record { pid_max = m i; first_stamp = s i }
+    go true is false at e = absurd (cc)
+    go false is q at e = absurd (cc)

@@ -35,18 +35,39 @@ fn want_child(ordinal: u64, worker: usize, child: u32) -> Receipt {
     want(ordinal, worker, FORK, Reply::Forked { child, root: child })
 }
 
+/// Makes a call, and compares the receipt.
+fn act<L: Ledger, const N: usize>(
+    rt: &impl Abort,
+    record: &mut Record<L, N>,
+    seat: &mut Seat<L, N>,
+    want: &Receipt,
+) {
+    let receipt = record.act(seat, want.call).expect(rt, "no receipt");
+    assert_eq!(rt; receipt, *want);
+}
+
 /// Makes each call by its worker's seat, and compares the receipts.
 fn act_all<L: Ledger, const N: usize>(
     rt: &impl Abort,
     record: &mut Record<L, N>,
     seats: &mut [Seat<L, N>],
     wanted: &[Receipt],
-) -> Result<(), Fail> {
+) {
     for want in wanted {
         let seat = seats.get_mut(want.worker).expect(rt, "a seat");
-        assert_eq!(rt; record.act(seat, want.call)?, *want);
+        act(rt, record, seat, want);
     }
-    Ok(())
+}
+
+/// Makes a call at the shared table, and compares the receipt.
+fn call<L: Ledger, R: Wait + Abort, const N: usize>(
+    rt: &R,
+    shared: &Shared<L, N>,
+    seat: &mut Seat<L, N>,
+    want: &Receipt,
+) {
+    let receipt = shared.call(rt, seat, want.call).expect(rt, "no receipt");
+    assert_eq!(rt; receipt, *want);
 }
 
 /// Makes each call by its worker's seat, at the shared table, and compares the receipts.
@@ -55,12 +76,11 @@ fn call_all<L: Ledger, R: Wait + Abort, const N: usize>(
     shared: &Shared<L, N>,
     seats: &mut [Seat<L, N>],
     wanted: &[Receipt],
-) -> Result<(), Fail> {
+) {
     for want in wanted {
         let seat = seats.get_mut(want.worker).expect(rt, "a seat");
-        assert_eq!(rt; shared.call(rt, seat, want.call)?, *want);
+        call(rt, shared, seat, want);
     }
-    Ok(())
 }
 
 /// Whether worker w's seat is at place w.
@@ -101,23 +121,42 @@ fn assert_cut<L: Ledger>(rt: &impl Abort, record: &Record<L, 1>, total: u64) {
     assert_eq!(rt; record.entry(3).is_some(), total > 3);
 }
 
+/// Cuts what was recorded away.
+fn cut<L: Ledger, const N: usize>(rt: &impl Abort, record: &mut Record<L, N>) {
+    record.checkpoint().expect(rt, "no memory");
+}
+
+/// Makes the calls before a checkpoint, the checkpoint, and the calls after it.
+fn act_around_checkpoint<L: Ledger>(
+    rt: &impl Abort,
+    record: &mut Record<L, 1>,
+    seats: &mut [Seat<L, 1>],
+) {
+    act_all(rt, record, seats, &before_checkpoint());
+    cut(rt, record);
+    assert_cut(rt, record, 3);
+    act_all(rt, record, seats, &after_checkpoint());
+    assert_cut(rt, record, 5);
+}
+
 fn checkpoint_of_record<L: Ledger>(rt: &impl Abort, alloc: Global, blank: Blank) -> Result<(), Fail>
     requires name { blank.name ≡ L.name }
     requires parts { (blank.parts ≡ L.parts) × (L.parts ≡ 1) }
 {
     let config = Config::default_values();
     let (mut record, mut seats) = Record::<L, 1>::new(alloc, blank, &config)?;
-    act_all(rt, &mut record, &mut seats, &before_checkpoint())?;
-    record.checkpoint()?;
-    assert_cut(rt, &record, 3);
-    act_all(rt, &mut record, &mut seats, &after_checkpoint())?;
-    assert_cut(rt, &record, 5);
+    act_around_checkpoint(rt, &mut record, &mut seats);
     Ok(())
 }
 
 #[test]
 fn checkpoints_a_record(rt: HostRuntime) -> Result<(), Fail> {
     checkpoint_of_record::<Brand>(&rt, rt.alloc(), Blank::new(1))
+}
+
+/// Cuts what was recorded away, under the lock.
+fn cut_shared<L: Ledger, R: Wait + Abort>(rt: &R, shared: &Shared<L, 1>) {
+    shared.lock(rt).checkpoint().expect(rt, "no memory");
 }
 
 fn checkpoint_under_lock<L: Ledger, R: Wait + Abort>(
@@ -130,9 +169,9 @@ fn checkpoint_under_lock<L: Ledger, R: Wait + Abort>(
 {
     let config = Config::default_values();
     let (shared, mut seats) = Shared::<L, 1>::open(alloc, blank, &config)?;
-    call_all(rt, &shared, &mut seats, &before_checkpoint())?;
-    shared.lock(rt).checkpoint()?;
-    call_all(rt, &shared, &mut seats, &after_checkpoint())?;
+    call_all(rt, &shared, &mut seats, &before_checkpoint());
+    cut_shared(rt, &shared);
+    call_all(rt, &shared, &mut seats, &after_checkpoint());
     assert!(rt; are_in_order(seats.as_slice()));
     assert_cut(rt, &shared.close(seats), 5);
     Ok(())
@@ -144,10 +183,10 @@ fn checkpoints_under_the_lock(rt: HostRuntime) -> Result<(), Fail> {
 }
 
 /// What is at the shared table after four calls, two by each seat.
-fn assert_shared<L: Ledger, R: Wait + Abort>(rt: &R, shared: &Shared<L, 2>) -> Result<(), Fail> {
-    assert_eq!(rt; shared.lock(rt).snapshot()?.rows.len(), 3);
+fn assert_shared<L: Ledger, R: Wait + Abort>(rt: &R, shared: &Shared<L, 2>) {
+    let plain = shared.lock(rt).snapshot().expect(rt, "no memory");
+    assert_eq!(rt; plain.rows.len(), 3);
     assert_eq!(rt; shared.lock(rt).first_kept(), 0);
-    Ok(())
 }
 
 /// What the record has after them.
@@ -159,23 +198,37 @@ fn assert_four<L: Ledger>(rt: &impl Abort, record: &Record<L, 2>) {
     assert_eq!(rt; record.controls(), 1);
 }
 
-fn two_seats<L: Ledger, R: Wait + Abort>(rt: &R, alloc: Global, blank: Blank) -> Result<(), Fail>
-    requires name { blank.name ≡ L.name }
-    requires parts { (blank.parts ≡ L.parts) × (L.parts ≡ 2) }
-{
-    let config = Config::default_values();
-    let (shared, mut seats) = Shared::<L, 2>::open(alloc, blank, &config)?;
+/// Each seat has made two calls.
+fn assert_calls<L: Ledger>(rt: &impl Abort, seats: &[Seat<L, 2>]) {
+    for seat in seats {
+        assert_eq!(rt; seat.calls(), 2);
+    }
+}
+
+/// Makes two calls by each seat.
+fn call_by_both<L: Ledger, R: Wait + Abort>(
+    rt: &R,
+    shared: &Shared<L, 2>,
+    seats: &mut [Seat<L, 2>],
+) {
     let wanted = [
         want_child(0, 1, 2),
         want_child(1, 0, 3),
         want(2, 1, Call::GetPpid { caller: 2 }, Reply::Number(1)),
         want(3, 0, Call::GetPpid { caller: 3 }, Reply::Number(1)),
     ];
-    call_all(rt, &shared, &mut seats, &wanted)?;
-    assert_shared(rt, &shared)?;
-    for seat in &seats {
-        assert_eq!(rt; seat.calls(), 2);
-    }
+    call_all(rt, shared, seats, &wanted);
+    assert_shared(rt, shared);
+    assert_calls(rt, seats);
+}
+
+fn two_seats<L: Ledger, R: Wait + Abort>(rt: &R, alloc: Global, blank: Blank) -> Result<(), Fail>
+    requires name { blank.name ≡ L.name }
+    requires parts { (blank.parts ≡ L.parts) × (L.parts ≡ 2) }
+{
+    let config = Config::default_values();
+    let (shared, mut seats) = Shared::<L, 2>::open(alloc, blank, &config)?;
+    call_by_both(rt, &shared, &mut seats);
     assert!(rt; are_in_order(seats.as_slice()));
     assert_four(rt, &shared.close(seats));
     Ok(())
@@ -186,7 +239,26 @@ fn two_share_a_table(rt: HostRuntime) -> Result<(), Fail> {
     two_seats::<Brand, HostRuntime>(&rt, rt.alloc(), Blank::new(2))
 }
 
+/// Makes room for two calls.
+fn reserve<L: Ledger>(rt: &impl Abort, record: &mut Record<L, 1>) {
+    record.reserve_calls(2).expect(rt, "no memory");
+}
+
 /// Makes the first call and room for two more, and then the other two.
+fn act_in_room<L: Ledger>(
+    rt: &impl Abort,
+    record: &mut Record<L, 1>,
+    seats: &mut [Seat<L, 1>],
+    others: &[Receipt; 2],
+) {
+    act_all(rt, record, seats, &[want_child(0, 0, 2)]);
+    reserve(rt, record);
+    act_all(rt, record, seats, others);
+    assert_eq!(rt; record.total(), 3);
+    assert_eq!(rt; record.recorded(0), 3);
+}
+
+/// Makes the calls at a new record.
 fn reserve_two<L: Ledger>(
     rt: &impl Abort,
     alloc: Global,
@@ -198,11 +270,7 @@ fn reserve_two<L: Ledger>(
 {
     let config = Config::default_values();
     let (mut record, mut seats) = Record::<L, 1>::new(alloc, blank, &config)?;
-    act_all(rt, &mut record, &mut seats, &[want_child(0, 0, 2)])?;
-    record.reserve_calls(2)?;
-    act_all(rt, &mut record, &mut seats, others)?;
-    assert_eq!(rt; record.total(), 3);
-    assert_eq!(rt; record.recorded(0), 3);
+    act_in_room(rt, &mut record, &mut seats, others);
     Ok(())
 }
 

@@ -1,8 +1,7 @@
-use Rattle.std.proofs.lemmas.Grind.{common_steps}
-use Rattle.std.proofs.Common.{rules, arith, ◌≡◌, ◌<◌, length, vec_len, get_or, ap, ◌∙◌, subst}
+use Rattle.std.proofs.Common.{rules, arith, ◌≡◌, ◌<◌, length, vec_len, get_or, ap, sym, ◌∙◌, subst}
 use Rattle.std.specs.Prelude.{IfOk}
 use Rattle.pid_jobs.specs.Job.{Fulfils}
-use Rattle.pid_jobs.proofs.Parts.{some_element}
+use Rattle.pid_jobs.proofs.Parts.{some_element, same_settings}
 use Rattle.pid_jobs.proofs.run.run_workers.Goals as goal
 
 pub close-kept-requires : goal.close-kept-requires
@@ -41,7 +40,7 @@ pub returns-in-Ok-clause-kept : goal.returns-in-Ok-clause-kept
 returns-in-Ok-clause-kept g c = search rules
 
 pub returns-in-Ok-clause-config : goal.returns-in-Ok-clause-config
-returns-in-Ok-clause-config g c = grind (arith, common_steps)
+returns-in-Ok-clause-config g c = sym c.config.ensures ∙ same_settings c.config.result c.args.config.now (sym c.ne.ensures ∙ c.if-ne.false)
 
 pub returns-in-Ok-clause-works : goal.returns-in-Ok-clause-works
 returns-in-Ok-clause-works g c = search rules

@@ -1,8 +1,9 @@
-use Rattle.std.proofs.Common.{◌≡◌, rules, ap, sym, ◌∙◌}
+use Rattle.std.proofs.Common.{◌≡◌, ℕ, rules, ap, sym, subst, ◌∙◌}
 use Rattle.pid_types.specs.declared.entry.Entry.{Entry}
+use Rattle.pid_types.specs.Sound.{IsBelow}
 use Rattle.pid_types.specs.Step.{step}
 use Rattle.locked_table.specs.Chronicle.{next_stamp}
-use Rattle.locked_table.proofs.Kept.{kept-entry, outcome-of}
+use Rattle.locked_table.proofs.Kept.{kept-entry, outcome-of, present-sound}
 use Rattle.locked_table.proofs.record.Record.act.Goals as goal
 
 -- the history is one entry longer
@@ -15,3 +16,8 @@ invariant_of-self-2 g c =
     (search rules)
     (outcome-of _ _ _ c.in_ok-reply.ensures.state c.in_ok-reply.ensures.reply ∙ ap (λ n. step c.self.inside.table n c.args.call) (c.in-Some.ensures.some ∙ ap next_stamp (sym c.self.view_is)))
     (search rules)
+
+-- the ids of the present state are below the stamp
+pub step-requires : goal.step-requires
+step-requires g c =
+    record { below = subst (λ (stamp : ℕ). IsBelow stamp c.self.inside.table) (sym (c.in-Some.ensures.some ∙ ap next_stamp (sym c.self.view_is))) (present-sound c.soundness_is_kept.ensures.run _ _ c.self.invariant).1 }
