@@ -1,0 +1,118 @@
+//! The fast table and the plain one, which are told the same calls.
+ghost use Rattle.std.specs.Prelude.{◌≡◌, ◌+◌, ◌↔◌, OnOk, IfOk, IsTrue, Err};
+ghost use Rattle.compared_tables.specs.Two.{IsSame};
+ghost use Rattle.pid_types.specs.declared.reply.Reply.{Reply};
+ghost use Rattle.pid_types.specs.Shown.{Shows};
+ghost use Rattle.pid_types.specs.State.{root_state};
+ghost use Rattle.pid_types.specs.Step.{step};
+
+use model_laws::soundness::{root_state_is_sound, soundness_is_kept};
+use pid_types::call::Call;
+use pid_types::config::Config;
+use pid_types::plain::Plain;
+use pid_types::reply::Reply;
+use plain_table::table::PlainTable;
+use std::alloc::{AllocError, Global};
+use std::marker::Model;
+use task_table::TaskTable;
+use thiserror::Error;
+
+/// Why a call on both tables has no reply, or why they are not one.
+#[derive(Debug, Drop, Error)]
+pub enum Fault {
+    /// The tables answer a call otherwise than one another.
+    #[error("the fast table answers {fast:?}, the plain one {plain:?}")]
+    Replies { fast: Reply, plain: Reply },
+    /// Each answered as many calls alike, and yet what they show is not the same.
+    #[error("the fast table shows another state than the plain one")]
+    States,
+    /// The stamps are used up.
+    #[error("no stamp is left")]
+    Spent,
+    /// There was no memory.
+    #[error("no memory")]
+    NoMemory,
+}
+
+impl From<AllocError> for Fault {
+    ghost use Rattle.std.specs.Prelude.{◌≡◌};
+    ghost use Rattle.compared_tables.specs.declared.pair.Fault.TheVariants.{NoMemory};
+
+    ghost from_gives = { λ _ fault. fault ≡ NoMemory };
+
+    fn from(_refused: AllocError) -> Fault {
+        Fault::NoMemory
+    }
+}
+
+/// Both tables, and the stamp of the next call. Contracts see the two states and the stamp.
+#[derive(Drop)]
+pub struct Pair {
+    fast: TaskTable,
+    plain: PlainTable,
+    stamp: u64,
+}
+
+impl Model for Pair {
+    ghost use Rattle.pid_types.specs.Sound.{IsSound, IsBelow};
+    ghost use Rattle.compared_tables.specs.Two.{Two};
+
+    ghost Value = { Two };
+
+    ghost view = { λ p. record { fast = p.fast; plain = p.plain; stamp = p.stamp } };
+
+    ghost invariant = { λ p. IsSound p.fast × IsBelow p.stamp p.fast };
+}
+
+impl Pair {
+    /// Both tables as they begin. The error is want of memory.
+    pub fn new(alloc: Global, config: &Config) -> Result<Pair, AllocError>
+        ensures { IfOk result (λ pair. pair ≡ record { fast = root_state config.now.pid_max; plain = root_state config.now.pid_max; stamp = config.now.first_stamp }) }
+    {
+        root_state_is_sound();
+        prove!(config.pid_max() >= 301 && config.pid_max() <= 4_194_304);
+        Ok(Pair {
+            fast: TaskTable::new(alloc, config)?,
+            plain: PlainTable::new(alloc, config)?,
+            stamp: config.first_stamp(),
+        })
+    }
+
+    /// Makes the call on both tables, and answers what both do. After an error the tables may be two
+    /// states, so the pair is of no more use.
+    pub fn make(&mut self, call: Call) -> Result<Reply, Fault>
+        ensures fast { IfOk result (λ reply. record { state = self.new.fast; reply = reply } ≡ step self.old.fast self.old.stamp call) }
+        ensures plain { IfOk result (λ reply. record { state = self.new.plain; reply = reply } ≡ step self.old.plain self.old.stamp call) }
+        ensures stamp { OnOk result (self.new.stamp ≡ self.old.stamp + 1) }
+        ensures replies { (fast plain : Reply) → result ≡ Err (Fault.Replies fast plain) → self.old.fast ≡ self.old.plain → ⊥ }
+    {
+        let Some(next) = self.stamp.checked_add(1) else {
+            return Err(Fault::Spent);
+        };
+        soundness_is_kept();
+        let plain = self.plain.step(self.stamp, call)?;
+        let fast = self.fast.step(self.stamp, call)?;
+        self.stamp = next;
+        if fast != plain {
+            return Err(Fault::Replies { fast, plain });
+        }
+        Ok(plain)
+    }
+
+    /// What both tables show.
+    pub fn snapshot(&self) -> Result<Plain, Fault>
+        ensures plain { IfOk result (Shows self.now.plain) }
+    {
+        let plain = self.plain.snapshot()?;
+        let fast = self.fast.snapshot()?;
+        if !is_same(&fast, &plain) {
+            return Err(Fault::States);
+        }
+        Ok(plain)
+    }
+}
+
+/// Whether two snapshots show the same.
+fn is_same(a: &Plain, b: &Plain) -> bool {
+    a.pid_max == b.pid_max && a.rows == b.rows && a.spaces == b.spaces && a.controls == b.controls
+}
