@@ -37,6 +37,11 @@ linux: run
 	@linux/compare --rows
 	@linux/compare --seeds 1..200
 
+# What a call costs, by instructions: each load of loads/loads.py at its sizes, beside the figures of a peer. It needs valgrind and some ten minutes.
+.PHONY: loads
+loads: built
+	@loads/loads.py measure '$(PIDTAB)' $(LOADS)
+
 clean:
 	rm -rf crates/*/out
 	@$(MAKE) -s -C linux clean

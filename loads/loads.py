@@ -1,0 +1,482 @@
+#!/usr/bin/env python3
+"""Loads for `pidtab run`, and what a call of them costs.
+
+    loads.py list                        the loads, their sizes, what a competent unverified peer takes
+    loads.py script LOAD N               the script on standard output
+    loads.py measure PROGRAM [LOAD ..]   instructions a call by callgrind, each load at two sizes
+    loads.py time PROGRAM [TASKS ..]     microseconds a call among so many live tasks, the least of five runs
+
+A load is a set-up, which brings the table to a state, and a body, which is what is measured: the cost of the body is
+that of both less that of the set-up. The same words give the same bytes. Instructions repeat from run to run within
+1 %; times on a busy machine do not. `measure` needs valgrind (a Debian package). The peer is a competent table with a
+history that answers the same lines and is not verified; its figures stand below as they were given.
+"""
+import bisect
+import os
+import random
+import re
+import subprocess
+import sys
+import tempfile
+import time
+
+EVENTS = 8              # how often the one great event of `fall` comes
+
+
+class Numbers:
+    """The root namespace's cyclic draw; the free numbers are kept sorted."""
+
+    def __init__(self, pid_max):
+        self.pid_max = pid_max
+        self.cursor = 2
+        self.fresh = 2          # all numbers from here on were never drawn
+        self.free = []
+
+    def draw(self):
+        k = self.cursor
+        low = 300 if k > 300 else 1
+        n = self._gap(max(k, low))
+        if n is None:
+            n = self._gap(low)
+        if n is None:
+            return None
+        if n >= self.fresh:
+            self.fresh = n + 1
+        else:
+            del self.free[bisect.bisect_left(self.free, n)]
+        self.cursor = n + 1
+        return n
+
+    def _gap(self, start):
+        i = bisect.bisect_left(self.free, start)
+        if i < len(self.free):
+            return self.free[i]
+        n = max(start, self.fresh)
+        return n if n < self.pid_max else None
+
+    def release(self, n):
+        bisect.insort(self.free, n)
+
+
+class Script:
+    def __init__(self, pid_max, seed):
+        self.pid_max = pid_max
+        self.lines = []
+        self.split = 0
+        self.num = Numbers(pid_max)
+        self.rng = random.Random(seed)
+
+    def add(self, line):
+        self.lines.append(line)
+
+    def fork(self, p, new=False):
+        self.lines.append(f"fork {p} new" if new else f"fork {p}")
+        n = self.num.draw()
+        assert n is not None, "the generator ran out of numbers"
+        return n
+
+    def body(self):
+        """What follows is measured."""
+        self.split = len(self.lines)
+
+    def stamp(self):
+        """The stamp of the next line (no line here is bad or empty)."""
+        return 1 + len(self.lines)
+
+    def mk(self, parent):
+        s = self.stamp()
+        self.lines.append(f"mk {parent}")
+        return s
+
+
+def shells(s, tasks, each=100):
+    """A two-level tree of `tasks` live tasks; [[shell, child, ..], ..]."""
+    out = []
+    left = tasks
+    while left > 0:
+        group = [s.fork(1)]
+        for _ in range(min(each, left) - 1):
+            group.append(s.fork(group[0]))
+        left -= len(group)
+        out.append(group)
+    return out
+
+
+def cycle(s, p, how="pid"):
+    """One fork, exit, wait of one parent: 3 calls."""
+    c = s.fork(p)
+    s.add(f"exit {c} {s.rng.randrange(256)}")
+    s.add(f"wait {p} pid {c}" if how == "pid" else f"wait {p} any")
+    s.num.release(c)
+    return c
+
+
+def fork_storm(s, n):
+    s.body()
+    for _ in range(n):
+        s.fork(1)
+
+
+def cycle_among(s, n, live):
+    tree = shells(s, live)
+    s.body()
+    for _ in range(n // 3):
+        cycle(s, s.rng.choice(tree)[0], "any")
+
+
+def deep(s, depth):
+    """A chain of namespaces; answers the innermost init's root number."""
+    p = 1
+    for _ in range(depth):
+        p = s.fork(p, True)
+    return p
+
+
+def deep_body(s, p, cycles):
+    for _ in range(cycles):
+        c = s.fork(p)
+        s.add(f"nspid 1 {c}")
+        s.add(f"getppid {c}")
+        s.add(f"exit {c} 7")
+        s.add(f"wait {p} any")
+        s.num.release(c)
+
+
+def deep_cycle(s, n):
+    p = deep(s, 32)
+    for _ in range(1000):
+        s.fork(p)
+    s.body()
+    deep_body(s, p, n // 5)
+
+
+def deep_storm(s, n):
+    p = deep(s, 32)
+    s.body()
+    for _ in range(n):
+        s.fork(p)
+
+
+def groups(s, n):
+    kids = [s.fork(1) for _ in range(n)]
+    s.body()
+    # Every 16th opens a session, forks into it and makes a group there.
+    sessions = kids[::16]
+    for c in sessions:
+        s.add(f"setsid {c}")
+    rest = [c for i, c in enumerate(kids) if i % 16]
+    groups = rest[::4]
+    for c in groups:
+        s.add(f"setpgid 1 {c} 0")
+    for i, c in enumerate(rest):
+        if i % 4:
+            s.add(f"setpgid 1 {c} {groups[i // 4]}")
+    for c in s.rng.sample(rest, len(rest) // 2):
+        s.add(f"setpgid {c} 0 {s.rng.choice(groups)}")     # leaders of own groups move too
+    for c in groups:
+        s.add(f"next 1 group {c + 1}")
+        s.add(f"getpgid 1 {c}")
+    for c in sessions:
+        s.add(f"next 1 session {c + 1}")
+        s.add(f"getsid 1 {c}")
+    for c in s.rng.sample(rest, 100):
+        s.add(f"exit {c} 1")
+        s.add("wait 1 any")
+
+
+def control_chain(s, depth):
+    ids = [0]
+    for _ in range(depth):
+        ids.append(s.mk(ids[-1]))
+    for i in ids[1:]:
+        s.add(f"limit {i} 4000000")
+    return ids
+
+
+def controls_body(s, a, b, tree, n):
+    for k in range(n // 6):
+        p = s.rng.choice(tree)[0]
+        cycle(s, p)
+        s.add(f"count {s.rng.choice(a)}")
+        m = s.rng.choice(tree)[1]
+        s.add(f"move {m} {b[-1]}")
+        s.add(f"move {m} {a[-1]}")
+
+
+def control_cycle(s, depth, calls):
+    a = control_chain(s, depth)
+    b = control_chain(s, depth)
+    s.add(f"move 1 {a[-1]}")
+    tree = shells(s, 1000)
+    s.body()
+    controls_body(s, a, b, tree, calls)
+
+
+def fall(s, n):
+    tops = []
+    for _ in range(EVENTS):
+        init = s.fork(1, True)
+        tops.append(init)
+        live = [init]
+        # A third flat below the init, the rest a random tree, and 1 in 200 an
+        # init of a nested namespace (at most 3 deep), with members of its own.
+        depth = {init: 1}
+        for k in range(n - 1):
+            p = init if k % 3 == 0 else s.rng.choice(live[-64:])
+            new = k % 200 == 199 and depth[p] < 3
+            c = s.fork(p, new)
+            depth[c] = depth[p] + new
+            live.append(c)
+    s.body()
+    for init in tops:
+        s.add(f"exit {init} 0")
+        s.add(f"wait 1 pid {init}")
+
+
+def queries(s, n):
+    # Four levels, a fourth of the tasks each.
+    inits = [1]
+    for _ in range(3):
+        inits.append(s.fork(inits[-1], True))
+    per = {1: [], 2: [], 3: [], 4: []}
+    count = [4, 3, 2, 1]                # the last number in each namespace
+    for k in range(n):
+        lv = k % 4
+        c = s.fork(inits[lv])
+        if k % 16 == lv:
+            s.add(f"setpgid {c} 0 0")
+        for up in range(lv + 1):
+            count[up] += 1
+        per[lv + 1].append(c)
+    s.body()
+    for _ in range(60000):
+        lv = s.rng.randrange(4)
+        c = s.rng.choice(per[lv + 1])
+        seen = s.rng.randrange(1, count[lv] + 1)
+        s.add(f"getpid {c}")
+        s.add(f"getppid {c}")
+        s.add(f"getpgid {c} {seen}")
+        s.add(f"getsid {c} {seen}")
+        s.add(f"nspid {c} {seen}")
+        s.add(f"next {c} {('task', 'group', 'session')[s.rng.randrange(3)]} {seen}")
+
+
+
+def wait_any(s, n):
+    kids = [s.fork(1) for _ in range(n)]
+    s.body()
+    for _ in range(10000):
+        c = s.fork(1)
+        s.add(f"exit {c} 1")
+        s.add("wait 1 any")
+        s.num.release(c)
+
+
+def reap_all(s, n):
+    kids = [s.fork(1) for _ in range(n)]
+    s.rng.shuffle(kids)
+    for c in kids:
+        s.add(f"exit {c} 1")
+    s.body()
+    for _ in range(n):
+        s.add("wait 1 any")
+
+
+def nearly_full(s, n):
+    """Cycles with 33 of 32,768 numbers free."""
+    for _ in range(s.pid_max - 2 - 33):
+        s.fork(1)
+    s.body()
+    for _ in range(n // 3):
+        cycle(s, 1)
+
+
+def refused(s, n):
+    """Forks that find no number."""
+    for _ in range(s.pid_max - 2):
+        s.fork(1)
+    s.body()
+    for _ in range(n):
+        s.add("fork 1")
+
+
+def exit_parent(s, n):
+    """Exits of parents, each with so many children, who go to the init."""
+    parents = []
+    for _ in range(EVENTS):
+        p = s.fork(1)
+        parents.append(p)
+        for _ in range(n):
+            s.fork(p)
+    s.body()
+    for p in parents:
+        s.add(f"exit {p} 0")
+
+
+def wait_group(s, n):
+    """Waits for a group of two among so many children."""
+    for _ in range(n):
+        s.fork(1)
+    leader = s.fork(1)
+    s.add(f"setpgid 1 {leader} 0")
+    s.body()
+    for _ in range(1000):
+        c = s.fork(1)
+        s.add(f"setpgid 1 {c} {leader}")
+        s.add(f"exit {c} 1")
+        s.add(f"wait 1 group {leader}")
+        s.num.release(c)
+
+
+def remove_control(s, n):
+    """Removals of control groups, each with so many zombies."""
+    groups = []
+    for _ in range(EVENTS):
+        g = s.mk(0)
+        groups.append(g)
+        s.add(f"move 1 {g}")
+        for _ in range(n):
+            s.add(f"exit {s.fork(1)} 0")
+        s.add("move 1 0")
+    s.body()
+    for g in groups:
+        s.add(f"rm {g}")
+
+
+def one_line(line):
+    def load(s, n):
+        s.body()
+        for _ in range(n):
+            s.add(line)
+    return load
+
+
+# name: (generator, pid_max, sizes, instructions a call of the peer, where there is a figure)
+LOADS = {
+    "fork_storm": (fork_storm, 4194304, (3000, 30000), 1094),
+    "cycle_among_100": (lambda s, n: cycle_among(s, n, 100), 32768, (30000,), 1051),
+    "cycle_among_10000": (lambda s, n: cycle_among(s, n, 10000), 32768, (30000,), 1051),
+    "deep_cycle": (deep_cycle, 32768, (10000,), 3239),
+    "deep_storm": (deep_storm, 32768, (3000, 15000), 6196),
+    "groups": (groups, 32768, (3000, 30000), 841),
+    "control_cycle_64": (lambda s, n: control_cycle(s, 64, n), 32768, (12000,), 1894),
+    "fall": (fall, 4194304, (300, 3000), 584),
+    "queries": (queries, 32768, (300, 30000), 760),
+    "wait_any": (wait_any, 32768, (300, 30000), 1004),
+    "reap_all": (reap_all, 32768, (3000, 30000), 1268),
+    "nearly_full": (nearly_full, 32768, (30000,), 1119),
+    "refused": (refused, 32768, (20000,), 1108),
+    "exit_parent": (exit_parent, 4194304, (300, 3000), 63),
+    "wait_group": (wait_group, 4194304, (300, 30000), None),
+    "remove_control": (remove_control, 4194304, (100, 10000), None),
+    "getpid": (one_line("getpid 1"), 32768, (20000,), 492),
+    "count": (one_line("count 0"), 32768, (20000,), 550),
+    "nspid": (one_line("nspid 1 1"), 32768, (20000,), 675),
+    "getpgid": (one_line("getpgid 1 0"), 32768, (20000,), 576),
+    "wait_none": (one_line("wait 1 any"), 32768, (20000,), 477),
+    "bad_line": (one_line("fork  1"), 32768, (20000,), 183),
+    "empty_line": (one_line(""), 32768, (20000,), 76),
+    "fork_storm_million": (fork_storm, 4194304, (1000000,), 1094),
+}
+
+# Those whose cost is told for each task that they concern.
+BY_TASK = {"fall", "exit_parent"}
+# Those that `measure` leaves out unless they are named, since they take minutes.
+LONG = {"fork_storm_million"}
+
+
+def make(name, n):
+    load, pid_max, _, _ = LOADS[name]
+    s = Script(pid_max, 1)
+    load(s, n)
+    return s
+
+
+def collected(program, pid_max, lines):
+    with tempfile.NamedTemporaryFile("w", suffix=".script", delete=False) as f:
+        f.write("".join(line + "\n" for line in lines))
+    try:
+        with open(f.name) as script:
+            done = subprocess.run(["valgrind", "--tool=callgrind", "--callgrind-out-file=/dev/null", program, "run", "--pid-max", str(pid_max)],
+                                  stdin=script, stdout=subprocess.DEVNULL, stderr=subprocess.PIPE, text=True)
+        found = re.search(r"Collected : (\d+)", done.stderr)
+        if done.returncode or not found:
+            sys.exit(f"{program} ended with {done.returncode}: {done.stderr[-300:]}")
+        return int(found.group(1))
+    finally:
+        os.unlink(f.name)
+
+
+def measure(program, names):
+    print("| load | size | calls | instructions a call | peer | ratio |\n|---|---|---|---|---|---|")
+    for name in names:
+        _, pid_max, sizes, peer = LOADS[name]
+        for n in sizes:
+            s = make(name, n)
+            calls = EVENTS * n if name in BY_TASK else len(s.lines) - s.split
+            cost = (collected(program, pid_max, s.lines) - collected(program, pid_max, s.lines[: s.split])) / calls
+            compared = f"{peer:,} | {cost / peer:.2f}" if peer else "| "
+            print(f"| {name} | {n:,} | {calls:,} | {cost:,.0f} | {compared} |", flush=True)
+
+
+def among(tasks, body):
+    """A script with so many live tasks, and then the body."""
+    s = Script(4194304, 1)
+    tree = shells(s, tasks)
+    s.body()
+    for _ in range(TIMED):
+        body(s, s.rng.choice(tree)[0])
+    return s
+
+
+TIMED = 20000           # how often `time` makes a call
+BODIES = {
+    "a fork": lambda s, p: s.fork(p),
+    "a fork, an exit and a wait": lambda s, p: cycle(s, p, "any"),
+    "a query (`getppid`)": lambda s, p: s.add(f"getppid {p}"),
+}
+
+
+def seconds(program, pid_max, lines):
+    """The least of five runs."""
+    with tempfile.NamedTemporaryFile("w+", suffix=".script") as f:
+        f.write("".join(line + "\n" for line in lines))
+        f.flush()
+        best = None
+        for _ in range(5):
+            f.seek(0)
+            begun = time.perf_counter()
+            subprocess.run([program, "run", "--pid-max", str(pid_max)], stdin=f, stdout=subprocess.DEVNULL, check=True)
+            took = time.perf_counter() - begun
+            best = took if best is None else min(best, took)
+        return best
+
+
+def times(program, sizes):
+    print("| What | " + " | ".join(f"{n:,} live tasks" for n in sizes) + " |\n|---|" + "---|" * len(sizes))
+    for name, body in BODIES.items():
+        cells = []
+        for n in sizes:
+            s = among(n, body)
+            took = seconds(program, s.pid_max, s.lines) - seconds(program, s.pid_max, s.lines[: s.split])
+            cells.append(f"{took / TIMED * 1e6:.1f} µs")
+        print(f"| {name} | " + " | ".join(cells) + " |", flush=True)
+
+
+def main():
+    words = sys.argv[1:]
+    if words[:1] == ["list"]:
+        for name, (_, pid_max, sizes, peer) in LOADS.items():
+            print(f"{name}: pid_max {pid_max}, sizes {sizes}, peer {peer}")
+    elif words[:1] == ["script"] and len(words) == 3:
+        print("\n".join(make(words[1], int(words[2])).lines))
+    elif words[:1] == ["time"] and len(words) >= 2:
+        times(words[1], [int(n) for n in words[2:]] or [100, 10000, 1000000])
+    elif words[:1] == ["measure"] and len(words) >= 2:
+        measure(words[1], words[2:] or [name for name in LOADS if name not in LONG])
+    else:
+        sys.exit(__doc__)
+
+
+if __name__ == "__main__":
+    main()
