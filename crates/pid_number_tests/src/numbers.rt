@@ -5,6 +5,7 @@ ghost use Rattle.rising_ids.specs.Ids.{AreBelow};
 ghost use Rattle.pid_numbers.specs.Numbering.{namespace_at, new_namespace};
 ghost use Rattle.pid_types.specs.Settings.{HasGoodPidMax};
 
+use arrayvec::ArrayVec;
 use pid_numbers::{Numbers, PlanFault};
 use pid_types::call::Kind;
 use pid_types::plain::Name;
@@ -63,7 +64,12 @@ fn name(numbers: &Numbers, ident: u32) -> Option<Name> {
     if numbers.space_of(ident).is_none() {
         return None;
     }
-    Some(numbers.name(ident))
+    let mut name = Name {
+        space: 0,
+        numbers: ArrayVec::new(),
+    };
+    numbers.write_name(ident, &mut name);
+    Some(name)
 }
 
 /// Whether the identifier has the namespace's id and these numbers, the root's first.

@@ -48,17 +48,16 @@ impl LevelNumbers {
         }
     }
 
-    /// The innermost numbers, so many, the outermost of them first.
-    pub(crate) fn inwards(&self, count: usize) -> ArrayVec<u32, 33>
+    /// Writes the innermost numbers, so many, the outermost of them first.
+    pub(crate) fn write_inwards(&self, count: usize, numbers: &mut ArrayVec<u32, 33>)
         requires there { count ≤ length self.now }
         requires few { count ≤ 33 }
-        ensures { result.items ≡ reverse (take count self.now) }
+        ensures { numbers.new.items ≡ reverse (take count self.now) }
     {
-        let mut numbers = ArrayVec::<u32, 33>::new();
+        numbers.clear();
         for k in 0..count {
             numbers.push(self.at(k));
         }
         numbers.as_mut_slice().reverse();
-        numbers
     }
 }

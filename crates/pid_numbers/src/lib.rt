@@ -27,7 +27,7 @@ use cyclic_ids::CyclicIds;
 use levels::LevelNumbers;
 use names::{
     Ident, count_at, has_use, home_of, in_use, less_use, mark_numbers, more_use, number_at,
-    numbers_inwards,
+    write_numbers_inwards,
 };
 use pid_types::call::Kind;
 use pid_types::plain::Name;
@@ -37,9 +37,8 @@ use rising_ids::{Iter, RisingIds};
 use slab::Slab;
 use slab_room::make_room;
 use spaces::{
-    Space, add_space, cursor_at, fall_all, fallen_path, first_ids, give_path, has_fallen, id_at,
-    is_inside, key_at, levels, look, next_at, path_below, plan_path, prepare_path, release_path,
-    sweep_path,
+    Space, add_space, cursor_at, fall_all, first_ids, give_path, has_fallen, id_at, is_inside,
+    key_at, levels, look, next_at, path_below, plan_path, prepare_path, release_path, sweep_fallen,
 };
 use std::alloc::{AllocError, Global};
 use std::marker::Model;
@@ -260,14 +259,17 @@ impl Numbers {
             return ArrayVec::new();
         }
         let above = levels(&self.spaces, own) - levels(&self.spaces, space);
-        numbers_inwards(&self.idents, ident, above + 1)
+        let mut numbers = ArrayVec::new();
+        write_numbers_inwards(&self.idents, ident, above + 1, &mut numbers);
+        numbers
     }
 
-    /// The identifier's name: the id of its namespace, and its numbers, the root's first.
-    pub fn name(&self, ident: u32) -> Name
+    /// Writes the identifier's name over another: the id of its namespace, and its numbers, the root's first. It costs a few
+    /// reads and a step for each level.
+    pub fn write_name(&self, ident: u32, name: &mut Name)
         requires { IsSome (identifier_at self.now ident) }
-        ensures space { IfSome (identifier_at self.now ident) (λ u. id_at self.now u.space ≡ Some result.space) }
-        ensures numbers { IfSome (identifier_at self.now ident) (λ u. result.numbers.items ≡ reverse u.numbers) }
+        ensures space { IfSome (identifier_at self.now ident) (λ u. id_at self.now u.space ≡ Some name.new.space) }
+        ensures numbers { IfSome (identifier_at self.now ident) (λ u. name.new.numbers.items ≡ reverse u.numbers) }
     {
         let Some(own) = home_of(&self.idents, ident) else {
             unreachable!()
@@ -275,8 +277,9 @@ impl Numbers {
         let Some(space) = id_at(&self.spaces, own) else {
             unreachable!()
         };
-        let numbers = numbers_inwards(&self.idents, ident, levels(&self.spaces, own));
-        Name { space, numbers }
+        name.space = space;
+        let levels = levels(&self.spaces, own);
+        write_numbers_inwards(&self.idents, ident, levels, &mut name.numbers);
     }
 
     /// The least number at or above `from` whose identifier has a use of the kind, in the namespace. It
@@ -449,8 +452,7 @@ impl Numbers {
         let Some(gone) = self.idents.try_remove(ident as usize) else {
             unreachable!()
         };
-        let path = fallen_path(&self.spaces, gone.space);
         release_path(&mut self.spaces, gone.space, &gone.numbers);
-        sweep_path(&mut self.spaces, &mut self.order, &path);
+        sweep_fallen(&mut self.spaces, &mut self.order, gone.space);
     }
 }

@@ -91,15 +91,20 @@ pub(crate) fn number_at(idents: &Slab<Ident>, ident: u32, place: usize) -> Optio
     }
 }
 
-/// The identifier's innermost numbers, so many, the outermost of them first.
-pub(crate) fn numbers_inwards(idents: &Slab<Ident>, ident: u32, count: usize) -> ArrayVec<u32, 33>
+/// Writes the identifier's innermost numbers, so many, the outermost of them first.
+pub(crate) fn write_numbers_inwards(
+    idents: &Slab<Ident>,
+    ident: u32,
+    count: usize,
+    numbers: &mut ArrayVec<u32, 33>,
+)
     requires there { IfSome (name_at idents.now ident) (λ u. count ≤ length u.numbers) }
     requires few { count ≤ 33 }
-    ensures { result.items ≡ option_map_or (λ u. reverse (take count u.numbers)) (name_at idents.now ident) [] }
+    ensures { numbers.new.items ≡ option_map_or (λ u. reverse (take count u.numbers)) (name_at idents.now ident) [] }
 {
     match idents.get(ident as usize) {
-        Some(x) => x.numbers.inwards(count),
-        None => ArrayVec::new(),
+        Some(x) => x.numbers.write_inwards(count, numbers),
+        None => numbers.clear(),
     }
 }
 

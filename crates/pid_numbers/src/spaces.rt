@@ -283,14 +283,11 @@ pub(crate) fn has_fallen(spaces: &Slab<Space>, space: u32) -> bool
     }
 }
 
-/// The path of the namespace, where it has fallen.
-pub(crate) fn fallen_path(spaces: &Slab<Space>, space: u32) -> ArrayVec<u32, 33>
-    ensures { result.items ≡ if fell spaces.now space then way spaces.now space else [] }
+/// The path of the namespace.
+fn path_of(spaces: &Slab<Space>, space: u32) -> ArrayVec<u32, 33>
+    ensures { result.items ≡ way spaces.now space }
 {
     let mut path = ArrayVec::<u32, 33>::new();
-    if !has_fallen(spaces, space) {
-        return path;
-    }
     for k in 0..levels(spaces, space) {
         path.push(key_at(spaces, space, k));
     }
@@ -326,7 +323,7 @@ fn drop_dead(spaces: &mut Slab<Space>, order: &mut RisingIds, key: u32)
 }
 
 /// Drops the dead namespaces of the path.
-pub(crate) fn sweep_path(spaces: &mut Slab<Space>, order: &mut RisingIds, path: &ArrayVec<u32, 33>)
+fn sweep_path(spaces: &mut Slab<Space>, order: &mut RisingIds, path: &ArrayVec<u32, 33>)
     requires few { (s n : ℕ) → entry_on spaces.old s n ≢ None → n < 16777216 }
     requires listed { AreListed (id_on spaces.old) order.old }
     ensures left { (s : ℕ) → get spaces.new s ≡ left_on path.now.items spaces.old s }
@@ -336,6 +333,21 @@ pub(crate) fn sweep_path(spaces: &mut Slab<Space>, order: &mut RisingIds, path: 
     for k in 0..path.len() {
         drop_dead(spaces, order, path[k]);
     }
+}
+
+/// Drops the dead namespaces on the path of a namespace that has fallen. On that of one that stands none is dead.
+pub(crate) fn sweep_fallen(spaces: &mut Slab<Space>, order: &mut RisingIds, space: u32)
+    requires few { (s n : ℕ) → entry_on spaces.old s n ≢ None → n < 16777216 }
+    requires listed { AreListed (id_on spaces.old) order.old }
+    ensures left { (s : ℕ) → get spaces.new s ≡ left_on (if fell spaces.old space then way spaces.old space else []) spaces.old s }
+    ensures order { order.new ≡ filter (λ p. is_some (get spaces.new p.1)) order.old }
+    ensures listed { AreListed (id_on spaces.new) order.new }
+{
+    if !has_fallen(spaces, space) {
+        return;
+    }
+    let path = path_of(spaces, space);
+    sweep_path(spaces, order, &path);
 }
 
 /// The path of a new namespace below the parent.

@@ -1,6 +1,6 @@
 //! The plain state of a store: what a snapshot shows.
 
-ghost use Rattle.std.specs.Prelude.{◌≡◌, Some, true, IsSome, IfOk, map, option_map};
+ghost use Rattle.std.specs.Prelude.{◌≡◌, Some, true, IsSome, IfOk, OnOk, map, option_map, ◌++◌, ◌∷◌, []};
 ghost use Rattle.pid_types.specs.Controls.{parent_control};
 ghost use Rattle.pid_types.specs.Shown.{Shows, with_count};
 ghost use Rattle.pid_numbers.specs.Numbering.{id_at, identifier_at};
@@ -10,53 +10,89 @@ ghost use Rattle.store_view.specs.View.{name_at, row_of, parent_id, space_of, st
 ghost use Rattle.store_view.specs.Whole.{IsWhole, HasParents};
 ghost use Rattle.translate.specs.ById.{control_row_of};
 
+use arrayvec::ArrayVec;
 use pid_types::call::Kind;
-use pid_types::plain::{ControlRow, Name, Plain, Row, Space};
+use pid_types::plain::{ControlRow, Life, Name, Plain, Row, Space};
 use std::alloc::AllocError;
 use store_view::{Found, find_task, laws};
 use task_store::TaskStore;
 
-/// The name of an identifier.
-fn identifier_name(store: &TaskStore, key: u32) -> Name
+/// Writes the name of an identifier.
+fn write_name(store: &TaskStore, key: u32, name: &mut Name)
     requires { IsSome (identifier_at store.now.numbering key) }
-    ensures { result ≡ name_at store.now.numbering key }
+    ensures { name.new ≡ name_at store.now.numbering key }
 {
-    store.numbers().name(key)
+    store.numbers().write_name(key, name);
 }
 
-/// The name of a task's parent; none of the root init's.
-fn parent_name(store: &TaskStore, key: u32) -> Option<Name>
-    requires parents { HasParents store.now }
-    requires there { IsSome (task_at store.now.tree key) }
-    ensures { result ≡ option_map (name_at store.now.numbering) (parent_of store.now.tree key) }
-{
-    laws(store);
-    match store.tree().parent(key) {
-        Some(parent) => Some(identifier_name(store, parent)),
-        None => None,
+/// A name to be written over.
+fn no_name() -> Name {
+    Name {
+        space: 0,
+        numbers: ArrayVec::new(),
     }
 }
 
-/// The row of a task.
-fn task_row(store: &TaskStore, found: &Found) -> Row
+/// Writes the name of a task's parent; none of the root init's.
+fn write_parent(store: &TaskStore, key: u32, name: &mut Option<Name>)
+    requires parents { HasParents store.now }
+    requires there { IsSome (task_at store.now.tree key) }
+    ensures { name.new ≡ option_map (name_at store.now.numbering) (parent_of store.now.tree key) }
+{
+    laws(store);
+    let Some(parent) = store.tree().parent(key) else {
+        *name = None;
+        return;
+    };
+    write_name(store, parent, name.get_or_insert_with(no_name));
+}
+
+/// Writes the row of a task over another.
+fn write_row(store: &TaskStore, found: &Found, row: &mut Row)
     requires parents { HasParents store.now }
     requires there { task_at store.now.tree found.now.key ≡ Some found.now.task }
-    ensures { result ≡ row_of store.now found.now.key found.now.task }
+    ensures { row.new ≡ row_of store.now found.now.key found.now.task }
 {
     laws(store);
     let group = store.members().group(found.key);
     let session = store.members().session(found.key);
+    write_name(store, found.key, &mut row.name);
+    write_parent(store, found.key, &mut row.parent);
+    write_name(store, group, &mut row.group);
+    write_name(store, session, &mut row.session);
+    row.executed = found.task.executed;
+    row.life = found.task.life;
+    row.home = store.controls().home_id(found.task.home);
+    row.children_space = found.task.children_space;
+    row.subreaper = found.task.subreaper;
+}
+
+/// A row to be written over.
+fn no_row() -> Row {
     Row {
-        name: identifier_name(store, found.key),
-        parent: parent_name(store, found.key),
-        group: identifier_name(store, group),
-        session: identifier_name(store, session),
-        executed: found.task.executed,
-        life: found.task.life,
-        home: store.controls().home_id(found.task.home),
-        children_space: found.task.children_space,
-        subreaper: found.task.subreaper,
+        name: no_name(),
+        parent: Some(no_name()),
+        group: no_name(),
+        session: no_name(),
+        executed: false,
+        life: Life::Live,
+        home: 0,
+        children_space: 0,
+        subreaper: false,
     }
+}
+
+/// Adds the row of a task, which is written where it stands: a row has room for four names of 33 numbers. The error is want of
+/// memory.
+fn push_row(store: &TaskStore, found: &Found, rows: &mut Vec<Row>) -> Result<(), AllocError>
+    requires parents { HasParents store.now }
+    requires there { task_at store.now.tree found.now.key ≡ Some found.now.task }
+    ensures { OnOk result (rows.new.items ≡ rows.old.items ++ row_of store.now found.now.key found.now.task ∷ []) }
+{
+    rows.push(no_row())?;
+    let last = rows.len() - 1;
+    write_row(store, found, &mut rows[last]);
+    Ok(())
 }
 
 /// The tasks by their numbers in the root namespace.
@@ -71,7 +107,7 @@ fn all_rows(store: &TaskStore) -> Result<Vec<Row>, AllocError>
         let Some(found) = find_task(store, 0, number) else {
             unreachable!()
         };
-        rows.push(task_row(store, &found))?;
+        push_row(store, &found, &mut rows)?;
         from = number + 1;
     }
     Ok(rows)

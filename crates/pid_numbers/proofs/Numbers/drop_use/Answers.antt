@@ -1,11 +1,11 @@
-use Rattle.std.proofs.Common.{◌≡◌, ◌∙◌, sym, ap, refl, subst, List, Bool, is_some, get_or, ℕ, ◌-◌, length, Some, None, true, false, IfSome, map, option_map, if◌then◌else◌}
+use Rattle.std.proofs.Common.{◌≡◌, ◌∙◌, sym, ap, refl, subst, List, Bool, is_some, get_or, ℕ, ◌-◌, length, Some, None, true, false, IfSome, map, option_map, if◌then◌else◌, []}
 use Rattle.index_array.specs.Place.{with_mark}
 use Rattle.std.specs.List.{filter}
 use Rattle.slab.specs.Slab.{Slab}
 use Rattle.pid_numbers.specs.declared.spaces.Space.{Space}
 use Rattle.pid_numbers.specs.declared.names.Ident.{Ident}
 use Rattle.pid_numbers.specs.Numbering.{Numbering, is_there, less, uses, is_used, is_used_as, swept_at}
-use Rattle.pid_numbers.specs.Slabs.{id_on, numbering_of, AreListed, leads, namespace_of, identifier_of, way, entry_on, bound_on, name_at, fell, touched, mark_of}
+use Rattle.pid_numbers.specs.Slabs.{id_on, numbering_of, AreListed, leads, namespace_of, identifier_of, way, entry_on, bound_on, name_at, fell, touched, mark_of, namespaces_of}
 use Rattle.pid_numbers.proofs.Views as views
 use Rattle.pid_numbers.proofs.Ties as ties
 use Rattle.pid_numbers.proofs.Sweeps as sweeps
@@ -110,8 +110,8 @@ release_path-requires c =
       len = drops.gone-len (way spaces) (name_at idents) (leads (entry_on spaces)) c.self.invariant.whole.numbering.tied c.args.ident gone one;
     }
 
-pub sweep_path-requires : goal.sweep_path-requires
-sweep_path-requires c =
+pub sweep_fallen-requires : goal.sweep_fallen-requires
+sweep_fallen-requires c =
     let spaces = c.self.inside.spaces in
     let idents = c.self.inside.idents in
     let gone = identifier_of c.in-Some.gone in
@@ -123,6 +123,14 @@ sweep_path-requires c =
       listed = orders.listed-same (id_on spaces) (id_on c.release_path.new.spaces) c.self.inside.order c.self.invariant.listed (orders.ids-same c.release_path.new.spaces spaces c.release_path.ensures.namespaces);
     }
 
+-- the path that a sweep walks, which is none where the namespace stands
+abbrev swept_path : Slab Space → ℕ → List ℕ
+swept_path spaces s = if fell spaces s then way spaces s else []
+
+-- a release changes nothing of it
+swept_same : (new old : Slab Space) (s : ℕ) → ((k : ℕ) → way new k ≡ way old k) → namespaces_of new ≡ namespaces_of old → swept_path new s ≡ swept_path old s
+swept_same new old s ways same = ap (λ b. if b then way new s else []) (views.fell-same new old same s) ∙ ap (λ p. if fell old s then p else []) (ways s)
+
 pub invariant_of-self-2 : goal.invariant_of-self-2
 invariant_of-self-2 c =
     let spaces = c.self.inside.spaces in
@@ -133,9 +141,9 @@ invariant_of-self-2 c =
     (ap (option_map identifier_of) c.try_remove.ensures.updates.changed) (λ j m. ap (option_map identifier_of) (c.try_remove.ensures.updates.others j m) ∙ c.less_use.ensures.others j m) in
     let kept = drops.off-release c.self.inside.pid_max spaces c.release_path.new.spaces (name_at idents) (name_at c.try_remove.new.self) c.self.invariant.whole.numbering c.args.ident gone one c.release_path.ensures.way c.release_path.ensures.bound c.release_path.ensures.entries in
     record {
-      whole = drops.whole-swept c.self.inside.pid_max spaces c.release_path.new.spaces c.sweep_path.new.spaces (name_at idents) (name_at c.try_remove.new.self) c.self.invariant.whole b
-          c.in-Some.gone.space c.release_path.ensures.way c.release_path.ensures.namespaces kept c.fallen_path-path.result.items c.fallen_path-path.ensures c.sweep_path.ensures.left;
-      listed = c.sweep_path.ensures.listed;
+      whole = drops.whole-swept c.self.inside.pid_max spaces c.release_path.new.spaces c.sweep_fallen.new.spaces (name_at idents) (name_at c.try_remove.new.self) c.self.invariant.whole b
+          c.in-Some.gone.space c.release_path.ensures.way c.release_path.ensures.namespaces kept (swept_path c.release_path.new.spaces c.in-Some.gone.space) (swept_same c.release_path.new.spaces spaces c.in-Some.gone.space c.release_path.ensures.way c.release_path.ensures.namespaces) c.sweep_fallen.ensures.left;
+      listed = c.sweep_fallen.ensures.listed;
     }
 
 pub returns-clause-namespaces : goal.returns-clause-namespaces
@@ -147,9 +155,9 @@ returns-clause-namespaces c s =
     let b = drops.after-release c.self.inside.pid_max spaces c.release_path.new.spaces (name_at idents) (name_at c.try_remove.new.self) c.self.invariant.whole.numbering c.args.ident gone one c.release_path.ensures.way c.release_path.ensures.bound c.release_path.ensures.entries
     (ap (option_map identifier_of) c.try_remove.ensures.updates.changed) (λ j m. ap (option_map identifier_of) (c.try_remove.ensures.updates.others j m) ∙ c.less_use.ensures.others j m) in
     let kept = drops.off-release c.self.inside.pid_max spaces c.release_path.new.spaces (name_at idents) (name_at c.try_remove.new.self) c.self.invariant.whole.numbering c.args.ident gone one c.release_path.ensures.way c.release_path.ensures.bound c.release_path.ensures.entries in
-    ties.get_or-map_option namespace_of c.sweep_path.new.spaces.slots s
-    ∙ drops.swept-same c.self.inside.pid_max spaces c.release_path.new.spaces c.sweep_path.new.spaces (name_at idents) (name_at c.try_remove.new.self) c.self.invariant.whole b
-    c.in-Some.gone.space c.release_path.ensures.way c.release_path.ensures.namespaces kept c.fallen_path-path.result.items c.fallen_path-path.ensures c.sweep_path.ensures.left c.try_remove.new.self c.self.inside.order b s
+    ties.get_or-map_option namespace_of c.sweep_fallen.new.spaces.slots s
+    ∙ drops.swept-same c.self.inside.pid_max spaces c.release_path.new.spaces c.sweep_fallen.new.spaces (name_at idents) (name_at c.try_remove.new.self) c.self.invariant.whole b
+    c.in-Some.gone.space c.release_path.ensures.way c.release_path.ensures.namespaces kept (swept_path c.release_path.new.spaces c.in-Some.gone.space) (swept_same c.release_path.new.spaces spaces c.in-Some.gone.space c.release_path.ensures.way c.release_path.ensures.namespaces) c.sweep_fallen.ensures.left c.try_remove.new.self c.self.inside.order b s
     ∙ drops.swept-next (numbering_of c.self.inside.pid_max c.release_path.new.spaces c.try_remove.new.self c.self.inside.order) c.self.inside.idents.vacant_key s
     ∙ ap (λ l. swept_at (record { pid_max = c.self.inside.pid_max; next = c.self.inside.idents.vacant_key; namespaces = l; names = map (option_map identifier_of) c.try_remove.new.self.slots; order = c.self.inside.order }) s) c.release_path.ensures.namespaces
     ∙ ap (λ b. swept_at (record b { names = map (option_map identifier_of) c.try_remove.new.self.slots }) s) c.self.view_is
@@ -171,12 +179,12 @@ pub returns-clause-here : goal.returns-clause-here
 returns-clause-here c u is =
     let now = c.less_use.ensures.here u (sym (views.identifier_is c.self.inside.pid_max c.self.inside.spaces c.self.inside.idents c.self.inside.order c.args.self.now c.self.view_is c.args.ident) ∙ is) in
     let none : is_used (less c.args.kind u) ≡ false = sym (c.in_use.ensures (less c.args.kind u) now) ∙ c.if-in_use.false in
-    views.name_is c.self.inside.pid_max c.sweep_path.new.spaces c.try_remove.new.self c.self.inside.order c.args.ident ∙ ap (option_map identifier_of) c.try_remove.ensures.updates.changed
+    views.name_is c.self.inside.pid_max c.sweep_fallen.new.spaces c.try_remove.new.self c.self.inside.order c.args.ident ∙ ap (option_map identifier_of) c.try_remove.ensures.updates.changed
     ∙ sym (ap (λ b. if b then Some (less c.args.kind u) else None) none)
 
 pub returns-clause-others : goal.returns-clause-others
 returns-clause-others c j m =
-    views.name_is c.self.inside.pid_max c.sweep_path.new.spaces c.try_remove.new.self c.self.inside.order j ∙ ap (option_map identifier_of) (c.try_remove.ensures.updates.others j m) ∙ c.less_use.ensures.others j m
+    views.name_is c.self.inside.pid_max c.sweep_fallen.new.spaces c.try_remove.new.self c.self.inside.order j ∙ ap (option_map identifier_of) (c.try_remove.ensures.updates.others j m) ∙ c.less_use.ensures.others j m
     ∙ sym (views.identifier_is c.self.inside.pid_max c.self.inside.spaces c.self.inside.idents c.self.inside.order c.args.self.now c.self.view_is j)
 
 -- the order where no namespace goes
@@ -193,6 +201,6 @@ returns-then-in_use-clause-order c = same_order c.mark_numbers.new.spaces c.less
 
 pub returns-clause-order : goal.returns-clause-order
 returns-clause-order c =
-    c.sweep_path.ensures.order
-    ∙ ap (λ (f : ℕ → Bool). filter (λ p. f p.1) c.self.inside.order) (λ i s. sym (orders.there-is c.sweep_path.new.spaces s) i)
-    ∙ ap (λ b. filter (λ p. is_some (get_or (map (option_map namespace_of) c.sweep_path.new.spaces.slots) p.1 None)) b.order) c.self.view_is
+    c.sweep_fallen.ensures.order
+    ∙ ap (λ (f : ℕ → Bool). filter (λ p. f p.1) c.self.inside.order) (λ i s. sym (orders.there-is c.sweep_fallen.new.spaces s) i)
+    ∙ ap (λ b. filter (λ p. is_some (get_or (map (option_map namespace_of) c.sweep_fallen.new.spaces.slots) p.1 None)) b.order) c.self.view_is

@@ -27,8 +27,8 @@ overflow_sub-above c =
     let b = c.levels-2.ensures.value in
     omega (arith, few, a, b)
 
-pub numbers_inwards-requires : goal.numbers_inwards-requires
-numbers_inwards-requires c =
+pub write_numbers_inwards-requires : goal.write_numbers_inwards-requires
+write_numbers_inwards-requires c =
     let spaces = c.self.inside.spaces in
     let idents = c.self.inside.idents in
     let b = c.self.invariant.whole.numbering in
@@ -60,7 +60,7 @@ returns c =
     let few = w.1 in
     let place : k ≡ length (way spaces own) - length (way spaces c.args.space) = ap (λ n. n - c.levels-2.result) c.levels.ensures.value ∙ ap (λ n. length (way spaces own) - n) c.levels-2.ensures.value in
     let one : k + 1 ≡ suc k = omega arith in
-    c.numbers_inwards.ensures
+    c.write_numbers_inwards.ensures
     ∙ ap (λ o. option_map_or (λ u. reverse (take (k + 1) u.numbers)) o []) h.1
     ∙ ap (λ n. reverse (take n h.0.numbers)) one
     ∙ sym (views.levels-of c.self.inside.pid_max spaces idents c.self.inside.order c.args.self.now c.self.view_is c.args.ident c.args.space own h.0 h.1 h.2

@@ -14,9 +14,8 @@ loop-number-preserved c =
     let in_range : c.in-Some.number < s.numbering.pid_max = (c.laws.ensures.numbering.range found.key 0 c.in-Some.number here.1).1 in
     let rest = collect (row_numbered s 0) (c.in-Some.number + 1) (s.numbering.pid_max - (c.in-Some.number + 1)) in
     record {
-      walk = ap (λ items. items ++ rest) c.in_ok-push.ensures.items
-          ∙ append_assoc c.loop-number.rows.items (c.task_row.result ∷ []) rest
-          ∙ ap (λ r. c.loop-number.rows.items ++ r ∷ rest) c.task_row.ensures
+      walk = ap (λ items. items ++ rest) c.in_ok-push_row.ensures
+          ∙ append_assoc c.loop-number.rows.items (row_of s found.key found.task ∷ []) rest
           ∙ ap (λ rows. c.loop-number.rows.items ++ rows) (sym (collect-next (row_numbered s 0) s.numbering.pid_max c.loop-number.from c.in-Some.number (row_of s found.key found.task) next.0 in_range
           (λ j above below. row-none s c.laws.ensures j (λ u. let least = next.2 j above u in absurd (omega (arith, least, below))))
           (row-at s c.laws.ensures found.key 0 c.in-Some.number found.task here.0 here.1)))

@@ -4,7 +4,7 @@ use Rattle.pid_numbers.specs.declared.spaces.Space.{Space}
 use Rattle.slab.specs.Slab.{get}
 use Rattle.pid_numbers.specs.Slabs.{namespace_of, way, name_at}
 use Rattle.pid_numbers.proofs.Views as views
-use Rattle.pid_numbers.proofs.Numbers.name.Goals as goal
+use Rattle.pid_numbers.proofs.Numbers.write_name.Goals as goal
 
 -- a namespace without an id is not there
 no_path : (o : Option Space) → option_map (λ t. t.id) (option_map namespace_of o) ≡ None → option_map_or (λ t. t.path.items) o [] ≡ []
@@ -23,13 +23,13 @@ unreachable-requires-in_default-id_at c =
     let none = ap length (no_path (get spaces own) (sym c.id_at.ensures ∙ c.in_default-id_at.is)) in
     omega (arith, len, some, none)
 
-pub numbers_inwards-numbers-requires-clause-there : goal.numbers_inwards-numbers-requires-clause-there
-numbers_inwards-numbers-requires-clause-there c =
+pub write_numbers_inwards-requires-clause-there : goal.write_numbers_inwards-requires-clause-there
+write_numbers_inwards-requires-clause-there c =
     let spaces = c.self.inside.spaces in
     let idents = c.self.inside.idents in
     let b = c.self.invariant.whole.numbering in
     let own = c.in-Some.own in
     let h = views.home (name_at idents c.args.ident) own c.in-Some.ensures in
     let len : length h.0.numbers ≡ length (way spaces own) = b.tied.full c.args.ident h.0 h.1 ∙ ap (λ s. length (way spaces s)) h.2 in
-    let all = c.levels.ensures.value in
-    subst (λ o. IfSome o (λ u. c.levels.result ≤ length u.numbers)) (sym h.1) (omega (arith, len, all))
+    let all = c.levels-levels.ensures.value in
+    subst (λ o. IfSome o (λ u. c.levels-levels.result ≤ length u.numbers)) (sym h.1) (omega (arith, len, all))
