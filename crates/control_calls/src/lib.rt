@@ -8,10 +8,11 @@
 ghost use Rattle.std.specs.Prelude.{◌≡◌, IfOk, OnErr, OnOk};
 ghost use Rattle.pid_types.specs.Changes.{count_tasks, make_control as make_control_of, remove_control as remove_control_of, set_limit as set_limit_of};
 ghost use Rattle.pid_types.specs.Sound.{IsBelow};
+ghost use Rattle.pid_types.specs.Short.{reply_of};
 ghost use Rattle.store_view.specs.View.{state_of};
 ghost use Rattle.store_view.specs.Whole.{IsWhole, HasParents};
 
-use pid_types::reply::{Refusal, Reply};
+use pid_types::reply::{Refusal, ShortReply};
 use pids_charge::ControlFault;
 use std::alloc::AllocError;
 use store_view::laws;
@@ -22,24 +23,28 @@ use task_store::TaskStore;
 /// The refusals are `NoControl`, and then `ControlDepth` where the parent has level 64, the deepest. The error is
 /// want of memory.
 #[tactic(auto, unfolding(pid_types::specs::Changes::make_control))]
-pub fn make_control(store: &mut TaskStore, stamp: u64, parent: u64) -> Result<Reply, AllocError>
+pub fn make_control(
+    store: &mut TaskStore,
+    stamp: u64,
+    parent: u64,
+) -> Result<ShortReply, AllocError>
     requires whole { IsWhole store.old }
     requires below { IsBelow stamp (state_of store.old) }
     ensures state { OnOk result (state_of store.new ≡ (make_control_of (state_of store.old) stamp parent).state) }
-    ensures reply { IfOk result (λ reply. reply ≡ (make_control_of (state_of store.old) stamp parent).reply) }
+    ensures reply { IfOk result (λ reply. reply_of reply ≡ (make_control_of (state_of store.old) stamp parent).reply) }
     ensures err { OnErr result (state_of store.new ≡ state_of store.old) }
     ensures parents { HasParents store.new }
 {
     laws(store);
     let Some(above) = store.controls().find(parent) else {
-        return Ok(Reply::Refused(Refusal::NoControl));
+        return Ok(ShortReply::Refused(Refusal::NoControl));
     };
     match store.make_control(above, stamp) {
-        Err(ControlFault::ControlDepth) => Ok(Reply::Refused(Refusal::ControlDepth)),
+        Err(ControlFault::ControlDepth) => Ok(ShortReply::Refused(Refusal::ControlDepth)),
         Err(ControlFault::NoMemory) => Err(AllocError),
         Ok(_) => {
             laws(store);
-            Ok(Reply::Control(stamp))
+            Ok(ShortReply::Control(stamp))
         }
     }
 }
@@ -49,21 +54,21 @@ pub fn make_control(store: &mut TaskStore, stamp: u64, parent: u64) -> Result<Re
 /// The refusals are `NoControl`, `RootControl`, and `ControlBusy` where a live task or a control group is
 /// directly in it.
 #[tactic(auto, unfolding(pid_types::specs::Changes::remove_control))]
-pub fn remove_control(store: &mut TaskStore, id: u64) -> Reply
+pub fn remove_control(store: &mut TaskStore, id: u64) -> ShortReply
     requires { IsWhole store.old }
     ensures state { state_of store.new ≡ (remove_control_of (state_of store.old) id).state }
-    ensures reply { result ≡ (remove_control_of (state_of store.old) id).reply }
+    ensures reply { reply_of result ≡ (remove_control_of (state_of store.old) id).reply }
     ensures parents { HasParents store.new }
 {
     laws(store);
     let Some(key) = store.controls().find(id) else {
-        return Reply::Refused(Refusal::NoControl);
+        return ShortReply::Refused(Refusal::NoControl);
     };
     match store.remove_control(key) {
-        Err(refusal) => Reply::Refused(refusal),
+        Err(refusal) => ShortReply::Refused(refusal),
         Ok(()) => {
             laws(store);
-            Reply::Done
+            ShortReply::Done
         }
     }
 }
@@ -72,21 +77,21 @@ pub fn remove_control(store: &mut TaskStore, id: u64) -> Reply
 ///
 /// The refusals are `NoControl`, `RootControl` and `BadLimit`.
 #[tactic(auto, unfolding(pid_types::specs::Changes::set_limit))]
-pub fn set_limit(store: &mut TaskStore, id: u64, limit: Option<u32>) -> Reply
+pub fn set_limit(store: &mut TaskStore, id: u64, limit: Option<u32>) -> ShortReply
     requires { IsWhole store.old }
     ensures state { state_of store.new ≡ (set_limit_of (state_of store.old) id limit).state }
-    ensures reply { result ≡ (set_limit_of (state_of store.old) id limit).reply }
+    ensures reply { reply_of result ≡ (set_limit_of (state_of store.old) id limit).reply }
     ensures parents { HasParents store.new }
 {
     laws(store);
     let Some(key) = store.controls().find(id) else {
-        return Reply::Refused(Refusal::NoControl);
+        return ShortReply::Refused(Refusal::NoControl);
     };
     match store.set_limit(key, limit) {
-        Err(refusal) => Reply::Refused(refusal),
+        Err(refusal) => ShortReply::Refused(refusal),
         Ok(()) => {
             laws(store);
-            Reply::Done
+            ShortReply::Done
         }
     }
 }
@@ -94,14 +99,14 @@ pub fn set_limit(store: &mut TaskStore, id: u64, limit: Option<u32>) -> Reply
 /// A read of `pids.current`: how many tasks the control group and those below it have, zombies among them. The
 /// refusal is `NoControl`.
 #[tactic(auto, unfolding(pid_types::specs::Changes::count_tasks))]
-pub fn count(store: &TaskStore, id: u64) -> Reply
+pub fn count(store: &TaskStore, id: u64) -> ShortReply
     requires { IsWhole store.now }
     ensures state { (count_tasks (state_of store.now) id).state ≡ state_of store.now }
-    ensures reply { result ≡ (count_tasks (state_of store.now) id).reply }
+    ensures reply { reply_of result ≡ (count_tasks (state_of store.now) id).reply }
 {
     laws(store);
     let Some(key) = store.controls().find(id) else {
-        return Reply::Refused(Refusal::NoControl);
+        return ShortReply::Refused(Refusal::NoControl);
     };
-    Reply::Counted(store.controls().count(key))
+    ShortReply::Counted(store.controls().count(key))
 }

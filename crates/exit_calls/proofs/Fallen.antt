@@ -4,6 +4,7 @@ use Rattle.std.specs.Prelude.{reverse, slice_index_or}
 use Rattle.std.specs.Option.{option_map_or}
 use Rattle.std.specs.List.{AllByRecursion}
 use Rattle.std.proofs.lemmas.Bool.{cases_eq, eq-eqb, ne_eqb}
+use Rattle.std.proofs.lemmas.Map.Entries.{option_filter}
 use Rattle.pid_types.specs.declared.plain.Name.{Name}
 use Rattle.pid_types.specs.declared.plain.Row.{Row}
 use Rattle.pid_types.specs.declared.plain.Life.{Life}
@@ -21,7 +22,6 @@ use Rattle.task_tree.specs.Tree.{task_at, parent_of, lives}
 use Rattle.task_store.specs.Store.{Store, IsLess}
 use Rattle.task_store.proofs.Groups.{held}
 use Rattle.task_store.proofs.Less.{number-less}
-use Rattle.store_view.specs.Collect.{kept_if}
 use Rattle.store_view.specs.View.{name_of, name_at, parent_id, space_of, spaces_of, row_of, row_with, state_of}
 use Rattle.store_view.specs.Lawful.{HasLaws, IsLawful}
 use Rattle.store_view.specs.Whole.{HasParents, IsWhole}
@@ -32,7 +32,7 @@ use Rattle.store_view.proofs.Rows.{rows-both}
 use Rattle.store_view.proofs.Sweeps.{name-less}
 use Rattle.store_view.proofs.Changed.{row-left, swept}
 use Rattle.ns_teardown.specs.Fall.{Slot, slot_at, is_member, has_parent_within, member_after_fall, slot_after_fall, life_after_fall, FallsWithin, KeepsHomes}
-use Rattle.ns_teardown.proofs.Marked.{number-marked, outer-parent}
+use Rattle.ns_teardown.proofs.Marked.{path-marked, number-marked, outer-parent}
 use Rattle.exit_calls.proofs.Within.{within-is, member-is}
 use Rattle.exit_calls.proofs.Good.{good-tasks}
 
@@ -42,13 +42,6 @@ module _ (b c : Numbering) (l : HasLaws b) (space i : ℕ) (own : id_at b space 
   id-same n = ap (option_map (λ t. t.id)) (f.namespaces n) ∙ go (namespace_at b n)
     where
       go : (o : Option Namespace) → option_map (λ t. t.id) (option_map (fallen_within space) o) ≡ option_map (λ t. t.id) o
-      go None = refl
-      go (Some t) = refl
-
-  path-same : (n : ℕ) → path_at c n ≡ path_at b n
-  path-same n = ap (λ o. option_map_or (λ t. t.path) o []) (f.namespaces n) ∙ go (namespace_at b n)
-    where
-      go : (o : Option Namespace) → option_map_or (λ t. t.path) (option_map (fallen_within space) o) [] ≡ option_map_or (λ t. t.path) o []
       go None = refl
       go (Some t) = refl
 
@@ -64,7 +57,7 @@ module _ (b c : Numbering) (l : HasLaws b) (space i : ℕ) (own : id_at b space 
       go (Some u) = ap (λ o. named_in (unwrap_or o 0) u.numbers) (id-same u.space)
 
   parent-same : (n : ℕ) → parent_id c n ≡ parent_id b n
-  parent-same n = ap (λ p. option_and_then (id_at c) (slice_get p 1)) (path-same n) ∙ go (slice_get (path_at b n) 1)
+  parent-same n = ap (λ p. option_and_then (id_at c) (slice_get p 1)) (path-marked space b c f n) ∙ go (slice_get (path_at b n) 1)
     where
       go : (o : Option ℕ) → option_and_then (id_at c) o ≡ option_and_then (id_at b) o
       go None = refl
@@ -188,16 +181,16 @@ module _ (s s' : Store) (l : IsLawful s) (l' : IsLawful s') (w : IsWhole s) (ini
   with_life : (k : ℕ) (v : Task) (x : Life) → x ≡ (after (row_of s k v)).life → record (row_of s k v) { life = x } ≡ after (row_of s k v)
   with_life k v x same = λ i. record (row_of s k v) { life = same i }
 
-  row_here : (k : ℕ) (v : Task) → task_at s.tree k ≡ Some v → row_with s' k ≡ option_map after (kept_if stays (Some (row_of s k v)))
+  row_here : (k : ℕ) (v : Task) → task_at s.tree k ≡ Some v → row_with s' k ≡ option_map after (option_filter stays (Some (row_of s k v)))
   row_here k v e = go (is_member s.numbering u.space k) refl (has_parent_within s u.space k) refl
     where
-      keeps : (b : Bool) → goes_in_fall (state_of s) row (row_of s k v) ≡ b → kept_if stays (Some (row_of s k v)) ≡ (if not b then Some (row_of s k v) else None)
+      keeps : (b : Bool) → goes_in_fall (state_of s) row (row_of s k v) ≡ b → option_filter stays (Some (row_of s k v)) ≡ (if not b then Some (row_of s k v) else None)
       keeps b goes = ap (λ b. if not b then Some (row_of s k v) else None) goes
 
       here : (life : Life) → slot_at s' k ≡ record (slot_at s k) { task = Some (record v { life = life }) } → life ≡ (after (row_of s k v)).life → row_with s' k ≡ Some (after (row_of s k v))
       here life slot same = ap (λ (x : Slot). option_map (row_of s' k) x.task) slot ∙ ap Some (left k v life slot ∙ with_life k v life same)
 
-      go : (m : Bool) → is_member s.numbering u.space k ≡ m → (g : Bool) → has_parent_within s u.space k ≡ g → row_with s' k ≡ option_map after (kept_if stays (Some (row_of s k v)))
+      go : (m : Bool) → is_member s.numbering u.space k ≡ m → (g : Bool) → has_parent_within s u.space k ≡ g → row_with s' k ≡ option_map after (option_filter stays (Some (row_of s k v)))
       go true member true within =
           ap (λ (x : Slot). option_map (row_of s' k) x.task) (slot_is k true true member within)
           ∙ sym (ap (option_map after) (keeps true (goes_is k v e ∙ ap (λ m. m && has_parent_within s u.space k) member ∙ within)))
@@ -214,7 +207,7 @@ module _ (s s' : Store) (l : IsLawful s) (l' : IsLawful s') (w : IsWhole s) (ini
           never (inl same) = absurd (let z : true ≡ false = sym (ap (is_member s.numbering u.space) same ∙ ap is_some first) ∙ outside in cc)
           never (inr m) = ap (λ b. if b then Zombie (Exited status) else v.life) (ne_eqb k init m)
 
-  each_row : (k : ℕ) → row_with s' k ≡ option_map after (kept_if stays (row_with s k))
+  each_row : (k : ℕ) → row_with s' k ≡ option_map after (option_filter stays (row_with s k))
   each_row k = go (task_at s.tree k) refl
     where
       vacant_slot : task_at s.tree k ≡ None → (m g : Bool) → (if m then member_after_fall g (k == init) status (slot_at s k) else slot_at s k).task ≡ None
@@ -222,12 +215,12 @@ module _ (s s' : Store) (l : IsLawful s) (l' : IsLawful s') (w : IsWhole s) (ini
       vacant_slot e true false = ap (option_map (λ (x : Task). record x { life = life_after_fall (k == init) status x })) e
       vacant_slot e false g = e
 
-      go : (o : Option Task) → task_at s.tree k ≡ o → row_with s' k ≡ option_map after (kept_if stays (row_with s k))
+      go : (o : Option Task) → task_at s.tree k ≡ o → row_with s' k ≡ option_map after (option_filter stays (row_with s k))
       go None e =
           ap (λ (x : Slot). option_map (row_of s' k) x.task) (f.slots k)
           ∙ ap (option_map (row_of s' k)) (vacant_slot e (is_member s.numbering u.space k) (has_parent_within s u.space k))
-          ∙ sym (ap (λ o. option_map after (kept_if stays (option_map (row_of s k) o))) e)
-      go (Some v) e = row_here k v e ∙ sym (ap (λ o. option_map after (kept_if stays (option_map (row_of s k) o))) e)
+          ∙ sym (ap (λ o. option_map after (option_filter stays (option_map (row_of s k) o))) e)
+      go (Some v) e = row_here k v e ∙ sym (ap (λ o. option_map after (option_filter stays (option_map (row_of s k) o))) e)
 
   roots : (k : ℕ) (v : Task) → task_at s'.tree k ≡ Some v → number_of s'.numbering k 0 ≡ number_of s.numbering k 0
   roots k v e =

@@ -6,12 +6,13 @@ ghost use Rattle.std.specs.Prelude.{◌≡◌, ◌≢◌, ◌==◌, Some, true};
 ghost use Rattle.std.specs.Option.{option_eq};
 ghost use Rattle.pid_types.specs.Outcome.{sweep};
 ghost use Rattle.pid_types.specs.Exit.{exit as exit_of, fall as fall_of, rows_after_exit};
+ghost use Rattle.pid_types.specs.Short.{reply_of};
 ghost use Rattle.pid_numbers.specs.Numbering.{Identifier, identifier_at, number_of};
 ghost use Rattle.task_tree.specs.Tree.{task_at, lives};
 ghost use Rattle.store_view.specs.View.{row_of, state_of};
 ghost use Rattle.store_view.specs.Whole.{HasParents, IsWhole};
 
-use pid_types::reply::{Refusal, Reply};
+use pid_types::reply::{Refusal, ShortReply};
 use store_view::{find_live, laws, own_space};
 use task_store::TaskStore;
 use task_tree::Task;
@@ -63,18 +64,18 @@ fn fall(store: &mut TaskStore, init: u32, task: Task, status: u8)
 /// step for each ancestor up to that subreaper, or else up to the first in another namespace. A fall costs a
 /// step for each namespace that is there, and a search for each member and each level of its identifier.
 #[tactic(auto, unfolding(pid_types::specs::Exit::exit))]
-pub fn exit(store: &mut TaskStore, caller: u32, status: u8) -> Reply
+pub fn exit(store: &mut TaskStore, caller: u32, status: u8) -> ShortReply
     requires { IsWhole store.old }
     ensures state { state_of store.new ≡ (exit_of (state_of store.old) caller status).state }
-    ensures reply { result ≡ (exit_of (state_of store.old) caller status).reply }
+    ensures reply { reply_of result ≡ (exit_of (state_of store.old) caller status).reply }
     ensures parents { HasParents store.new }
 {
     laws(store);
     let Some(found) = find_live(store, caller) else {
-        return Reply::Refused(Refusal::NoCaller);
+        return ShortReply::Refused(Refusal::NoCaller);
     };
     if is_first(store, 0, found.key) {
-        return Reply::Refused(Refusal::RootInit);
+        return ShortReply::Refused(Refusal::RootInit);
     }
     let space = own_space(store, found.key);
     if is_first(store, space, found.key) {
@@ -82,5 +83,5 @@ pub fn exit(store: &mut TaskStore, caller: u32, status: u8) -> Reply
     } else {
         end(store, found.key, found.task, status);
     }
-    Reply::Done
+    ShortReply::Done
 }

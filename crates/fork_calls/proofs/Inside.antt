@@ -31,7 +31,7 @@ use Rattle.store_view.proofs.Uses.{used-in}
 use Rattle.fork_calls.proofs.Draws.{IsPlanned, find-draws, map-draws}
 
 -- the first number of a new namespace
-first_draw : (pid_max : ℕ) → HasGoodPidMax pid_max → cyclic_draw pid_max 0 [] ≡ Some 1
+pub first_draw : (pid_max : ℕ) → HasGoodPidMax pid_max → cyclic_draw pid_max 0 [] ≡ Some 1
 unfolding cyclic_draw least_free
 first_draw pid_max good = let some = good.0 in let lt : nat_lt 1 pid_max ≡ true = grind (arith, some) in ap (λ b. if b then Some 1 else (if b then Some 1 else None)) lt
 

@@ -12,9 +12,10 @@ ghost use Rattle.pid_types.specs.declared.plain.Life.{Life};
 ghost use Rattle.pid_types.specs.declared.reply.Reply.{Reply};
 ghost use Rattle.fork_calls.specs.Outcomes.{forked_into, nest_refusal as nest_refusal_of, space_refusal, IsKeyOf};
 ghost use Rattle.pid_types.specs.Controls.{passed_limit as passed_limit_of};
-ghost use Rattle.pid_types.specs.Fork.{fork as fork_of, forked, no_room, is_gone, with_space};
+ghost use Rattle.pid_types.specs.Fork.{fork as fork_of, forked, is_gone, with_space};
 ghost use Rattle.pid_types.specs.Sound.{IsBelow};
 ghost use Rattle.pid_types.specs.declared.reply.Refusal.{Refusal};
+ghost use Rattle.pid_types.specs.Short.{reply_of};
 ghost use Rattle.pid_numbers.specs.Numbering.{id_at, path_at, draw_in, has_fallen_at, namespace_at};
 ghost use Rattle.task_tree.specs.declared.Task.{Task};
 ghost use Rattle.task_tree.specs.Tree.{task_at, lives};
@@ -24,7 +25,7 @@ ghost use Rattle.store_view.specs.Whole.{IsWhole, HasParents};
 use arrayvec::ArrayVec;
 use pid_numbers::PlanFault;
 use pid_types::plain::Life;
-use pid_types::reply::{Refusal, Reply};
+use pid_types::reply::{Refusal, ShortReply};
 use std::alloc::AllocError;
 use store_view::{Found, find_live, laws, own_space};
 use task_store::TaskStore;
@@ -54,26 +55,6 @@ fn id_of(store: &TaskStore, space: u32) -> u64
     }
 }
 
-/// The numbers for a child in the namespace, or why there can be none.
-fn plan_into(store: &TaskStore, found: &Found, space: u32) -> Result<ArrayVec<u32, 33>, Refusal>
-    requires there { task_at store.now.tree found.now.key ≡ Some found.now.task }
-    requires live { lives found.now.task ≡ true }
-    requires id { id_at store.now.numbering space ≡ Some found.now.task.children_space }
-    ensures ok { IfOk result (λ numbers. (no_room (state_of store.now) (row_of store.now found.now.key found.now.task) found.now.task.children_space ≡ None)
-        × (find (λ s. is_none (draw_in store.now.numbering s)) (path_at store.now.numbering space) ≡ None)
-        × (numbers.items ≡ map (λ s. unwrap_or (draw_in store.now.numbering s) 0) (path_at store.now.numbering space))) }
-    ensures err { IfErr result (λ r. no_room (state_of store.now) (row_of store.now found.now.key found.now.task) found.now.task.children_space ≡ Some r) }
-{
-    laws(store);
-    match store.numbers().plan(space) {
-        Err(full) => Err(Refusal::NoNumber(id_of(store, full))),
-        Ok(numbers) => match passed_limit(store, found) {
-            Some(refusal) => Err(refusal),
-            None => Ok(numbers),
-        },
-    }
-}
-
 /// A child of the task, before it has executed, whose own children go into the namespace with the id.
 fn child_of(found: &Found, children_space: u64) -> Task
     ensures { result ≡ record { children_space = children_space; home = found.now.task.home; executed = false; subreaper = false; life = Life.Live } }
@@ -88,16 +69,46 @@ fn child_of(found: &Found, children_space: u64) -> Task
 }
 
 /// The reply for a new task: its numbers in the caller's namespace and in the root.
-fn reply_for(store: &TaskStore, key: u32, own: u32) -> Reply
+fn reply_for(store: &TaskStore, key: u32, own: u32) -> ShortReply
     requires { IsSome (task_at store.now.tree key) }
     ensures { (i : ℕ) → id_at store.now.numbering own ≡ Some i
-        → result ≡ Reply.Forked (number_or_zero (state_of store.now).spaces (name_at store.now.numbering key) i) (root_number (name_at store.now.numbering key)) }
+        → reply_of result ≡ Reply.Forked (number_or_zero (state_of store.now).spaces (name_at store.now.numbering key) i) (root_number (name_at store.now.numbering key)) }
 {
     laws(store);
-    Reply::Forked {
+    ShortReply::Forked {
         child: store.numbers().number_in(key, own).unwrap_or(0),
         root: store.numbers().number_in(key, 0).unwrap_or(0),
     }
+}
+
+/// The caller's child in a namespace that stands, with the planned numbers. The error is want of memory.
+fn fork_planned(
+    store: &mut TaskStore,
+    found: &Found,
+    own: u32,
+    space: u32,
+    numbers: &ArrayVec<u32, 33>,
+) -> Result<ShortReply, AllocError>
+    requires whole { IsWhole store.old }
+    requires there { task_at store.old.tree found.now.key ≡ Some found.now.task }
+    requires live { lives found.now.task ≡ true }
+    requires own { id_at store.old.numbering own ≡ Some (name_at store.old.numbering found.now.key).space }
+    requires id { id_at store.old.numbering space ≡ Some found.now.task.children_space }
+    requires all { find (λ s. is_none (draw_in store.old.numbering s)) (path_at store.old.numbering space) ≡ None }
+    requires planned { numbers.now.items ≡ map (λ s. unwrap_or (draw_in store.old.numbering s) 0) (path_at store.old.numbering space) }
+    ensures state { OnOk result (state_of store.new ≡ (forked_into (state_of store.old) (state_of store.old) (row_of store.old found.now.key found.now.task) found.now.task.children_space).state) }
+    ensures reply { IfOk result (λ reply. reply_of reply ≡ (forked_into (state_of store.old) (state_of store.old) (row_of store.old found.now.key found.now.task) found.now.task.children_space).reply) }
+    ensures err { OnErr result (state_of store.new ≡ state_of store.old) }
+    ensures parents { HasParents store.new }
+{
+    laws(store);
+    if let Some(refusal) = passed_limit(store, found) {
+        return Ok(ShortReply::Refused(refusal));
+    }
+    let task = child_of(found, found.task.children_space);
+    let key = store.fork(Some(found.key), space, numbers, task)?;
+    laws(store);
+    Ok(reply_for(store, key, own))
 }
 
 /// The caller's child in a namespace that stands. The error is want of memory.
@@ -106,56 +117,57 @@ fn fork_into(
     found: &Found,
     own: u32,
     space: u32,
-) -> Result<Reply, AllocError>
+) -> Result<ShortReply, AllocError>
     requires whole { IsWhole store.old }
     requires there { task_at store.old.tree found.now.key ≡ Some found.now.task }
     requires live { lives found.now.task ≡ true }
     requires own { id_at store.old.numbering own ≡ Some (name_at store.old.numbering found.now.key).space }
     requires id { id_at store.old.numbering space ≡ Some found.now.task.children_space }
     ensures state { OnOk result (state_of store.new ≡ (forked_into (state_of store.old) (state_of store.old) (row_of store.old found.now.key found.now.task) found.now.task.children_space).state) }
-    ensures reply { IfOk result (λ reply. reply ≡ (forked_into (state_of store.old) (state_of store.old) (row_of store.old found.now.key found.now.task) found.now.task.children_space).reply) }
+    ensures reply { IfOk result (λ reply. reply_of reply ≡ (forked_into (state_of store.old) (state_of store.old) (row_of store.old found.now.key found.now.task) found.now.task.children_space).reply) }
     ensures err { OnErr result (state_of store.new ≡ state_of store.old) }
     ensures parents { HasParents store.new }
 {
     laws(store);
-    let numbers = match plan_into(store, found, space) {
-        Ok(numbers) => numbers,
-        Err(refusal) => return Ok(Reply::Refused(refusal)),
-    };
-    let task = child_of(found, found.task.children_space);
-    let key = store.fork(Some(found.key), space, &numbers, task)?;
-    laws(store);
-    Ok(reply_for(store, key, own))
+    let planned = store.numbers().plan(space);
+    match &planned {
+        Err(full) => Ok(ShortReply::Refused(Refusal::NoNumber(id_of(store, *full)))),
+        Ok(numbers) => fork_planned(store, found, own, space, numbers),
+    }
 }
 
-/// The numbers for a child in a new namespace inside the caller's own, or why there can be none.
-fn plan_inside(
-    store: &TaskStore,
+/// The caller's child in a new namespace inside the caller's own, with the planned numbers. The error is want of
+/// memory.
+fn fork_new_planned(
+    store: &mut TaskStore,
     found: &Found,
     own: u32,
     stamp: u64,
-) -> Result<ArrayVec<u32, 33>, Refusal>
-    requires whole { IsWhole store.now }
-    requires below { IsBelow stamp (state_of store.now) }
-    requires there { task_at store.now.tree found.now.key ≡ Some found.now.task }
+    numbers: &ArrayVec<u32, 33>,
+) -> Result<ShortReply, AllocError>
+    requires whole { IsWhole store.old }
+    requires below { IsBelow stamp (state_of store.old) }
+    requires there { task_at store.old.tree found.now.key ≡ Some found.now.task }
     requires live { lives found.now.task ≡ true }
-    requires id { id_at store.now.numbering own ≡ Some found.now.task.children_space }
-    requires stands { is_gone (state_of store.now) found.now.task.children_space ≡ false }
-    requires shallow { nat_le 32 (level (state_of store.now).spaces found.now.task.children_space) ≡ false }
-    ensures ok { IfOk result (λ numbers. (no_room (with_space (state_of store.now) found.now.task.children_space stamp) (row_of store.now found.now.key found.now.task) stamp ≡ None)
-        × (find (λ s. is_none (draw_in store.now.numbering s)) (path_at store.now.numbering own) ≡ None)
-        × (numbers.items ≡ 1 ∷ map (λ s. unwrap_or (draw_in store.now.numbering s) 0) (path_at store.now.numbering own))) }
-    ensures err { IfErr result (λ r. no_room (with_space (state_of store.now) found.now.task.children_space stamp) (row_of store.now found.now.key found.now.task) stamp ≡ Some r) }
+    requires own { id_at store.old.numbering own ≡ Some (name_at store.old.numbering found.now.key).space }
+    requires id { id_at store.old.numbering own ≡ Some found.now.task.children_space }
+    requires stands { is_gone (state_of store.old) found.now.task.children_space ≡ false }
+    requires shallow { nat_le 32 (level (state_of store.old).spaces found.now.task.children_space) ≡ false }
+    requires all { find (λ s. is_none (draw_in store.old.numbering s)) (path_at store.old.numbering own) ≡ None }
+    requires planned { numbers.now.items ≡ 1 ∷ map (λ s. unwrap_or (draw_in store.old.numbering s) 0) (path_at store.old.numbering own) }
+    ensures state { OnOk result (state_of store.new ≡ (forked_into (state_of store.old) (with_space (state_of store.old) found.now.task.children_space stamp) (row_of store.old found.now.key found.now.task) stamp).state) }
+    ensures reply { IfOk result (λ reply. reply_of reply ≡ (forked_into (state_of store.old) (with_space (state_of store.old) found.now.task.children_space stamp) (row_of store.old found.now.key found.now.task) stamp).reply) }
+    ensures err { OnErr result (state_of store.new ≡ state_of store.old) }
+    ensures parents { HasParents store.new }
 {
     laws(store);
-    match store.numbers().plan_new(own) {
-        Err(PlanFault::TooDeep) => unreachable!(),
-        Err(PlanFault::NoNumber(full)) => Err(Refusal::NoNumber(id_of(store, full))),
-        Ok(numbers) => match passed_limit(store, found) {
-            Some(refusal) => Err(refusal),
-            None => Ok(numbers),
-        },
+    if let Some(refusal) = passed_limit(store, found) {
+        return Ok(ShortReply::Refused(refusal));
     }
+    let task = child_of(found, stamp);
+    let keys = store.fork_new(found.key, own, stamp, numbers, task)?;
+    laws(store);
+    Ok(reply_for(store, keys.0, own))
 }
 
 /// The caller's child in a new namespace inside the caller's own, in which it is the init. The error is want of
@@ -165,7 +177,7 @@ fn fork_inside(
     found: &Found,
     own: u32,
     stamp: u64,
-) -> Result<Reply, AllocError>
+) -> Result<ShortReply, AllocError>
     requires whole { IsWhole store.old }
     requires below { IsBelow stamp (state_of store.old) }
     requires there { task_at store.old.tree found.now.key ≡ Some found.now.task }
@@ -175,19 +187,21 @@ fn fork_inside(
     requires stands { is_gone (state_of store.old) found.now.task.children_space ≡ false }
     requires shallow { nat_le 32 (level (state_of store.old).spaces found.now.task.children_space) ≡ false }
     ensures state { OnOk result (state_of store.new ≡ (forked_into (state_of store.old) (with_space (state_of store.old) found.now.task.children_space stamp) (row_of store.old found.now.key found.now.task) stamp).state) }
-    ensures reply { IfOk result (λ reply. reply ≡ (forked_into (state_of store.old) (with_space (state_of store.old) found.now.task.children_space stamp) (row_of store.old found.now.key found.now.task) stamp).reply) }
+    ensures reply { IfOk result (λ reply. reply_of reply ≡ (forked_into (state_of store.old) (with_space (state_of store.old) found.now.task.children_space stamp) (row_of store.old found.now.key found.now.task) stamp).reply) }
     ensures err { OnErr result (state_of store.new ≡ state_of store.old) }
     ensures parents { HasParents store.new }
 {
     laws(store);
-    let numbers = match plan_inside(store, found, own, stamp) {
-        Ok(numbers) => numbers,
-        Err(refusal) => return Ok(Reply::Refused(refusal)),
-    };
-    let task = child_of(found, stamp);
-    let keys = store.fork_new(found.key, own, stamp, &numbers, task)?;
-    laws(store);
-    Ok(reply_for(store, keys.0, own))
+    let planned = store.numbers().plan_new(own);
+    match &planned {
+        Err(fault) => match *fault {
+            PlanFault::TooDeep => unreachable!(),
+            PlanFault::NoNumber(full) => {
+                Ok(ShortReply::Refused(Refusal::NoNumber(id_of(store, full))))
+            }
+        },
+        Ok(numbers) => fork_new_planned(store, found, own, stamp, numbers),
+    }
 }
 
 /// Whether the namespace, if it is there, has the deepest level.
@@ -281,20 +295,20 @@ pub fn fork(
     caller: u32,
     new_space: bool,
     stamp: u64,
-) -> Result<Reply, AllocError>
+) -> Result<ShortReply, AllocError>
     requires whole { IsWhole store.old }
     requires below { IsBelow stamp (state_of store.old) }
     ensures state { OnOk result (state_of store.new ≡ (fork_of (state_of store.old) stamp caller new_space).state) }
-    ensures reply { IfOk result (λ reply. reply ≡ (fork_of (state_of store.old) stamp caller new_space).reply) }
+    ensures reply { IfOk result (λ reply. reply_of reply ≡ (fork_of (state_of store.old) stamp caller new_space).reply) }
     ensures err { OnErr result (state_of store.new ≡ state_of store.old) }
     ensures parents { HasParents store.new }
 {
     let Some(found) = find_live(store, caller) else {
-        return Ok(Reply::Refused(Refusal::NoCaller));
+        return Ok(ShortReply::Refused(Refusal::NoCaller));
     };
     let own = own_space(store, found.key);
     match namespace_for(store, &found, own, new_space) {
-        Err(refusal) => Ok(Reply::Refused(refusal)),
+        Err(refusal) => Ok(ShortReply::Refused(refusal)),
         Ok(_) if new_space => fork_inside(store, &found, own, stamp),
         Ok(space) => fork_into(store, &found, own, space),
     }

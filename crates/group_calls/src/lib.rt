@@ -10,6 +10,7 @@ ghost use Rattle.pid_types.specs.declared.reply.Reply.{Reply};
 ghost use Rattle.pid_types.specs.Groups.{set_pgid as set_pgid_of, set_sid as set_sid_of, set_group, target_of};
 ghost use Rattle.pid_types.specs.Names.{number_or_zero, with_row};
 ghost use Rattle.pid_types.specs.Outcome.{changed, refused};
+ghost use Rattle.pid_types.specs.Short.{reply_of};
 ghost use Rattle.pid_numbers.specs.Numbering.{id_at};
 ghost use Rattle.task_tree.specs.declared.Task.{Task};
 ghost use Rattle.task_tree.specs.Tree.{task_at};
@@ -20,7 +21,7 @@ ghost use Rattle.group_calls.specs.declared.Move.{Move};
 ghost use Rattle.group_calls.specs.Asked.{IsTarget, IsNamed, MayJoin};
 
 use groups_sessions::{GroupAsk, Target};
-use pid_types::reply::{Refusal, Reply};
+use pid_types::reply::{Refusal, ShortReply};
 use store_view::{Found, find_live, find_task, laws, own_space};
 use task_store::TaskStore;
 
@@ -113,19 +114,19 @@ fn choose(store: &TaskStore, caller: u32, pid: i32, pgid: i32) -> Result<Move, R
 /// nobody; of a child `OtherSession`, and `Executed` where it has executed; `NoTask` for who is neither the
 /// caller nor its child; `IsLeader` for the leader of a session; and `NoGroup` where nobody of the caller's
 /// session, zombies included, is in the group.
-pub fn set_pgid(store: &mut TaskStore, caller: u32, pid: i32, pgid: i32) -> Reply
+pub fn set_pgid(store: &mut TaskStore, caller: u32, pid: i32, pgid: i32) -> ShortReply
     requires { IsWhole store.old }
     ensures state { state_of store.new ≡ (set_pgid_of (state_of store.old) caller pid pgid).state }
-    ensures reply { result ≡ (set_pgid_of (state_of store.old) caller pid pgid).reply }
+    ensures reply { reply_of result ≡ (set_pgid_of (state_of store.old) caller pid pgid).reply }
     ensures parents { HasParents store.new }
 {
     laws(store);
     match choose(store, caller, pid, pgid) {
-        Err(refusal) => Reply::Refused(refusal),
+        Err(refusal) => ShortReply::Refused(refusal),
         Ok(goes) => {
             store.set_group(goes.task, goes.group);
             laws(store);
-            Reply::Done
+            ShortReply::Done
         }
     }
 }
@@ -145,23 +146,23 @@ fn own_number(store: &TaskStore, key: u32) -> u32
 /// The refusals are `NoCaller`, and `IsLeader` where somebody, the caller itself or a zombie too, is in a group
 /// of the caller's name.
 #[tactic(auto, unfolding(pid_types::specs::Groups::set_sid))]
-pub fn set_sid(store: &mut TaskStore, caller: u32) -> Reply
+pub fn set_sid(store: &mut TaskStore, caller: u32) -> ShortReply
     requires { IsWhole store.old }
     ensures state { state_of store.new ≡ (set_sid_of (state_of store.old) caller).state }
-    ensures reply { result ≡ (set_sid_of (state_of store.old) caller).reply }
+    ensures reply { reply_of result ≡ (set_sid_of (state_of store.old) caller).reply }
     ensures parents { HasParents store.new }
 {
     laws(store);
     let Some(found) = find_live(store, caller) else {
-        return Reply::Refused(Refusal::NoCaller);
+        return ShortReply::Refused(Refusal::NoCaller);
     };
     match store.members().may_setsid(found.key) {
-        Err(is_leader) => Reply::Refused(is_leader),
+        Err(is_leader) => ShortReply::Refused(is_leader),
         Ok(()) => {
             let number = own_number(store, found.key);
             store.start_session(found.key);
             laws(store);
-            Reply::Number(number)
+            ShortReply::Number(number)
         }
     }
 }

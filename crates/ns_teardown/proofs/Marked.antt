@@ -35,8 +35,9 @@ all-used s laws good space n inside = go (namespace_at s.numbering n) refl
     go (Some t) at = stands t at t.fallen refl
 
 module _ (space : ℕ) (a b : Numbering) (f : FallsWithin space a b) where
-  path-same : (n : ℕ) → path_at b n ≡ path_at a n
-  path-same n = ap (λ o. option_map_or (λ t. t.path) o []) (f.namespaces n) ∙ go (namespace_at a n)
+  -- no path changes
+  pub path-marked : (n : ℕ) → path_at b n ≡ path_at a n
+  path-marked n = ap (λ o. option_map_or (λ t. t.path) o []) (f.namespaces n) ∙ go (namespace_at a n)
     where
       go : (o : Option Namespace) → option_map_or (λ t. t.path) (option_map (fallen_within space) o) [] ≡ option_map_or (λ t. t.path) o []
       go None = refl
@@ -51,7 +52,7 @@ module _ (space : ℕ) (a b : Numbering) (f : FallsWithin space a b) where
     where
       go : (o : Option Identifier) → number_in (path_at b) n o ≡ number_in (path_at a) n o
       go None = refl
-      go (Some u) = ap (λ p. beside n p u.numbers) (path-same u.space)
+      go (Some u) = ap (λ p. beside n p u.numbers) (path-marked u.space)
 
 -- who has a parent is a task
 child_is_task : (s : Store) → IsLawful s → (k p : ℕ) → parent_of s.tree k ≡ Some p → IsSome (task_at s.tree k)

@@ -20,3 +20,4 @@ pub mod Limits
 pub mod Sound
 pub mod Sight
 pub mod Shown
+pub mod Short

@@ -1,4 +1,6 @@
 //! What the table answers.
+ghost use Rattle.std.specs.Prelude.{◌≡◌};
+ghost use Rattle.pid_types.specs.Short.{reply_of};
 
 use crate::plain::{Ended, LEVELS};
 use arrayvec::ArrayVec;
@@ -72,6 +74,49 @@ pub enum Reply {
     End,
     /// The call was refused, and nothing has changed.
     Refused(Refusal),
+}
+
+/// A reply that is no list of numbers: what each call but `NSpid` answers. It takes 24 bytes, where a [`Reply`] has room
+/// for the numbers of 33 levels.
+#[derive(Clone, Copy, Debug, PartialEq, Eq)]
+pub enum ShortReply {
+    /// As [`Reply::Forked`].
+    Forked { child: u32, root: u32 },
+    /// As [`Reply::Done`].
+    Done,
+    /// As [`Reply::Number`].
+    Number(u32),
+    /// As [`Reply::Reaped`].
+    Reaped { child: u32, ended: Ended },
+    /// As [`Reply::NoneYet`].
+    NoneYet,
+    /// As [`Reply::Counted`].
+    Counted(u64),
+    /// As [`Reply::Control`].
+    Control(u64),
+    /// As [`Reply::End`].
+    End,
+    /// As [`Reply::Refused`].
+    Refused(Refusal),
+}
+
+impl ShortReply {
+    /// Writes the reply that it stands for. It costs a few writes, and no copy of the room for numbers that are not there.
+    pub fn tell(self, reply: &mut Reply)
+        ensures { reply.new ≡ reply_of self }
+    {
+        match self {
+            ShortReply::Forked { child, root } => *reply = Reply::Forked { child, root },
+            ShortReply::Done => *reply = Reply::Done,
+            ShortReply::Number(number) => *reply = Reply::Number(number),
+            ShortReply::Reaped { child, ended } => *reply = Reply::Reaped { child, ended },
+            ShortReply::NoneYet => *reply = Reply::NoneYet,
+            ShortReply::Counted(count) => *reply = Reply::Counted(count),
+            ShortReply::Control(id) => *reply = Reply::Control(id),
+            ShortReply::End => *reply = Reply::End,
+            ShortReply::Refused(refusal) => *reply = Reply::Refused(refusal),
+        }
+    }
 }
 
 /// Why a call has no reply. Nothing has changed, and nothing is recorded.

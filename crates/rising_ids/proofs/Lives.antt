@@ -1,7 +1,7 @@
 -- What entries that rise come to: a look-up, a removal, the marks that are dropped.
 use Rattle.std.proofs.Common.{◌≡◌, ◌≢◌, ◌⊎◌, inl, inr, ℕ, zero, suc, ◌-◌, ◌<◌, ◌≤◌, ◌==◌, List, [], ◌∷◌, ◌++◌, length, get_or, set, cond, Bool, true, false, if◌then◌else◌, Option, Some, None, IsSome, is_some, slice_get, option_to_list, append-nil, refl, sym, ap, ◌∙◌, arith}
 use Rattle.std.specs.List.{AllByRecursion, filter}
-use Rattle.std.proofs.lemmas.Bool.{cases_eq, eq-eqb}
+use Rattle.std.proofs.lemmas.Bool.{cases_eq, eq-eqb, eqb-true, ne_eqb}
 use Rattle.std.proofs.lemmas.List.{length-append, get_or_default}
 use Rattle.rising_ids.specs.declared.Entry.{Entry}
 use Rattle.rising_ids.specs.Ids.{key_of, without, AreBelow, AreRising}
@@ -30,10 +30,7 @@ key-same e id (Some k) rest same gone = rw (eq-eqb e id same) refl
 
 without-other : (e id : ℕ) (key : Option ℕ) (rest : List (ℕ × ℕ)) → e ≢ id → without (before e key rest) id ≡ before e key (without rest id)
 without-other e id None rest differs = refl
-without-other e id (Some k) rest differs = rw (apart e id differs) refl
-  where
-    apart : (a b : ℕ) → a ≢ b → (a == b) ≡ false
-    apart a b differ = grind (arith, differ)
+without-other e id (Some k) rest differs = rw (ne_eqb e id differs) refl
 
 without-same : (e id : ℕ) (key : Option ℕ) (rest : List (ℕ × ℕ)) → e ≡ id → without (before e key rest) id ≡ without rest id
 without-same e id None rest same = refl
@@ -325,19 +322,16 @@ without-none (p ∷ ids) id gone = go (p.0 == id) refl (λ e. without-none ids i
 
 all_stay : (ids : List (ℕ × ℕ)) (id : ℕ) → AllByRecursion (λ q. id < q.0) ids → without ids id ≡ ids
 all_stay [] id all = refl
-all_stay (q ∷ ids) id all = let off = apart q.0 id all.0 in rw off (ap (λ rest. q ∷ rest) (all_stay ids id all.1))
-  where
-    apart : (a b : ℕ) → b < a → (a == b) ≡ false
-    apart a b less = grind (arith, less)
+all_stay (q ∷ ids) id all =
+    let less = all.0 in
+    let off = ne_eqb q.0 id (λ e. omega (arith, less, e)) in
+    rw off (ap (λ rest. q ∷ rest) (all_stay ids id all.1))
 
 -- without an id that is there they are one less
 pub without-some : (ids : List (ℕ × ℕ)) (id k : ℕ) → AreRising ids → key_of ids id ≡ Some k → suc (length (without ids id)) ≡ length ids
 without-some [] id k w some = absurd (cc)
 without-some (p ∷ ids) id k w some = go (p.0 == id) refl (λ e. without-some ids id k w.1 e) some
   where
-    same_id : (a b : ℕ) → (a == b) ≡ true → a ≡ b
-    same_id a b e = grind (arith, e)
-
     go : (b : Bool) → (p.0 == id) ≡ b → (key_of ids id ≡ Some k → suc (length (without ids id)) ≡ length ids) → (if b then Some p.1 else key_of ids id) ≡ Some k → suc (length (without (p ∷ ids) id)) ≡ suc (length ids)
-    go true is less e = rw is (ap (λ rest. suc (length rest)) (all_stay ids id (let same = same_id p.0 id is in rw same at w.0)))
+    go true is less e = rw is (ap (λ rest. suc (length rest)) (all_stay ids id (let same = eqb-true p.0 id is in rw same at w.0)))
     go false is less e = rw is (ap suc (less e))

@@ -1,12 +1,13 @@
 -- Lists told by look-ups: what is found in them, and what a change of the look-up makes of them.
-use Rattle.std.proofs.Common.{◌≡◌, ◌≢◌, ◌⊎◌, inl, inr, ℕ, zero, suc, ◌+◌, ◌<◌, ◌≤◌, Bool, true, false, ◌==◌, nat_lt, List, [], ◌∷◌, map, filter, find, Option, Some, None, cond, if◌then◌else◌, refl, sym, ap, ◌∙◌, arith, option_map}
+use Rattle.std.proofs.Common.{◌≡◌, ◌≢◌, inl, inr, ℕ, zero, suc, ◌+◌, ◌<◌, ◌≤◌, Bool, true, false, nat_lt, List, ◌∷◌, map, filter, Option, Some, None, refl, sym, ap, ◌∙◌, arith, option_map}
 use Rattle.std.specs.Option.{option_map_or}
 use Rattle.std.proofs.lemmas.Bool.{cases_eq}
+use Rattle.std.proofs.lemmas.Map.Entries.{option_filter}
 use Rattle.pid_types.specs.declared.plain.Row.{Row}
 use Rattle.pid_types.specs.Names.{root_number}
 use Rattle.pid_types.specs.Fork.{insert_row}
 use Rattle.pid_types.specs.Membership.{IsIn}
-use Rattle.store_view.specs.Collect.{collect, kept_if}
+use Rattle.store_view.specs.Collect.{collect}
 
 module _ {X Y : Type 0} where
   -- each element changed: the list is mapped
@@ -27,11 +28,11 @@ module _ {X : Type 0} where
       rw (here, rest) refl
 
   -- each element is tested: the list is filtered
-  pub collect-filter : (f g : ℕ → Option X) (p : X → Bool) (n len : ℕ) → ((i : ℕ) → g i ≡ kept_if p (f i)) → collect g n len ≡ filter p (collect f n len)
+  pub collect-filter : (f g : ℕ → Option X) (p : X → Bool) (n len : ℕ) → ((i : ℕ) → g i ≡ option_filter p (f i)) → collect g n len ≡ filter p (collect f n len)
   collect-filter f g p n zero each = refl
   collect-filter f g p n (suc len) each = go (f n) (g n) (each n) (collect f (n + 1) len) (collect g (n + 1) len) (collect-filter f g p (n + 1) len each)
     where
-      go : (o q : Option X) → q ≡ kept_if p o → (xs ys : List X) → ys ≡ filter p xs → option_map_or (λ y. y ∷ ys) q ys ≡ filter p (option_map_or (λ x. x ∷ xs) o xs)
+      go : (o q : Option X) → q ≡ option_filter p o → (xs ys : List X) → ys ≡ filter p xs → option_map_or (λ y. y ∷ ys) q ys ≡ filter p (option_map_or (λ x. x ∷ xs) o xs)
       go None q e xs ys same = rw e same
       go (Some x) q e xs ys same = split (p x) refl
         where

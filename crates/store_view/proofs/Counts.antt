@@ -1,18 +1,16 @@
 -- The counts of a store's control groups are the model's.
-use Rattle.std.proofs.Common.{◌≡◌, ◌≢◌, ◌⊎◌, inl, inr, ℕ, zero, suc, ◌+◌, ◌<◌, ◌≤◌, Bool, true, false, not, ◌==◌, ◌&&◌, List, [], ◌∷◌, length, filter, count_by, get_or, cond, Option, Some, None, is_some, if◌then◌else◌, refl, sym, ap, subst, ◌∙◌, arith, option_map, option_and_then}
+use Rattle.std.proofs.Common.{◌≡◌, ◌≢◌, inl, inr, ℕ, zero, suc, ◌+◌, ◌<◌, Bool, true, false, not, ◌==◌, ◌&&◌, List, ◌∷◌, length, count_by, cond, Option, Some, None, if◌then◌else◌, refl, sym, ap, ◌∙◌, arith, option_map, option_and_then}
 use Rattle.std.specs.Option.{option_map_or, option_eq}
 use Rattle.std.proofs.lemmas.Bool.{cases_eq, cases_lt, eq-eqb, eqb-true}
 use Rattle.std.proofs.lemmas.List.{get_or_past}
 use Rattle.std.proofs.lemmas.List.Sums.{sum_by-cons, length-filter}
 use Rattle.pid_types.specs.declared.plain.Row.{Row}
-use Rattle.pid_types.specs.declared.plain.Control.{Control}
-use Rattle.pid_types.specs.State.{State}
 use Rattle.pid_types.specs.Controls.{is_below, count as count_in}
 use Rattle.pid_numbers.specs.Numbering.{number_of}
 use Rattle.task_tree.specs.declared.Task.{Task}
 use Rattle.task_tree.specs.Tree.{task_at, lives}
 use Rattle.pids_charge.specs.Sums.{sum_below}
-use Rattle.pids_charge.specs.Charges.{Home, Charges, home_at, live_at, zombies_at, tasks_of, count, id_at as home_id}
+use Rattle.pids_charge.specs.Charges.{home_at, tasks_of, count, id_at as home_id}
 use Rattle.pids_charge.proofs.Sums.{sum-ext, sum-at, sum-zero, sum_by-places}
 use Rattle.pids_charge.proofs.Listed.{count-listed, tasks_of-both}
 use Rattle.task_store.specs.Store.{Store, lives_in, waits_in}

@@ -1,17 +1,13 @@
 -- The keys and the names of identifiers, in a numbering that keeps its laws.
-use Rattle.std.proofs.Common.{◌≡◌, ◌≢◌, ◌⊎◌, inl, inr, ℕ, zero, suc, ◌+◌, ◌<◌, ◌≤◌, Bool, true, false, ◌==◌, not, ◌&&◌, ◌||◌, List, [], ◌∷◌, ◌++◌, length, map, find, drop, get_or, slice_get, Option, Some, None, cond, if◌then◌else◌, refl, sym, ap, subst, ◌∙◌, arith, option_map, option_and_then, unwrap_or}
+use Rattle.std.proofs.Common.{◌≡◌, ◌≢◌, ◌⊎◌, inl, inr, ℕ, zero, suc, ◌+◌, ◌<◌, ◌≤◌, Bool, true, false, ◌==◌, not, List, [], ◌∷◌, ◌++◌, length, map, find, drop, get_or, slice_get, Option, Some, None, cond, if◌then◌else◌, refl, sym, ap, ◌∙◌, arith, option_map, option_and_then, unwrap_or}
 use Rattle.std.specs.Prelude.{reverse, nat_lt, position, slice_index_or}
 use Rattle.std.specs.List.{position_or_len}
 use Rattle.std.proofs.lemmas.List.{reverse-append}
 use Rattle.std.proofs.lemmas.List.Quantifiers.{position-Some}
 use Rattle.std.specs.Option.{option_map_or, option_eq}
-use Rattle.std.specs.List.{AllByRecursion}
 use Rattle.std.proofs.lemmas.Bool.{cases_eq, eq-eqb, eqb-true}
 use Rattle.rising_ids.specs.Ids.{key_of}
-use Rattle.rising_ids.proofs.Keys.{entry_of}
 use Rattle.pid_types.specs.declared.plain.Space.{Space}
-use Rattle.pid_types.specs.declared.plain.Name.{Name}
-use Rattle.pid_types.specs.Chains.{contains}
 use Rattle.pid_types.specs.Membership.{IsIn}
 use Rattle.pid_types.specs.Names.{beside, beside_from, space_at, parent_space, path_up, number, numbers_from}
 use Rattle.pid_types.specs.State.{root_name}
@@ -19,7 +15,7 @@ use Rattle.pid_numbers.specs.Numbering.{Numbering, Namespace, Identifier, namesp
 use Rattle.pid_numbers.specs.Slabs.{IsPath}
 use Rattle.pid_numbers.proofs.Model.{path_up-is, number-is}
 use Rattle.store_view.specs.Lawful.{HasLaws}
-use Rattle.store_view.specs.View.{name_of, name_at, key_numbered, parent_id, space_of, spaces_of}
+use Rattle.store_view.specs.View.{name_of, name_at, key_numbered, space_of, spaces_of}
 
 off : (a b : ℕ) → a ≢ b → (a == b) ≡ false
 off a b m = grind (arith, m)

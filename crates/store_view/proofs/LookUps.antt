@@ -1,29 +1,27 @@
 -- What the model's look-ups find in a store's state.
-use Rattle.std.proofs.Common.{◌≡◌, ◌≢◌, ◌⊎◌, inl, inr, ℕ, zero, suc, ◌+◌, ◌<◌, ◌≤◌, Bool, true, false, ◌==◌, ◌&&◌, List, [], ◌∷◌, ◌++◌, length, find, get_or, Option, Some, None, IsSome, is_some, if◌then◌else◌, refl, sym, ap, subst, ◌∙◌, arith, option_map, option_and_then, unwrap_or}
-use Rattle.std.specs.Prelude.{reverse, slice_index, slice_index_or}
+use Rattle.std.proofs.Common.{◌≡◌, ◌≢◌, ◌⊎◌, inl, inr, ℕ, ◌<◌, Bool, true, false, ◌==◌, ◌&&◌, List, [], ◌∷◌, ◌++◌, length, find, Option, Some, None, IsSome, is_some, if◌then◌else◌, refl, sym, ap, ◌∙◌, arith, option_map, option_and_then, unwrap_or}
+use Rattle.std.specs.Prelude.{reverse, slice_index}
 use Rattle.std.specs.Option.{option_map_or, option_eq}
 use Rattle.std.proofs.lemmas.Bool.{cases_eq, eq-eqb, eqb-true}
 use Rattle.std.proofs.lemmas.List.{length-reverse, reverse-append}
 use Rattle.pid_types.specs.declared.plain.Row.{Row}
-use Rattle.pid_types.specs.declared.plain.Name.{Name}
-use Rattle.pid_types.specs.declared.call.Kind.TheVariants.{Task as AsTask, Group, Session}
+use Rattle.pid_types.specs.declared.call.Kind.TheVariants.{Group, Session}
 use Rattle.pid_types.specs.Chains.{contains}
 use Rattle.pid_types.specs.Membership.{IsIn}
-use Rattle.pid_types.specs.State.{State, root_name}
-use Rattle.pid_types.specs.Names.{beside, root_number, same_name, is_live, row_at, live_row, task_at as task_in, is_numbered, number, number_or_zero}
+use Rattle.pid_types.specs.State.{root_name}
+use Rattle.pid_types.specs.Names.{beside, root_number, same_name, is_live, row_at, live_row, task_at as task_in, is_numbered, number_or_zero}
 use Rattle.model_laws.proofs.Names.{same_name-true, same_name-refl}
-use Rattle.pid_numbers.specs.Numbering.{Numbering, Namespace, Identifier, namespace_at, id_at, identifier_at, number_in, number_of, path_at}
+use Rattle.pid_numbers.specs.Numbering.{Namespace, Identifier, namespace_at, id_at, identifier_at, number_in, number_of, path_at}
 use Rattle.pid_numbers.specs.Slabs.{IsPath}
 use Rattle.task_tree.specs.declared.Task.{Task}
-use Rattle.task_tree.specs.Tree.{task_at, parent_of, lives}
+use Rattle.task_tree.specs.Tree.{task_at, lives}
 use Rattle.groups_sessions.specs.Membership.{Membership, membership_at}
-use Rattle.task_store.specs.Store.{Store, IsStore}
+use Rattle.task_store.specs.Store.{Store}
 use Rattle.task_store.proofs.Births.{task_named}
 use Rattle.task_store.proofs.Less.{used}
 use Rattle.task_store.proofs.Groups.{held, group_used, session_used}
-use Rattle.store_view.specs.Collect.{collect}
 use Rattle.store_view.specs.View.{name_of, name_at, key_numbered, row_of, row_with, row_numbered, state_of}
-use Rattle.store_view.specs.Lawful.{HasLaws, IsLawful}
+use Rattle.store_view.specs.Lawful.{IsLawful}
 use Rattle.model_laws.proofs.Lists.{find-only, find-none}
 use Rattle.store_view.proofs.Collects.{collect-from, collect-in}
 use Rattle.store_view.proofs.Keys.{key-some, key-of, is_path, on_path, number-is_key}

@@ -1,21 +1,20 @@
 -- What a change of tasks at keys makes of the model's rows.
-use Rattle.std.proofs.Common.{◌≡◌, ◌≢◌, ◌⊎◌, inl, inr, ℕ, zero, suc, ◌+◌, ◌<◌, Bool, true, false, not, ◌==◌, List, map, filter, Option, Some, None, IsSome, is_some, cond, if◌then◌else◌, refl, sym, ap, subst, ◌∙◌, arith, option_map, option_and_then}
+use Rattle.std.proofs.Common.{◌≡◌, ◌≢◌, inl, inr, ℕ, Bool, false, not, ◌==◌, map, filter, Option, Some, None, is_some, if◌then◌else◌, refl, sym, ap, ◌∙◌, arith, option_map, option_and_then}
 use Rattle.std.specs.Option.{option_map_or}
 use Rattle.std.proofs.lemmas.Bool.{cases_eq, eq-eqb}
+use Rattle.std.proofs.lemmas.Map.Entries.{option_filter}
 use Rattle.pid_types.specs.declared.plain.Row.{Row}
-use Rattle.pid_types.specs.declared.plain.Name.{Name}
-use Rattle.pid_types.specs.declared.plain.Life.{Life}
 use Rattle.pid_types.specs.Names.{root_number, same_name, on_row}
 use Rattle.pid_types.specs.Fork.{insert_row}
-use Rattle.pid_numbers.specs.Numbering.{Numbering, Identifier, identifier_at, number_of}
+use Rattle.pid_numbers.specs.Numbering.{identifier_at, number_of}
 use Rattle.task_tree.specs.declared.Task.{Task}
 use Rattle.task_tree.specs.Tree.{task_at}
 use Rattle.task_store.specs.Store.{Store}
-use Rattle.store_view.specs.Collect.{collect, kept_if}
-use Rattle.store_view.specs.View.{name_at, key_numbered, row_of, row_with, row_numbered, state_of}
+use Rattle.store_view.specs.Collect.{collect}
+use Rattle.store_view.specs.View.{name_at, row_of, row_with, row_numbered, state_of}
 use Rattle.store_view.specs.Lawful.{IsLawful}
 use Rattle.store_view.proofs.Collects.{collect-map, collect-filter, collect-insert}
-use Rattle.store_view.proofs.Keys.{key-some, key-of}
+use Rattle.store_view.proofs.Keys.{key-of}
 use Rattle.store_view.proofs.LookUps.{named, row-at, row-from, keyed, root-number, same-name}
 
 -- two rows with the same of each are one
@@ -58,17 +57,17 @@ module _ (s s' : Store) (l : IsLawful s) (l' : IsLawful s') (bound : s'.numberin
       ∙ collect-map (row_numbered s 0) (row_numbered s' 0) h 0 s.numbering.pid_max (numbered-change (option_map h) refl each)
 
   -- some rows kept
-  pub rows-filter : (p : Row → Bool) → ((k : ℕ) → row_with s' k ≡ kept_if p (row_with s k)) → (state_of s').rows ≡ filter p (state_of s).rows
+  pub rows-filter : (p : Row → Bool) → ((k : ℕ) → row_with s' k ≡ option_filter p (row_with s k)) → (state_of s').rows ≡ filter p (state_of s).rows
   rows-filter p each =
       ap (collect (row_numbered s' 0) 0) bound
-      ∙ collect-filter (row_numbered s 0) (row_numbered s' 0) p 0 s.numbering.pid_max (numbered-change (kept_if p) refl each)
+      ∙ collect-filter (row_numbered s 0) (row_numbered s' 0) p 0 s.numbering.pid_max (numbered-change (option_filter p) refl each)
 
   -- some rows kept, and changed
-  pub rows-both : (h : Row → Row) (p : Row → Bool) → ((k : ℕ) → row_with s' k ≡ option_map h (kept_if p (row_with s k))) → (state_of s').rows ≡ map h (filter p (state_of s).rows)
+  pub rows-both : (h : Row → Row) (p : Row → Bool) → ((k : ℕ) → row_with s' k ≡ option_map h (option_filter p (row_with s k))) → (state_of s').rows ≡ map h (filter p (state_of s).rows)
   rows-both h p each =
       ap (collect (row_numbered s' 0) 0) bound
-      ∙ collect-map (λ n. kept_if p (row_numbered s 0 n)) (row_numbered s' 0) h 0 s.numbering.pid_max (numbered-change (λ o. option_map h (kept_if p o)) refl each)
-      ∙ ap (map h) (collect-filter (row_numbered s 0) (λ n. kept_if p (row_numbered s 0 n)) p 0 s.numbering.pid_max (λ n. refl))
+      ∙ collect-map (λ n. option_filter p (row_numbered s 0 n)) (row_numbered s' 0) h 0 s.numbering.pid_max (numbered-change (λ o. option_map h (option_filter p o)) refl each)
+      ∙ ap (map h) (collect-filter (row_numbered s 0) (λ n. option_filter p (row_numbered s 0 n)) p 0 s.numbering.pid_max (λ n. refl))
 
   named_as : (j k : ℕ) (t v : Task) → task_at s.tree j ≡ Some t → task_at s.tree k ≡ Some v → same_name (name_at s.numbering j) (name_at s.numbering k) ≡ (j == k)
   named_as j k t v at_j at_k = same-name s l j k (ap is_some (named s l j t at_j).1) (ap is_some (named s l k v at_k).1)
@@ -94,13 +93,13 @@ module _ (s s' : Store) (l : IsLawful s) (l' : IsLawful s') (bound : s'.numberin
   rows-without k t at gone others = rows-filter (λ row. not (same_name row.name (name_at s.numbering k))) (λ j. elim (cases_eq j k) [
     | inl same ↦
         ap (row_with s') same ∙ ap (option_map (row_of s' k)) gone
-        ∙ sym (ap (kept_if (λ row. not (same_name row.name (name_at s.numbering k)))) (ap (row_with s) same ∙ ap (option_map (row_of s k)) at)
+        ∙ sym (ap (option_filter (λ row. not (same_name row.name (name_at s.numbering k)))) (ap (row_with s) same ∙ ap (option_map (row_of s k)) at)
         ∙ ap (λ b. if not b then Some (row_of s k t) else None) (named_as k k t t at at ∙ eq-eqb k k refl))
     | inr differs ↦ others j differs ∙ other j differs (task_at s.tree j) refl
   ])
     where
       other : (j : ℕ) → j ≢ k → (o : Option Task) → task_at s.tree j ≡ o
-          → option_map (row_of s j) (task_at s.tree j) ≡ kept_if (λ row. not (same_name row.name (name_at s.numbering k))) (option_map (row_of s j) (task_at s.tree j))
+          → option_map (row_of s j) (task_at s.tree j) ≡ option_filter (λ row. not (same_name row.name (name_at s.numbering k))) (option_map (row_of s j) (task_at s.tree j))
       other j differs None e = rw e refl
       other j differs (Some v) e = rw e (ap (λ b. if not b then Some (row_of s j v) else None) (sym (named_as j k v t e at ∙ apart j k differs)))
 

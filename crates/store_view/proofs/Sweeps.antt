@@ -1,19 +1,18 @@
 -- Identifiers that are left keep their names, and the model's sweep leaves the namespaces that are left.
-use Rattle.std.proofs.Common.{◌≡◌, ◌≢◌, ◌⊎◌, inl, inr, ℕ, zero, suc, ◌+◌, ◌<◌, Bool, true, false, not, ◌==◌, ◌&&◌, List, [], ◌∷◌, length, map, filter, get_or, cond, drop, slice_get, Option, Some, None, IsSome, is_some, if◌then◌else◌, refl, sym, ap, subst, ◌∙◌, arith, option_map, option_and_then, unwrap_or}
+use Rattle.std.proofs.Common.{◌≡◌, inl, ℕ, zero, suc, ◌<◌, Bool, true, false, not, ◌==◌, ◌&&◌, List, [], ◌∷◌, length, map, filter, get_or, cond, drop, slice_get, Option, Some, None, is_some, if◌then◌else◌, refl, sym, ap, subst, ◌∙◌, arith, option_map, option_and_then, unwrap_or}
 use Rattle.std.specs.Prelude.{reverse, slice_index_or, filter_map}
 use Rattle.std.specs.Option.{option_map_or}
 use Rattle.std.specs.List.{AllByRecursion, cons_option}
 use Rattle.pid_types.specs.declared.plain.Row.{Row}
 use Rattle.pid_types.specs.declared.plain.Name.{Name}
-use Rattle.pid_types.specs.declared.plain.Space.{Space}
 use Rattle.pid_types.specs.Membership.{IsIn}
 use Rattle.pid_types.specs.State.{State, root_name}
 use Rattle.pid_types.specs.Names.{beside, names_in_use, number, taken}
 use Rattle.pid_types.specs.Outcome.{is_dead as is_dead_in}
 use Rattle.model_laws.proofs.Lists.{IsIn-filter_map, IsIn-from_filter_map}
-use Rattle.pid_numbers.specs.Numbering.{Numbering, Namespace, Identifier, namespace_at, id_at, identifier_at, number_in, number_of, path_at, taken_in, has_fallen_at, is_dead, is_there, swept_at}
+use Rattle.pid_numbers.specs.Numbering.{Numbering, Namespace, Identifier, namespace_at, id_at, identifier_at, number_in, path_at, taken_in, is_dead, is_there}
 use Rattle.task_store.specs.Store.{Store, IsLess}
-use Rattle.task_store.proofs.Less.{was, stays, number-less, some_taken, none_taken}
+use Rattle.task_store.proofs.Less.{was, stays, some_taken}
 use Rattle.store_view.specs.View.{name_of, name_at, parent_id, space_of, spaces_of, state_of}
 use Rattle.store_view.specs.Lawful.{HasLaws, IsLawful}
 use Rattle.store_view.proofs.Keys.{number-is_key}

@@ -1,5 +1,5 @@
 -- The names in use in a store's state are those of its identifiers.
-use Rattle.std.proofs.Common.{◌≡◌, ◌≢◌, ◌⊎◌, inl, inr, ℕ, zero, suc, ◌+◌, ◌<◌, Bool, true, false, not, ◌==◌, ◌&&◌, List, [], ◌∷◌, length, count_by, get_or, cond, Option, Some, None, IsSome, is_some, if◌then◌else◌, refl, sym, ap, subst, ◌∙◌, arith, option_map, option_and_then}
+use Rattle.std.proofs.Common.{◌≡◌, ◌⊎◌, inl, inr, ℕ, zero, suc, ◌+◌, ◌<◌, Bool, true, false, not, ◌==◌, ◌&&◌, List, [], ◌∷◌, count_by, get_or, cond, Option, Some, None, is_some, refl, sym, ap, subst, ◌∙◌, arith, option_map}
 use Rattle.std.specs.Option.{option_map_or}
 use Rattle.std.proofs.lemmas.Bool.{eqb-true}
 use Rattle.std.proofs.lemmas.Bool.Decides.{nat_tests}
@@ -12,16 +12,16 @@ use Rattle.pid_types.specs.declared.call.Kind.TheVariants.{Task as AsTask, Group
 use Rattle.pid_types.specs.Membership.{IsIn}
 use Rattle.pid_types.specs.State.{root_name}
 use Rattle.pid_types.specs.Names.{names_in_use}
-use Rattle.model_laws.proofs.Names.{IsIn-names_in_use, user_of_name, own_name_in_use, group_in_use, session_in_use}
-use Rattle.pid_numbers.specs.Numbering.{Numbering, Identifier, identifier_at, uses, is_used_as}
+use Rattle.model_laws.proofs.Names.{user_of_name, own_name_in_use, group_in_use, session_in_use}
+use Rattle.pid_numbers.specs.Numbering.{Identifier, identifier_at, uses, is_used_as}
 use Rattle.task_tree.specs.declared.Task.{Task}
 use Rattle.task_tree.specs.Tree.{task_at, lives}
-use Rattle.groups_sessions.specs.Membership.{Membership, membership_at, group_of, session_of}
-use Rattle.task_store.specs.Store.{Store, IsStore, uses_at, one_if, is_in_group, is_in_session}
+use Rattle.groups_sessions.specs.Membership.{Membership, membership_at}
+use Rattle.task_store.specs.Store.{Store, uses_at, one_if, is_in_group, is_in_session}
 use Rattle.pids_charge.specs.Charges.{Home, home_at, stands, live_at, zombies_at}
 use Rattle.task_store.proofs.Changes.{live_some, zombie_some}
 use Rattle.task_store.proofs.Groups.{held, group_used, session_used}
-use Rattle.store_view.specs.View.{name_of, name_at, row_of, state_of}
+use Rattle.store_view.specs.View.{name_at, row_of, state_of}
 use Rattle.store_view.specs.Lawful.{IsLawful}
 use Rattle.store_view.proofs.LookUps.{named, group-named, session-named, in-rows, rows-in}
 

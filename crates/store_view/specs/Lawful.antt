@@ -6,7 +6,7 @@ use Rattle.pid_types.specs.Bounds.{deepest_space}
 use Rattle.pid_types.specs.Settings.{HasGoodPidMax}
 use Rattle.pid_types.specs.Chains.{contains}
 use Rattle.pid_numbers.specs.Numbering.{Numbering, Identifier, identifier_at, id_at, number_of, path_at, taken_in, has_fallen_at, is_used}
-use Rattle.task_tree.specs.Tree.{Tree, task_at, parent_of}
+use Rattle.task_tree.specs.Tree.{task_at, parent_of}
 use Rattle.groups_sessions.specs.Membership.{Membership, membership_at, AreInSession}
 use Rattle.pid_types.specs.Controls.{control_at}
 use Rattle.pids_charge.specs.Charges.{stands, live_at, id_at as home_id}

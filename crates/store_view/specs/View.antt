@@ -1,5 +1,5 @@
 -- The model's state that a store holds: keys replaced by names and ids.
-use Rattle.std.specs.Prelude.{ℕ, ◌==◌, List, drop, length, map, reverse, position, slice_get, Option, Some, None, option_map, option_and_then, unwrap_or}
+use Rattle.std.specs.Prelude.{ℕ, ◌==◌, List, map, reverse, position, slice_get, Option, Some, option_map, option_and_then, unwrap_or}
 use Rattle.std.specs.Option.{option_map_or, option_eq}
 use Rattle.pid_types.specs.declared.plain.Name.{Name}
 use Rattle.pid_types.specs.declared.plain.Row.{Row}

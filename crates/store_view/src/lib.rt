@@ -22,7 +22,9 @@ use task_tree::Task;
 /// A task that was found: its key, and what it is.
 #[derive(Clone, Copy, Debug)]
 pub struct Found {
+    /// Its key in the store, which is that of its identifier: below the number of keys there is room for.
     pub key: u32,
+    /// What the store has at the key: its home is a control group's key, and its life says whether it has ended.
     pub task: Task,
 }
 

@@ -8,25 +8,26 @@
 ghost use Rattle.std.specs.Prelude.{◌≡◌, IsSome};
 ghost use Rattle.task_tree.specs.Tree.{task_at};
 ghost use Rattle.pid_types.specs.Changes.{exec as exec_of, join as join_of, set_subreaper as set_subreaper_of, move_task as move_of};
+ghost use Rattle.pid_types.specs.Short.{reply_of};
 ghost use Rattle.store_view.specs.View.{name_at, state_of};
 ghost use Rattle.store_view.specs.Whole.{IsWhole, HasParents};
 
-use pid_types::reply::{Refusal, Reply};
+use pid_types::reply::{Refusal, ShortReply};
 use store_view::{find_live, find_task, is_live, laws, own_space};
 use task_store::TaskStore;
 use task_tree::Task;
 
 /// `execve(2)`: the caller has executed.
 #[tactic(auto, unfolding(pid_types::specs::Changes::exec))]
-pub fn exec(store: &mut TaskStore, caller: u32) -> Reply
+pub fn exec(store: &mut TaskStore, caller: u32) -> ShortReply
     requires { IsWhole store.old }
     ensures state { state_of store.new ≡ (exec_of (state_of store.old) caller).state }
-    ensures reply { result ≡ (exec_of (state_of store.old) caller).reply }
+    ensures reply { reply_of result ≡ (exec_of (state_of store.old) caller).reply }
     ensures parents { HasParents store.new }
 {
     laws(store);
     let Some(found) = find_live(store, caller) else {
-        return Reply::Refused(Refusal::NoCaller);
+        return ShortReply::Refused(Refusal::NoCaller);
     };
     store.update(
         found.key,
@@ -36,27 +37,27 @@ pub fn exec(store: &mut TaskStore, caller: u32) -> Reply
         },
     );
     laws(store);
-    Reply::Done
+    ShortReply::Done
 }
 
 /// `setns(2)`: the caller's later children go into the target's namespace.
 #[tactic(auto, unfolding(pid_types::specs::Changes::join))]
-pub fn join(store: &mut TaskStore, caller: u32, target: u32) -> Reply
+pub fn join(store: &mut TaskStore, caller: u32, target: u32) -> ShortReply
     requires { IsWhole store.old }
     ensures state { state_of store.new ≡ (join_of (state_of store.old) caller target).state }
-    ensures reply { result ≡ (join_of (state_of store.old) caller target).reply }
+    ensures reply { reply_of result ≡ (join_of (state_of store.old) caller target).reply }
     ensures parents { HasParents store.new }
 {
     laws(store);
     let Some(found) = find_live(store, caller) else {
-        return Reply::Refused(Refusal::NoCaller);
+        return ShortReply::Refused(Refusal::NoCaller);
     };
     let space = own_space(store, found.key);
     let Some(other) = find_task(store, space, target) else {
-        return Reply::Refused(Refusal::NoTask);
+        return ShortReply::Refused(Refusal::NoTask);
     };
     if !is_live(&other.task) {
-        return Reply::Refused(Refusal::NoTask);
+        return ShortReply::Refused(Refusal::NoTask);
     }
     let children_space = id_of(store, other.key);
     store.update(
@@ -67,7 +68,7 @@ pub fn join(store: &mut TaskStore, caller: u32, target: u32) -> Reply
         },
     );
     laws(store);
-    Reply::Done
+    ShortReply::Done
 }
 
 /// The id of a task's own namespace.
@@ -84,15 +85,15 @@ fn id_of(store: &TaskStore, key: u32) -> u64
 
 /// `prctl(2)`: the caller takes the subreaper's mark, or gives it back.
 #[tactic(auto, unfolding(pid_types::specs::Changes::set_subreaper))]
-pub fn set_subreaper(store: &mut TaskStore, caller: u32, on: bool) -> Reply
+pub fn set_subreaper(store: &mut TaskStore, caller: u32, on: bool) -> ShortReply
     requires { IsWhole store.old }
     ensures state { state_of store.new ≡ (set_subreaper_of (state_of store.old) caller on).state }
-    ensures reply { result ≡ (set_subreaper_of (state_of store.old) caller on).reply }
+    ensures reply { reply_of result ≡ (set_subreaper_of (state_of store.old) caller on).reply }
     ensures parents { HasParents store.new }
 {
     laws(store);
     let Some(found) = find_live(store, caller) else {
-        return Reply::Refused(Refusal::NoCaller);
+        return ShortReply::Refused(Refusal::NoCaller);
     };
     store.update(
         found.key,
@@ -102,25 +103,25 @@ pub fn set_subreaper(store: &mut TaskStore, caller: u32, on: bool) -> Reply
         },
     );
     laws(store);
-    Reply::Done
+    ShortReply::Done
 }
 
 /// A write to `cgroup.procs`: the live task goes into the control group, whatever its limit.
 #[tactic(auto, unfolding(pid_types::specs::Changes::move_task))]
-pub fn move_task(store: &mut TaskStore, task: u32, id: u64) -> Reply
+pub fn move_task(store: &mut TaskStore, task: u32, id: u64) -> ShortReply
     requires { IsWhole store.old }
     ensures state { state_of store.new ≡ (move_of (state_of store.old) task id).state }
-    ensures reply { result ≡ (move_of (state_of store.old) task id).reply }
+    ensures reply { reply_of result ≡ (move_of (state_of store.old) task id).reply }
     ensures parents { HasParents store.new }
 {
     laws(store);
     let Some(found) = find_live(store, task) else {
-        return Reply::Refused(Refusal::NoTask);
+        return ShortReply::Refused(Refusal::NoTask);
     };
     let Some(home) = store.controls().find(id) else {
-        return Reply::Refused(Refusal::NoControl);
+        return ShortReply::Refused(Refusal::NoControl);
     };
     store.move_home(found.key, found.task, home);
     laws(store);
-    Reply::Done
+    ShortReply::Done
 }

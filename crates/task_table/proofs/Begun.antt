@@ -1,5 +1,5 @@
 -- The root init's fork in a bare store leaves the root state.
-use Rattle.std.proofs.Common.{◌≡◌, ◌≢◌, inl, inr, ℕ, zero, suc, ◌+◌, true, false, nat_lt, List, [], ◌∷◌, map, filter_map, find, slice_get, Option, Some, None, is_none, if◌then◌else◌, refl, sym, ap, subst, ◌∙◌, arith, option_map, option_and_then, unwrap_or}
+use Rattle.std.proofs.Common.{◌≡◌, ◌≢◌, inl, inr, ℕ, zero, suc, ◌+◌, true, false, List, [], ◌∷◌, map, filter_map, find, slice_get, Option, Some, None, is_none, if◌then◌else◌, refl, sym, ap, subst, ◌∙◌, option_map, option_and_then, unwrap_or}
 use Rattle.std.specs.Prelude.{reverse, slice_index_or}
 use Rattle.std.specs.Option.{option_map_or}
 use Rattle.std.proofs.lemmas.Bool.{cases_eq}
@@ -7,9 +7,8 @@ use Rattle.pid_types.specs.declared.plain.Life.TheVariants.{Live}
 use Rattle.pid_types.specs.declared.plain.Name.{Name}
 use Rattle.pid_types.specs.declared.plain.Row.{Row}
 use Rattle.pid_types.specs.declared.plain.Space.{Space}
-use Rattle.pid_types.specs.Draw.{cyclic_draw, least_free}
+use Rattle.pid_types.specs.Draw.{cyclic_draw}
 use Rattle.pid_types.specs.Fork.{insert_row}
-use Rattle.pid_types.specs.Settings.{HasGoodPidMax}
 use Rattle.pid_types.specs.Sound.{IsSound}
 use Rattle.pid_types.specs.State.{root_name, root_init, root_state}
 use Rattle.pid_numbers.specs.Numbering.{Identifier, namespace_at, id_at, identifier_at, number_in, path_at, taken_in, draw_in, moved, new_namespace, new_identifier}
@@ -23,16 +22,13 @@ use Rattle.store_view.specs.View.{name_of, name_at, key_numbered, parent_id, row
 use Rattle.store_view.specs.Lawful.{IsLawful}
 use Rattle.store_view.specs.Whole.{HasParents, IsWhole}
 use Rattle.store_view.proofs.Rows.{row-ext, rows-insert}
+use Rattle.fork_calls.proofs.Inside.{first_draw}
 use Rattle.task_table.specs.Bare.{IsBare}
 
--- nothing is taken, and the first draw gives 1
+-- nothing is taken
 nothing_taken : (f : Option Identifier → Option ℕ) → f None ≡ None → (xs : List (Option Identifier)) → ((i : ℕ) → slice_index_or xs i None ≡ None) → filter_map f xs ≡ []
 nothing_taken f none [] all = refl
 nothing_taken f none (x ∷ xs) all = rw (all 0) (rw none (nothing_taken f none xs (λ i. all (suc i))))
-
-first_draw : (pid_max : ℕ) → HasGoodPidMax pid_max → cyclic_draw pid_max 0 [] ≡ Some 1
-unfolding cyclic_draw least_free
-first_draw pid_max good = let some = good.0 in let lt : nat_lt 1 pid_max ≡ true = grind (arith, some) in ap (λ b. if b then Some 1 else (if b then Some 1 else None)) lt
 
 module _ (s : Store) (l : IsLawful s) (b : IsBare s) where
   path : path_at s.numbering 0 ≡ 0 ∷ []

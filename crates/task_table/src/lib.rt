@@ -3,7 +3,8 @@
 //! A store holds what its calls leave in it; the table holds one in which every two calls find a sound state.
 #![tactic(auto)]
 
-ghost use Rattle.std.specs.Prelude.{◌≡◌, IfOk, OnOk, length};
+ghost use Rattle.std.specs.Prelude.{◌≡◌, IfOk, IfSome, OnOk, is_some, length};
+ghost use Rattle.pid_types.specs.Controls.{control_at, count as count_of};
 ghost use Rattle.pid_types.specs.Shown.{Shows};
 ghost use Rattle.pid_types.specs.State.{root_state};
 ghost use Rattle.store_view.specs.View.{state_of};
@@ -85,6 +86,20 @@ impl TaskTable {
             unreachable!()
         };
         self.store.controls().count(root) as usize
+    }
+
+    /// How many tasks the control group with the id and those below it have, ended ones too; none where there is no such
+    /// group. It is the number that the table keeps with the group (`pids.current`): a search for the id and one read, and no
+    /// task is looked at.
+    pub fn count(&self, control: u64) -> Option<u64>
+        ensures there { is_some result ≡ is_some (control_at self.now.controls control) }
+        ensures value { IfSome result (λ n. n ≡ count_of self.now control) }
+    {
+        laws(&self.store);
+        let Some(key) = self.store.controls().find(control) else {
+            return None;
+        };
+        Some(self.store.controls().count(key))
     }
 
     /// How many control groups there are, the root group too. It costs one read.

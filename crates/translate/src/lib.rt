@@ -8,6 +8,7 @@
 ghost use Rattle.std.specs.Prelude.{◌≡◌, ℕ, Some, IsSome, IfSome, option_map};
 ghost use Rattle.pid_types.specs.Names.{number_or_zero};
 ghost use Rattle.pid_types.specs.Queries.{get_pid as get_pid_of, get_ppid as get_ppid_of, get_pgid as get_pgid_of, get_sid as get_sid_of, ns_pid as ns_pid_of, next as next_of, self_or_task};
+ghost use Rattle.pid_types.specs.Short.{reply_of};
 ghost use Rattle.pid_numbers.specs.Numbering.{id_at, identifier_at};
 ghost use Rattle.task_tree.specs.declared.Task.{Task};
 ghost use Rattle.task_tree.specs.Tree.{task_at};
@@ -18,7 +19,7 @@ ghost use Rattle.store_view.specs.Whole.{IsWhole};
 pub mod shown;
 
 use pid_types::call::Kind;
-use pid_types::reply::{Refusal, Reply};
+use pid_types::reply::{Refusal, Reply, ShortReply};
 use store_view::{Found, find_live, find_task, laws, own_space};
 use task_store::TaskStore;
 
@@ -62,30 +63,30 @@ fn seen_session(store: &TaskStore, space: u32, found: &Found) -> u32
 
 /// `getpid(2)`.
 #[tactic(auto, unfolding(pid_types::specs::Queries::get_pid))]
-pub fn get_pid(store: &TaskStore, caller: u32) -> Reply
+pub fn get_pid(store: &TaskStore, caller: u32) -> ShortReply
     requires { IsWhole store.now }
-    ensures { result ≡ get_pid_of (state_of store.now) caller }
+    ensures { reply_of result ≡ get_pid_of (state_of store.now) caller }
 {
     let Some(found) = find_live(store, caller) else {
-        return Reply::Refused(Refusal::NoCaller);
+        return ShortReply::Refused(Refusal::NoCaller);
     };
     let space = own_space(store, found.key);
-    Reply::Number(seen_task(store, space, found.key))
+    ShortReply::Number(seen_task(store, space, found.key))
 }
 
 /// `getppid(2)`: 0 for a parent that the caller cannot see, and for the root init.
 #[tactic(auto, unfolding(pid_types::specs::Queries::get_ppid))]
-pub fn get_ppid(store: &TaskStore, caller: u32) -> Reply
+pub fn get_ppid(store: &TaskStore, caller: u32) -> ShortReply
     requires { IsWhole store.now }
-    ensures { result ≡ get_ppid_of (state_of store.now) caller }
+    ensures { reply_of result ≡ get_ppid_of (state_of store.now) caller }
 {
     let Some(found) = find_live(store, caller) else {
-        return Reply::Refused(Refusal::NoCaller);
+        return ShortReply::Refused(Refusal::NoCaller);
     };
     let space = own_space(store, found.key);
     match store.tree().parent(found.key) {
-        Some(parent) => Reply::Number(seen_task(store, space, parent)),
-        None => Reply::Number(0),
+        Some(parent) => ShortReply::Number(seen_task(store, space, parent)),
+        None => ShortReply::Number(0),
     }
 }
 
@@ -105,34 +106,34 @@ fn self_or_task(store: &TaskStore, caller: &Found, space: u32, pid: u32) -> Opti
 
 /// `getpgid(2)`: 0 for a group that the caller cannot see.
 #[tactic(auto, unfolding(pid_types::specs::Queries::get_pgid))]
-pub fn get_pgid(store: &TaskStore, caller: u32, pid: u32) -> Reply
+pub fn get_pgid(store: &TaskStore, caller: u32, pid: u32) -> ShortReply
     requires { IsWhole store.now }
-    ensures { result ≡ get_pgid_of (state_of store.now) caller pid }
+    ensures { reply_of result ≡ get_pgid_of (state_of store.now) caller pid }
 {
     let Some(found) = find_live(store, caller) else {
-        return Reply::Refused(Refusal::NoCaller);
+        return ShortReply::Refused(Refusal::NoCaller);
     };
     let space = own_space(store, found.key);
     let Some(task) = self_or_task(store, &found, space, pid) else {
-        return Reply::Refused(Refusal::NoTask);
+        return ShortReply::Refused(Refusal::NoTask);
     };
-    Reply::Number(seen_group(store, space, &task))
+    ShortReply::Number(seen_group(store, space, &task))
 }
 
 /// `getsid(2)`: 0 for a session that the caller cannot see.
 #[tactic(auto, unfolding(pid_types::specs::Queries::get_sid))]
-pub fn get_sid(store: &TaskStore, caller: u32, pid: u32) -> Reply
+pub fn get_sid(store: &TaskStore, caller: u32, pid: u32) -> ShortReply
     requires { IsWhole store.now }
-    ensures { result ≡ get_sid_of (state_of store.now) caller pid }
+    ensures { reply_of result ≡ get_sid_of (state_of store.now) caller pid }
 {
     let Some(found) = find_live(store, caller) else {
-        return Reply::Refused(Refusal::NoCaller);
+        return ShortReply::Refused(Refusal::NoCaller);
     };
     let space = own_space(store, found.key);
     let Some(task) = self_or_task(store, &found, space, pid) else {
-        return Reply::Refused(Refusal::NoTask);
+        return ShortReply::Refused(Refusal::NoTask);
     };
-    Reply::Number(seen_session(store, space, &task))
+    ShortReply::Number(seen_session(store, space, &task))
 }
 
 /// `NSpid` of `proc_pid_status(5)`: the target's numbers from the caller's namespace inwards.
@@ -155,17 +156,17 @@ pub fn ns_pid(store: &TaskStore, caller: u32, target: u32) -> Reply
 /// The least number from the given one on that is in use as the kind, in the caller's namespace. It costs one
 /// search by marks.
 #[tactic(auto, unfolding(pid_types::specs::Queries::next))]
-pub fn next(store: &TaskStore, caller: u32, kind: Kind, from: u32) -> Reply
+pub fn next(store: &TaskStore, caller: u32, kind: Kind, from: u32) -> ShortReply
     requires { IsWhole store.now }
-    ensures { result ≡ next_of (state_of store.now) caller kind from }
+    ensures { reply_of result ≡ next_of (state_of store.now) caller kind from }
 {
     laws(store);
     let Some(found) = find_live(store, caller) else {
-        return Reply::Refused(Refusal::NoCaller);
+        return ShortReply::Refused(Refusal::NoCaller);
     };
     let space = own_space(store, found.key);
     match store.numbers().next_used(space, kind, from) {
-        Some(number) => Reply::Number(number),
-        None => Reply::End,
+        Some(number) => ShortReply::Number(number),
+        None => ShortReply::End,
     }
 }

@@ -4,6 +4,7 @@
 ghost use Rattle.std.specs.Prelude.{◌≡◌, Some, IsSome, MatchOption, false};
 ghost use Rattle.pid_types.specs.Outcome.{sweep};
 ghost use Rattle.pid_types.specs.Wait.{end_of, without_row, wait as wait_of};
+ghost use Rattle.pid_types.specs.Short.{reply_of};
 ghost use Rattle.task_tree.specs.declared.Task.{Task};
 ghost use Rattle.task_tree.specs.Tree.{task_at, lives};
 ghost use Rattle.store_view.specs.View.{row_of, state_of};
@@ -12,7 +13,7 @@ ghost use Rattle.wait_calls.specs.Told.{Means, IsUnknown, IsTold};
 
 use pid_types::call::Which;
 use pid_types::plain::{Ended, Life};
-use pid_types::reply::{Refusal, Reply};
+use pid_types::reply::{Refusal, ShortReply};
 use store_view::{find_live, laws, own_space};
 use task_store::TaskStore;
 use task_tree::Task;
@@ -69,24 +70,24 @@ fn reap(store: &mut TaskStore, child: u32, task: Task) -> Ended
 
 /// `waitpid(2)` with `WNOHANG`: reaps the selected child with the least number that has ended.
 #[tactic(auto, unfolding(pid_types::specs::Wait::wait))]
-pub fn wait(store: &mut TaskStore, caller: u32, which: Which) -> Reply
+pub fn wait(store: &mut TaskStore, caller: u32, which: Which) -> ShortReply
     requires { IsWhole store.old }
     ensures state { state_of store.new ≡ (wait_of (state_of store.old) caller which).state }
-    ensures reply { result ≡ (wait_of (state_of store.old) caller which).reply }
+    ensures reply { reply_of result ≡ (wait_of (state_of store.old) caller which).reply }
     ensures parents { HasParents store.new }
 {
     let Some(found) = find_live(store, caller) else {
-        return Reply::Refused(Refusal::NoCaller);
+        return ShortReply::Refused(Refusal::NoCaller);
     };
     match choose_child(store, found.key, which) {
-        Choice::NoChild => Reply::Refused(Refusal::NoChild),
-        Choice::NoneEnded => Reply::NoneYet,
+        Choice::NoChild => ShortReply::Refused(Refusal::NoChild),
+        Choice::NoneEnded => ShortReply::NoneYet,
         Choice::Ended { child, rank } => {
             let Some(task) = store.tree().task(child) else {
                 unreachable!();
             };
             let ended = reap(store, child, task);
-            Reply::Reaped { child: rank, ended }
+            ShortReply::Reaped { child: rank, ended }
         }
     }
 }

@@ -1,11 +1,9 @@
-use Rattle.std.proofs.Common.{sym, ap, subst, ◌∙◌}
+use Rattle.std.proofs.Common.{sym, ap, ◌∙◌}
 use Rattle.pid_types.specs.Outcome.{Outcome}
 use Rattle.pid_numbers.specs.Numbering.{number_of}
 use Rattle.store_view.specs.View.{row_of, state_of}
-use Rattle.store_view.specs.Whole.{HasParents}
 use Rattle.exit_calls.proofs.Exits.{is-one, is-not-one, first-in-root, first-in-own, exit-refused, exit-falls, exit-ends}
 use Rattle.exit_calls.proofs.exit.Goals as goal
-use Rattle.exit_calls.proofs.exit.Goals.{then-is_first-2, else-is_first-2}
 
 pub returns-then-is_first : goal.returns-then-is_first
 returns-then-is_first c =
@@ -29,27 +27,24 @@ end-requires-clause-inner c u at same =
     let key = c.in-Some.found.key in
     is-not-one (number_of b key c.own_space-space.result) (sym c.is_first-2.ensures ∙ c.if-is_first-2.false) (ap (number_of b key) (c.own_space-space.ensures.own u at) ∙ same)
 
-pub returns : goal.returns
-returns c =
+pub returns-then-is_first-2 : goal.returns-then-is_first-2
+returns-then-is_first-2 c =
     let old = c.args.store.now in
     let found = c.in-Some.found in
     let row = row_of old found.key found.task in
     let there = c.in-Some.ensures.there.0 in
     let top = sym (first-in-root old c.laws.ensures found.key found.task there) ∙ sym c.is_first.ensures ∙ c.if-is_first.false in
     let own = first-in-own old c.laws.ensures found.key found.task there c.own_space-space.result c.own_space-space.ensures.id ∙ sym c.is_first-2.ensures in
-    elim c.if-is_first-2.branch [
-      | then-is_first-2 w ↦
-          let is = exit-falls (state_of old) c.args.caller c.args.status row c.in-Some.ensures.row top (own ∙ w.if-is_first-2.true) in
-          record {
-            state = ap state_of w.store-is ∙ w.fall.ensures.state ∙ sym (ap (λ (o : Outcome). o.state) is);
-            reply = sym (ap (λ (o : Outcome). o.reply) is);
-            parents = subst HasParents (sym w.store-is) w.fall.ensures.parents;
-          }
-      | else-is_first-2 w ↦
-          let is = exit-ends (state_of old) c.args.caller c.args.status row c.in-Some.ensures.row top (own ∙ w.if-is_first-2.false) in
-          record {
-            state = ap state_of w.store-is ∙ w.end.ensures.state ∙ sym (ap (λ (o : Outcome). o.state) is);
-            reply = sym (ap (λ (o : Outcome). o.reply) is);
-            parents = subst HasParents (sym w.store-is) w.end.ensures.parents;
-          }
-    ]
+    let is = exit-falls (state_of old) c.args.caller c.args.status row c.in-Some.ensures.row top (own ∙ c.if-is_first-2.true) in
+    record { state = c.fall.ensures.state ∙ sym (ap (λ (o : Outcome). o.state) is); reply = sym (ap (λ (o : Outcome). o.reply) is); parents = c.fall.ensures.parents }
+
+pub returns-else-is_first-2 : goal.returns-else-is_first-2
+returns-else-is_first-2 c =
+    let old = c.args.store.now in
+    let found = c.in-Some.found in
+    let row = row_of old found.key found.task in
+    let there = c.in-Some.ensures.there.0 in
+    let top = sym (first-in-root old c.laws.ensures found.key found.task there) ∙ sym c.is_first.ensures ∙ c.if-is_first.false in
+    let own = first-in-own old c.laws.ensures found.key found.task there c.own_space-space.result c.own_space-space.ensures.id ∙ sym c.is_first-2.ensures in
+    let is = exit-ends (state_of old) c.args.caller c.args.status row c.in-Some.ensures.row top (own ∙ c.if-is_first-2.false) in
+    record { state = c.end.ensures.state ∙ sym (ap (λ (o : Outcome). o.state) is); reply = sym (ap (λ (o : Outcome). o.reply) is); parents = c.end.ensures.parents }

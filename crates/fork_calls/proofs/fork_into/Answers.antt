@@ -1,23 +1,41 @@
-use Rattle.std.proofs.Common.{◌∙◌, refl}
-use Rattle.store_view.specs.View.{name_at}
-use Rattle.fork_calls.proofs.Into as into
+use Rattle.std.proofs.Common.{◌≡◌, ◌∙◌, ℕ, find, is_none, is_some, true, Option, Some, None, sym, ap, subst, option_map, refl, IfErr}
+use Rattle.pid_types.specs.Outcome.{Outcome, unless_found}
+use Rattle.pid_types.specs.Fork.{forked}
+use Rattle.pid_numbers.specs.Numbering.{namespace_at, path_at, draw_in}
+use Rattle.store_view.specs.View.{row_of, state_of}
+use Rattle.fork_calls.proofs.Plans.{room-full, full-there}
 use Rattle.fork_calls.proofs.fork_into.Goals as goal
 
-pub returns-clause-state : goal.returns-clause-state
-returns-clause-state c =
-    into.into-state c.args.store.now c.fork.new.self c.laws.ensures c.laws-2.ensures c.requires.whole.parents c.in_ok-key.key c.args.found.now.key c.child_of-task.result c.args.found.now.task c.requires.there
-    c.args.space c.args.found.now.task.children_space c.in-Ok.numbers.items c.in_ok-key.ensures.begun c.in_ok-key.ensures.order c.in_ok-key.ensures.namespaces c.requires.id c.in-Ok.ensures.ok.2
-    c.child_of-task.ensures c.in-Ok.ensures.ok.0
+some_there : {X : Type 0} (f : X → ℕ) (o : Option X) (i : ℕ) → option_map f o ≡ Some i → is_some o ≡ true
+some_there f None i e = absurd (cc)
+some_there f (Some x) i e = refl
 
-pub returns-clause-reply : goal.returns-clause-reply
-returns-clause-reply c =
-    let own = (name_at c.args.store.now.numbering c.args.found.now.key).space in
-    c.reply_for.ensures own
-    (into.id-after c.args.store.now c.fork.new.self c.laws.ensures c.laws-2.ensures c.requires.whole.parents c.in_ok-key.key c.args.found.now.key c.child_of-task.result c.args.found.now.task c.requires.there
-    c.args.space c.args.found.now.task.children_space c.in-Ok.numbers.items c.in_ok-key.ensures.begun c.in_ok-key.ensures.order c.in_ok-key.ensures.namespaces c.requires.id c.in-Ok.ensures.ok.2
-    c.child_of-task.ensures c.in-Ok.ensures.ok.0
-    c.args.own own c.requires.own)
-    ∙ into.into-reply c.args.store.now c.fork.new.self c.laws.ensures c.laws-2.ensures c.requires.whole.parents c.in_ok-key.key c.args.found.now.key c.child_of-task.result c.args.found.now.task c.requires.there
-    c.args.space c.args.found.now.task.children_space c.in-Ok.numbers.items c.in_ok-key.ensures.begun c.in_ok-key.ensures.order c.in_ok-key.ensures.namespaces c.requires.id c.in-Ok.ensures.ok.2
-    c.child_of-task.ensures c.in-Ok.ensures.ok.0
-    own refl
+pub id_of-requires : goal.id_of-requires
+id_of-requires c =
+    let s = c.args.store.now in
+    let full : find (λ q. is_none (draw_in s.numbering q)) (path_at s.numbering c.args.space) ≡ Some c.in-Err.full =
+    ap (λ b. find (λ q. is_none (draw_in b q)) (path_at b c.args.space)) (sym c.numbers.ensures)
+    ∙ subst (λ r. IfErr r (λ i. find (λ q. is_none (draw_in c.numbers.result.now q)) (path_at c.numbers.result.now c.args.space) ≡ Some i)) c.in-Err.is c.plan-planned.ensures.err in
+    some_there (λ t. t.id) (namespace_at s.numbering c.in-Err.full) _ (full-there s c.laws.ensures c.args.space c.args.found.now.task.children_space c.requires.id (row_of s c.args.found.now.key c.args.found.now.task) c.in-Err.full full)
+
+pub returns-in-Err-clause-state : goal.returns-in-Err-clause-state
+returns-in-Err-clause-state c =
+    let s = c.args.store.now in
+    let row = row_of s c.args.found.now.key c.args.found.now.task in
+    let full : find (λ q. is_none (draw_in s.numbering q)) (path_at s.numbering c.args.space) ≡ Some c.in-Err.full =
+    ap (λ b. find (λ q. is_none (draw_in b q)) (path_at b c.args.space)) (sym c.numbers.ensures)
+    ∙ subst (λ r. IfErr r (λ i. find (λ q. is_none (draw_in c.numbers.result.now q)) (path_at c.numbers.result.now c.args.space) ≡ Some i)) c.in-Err.is c.plan-planned.ensures.err in
+    let room = room-full s c.laws.ensures c.args.space c.args.found.now.task.children_space c.requires.id row c.in-Err.full c.id_of.result full c.id_of.ensures in
+    let is = ap (λ o. unless_found (state_of s) o (λ r. r) (forked (state_of s) row c.args.found.now.task.children_space)) room in
+    sym (ap (λ (o : Outcome). o.state) is)
+
+pub returns-in-Err-clause-reply : goal.returns-in-Err-clause-reply
+returns-in-Err-clause-reply c =
+    let s = c.args.store.now in
+    let row = row_of s c.args.found.now.key c.args.found.now.task in
+    let full : find (λ q. is_none (draw_in s.numbering q)) (path_at s.numbering c.args.space) ≡ Some c.in-Err.full =
+    ap (λ b. find (λ q. is_none (draw_in b q)) (path_at b c.args.space)) (sym c.numbers.ensures)
+    ∙ subst (λ r. IfErr r (λ i. find (λ q. is_none (draw_in c.numbers.result.now q)) (path_at c.numbers.result.now c.args.space) ≡ Some i)) c.in-Err.is c.plan-planned.ensures.err in
+    let room = room-full s c.laws.ensures c.args.space c.args.found.now.task.children_space c.requires.id row c.in-Err.full c.id_of.result full c.id_of.ensures in
+    let is = ap (λ o. unless_found (state_of s) o (λ r. r) (forked (state_of s) row c.args.found.now.task.children_space)) room in
+    sym (ap (λ (o : Outcome). o.reply) is)

@@ -1,4 +1,4 @@
-use Rattle.std.proofs.Common.{◌≡◌, ◌∙◌, sym, ap}
+use Rattle.std.proofs.Common.{◌∙◌, sym, ap}
 use Rattle.task_tree.specs.Tree.{lives}
 use Rattle.store_view.proofs.LookUps.{live-key, live-none, one-task}
 use Rattle.store_view.proofs.find_live.Goals as goal
