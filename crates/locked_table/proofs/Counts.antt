@@ -1,12 +1,16 @@
 -- Counts of workers, added up.
-use Rattle.std.proofs.Common.{◌≡◌, ℕ, zero, suc, ◌+◌, ◌<◌, ◌≤◌, List, [], ◌∷◌, length, get_or, set, length-set, take, replicate, sum, Option, None, slice_get, ◌-◌, Bool, true, false, cond, eqb, refl, sym, ap, ◌∙◌, subst, arith, inl, inr}
+use Rattle.std.proofs.Common.{◌≡◌, ℕ, zero, suc, ◌+◌, ◌<◌, ◌≤◌, List, [], ◌∷◌, ◌++◌, length, length-append, get_or, set, length-set, take, replicate, sum, Option, Some, None, slice_get, ◌-◌, Bool, true, false, cond, eqb, refl, sym, ap, ◌∙◌, subst, arith, inl, inr}
 use Rattle.std.proofs.lemmas.Bool.{le-ltb}
 use Rattle.std.proofs.lemmas.Bool.Decides.{eqb_tells}
 use Rattle.std.proofs.lemmas.List.Sums.{sum_by_more, sum_by-cons, sum_by-set, count_by_more_yes, count_by_more_no}
 use Rattle.std.proofs.lemmas.List.{take_all, get_or-set_same, get_or-set_other}
 use Rattle.std.proofs.lemmas.List.Elements.{All-head, All-tail}
 use Rattle.std.specs.Prelude.{All, slice_index, ◌==◌, nat_lt, if◌then◌else◌}
+use Rattle.std.proofs.Math.Seq.{get_or-append_seam}
+use Rattle.std.proofs.lemmas.Option.{slice_get-get_or}
+use Rattle.std.specs.Option.{option_map}
 use Rattle.pid_types.specs.declared.entry.Entry.{Entry}
+use Rattle.pid_types.specs.declared.reply.Reply.{Reply}
 use Rattle.locked_table.specs.Chronicle.{Chronicle, IsCounted, by_worker, sum_below, recorded_by_all, total}
 
 sum_below-add : (n : ℕ) (f g : ℕ → ℕ) → sum_below n (λ w. f w + g w) ≡ sum_below n f + sum_below n g
@@ -124,3 +128,20 @@ sum_of_noughts (suc n) = sum_of_noughts n
 pub kept_entry-kept : (first : ℕ) (entries : List Entry) (ordinal : ℕ) → first ≤ ordinal
     → (if nat_lt ordinal first then None else slice_get entries (ordinal - first)) ≡ slice_get entries (ordinal - first)
 kept_entry-kept first entries ordinal h = ap (λ (b : Bool). cond {A = Option Entry} b None (slice_get entries (ordinal - first))) (le-ltb ordinal first h)
+
+-- what is put behind the entries is the last
+last_of_pushed : (entries : List Entry) (e : Entry) → slice_get (entries ++ e ∷ []) (length (entries ++ e ∷ []) - 1) ≡ Some e
+last_of_pushed entries e =
+    let longer : length (entries ++ e ∷ []) ≡ length entries + 1 = length-append entries (e ∷ []) in
+    let place : length (entries ++ e ∷ []) - 1 ≡ length entries = omega (arith, longer) in
+    ap (λ i. slice_get (entries ++ e ∷ []) i) place
+    ∙ slice_get-get_or (entries ++ e ∷ []) (length entries) e (omega (arith, longer))
+    ∙ ap (λ (x : Entry). Some x) (get_or-append_seam entries e [] e)
+
+-- and its reply is the last
+pub last_reply_pushed : (entries more : List Entry) (e : Entry) (reply : Reply) → more ≡ entries ++ e ∷ [] → e.reply ≡ reply
+    → option_map (λ (x : Entry). x.reply) (slice_get more (length more - 1)) ≡ Some reply
+last_reply_pushed entries more e reply are is =
+    ap (λ (es : List Entry). option_map (λ (x : Entry). x.reply) (slice_get es (length es - 1))) are
+    ∙ ap (λ o. option_map (λ (x : Entry). x.reply) o) (last_of_pushed entries e)
+    ∙ ap (λ (r : Reply). Some r) is

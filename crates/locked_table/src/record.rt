@@ -3,13 +3,18 @@
 //! One thread may use a record as it is, with [`Record::act`]; several share it as a
 //! [`crate::Shared`], whose guard lends it. The history grows by an entry of 184 bytes with each
 //! call, until a [`Record::checkpoint`] empties it.
-ghost use Rattle.std.specs.Prelude.{◌≡◌, ℕ, ◌+◌, ◌^◌, ◌<◌, ◌≤◌, ◌==◌, [], ◌∷◌, ◌++◌, ◌↔◌, length, All, IsTrue, sum, slice_index, slice_get, replicate, IfOk, OnOk, OnErr, IsOk, IfSome, None, Err, vec_len, vec_capacity};
-ghost use Rattle.std.specs.Option.{option_copied};
+ghost use Rattle.std.specs.Prelude.{◌≡◌, ℕ, ◌+◌, ◌-◌, ◌^◌, ◌<◌, ◌≤◌, ◌==◌, [], ◌∷◌, ◌++◌, ◌↔◌, length, All, IsTrue, sum, slice_index, slice_get, replicate, IfOk, OnOk, OnErr, IsOk, IfSome, Some, None, Err, vec_len, vec_capacity};
+ghost use Rattle.std.specs.Option.{option_copied, option_map};
+ghost use Rattle.std.specs.Prelude.{◌≢◌, Bool, filter};
+ghost use Rattle.pid_types.specs.declared.plain.Control.{Control};
+ghost use Rattle.pid_types.specs.declared.plain.Row.{Row};
+ghost use Rattle.pid_types.specs.Membership.{IsIn};
+ghost use Rattle.model_laws.specs.PathLaws.{TellsSubtree};
 ghost use Rattle.pid_types.specs.State.{root_state};
 ghost use Rattle.pid_types.specs.declared.entry.Entry.{Entry};
 ghost use Rattle.pid_types.specs.Shown.{Shows};
 ghost use Rattle.pid_types.specs.Step.{step, may_grow};
-ghost use Rattle.locked_table.specs.Chronicle.{Chronicle, total, next_stamp, recorded, recorded_by_all, kept_entry, by_worker};
+ghost use Rattle.locked_table.specs.Chronicle.{Chronicle, total, next_stamp, recorded, recorded_by_all, kept_entry, last_reply, by_worker};
 ghost use Rattle.locked_table.specs.Promise.{KeepsPromise};
 ghost use Rattle.locked_table.specs.SeatState.{AreSeats, AreNew, calls_of_seats};
 
@@ -150,6 +155,28 @@ impl<L: Ledger, const N: usize> Record<L, N> {
         entry_in(self.history.as_slice(), ordinal - self.first_kept)
     }
 
+    /// The reply of the last kept entry, lent from there; none where the history is empty. It costs
+    /// nothing.
+    pub fn last_reply(&self) -> Option<&Reply>
+        ensures { option_copied result ≡ last_reply self.now }
+    {
+        last_reply_in(self.history.as_slice())
+    }
+
+    /// How many tasks the control group with the id and those below it have, ended ones too; none where there is no such
+    /// group. It is the number that the table keeps with the group, and that a fork is held against: a search for the id and
+    /// one read, with no look at any task.
+    ///
+    /// Its contract tells the headline's counts of these kept numbers, whenever nobody works on the record.
+    pub fn count(&self, control: u64) -> Option<u64>
+        ensures none { result ≡ None → (g : Control) → IsIn g self.now.present.controls → g.id ≢ control }
+        ensures some { IfSome result (λ n. (test : Row → Bool) → TellsSubtree self.now.present control test → n ≡ length (filter test self.now.present.rows)) }
+    {
+        soundness_is_kept();
+        count_is_of_subtree();
+        self.table.count(control)
+    }
+
     /// How many tasks there are, ended ones too. It costs nothing.
     pub fn tasks(&self) -> usize
         ensures { result ≡ length self.now.present.rows }
@@ -230,21 +257,44 @@ impl<L: Ledger, const N: usize> Record<L, N> {
         ensures err_room { OnErr result (self.old.room ≤ self.new.room) }
         ensures no_memory { result ≡ Err CallFault.NoMemory → 0 < self.old.room → IsTrue (may_grow call) }
     {
+        let ordinal = self.first_kept + self.history.len() as u64;
+        self.make_call(seat, call)?;
+        let Some(reply) = self.last_reply() else {
+            unreachable!()
+        };
+        Ok(Receipt {
+            ordinal,
+            worker: seat.worker,
+            call,
+            reply: copy_reply(reply),
+        })
+    }
+
+    /// Makes a call as [`Record::act`] does, and copies no reply: [`Record::last_reply`] lends it from
+    /// the entry that was recorded.
+    pub fn make_call(&mut self, seat: &mut Seat<L, N>, call: Call) -> Result<(), CallFault>
+        ensures step { OnOk result (self.new.present ≡ (step self.old.present (next_stamp self.old) call).state) }
+        ensures reply { OnOk result (last_reply self.new ≡ Some (step self.old.present (next_stamp self.old) call).reply) }
+        ensures history { OnOk result (self.new.entries ≡ self.old.entries ++ record { worker = seat.old.worker; call = call; reply = (step self.old.present (next_stamp self.old) call).reply } ∷ []) }
+        ensures others { OnOk result (self.new ≡ record self.old { entries = self.new.entries; present = self.new.present; booked = self.old.booked + 1; room = self.new.room }) }
+        ensures seat { OnOk result (seat.new ≡ record seat.old { calls = seat.old.calls + 1 }) }
+        ensures room { self.old.room ≤ self.new.room + 1 }
+
+        ensures spent { (result ≡ Err CallFault.Spent) ↔ (next_stamp self.old ≡ u64.MAX) }
+        ensures err { OnErr result (self.new ≡ record self.old { room = self.new.room }) }
+        ensures err_seat { OnErr result (seat.new ≡ seat.old) }
+        ensures err_room { OnErr result (self.old.room ≤ self.new.room) }
+        ensures no_memory { result ≡ Err CallFault.NoMemory → 0 < self.old.room → IsTrue (may_grow call) }
+    {
         let Some(stamp) = self.stamp() else {
             return Err(CallFault::Spent);
         };
         self.history.reserve(1)?;
         soundness_is_kept();
-        let reply = self.table.step(stamp, call)?;
-        let ordinal = self.first_kept + self.history.len() as u64;
-        Ok(book_call(
-            &mut self.history,
-            &mut self.book,
-            seat,
-            ordinal,
-            call,
-            reply,
-        ))
+        let mut reply = Reply::Done;
+        self.table.step(stamp, call, &mut reply)?;
+        book_call(&mut self.history, &mut self.book, seat, call, reply);
+        Ok(())
     }
 
     /// The stamp of the next call; none where that would be `u64::MAX`, which is never a stamp.
@@ -263,13 +313,11 @@ fn book_call<L: Ledger, const N: usize>(
     history: &mut Vec<Entry>,
     book: &mut Book<L>,
     seat: &mut Seat<L, N>,
-    ordinal: u64,
     call: Call,
     reply: Reply,
-) -> Receipt
+)
     requires room { vec_len history.old < vec_capacity history.old }
     requires fits { book.old.total + 1 < 2 ^ 64 }
-    ensures receipt { result ≡ record { ordinal = ordinal; worker = seat.old.worker; call = call; reply = reply } }
     ensures history { history.new.items ≡ history.old.items ++ record { worker = seat.old.worker; call = call; reply = reply } ∷ [] }
     ensures capacity { vec_capacity history.new ≡ vec_capacity history.old }
     ensures book { book.new.total ≡ book.old.total + 1 }
@@ -283,14 +331,8 @@ fn book_call<L: Ledger, const N: usize>(
     history.push_reserved(Entry {
         worker,
         call,
-        reply: copy_reply(&reply),
-    });
-    Receipt {
-        ordinal,
-        worker,
-        call,
         reply,
-    }
+    });
 }
 
 /// The entry at a place.
@@ -298,6 +340,14 @@ fn entry_in(entries: &[Entry], place: u64) -> Option<&Entry>
     ensures { option_copied result ≡ slice_get entries.now place }
 {
     entries.get(place as usize)
+}
+
+/// The reply of the last entry.
+fn last_reply_in(entries: &[Entry]) -> Option<&Reply>
+    ensures { option_copied result ≡ option_map (λ (e : Entry). e.reply) (slice_get entries.now (length entries.now - 1)) }
+{
+    let last = entries.last()?;
+    Some(&last.reply)
 }
 
 /// A seat for each worker, with one part of the ledger each.

@@ -5,14 +5,14 @@ use Rattle.std.proofs.lemmas.List.Sums.{fold-append}
 use Rattle.std.proofs.lemmas.List.{map-append}
 use Rattle.std.proofs.lemmas.List.{map-append}
 use Rattle.pid_types.specs.declared.call.Call.{Call}
-use Rattle.pid_types.specs.declared.entry.Receipt.{Receipt}
 use Rattle.pid_types.specs.declared.reply.CallFault.{CallFault}
 use Rattle.pid_types.specs.declared.reply.CallFault.TheVariants.{NoMemory, Spent}
+use Rattle.pid_types.specs.declared.reply.Reply.{Reply}
 use Rattle.pid_types.specs.State.{State}
 use Rattle.pid_script.specs.declared.line.Line.{Line}
 use Rattle.pid_script.specs.declared.line.Line.TheVariants as says
 use Rattle.pid_script.specs.declared.tally.Tally.{Tally}
-use Rattle.pid_script.specs.Answers.{reply_text, fault_text, answer_of}
+use Rattle.pid_script.specs.Answers.{reply_text, fault_text, answer_of, replied}
 use Rattle.pid_script.specs.Script.{Progress, begun, with_newline, told, stepped, after_call, after_saying, after_line, after_script}
 use Rattle.pid_script.specs.Session.{Acts, Leads, progress_of, Answers, StopsShort}
 use Rattle.pid_script.proofs.Numbers.{eqb-false_from}
@@ -25,24 +25,31 @@ same_progress s s' n n' t t' l l' r r' b b' es en et el er eb =
     λ i. record { state = es i; stamp = en i; text = et i; lines = el i; recorded = er i; bad = eb i }
 
 -- what a call of a table makes of a script
-pub call_leads : (state : State) (stamp : ℕ) (tally : Tally) (call : Call) (r : Result Receipt CallFault) (state' : State) (stamp' : ℕ) (tally' : Tally)
-    → Acts state stamp call r state' stamp' → tally'.lines ≡ tally.lines + 1 → tally'.recorded ≡ cond (is_ok r) (tally.recorded + 1) tally.recorded → tally'.bad ≡ tally.bad
-    → Leads state stamp tally (says.Call call) (with_newline (answer_of r)) state' stamp' tally'
+pub call_leads : (state : State) (stamp : ℕ) (tally : Tally) (call : Call) (made : Result Unit CallFault) (held : Option Reply) (state' : State) (stamp' : ℕ) (tally' : Tally)
+    → Acts state stamp call (replied made held) state' stamp' → tally'.lines ≡ tally.lines + 1 → tally'.recorded ≡ cond (is_ok made) (tally.recorded + 1) tally.recorded → tally'.bad ≡ tally.bad
+    → Leads state stamp tally (says.Call call) (with_newline (answer_of (replied made held))) state' stamp' tally'
 unfolding after_call
-call_leads state stamp tally call (Ok receipt) state' stamp' tally' acts lines recorded bad = (
+call_leads state stamp tally call (Ok done) reply state' stamp' tally' acts lines recorded bad = (
   false,
   λ held. (rw (eqb-false_from stamp (2 ^ 64 - 1) acts.0)
       (same_progress _ _ _ _ _ _ _ _ _ _ _ _ (sym acts.2) (sym acts.3) (ap (λ reply. held ++ with_newline (reply_text reply)) (sym acts.1)) (sym lines) (sym recorded) (sym bad))),
 )
-call_leads state stamp tally call (Err NoMemory) state' stamp' tally' acts lines recorded bad = (
+call_leads state stamp tally call (Err NoMemory) reply state' stamp' tally' acts lines recorded bad = (
   true,
   λ held. same_progress _ _ _ _ _ _ _ _ _ _ _ _ (sym acts.0) (sym acts.1) refl (sym lines) (sym recorded) (sym bad),
 )
-call_leads state stamp tally call (Err Spent) state' stamp' tally' acts lines recorded bad = (
+call_leads state stamp tally call (Err Spent) reply state' stamp' tally' acts lines recorded bad = (
   false,
   λ held. (rw (eq-eqb stamp (2 ^ 64 - 1) acts.0)
       (same_progress _ _ _ _ _ _ _ _ _ _ _ _ (sym acts.1) (sym acts.2) refl (sym lines) (sym recorded) (sym bad))),
 )
+
+-- a call that found no memory, after which room was made in vain
+pub starved_acts : (state : State) (stamp : ℕ) (call : Call) (made : Result Unit CallFault) (held held' : Option Reply) (state' state'' : State) (stamp' stamp'' : ℕ) → made ≡ Err NoMemory → state'' ≡ state' → stamp'' ≡ stamp'
+    → Acts state stamp call (replied made held) state' stamp' → Acts state stamp call (replied made held') state'' stamp''
+starved_acts state stamp call made held held' state' state'' stamp' stamp'' is same on acts =
+    let found : Acts state stamp call (Err NoMemory) state' stamp' = subst (λ (m : Result Unit CallFault). Acts state stamp call (replied m held) state' stamp') is acts in
+    subst (λ (m : Result Unit CallFault). Acts state stamp call (replied m held') state'' stamp'') (sym is) (same ∙ found.0, on ∙ found.1)
 
 -- an empty line, and a bad one
 pub empty_leads : (state : State) (stamp : ℕ) (tally tally' : Tally) → tally'.lines ≡ tally.lines + 1 → tally'.recorded ≡ tally.recorded → tally'.bad ≡ tally.bad

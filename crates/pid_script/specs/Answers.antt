@@ -1,6 +1,9 @@
 -- What is answered to a line.
-use Rattle.std.specs.Prelude.{ℕ, List, [], ◌++◌, codes, decimal, map, Result, Ok, Err}
+use Rattle.std.specs.Prelude.{ℕ, List, [], ◌++◌, codes, decimal, map, Option, Result, Ok, Err}
+use Rattle.std.specs.Borrow.{Bor}
 use Rattle.std.specs.List.{join_with_byte}
+use Rattle.std.specs.Option.{unwrap_or}
+use Rattle.std.specs.Result.{result_map_both}
 use Rattle.pid_types.specs.declared.entry.Receipt.{Receipt}
 use Rattle.pid_types.specs.declared.plain.Ended.{Ended}
 use Rattle.pid_types.specs.declared.plain.Ended.TheVariants.{Exited, Killed}
@@ -51,6 +54,18 @@ fault_text NoMemory = codes "no memory"
 fault_text Spent = codes "spent"
 
 -- the answer to a call, without its newline
-abbrev pub answer_of : Result Receipt CallFault → List ℕ
-answer_of (Ok receipt) = reply_text receipt.reply
+abbrev pub answer_of : Result Reply CallFault → List ℕ
+answer_of (Ok reply) = reply_text reply
 answer_of (Err fault) = fault_text fault
+
+-- the reply that a receipt has
+abbrev pub received : Result Receipt CallFault → Result Reply CallFault
+received answer = result_map_both (λ receipt. receipt.reply) (λ fault. fault) answer
+
+-- the reply that is lent
+abbrev pub lent : Result (Bor Reply) CallFault → Result Reply CallFault
+lent answer = result_map_both (λ reply. reply.now) (λ fault. fault) answer
+
+-- the reply that is held, where the call was made, of which then there is one
+abbrev pub replied : Result Unit CallFault → Option Reply → Result Reply CallFault
+replied made held = result_map_both (λ _. unwrap_or held Done) (λ fault. fault) made

@@ -2,9 +2,9 @@
 use Rattle.std.specs.Prelude.{ℕ, ◌≡◌, ◌≢◌, ◌+◌, ◌-◌, ◌^◌, ◌<◌, ◌≤◌, Bool, List, ◌++◌, length, map, Option, Result, Ok, Err, IsTrue}
 use Rattle.std.specs.Io.KnownBytes.{Appends, Consumes, IsAtEnd}
 use Rattle.pid_types.specs.declared.call.Call.{Call}
-use Rattle.pid_types.specs.declared.entry.Receipt.{Receipt}
 use Rattle.pid_types.specs.declared.reply.CallFault.{CallFault}
 use Rattle.pid_types.specs.declared.reply.CallFault.TheVariants.{NoMemory, Spent}
+use Rattle.pid_types.specs.declared.reply.Reply.{Reply}
 use Rattle.pid_types.specs.State.{State}
 use Rattle.pid_types.specs.Step.{step}
 use Rattle.pid_script.specs.declared.line.Line.{Line}
@@ -14,10 +14,10 @@ use Rattle.pid_script.specs.declared.tally.RunScriptFault.TheVariants as fault
 use Rattle.pid_script.specs.Script.{Progress, said_of, said_whole, after_saying, after_script}
 
 -- a call of a table: one step at the stamp, which is used up then; or nothing has changed
-abbrev pub Acts : State → ℕ → Call → Result Receipt CallFault → State → ℕ → Type 0
-Acts state stamp call (Ok receipt) state' stamp' =
+abbrev pub Acts : State → ℕ → Call → Result Reply CallFault → State → ℕ → Type 0
+Acts state stamp call (Ok reply) state' stamp' =
     let o = step state stamp call in
-    (stamp ≢ 2 ^ 64 - 1) × (receipt.reply ≡ o.reply) × (state' ≡ o.state) × (stamp' ≡ stamp + 1)
+    (stamp ≢ 2 ^ 64 - 1) × (reply ≡ o.reply) × (state' ≡ o.state) × (stamp' ≡ stamp + 1)
 Acts state stamp call (Err NoMemory) state' stamp' = (state' ≡ state) × (stamp' ≡ stamp)
 Acts state stamp call (Err Spent) state' stamp' = (stamp ≡ 2 ^ 64 - 1) × (state' ≡ state) × (stamp' ≡ stamp)
 

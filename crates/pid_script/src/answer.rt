@@ -2,7 +2,7 @@
 //! held in place, so nothing here takes memory or fails.
 ghost use Rattle.std.specs.Prelude.{◌≡◌, ◌+◌, ◌*◌, ◌≤◌, ◌++◌, ◌∷◌, length, codes, decimal};
 ghost use Rattle.std.specs.List.{flat_map};
-ghost use Rattle.pid_script.specs.Answers.{joined, refused_by, refusal_text, ended_text, reply_text, answer_of};
+ghost use Rattle.pid_script.specs.Answers.{joined, refused_by, refusal_text, ended_text, reply_text, answer_of, received, lent};
 
 use arrayvec::ArrayVec;
 use itoa::Buffer;
@@ -157,13 +157,16 @@ fn push_reply<const N: usize>(text: &mut ArrayVec<u8, N>, reply: &Reply)
 }
 
 /// Appends the answer to a call, without its newline, as [`answer_text`] says it.
-pub fn push_answer<const N: usize>(text: &mut ArrayVec<u8, N>, answer: &Result<Receipt, CallFault>)
+pub(crate) fn push_answer<const N: usize>(
+    text: &mut ArrayVec<u8, N>,
+    answer: Result<&Reply, CallFault>,
+)
     requires { length text.old.items + 362 ≤ N }
-    ensures items { text.new.items ≡ text.old.items ++ answer_of answer.now }
+    ensures items { text.new.items ≡ text.old.items ++ answer_of (lent answer.entry) }
     ensures len { length text.new.items ≤ length text.old.items + 362 }
 {
     match answer {
-        Ok(receipt) => push_reply(text, &receipt.reply),
+        Ok(reply) => push_reply(text, reply),
         Err(CallFault::NoMemory) => push_bytes(text, b"no memory"),
         Err(CallFault::Spent) => push_bytes(text, b"spent"),
     }
@@ -187,9 +190,13 @@ pub fn push_answer<const N: usize>(text: &mut ArrayVec<u8, N>, answer: &Result<R
 ///
 /// Numbers are in decimal. It takes no memory.
 pub fn answer_text(answer: &Result<Receipt, CallFault>) -> ArrayVec<u8, LONGEST_ANSWER>
-    ensures { result.items ≡ answer_of answer.now }
+    ensures { result.items ≡ answer_of (received answer.now) }
 {
     let mut text = ArrayVec::new();
-    push_answer(&mut text, answer);
+    let reply = match answer {
+        Ok(receipt) => Ok(&receipt.reply),
+        Err(fault) => Err(*fault),
+    };
+    push_answer(&mut text, reply);
     text
 }

@@ -3,14 +3,13 @@ ghost use Rattle.std.specs.Prelude.{◌≡◌, ◌<◌, ◌≤◌, ◌++◌, [],
 ghost use Rattle.std.specs.Io.KnownBytes.{Appends};
 ghost use Rattle.pid_script.specs.declared.tally.RunScriptFault.TheVariants.{Write};
 ghost use Rattle.pid_script.specs.Script.{with_newline, HasStopped};
-ghost use Rattle.pid_script.specs.Answers.{answer_of};
+ghost use Rattle.pid_script.specs.Answers.{answer_of, lent};
 
 use crate::answer::{LONGEST_ANSWER, push_answer};
 use crate::tally::RunScriptFault;
 use arrayvec::ArrayVec;
 use pid_types::device::Sink;
-use pid_types::entry::Receipt;
-use pid_types::reply::CallFault;
+use pid_types::reply::{CallFault, Reply};
 use std::marker::Model;
 
 /// How many bytes wait at most.
@@ -87,13 +86,14 @@ impl Outbox {
     }
 
     /// Holds the answer and its newline, and makes room for the longest answer first.
+    #[inline(always)]
     pub fn push_answer<K: Sink>(
         &mut self,
         sink: &mut K,
-        answer: &Result<Receipt, CallFault>,
+        answer: Result<&Reply, CallFault>,
     ) -> Result<(), RunScriptFault>
-        ensures ok { OnOk result ((sent : List ℕ) × Appends (K.contents sink.old) (K.contents sink.new) sent × (self.old ++ with_newline (answer_of answer.now) ≡ sent ++ self.new)) }
-        ensures err { OnErr result ((sent left : List ℕ) × Appends (K.contents sink.old) (K.contents sink.new) sent × (self.old ++ with_newline (answer_of answer.now) ≡ sent ++ left) × (0 < length left)) }
+        ensures ok { OnOk result ((sent : List ℕ) × Appends (K.contents sink.old) (K.contents sink.new) sent × (self.old ++ with_newline (answer_of (lent answer.entry)) ≡ sent ++ self.new)) }
+        ensures err { OnErr result ((sent left : List ℕ) × Appends (K.contents sink.old) (K.contents sink.new) sent × (self.old ++ with_newline (answer_of (lent answer.entry)) ≡ sent ++ left) × (0 < length left)) }
         ensures fault { IfErr result (λ e. e ≡ Write) }
         ensures stopped { OnErr result (HasStopped (K.has_failed sink.new) (K.is_full sink.new)) }
     {

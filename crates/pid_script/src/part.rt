@@ -68,7 +68,7 @@ impl PartLine {
 
     /// The same of a line of which something has come.
     #[tactic(auto, using(crate::proofs::Kept::said_by_kept))]
-    pub fn finish_kept(&mut self, end: &[u8]) -> Line
+    pub(crate) fn finish_kept(&mut self, end: &[u8]) -> Line
         ensures value { result ≡ said_by (kept_more self.old end.now) }
         ensures line { (part : List ℕ) → self.old ≡ kept_line part → result ≡ parsed (part ++ end.now) }
         ensures next { self.new ≡ Some [] }
@@ -82,6 +82,7 @@ impl PartLine {
 
     /// Ends the line with these bytes, and says what it says. The next line begins.
     #[tactic(auto, using(crate::proofs::Kept::said_by_kept))]
+    #[inline(always)]
     pub fn finish(&mut self, end: &[u8]) -> Line
         ensures value { result ≡ said_by (kept_more self.old end.now) }
         ensures line { (part : List ℕ) → self.old ≡ kept_line part → result ≡ parsed (part ++ end.now) }

@@ -1,13 +1,14 @@
 //! Scripts answered line by line: [`run_script`], over any [`Table`], source and sink. A session
 //! holds one line that has not ended and at most 8,192 bytes of answers; it takes no memory of its
 //! own.
-ghost use Rattle.std.specs.Prelude.{◌≡◌, ◌≢◌, Some, ◌+◌, ◌^◌, ◌<◌, ◌≤◌, ◌++◌, ◌∷◌, [], List, ℕ, length, OnOk, OnErr, IfOk, IfErr, Err, IsTrue, if◌then◌else◌};
+ghost use Rattle.std.specs.Prelude.{◌≡◌, ◌≢◌, Some, ◌+◌, ◌^◌, ◌<◌, ◌≤◌, ◌++◌, ◌∷◌, [], List, ℕ, length, OnOk, OnErr, IfOk, IfErr, Err, Option, IsSome, option_copied, IsTrue, if◌then◌else◌};
 ghost use Rattle.std.specs.Result.{is_ok};
 ghost use Rattle.std.specs.Io.KnownBytes.{Appends};
 ghost use Rattle.pid_types.specs.State.{State};
+ghost use Rattle.pid_types.specs.declared.reply.Reply.{Reply};
 ghost use Rattle.pid_script.specs.declared.tally.RunScriptFault.TheVariants.{NoMemory, Write};
 ghost use Rattle.pid_script.specs.Script.{begun, with_newline, HasStopped, said_within, kept_after, last_said};
-ghost use Rattle.pid_script.specs.Answers.{answer_of};
+ghost use Rattle.pid_script.specs.Answers.{answer_of, lent, replied};
 ghost use Rattle.pid_script.specs.Session.{Acts, Leads, progress_of, Answers, StopsShort, IsTallied, Finishes, Leaves};
 
 use crate::bytes::split_at_first;
@@ -17,8 +18,7 @@ use crate::part::PartLine;
 use crate::tally::{RunScriptFault, Tally};
 use pid_types::call::Call;
 use pid_types::device::{Sink, Source};
-use pid_types::entry::Receipt;
-use pid_types::reply::CallFault;
+use pid_types::reply::{CallFault, Reply};
 
 /// The most bytes that a read asks for.
 pub const CHUNK: usize = 4096;
@@ -29,10 +29,17 @@ pub trait Table {
     ghost state: { Self → State };
     // The stamp of the next call.
     ghost stamp: { Self → ℕ };
+    // The reply that it holds, if any: that to the last call that was made.
+    ghost held: { Self → Option Reply };
 
-    /// Makes the call. After a fault the table is as it was.
-    fn act(&mut self, call: Call) -> Result<Receipt, CallFault>
-        ensures { Acts (state self.old) (stamp self.old) call result (state self.new) (stamp self.new) };
+    /// Makes the call, and holds the reply. After a fault the table is as it was.
+    fn act(&mut self, call: Call) -> Result<(), CallFault>
+        ensures acts { Acts (state self.old) (stamp self.old) call (replied result (held self.new)) (state self.new) (stamp self.new) }
+        ensures held { OnOk result (IsSome (held self.new)) };
+
+    /// Lends the reply that it holds. It costs nothing.
+    fn reply(&self) -> Option<&Reply>
+        ensures { option_copied result ≡ held self.now };
 
     /// Makes room after a call that found no memory, if it can, and says whether the call may be made
     /// once more. The table stays as it is.
@@ -65,26 +72,41 @@ fn count_call(tally: &mut Tally, is_recorded: bool)
     }
 }
 
-/// Counts a call, and answers it.
-fn tell_answer<K: Sink>(
+/// The answer to the call that was made last: the reply that the table holds.
+fn answer_held<T: Table>(table: &T, made: Result<(), CallFault>) -> Result<&Reply, CallFault>
+    requires { OnOk made (IsSome (T.held table.now)) }
+    ensures { lent result ≡ replied made (T.held table.now) }
+{
+    made?;
+    let Some(reply) = table.reply() else {
+        unreachable!()
+    };
+    Ok(reply)
+}
+
+/// Counts a call, and answers it: by the reply that the table holds, if the call was made.
+#[inline(always)]
+fn tell_answer<T: Table, K: Sink>(
     session: &mut Session,
+    table: &T,
     sink: &mut K,
-    answer: &Result<Receipt, CallFault>,
+    made: Result<(), CallFault>,
 ) -> Result<(), RunScriptFault>
+    requires held { OnOk made (IsSome (T.held table.now)) }
     requires counted { IsTallied session.old.tally }
     requires room { session.old.tally.lines + 1 < 2 ^ 64 }
-    ensures ok { OnOk result ((sent : List ℕ) × Appends (K.contents sink.old) (K.contents sink.new) sent × (session.old.outbox ++ with_newline (answer_of answer.now) ≡ sent ++ session.new.outbox)) }
-    ensures err { OnErr result ((sent left : List ℕ) × Appends (K.contents sink.old) (K.contents sink.new) sent × (session.old.outbox ++ with_newline (answer_of answer.now) ≡ sent ++ left) × (0 < length left)) }
+    ensures ok { OnOk result ((sent : List ℕ) × Appends (K.contents sink.old) (K.contents sink.new) sent × (session.old.outbox ++ with_newline (answer_of (replied made (T.held table.now))) ≡ sent ++ session.new.outbox)) }
+    ensures err { OnErr result ((sent left : List ℕ) × Appends (K.contents sink.old) (K.contents sink.new) sent × (session.old.outbox ++ with_newline (answer_of (replied made (T.held table.now))) ≡ sent ++ left) × (0 < length left)) }
     ensures fault { IfErr result (λ e. e ≡ Write) }
     ensures stopped { OnErr result (HasStopped (K.has_failed sink.new) (K.is_full sink.new)) }
     ensures part { session.new.part ≡ session.old.part }
     ensures counted { IsTallied session.new.tally }
     ensures lines { session.new.tally.lines ≡ session.old.tally.lines + 1 }
-    ensures recorded { session.new.tally.recorded ≡ (if is_ok answer.now then session.old.tally.recorded + 1 else session.old.tally.recorded) }
+    ensures recorded { session.new.tally.recorded ≡ (if is_ok made then session.old.tally.recorded + 1 else session.old.tally.recorded) }
     ensures bad { session.new.tally.bad ≡ session.old.tally.bad }
 {
-    count_call(&mut session.tally, answer.is_ok());
-    session.outbox.push_answer(sink, answer)
+    count_call(&mut session.tally, made.is_ok());
+    session.outbox.push_answer(sink, answer_held(table, made))
 }
 
 /// Makes a call once, and answers it.
@@ -107,18 +129,19 @@ fn answer_once<T: Table, K: Sink>(
     ensures counted { IsTallied session.new.tally }
     ensures lines { session.new.tally.lines ≡ session.old.tally.lines + 1 }
 {
-    let answer = table.act(call);
-    tell_answer(session, sink, &answer)
+    let made = table.act(call);
+    tell_answer(session, table, sink, made)
 }
 
 /// Whether a call found no memory.
-fn is_starved(answer: &Result<Receipt, CallFault>) -> bool
-    ensures { IsTrue result → answer.now ≡ Err CallFault.NoMemory }
+fn is_starved(made: Result<(), CallFault>) -> bool
+    ensures { IsTrue result → made ≡ Err CallFault.NoMemory }
 {
-    matches!(answer, Err(CallFault::NoMemory))
+    matches!(made, Err(CallFault::NoMemory))
 }
 
 /// Makes a call, once more where it found no memory and the table has made room, and answers it.
+#[inline(always)]
 fn answer_call<T: Table, K: Sink>(
     session: &mut Session,
     table: &mut T,
@@ -138,14 +161,18 @@ fn answer_call<T: Table, K: Sink>(
     ensures counted { IsTallied session.new.tally }
     ensures lines { session.new.tally.lines ≡ session.old.tally.lines + 1 }
 {
-    let first = table.act(call);
-    if is_starved(&first) && table.make_room() {
+    let made = table.act(call);
+    if !is_starved(made) {
+        return tell_answer(session, table, sink, made);
+    }
+    if table.make_room() {
         return answer_once(session, table, sink, call);
     }
-    tell_answer(session, sink, &first)
+    tell_answer(session, table, sink, made)
 }
 
 /// Answers a line.
+#[inline(always)]
 fn answer_line<T: Table, K: Sink>(
     session: &mut Session,
     table: &mut T,

@@ -3,11 +3,11 @@ ghost use Rattle.std.specs.Prelude.{◌≡◌, [], IfOk};
 ghost use Rattle.locked_table.specs.Chronicle.{next_stamp};
 ghost use Rattle.pid_types.specs.State.{root_state};
 
-use locked_table::{Receipt, Record, Seat};
+use locked_table::{Record, Seat};
 use pid_script::session::Table;
 use pid_types::call::Call;
 use pid_types::config::Config;
-use pid_types::reply::CallFault;
+use pid_types::reply::{CallFault, Reply};
 use std::alloc::{AllocError, Global};
 use std::sync::ledger::{Blank, Ledger};
 
@@ -36,14 +36,22 @@ impl<L: Ledger> OneSeat<L> {
 }
 
 impl<L: Ledger> Table for OneSeat<L> {
-    ghost use Rattle.locked_table.specs.Chronicle.{next_stamp};
+    ghost use Rattle.locked_table.specs.Chronicle.{next_stamp, last_reply};
 
     ghost state = { λ t. t.record.present };
 
     ghost stamp = { λ t. next_stamp t.record };
 
-    fn act(&mut self, call: Call) -> Result<Receipt, CallFault> {
-        self.record.act(&mut self.seat, call)
+    ghost held = { λ t. last_reply t.record };
+
+    #[inline(always)]
+    fn act(&mut self, call: Call) -> Result<(), CallFault> {
+        self.record.make_call(&mut self.seat, call)
+    }
+
+    #[inline(always)]
+    fn reply(&self) -> Option<&Reply> {
+        self.record.last_reply()
     }
 
     fn make_room(&mut self) -> bool {

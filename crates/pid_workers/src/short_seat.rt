@@ -4,16 +4,16 @@ ghost use Rattle.locked_table.specs.Chronicle.{next_stamp};
 ghost use Rattle.pid_types.specs.State.{root_state};
 
 use crate::one_seat::OneSeat;
-use locked_table::{Receipt, Record};
+use locked_table::Record;
 use pid_script::session::Table;
 use pid_types::call::Call;
 use pid_types::config::Config;
-use pid_types::reply::CallFault;
+use pid_types::reply::{CallFault, Reply};
 use std::alloc::{AllocError, Global};
 use std::sync::ledger::{Blank, Ledger};
 
 /// The fewest kept entries at which a history is cut.
-const FEWEST_ENTRIES: u64 = 1024;
+const FEWEST_ENTRIES: u64 = 4096;
 
 /// How many entries a history has for each task and control group before it is cut. So a cut, which
 /// copies the table, adds a bounded share to each call's cost.
@@ -50,22 +50,33 @@ impl<L: Ledger> ShortSeat<L> {
 /// Whether the history is long beside the table.
 fn is_long<L: Ledger>(table: &Record<L, 1>) -> bool {
     let kept = table.total().saturating_sub(table.first_kept());
+    if kept < FEWEST_ENTRIES {
+        return false;
+    }
     let share = kept / ENTRIES_FOR_EACH;
-    kept >= FEWEST_ENTRIES && share >= table.tasks() as u64 && share >= table.controls() as u64
+    share >= table.tasks() as u64 && share >= table.controls() as u64
 }
 
 impl<L: Ledger> Table for ShortSeat<L> {
-    ghost use Rattle.locked_table.specs.Chronicle.{next_stamp};
+    ghost use Rattle.locked_table.specs.Chronicle.{next_stamp, last_reply};
 
     ghost state = { λ t. t.inner.record.present };
 
     ghost stamp = { λ t. next_stamp t.inner.record };
 
-    fn act(&mut self, call: Call) -> Result<Receipt, CallFault> {
+    ghost held = { λ t. last_reply t.inner.record };
+
+    #[inline(always)]
+    fn act(&mut self, call: Call) -> Result<(), CallFault> {
         if is_long(&self.inner.record) {
             self.cut_history();
         }
         self.inner.act(call)
+    }
+
+    #[inline(always)]
+    fn reply(&self) -> Option<&Reply> {
+        self.inner.reply()
     }
 
     fn make_room(&mut self) -> bool {

@@ -1,4 +1,4 @@
-//! One record, by its seats: checkpoints, reserved room, two seats on a shared table.
+//! One record, by its seats: checkpoints, reserved room, lent replies, two seats on a shared table.
 ghost use Rattle.std.specs.Prelude.{◌≡◌, true};
 ghost use Rattle.locked_table.specs.SeatState.{AreSeats};
 
@@ -118,6 +118,9 @@ fn assert_cut<L: Ledger>(rt: &impl Abort, record: &Record<L, 1>, total: u64) {
     assert_eq!(rt; record.total(), total);
     assert_eq!(rt; record.recorded(0), total);
     assert!(rt; record.entry(2).is_none());
+    assert_eq!(rt; record.count(0), Some(2));
+    assert_eq!(rt; record.count(2), Some(0));
+    assert!(rt; record.count(7).is_none());
     assert_eq!(rt; record.entry(3).is_some(), total > 3);
 }
 
@@ -237,6 +240,60 @@ fn two_seats<L: Ledger, R: Wait + Abort>(rt: &R, alloc: Global, blank: Blank) ->
 #[test]
 fn two_share_a_table(rt: HostRuntime) -> Result<(), Fail> {
     two_seats::<Brand, HostRuntime>(&rt, rt.alloc(), Blank::new(2))
+}
+
+/// Makes a call, and compares the reply that is lent.
+fn make<L: Ledger, const N: usize>(
+    rt: &impl Abort,
+    record: &mut Record<L, N>,
+    seat: &mut Seat<L, N>,
+    want: &Receipt,
+) {
+    record.make_call(seat, want.call).expect(rt, "no call");
+    let reply = record.last_reply().expect(rt, "no reply");
+    assert_eq!(rt; *reply, want.reply);
+}
+
+/// Makes each call by its worker's seat, and compares the replies that are lent.
+fn make_all<L: Ledger, const N: usize>(
+    rt: &impl Abort,
+    record: &mut Record<L, N>,
+    seats: &mut [Seat<L, N>],
+    wanted: &[Receipt],
+) {
+    for want in wanted {
+        let seat = seats.get_mut(want.worker).expect(rt, "a seat");
+        make(rt, record, seat, want);
+    }
+}
+
+/// No reply is lent by an empty history, and else the last call's.
+fn lend_around_checkpoint<L: Ledger>(
+    rt: &impl Abort,
+    record: &mut Record<L, 1>,
+    seats: &mut [Seat<L, 1>],
+) {
+    assert!(rt; record.last_reply().is_none());
+    make_all(rt, record, seats, &before_checkpoint());
+    cut(rt, record);
+    assert!(rt; record.last_reply().is_none());
+    make_all(rt, record, seats, &after_checkpoint());
+    assert_cut(rt, record, 5);
+}
+
+fn lending_record<L: Ledger>(rt: &impl Abort, alloc: Global, blank: Blank) -> Result<(), Fail>
+    requires name { blank.name ≡ L.name }
+    requires parts { (blank.parts ≡ L.parts) × (L.parts ≡ 1) }
+{
+    let config = Config::default_values();
+    let (mut record, mut seats) = Record::<L, 1>::new(alloc, blank, &config)?;
+    lend_around_checkpoint(rt, &mut record, &mut seats);
+    Ok(())
+}
+
+#[test]
+fn lends_the_last_reply(rt: HostRuntime) -> Result<(), Fail> {
+    lending_record::<Brand>(&rt, rt.alloc(), Blank::new(1))
 }
 
 /// Makes room for two calls.

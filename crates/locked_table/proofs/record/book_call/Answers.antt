@@ -9,6 +9,3 @@ returns-clause-book g c = search rules
 
 pub returns-clause-history : goal.returns-clause-history
 returns-clause-history g c = search rules
-
-pub returns-clause-receipt : goal.returns-clause-receipt
-returns-clause-receipt g c = search rules

@@ -1,6 +1,6 @@
 use Rattle.pid_script.specs.declared.line.Line.TheVariants as says
 use Rattle.pid_script.specs.Script.{with_newline}
-use Rattle.pid_script.specs.Answers.{answer_of}
+use Rattle.pid_script.specs.Answers.{answer_of, replied}
 use Rattle.pid_script.proofs.Progress.{call_leads, answered, stopped}
 use Rattle.pid_script.proofs.Sent.{OnErr-weaker, OnOk-weaker}
 use Rattle.pid_script.proofs.session.answer_once.Goals as goal
@@ -8,19 +8,25 @@ use Rattle.pid_script.proofs.session.answer_once.Goals as goal
 pub returns-clause-ok : goal.returns-clause-ok
 returns-clause-ok g c =
     let before = c.args.session.now in
+    let table = c.act-made.new.self in
+    let held = g.T.Table.held table in
+    let answer = replied c.act-made.result held in
     let told = c.tell_answer.ensures in
     let after = c.tell_answer.new.session in
-    let leads = call_leads _ _ before.tally c.args.call c.act-answer.result _ _ after.tally c.act-answer.ensures told.lines told.recorded told.bad in
+    let leads = call_leads _ _ before.tally c.args.call c.act-made.result held (g.T.Table.state table) (g.T.Table.stamp table) after.tally c.act-made.ensures.acts told.lines told.recorded told.bad in
     OnOk-weaker _ _ c.tell_answer.result _ _ (λ pushed.
-    answered _ _ before.tally before.outbox (says.Call c.args.call) (with_newline (answer_of c.act-answer.result)) _ _ after.tally after.outbox pushed.0 _ _
+    answered _ _ before.tally before.outbox (says.Call c.args.call) (with_newline (answer_of answer)) _ _ after.tally after.outbox pushed.0 _ _
     leads pushed.1 pushed.2) told.ok
 
 pub returns-clause-err : goal.returns-clause-err
 returns-clause-err g c =
     let before = c.args.session.now in
+    let table = c.act-made.new.self in
+    let held = g.T.Table.held table in
+    let answer = replied c.act-made.result held in
     let told = c.tell_answer.ensures in
     let after = c.tell_answer.new.session in
-    let leads = call_leads _ _ before.tally c.args.call c.act-answer.result _ _ after.tally c.act-answer.ensures told.lines told.recorded told.bad in
+    let leads = call_leads _ _ before.tally c.args.call c.act-made.result held (g.T.Table.state table) (g.T.Table.stamp table) after.tally c.act-made.ensures.acts told.lines told.recorded told.bad in
     OnErr-weaker _ _ c.tell_answer.result _ _ (λ stops.
-    stopped _ _ before.tally before.outbox (says.Call c.args.call) (with_newline (answer_of c.act-answer.result)) _ _ after.tally stops.0 stops.1 _ _
+    stopped _ _ before.tally before.outbox (says.Call c.args.call) (with_newline (answer_of answer)) _ _ after.tally stops.0 stops.1 _ _
     leads stops.2 stops.3 stops.4) told.err

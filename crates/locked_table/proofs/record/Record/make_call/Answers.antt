@@ -1,0 +1,30 @@
+use Rattle.std.proofs.Common.{◌≡◌, ℕ, rules, ap, sym, subst, ◌∙◌}
+use Rattle.pid_types.specs.declared.entry.Entry.{Entry}
+use Rattle.pid_types.specs.Sound.{IsBelow}
+use Rattle.pid_types.specs.Step.{step}
+use Rattle.locked_table.specs.Chronicle.{Chronicle, next_stamp}
+use Rattle.locked_table.proofs.Counts.{last_reply_pushed}
+use Rattle.locked_table.proofs.Kept.{kept-entry, outcome-of, present-sound}
+use Rattle.locked_table.proofs.record.Record.make_call.Goals as goal
+
+-- the history is one entry longer
+pub invariant_of-self-2 : goal.invariant_of-self-2
+invariant_of-self-2 g c =
+    let e : Entry = record { worker = c.args.seat.now.worker; call = c.args.call; reply = c.step.new.reply } in
+    kept-entry _ _ e _ _ _ _ c.self.invariant
+    (search rules)
+    c.book_call.ensures.known
+    (search rules)
+    (outcome-of _ _ _ c.in_ok-step.ensures.state c.in_ok-step.ensures.reply ∙ ap (λ n. step c.self.inside.table n c.args.call) (c.in-Some.ensures.some ∙ ap next_stamp (sym c.self.view_is)))
+    (search rules)
+
+-- the ids of the present state are below the stamp
+pub step-requires : goal.step-requires
+step-requires g c =
+    record { below = subst (λ (stamp : ℕ). IsBelow stamp c.self.inside.table) (sym (c.in-Some.ensures.some ∙ ap next_stamp (sym c.self.view_is))) (present-sound c.soundness_is_kept.ensures.run _ _ c.self.invariant).1 }
+
+pub returns-clause-reply : goal.returns-clause-reply
+returns-clause-reply g c =
+    let e : Entry = record { worker = c.args.seat.now.worker; call = c.args.call; reply = c.step.new.reply } in
+    last_reply_pushed c.reserve.new.self.items c.book_call.new.history.items e _ c.book_call.ensures.history
+    (c.in_ok-step.ensures.reply ∙ ap (λ n. (step c.self.inside.table n c.args.call).reply) c.in-Some.ensures.some ∙ ap (λ (t : Chronicle). (step t.present (next_stamp c.args.self.now) c.args.call).reply) c.self.view_is)
