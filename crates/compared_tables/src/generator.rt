@@ -5,7 +5,7 @@
 ghost use Rattle.std.specs.Prelude.{◌<◌};
 
 use crate::draft::{DRAFTS, Draft, Theme};
-use crate::random::Random;
+use load_random::Random;
 use pid_types::call::{Call, Kind, Which};
 use pid_types::plain::{Life, Name, Plain};
 
@@ -60,7 +60,7 @@ impl Generator {
     /// The calls of a seed, on a table as the picture shows it.
     pub fn new(seed: u64, aims: Aims, picture: Plain) -> Self {
         Generator {
-            random: Random::new(seed),
+            random: Random::seeded(seed),
             aims,
             picture,
         }
@@ -103,7 +103,7 @@ impl Generator {
         for draft in DRAFTS {
             total = total.saturating_add(self.aims.theme.weight(draft));
         }
-        let mut left = self.random.below(total.max(1));
+        let mut left = self.random.high_below(total.max(1));
         for draft in DRAFTS {
             let weight = self.aims.theme.weight(draft);
             if left < weight {
@@ -120,14 +120,14 @@ impl Generator {
     /// The place of a task among the rows of the picture.
     fn place(&mut self) -> usize {
         let tasks = self.picture.rows.len();
-        self.random.below(tasks.max(1))
+        self.random.high_below(tasks.max(1))
     }
 
     /// The place of a task that is not kept.
     fn late_place(&mut self) -> usize {
         let kept = self.aims.kept_tasks;
         let late = self.picture.rows.len().saturating_sub(kept);
-        self.random.below(late.max(1)).saturating_add(kept)
+        self.random.high_below(late.max(1)).saturating_add(kept)
     }
 
     /// The place of a live task: not of a kept one, where another is found.
@@ -206,12 +206,12 @@ impl Generator {
 
     /// Any number: one of the first, one about the least `pid_max`, or a great one.
     fn number(&mut self) -> u32 {
-        match self.random.below(6) {
+        match self.random.high_below(6) {
             0 => 0,
             1 => 1,
             2 => u32::MAX,
-            3 => self.random.below(400) as u32,
-            _ => self.random.below(40) as u32,
+            3 => self.random.high_below(400) as u32,
+            _ => self.random.high_below(40) as u32,
         }
     }
 
@@ -242,12 +242,12 @@ impl Generator {
     /// A control group, often one of the last; at times any number.
     fn control(&mut self) -> u64 {
         if self.random.one_in(20) {
-            return self.random.below(6000) as u64;
+            return self.random.high_below(6000) as u64;
         }
         let controls = self.picture.controls.len();
-        let mut place = self.random.below(controls.max(1));
+        let mut place = self.random.high_below(controls.max(1));
         if self.random.one_in(2) {
-            place = controls.saturating_sub(self.random.below(4).saturating_add(1));
+            place = controls.saturating_sub(self.random.high_below(4).saturating_add(1));
         }
         match self.picture.controls.get(place) {
             Some(control) => control.id,
@@ -275,7 +275,7 @@ impl Generator {
 
     /// The exit of a task that is not kept; at times of the root init or of nobody.
     fn exit(&mut self) -> Call {
-        let status = self.random.below(256) as u8;
+        let status = self.random.high_below(256) as u8;
         if self.random.one_in(40) {
             return Call::Exit {
                 caller: self.number(),
@@ -321,7 +321,7 @@ impl Generator {
         } else {
             child.parent
         };
-        let which = match self.random.below(10) {
+        let which = match self.random.high_below(10) {
             0 => Which::OwnGroup,
             1 | 2 => Which::Group(child.group),
             3 | 4 => Which::Pid(child.number),
@@ -339,12 +339,12 @@ impl Generator {
     fn set_pgid(&mut self) -> Call {
         let place = self.live_place();
         let child = self.child_at(place);
-        let (caller, pid) = match self.random.below(8) {
+        let (caller, pid) = match self.random.high_below(8) {
             0 | 1 => (self.caller_at(place), 0),
             2 => (self.caller_at(place), self.target(child.parent.level)),
             _ => (child.parent, child.number),
         };
-        let pgid = match self.random.below(8) {
+        let pgid = match self.random.high_below(8) {
             0 | 1 => 0,
             2 => pid,
             _ => self.group(caller.level),
@@ -385,10 +385,10 @@ impl Generator {
 
     /// A limit: mostly one near the tasks that a control group may have, at times none or a bad one.
     fn set_limit(&mut self) -> Call {
-        let limit = match self.random.below(8) {
+        let limit = match self.random.high_below(8) {
             0 | 1 => None,
             2 => Some(BAD_LIMIT),
-            _ => Some(self.random.below(self.aims.most_tasks.clamp(1, 1000)) as u32),
+            _ => Some(self.random.high_below(self.aims.most_tasks.clamp(1, 1000)) as u32),
         };
         Call::SetLimit {
             id: self.control(),
@@ -427,7 +427,7 @@ impl Generator {
             root: caller,
             level,
         } = self.caller();
-        match self.random.below(9) {
+        match self.random.high_below(9) {
             0 => Call::GetPid { caller },
             1 => Call::GetPpid { caller },
             2 => Call::GetPgid {
@@ -450,7 +450,7 @@ impl Generator {
 
     /// A query for the next number in use.
     fn next(&mut self, caller: u32, kind: Kind, level: usize) -> Call {
-        let above = self.random.below(3) as u32;
+        let above = self.random.high_below(3) as u32;
         Call::Next {
             caller,
             kind,

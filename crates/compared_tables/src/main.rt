@@ -10,7 +10,6 @@
 mod draft;
 mod generator;
 mod pair;
-mod random;
 mod runs;
 mod tally;
 mod worked;

@@ -91,7 +91,8 @@ impl Pair {
         };
         soundness_is_kept();
         let plain = self.plain.step(self.stamp, call)?;
-        let fast = self.fast.step(self.stamp, call)?;
+        let mut fast = Reply::Done;
+        self.fast.step(self.stamp, call, &mut fast)?;
         self.stamp = next;
         if fast != plain {
             return Err(Fault::Replies { fast, plain });
@@ -99,9 +100,12 @@ impl Pair {
         Ok(plain)
     }
 
-    /// What both tables show.
+    /// What both tables show. The error is that they show two states, or want of memory.
+    #[tactic(auto, using(crate::proofs::Same::shown_by_both, crate::proofs::Same::alike_of_one))]
     pub fn snapshot(&self) -> Result<Plain, Fault>
         ensures plain { IfOk result (Shows self.now.plain) }
+        ensures fast { IfOk result (Shows self.now.fast) }
+        ensures states { result ≡ Err Fault.States → self.now.fast ≡ self.now.plain → ⊥ }
     {
         let plain = self.plain.snapshot()?;
         let fast = self.fast.snapshot()?;
@@ -112,7 +116,33 @@ impl Pair {
     }
 }
 
+/// Whether two snapshots have the same tasks.
+fn have_same_rows(a: &Plain, b: &Plain) -> bool
+    ensures { IsTrue result ↔ (a.now.rows.items ≡ b.now.rows.items) }
+{
+    a.rows == b.rows
+}
+
+/// Whether two snapshots have the same namespaces.
+fn have_same_spaces(a: &Plain, b: &Plain) -> bool
+    ensures { IsTrue result ↔ (a.now.spaces.items ≡ b.now.spaces.items) }
+{
+    a.spaces == b.spaces
+}
+
+/// Whether two snapshots have the same control groups, with the same counts.
+fn have_same_controls(a: &Plain, b: &Plain) -> bool
+    ensures { IsTrue result ↔ (a.now.controls.items ≡ b.now.controls.items) }
+{
+    a.controls == b.controls
+}
+
 /// Whether two snapshots show the same.
-fn is_same(a: &Plain, b: &Plain) -> bool {
-    a.pid_max == b.pid_max && a.rows == b.rows && a.spaces == b.spaces && a.controls == b.controls
+fn is_same(a: &Plain, b: &Plain) -> bool
+    ensures { IsTrue result ↔ IsSame a.now b.now }
+{
+    a.pid_max == b.pid_max
+        && have_same_rows(a, b)
+        && have_same_spaces(a, b)
+        && have_same_controls(a, b)
 }

@@ -2,8 +2,8 @@
 
 ghost use Rattle.std.specs.Prelude.{◌<◌};
 
-use crate::random::Random;
 use cyclic_ids::CyclicIds;
+use load_random::Random;
 use std::alloc::{AllocError, Global};
 
 /// The numbers below this stay in use, as those of a system's first processes do.

@@ -10,7 +10,6 @@ ghost use Rattle.pid_types.specs.Settings.{HasGoodPidMax};
 
 mod draws;
 mod plain;
-mod random;
 mod walks;
 
 use anyhow::{Context, Result, bail};

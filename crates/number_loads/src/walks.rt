@@ -2,9 +2,9 @@
 
 ghost use Rattle.std.specs.Prelude.{◌≤◌};
 
-use crate::random::Random;
 use anyhow::{Result, bail};
 use index_array::IndexArray;
+use load_random::Random;
 use std::alloc::Global;
 
 /// One entry out of so many has mark 0.

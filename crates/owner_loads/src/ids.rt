@@ -4,7 +4,7 @@ ghost use Rattle.std.specs.Prelude.{◌<◌};
 ghost use Rattle.std.proofs.Props.{props};
 ghost use Rattle.rising_ids.specs.Ids.{AreBelow};
 
-use crate::random::Random;
+use load_random::Random;
 use rising_ids::RisingIds;
 use std::alloc::{AllocError, Global};
 

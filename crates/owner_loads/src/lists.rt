@@ -2,7 +2,7 @@
 
 ghost use Rattle.std.specs.Prelude.{◌<◌};
 
-use crate::random::Random;
+use load_random::Random;
 use owner_lists::OwnerLists;
 use std::alloc::{AllocError, Global};
 

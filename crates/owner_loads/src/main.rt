@@ -10,14 +10,12 @@ ghost use Rattle.std.specs.Prelude.{◌≡◌, ℕ, ◌<◌, ◌≤◌, ◌^◌,
 
 mod ids;
 mod lists;
-mod random;
 mod ranks;
 
 use anyhow::{Context, Result, bail};
 use ids::{IdKeys, PlainIds, churn};
 use lists::{Lists, PlainLists, move_at_random, room_for, walk};
 use owner_lists::OwnerLists;
-use random::Random;
 use ranks::{ByKey, PlainRanks, Ranks, end_and_reap, end_then_reap, in_order};
 use std::env;
 

@@ -3,8 +3,8 @@
 ghost use Rattle.std.specs.Prelude.{◌≡◌, ℕ, ◌<◌, Some};
 ghost use Rattle.least_members.specs.Ranks.{ranked};
 
-use crate::random::Random;
 use least_members::LeastMembers;
+use load_random::Random;
 use std::alloc::{AllocError, Global};
 
 /// The owner of all members.
