@@ -1,6 +1,6 @@
 //! The commands `run`, `list` and `work`, over a reader and writers of the caller's. [`run_words`]
 //! is the one door; a fault of any command is one line on `errors` and the status 1.
-ghost use Rattle.std.specs.Prelude.{◌≡◌, ◌<◌, ◌≤◌, Option, List, ℕ, None, false, length, OnOk, IfOk, IfErr, ◌⊎◌};
+ghost use Rattle.std.specs.Prelude.{◌≡◌, ◌<◌, ◌≤◌, ⊤, Option, List, ℕ, None, false, length, OnOk, IfOk, IfErr, ◌⊎◌, refl};
 ghost use Rattle.pid_jobs.specs.declared.run.RunFault.{RunFault};
 ghost use Rattle.pid_commands.specs.declared.fault.Fault.TheVariants.{Write};
 ghost use Rattle.pid_commands.specs.Faults.{of_run};
@@ -105,6 +105,16 @@ impl Sink for Discard {
     ghost has_failed = { λ _. false };
 
     ghost is_full = { λ _. false };
+
+    ghost did = { λ _ _ _. ⊤ };
+
+    ghost nothing = { λ _. tt };
+
+    ghost more = { λ _ _ _ _ _ _ _. tt };
+
+    ghost appended = { λ _ _ _ _. tt };
+
+    ghost kept = { λ _ _ _ _ _. (refl, refl) };
 
     fn write(&mut self, buffer: &[u8]) -> Result<usize, DeviceFault> {
         Ok(buffer.len())

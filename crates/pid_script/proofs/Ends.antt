@@ -1,77 +1,63 @@
 -- How a script ends.
-use Rattle.std.proofs.Common.{◌≡◌, ℕ, ◌≤◌, List, [], ◌++◌, length, Option, Some, None, refl, sym, ap, ◌∙◌, subst, append_assoc, append-nil}
-use Rattle.std.specs.Io.KnownBytes.{Appends, Consumes, Keeps, IsAtEnd}
+use Rattle.std.proofs.Common.{◌≡◌, ℕ, ◌≤◌, List, [], ◌++◌, length, Option, Some, refl, sym, ap, ◌∙◌, subst, append-nil, inl, inr, ◌⊎◌}
+use Rattle.std.specs.Io.KnownBytes.{Appends, Consumes, IsAtEnd}
 use Rattle.pid_types.specs.State.{State}
+use Rattle.pid_types.specs.Devices.{Event, heard, said}
 use Rattle.pid_script.specs.declared.line.Line.{Line}
 use Rattle.pid_script.specs.declared.tally.Tally.{Tally}
-use Rattle.pid_script.specs.Script.{begun, said_of, said_within, kept_after, last_said}
+use Rattle.pid_script.specs.Script.{begun, said_of, said_whole, said_within, kept_after, last_said}
 use Rattle.pid_script.specs.Session.{progress_of, Answers, StopsShort, Finishes, Halts, Breaks}
 use Rattle.pid_script.proofs.Said.{said_within-all, said_within-whole}
 use Rattle.pid_script.proofs.Within.{said_within-append, kept_after-append}
-use Rattle.pid_script.proofs.Progress.{StopsShort-later}
-
--- what is read, one piece after another
-pub Consumes-more : (a b c : Option (List ℕ)) (xs ys : List ℕ) → Consumes a b xs → Consumes b c ys → Consumes a c (xs ++ ys)
-Consumes-more None b c xs ys first second = tt
-Consumes-more (Some ls) None c xs ys first second = absurd first
-Consumes-more (Some ls) (Some ms) None xs ys first second = second
-Consumes-more (Some ls) (Some ms) (Some ns) xs ys first second = first ∙ ap (λ rest. xs ++ rest) second ∙ sym (append_assoc xs ys ns)
-
-pub Consumes-nothing : (a : Option (List ℕ)) → Consumes a a []
-Consumes-nothing None = tt
-Consumes-nothing (Some xs) = refl
-
-pub Consumes-keeps : (a b : Option (List ℕ)) → Keeps a b → Consumes a b []
-Consumes-keeps None b keeps = tt
-Consumes-keeps (Some xs) None keeps = keeps
-Consumes-keeps (Some xs) (Some ys) keeps = sym keeps
 
 module _ {state : State} {stamp : ℕ} {from to before after : Option (List ℕ)} where
   -- all lines were answered
-  pub finishes : (read : List ℕ) (state' : State) (stamp' : ℕ) (tally : Tally) → Answers (begun state stamp) (progress_of state' stamp' tally []) before after (said_of read)
-      → Consumes from to read → IsAtEnd to → (text : List ℕ) × Finishes (begun state stamp) (progress_of state' stamp' tally text) from to before after
-  finishes read state' stamp' tally answers consumed at_end = (
+  pub finishes : (events : List Event) (state' : State) (stamp' : ℕ) (tally : Tally)
+      → Answers (begun state stamp) (progress_of state' stamp' tally []) (λ sent. said events ≡ sent) (said_of (heard events))
+      → Consumes from to (heard events) → Appends before after (said events) → IsAtEnd to
+      → (text : List ℕ) × Finishes (begun state stamp) (progress_of state' stamp' tally text) from to before after
+  finishes events state' stamp' tally answers consumed appended at_end = (
     answers.sent,
     record {
-      read = read;
+      read = heard events;
       script = answers.script;
       consumed = consumed;
       at_end = at_end;
       says = answers.says;
       reached = ap (λ text. progress_of state' stamp' tally text) (sym (append-nil answers.sent)) ∙ answers.reached;
-      written = answers.appended;
+      written = subst (Appends before after) answers.appended appended;
     },
   )
 
   -- the lines that had ended were answered
-  pub halts : (least : ℕ) (read : List ℕ) (state' : State) (stamp' : ℕ) (tally : Tally) (held : List ℕ)
-      → Answers (begun state stamp) (progress_of state' stamp' tally held) before after (said_within (Some []) read) → held ≡ []
-      → Consumes from to read → least ≤ length read → Halts least (begun state stamp) from to before after
-  halts least read state' stamp' tally held answers empty consumed long = record {
-    read = read;
+  pub halts : (least : ℕ) (events : List Event) (state' : State) (stamp' : ℕ) (tally : Tally) (held : List ℕ)
+      → Answers (begun state stamp) (progress_of state' stamp' tally held) (λ sent. said events ≡ sent) (said_within (Some []) (heard events)) → held ≡ []
+      → Consumes from to (heard events) → Appends before after (said events) → least ≤ length (heard events) → Halts least (begun state stamp) from to before after
+  halts least events state' stamp' tally held answers empty consumed appended long = record {
+    read = heard events;
     script = answers.script;
     consumed = consumed;
     long = long;
-    says = answers.says ∙ said_within-whole read;
+    says = answers.says ∙ said_within-whole (heard events);
     written = subst (Appends before after)
-        (sym (append-nil answers.sent) ∙ ap (λ text. answers.sent ++ text) (sym empty) ∙ ap (λ p. p.text) answers.reached) answers.appended;
+        (answers.appended ∙ sym (append-nil answers.sent) ∙ ap (λ text. answers.sent ++ text) (sym empty) ∙ ap (λ p. p.text) answers.reached) appended;
   }
 
-  -- sending stopped
-  pub breaks : (read : List ℕ) (lines more : List Line) → StopsShort (begun state stamp) before after lines → lines ++ more ≡ said_of read
-      → Consumes from to read → Breaks (begun state stamp) from to before after
-  breaks read lines more stops all consumed =
-      let later = StopsShort-later (begun state stamp) before after lines more stops in
+  -- sending stopped before the answers to all lines that had ended, or, at the end of the source, to all lines
+  pub breaks : (read : List ℕ) (events : List Event) (lines : List Line) → StopsShort (begun state stamp) (λ sent. said events ≡ sent) lines
+      → (lines ≡ said_whole read) ⊎ (IsAtEnd to × (lines ≡ said_of read))
+      → Consumes from to read → Appends before after (said events) → Breaks (begun state stamp) from to before after
+  breaks read events lines stops are consumed appended =
       record {
         read = read;
-        script = later.script;
-        sent = later.sent;
-        left = later.left;
+        script = stops.script;
+        sent = stops.sent;
+        left = stops.left;
         consumed = consumed;
-        says = later.says ∙ all;
-        text = later.short;
-        some_left = later.some_left;
-        written = later.appended;
+        says = elim are [ inl whole ↦ inl (stops.says ∙ whole) | inr all ↦ inr (all.0, stops.says ∙ all.1) ];
+        text = stops.short;
+        some_left = stops.some_left;
+        written = subst (Appends before after) stops.appended appended;
       }
 
 -- the lines of one more piece

@@ -10,4 +10,5 @@ pub mod Progress
 pub mod Within
 pub mod Said
 pub mod Ends
+pub mod Turns
 pub mod Jobs

@@ -1,8 +1,6 @@
 -- How far a script has come.
-use Rattle.std.proofs.Common.{◌≡◌, ℕ, ◌+◌, ◌-◌, ◌^◌, ◌<◌, Bool, true, false, cond, eqb, List, [], ◌∷◌, ◌++◌, length, length-append, map, Option, Result, Ok, Err, is_ok, refl, sym, ap, ◌∙◌, subst, append_assoc, append-nil, codes, arith, fold, eq-eqb}
-use Rattle.std.specs.Io.KnownBytes.{Appends}
+use Rattle.std.proofs.Common.{◌≡◌, ℕ, ◌+◌, ◌-◌, ◌^◌, Bool, true, false, cond, eqb, List, [], ◌∷◌, ◌++◌, length-append, map, Option, Result, Ok, Err, is_ok, refl, sym, ap, ◌∙◌, subst, append_assoc, append-nil, codes, arith, fold, eq-eqb}
 use Rattle.std.proofs.lemmas.List.Sums.{fold-append}
-use Rattle.std.proofs.lemmas.List.{map-append}
 use Rattle.std.proofs.lemmas.List.{map-append}
 use Rattle.pid_types.specs.declared.call.Call.{Call}
 use Rattle.pid_types.specs.declared.reply.CallFault.{CallFault}
@@ -15,8 +13,9 @@ use Rattle.pid_script.specs.declared.tally.Tally.{Tally}
 use Rattle.pid_script.specs.Answers.{reply_text, fault_text, answer_of, replied}
 use Rattle.pid_script.specs.Script.{Progress, begun, with_newline, told, stepped, after_call, after_saying, after_line, after_script}
 use Rattle.pid_script.specs.Session.{Acts, Leads, progress_of, Answers, StopsShort}
+use Rattle.pid_types.specs.Devices.{Event}
+use Rattle.pid_script.specs.Dialogue.{Sends, Stalls, Queues, Stops}
 use Rattle.pid_script.proofs.Numbers.{eqb-false_from}
-use Rattle.pid_script.proofs.Sent.{Appends-nothing, Appends-more, StopsAt}
 
 -- two ways are as far if each of their parts is
 same_progress : (s s' : State) (n n' : ℕ) (t t' : List ℕ) (l l' r r' b b' : ℕ) → s ≡ s' → n ≡ n' → t ≡ t' → l ≡ l' → r ≡ r' → b ≡ b'
@@ -36,7 +35,7 @@ call_leads state stamp tally call (Ok done) reply state' stamp' tally' acts line
 )
 call_leads state stamp tally call (Err NoMemory) reply state' stamp' tally' acts lines recorded bad = (
   true,
-  λ held. same_progress _ _ _ _ _ _ _ _ _ _ _ _ (sym acts.0) (sym acts.1) refl (sym lines) (sym recorded) (sym bad),
+  λ held. (rw (eqb-false_from stamp (2 ^ 64 - 1) acts.0) (same_progress _ _ _ _ _ _ _ _ _ _ _ _ (sym acts.1) (sym acts.2) refl (sym lines) (sym recorded) (sym bad))),
 )
 call_leads state stamp tally call (Err Spent) reply state' stamp' tally' acts lines recorded bad = (
   false,
@@ -49,7 +48,7 @@ pub starved_acts : (state : State) (stamp : ℕ) (call : Call) (made : Result Un
     → Acts state stamp call (replied made held) state' stamp' → Acts state stamp call (replied made held') state'' stamp''
 starved_acts state stamp call made held held' state' state'' stamp' stamp'' is same on acts =
     let found : Acts state stamp call (Err NoMemory) state' stamp' = subst (λ (m : Result Unit CallFault). Acts state stamp call (replied m held) state' stamp') is acts in
-    subst (λ (m : Result Unit CallFault). Acts state stamp call (replied m held') state'' stamp'') (sym is) (same ∙ found.0, on ∙ found.1)
+    subst (λ (m : Result Unit CallFault). Acts state stamp call (replied m held') state'' stamp'') (sym is) (found.0, same ∙ found.1, on ∙ found.2)
 
 -- an empty line, and a bad one
 pub empty_leads : (state : State) (stamp : ℕ) (tally tally' : Tally) → tally'.lines ≡ tally.lines + 1 → tally'.recorded ≡ tally.recorded → tally'.bad ≡ tally.bad
@@ -67,31 +66,31 @@ bad_leads state stamp tally tally' lines recorded bad = (
 )
 
 -- a line whose answer was sent or waits
-pub answered : (state : State) (stamp : ℕ) (tally : Tally) (held : List ℕ) (line : Line) (text : List ℕ) (state' : State) (stamp' : ℕ) (tally' : Tally) (held' sent : List ℕ)
-    (a b : Option (List ℕ)) → Leads state stamp tally line text state' stamp' tally' → Appends a b sent → held ++ text ≡ sent ++ held'
-    → Answers (progress_of state stamp tally held) (progress_of state' stamp' tally' held') a b (line ∷ [])
+pub answered : (state : State) (stamp : ℕ) (tally : Tally) (held : List ℕ) (line : Line) (text : List ℕ) (state' : State) (stamp' : ℕ) (tally' : Tally) (held' : List ℕ)
+    (did : List Event → Type 0) → Leads state stamp tally line text state' stamp' tally' → Queues did (held ++ text) held'
+    → Answers (progress_of state stamp tally held) (progress_of state' stamp' tally' held') (Sends did) (line ∷ [])
 unfolding after_script
-answered state stamp tally held line text state' stamp' tally' held' sent a b leads appended split = record {
-  sent = sent;
+answered state stamp tally held line text state' stamp' tally' held' did leads queues = record {
+  sent = queues.0;
   script = (line, leads.0) ∷ [];
   says = refl;
-  appended = appended;
-  reached = ap (λ waiting. progress_of state' stamp' tally' waiting) (sym split) ∙ sym (leads.1 held);
+  appended = queues.1;
+  reached = ap (λ waiting. progress_of state' stamp' tally' waiting) (sym queues.2) ∙ sym (leads.1 held);
 }
 
 -- a line whose answer could not be sent
-pub stopped : (state : State) (stamp : ℕ) (tally : Tally) (held : List ℕ) (line : Line) (text : List ℕ) (state' : State) (stamp' : ℕ) (tally' : Tally) (sent left : List ℕ)
-    (a b : Option (List ℕ)) → Leads state stamp tally line text state' stamp' tally' → Appends a b sent → held ++ text ≡ sent ++ left → 0 < length left
-    → StopsShort (progress_of state stamp tally held) a b (line ∷ [])
+pub stopped : (state : State) (stamp : ℕ) (tally : Tally) (held : List ℕ) (line : Line) (text : List ℕ) (state' : State) (stamp' : ℕ) (tally' : Tally)
+    (did : List Event → Type 0) → Leads state stamp tally line text state' stamp' tally' → Stops did (held ++ text)
+    → StopsShort (progress_of state stamp tally held) (Stalls did) (line ∷ [])
 unfolding after_script
-stopped state stamp tally held line text state' stamp' tally' sent left a b leads appended split some_left = record {
-  sent = sent;
-  left = left;
+stopped state stamp tally held line text state' stamp' tally' did leads stops = record {
+  sent = stops.0;
+  left = stops.1;
   script = (line, leads.0) ∷ [];
   says = refl;
-  appended = appended;
-  short = ap (λ p. p.text) (leads.1 held) ∙ split;
-  some_left = some_left;
+  appended = stops.2;
+  short = ap (λ p. p.text) (leads.1 held) ∙ stops.3;
+  some_left = stops.4;
 }
 
 -- the same, with these answers in front
@@ -104,12 +103,13 @@ told-fronted front p answer =
 
 after_call-fronted : (front : List ℕ) (p : Progress) (starved : Bool) (call : Call) → after_call (fronted front p) starved call ≡ fronted front (after_call p starved call)
 unfolding after_call
-after_call-fronted front p true call = told-fronted front p (fault_text NoMemory)
-after_call-fronted front p false call = at (eqb p.stamp (2 ^ 64 - 1))
+after_call-fronted front p starved call = at (eqb p.stamp (2 ^ 64 - 1)) starved
   where
-    at : (t : Bool) → cond t (told (fronted front p) (fault_text Spent)) (stepped (fronted front p) call) ≡ fronted front (cond t (told p (fault_text Spent)) (stepped p call))
-    at true = told-fronted front p (fault_text Spent)
-    at false = same_progress _ _ _ _ _ _ _ _ _ _ _ _ refl refl (append_assoc front p.text _) refl refl refl
+    at : (spent starved : Bool) → cond spent (told (fronted front p) (fault_text Spent)) (cond starved (told (fronted front p) (fault_text NoMemory)) (stepped (fronted front p) call))
+        ≡ fronted front (cond spent (told p (fault_text Spent)) (cond starved (told p (fault_text NoMemory)) (stepped p call)))
+    at true starved = told-fronted front p (fault_text Spent)
+    at false true = told-fronted front p (fault_text NoMemory)
+    at false false = same_progress _ _ _ _ _ _ _ _ _ _ _ _ refl refl (append_assoc front p.text _) refl refl refl
 
 after_line-fronted : (front : List ℕ) (p : Progress) (line : Line) (starved : Bool) → after_saying (fronted front p) starved line ≡ fronted front (after_saying p starved line)
 after_line-fronted front p says.Empty starved = refl
@@ -129,17 +129,17 @@ unfolding after_script
 after_script-append p xs ys = fold-append after_line p xs ys
 
 -- no line leads nowhere
-pub Answers-nothing : (p : Progress) (a : Option (List ℕ)) → Answers p p a a []
+pub Answers-nothing : (p : Progress) (IsSent : List ℕ → Type 0) → IsSent [] → Answers p p IsSent []
 unfolding after_script
-Answers-nothing p a = record { sent = []; script = []; says = refl; appended = Appends-nothing a; reached = refl }
+Answers-nothing p IsSent nothing = record { sent = []; script = []; says = refl; appended = nothing; reached = refl }
 
 -- some lines, and then others
-pub Answers-more : (p q r : Progress) (a b c : Option (List ℕ)) (xs ys : List Line) → Answers p q a b xs → Answers q r b c ys → Answers p r a c (xs ++ ys)
-Answers-more p q r a b c xs ys first second = record {
+pub Answers-more : {a b c : List ℕ → Type 0} → ((xs ys : List ℕ) → a xs → b ys → c (xs ++ ys)) → (p q r : Progress) (xs ys : List Line) → Answers p q a xs → Answers q r b ys → Answers p r c (xs ++ ys)
+Answers-more more p q r xs ys first second = record {
   sent = first.sent ++ second.sent;
   script = first.script ++ second.script;
   says = map-append (λ l. l.0) first.script second.script ∙ (λ i. first.says i ++ second.says i);
-  appended = Appends-more a b c first.sent second.sent first.appended second.appended;
+  appended = more first.sent second.sent first.appended second.appended;
   reached =
       same_progress _ _ _ _ _ _ _ _ _ _ _ _ refl refl (append_assoc first.sent second.sent r.text) refl refl refl
       ∙ ap (fronted first.sent) second.reached
@@ -149,13 +149,13 @@ Answers-more p q r a b c xs ys first second = record {
 }
 
 -- some lines, and then others whose answers could not all be sent
-pub StopsShort-more : (p q : Progress) (a b c : Option (List ℕ)) (xs ys : List Line) → Answers p q a b xs → StopsShort q b c ys → StopsShort p a c (xs ++ ys)
-StopsShort-more p q a b c xs ys first second = record {
+pub StopsShort-more : {a b c : List ℕ → Type 0} → ((xs ys : List ℕ) → a xs → b ys → c (xs ++ ys)) → (p q : Progress) (xs ys : List Line) → Answers p q a xs → StopsShort q b ys → StopsShort p c (xs ++ ys)
+StopsShort-more more p q xs ys first second = record {
   sent = first.sent ++ second.sent;
   left = second.left;
   script = first.script ++ second.script;
   says = map-append (λ l. l.0) first.script second.script ∙ (λ i. first.says i ++ second.says i);
-  appended = Appends-more a b c first.sent second.sent first.appended second.appended;
+  appended = more first.sent second.sent first.appended second.appended;
   short =
       ap (λ s. s.text) (after_script-append p first.script second.script ∙ ap (λ s. after_script s second.script) (sym first.reached) ∙ after_script-fronted first.sent q second.script)
       ∙ ap (λ text. first.sent ++ text) second.short
@@ -180,8 +180,8 @@ text-grows p script =
     ((after_script bare script).text, ap (λ q. (after_script q script).text) same ∙ ap (λ q. q.text) (after_script-fronted p.text bare script))
 
 -- where sending stopped, it stopped before the answers to later lines
-pub StopsShort-later : (p : Progress) (a b : Option (List ℕ)) (xs ys : List Line) → StopsShort p a b xs → StopsShort p a b (xs ++ ys)
-StopsShort-later p a b xs ys stops =
+pub StopsShort-later : (p : Progress) (IsSent : List ℕ → Type 0) (xs ys : List Line) → StopsShort p IsSent xs → StopsShort p IsSent (xs ++ ys)
+StopsShort-later p IsSent xs ys stops =
     let more = text-grows (after_script p stops.script) (with_memory ys) in
     record {
       sent = stops.sent;
@@ -195,17 +195,17 @@ StopsShort-later p a b xs ys stops =
     }
 
 -- the same lines
-pub Answers-same : (p q : Progress) (a b : Option (List ℕ)) (xs ys : List Line) → xs ≡ ys → Answers p q a b xs → Answers p q a b ys
-Answers-same p q a b xs ys same answers = subst (Answers p q a b) same answers
+pub Answers-same : (p q : Progress) (IsSent : List ℕ → Type 0) (xs ys : List Line) → xs ≡ ys → Answers p q IsSent xs → Answers p q IsSent ys
+Answers-same p q IsSent xs ys same answers = subst (Answers p q IsSent) same answers
 
-pub StopsShort-same : (p : Progress) (a b : Option (List ℕ)) (xs ys : List Line) → xs ≡ ys → StopsShort p a b xs → StopsShort p a b ys
-StopsShort-same p a b xs ys same stops = subst (StopsShort p a b) same stops
+pub StopsShort-same : (p : Progress) (IsSent : List ℕ → Type 0) (xs ys : List Line) → xs ≡ ys → StopsShort p IsSent xs → StopsShort p IsSent ys
+StopsShort-same p IsSent xs ys same stops = subst (StopsShort p IsSent) same stops
 
 -- what waits is sent
-pub Answers-sent : (state : State) (stamp : ℕ) (tally : Tally) (held : List ℕ) (a b : Option (List ℕ)) → Appends a b held
-    → Answers (progress_of state stamp tally held) (progress_of state stamp tally []) a b []
+pub Answers-sent : (state : State) (stamp : ℕ) (tally : Tally) (held : List ℕ) (IsSent : List ℕ → Type 0) → IsSent held
+    → Answers (progress_of state stamp tally held) (progress_of state stamp tally []) IsSent []
 unfolding after_script
-Answers-sent state stamp tally held a b appended = record {
+Answers-sent state stamp tally held IsSent appended = record {
   sent = held;
   script = [];
   says = refl;
@@ -214,10 +214,10 @@ Answers-sent state stamp tally held a b appended = record {
 }
 
 -- what waits is sent in part
-pub StopsShort-sent : (state : State) (stamp : ℕ) (tally : Tally) (held : List ℕ) (a b : Option (List ℕ)) → StopsAt a b held
-    → StopsShort (progress_of state stamp tally held) a b []
+pub StopsShort-sent : (state : State) (stamp : ℕ) (tally : Tally) (held : List ℕ) (did : List Event → Type 0) → Stops did held
+    → StopsShort (progress_of state stamp tally held) (Stalls did) []
 unfolding after_script
-StopsShort-sent state stamp tally held a b stops = record {
+StopsShort-sent state stamp tally held did stops = record {
   sent = stops.0;
   left = stops.1;
   script = [];
@@ -228,16 +228,16 @@ StopsShort-sent state stamp tally held a b stops = record {
 }
 
 -- a script that begins
-pub Answers-begun : (state : State) (stamp : ℕ) (tally : Tally) (held : List ℕ) (a : Option (List ℕ)) → tally ≡ record { lines = 0; recorded = 0; bad = 0 } → held ≡ []
-    → Answers (begun state stamp) (progress_of state stamp tally held) a a []
-Answers-begun state stamp tally held a zero empty =
-    subst (λ q. Answers (begun state stamp) q a a [])
+pub Answers-begun : (state : State) (stamp : ℕ) (tally : Tally) (held : List ℕ) (IsSent : List ℕ → Type 0) → IsSent [] → tally ≡ record { lines = 0; recorded = 0; bad = 0 } → held ≡ []
+    → Answers (begun state stamp) (progress_of state stamp tally held) IsSent []
+Answers-begun state stamp tally held IsSent nothing zero empty =
+    subst (λ q. Answers (begun state stamp) q IsSent [])
     ((λ i. progress_of state stamp (sym zero i) (sym empty i)))
-    (Answers-nothing (begun state stamp) a)
+    (Answers-nothing (begun state stamp) IsSent nothing)
 
 -- what waited was sent, and nothing waits
-pub Answers-flushed : (state : State) (stamp : ℕ) (tally : Tally) (held held' : List ℕ) (a b : Option (List ℕ)) → Appends a b held → held' ≡ []
-    → Answers (progress_of state stamp tally held) (progress_of state stamp tally held') a b []
-Answers-flushed state stamp tally held held' a b appended empty =
-    subst (λ waits. Answers (progress_of state stamp tally held) (progress_of state stamp tally waits) a b []) (sym empty)
-    (Answers-sent state stamp tally held a b appended)
+pub Answers-flushed : (state : State) (stamp : ℕ) (tally : Tally) (held held' : List ℕ) (IsSent : List ℕ → Type 0) → IsSent held → held' ≡ []
+    → Answers (progress_of state stamp tally held) (progress_of state stamp tally held') IsSent []
+Answers-flushed state stamp tally held held' IsSent sent empty =
+    subst (λ waits. Answers (progress_of state stamp tally held) (progress_of state stamp tally waits) IsSent []) (sym empty)
+    (Answers-sent state stamp tally held IsSent sent)

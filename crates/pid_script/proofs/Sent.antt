@@ -1,25 +1,57 @@
--- Bytes that are appended one after another.
-use Rattle.std.proofs.Common.{◌≡◌, ℕ, List, [], ◌++◌, Option, Some, None, sym, ap, ◌∙◌, append_assoc, append-nil, Result, Ok, Err, OnOk, OnErr, length, length-append, ◌<◌, take, drop, take-append-drop, ◌-◌, ◌≤◌, arith}
+-- Bytes that are sent one after another.
+use Rattle.std.proofs.Common.{◌≡◌, ℕ, List, [], ◌∷◌, ◌++◌, Option, Some, refl, sym, ap, ◌∙◌, subst, append_assoc, append-nil, Result, Ok, Err, OnOk, OnErr, length, length-append, ◌<◌, take, drop, take-append-drop, ◌-◌, ◌≤◌, arith}
 use Rattle.std.proofs.lemmas.Slice.{between_to_end}
-use Rattle.std.specs.Io.KnownBytes.{Appends, Keeps}
+use Rattle.std.proofs.lemmas.List.Concat.{flat_map-append}
+use Rattle.pid_types.specs.Devices.{Event, Writing, said_by, IsWell}
+use Rattle.pid_types.specs.DeviceLaws.{AreWell-more, no_readings}
+use Rattle.pid_script.specs.Dialogue.{Sends, Stalls, Stops}
 
--- nothing is appended
-pub Appends-nothing : (a : Option (List ℕ)) → Appends a a []
-Appends-nothing None = tt
-Appends-nothing (Some xs) = sym (append-nil xs)
+-- what is done one after another
+abbrev pub Joins : (List Event → Type 0) → (List Event → Type 0) → (List Event → Type 0) → Type 0
+Joins first second all = (xs ys : List Event) → first xs → second ys → all (xs ++ ys)
 
--- what keeps the bytes appends nothing
-pub Appends-keeps : (a b : Option (List ℕ)) → Keeps a b → Appends a b []
-Appends-keeps None b keeps = tt
-Appends-keeps (Some xs) None keeps = keeps
-Appends-keeps (Some xs) (Some ys) keeps = keeps ∙ sym (append-nil xs)
+-- nothing is sent
+pub Sends-nothing : (did : List Event → Type 0) → did [] → Sends did []
+Sends-nothing did nothing = record { events = []; done = nothing; well = tt; writes = refl; sent = refl }
 
--- one after another
-pub Appends-more : (a b c : Option (List ℕ)) (xs ys : List ℕ) → Appends a b xs → Appends b c ys → Appends a c (xs ++ ys)
-Appends-more None b c xs ys first second = tt
-Appends-more (Some ls) None c xs ys first second = absurd first
-Appends-more (Some ls) (Some ms) None xs ys first second = second
-Appends-more (Some ls) (Some ms) (Some ns) xs ys first second = second ∙ ap (λ front. front ++ ys) first ∙ append_assoc ls xs ys
+-- one write more
+pub Sends-write : (did : List Event → Type 0) (offered : List ℕ) (n : ℕ) → did (Writing offered (Some n) ∷ []) → 0 < n → Sends did (take n offered)
+Sends-write did offered n done some = record {
+  events = Writing offered (Some n) ∷ [];
+  done = done;
+  well = (some, tt);
+  writes = refl;
+  sent = append-nil (take n offered);
+}
+
+-- what is sent, one after another
+pub Sends-more : {first second all : List Event → Type 0} → Joins first second all → (xs ys : List ℕ) → Sends first xs → Sends second ys → Sends all (xs ++ ys)
+Sends-more joins xs ys front back = record {
+  events = front.events ++ back.events;
+  done = joins front.events back.events front.done back.done;
+  well = AreWell-more front.events back.events front.well back.well;
+  writes = no_readings front.events back.events front.writes back.writes;
+  sent = flat_map-append said_by front.events back.events ∙ (λ i. front.sent i ++ back.sent i);
+}
+
+-- a write that took none
+pub Stalls-write : (did : List Event → Type 0) (offered : List ℕ) (taken : Option ℕ) → did (Writing offered taken ∷ []) → ¬ IsWell (Writing offered taken) → Stalls did []
+Stalls-write did offered taken done stopped = record { events = []; offered = offered; taken = taken; done = done; well = tt; writes = refl; stopped = stopped; sent = refl }
+
+-- what is sent, and then a write that took none
+pub Stalls-more : {first second all : List Event → Type 0} → Joins first second all → (xs ys : List ℕ) → Sends first xs → Stalls second ys → Stalls all (xs ++ ys)
+Stalls-more {all = all} joins xs ys front back =
+    let last = Writing back.offered back.taken ∷ [] in
+    record {
+      events = front.events ++ back.events;
+      offered = back.offered;
+      taken = back.taken;
+      done = subst all (sym (append_assoc front.events back.events last)) (joins front.events (back.events ++ last) front.done back.done);
+      well = AreWell-more front.events back.events front.well back.well;
+      writes = no_readings front.events back.events front.writes back.writes;
+      stopped = back.stopped;
+      sent = flat_map-append said_by front.events back.events ∙ (λ i. front.sent i ++ back.sent i);
+    }
 
 -- bytes of which the first n are sent, and the others are left
 pub sent_more : (bytes sent left : List ℕ) (n : ℕ) → n ≤ length left → bytes ≡ sent ++ left → bytes ≡ (sent ++ take n left) ++ take (length left - n) (drop n left)
@@ -43,16 +75,18 @@ pub OnOk-weaker : (T E : Type 0) (r : Result T E) (P Q : Type 0) → (P → Q) �
 OnOk-weaker T E (Ok x) P Q f p = f p
 OnOk-weaker T E (Err e) P Q f p = tt
 
--- some of the bytes are sent, and some are left
-abbrev pub StopsAt : Option (List ℕ) → Option (List ℕ) → List ℕ → Type 0
-StopsAt a b bytes = (sent left : List ℕ) × Appends a b sent × (bytes ≡ sent ++ left) × (0 < length left)
-
 -- where sending stopped in the front, it stopped before what follows it
-pub stops_before : (a b : Option (List ℕ)) (bytes more : List ℕ) → StopsAt a b bytes → StopsAt a b (bytes ++ more)
-stops_before a b bytes more at = (
+pub stops_before : (did : List Event → Type 0) (bytes more : List ℕ) → Stops did bytes → Stops did (bytes ++ more)
+stops_before did bytes more at = (
   at.0,
   at.1 ++ more,
   at.2,
   ap (λ text. text ++ more) at.3 ∙ append_assoc at.0 at.1 more,
   omega (arith, at.4, length-append at.1 more),
 )
+
+-- where the next write took none, the bytes that are left were not sent
+pub stops_after : {first second all : List Event → Type 0} → Joins first second all → (bytes sent left : List ℕ) → Sends first sent → Stalls second [] → bytes ≡ sent ++ left
+    → 0 < length left → Stops all bytes
+stops_after joins bytes sent left front back is some_left =
+    (sent ++ [], left, Stalls-more joins sent [] front back, is ∙ ap (λ front. front ++ left) (sym (append-nil sent)), some_left)

@@ -4,4 +4,5 @@ pub mod Answers
 pub mod Script
 pub mod Lists
 pub mod Session
+pub mod Dialogue
 pub mod Job

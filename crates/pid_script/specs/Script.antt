@@ -1,5 +1,5 @@
 -- What a script comes to.
-use Rattle.std.specs.Prelude.{ℕ, ◌+◌, ◌-◌, ◌^◌, Bool, true, false, List, [], ◌∷◌, ◌++◌, length, map, fold, codes, Option, Some, None, if◌then◌else◌, ◌==◌, nat_le, IsTrue, ◌⊎◌}
+use Rattle.std.specs.Prelude.{ℕ, ◌+◌, ◌-◌, ◌^◌, Bool, List, [], ◌∷◌, ◌++◌, length, map, fold, codes, Option, Some, None, if◌then◌else◌, ◌==◌, nat_le, IsTrue, ◌⊎◌}
 use Rattle.std.specs.List.{onto_first}
 use Rattle.pid_types.specs.declared.call.Call.{Call}
 use Rattle.pid_types.specs.declared.reply.CallFault.TheVariants.{NoMemory, Spent}
@@ -113,10 +113,10 @@ stepped p call =
       recorded = p.recorded + 1;
     }
 
--- a call that finds no memory, or no stamp below the greatest number of 64 bits, changes nothing
+-- a call that finds no stamp below the greatest number of 64 bits changes nothing, and so does one that finds no memory
 unfoldable pub after_call : Progress → Bool → Call → Progress
-after_call p true call = told p (fault_text NoMemory)
-after_call p false call = if p.stamp == 2 ^ 64 - 1 then told p (fault_text Spent) else stepped p call
+after_call p starved call =
+    if p.stamp == 2 ^ 64 - 1 then told p (fault_text Spent) else (if starved then told p (fault_text NoMemory) else stepped p call)
 
 -- what one line adds
 abbrev pub after_saying : Progress → Bool → Line → Progress

@@ -1,5 +1,5 @@
 -- What running a script does to a table, a source and a sink.
-use Rattle.std.specs.Prelude.{ℕ, ◌≡◌, ◌≢◌, ◌+◌, ◌-◌, ◌^◌, ◌<◌, ◌≤◌, Bool, List, ◌++◌, length, map, Option, Result, Ok, Err, IsTrue}
+use Rattle.std.specs.Prelude.{ℕ, ◌≡◌, ◌≢◌, ◌+◌, ◌-◌, ◌^◌, ◌<◌, ◌≤◌, Bool, List, ◌++◌, length, map, Option, Result, Ok, Err, IsTrue, ◌⊎◌}
 use Rattle.std.specs.Io.KnownBytes.{Appends, Consumes, IsAtEnd}
 use Rattle.pid_types.specs.declared.call.Call.{Call}
 use Rattle.pid_types.specs.declared.reply.CallFault.{CallFault}
@@ -18,7 +18,7 @@ abbrev pub Acts : State → ℕ → Call → Result Reply CallFault → State �
 Acts state stamp call (Ok reply) state' stamp' =
     let o = step state stamp call in
     (stamp ≢ 2 ^ 64 - 1) × (reply ≡ o.reply) × (state' ≡ o.state) × (stamp' ≡ stamp + 1)
-Acts state stamp call (Err NoMemory) state' stamp' = (state' ≡ state) × (stamp' ≡ stamp)
+Acts state stamp call (Err NoMemory) state' stamp' = (stamp ≢ 2 ^ 64 - 1) × (state' ≡ state) × (stamp' ≡ stamp)
 Acts state stamp call (Err Spent) state' stamp' = (stamp ≡ 2 ^ 64 - 1) × (state' ≡ state) × (stamp' ≡ stamp)
 
 -- how far a script has come, with the answers that are not sent yet
@@ -38,21 +38,21 @@ Leads state stamp tally line text state' stamp' tally' =
     (starved : Bool)
     × ((held : List ℕ) → after_saying (progress_of state stamp tally held) starved line ≡ progress_of state' stamp' tally' (held ++ text))
 
--- the lines took the script from p to q, and what is sent of their answers stands at the end of what the sink holds
-pub record Answers (p q : Progress) (before after : Option (List ℕ)) (lines : List Line) : Type 0 where
+-- the lines took the script from p to q, and what left the outbox of their answers was sent so
+pub record Answers (p q : Progress) (IsSent : List ℕ → Type 0) (lines : List Line) : Type 0 where
   pub sent : List ℕ
   pub script : List (Line × Bool)
   pub says : map (λ l. l.0) script ≡ lines
-  pub appended : Appends before after sent
+  pub appended : IsSent sent
   pub reached : record q { text = sent ++ q.text } ≡ after_script p script
 
--- what is sent of the answers to the lines is not all of them
-pub record StopsShort (p : Progress) (before after : Option (List ℕ)) (lines : List Line) : Type 0 where
+-- what was sent so of the answers to the lines is not all of them
+pub record StopsShort (p : Progress) (IsSent : List ℕ → Type 0) (lines : List Line) : Type 0 where
   pub sent : List ℕ
   pub left : List ℕ
   pub script : List (Line × Bool)
   pub says : map (λ l. l.0) script ≡ lines
-  pub appended : Appends before after sent
+  pub appended : IsSent sent
   pub short : (after_script p script).text ≡ sent ++ left
   pub some_left : 0 < length left
 
@@ -79,14 +79,14 @@ pub record Halts (least : ℕ) (start : Progress) (from to before after : Option
   pub says : map (λ l. l.0) script ≡ said_whole read
   pub written : Appends before after (after_script start script).text
 
--- what was written is not all of the meaning of the lines that were read, but its front
+-- what was written is not all of the meaning of the lines that had ended, or at the end of the source of all lines, but its front
 pub record Breaks (start : Progress) (from to before after : Option (List ℕ)) : Type 0 where
   pub read : List ℕ
   pub script : List (Line × Bool)
   pub sent : List ℕ
   pub left : List ℕ
   pub consumed : Consumes from to read
-  pub says : map (λ l. l.0) script ≡ said_of read
+  pub says : (map (λ l. l.0) script ≡ said_whole read) ⊎ (IsAtEnd to × (map (λ l. l.0) script ≡ said_of read))
   pub text : (after_script start script).text ≡ sent ++ left
   pub some_left : 0 < length left
   pub written : Appends before after sent

@@ -1,9 +1,9 @@
 //! Answers that wait to be written.
-ghost use Rattle.std.specs.Prelude.{◌≡◌, ◌<◌, ◌≤◌, ◌++◌, [], List, ℕ, length, OnOk, OnErr, IfErr};
-ghost use Rattle.std.specs.Io.KnownBytes.{Appends};
+ghost use Rattle.std.specs.Prelude.{◌≡◌, ◌<◌, ◌++◌, [], length, OnOk, OnErr, IfErr};
 ghost use Rattle.pid_script.specs.declared.tally.RunScriptFault.TheVariants.{Write};
 ghost use Rattle.pid_script.specs.Script.{with_newline, HasStopped};
 ghost use Rattle.pid_script.specs.Answers.{answer_of, lent};
+ghost use Rattle.pid_script.specs.Dialogue.{Queues, Sends, Stops};
 
 use crate::answer::{LONGEST_ANSWER, push_answer};
 use crate::tally::RunScriptFault;
@@ -17,17 +17,20 @@ const ROOM: usize = 8192;
 
 /// Writes all of the bytes.
 pub fn write_all<K: Sink>(sink: &mut K, bytes: &[u8]) -> Result<(), RunScriptFault>
-    ensures ok { OnOk result (Appends (K.contents sink.old) (K.contents sink.new) bytes.now) }
-    ensures err { OnErr result ((sent left : List ℕ) × Appends (K.contents sink.old) (K.contents sink.new) sent × (bytes.now ≡ sent ++ left) × (0 < length left)) }
+    ensures ok { OnOk result (Sends (K.did sink.old sink.new) bytes.now) }
+    ensures err { OnErr result (Stops (K.did sink.old sink.new) bytes.now) }
     ensures fault { IfErr result (λ e. e ≡ Write) }
     ensures stopped { OnErr result (HasStopped (K.has_failed sink.new) (K.is_full sink.new)) }
 {
     let mut left = bytes;
     while !left.is_empty() {
-        match sink.write(left) {
-            Ok(0) | Err(_) => return Err(RunScriptFault::Write),
-            Ok(count) => left = &left[count..],
+        let Ok(count) = sink.write(left) else {
+            return Err(RunScriptFault::Write);
+        };
+        if count == 0 {
+            return Err(RunScriptFault::Write);
         }
+        left = &left[count..];
     }
     Ok(())
 }
@@ -58,9 +61,9 @@ impl Outbox {
 
     /// Writes what is held.
     pub fn flush<K: Sink>(&mut self, sink: &mut K) -> Result<(), RunScriptFault>
-        ensures ok { OnOk result (Appends (K.contents sink.old) (K.contents sink.new) self.old) }
+        ensures ok { OnOk result (Sends (K.did sink.old sink.new) self.old) }
         ensures empty { OnOk result (self.new ≡ []) }
-        ensures err { OnErr result ((sent left : List ℕ) × Appends (K.contents sink.old) (K.contents sink.new) sent × (self.old ≡ sent ++ left) × (0 < length left)) }
+        ensures err { OnErr result (Stops (K.did sink.old sink.new) self.old) }
         ensures fault { IfErr result (λ e. e ≡ Write) }
         ensures stopped { OnErr result (HasStopped (K.has_failed sink.new) (K.is_full sink.new)) }
     {
@@ -72,8 +75,8 @@ impl Outbox {
     /// Holds the line and its newline, and makes room for them first.
     pub fn push_line<K: Sink>(&mut self, sink: &mut K, line: &[u8]) -> Result<(), RunScriptFault>
         requires { length line.now < 8192 }
-        ensures ok { OnOk result ((sent : List ℕ) × Appends (K.contents sink.old) (K.contents sink.new) sent × (self.old ++ with_newline line.now ≡ sent ++ self.new)) }
-        ensures err { OnErr result ((sent left : List ℕ) × Appends (K.contents sink.old) (K.contents sink.new) sent × (self.old ++ with_newline line.now ≡ sent ++ left) × (0 < length left)) }
+        ensures ok { OnOk result (Queues (K.did sink.old sink.new) (self.old ++ with_newline line.now) self.new) }
+        ensures err { OnErr result (Stops (K.did sink.old sink.new) (self.old ++ with_newline line.now)) }
         ensures fault { IfErr result (λ e. e ≡ Write) }
         ensures stopped { OnErr result (HasStopped (K.has_failed sink.new) (K.is_full sink.new)) }
     {
@@ -92,8 +95,8 @@ impl Outbox {
         sink: &mut K,
         answer: Result<&Reply, CallFault>,
     ) -> Result<(), RunScriptFault>
-        ensures ok { OnOk result ((sent : List ℕ) × Appends (K.contents sink.old) (K.contents sink.new) sent × (self.old ++ with_newline (answer_of (lent answer.entry)) ≡ sent ++ self.new)) }
-        ensures err { OnErr result ((sent left : List ℕ) × Appends (K.contents sink.old) (K.contents sink.new) sent × (self.old ++ with_newline (answer_of (lent answer.entry)) ≡ sent ++ left) × (0 < length left)) }
+        ensures ok { OnOk result (Queues (K.did sink.old sink.new) (self.old ++ with_newline (answer_of (lent answer.entry))) self.new) }
+        ensures err { OnErr result (Stops (K.did sink.old sink.new) (self.old ++ with_newline (answer_of (lent answer.entry)))) }
         ensures fault { IfErr result (λ e. e ≡ Write) }
         ensures stopped { OnErr result (HasStopped (K.has_failed sink.new) (K.is_full sink.new)) }
     {

@@ -1,14 +1,15 @@
-//! Scripts answered line by line: [`run_script`], over any [`Table`], source and sink. A session
+//! Scripts answered line by line: [`run_script`], over any [`Table`], source and sink, and [`run_dialogue`], over one device that is both. A session
 //! holds one line that has not ended and at most 8,192 bytes of answers; it takes no memory of its
 //! own.
 ghost use Rattle.std.specs.Prelude.{◌≡◌, ◌≢◌, Some, ◌+◌, ◌^◌, ◌<◌, ◌≤◌, ◌++◌, ◌∷◌, [], List, ℕ, length, OnOk, OnErr, IfOk, IfErr, Err, Option, IsSome, option_copied, IsTrue, if◌then◌else◌};
 ghost use Rattle.std.specs.Result.{is_ok};
-ghost use Rattle.std.specs.Io.KnownBytes.{Appends};
+ghost use Rattle.pid_types.specs.Devices.{DidBoth};
 ghost use Rattle.pid_types.specs.State.{State};
 ghost use Rattle.pid_types.specs.declared.reply.Reply.{Reply};
 ghost use Rattle.pid_script.specs.declared.tally.RunScriptFault.TheVariants.{NoMemory, Write};
 ghost use Rattle.pid_script.specs.Script.{begun, with_newline, HasStopped, said_within, kept_after, last_said};
 ghost use Rattle.pid_script.specs.Answers.{answer_of, lent, replied};
+ghost use Rattle.pid_script.specs.Dialogue.{Converses, Queues, Sends, Stalls, Stops};
 ghost use Rattle.pid_script.specs.Session.{Acts, Leads, progress_of, Answers, StopsShort, IsTallied, Finishes, Leaves};
 
 use crate::bytes::split_at_first;
@@ -17,7 +18,7 @@ use crate::outbox::Outbox;
 use crate::part::PartLine;
 use crate::tally::{RunScriptFault, Tally};
 use pid_types::call::Call;
-use pid_types::device::{Sink, Source};
+use pid_types::device::{Both, Dialogue, Sink, Source};
 use pid_types::reply::{CallFault, Reply};
 
 /// The most bytes that a read asks for.
@@ -95,8 +96,8 @@ fn tell_answer<T: Table, K: Sink>(
     requires held { OnOk made (IsSome (T.held table.now)) }
     requires counted { IsTallied session.old.tally }
     requires room { session.old.tally.lines + 1 < 2 ^ 64 }
-    ensures ok { OnOk result ((sent : List ℕ) × Appends (K.contents sink.old) (K.contents sink.new) sent × (session.old.outbox ++ with_newline (answer_of (replied made (T.held table.now))) ≡ sent ++ session.new.outbox)) }
-    ensures err { OnErr result ((sent left : List ℕ) × Appends (K.contents sink.old) (K.contents sink.new) sent × (session.old.outbox ++ with_newline (answer_of (replied made (T.held table.now))) ≡ sent ++ left) × (0 < length left)) }
+    ensures ok { OnOk result (Queues (K.did sink.old sink.new) (session.old.outbox ++ with_newline (answer_of (replied made (T.held table.now)))) session.new.outbox) }
+    ensures err { OnErr result (Stops (K.did sink.old sink.new) (session.old.outbox ++ with_newline (answer_of (replied made (T.held table.now))))) }
     ensures fault { IfErr result (λ e. e ≡ Write) }
     ensures stopped { OnErr result (HasStopped (K.has_failed sink.new) (K.is_full sink.new)) }
     ensures part { session.new.part ≡ session.old.part }
@@ -120,9 +121,9 @@ fn answer_once<T: Table, K: Sink>(
     requires room { session.old.tally.lines + 1 < 2 ^ 64 }
     ensures ok { OnOk result (Answers (progress_of (T.state table.old) (T.stamp table.old) session.old.tally session.old.outbox)
         (progress_of (T.state table.new) (T.stamp table.new) session.new.tally session.new.outbox)
-        (K.contents sink.old) (K.contents sink.new) (Line.Call call ∷ [])) }
+        (Sends (K.did sink.old sink.new)) (Line.Call call ∷ [])) }
     ensures err { OnErr result (StopsShort (progress_of (T.state table.old) (T.stamp table.old) session.old.tally session.old.outbox)
-        (K.contents sink.old) (K.contents sink.new) (Line.Call call ∷ [])) }
+        (Stalls (K.did sink.old sink.new)) (Line.Call call ∷ [])) }
     ensures fault { IfErr result (λ e. e ≡ Write) }
     ensures stopped { OnErr result (HasStopped (K.has_failed sink.new) (K.is_full sink.new)) }
     ensures part { session.new.part ≡ session.old.part }
@@ -152,9 +153,9 @@ fn answer_call<T: Table, K: Sink>(
     requires room { session.old.tally.lines + 1 < 2 ^ 64 }
     ensures ok { OnOk result (Answers (progress_of (T.state table.old) (T.stamp table.old) session.old.tally session.old.outbox)
         (progress_of (T.state table.new) (T.stamp table.new) session.new.tally session.new.outbox)
-        (K.contents sink.old) (K.contents sink.new) (Line.Call call ∷ [])) }
+        (Sends (K.did sink.old sink.new)) (Line.Call call ∷ [])) }
     ensures err { OnErr result (StopsShort (progress_of (T.state table.old) (T.stamp table.old) session.old.tally session.old.outbox)
-        (K.contents sink.old) (K.contents sink.new) (Line.Call call ∷ [])) }
+        (Stalls (K.did sink.old sink.new)) (Line.Call call ∷ [])) }
     ensures fault { IfErr result (λ e. e ≡ Write) }
     ensures stopped { OnErr result (HasStopped (K.has_failed sink.new) (K.is_full sink.new)) }
     ensures part { session.new.part ≡ session.old.part }
@@ -183,9 +184,9 @@ fn answer_line<T: Table, K: Sink>(
     requires room { session.old.tally.lines + 1 < 2 ^ 64 }
     ensures ok { OnOk result (Answers (progress_of (T.state table.old) (T.stamp table.old) session.old.tally session.old.outbox)
         (progress_of (T.state table.new) (T.stamp table.new) session.new.tally session.new.outbox)
-        (K.contents sink.old) (K.contents sink.new) (line ∷ [])) }
+        (Sends (K.did sink.old sink.new)) (line ∷ [])) }
     ensures err { OnErr result (StopsShort (progress_of (T.state table.old) (T.stamp table.old) session.old.tally session.old.outbox)
-        (K.contents sink.old) (K.contents sink.new) (line ∷ [])) }
+        (Stalls (K.did sink.old sink.new)) (line ∷ [])) }
     ensures fault { IfErr result (λ e. e ≡ Write) }
     ensures stopped { OnErr result (HasStopped (K.has_failed sink.new) (K.is_full sink.new)) }
     ensures part { session.new.part ≡ session.old.part }
@@ -217,10 +218,10 @@ fn answer_chunk<T: Table, K: Sink>(
     requires room { session.old.tally.lines + length chunk.now < 2 ^ 64 }
     ensures ok { OnOk result (Answers (progress_of (T.state table.old) (T.stamp table.old) session.old.tally session.old.outbox)
         (progress_of (T.state table.new) (T.stamp table.new) session.new.tally session.new.outbox)
-        (K.contents sink.old) (K.contents sink.new) (said_within session.old.part chunk.now)) }
+        (Sends (K.did sink.old sink.new)) (said_within session.old.part chunk.now)) }
     ensures part { OnOk result (session.new.part ≡ kept_after session.old.part chunk.now) }
     ensures err { OnErr result (StopsShort (progress_of (T.state table.old) (T.stamp table.old) session.old.tally session.old.outbox)
-        (K.contents sink.old) (K.contents sink.new) (said_within session.old.part chunk.now)) }
+        (Stalls (K.did sink.old sink.new)) (said_within session.old.part chunk.now)) }
     ensures fault { IfErr result (λ e. e ≡ Write) }
     ensures stopped { OnErr result (HasStopped (K.has_failed sink.new) (K.is_full sink.new)) }
     ensures counted { IsTallied session.new.tally }
@@ -246,9 +247,9 @@ fn answer_last<T: Table, K: Sink>(
     requires room { session.old.tally.lines + 1 < 2 ^ 64 }
     ensures ok { OnOk result (Answers (progress_of (T.state table.old) (T.stamp table.old) session.old.tally session.old.outbox)
         (progress_of (T.state table.new) (T.stamp table.new) session.new.tally session.new.outbox)
-        (K.contents sink.old) (K.contents sink.new) (last_said session.old.part)) }
+        (Sends (K.did sink.old sink.new)) (last_said session.old.part)) }
     ensures err { OnErr result (StopsShort (progress_of (T.state table.old) (T.stamp table.old) session.old.tally session.old.outbox)
-        (K.contents sink.old) (K.contents sink.new) (last_said session.old.part)) }
+        (Stalls (K.did sink.old sink.new)) (last_said session.old.part)) }
     ensures fault { IfErr result (λ e. e ≡ Write) }
     ensures stopped { OnErr result (HasStopped (K.has_failed sink.new) (K.is_full sink.new)) }
 {
@@ -269,9 +270,9 @@ fn finish<T: Table, K: Sink>(
     requires room { session.old.tally.lines + 1 < 2 ^ 64 }
     ensures ok { OnOk result (Answers (progress_of (T.state table.old) (T.stamp table.old) session.old.tally session.old.outbox)
         (progress_of (T.state table.new) (T.stamp table.new) session.new.tally [])
-        (K.contents sink.old) (K.contents sink.new) (last_said session.old.part)) }
+        (Sends (K.did sink.old sink.new)) (last_said session.old.part)) }
     ensures err { OnErr result (StopsShort (progress_of (T.state table.old) (T.stamp table.old) session.old.tally session.old.outbox)
-        (K.contents sink.old) (K.contents sink.new) (last_said session.old.part)) }
+        (Stalls (K.did sink.old sink.new)) (last_said session.old.part)) }
     ensures fault { IfErr result (λ e. e ≡ Write) }
     ensures stopped { OnErr result (HasStopped (K.has_failed sink.new) (K.is_full sink.new)) }
 {
@@ -304,13 +305,50 @@ impl Session {
 /// line is answered with nothing, a call with [`crate::answer::answer_text`], and each other line,
 /// also one of more than [`crate::part::LONGEST_LINE`] bytes, with `bad line`. A call that found no
 /// memory is made once more where [`Table::make_room`] says so. The answers of all lines that have
-/// ended are written before the next read. A read asks for at most 4096 bytes, and there are at most
-/// `turns`.
+/// ended are written before the next read, so whoever drives the script by a pipe may wait for them.
+/// A read asks for at most 4096 bytes, and there are at most `turns`.
 ///
 /// `Read` comes where the source has failed, `Write` where the sink has failed or took nothing of a
-/// write, and `TooManyTurns` where the source did not end within the bound on reads; what is
+/// write, and `TooManyTurns` where `turns` reads did not find the end of the source; what is
 /// written then is the meaning of the lines that had ended, and for `Write` the front of it.
 /// Nothing is read or written after a fault. `NoMemory` does not come.
+///
+/// The order of reads and writes is said by `talk`, in the words of a device that knows it.
+pub fn run_dialogue<T: Table, D: Dialogue>(
+    table: &mut T,
+    devices: &mut D,
+    turns: u32,
+) -> Result<Tally, RunScriptFault>
+    ensures ok { IfOk result (λ tally. (text : List ℕ) × Finishes (begun (T.state table.old) (T.stamp table.old))
+        (progress_of (T.state table.new) (T.stamp table.new) tally text)
+        (D.remaining devices.old) (D.remaining devices.new) (D.contents devices.old) (D.contents devices.new)) }
+    ensures err { IfErr result (Leaves turns (begun (T.state table.old) (T.stamp table.old))
+        (D.remaining devices.old) (D.remaining devices.new) (D.contents devices.old) (D.contents devices.new) (D.Source.has_failed devices.new)) }
+    ensures talk { Converses turns (begun (T.state table.old) (T.stamp table.old)) (D.Source.did devices.old devices.new) result }
+    ensures same { D.is_same devices.old devices.new }
+    ensures whole { OnOk result ((D.Source.has_failed devices.new ≡ D.Source.has_failed devices.old) × (D.Sink.has_failed devices.new ≡ D.Sink.has_failed devices.old) × (D.is_full devices.new ≡ D.is_full devices.old)) }
+    ensures made { IfErr result (λ e. e ≢ NoMemory) }
+    ensures stopped { result ≡ Err Write → HasStopped (D.Sink.has_failed devices.new) (D.is_full devices.new) }
+{
+    let mut session = Session::new();
+    let mut chunk = [0_u8; CHUNK];
+    for _turn in 0..turns {
+        let count = match devices.read(&mut chunk) {
+            Ok(count) => count,
+            Err(_) => return Err(RunScriptFault::Read),
+        };
+        if count == 0 {
+            finish(&mut session, table, devices)?;
+            return Ok(session.tally);
+        }
+        answer_chunk(&mut session, table, devices, &chunk[..count])?;
+        session.outbox.flush(devices)?;
+    }
+    Err(RunScriptFault::TooManyTurns)
+}
+
+/// Runs a script as [`run_dialogue`] does, over a source and a sink that are two things: the contract tells what each of them
+/// did, and that there is one order of it all in which every whole line was answered before the next read.
 pub fn run_script<T: Table, S: Source, K: Sink>(
     table: &mut T,
     source: &mut S,
@@ -322,22 +360,11 @@ pub fn run_script<T: Table, S: Source, K: Sink>(
         (S.remaining source.old) (S.remaining source.new) (K.contents sink.old) (K.contents sink.new)) }
     ensures err { IfErr result (Leaves turns (begun (T.state table.old) (T.stamp table.old))
         (S.remaining source.old) (S.remaining source.new) (K.contents sink.old) (K.contents sink.new) (S.has_failed source.new)) }
+    ensures talk { Converses turns (begun (T.state table.old) (T.stamp table.old)) (DidBoth (S.did source.old source.new) (K.did sink.old sink.new)) result }
+    ensures whole { OnOk result ((S.has_failed source.new ≡ S.has_failed source.old) × (K.has_failed sink.new ≡ K.has_failed sink.old) × (K.is_full sink.new ≡ K.is_full sink.old)) }
     ensures made { IfErr result (λ e. e ≢ NoMemory) }
     ensures stopped { result ≡ Err Write → HasStopped (K.has_failed sink.new) (K.is_full sink.new) }
 {
-    let mut session = Session::new();
-    let mut chunk = [0_u8; CHUNK];
-    for _turn in 0..turns {
-        let count = match source.read(&mut chunk) {
-            Ok(count) => count,
-            Err(_) => return Err(RunScriptFault::Read),
-        };
-        if count == 0 {
-            finish(&mut session, table, sink)?;
-            return Ok(session.tally);
-        }
-        answer_chunk(&mut session, table, sink, &chunk[..count])?;
-        session.outbox.flush(sink)?;
-    }
-    Err(RunScriptFault::TooManyTurns)
+    let mut both = Both { source, sink };
+    run_dialogue(table, &mut both, turns)
 }

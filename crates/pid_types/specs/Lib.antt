@@ -21,3 +21,5 @@ pub mod Sound
 pub mod Sight
 pub mod Shown
 pub mod Short
+pub mod Devices
+pub mod DeviceLaws

@@ -1,9 +1,11 @@
 //! Scripts run on a table of their own, for one worker.
-ghost use Rattle.std.specs.Prelude.{◌≡◌, ℕ, List, IfOk, IfErr, Err};
+ghost use Rattle.std.specs.Prelude.{◌≡◌, ℕ, List, IfOk, IfErr, OnOk, Err};
 ghost use Rattle.locked_table.specs.Chronicle.{next_stamp};
 ghost use Rattle.pid_types.specs.State.{State};
 ghost use Rattle.pid_script.specs.Script.{start_of, HasStopped};
 ghost use Rattle.pid_script.specs.declared.tally.RunScriptFault.TheVariants.{Write};
+ghost use Rattle.pid_types.specs.Devices.{DidBoth};
+ghost use Rattle.pid_script.specs.Dialogue.{Converses};
 ghost use Rattle.pid_script.specs.Session.{progress_of, Finishes, Leaves};
 
 use crate::one_seat::OneSeat;
@@ -35,6 +37,8 @@ fn run_table<L: Ledger, S: Source, K: Sink>(
         (S.remaining source.old) (S.remaining source.new) (K.contents sink.old) (K.contents sink.new)) }
     ensures err { IfErr result (Leaves turns (start_of config.now)
         (S.remaining source.old) (S.remaining source.new) (K.contents sink.old) (K.contents sink.new) (S.has_failed source.new)) }
+    ensures talk { Converses turns (start_of config.now) (DidBoth (S.did source.old source.new) (K.did sink.old sink.new)) result }
+    ensures whole { OnOk result ((S.has_failed source.new ≡ S.has_failed source.old) × (K.has_failed sink.new ≡ K.has_failed sink.old) × (K.is_full sink.new ≡ K.is_full sink.old)) }
     ensures stopped { result ≡ Err Write → HasStopped (K.has_failed sink.new) (K.is_full sink.new) }
 {
     let mut table = match OneSeat::<L>::new(alloc, blank, config) {
@@ -69,6 +73,8 @@ pub fn run_limited<L: Ledger, S: Source, K: Sink>(
         (S.remaining source.old) (S.remaining source.new) (K.contents sink.old) (K.contents sink.new)) }
     ensures err { IfErr result (Leaves turns (start_of config.now)
         (S.remaining source.old) (S.remaining source.new) (K.contents sink.old) (K.contents sink.new) (S.has_failed source.new)) }
+    ensures talk { Converses turns (start_of config.now) (DidBoth (S.did source.old source.new) (K.did sink.old sink.new)) result }
+    ensures whole { OnOk result ((S.has_failed source.new ≡ S.has_failed source.old) × (K.has_failed sink.new ≡ K.has_failed sink.old) × (K.is_full sink.new ≡ K.is_full sink.old)) }
     ensures stopped { result ≡ Err Write → HasStopped (K.has_failed sink.new) (K.is_full sink.new) }
 {
     let mut table = match ShortSeat::<L>::new(alloc, blank, config) {
@@ -93,6 +99,8 @@ pub fn run<L: Ledger, S: Source, K: Sink>(
         (S.remaining source.old) (S.remaining source.new) (K.contents sink.old) (K.contents sink.new)) }
     ensures err { IfErr result (Leaves MOST_READS (start_of config.now)
         (S.remaining source.old) (S.remaining source.new) (K.contents sink.old) (K.contents sink.new) (S.has_failed source.new)) }
+    ensures talk { Converses MOST_READS (start_of config.now) (DidBoth (S.did source.old source.new) (K.did sink.old sink.new)) result }
+    ensures whole { OnOk result ((S.has_failed source.new ≡ S.has_failed source.old) × (K.has_failed sink.new ≡ K.has_failed sink.old) × (K.is_full sink.new ≡ K.is_full sink.old)) }
     ensures stopped { result ≡ Err Write → HasStopped (K.has_failed sink.new) (K.is_full sink.new) }
 {
     run_limited::<L, S, K>(alloc, blank, source, sink, config, MOST_READS)
@@ -114,6 +122,8 @@ pub fn run_state<L: Ledger, S: Source, K: Sink>(
         (S.remaining source.old) (S.remaining source.new) (K.contents sink.old) (K.contents sink.new)) }
     ensures err { IfErr result (Leaves MOST_READS (start_of config.now)
         (S.remaining source.old) (S.remaining source.new) (K.contents sink.old) (K.contents sink.new) (S.has_failed source.new)) }
+    ensures talk { Converses MOST_READS (start_of config.now) (DidBoth (S.did source.old source.new) (K.did sink.old sink.new)) result }
+    ensures whole { OnOk result ((S.has_failed source.new ≡ S.has_failed source.old) × (K.has_failed sink.new ≡ K.has_failed sink.old) × (K.is_full sink.new ≡ K.is_full sink.old)) }
     ensures stopped { result ≡ Err Write → HasStopped (K.has_failed sink.new) (K.is_full sink.new) }
 {
     let (tally, table) = run_table::<L, S, K>(alloc, blank, source, sink, config, MOST_READS)?;

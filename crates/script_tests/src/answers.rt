@@ -80,6 +80,36 @@ fn writes_each_refusal(rt: HostRuntime) {
     }
 }
 
+/// The numbers and the errnos of refusals: `errno-base.h` of the kernel has the values.
+#[test]
+fn numbers_each_refusal(rt: HostRuntime) {
+    let refusals: [(Refusal, u8, u32); 19] = [
+        (Refusal::NoCaller, 1, 3),
+        (Refusal::NoTask, 2, 3),
+        (Refusal::NoChild, 3, 10),
+        (Refusal::NoNumber(0), 4, 11),
+        (Refusal::PidsLimit(1), 5, 11),
+        (Refusal::SpaceFallen, 6, 12),
+        (Refusal::TooDeep, 7, 28),
+        (Refusal::Elsewhere, 8, 22),
+        (Refusal::BadGroup, 9, 22),
+        (Refusal::OtherSession, 10, 1),
+        (Refusal::IsLeader, 11, 1),
+        (Refusal::NoGroup, 12, 1),
+        (Refusal::Executed, 13, 13),
+        (Refusal::RootInit, 14, 16),
+        (Refusal::NoControl, 15, 2),
+        (Refusal::ControlBusy, 16, 16),
+        (Refusal::RootControl, 17, 22),
+        (Refusal::BadLimit, 18, 22),
+        (Refusal::ControlDepth, 19, 11),
+    ];
+    for (refusal, number, errno) in refusals {
+        assert_eq!(rt; refusal.number(), number);
+        assert_eq!(rt; refusal.errno(), errno);
+    }
+}
+
 #[test]
 fn writes_the_longest_answer(rt: HostRuntime) {
     let mut numbers = ArrayVec::new();

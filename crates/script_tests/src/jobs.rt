@@ -17,9 +17,25 @@ struct Broken<'a> {
 }
 
 impl Source for Broken<'_> {
+    ghost use Rattle.std.specs.Prelude.{refl};
+    ghost use Rattle.pid_types.specs.Devices.{Took};
+    ghost use Rattle.pid_types.specs.DeviceLaws.{Took-nothing, Took-more};
+
     ghost remaining = { λ s. Some s.left.now };
 
     ghost has_failed = { λ s. s.failed };
+
+    ghost did = { λ a b. Took (Some a.left.now) (Some b.left.now) a.failed b.failed };
+
+    ghost nothing = { λ a. Took-nothing _ _ };
+
+    ghost more = { λ a b c xs ys. Took-more _ _ _ _ _ _ xs ys };
+
+    ghost consumed = { λ a b xs took. took.consumed };
+
+    ghost still = { λ a b took. took.still refl };
+
+    ghost kept = { λ a b xs took. took.kept };
 
     fn read(&mut self, buffer: &mut [u8]) -> Result<usize, DeviceFault> {
         let count = self.left.len().min(buffer.len());

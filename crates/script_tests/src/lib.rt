@@ -5,6 +5,8 @@
 #[cfg(test)]
 mod answers;
 #[cfg(test)]
+mod dialogues;
+#[cfg(test)]
 mod jobs;
 #[cfg(test)]
 mod lines;

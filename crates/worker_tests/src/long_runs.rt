@@ -1,5 +1,5 @@
 //! A long run takes the memory of its table, and not of its length.
-ghost use Rattle.std.specs.Prelude.{◌≡◌, Option, None, false};
+ghost use Rattle.std.specs.Prelude.{◌≡◌, ⊤, Option, None, false, refl};
 
 use pid_types::config::Config;
 use pid_types::device::{DeviceFault, Sink, Source};
@@ -29,6 +29,18 @@ impl Source for Queries {
 
     ghost has_failed = { λ _. false };
 
+    ghost did = { λ _ _ _. ⊤ };
+
+    ghost nothing = { λ _. tt };
+
+    ghost more = { λ _ _ _ _ _ _ _. tt };
+
+    ghost consumed = { λ _ _ _ _. tt };
+
+    ghost still = { λ _ _ _. refl };
+
+    ghost kept = { λ _ _ _ _ _. refl };
+
     fn read(&mut self, buffer: &mut [u8]) -> Result<usize, DeviceFault> {
         let lines = (buffer.len() / QUERY.len()).min(self.left as usize);
         for piece in buffer.chunks_exact_mut(QUERY.len()).take(lines) {
@@ -55,6 +67,16 @@ impl Sink for Counter {
     ghost has_failed = { λ _. false };
 
     ghost is_full = { λ _. false };
+
+    ghost did = { λ _ _ _. ⊤ };
+
+    ghost nothing = { λ _. tt };
+
+    ghost more = { λ _ _ _ _ _ _ _. tt };
+
+    ghost appended = { λ _ _ _ _. tt };
+
+    ghost kept = { λ _ _ _ _ _. (refl, refl) };
 
     fn write(&mut self, buffer: &[u8]) -> Result<usize, DeviceFault> {
         self.bytes = self.bytes.saturating_add(buffer.len() as u64);

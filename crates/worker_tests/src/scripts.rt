@@ -21,9 +21,25 @@ struct Pieces<'a> {
 }
 
 impl Source for Pieces<'_> {
+    ghost use Rattle.std.specs.Prelude.{refl};
+    ghost use Rattle.pid_types.specs.Devices.{Took};
+    ghost use Rattle.pid_types.specs.DeviceLaws.{Took-nothing, Took-more};
+
     ghost remaining = { λ s. Some s.left.now };
 
     ghost has_failed = { λ s. s.failed };
+
+    ghost did = { λ a b. Took (Some a.left.now) (Some b.left.now) a.failed b.failed };
+
+    ghost nothing = { λ a. Took-nothing _ _ };
+
+    ghost more = { λ a b c xs ys. Took-more _ _ _ _ _ _ xs ys };
+
+    ghost consumed = { λ a b xs took. took.consumed };
+
+    ghost still = { λ a b took. took.still refl };
+
+    ghost kept = { λ a b xs took. took.kept };
 
     fn read(&mut self, buffer: &mut [u8]) -> Result<usize, DeviceFault> {
         let count = self.left.len().min(buffer.len()).min(self.most.max(1));
@@ -52,11 +68,24 @@ struct Paper {
 }
 
 impl Sink for Paper {
+    ghost use Rattle.pid_types.specs.Devices.{Gave};
+    ghost use Rattle.pid_types.specs.DeviceLaws.{Gave-nothing, Gave-more};
+
     ghost contents = { λ s. Some s.held.items };
 
     ghost has_failed = { λ s. s.failed };
 
     ghost is_full = { λ s. s.full };
+
+    ghost did = { λ a b. Gave (Some a.held.items) (Some b.held.items) a.failed b.failed a.full b.full };
+
+    ghost nothing = { λ a. Gave-nothing _ _ _ };
+
+    ghost more = { λ a b c xs ys. Gave-more _ _ _ _ _ _ _ _ _ xs ys };
+
+    ghost appended = { λ a b xs gave. gave.appended };
+
+    ghost kept = { λ a b xs gave. gave.kept };
 
     fn write(&mut self, buffer: &[u8]) -> Result<usize, DeviceFault> {
         let room = self.room.min(self.held.remaining_capacity());
@@ -65,7 +94,7 @@ impl Sink for Paper {
             self.failed = true;
             return Err(DeviceFault);
         }
-        if count == 0 {
+        if count == 0 && !buffer.is_empty() {
             self.full = true;
         }
         self.held.try_extend_from_slice(&buffer[..count]).unwrap();

@@ -1,3 +1,5 @@
+use Rattle.std.proofs.Common.{inl, refl}
+use Rattle.std.proofs.lemmas.Result.{err_from_is_err_and}
 use Rattle.locked_table.specs.Chronicle.{next_stamp}
 use Rattle.pid_commands.proofs.serve.list_of_script.Goals as goal
 
@@ -15,3 +17,9 @@ returns-clause-ok g c =
       shown = listed.1;
       listed = listed.2;
     }
+
+-- want of memory for the list
+pub returns-in_err-list_record-clause-fault : goal.returns-in_err-list_record-clause-fault
+returns-in_err-list_record-clause-fault g c =
+    let p = err_from_is_err_and c.from_residual-in_err-list_record.result c.from_residual-in_err-list_record.ensures.1 in
+    rw (p.1, p.2) (inl refl)

@@ -1,7 +1,7 @@
 use Rattle.std.proofs.Common.{◌++◌, ap, ◌∙◌, sym, append_assoc}
 use Rattle.std.specs.List.{flat_map}
 use Rattle.std.specs.Vec.Iter.{into_iter_items}
-use Rattle.pid_script.proofs.Sent.{Appends-more}
+use Rattle.pid_types.specs.DeviceLaws.{Appends-more}
 use Rattle.pid_commands.specs.Output.{receipt_line}
 use Rattle.pid_commands.proofs.show.write_receipts.Goals as goal
 

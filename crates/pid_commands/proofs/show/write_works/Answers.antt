@@ -1,6 +1,6 @@
 use Rattle.std.proofs.Common.{◌++◌, ◌+◌, ap, ◌∙◌, sym, append_assoc, arith}
 use Rattle.std.specs.Vec.Iter.{into_iter_items}
-use Rattle.pid_script.proofs.Sent.{Appends-more}
+use Rattle.pid_types.specs.DeviceLaws.{Appends-more}
 use Rattle.pid_commands.specs.Output.{work_lines, works_text}
 use Rattle.pid_commands.proofs.show.write_works.Goals as goal
 

@@ -3,7 +3,8 @@ use Rattle.std.specs.Io.KnownBytes.{Consumes}
 use Rattle.std.proofs.lemmas.Result.{err_from_is_err_and}
 use Rattle.pid_script.specs.Script.{said_within, kept_after, last_said}
 use Rattle.pid_script.specs.Job.{Adds, IsStopped}
-use Rattle.pid_script.proofs.Ends.{Consumes-more, Consumes-nothing, Consumes-keeps, more_said, more_kept, last_of}
+use Rattle.pid_types.specs.DeviceLaws.{Consumes-more, Consumes-nothing, Consumes-keeps}
+use Rattle.pid_script.proofs.Ends.{more_said, more_kept, last_of}
 use Rattle.pid_script.proofs.Jobs.{Adds-nothing, Adds-more, IsStopped-later, take_most, refuses_within, refuses_last, refuses_read, refuses_long, yields}
 use Rattle.pid_script.proofs.job.read_job.Goals as goal
 

@@ -15,8 +15,8 @@ returns-then-not-is_starved-clause-ok g c =
     let after = c.tell_answer.new.session in
     let leads = call_leads _ _ before.tally c.args.call c.act-made.result held (g.T.Table.state table) (g.T.Table.stamp table) after.tally c.act-made.ensures.acts told.lines told.recorded told.bad in
     OnOk-weaker _ _ c.tell_answer.result _ _ (λ pushed.
-    answered _ _ before.tally before.outbox (says.Call c.args.call) (with_newline (answer_of answer)) _ _ after.tally after.outbox pushed.0 _ _
-    leads pushed.1 pushed.2) told.ok
+    answered _ _ before.tally before.outbox (says.Call c.args.call) (with_newline (answer_of answer)) _ _ after.tally after.outbox _
+    leads pushed) told.ok
 
 pub returns-then-not-is_starved-clause-err : goal.returns-then-not-is_starved-clause-err
 returns-then-not-is_starved-clause-err g c =
@@ -28,8 +28,8 @@ returns-then-not-is_starved-clause-err g c =
     let after = c.tell_answer.new.session in
     let leads = call_leads _ _ before.tally c.args.call c.act-made.result held (g.T.Table.state table) (g.T.Table.stamp table) after.tally c.act-made.ensures.acts told.lines told.recorded told.bad in
     OnErr-weaker _ _ c.tell_answer.result _ _ (λ stops.
-    stopped _ _ before.tally before.outbox (says.Call c.args.call) (with_newline (answer_of answer)) _ _ after.tally stops.0 stops.1 _ _
-    leads stops.2 stops.3 stops.4) told.err
+    stopped _ _ before.tally before.outbox (says.Call c.args.call) (with_newline (answer_of answer)) _ _ after.tally _
+    leads stops) told.err
 
 pub returns-clause-ok : goal.returns-clause-ok
 returns-clause-ok g c =
@@ -41,8 +41,8 @@ returns-clause-ok g c =
     let after = c.tell_answer-2.new.session in
     let leads = call_leads _ _ before.tally c.args.call c.act-made.result held (g.T.Table.state table) (g.T.Table.stamp table) after.tally (starved_acts _ _ _ _ (g.T.Table.held c.act-made.new.self) held _ _ _ _ (c.is_starved.ensures c.if-not-is_starved.false) c.make_room.ensures.state c.make_room.ensures.stamp c.act-made.ensures.acts) told.lines told.recorded told.bad in
     OnOk-weaker _ _ c.tell_answer-2.result _ _ (λ pushed.
-    answered _ _ before.tally before.outbox (says.Call c.args.call) (with_newline (answer_of answer)) _ _ after.tally after.outbox pushed.0 _ _
-    leads pushed.1 pushed.2) told.ok
+    answered _ _ before.tally before.outbox (says.Call c.args.call) (with_newline (answer_of answer)) _ _ after.tally after.outbox _
+    leads pushed) told.ok
 
 pub returns-clause-err : goal.returns-clause-err
 returns-clause-err g c =
@@ -54,5 +54,5 @@ returns-clause-err g c =
     let after = c.tell_answer-2.new.session in
     let leads = call_leads _ _ before.tally c.args.call c.act-made.result held (g.T.Table.state table) (g.T.Table.stamp table) after.tally (starved_acts _ _ _ _ (g.T.Table.held c.act-made.new.self) held _ _ _ _ (c.is_starved.ensures c.if-not-is_starved.false) c.make_room.ensures.state c.make_room.ensures.stamp c.act-made.ensures.acts) told.lines told.recorded told.bad in
     OnErr-weaker _ _ c.tell_answer-2.result _ _ (λ stops.
-    stopped _ _ before.tally before.outbox (says.Call c.args.call) (with_newline (answer_of answer)) _ _ after.tally stops.0 stops.1 _ _
-    leads stops.2 stops.3 stops.4) told.err
+    stopped _ _ before.tally before.outbox (says.Call c.args.call) (with_newline (answer_of answer)) _ _ after.tally _
+    leads stops) told.err

@@ -1,6 +1,7 @@
 use Rattle.std.proofs.Common.{◌≡◌, ◌+◌, ◌≤◌, ◌++◌, List, length}
 use Rattle.pid_script.specs.declared.line.Line.{Line}
 use Rattle.pid_script.specs.Script.{said_within, kept_after}
+use Rattle.pid_script.specs.Dialogue.{Sends}
 use Rattle.pid_script.specs.Session.{progress_of, Answers, IsTallied}
 use Rattle.pid_script.proofs.session.answer_chunk.Given as goal
 
@@ -9,7 +10,7 @@ invariant-loop-end g l = record {
   lines : List Line;
   answered : Answers (progress_of (g.T.Table.state l.initial.table) (g.T.Table.stamp l.initial.table) l.initial.session.tally l.initial.session.outbox)
       (progress_of (g.T.Table.state l.table) (g.T.Table.stamp l.table) l.session.tally l.session.outbox)
-      (g.K.Sink.contents l.initial.sink) (g.K.Sink.contents l.sink) lines;
+      (Sends (g.K.Sink.did l.initial.sink l.sink)) lines;
   said : lines ++ said_within l.session.part l.rest ≡ said_within l.initial.session.part l.chunk;
   kept : kept_after l.session.part l.rest ≡ kept_after l.initial.session.part l.chunk;
   counted : IsTallied l.session.tally;

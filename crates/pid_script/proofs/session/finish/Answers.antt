@@ -1,17 +1,17 @@
 use Rattle.std.proofs.Common.{append-nil, []}
 use Rattle.pid_script.specs.Script.{last_said}
-use Rattle.pid_script.proofs.Sent.{OnErr-weaker, OnOk-weaker}
+use Rattle.pid_script.proofs.Sent.{OnErr-weaker, OnOk-weaker, Sends-more, Stalls-more}
 use Rattle.pid_script.proofs.Progress.{Answers-sent, StopsShort-sent, Answers-more, StopsShort-more, Answers-same, StopsShort-same}
 use Rattle.pid_script.proofs.session.finish.Goals as goal
 
 pub returns-clause-ok : goal.returns-clause-ok
 returns-clause-ok g c =
     OnOk-weaker _ _ c.flush.result _ _ (λ sent.
-    Answers-same _ _ _ _ _ _ (append-nil (last_said c.args.session.now.part))
-    (Answers-more _ _ _ _ _ _ (last_said c.args.session.now.part) [] c.in_ok-answer_last.ensures.ok (Answers-sent _ _ _ _ _ _ sent))) c.flush.ensures.ok
+    Answers-same _ _ _ _ _ (append-nil (last_said c.args.session.now.part))
+    (Answers-more (Sends-more (g.met.K.Sink.more _ _ _)) _ _ _ (last_said c.args.session.now.part) [] c.in_ok-answer_last.ensures.ok (Answers-sent _ _ _ _ _ sent))) c.flush.ensures.ok
 
 pub returns-clause-err : goal.returns-clause-err
 returns-clause-err g c =
     OnErr-weaker _ _ c.flush.result _ _ (λ stops.
-    StopsShort-same _ _ _ _ _ (append-nil (last_said c.args.session.now.part))
-    (StopsShort-more _ _ _ _ _ (last_said c.args.session.now.part) [] c.in_ok-answer_last.ensures.ok (StopsShort-sent _ _ _ _ _ _ stops))) c.flush.ensures.err
+    StopsShort-same _ _ _ _ (append-nil (last_said c.args.session.now.part))
+    (StopsShort-more (Stalls-more (g.met.K.Sink.more _ _ _)) _ _ (last_said c.args.session.now.part) [] c.in_ok-answer_last.ensures.ok (StopsShort-sent _ _ _ _ _ stops))) c.flush.ensures.err

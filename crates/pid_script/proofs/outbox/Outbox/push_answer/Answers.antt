@@ -5,4 +5,4 @@ use Rattle.pid_script.proofs.outbox.Outbox.push_answer.Goals as goal
 
 pub returns-in_err-flush-clause-err : goal.returns-in_err-flush-clause-err
 returns-in_err-flush-clause-err g c =
-    OnErr-always _ _ _ _ (stops_before _ _ _ (with_newline (answer_of (lent c.args.answer))) c.in_err-flush.ensures.err)
+    OnErr-always _ _ _ _ (stops_before _ _ (with_newline (answer_of (lent c.args.answer))) c.in_err-flush.ensures.err)

@@ -1,0 +1,23 @@
+use Rattle.std.proofs.Common.{◌≡◌, ◌*◌, ◌≤◌, List, [], Some, length}
+use Rattle.pid_types.specs.Devices.{Event, heard, readings}
+use Rattle.pid_script.specs.Script.{begun, said_within, kept_after}
+use Rattle.pid_script.specs.Session.{progress_of, IsTallied}
+use Rattle.pid_script.proofs.Turns.{GoesOn}
+use Rattle.pid_script.proofs.session.run_dialogue.Given as goal
+
+abbrev pub invariant-loop-turn : goal.invariant-loop-turn
+invariant-loop-turn g l = record {
+  events : List Event;
+  done : g.D.Source.did l.initial.devices l.devices events;
+  on : GoesOn (begun (g.T.Table.state l.initial.table) (g.T.Table.stamp l.initial.table))
+      (progress_of (g.T.Table.state l.table) (g.T.Table.stamp l.table) l.session.tally l.session.outbox)
+      (said_within (Some []) (heard events)) events;
+  part : l.session.part ≡ kept_after (Some []) (heard events);
+  empty : l.session.outbox ≡ [];
+  counted : IsTallied l.session.tally;
+  turns : length (readings events) ≡ l._turn;
+  few : l.session.tally.lines ≤ length (heard events);
+  long : l._turn ≤ length (heard events);
+  short : length (heard events) ≤ 4096 * l._turn;
+  size : length l.chunk ≡ 4096;
+}

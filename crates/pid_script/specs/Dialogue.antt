@@ -1,0 +1,91 @@
+-- What a script does with its devices, in order.
+use Rattle.std.specs.Prelude.{ℕ, ◌≡◌, ◌<◌, ◌≤◌, Bool, true, false, ⊤, List, [], ◌∷◌, ◌++◌, length, map, Option, Some, None, Result, if◌then◌else◌, nat_lt}
+use Rattle.std.specs.List.{list_any}
+use Rattle.std.specs.Result.{result_err}
+use Rattle.pid_types.specs.Devices.{Event, Reading, Writing, heard, said, readings, IsWell, AreWell}
+use Rattle.pid_script.specs.declared.line.Line.{Line}
+use Rattle.pid_script.specs.declared.tally.RunScriptFault.{RunScriptFault}
+use Rattle.pid_script.specs.declared.tally.RunScriptFault.TheVariants as fault
+use Rattle.pid_script.specs.Script.{Progress, said_of, said_whole, after_script}
+
+-- the sink took these bytes, by writes that each took some
+pub record Sends (did : List Event → Type 0) (bytes : List ℕ) : Type 0 where
+  pub events : List Event
+  pub done : did events
+  pub well : AreWell events
+  pub writes : readings events ≡ []
+  pub sent : said events ≡ bytes
+
+-- the sink took these bytes, and then a write failed or took nothing
+pub record Stalls (did : List Event → Type 0) (bytes : List ℕ) : Type 0 where
+  pub events : List Event
+  pub offered : List ℕ
+  pub taken : Option ℕ
+  pub done : did (events ++ Writing offered taken ∷ [])
+  pub well : AreWell events
+  pub writes : readings events ≡ []
+  pub stopped : ¬ IsWell (Writing offered taken)
+  pub sent : said events ≡ bytes
+
+-- of these bytes some were sent, and these wait
+abbrev pub Queues : (List Event → Type 0) → List ℕ → List ℕ → Type 0
+Queues did bytes held = (sent : List ℕ) × Sends did sent × (bytes ≡ sent ++ held)
+
+-- of these bytes not all were sent
+abbrev pub Stops : (List Event → Type 0) → List ℕ → Type 0
+Stops did bytes = (sent left : List ℕ) × Stalls did sent × (bytes ≡ sent ++ left) × (0 < length left)
+
+-- a read that asked for a byte, and found the end
+abbrev pub is_end : Event → Bool
+is_end (Reading asked (Some [])) = nat_lt 0 asked
+is_end (Reading asked (Some (b ∷ bs))) = false
+is_end (Reading asked None) = false
+is_end (Writing offered taken) = false
+
+-- the lines that were read: those that have ended, and at the end of the source what is left
+abbrev pub lines_heard : List Event → List Line
+lines_heard events = if list_any is_end events then said_of (heard events) else said_whole (heard events)
+
+-- what was written is what the lines that were read come to
+pub record IsAnswered (start : Progress) (events : List Event) : Type 0 where
+  pub script : List (Line × Bool)
+  pub says : map (λ l. l.0) script ≡ lines_heard events
+  pub text : said events ≡ (after_script start script).text
+
+-- what was written is not all that the lines that were read come to, but its front
+pub record IsCutShort (start : Progress) (events : List Event) : Type 0 where
+  pub script : List (Line × Bool)
+  pub left : List ℕ
+  pub says : map (λ l. l.0) script ≡ lines_heard events
+  pub text : (after_script start script).text ≡ said events ++ left
+  pub some_left : 0 < length left
+
+-- no event comes after a fault. A read comes before the end alone, asks for at most 4,096 bytes, and comes once all that was
+-- read is answered
+abbrev pub Follows : Progress → List Event → Event → Type 0
+Follows start before (Reading asked given) = AreWell before × (list_any is_end before ≡ false) × (asked ≤ 4096) × IsAnswered start before
+Follows start before (Writing offered taken) = AreWell before
+
+-- each event is so, given those before it
+abbrev pub Each : (List Event → Event → Type 0) → List Event → List Event → Type 0
+Each P before [] = ⊤
+Each P before (e ∷ es) = P before e × Each P (before ++ e ∷ []) es
+
+-- how the events end: at the end of the source, with all answered; with the fault of a device; or after so many reads
+abbrev pub EndsBy : ℕ → Progress → Option RunScriptFault → List Event → Type 0
+EndsBy turns start None events = AreWell events × (list_any is_end events ≡ true) × IsAnswered start events
+EndsBy turns start (Some fault.NoMemory) events = events ≡ []
+EndsBy turns start (Some fault.Read) events = (before : List Event) × (asked : ℕ) × (events ≡ before ++ Reading asked None ∷ [])
+EndsBy turns start (Some fault.Write) events =
+    (before : List Event) × (offered : List ℕ) × (taken : Option ℕ)
+    × (events ≡ before ++ Writing offered taken ∷ []) × (¬ IsWell (Writing offered taken)) × IsCutShort start events
+EndsBy turns start (Some fault.TooManyTurns) events =
+    AreWell events × (list_any is_end events ≡ false) × (length (readings events) ≡ turns) × IsAnswered start events
+
+-- what a script did with its devices, from the first event to the last
+pub record Converses {T : Type 0} (turns : ℕ) (start : Progress) (did : List Event → Type 0) (result : Result T RunScriptFault) : Type 0 where
+  pub events : List Event
+  pub done : did events
+  pub each : Each (Follows start) [] events
+  pub few : length (readings events) ≤ turns
+  pub ended : EndsBy turns start (result_err result) events
