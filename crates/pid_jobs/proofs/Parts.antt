@@ -1,11 +1,13 @@
 -- A job that is one call longer, and settings that no test tells apart.
 use Rattle.std.proofs.Common.{◌≡◌, ℕ, ◌+◌, ◌==◌, ◌&&◌, not, Bool, true, false, List, [], ◌∷◌, ◌++◌, length, take, get_or, ◌<◌, refl, sym, ap, ◌∙◌, subst, arith, inl, inr, length-append}
-use Rattle.std.proofs.lemmas.List.{take_more, map-append, get_or_append_left}
+use Rattle.std.specs.Prelude.{Result}
+use Rattle.std.proofs.lemmas.List.{take_more, map-append, get_or_append_left, flat_map_more}
 use Rattle.std.proofs.lemmas.Bool.{cases_lt}
 use Rattle.pid_types.specs.declared.call.Call.{Call}
 use Rattle.pid_types.specs.declared.entry.Receipt.{Receipt}
+use Rattle.pid_types.specs.declared.reply.CallFault.{CallFault}
 use Rattle.pid_types.specs.Settings.{Settings}
-use Rattle.pid_jobs.specs.Job.{IsPartOf, calls_in, Fulfils}
+use Rattle.pid_jobs.specs.Job.{IsPartOf, calls_in, Fulfils, Answered, receipt_in, IsAnswered}
 
 -- one more that is left out
 pub left_out : (xs ys : List Call) (y : Call) → IsPartOf xs ys → IsPartOf xs (ys ++ y ∷ [])
@@ -40,6 +42,21 @@ one_answered calls i d receipts refused r below is h =
       counted = omega (arith, h.counted, length-append (take i calls) (get_or calls i d ∷ []), length-append receipts (r ∷ []));
       in_order = subst (λ xs. IsPartOf xs (take i calls ++ get_or calls i d ∷ [])) (sym last) (taken_in (calls_in receipts) (take i calls) (get_or calls i d) h.in_order);
     })
+
+-- one more call is made
+pub one_made : (calls : List Call) (i : ℕ) (d : Call) (answers : List Answered) (receipts receipts' : List Receipt) (answer : Result Receipt CallFault) → i < length calls → receipts' ≡ receipts ++ receipt_in answer → IsAnswered (take i calls) answers receipts → IsAnswered (take (i + 1) calls) (answers ++ (get_or calls i d, answer) ∷ []) receipts'
+one_made calls i d answers receipts receipts' answer below more h = record {
+  each = map-append (λ (a : Answered). a.0) answers ((get_or calls i d, answer) ∷ []) ∙ (ap (λ (cs : List Call). cs ++ get_or calls i d ∷ []) h.each ∙ sym (take_more calls i d below));
+  given = more ∙ (ap (λ (rs : List Receipt). rs ++ receipt_in answer) h.given ∙ flat_map_more (λ (a : Answered). receipt_in a.1) [] answers (get_or calls i d, answer));
+}
+
+-- what holds below a number, and at it
+pub below_more : (P : ℕ → Type 0) (n : ℕ) → ((k : ℕ) → k < n → P k) → P n → (k : ℕ) → k < n + 1 → P k
+below_more P n old new k below =
+    elim (cases_lt k n) [
+      | inl lt ↦ old k lt
+      | inr ge ↦ let at : k ≡ n = omega (arith, ge, below) in subst P (sym at) new
+    ]
 
 get_or_last : {X : Type 0} (xs : List X) (x d : X) → get_or (xs ++ x ∷ []) (length xs) d ≡ x
 get_or_last [] x d = refl

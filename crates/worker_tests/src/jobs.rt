@@ -422,7 +422,15 @@ struct CountingDesk {
 }
 
 impl Desk for CountingDesk {
+    ghost use Rattle.std.specs.Prelude.{⊤};
+
     ghost worker = { λ _. 0 };
+
+    ghost made = { λ _ _ _. ⊤ };
+
+    ghost made_none = { λ _. tt };
+
+    ghost made_more = { λ _ _ _ _ _ _ _. tt };
 
     fn call<R: Wait>(&mut self, _rt: &R, call: Call) -> Result<Receipt, CallFault> {
         let ordinal = self.calls;
