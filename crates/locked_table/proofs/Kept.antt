@@ -26,6 +26,10 @@ controls-shown state (c ∷ controls) = ap (λ cs. c ∷ cs) (controls-shown sta
 pub state_of-shows : (state : State) (plain : Plain) → Shows state plain → state_of plain ≡ state
 state_of-shows state plain shows = rw (shows.pid_max, shows.rows, shows.spaces, shows.controls, controls-shown) refl
 
+-- so a snapshot shows the state that is read back from it
+pub shows-back : (state : State) (plain : Plain) → Shows state plain → Shows (state_of plain) plain
+shows-back state plain shows = subst (λ (s : State). Shows s plain) (sym (state_of-shows state plain shows)) shows
+
 -- an outcome by its parts
 pub outcome-of : (present : State) (reply : Reply) (o : Outcome) → present ≡ o.state → reply ≡ o.reply → (let x : Outcome = record { state = present; reply = reply } in x) ≡ o
 outcome-of present reply o is said = rw (is, said) refl

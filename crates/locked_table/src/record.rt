@@ -18,6 +18,7 @@ ghost use Rattle.locked_table.specs.Chronicle.{Chronicle, total, next_stamp, rec
 ghost use Rattle.locked_table.specs.Promise.{KeepsPromise};
 ghost use Rattle.locked_table.specs.SeatState.{AreSeats, AreNew, calls_of_seats};
 
+use crate::opening::Opening;
 use crate::seat::Seat;
 use model_laws::laws::{forks_keep_limits, no_reuse, numbers_are_apart};
 use model_laws::meanings::count_is_of_subtree;
@@ -37,7 +38,7 @@ use task_table::TaskTable;
 #[derive(Drop)]
 pub struct Record<L: Ledger, const N: usize> {
     config: Config,
-    opening: Plain,
+    opening: Opening,
     first_kept: u64,
     cut: Vec<u64>,
     history: Vec<Entry>,
@@ -47,14 +48,13 @@ pub struct Record<L: Ledger, const N: usize> {
 
 impl<L: Ledger, const N: usize> Model for Record<L, N> {
     ghost use Rattle.std.specs.Prelude.{◌-◌, vec_len, vec_capacity};
-    ghost use Rattle.locked_table.specs.Opening.{state_of};
     ghost use Rattle.locked_table.specs.Chronicle.{Chronicle, IsKept};
 
     ghost Value = { Chronicle };
 
-    ghost view = { λ a. record { config = a.config; opening = state_of a.opening; first_kept = a.first_kept; cut = a.cut.items; entries = a.history.items; present = a.table; booked = a.book.total; room = vec_capacity a.history - vec_len a.history } };
+    ghost view = { λ a. record { config = a.config; opening = a.opening; first_kept = a.first_kept; cut = a.cut.items; entries = a.history.items; present = a.table; booked = a.book.total; room = vec_capacity a.history - vec_len a.history } };
 
-    ghost invariant = { λ a. IsKept N (record { config = a.config; opening = state_of a.opening; first_kept = a.first_kept; cut = a.cut.items; entries = a.history.items; present = a.table; booked = a.book.total; room = vec_capacity a.history - vec_len a.history }) };
+    ghost invariant = { λ a. IsKept N (record { config = a.config; opening = a.opening; first_kept = a.first_kept; cut = a.cut.items; entries = a.history.items; present = a.table; booked = a.book.total; room = vec_capacity a.history - vec_len a.history }) };
 }
 
 /// A copy, which needs no memory.
@@ -88,7 +88,7 @@ impl<L: Ledger, const N: usize> Record<L, N> {
         let seats = take_seats::<L, N>(alloc, rest)?;
         let cut = vec![in alloc; 0u64; N]?;
         let table = TaskTable::new(alloc, config)?;
-        let opening = table.snapshot()?;
+        let opening = Opening::of(&table)?;
         let record = Record {
             config: *config,
             opening,
@@ -131,6 +131,17 @@ impl<L: Ledger, const N: usize> Record<L, N> {
         ensures { result ≡ self.now.first_kept }
     {
         self.first_kept
+    }
+
+    /// The stamp of the next call; none where that would be `u64::MAX`, which is never a stamp: each recorded call has one
+    /// below it. It costs nothing.
+    pub fn next_stamp(&self) -> Option<u64>
+        ensures none { (result ≡ None) ↔ (next_stamp self.now ≡ u64.MAX) }
+        ensures some { IfSome result (λ stamp. stamp ≡ next_stamp self.now) }
+        ensures recorded { (ordinal : ℕ) → ordinal < total self.now → self.now.config.first_stamp + ordinal < u64.MAX }
+    {
+        let stamp = self.config.first_stamp() + self.first_kept + self.history.len() as u64;
+        if stamp == u64::MAX { None } else { Some(stamp) }
     }
 
     /// How many calls of the worker were recorded, the cut ones among them. It walks the kept
@@ -198,6 +209,18 @@ impl<L: Ledger, const N: usize> Record<L, N> {
         self.table.snapshot()
     }
 
+    /// The state that the kept history begins in: the root init's alone, or after a checkpoint the one at the last checkpoint. The
+    /// kept calls, made from there in the order of [`Record::entry`], lead to the present state with the replies of their entries:
+    /// that is what [`Record::total`] promises as `replayed`. The first of them has the configuration's first stamp plus
+    /// [`Record::first_kept`].
+    ///
+    /// It costs a copy of that whole state. The error is want of memory.
+    pub fn opening(&self) -> Result<Plain, AllocError>
+        ensures { IfOk result (Shows self.now.opening) }
+    {
+        self.opening.snapshot()
+    }
+
     /// Makes room for the entries of n more calls. Each recorded call uses up one of them.
     pub fn reserve_calls(&mut self, n: usize) -> Result<(), AllocError>
         ensures ok { OnOk result (n ≤ self.new.room) }
@@ -229,7 +252,7 @@ impl<L: Ledger, const N: usize> Record<L, N> {
     {
         soundness_is_kept();
         bound_stays();
-        let opening = self.table.snapshot()?;
+        let opening = Opening::of(&self.table)?;
         count_entries(&mut self.cut, self.history.as_slice());
         self.first_kept += self.history.len() as u64;
         self.history.clear();
@@ -286,7 +309,7 @@ impl<L: Ledger, const N: usize> Record<L, N> {
         ensures err_room { OnErr result (self.old.room ≤ self.new.room) }
         ensures no_memory { result ≡ Err CallFault.NoMemory → 0 < self.old.room → IsTrue (may_grow call) }
     {
-        let Some(stamp) = self.stamp() else {
+        let Some(stamp) = self.next_stamp() else {
             return Err(CallFault::Spent);
         };
         self.history.reserve(1)?;
@@ -295,15 +318,6 @@ impl<L: Ledger, const N: usize> Record<L, N> {
         self.table.step(stamp, call, &mut reply)?;
         book_call(&mut self.history, &mut self.book, seat, call, reply);
         Ok(())
-    }
-
-    /// The stamp of the next call; none where that would be `u64::MAX`, which is never a stamp.
-    fn stamp(&self) -> Option<u64>
-        ensures none { (result ≡ None) ↔ (next_stamp self.now ≡ u64.MAX) }
-        ensures some { IfSome result (λ stamp. stamp ≡ next_stamp self.now) }
-    {
-        let stamp = self.config.first_stamp() + self.first_kept + self.history.len() as u64;
-        if stamp == u64::MAX { None } else { Some(stamp) }
     }
 }
 

@@ -198,6 +198,18 @@ fn has_plan(numbers: &Numbers) -> bool {
     numbers.plan(0).is_ok()
 }
 
+/// The namespace that has no number for a draw in this one, where it is there.
+fn full_space(numbers: &Numbers, space: u32) -> Option<u32> {
+    if numbers.id(space).is_none() {
+        return None;
+    }
+    numbers.plan(space).err()
+}
+
+fn expect_full(rt: &impl Abort, numbers: &Numbers, space: u32, full: u32) {
+    assert_eq!(rt; full_space(numbers, space), Some(full));
+}
+
 fn fault_of_new(numbers: &Numbers, parent: u32) -> Option<PlanFault> {
     numbers.plan_new(parent).err()
 }
@@ -314,6 +326,24 @@ fn names_on_two_levels(rt: HostRuntime) -> Result<(), Fail> {
     assert!(rt; are_levels(&numbers, second, 0, &[3, 2]));
     assert!(rt; are_levels(&numbers, second, space, &[2]));
     assert!(rt; are_levels(&numbers, init, space, &[]));
+    Ok(())
+}
+
+/// A draw that the root has no number for moves no cursor, also where there is one inside.
+#[test]
+fn refusal_moves_no_cursor(rt: HostRuntime) -> Result<(), Fail> {
+    let mut numbers = table(rt.alloc(), 301)?;
+    let _ = draw(&mut numbers, 0);
+    let (_, space) = draw_new(&mut numbers, 0).expect(&rt, "no namespace");
+    for _ in 0..298 {
+        let _ = draw(&mut numbers, 0);
+    }
+    expect_cursor(&rt, &numbers, 0, 301);
+    expect_cursor(&rt, &numbers, space, 2);
+    expect_full(&rt, &numbers, space, 0);
+    assert!(rt; draw(&mut numbers, space).is_none());
+    expect_cursor(&rt, &numbers, 0, 301);
+    expect_cursor(&rt, &numbers, space, 2);
     Ok(())
 }
 

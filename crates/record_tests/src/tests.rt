@@ -4,8 +4,8 @@ ghost use Rattle.locked_table.specs.SeatState.{AreSeats};
 
 use locked_table::{Receipt, Record, Seat, Shared};
 use pid_types::call::Call;
-use pid_types::config::Config;
-use pid_types::reply::Reply;
+use pid_types::config::{Config, ConfigFault};
+use pid_types::reply::{CallFault, Reply};
 use std::alloc::Global;
 use std::marker::Brand;
 use std::process::Abort;
@@ -129,6 +129,16 @@ fn cut<L: Ledger, const N: usize>(rt: &impl Abort, record: &mut Record<L, N>) {
     record.checkpoint().expect(rt, "no memory");
 }
 
+/// The kept history begins in a state with so many tasks, and control groups with these counts.
+fn assert_opening<L: Ledger>(rt: &impl Abort, record: &Record<L, 1>, tasks: usize, counts: &[u64]) {
+    let opening = record.opening().expect(rt, "no memory");
+    assert_eq!(rt; opening.rows.len(), tasks);
+    assert_eq!(rt; opening.controls.len(), counts.len());
+    for (control, count) in opening.controls.iter().zip(counts) {
+        assert_eq!(rt; control.count, *count);
+    }
+}
+
 /// Makes the calls before a checkpoint, the checkpoint, and the calls after it.
 fn act_around_checkpoint<L: Ledger>(
     rt: &impl Abort,
@@ -136,10 +146,13 @@ fn act_around_checkpoint<L: Ledger>(
     seats: &mut [Seat<L, 1>],
 ) {
     act_all(rt, record, seats, &before_checkpoint());
+    assert_opening(rt, record, 1, &[1]);
     cut(rt, record);
     assert_cut(rt, record, 3);
+    assert_opening(rt, record, 2, &[2, 0]);
     act_all(rt, record, seats, &after_checkpoint());
     assert_cut(rt, record, 5);
+    assert_opening(rt, record, 2, &[2, 0]);
 }
 
 fn checkpoint_of_record<L: Ledger>(rt: &impl Abort, alloc: Global, blank: Blank) -> Result<(), Fail>
@@ -351,4 +364,56 @@ fn forks_in_reserved_room(rt: HostRuntime) -> Result<(), Fail> {
         want(2, 0, Call::GetPid { caller: 3 }, Reply::Number(3)),
     ];
     reserve_two::<Brand>(&rt, rt.alloc(), Blank::new(1), &others)
+}
+
+/// The last stamp that there is.
+const LAST_STAMP: u64 = 18_446_744_073_709_551_614;
+
+/// Whether the record has one stamp left.
+fn has_last_stamp<L: Ledger>(record: &Record<L, 1>) -> bool {
+    record.next_stamp() == Some(LAST_STAMP)
+}
+
+/// Spends the last stamp, and makes one call more.
+fn spend<L: Ledger>(rt: &impl Abort, record: &mut Record<L, 1>, seats: &mut [Seat<L, 1>]) {
+    assert!(rt; has_last_stamp(record));
+    act_all(rt, record, seats, &[want_child(0, 0, 2)]);
+    assert!(rt; record.next_stamp().is_none());
+    let seat = seats.get_mut(0).expect(rt, "a seat");
+    let fault = record.act(seat, Call::GetPid { caller: 1 }).err();
+    assert_eq!(rt; fault, Some(CallFault::Spent));
+    assert_eq!(rt; record.total(), 1);
+}
+
+fn spent_record<L: Ledger>(rt: &impl Abort, alloc: Global, blank: Blank) -> Result<(), Fail>
+    requires name { blank.name ≡ L.name }
+    requires parts { (blank.parts ≡ L.parts) × (L.parts ≡ 1) }
+{
+    let config = Config::new(32768, LAST_STAMP)?;
+    let (mut record, mut seats) = Record::<L, 1>::new(alloc, blank, &config)?;
+    spend(rt, &mut record, &mut seats);
+    Ok(())
+}
+
+#[test]
+fn spends_its_last_stamp(rt: HostRuntime) -> Result<(), Fail> {
+    spent_record::<Brand>(&rt, rt.alloc(), Blank::new(1))
+}
+
+#[test]
+fn refuses_bad_settings(rt: HostRuntime) {
+    let settings = [
+        (300, 0, Some(ConfigFault::BadPidMax)),
+        (301, 0, Some(ConfigFault::BadFirst)),
+        (301, 1, None),
+        (4_194_304, 1, None),
+        (4_194_305, 1, Some(ConfigFault::BadPidMax)),
+    ];
+    for (pid_max, first_stamp, fault) in settings {
+        assert_eq!(rt;
+            Config::new(pid_max, first_stamp).err(),
+            fault,
+            "{pid_max}, {first_stamp}"
+        );
+    }
 }

@@ -1,4 +1,4 @@
-use Rattle.std.proofs.Common.{◌≡◌, ℕ, rules, ap, sym, subst, ◌∙◌}
+use Rattle.std.proofs.Common.{ℕ, rules, ap, sym, subst, ◌∙◌}
 use Rattle.pid_types.specs.declared.entry.Entry.{Entry}
 use Rattle.pid_types.specs.Sound.{IsBelow}
 use Rattle.pid_types.specs.Step.{step}

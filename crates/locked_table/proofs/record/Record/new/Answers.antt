@@ -1,7 +1,7 @@
 use Rattle.std.proofs.Common.{rules, arith, ap, sum, ◌∙◌}
 use Rattle.std.proofs.lemmas.Grind.{common_steps}
 use Rattle.locked_table.proofs.Counts.{sum_of_noughts}
-use Rattle.locked_table.proofs.Kept.{kept-new, state_of-shows}
+use Rattle.locked_table.proofs.Kept.{kept-new}
 use Rattle.locked_table.proofs.record.Record.new.Goals as goal
 
 pub invariant_of-record : goal.invariant_of-record
@@ -10,7 +10,7 @@ invariant_of-record g c =
     (search rules)
     (search rules)
     (search rules)
-    (state_of-shows _ _ c.in_ok-opening.ensures ∙ c.in_ok-table.ensures)
+    (c.in_ok-opening.ensures ∙ c.in_ok-table.ensures)
     c.in_ok-table.ensures
     (search rules)
     (grind (arith, common_steps))

@@ -1,5 +1,5 @@
 use Rattle.std.proofs.Common.{rules}
-use Rattle.locked_table.proofs.record.Record.stamp.Goals as goal
+use Rattle.locked_table.proofs.record.Record.next_stamp.Goals as goal
 
 pub returns-else-stamp-clause-none : goal.returns-else-stamp-clause-none
 returns-else-stamp-clause-none g c = search rules
