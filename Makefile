@@ -1,10 +1,15 @@
 # What a person does with this repository. It needs the Rattle toolchain, whose command is `rt`.
 
-.PHONY: run list work try test hostile linux clean
+.PHONY: run build list work try test hostile linux clean
 
 # Answers the first script. The first time it proves and builds what the program stands on.
 run:
 	@cd crates/pidtab && rt run -- run < ../../examples/first.script
+
+# Proves and builds the program, and says where it is.
+build:
+	@cd crates/pidtab && rt run -- run < /dev/null
+	@echo crates/pidtab/out/pidtab
 
 # Shows the table that the first script leaves.
 list:
@@ -43,7 +48,7 @@ loads: built
 	@loads/loads.py measure '$(PIDTAB)' $(LOADS)
 
 clean:
-	rm -rf crates/*/out
+	rm -rf crates/*/out out
 	@$(MAKE) -s -C linux clean
 	@$(MAKE) -s -C hostile clean
 
@@ -77,3 +82,46 @@ uninstall:
 	rm -f '$(FOLDER)/bin/pidtab' $(PROGRAMS:%='$(FOLDER)/bin/%')
 	rm -f $(patsubst man/%,'$(FOLDER)/share/man/man1/%',$(wildcard man/*.1)) $(patsubst man/%,'$(FOLDER)/share/man/man5/%',$(wildcard man/*.5))
 	rm -rf '$(FOLDER)/share/pidtab'
+
+.PHONY: lib bindings-c
+
+# The library for C in out/, from the archive that the checker proves and builds; its parts are in bindings/c. What the tools say is in out/lib.log.
+LIBRARY = crates/pidtab_c/out/libpidtab_c.a
+OBJCOPY ?= objcopy
+CHECKED = -std=c11 -D_GNU_SOURCE -O1 -g -Wall -Wextra -Werror -fsanitize=address,undefined -fno-sanitize-recover=all
+
+lib:
+	@mkdir -p out
+	@{ (cd crates/pidtab_c && rt lib) && $(MAKE) -s out/libpidtab.a out/libpidtab.so.1; } > out/lib.log 2>&1 || { echo 'make lib failed: see out/lib.log' >&2; exit 1; }
+	@ln -sf libpidtab.so.1 out/libpidtab.so
+	@cp bindings/c/pidtab.h out
+	@sed 's|@PREFIX@|$(PREFIX)|' bindings/c/pidtab.pc.in > out/pidtab.pc
+
+# One object, of whose symbols only pidtab_.. are seen.
+out/pidtab.o: $(LIBRARY) bindings/c/heap.c
+	$(CC) -std=c11 -O2 -Wall -Wextra -Werror -fPIC -c -o out/heap.o bindings/c/heap.c
+	$(LD) -r -o $@ --whole-archive $(LIBRARY) --no-whole-archive out/heap.o
+	$(OBJCOPY) -w --keep-global-symbol='pidtab_*' $@
+
+out/libpidtab.a: out/pidtab.o
+	rm -f $@
+	$(AR) rcs $@ out/pidtab.o
+
+out/libpidtab.so.1: out/pidtab.o bindings/c/pidtab.map
+	$(CC) -shared -Wl,-soname,libpidtab.so.1 -Wl,--version-script=bindings/c/pidtab.map -Wl,-z,noexecstack -o $@ out/pidtab.o
+
+# The tests from C, under the sanitizers for addresses and undefined behaviour. They need the archive, which `make lib` builds.
+bindings-c:
+	@test -f $(LIBRARY) || { echo 'no archive $(LIBRARY): build it with `make lib`' >&2; exit 1; }
+	@mkdir -p out
+	@{ $(CC) $(CHECKED) -Dmalloc=test_malloc -Drealloc=test_realloc \
+		-c -o out/test_heap.o bindings/c/heap.c && \
+	$(CC) $(CHECKED) -pthread -o out/test bindings/c/test.c out/test_heap.o $(LIBRARY); } \
+		> out/bindings-c.log 2>&1 || { echo 'make bindings-c failed: see out/bindings-c.log' >&2; exit 1; }
+	@out/test
+
+.PHONY: bindings-rust
+
+# The tests of the crate for Rust, over the library that `make lib` builds. Where it or the compiler is missing, they are skipped.
+bindings-rust:
+	@if command -v cargo > /dev/null && test -f out/libpidtab.a; then cd bindings/rust && cargo test --offline --quiet; else echo skipped; fi

@@ -1,0 +1,277 @@
+/* pidtab.h - Linux process identifiers as one table, in this process.
+ *
+ * The functions of the library are proved. This header is not: it is written by hand to fit crates/pidtab_c, and
+ * bindings/c/test.c compares the two. Nobody checks that a caller keeps these rules:
+ *
+ * - A struct pidtab begins as PIDTAB_INIT, or as zeroes. While it is open it is never copied: a copy is a second owner,
+ *   and closing both frees twice. Its fields are not read or written.
+ * - One function at a time works on a table. Several threads may take turns under a lock; two tables share nothing.
+ * - No pointer is null, not even to 0 bytes, and no two of those passed overlap.
+ * - malloc, realloc and free are one allocator's. No function is called from a signal handler, nor in the forked child of a
+ *   process with threads.
+ */
+#ifndef PIDTAB_H
+#define PIDTAB_H
+
+#include <stdbool.h>
+#include <stddef.h>
+#include <stdint.h>
+
+#ifdef __cplusplus
+extern "C" {
+#endif
+
+/* A table, or none. */
+struct pidtab {
+	void *at;
+	bool is_open;
+};
+#define PIDTAB_INIT { 0, false }
+
+/* What a function answers: 0, or a number of Linux's errno. Any status but PIDTAB_DONE says that the table is as it was.
+ * A call that the table refuses, as ESRCH no-caller, is PIDTAB_DONE: its answer or reply says so. */
+enum pidtab_status {
+	PIDTAB_DONE = 0,
+	PIDTAB_CLOSED = 9,        /* EBADF: there is no open table */
+	PIDTAB_NO_MEMORY = 12,    /* ENOMEM */
+	PIDTAB_BUSY = 16,         /* EBUSY: the table is open already */
+	PIDTAB_OUT_OF_RANGE = 22, /* EINVAL: pid_max, or what a call takes */
+	PIDTAB_NO_ROOM = 34,      /* ERANGE: size says what is needed */
+	PIDTAB_EMPTY_LINE = 61,   /* ENODATA: a line of 0 bytes has no answer */
+	PIDTAB_BAD_LINE = 71,     /* EPROTO */
+	PIDTAB_SPENT = 75         /* EOVERFLOW: after 2^64 - 2 calls */
+};
+
+/* The number of this interface. */
+#define PIDTAB_VERSION 1
+uint32_t pidtab_version(void);
+
+/* Opens a table with process 1 alone; pid_max is 301 to 4194304. DONE, BUSY, OUT_OF_RANGE, NO_MEMORY. */
+uint32_t pidtab_open(struct pidtab *table, uint32_t pid_max);
+
+/* Frees the table. A table that is not open stays so. */
+void pidtab_close(struct pidtab *table);
+
+/* No answer is longer. */
+#define PIDTAB_LONGEST_ANSWER 362
+
+/* Makes the call on a line of the script language (docs/SCRIPT.md), which has no newline. The answer has size bytes, no newline
+ * and no zero byte behind it; its room is at least PIDTAB_LONGEST_ANSWER. DONE, CLOSED, EMPTY_LINE, BAD_LINE, NO_ROOM, SPENT, and
+ * NO_MEMORY for fork and mk alone. */
+uint32_t pidtab_line(struct pidtab *table, const uint8_t *line, size_t length, uint8_t *answer, size_t room, size_t *size);
+
+/* Writes the list of the table, as `pidtab list` does. DONE, CLOSED, NO_MEMORY, and NO_ROOM where it is longer than the room; then
+ * too size is its length. */
+uint32_t pidtab_list(struct pidtab *table, uint8_t *bytes, size_t room, size_t *size);
+
+/* A call as numbers. What an operation does not take is not looked at. */
+enum pidtab_operation {
+	PIDTAB_FORK,      /* caller; choice 1: into a new namespace */
+	PIDTAB_GETPID,    /* caller */
+	PIDTAB_NSPID,     /* caller, number */
+	PIDTAB_EXEC,      /* caller */
+	PIDTAB_EXIT,      /* caller, number: the status, 0 to 255 */
+	PIDTAB_WAIT,      /* caller, choice: enum pidtab_which, number */
+	PIDTAB_GETPPID,   /* caller */
+	PIDTAB_SETPGID,   /* caller, pid, pgid */
+	PIDTAB_SETSID,    /* caller */
+	PIDTAB_MK,        /* id: of the parent */
+	PIDTAB_RM,        /* id */
+	PIDTAB_LIMIT,     /* id; choice 1: number is the limit, 0: no limit */
+	PIDTAB_MOVE,      /* caller: who is moved, id */
+	PIDTAB_COUNT,     /* id */
+	PIDTAB_GETPGID,   /* caller, number */
+	PIDTAB_GETSID,    /* caller, number */
+	PIDTAB_NEXT,      /* caller, choice: enum pidtab_use, number */
+	PIDTAB_JOIN,      /* caller, number */
+	PIDTAB_SUBREAPER  /* caller; choice 1: on, 0: off */
+};
+
+enum pidtab_which { PIDTAB_ANY, PIDTAB_CHILD, PIDTAB_OWN_GROUP, PIDTAB_GROUP };
+
+enum pidtab_use { PIDTAB_TASKS, PIDTAB_GROUPS, PIDTAB_SESSIONS };
+
+struct pidtab_call {
+	uint32_t operation;
+	uint32_t caller; /* a root number; all other numbers of processes are the caller's own */
+	uint64_t id;
+	uint32_t number;
+	uint32_t choice;
+	int32_t pid;
+	int32_t pgid;
+};
+
+/* A reply as numbers. What a kind does not tell is 0. */
+enum pidtab_kind {
+	PIDTAB_FORKED,   /* first: the child's number to the caller, second: its root number */
+	PIDTAB_OK,
+	PIDTAB_NUMBER,   /* first */
+	PIDTAB_LEVELS,   /* count of levels */
+	PIDTAB_REAPED,   /* first: the child, second: its status, or PIDTAB_KILLED */
+	PIDTAB_NONE_YET,
+	PIDTAB_COUNTED,  /* first */
+	PIDTAB_CONTROL,  /* first: the id */
+	PIDTAB_END,
+	PIDTAB_REFUSED   /* error, refusal: 1 to 19, first: the id of what refused, if it has one */
+};
+
+#define PIDTAB_KILLED 256
+#define PIDTAB_LEVELS_MAX 33
+
+struct pidtab_reply {
+	uint32_t kind;
+	uint32_t error;
+	uint32_t refusal;
+	uint32_t count;
+	uint64_t first;
+	uint64_t second;
+	uint32_t levels[PIDTAB_LEVELS_MAX];
+};
+
+/* Makes a call. DONE, CLOSED, OUT_OF_RANGE, SPENT, and NO_MEMORY for FORK and MK alone. */
+uint32_t pidtab_call(struct pidtab *table, const struct pidtab_call *call, struct pidtab_reply *reply);
+
+/* Each call as a function: a number, or minus an errno, which is the status or that of the refusal. What tells no number
+ * is 0. pidtab_call tells a status from a refusal, and one refusal from another. */
+
+static inline int64_t pidtab_value(struct pidtab *table, const struct pidtab_call *call, struct pidtab_reply *reply)
+{
+	uint32_t status = pidtab_call(table, call, reply);
+	if (status != PIDTAB_DONE)
+		return -(int64_t)status;
+	if (reply->kind == PIDTAB_REFUSED)
+		return -(int64_t)reply->error;
+	return reply->kind == PIDTAB_LEVELS ? (int64_t)reply->count : (int64_t)reply->first;
+}
+
+static inline int64_t pidtab_ask(struct pidtab *table, uint32_t operation, uint32_t caller, uint64_t id, uint32_t number, uint32_t choice)
+{
+	struct pidtab_call call = { operation, caller, id, number, choice, 0, 0 };
+	struct pidtab_reply reply;
+	return pidtab_value(table, &call, &reply);
+}
+
+/* fork(2), or clone(2) with CLONE_NEWPID: the child's number to the caller; *root is its root number. root may be null. */
+static inline int64_t pidtab_fork(struct pidtab *table, uint32_t caller, bool new_space, uint32_t *root)
+{
+	struct pidtab_call call = { PIDTAB_FORK, caller, 0, 0, new_space, 0, 0 };
+	struct pidtab_reply reply;
+	int64_t child = pidtab_value(table, &call, &reply);
+	if (child > 0 && root)
+		*root = (uint32_t)reply.second;
+	return child;
+}
+
+static inline int64_t pidtab_getpid(struct pidtab *table, uint32_t caller)
+{
+	return pidtab_ask(table, PIDTAB_GETPID, caller, 0, 0, 0);
+}
+
+/* How many numbers the target has from the caller's namespace inwards; levels has them, outermost first. */
+static inline int64_t pidtab_nspid(struct pidtab *table, uint32_t caller, uint32_t target, uint32_t levels[PIDTAB_LEVELS_MAX])
+{
+	struct pidtab_call call = { PIDTAB_NSPID, caller, 0, target, 0, 0, 0 };
+	struct pidtab_reply reply;
+	int64_t count = pidtab_value(table, &call, &reply);
+	for (int64_t i = 0; i < count; i++)
+		levels[i] = reply.levels[i];
+	return count;
+}
+
+static inline int64_t pidtab_exec(struct pidtab *table, uint32_t caller)
+{
+	return pidtab_ask(table, PIDTAB_EXEC, caller, 0, 0, 0);
+}
+
+static inline int64_t pidtab_exit(struct pidtab *table, uint32_t caller, uint8_t status)
+{
+	return pidtab_ask(table, PIDTAB_EXIT, caller, 0, status, 0);
+}
+
+/* waitpid(2) with WNOHANG: the child that was reaped, or 0 where none of those that match has ended. *status is 0 to 255 or
+ * PIDTAB_KILLED, and may be null. number is looked at for PIDTAB_CHILD and PIDTAB_GROUP. */
+static inline int64_t pidtab_wait(struct pidtab *table, uint32_t caller, enum pidtab_which which, uint32_t number, uint32_t *status)
+{
+	struct pidtab_call call = { PIDTAB_WAIT, caller, 0, number, (uint32_t)which, 0, 0 };
+	struct pidtab_reply reply;
+	int64_t child = pidtab_value(table, &call, &reply);
+	if (child > 0 && status)
+		*status = (uint32_t)reply.second;
+	return child;
+}
+
+static inline int64_t pidtab_getppid(struct pidtab *table, uint32_t caller)
+{
+	return pidtab_ask(table, PIDTAB_GETPPID, caller, 0, 0, 0);
+}
+
+static inline int64_t pidtab_setpgid(struct pidtab *table, uint32_t caller, int32_t pid, int32_t pgid)
+{
+	struct pidtab_call call = { PIDTAB_SETPGID, caller, 0, 0, 0, pid, pgid };
+	struct pidtab_reply reply;
+	return pidtab_value(table, &call, &reply);
+}
+
+static inline int64_t pidtab_setsid(struct pidtab *table, uint32_t caller)
+{
+	return pidtab_ask(table, PIDTAB_SETSID, caller, 0, 0, 0);
+}
+
+/* The id of the new control group. */
+static inline int64_t pidtab_mk(struct pidtab *table, uint64_t parent)
+{
+	return pidtab_ask(table, PIDTAB_MK, 0, parent, 0, 0);
+}
+
+static inline int64_t pidtab_rm(struct pidtab *table, uint64_t id)
+{
+	return pidtab_ask(table, PIDTAB_RM, 0, id, 0, 0);
+}
+
+/* Where limited is false there is no limit from now on. */
+static inline int64_t pidtab_limit(struct pidtab *table, uint64_t id, bool limited, uint32_t limit)
+{
+	return pidtab_ask(table, PIDTAB_LIMIT, 0, id, limit, limited);
+}
+
+static inline int64_t pidtab_move(struct pidtab *table, uint32_t task, uint64_t id)
+{
+	return pidtab_ask(table, PIDTAB_MOVE, task, id, 0, 0);
+}
+
+static inline int64_t pidtab_count(struct pidtab *table, uint64_t id)
+{
+	return pidtab_ask(table, PIDTAB_COUNT, 0, id, 0, 0);
+}
+
+static inline int64_t pidtab_getpgid(struct pidtab *table, uint32_t caller, uint32_t pid)
+{
+	return pidtab_ask(table, PIDTAB_GETPGID, caller, 0, pid, 0);
+}
+
+static inline int64_t pidtab_getsid(struct pidtab *table, uint32_t caller, uint32_t pid)
+{
+	return pidtab_ask(table, PIDTAB_GETSID, caller, 0, pid, 0);
+}
+
+/* The least number at or above `from` that is in use so, or 0 where none follows. */
+static inline int64_t pidtab_next(struct pidtab *table, uint32_t caller, enum pidtab_use use, uint32_t from)
+{
+	return pidtab_ask(table, PIDTAB_NEXT, caller, 0, from, (uint32_t)use);
+}
+
+static inline int64_t pidtab_join(struct pidtab *table, uint32_t caller, uint32_t target)
+{
+	return pidtab_ask(table, PIDTAB_JOIN, caller, 0, target, 0);
+}
+
+static inline int64_t pidtab_subreaper(struct pidtab *table, uint32_t caller, bool on)
+{
+	return pidtab_ask(table, PIDTAB_SUBREAPER, caller, 0, 0, on);
+}
+
+#ifdef __cplusplus
+}
+#endif
+
+#endif

@@ -1,0 +1,233 @@
+/* Tests of the library from C: each function once, want of memory at each allocation in turn, and threads under a lock. */
+#include "pidtab.h"
+
+#include <errno.h>
+#include <pthread.h>
+#include <stdio.h>
+#include <stdlib.h>
+#include <string.h>
+
+/* The header against the archive, as far as a compiler can see it. */
+_Static_assert(sizeof(struct pidtab) == 16, "pidtab");
+_Static_assert(offsetof(struct pidtab, is_open) == 8, "is_open");
+_Static_assert(sizeof(struct pidtab_call) == 32, "pidtab_call");
+_Static_assert(offsetof(struct pidtab_call, id) == 8 && offsetof(struct pidtab_call, pgid) == 28, "pidtab_call");
+_Static_assert(sizeof(struct pidtab_reply) == 168, "pidtab_reply");
+_Static_assert(offsetof(struct pidtab_reply, first) == 16 && offsetof(struct pidtab_reply, levels) == 32, "pidtab_reply");
+_Static_assert(PIDTAB_CLOSED == EBADF && PIDTAB_NO_MEMORY == ENOMEM && PIDTAB_BUSY == EBUSY && PIDTAB_OUT_OF_RANGE == EINVAL, "status");
+_Static_assert(PIDTAB_NO_ROOM == ERANGE && PIDTAB_EMPTY_LINE == ENODATA && PIDTAB_BAD_LINE == EPROTO && PIDTAB_SPENT == EOVERFLOW, "status");
+_Static_assert(PIDTAB_SUBREAPER == 18 && PIDTAB_REFUSED == 9, "operations and kinds");
+
+#define CHECK(what) check((what), #what, __LINE__)
+
+static void check(bool holds, const char *what, int line)
+{
+	if (holds)
+		return;
+	fprintf(stderr, "test.c:%d: not so: %s\n", line, what);
+	exit(1);
+}
+
+/* The heap that heap.c is built with here: it refuses the allocation that the counter falls on. 0: none. */
+static int refuse_at;
+
+static bool refused(void)
+{
+	return refuse_at > 0 && --refuse_at == 0;
+}
+
+void *test_malloc(size_t size)
+{
+	return refused() ? NULL : malloc(size);
+}
+
+void *test_realloc(void *at, size_t size)
+{
+	return refused() ? NULL : realloc(at, size);
+}
+
+static uint32_t ask(struct pidtab *table, const char *line, char answer[PIDTAB_LONGEST_ANSWER + 1])
+{
+	size_t size = 0;
+	uint32_t status = pidtab_line(table, (const uint8_t *)line, strlen(line), (uint8_t *)answer, PIDTAB_LONGEST_ANSWER, &size);
+	answer[size] = 0;
+	return status;
+}
+
+static bool answers(struct pidtab *table, const char *line, const char *wanted)
+{
+	char answer[PIDTAB_LONGEST_ANSWER + 1];
+	return ask(table, line, answer) == PIDTAB_DONE && strcmp(answer, wanted) == 0;
+}
+
+/* The list, to be freed. */
+static char *listed(struct pidtab *table)
+{
+	size_t size = 0;
+	uint8_t none[1];
+	CHECK(pidtab_list(table, none, 0, &size) == PIDTAB_NO_ROOM);
+	char *text = malloc(size + 1);
+	CHECK(pidtab_list(table, (uint8_t *)text, size, &size) == PIDTAB_DONE);
+	text[size] = 0;
+	return text;
+}
+
+static void each_function(void)
+{
+	struct pidtab table = PIDTAB_INIT;
+	uint8_t room[PIDTAB_LONGEST_ANSWER];
+	char answer[PIDTAB_LONGEST_ANSWER + 1];
+	size_t size = 7;
+
+	CHECK(pidtab_version() == PIDTAB_VERSION);
+	CHECK(ask(&table, "getpid 1", answer) == PIDTAB_CLOSED);
+	CHECK(pidtab_list(&table, room, sizeof room, &size) == PIDTAB_CLOSED && size == 7);
+	CHECK(pidtab_getpid(&table, 1) == -PIDTAB_CLOSED);
+	CHECK(pidtab_open(&table, 300) == PIDTAB_OUT_OF_RANGE && pidtab_open(&table, 4194305) == PIDTAB_OUT_OF_RANGE);
+	CHECK(pidtab_open(&table, 32768) == PIDTAB_DONE && pidtab_open(&table, 32768) == PIDTAB_BUSY);
+
+	CHECK(answers(&table, "fork 1 new", "child 2 root 2"));
+	CHECK(answers(&table, "fork 2", "child 2 root 3"));
+	CHECK(answers(&table, "nspid 1 3", "3 2"));
+	CHECK(answers(&table, "getpid 9", "ESRCH no-caller"));
+	CHECK(ask(&table, "", answer) == PIDTAB_EMPTY_LINE);
+	CHECK(ask(&table, "getpid 1\n", answer) == PIDTAB_BAD_LINE && ask(&table, "getpid 01", answer) == PIDTAB_BAD_LINE);
+	CHECK(pidtab_line(&table, (const uint8_t *)"getpid 1", 8, room, sizeof room - 1, &size) == PIDTAB_NO_ROOM);
+	CHECK(size == PIDTAB_LONGEST_ANSWER);
+
+	char *text = listed(&table);
+	CHECK(strncmp(text, "task 1 space 0 parent 0 ", 24) == 0 && text[strlen(text) - 1] == '\n');
+	free(text);
+	pidtab_close(&table);
+	CHECK(table.at == NULL && !table.is_open);
+	pidtab_close(&table);
+	CHECK(ask(&table, "getpid 1", answer) == PIDTAB_CLOSED);
+}
+
+static void each_call(void)
+{
+	struct pidtab table = PIDTAB_INIT;
+	uint32_t root = 0, status = 0, levels[PIDTAB_LEVELS_MAX] = { 0 };
+
+	CHECK(pidtab_open(&table, 32768) == PIDTAB_DONE);
+	CHECK(pidtab_fork(&table, 1, true, &root) == 2 && root == 2);
+	CHECK(pidtab_fork(&table, 2, false, &root) == 2 && root == 3);
+	CHECK(pidtab_nspid(&table, 1, 3, levels) == 2 && levels[0] == 3 && levels[1] == 2);
+	CHECK(pidtab_getpid(&table, 3) == 2 && pidtab_getppid(&table, 3) == 1);
+	CHECK(pidtab_setpgid(&table, 3, 0, 0) == 0 && pidtab_getpgid(&table, 3, 0) == 2);
+	CHECK(pidtab_setpgid(&table, 3, 0, -1) == -EINVAL && pidtab_setsid(&table, 3) == -EPERM);
+	CHECK(pidtab_getsid(&table, 1, 0) == 1 && pidtab_exec(&table, 3) == 0);
+	CHECK(pidtab_next(&table, 1, PIDTAB_TASKS, 3) == 3 && pidtab_next(&table, 1, PIDTAB_TASKS, 4) == 0);
+	int64_t group = pidtab_mk(&table, 0);
+	CHECK(group > 0 && pidtab_move(&table, 3, (uint64_t)group) == 0 && pidtab_count(&table, (uint64_t)group) == 1);
+	CHECK(pidtab_limit(&table, (uint64_t)group, true, 1) == 0 && pidtab_fork(&table, 3, false, NULL) == -EAGAIN);
+	CHECK(pidtab_limit(&table, (uint64_t)group, false, 0) == 0 && pidtab_fork(&table, 3, false, NULL) == 3);
+	CHECK(pidtab_rm(&table, (uint64_t)group) == -EBUSY && pidtab_subreaper(&table, 1, true) == 0);
+	CHECK(pidtab_join(&table, 1, 2) == 0 && pidtab_wait(&table, 1, PIDTAB_ANY, 0, &status) == 0);
+	CHECK(pidtab_exit(&table, 2, 7) == 0 && pidtab_wait(&table, 1, PIDTAB_ANY, 0, &status) == 2 && status == 7);
+	CHECK(pidtab_count(&table, 0) == 1 && pidtab_wait(&table, 1, PIDTAB_CHILD, 5, NULL) == -ECHILD);
+
+	struct pidtab_call bad = { 19, 1, 0, 0, 0, 0, 0 };
+	struct pidtab_reply reply = { .kind = 77 };
+	CHECK(pidtab_call(&table, &bad, &reply) == PIDTAB_OUT_OF_RANGE && reply.kind == 77);
+	struct pidtab_call nobody = { PIDTAB_GETPID, 99, 0, 0, 0, 0, 0 };
+	CHECK(pidtab_call(&table, &nobody, &reply) == PIDTAB_DONE && reply.kind == PIDTAB_REFUSED && reply.error == ESRCH && reply.refusal == 1);
+	pidtab_close(&table);
+}
+
+/* Makes the call on the line with each of its allocations refused in turn; then it is made, and answered as on the twin. */
+static int refused_in_turn(struct pidtab *table, struct pidtab *twin, const char *line)
+{
+	char answer[PIDTAB_LONGEST_ANSWER + 1], wanted[PIDTAB_LONGEST_ANSWER + 1];
+	char *before = listed(table);
+	int at = 0;
+	uint32_t status;
+
+	do {
+		refuse_at = ++at;
+		status = ask(table, line, answer);
+		refuse_at = 0;
+		if (status == PIDTAB_NO_MEMORY) {
+			char *after = listed(table);
+			CHECK(strcmp(before, after) == 0);
+			free(after);
+		}
+	} while (status == PIDTAB_NO_MEMORY);
+	free(before);
+	CHECK(status == PIDTAB_DONE && ask(twin, line, wanted) == PIDTAB_DONE && strcmp(answer, wanted) == 0);
+	return at - 1;
+}
+
+static void want_of_memory(void)
+{
+	struct pidtab table = PIDTAB_INIT, twin = PIDTAB_INIT;
+	char line[64];
+	int refusals = 0, at = 0;
+	size_t size;
+
+	do
+		refuse_at = ++at;
+	while (pidtab_open(&table, 4194304) == PIDTAB_NO_MEMORY && !table.is_open);
+	refuse_at = 0;
+	CHECK(at > 1 && table.is_open && pidtab_open(&twin, 4194304) == PIDTAB_DONE);
+	for (unsigned i = 1; i <= 40; i++) {
+		snprintf(line, sizeof line, "fork %u%s", i > 20 ? 1 : i, i % 3 == 1 && i < 30 ? " new" : "");
+		refusals += refused_in_turn(&table, &twin, line);
+		snprintf(line, sizeof line, "mk 0");
+		refusals += refused_in_turn(&table, &twin, line);
+		snprintf(line, sizeof line, "setpgid %u 0 0", i + 1);
+		refusals += refused_in_turn(&table, &twin, line);
+	}
+	CHECK(refusals > 40);
+	CHECK(refused_in_turn(&table, &twin, "exit 2 0") == 0 && refused_in_turn(&table, &twin, "wait 1 any") == 0);
+	char *one = listed(&table), *other = listed(&twin);
+	CHECK(strcmp(one, other) == 0);
+	refuse_at = 1;
+	size = 7;
+	CHECK(pidtab_list(&table, (uint8_t *)one, strlen(one), &size) == PIDTAB_NO_MEMORY && size == 7 && strcmp(one, other) == 0);
+	refuse_at = 0;
+	free(one);
+	free(other);
+	pidtab_close(&table);
+	pidtab_close(&twin);
+}
+
+static struct pidtab shared = PIDTAB_INIT;
+static pthread_mutex_t lock = PTHREAD_MUTEX_INITIALIZER;
+static int given[2000];
+
+static void *forks(void *unused)
+{
+	for (int i = 0; i < 200; i++) {
+		pthread_mutex_lock(&lock);
+		int64_t child = pidtab_fork(&shared, 1, false, NULL);
+		CHECK(child > 1 && child < 2000);
+		given[child]++;
+		pthread_mutex_unlock(&lock);
+	}
+	return unused;
+}
+
+static void threads(void)
+{
+	pthread_t workers[8];
+
+	CHECK(pidtab_open(&shared, 32768) == PIDTAB_DONE);
+	for (int i = 0; i < 8; i++)
+		CHECK(pthread_create(&workers[i], NULL, forks, NULL) == 0);
+	for (int i = 0; i < 8; i++)
+		CHECK(pthread_join(workers[i], NULL) == 0);
+	for (int i = 2; i <= 1601; i++)
+		CHECK(given[i] == 1);
+	CHECK(pidtab_count(&shared, 0) == 1601);
+	pidtab_close(&shared);
+}
+
+int main(void)
+{
+	each_function();
+	each_call();
+	want_of_memory();
+	threads();
+	return 0;
+}

@@ -1,0 +1,4 @@
+pub mod Stamped
+pub mod Owned
+pub mod Listed
+pub mod Numbers
