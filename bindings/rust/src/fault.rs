@@ -1,0 +1,224 @@
+//! Why a call has no other answer.
+use crate::raw;
+use std::fmt;
+
+/// Why the table refuses a call. Nothing has changed then, but that the call is counted.
+#[derive(Clone, Copy, Debug, PartialEq, Eq, Hash)]
+pub enum Refusal {
+    /// No live task has the caller's root number.
+    NoCaller,
+    /// No such task, or the call is not allowed on it.
+    NoTask,
+    /// No child matches.
+    NoChild,
+    /// The namespace with the id has no free number.
+    NoNumber(u64),
+    /// The control group with the id has as many tasks as its limit allows.
+    PidsLimit(u64),
+    /// The namespace for the caller's children has fallen.
+    SpaceFallen,
+    /// A namespace below one of level 32, the deepest.
+    TooDeep,
+    /// A new namespace from a caller whose children go into another namespace.
+    Elsewhere,
+    /// A negative process group.
+    BadGroup,
+    /// A child that is in another session.
+    OtherSession,
+    /// A session leader, or a process group leader.
+    IsLeader,
+    /// No such process group in the caller's session.
+    NoGroup,
+    /// A child that has executed.
+    Executed,
+    /// The exit of the root namespace's init.
+    RootInit,
+    /// No control group has the id.
+    NoControl,
+    /// A control group with live tasks or children.
+    ControlBusy,
+    /// The root control group, which has no limit and stays.
+    RootControl,
+    /// A limit above 4194304.
+    BadLimit,
+    /// A control group below one of level 64, the deepest.
+    ControlDepth,
+}
+
+impl Refusal {
+    /// The refusal with the number, of whatever has the id.
+    pub(crate) fn of(number: u32, id: u64) -> Refusal {
+        match number {
+            1 => Refusal::NoCaller,
+            2 => Refusal::NoTask,
+            3 => Refusal::NoChild,
+            4 => Refusal::NoNumber(id),
+            5 => Refusal::PidsLimit(id),
+            6 => Refusal::SpaceFallen,
+            7 => Refusal::TooDeep,
+            8 => Refusal::Elsewhere,
+            9 => Refusal::BadGroup,
+            10 => Refusal::OtherSession,
+            11 => Refusal::IsLeader,
+            12 => Refusal::NoGroup,
+            13 => Refusal::Executed,
+            14 => Refusal::RootInit,
+            15 => Refusal::NoControl,
+            16 => Refusal::ControlBusy,
+            17 => Refusal::RootControl,
+            18 => Refusal::BadLimit,
+            19 => Refusal::ControlDepth,
+            _ => unreachable!("no refusal has the number {number}"),
+        }
+    }
+
+    /// Its number, 1 to 19, which stays the same from release to release.
+    pub fn number(self) -> u32 {
+        self.row().0
+    }
+
+    /// Its word in the answers of the script language, as `no-caller`.
+    pub fn name(self) -> &'static str {
+        self.row().1
+    }
+
+    /// The number and the word.
+    fn row(self) -> (u32, &'static str) {
+        match self {
+            Refusal::NoCaller => (1, "no-caller"),
+            Refusal::NoTask => (2, "no-task"),
+            Refusal::NoChild => (3, "no-child"),
+            Refusal::NoNumber(_) => (4, "no-number"),
+            Refusal::PidsLimit(_) => (5, "pids-limit"),
+            Refusal::SpaceFallen => (6, "space-fallen"),
+            Refusal::TooDeep => (7, "too-deep"),
+            Refusal::Elsewhere => (8, "elsewhere"),
+            Refusal::BadGroup => (9, "bad-group"),
+            Refusal::OtherSession => (10, "other-session"),
+            Refusal::IsLeader => (11, "is-leader"),
+            Refusal::NoGroup => (12, "no-group"),
+            Refusal::Executed => (13, "executed"),
+            Refusal::RootInit => (14, "root-init"),
+            Refusal::NoControl => (15, "no-control"),
+            Refusal::ControlBusy => (16, "control-busy"),
+            Refusal::RootControl => (17, "root-control"),
+            Refusal::BadLimit => (18, "bad-limit"),
+            Refusal::ControlDepth => (19, "control-depth"),
+        }
+    }
+}
+
+impl fmt::Display for Refusal {
+    fn fmt(&self, to: &mut fmt::Formatter<'_>) -> fmt::Result {
+        match self {
+            Refusal::NoNumber(id) | Refusal::PidsLimit(id) => write!(to, "{} {id}", self.name()),
+            _ => to.write_str(self.name()),
+        }
+    }
+}
+
+/// Why a call has no answer. The table is as it was.
+#[derive(Clone, Copy, Debug, PartialEq, Eq, Hash)]
+pub enum Error {
+    /// The table refuses the call.
+    Refused {
+        /// The error that the kernel would give, as a number of Linux's errno.
+        errno: i32,
+        /// Why.
+        refusal: Refusal,
+    },
+    /// There was no memory: for a table, a fork, a new control group or a list.
+    NoMemory,
+    /// The table has made 2^64 - 2 calls.
+    Spent,
+    /// `pid_max` is outside 301 to 4194304.
+    OutOfRange,
+}
+
+impl Error {
+    /// What a status says other than that it was done. No other status comes from a table that is open.
+    pub(crate) fn of(status: u32) -> Error {
+        match status {
+            raw::NO_MEMORY => Error::NoMemory,
+            raw::SPENT => Error::Spent,
+            raw::OUT_OF_RANGE => Error::OutOfRange,
+            _ => unreachable!("the library answers the status {status}"),
+        }
+    }
+}
+
+impl fmt::Display for Error {
+    fn fmt(&self, to: &mut fmt::Formatter<'_>) -> fmt::Result {
+        match self {
+            Error::Refused { errno, refusal } => write!(to, "{refusal} (errno {errno})"),
+            Error::NoMemory => to.write_str("no memory"),
+            Error::Spent => to.write_str("spent"),
+            Error::OutOfRange => to.write_str("pid_max is 301 to 4194304"),
+        }
+    }
+}
+
+impl std::error::Error for Error {}
+
+/// Why a line has no answer. The table is as it was.
+#[derive(Clone, Copy, Debug, PartialEq, Eq, Hash)]
+pub enum LineError {
+    /// The line has no bytes, and so no answer.
+    Empty,
+    /// It is no line of the script language.
+    Bad,
+    /// There was no memory for a `fork` or a `mk`.
+    NoMemory,
+    /// The table has made 2^64 - 2 calls.
+    Spent,
+}
+
+impl LineError {
+    /// What a status says other than that it was done.
+    pub(crate) fn of(status: u32) -> LineError {
+        match status {
+            raw::EMPTY_LINE => LineError::Empty,
+            raw::BAD_LINE => LineError::Bad,
+            raw::NO_MEMORY => LineError::NoMemory,
+            raw::SPENT => LineError::Spent,
+            _ => unreachable!("the library answers the status {status}"),
+        }
+    }
+}
+
+impl fmt::Display for LineError {
+    fn fmt(&self, to: &mut fmt::Formatter<'_>) -> fmt::Result {
+        to.write_str(match self {
+            LineError::Empty => "empty line",
+            LineError::Bad => "bad line",
+            LineError::NoMemory => "no memory",
+            LineError::Spent => "spent",
+        })
+    }
+}
+
+impl std::error::Error for LineError {}
+
+#[cfg(test)]
+mod tests {
+    use super::*;
+
+    #[test]
+    fn each_refusal_has_its_number() {
+        for number in 1..=19 {
+            assert_eq!(Refusal::of(number, 7).number(), number);
+        }
+        assert_eq!(Refusal::of(5, 7).to_string(), "pids-limit 7");
+    }
+
+    #[test]
+    fn each_status_has_its_error() {
+        assert_eq!(Error::of(12), Error::NoMemory);
+        assert_eq!(Error::of(75), Error::Spent);
+        assert_eq!(Error::of(22), Error::OutOfRange);
+        assert_eq!(LineError::of(61), LineError::Empty);
+        assert_eq!(LineError::of(71), LineError::Bad);
+        assert_eq!(LineError::of(12), LineError::NoMemory);
+        assert_eq!(LineError::of(75), LineError::Spent);
+    }
+}

@@ -1,0 +1,74 @@
+//! What the repository has in writing: the stored scripts with their answers, and the example of docs/LIBRARY.md.
+use pidtab::{LineError, Table};
+use std::path::{Path, PathBuf};
+use std::process::Command;
+use std::{env, fs};
+
+fn read(name: &str) -> String {
+    let path = Path::new(env!("CARGO_MANIFEST_DIR"))
+        .join("../..")
+        .join(name);
+    fs::read_to_string(&path).unwrap_or_else(|_| panic!("{}", path.display()))
+}
+
+/// What the table writes for the stored scripts; the head of each is `# NAME PID_MAX`, and perhaps `listed`.
+fn play(scripts: &str) -> String {
+    let mut told = String::new();
+    for script in scripts.split("# ").skip(1) {
+        let (head, lines) = script.split_once('\n').expect("a head");
+        let words: Vec<_> = head.split(' ').collect();
+        let mut table = Table::open(words[1].parse().expect("pid_max")).expect("a table");
+        told += &format!("# {head}\n");
+        for line in lines.lines() {
+            match table.line(line.as_bytes()) {
+                Ok(answer) => told += &format!("{answer}\n"),
+                Err(LineError::Empty) => {}
+                Err(fault) => told += &format!("{fault}\n"),
+            }
+        }
+        if words.len() > 2 {
+            told += &table.list().expect("a list");
+        }
+    }
+    told
+}
+
+#[test]
+fn the_stored_scripts() {
+    let told = play(&read("crates/worked_scripts/stdin"));
+    for (line, wanted) in told
+        .lines()
+        .zip(read("crates/worked_scripts/stdout").lines())
+    {
+        assert_eq!(line, wanted);
+    }
+    assert_eq!(told.len(), read("crates/worked_scripts/stdout").len());
+}
+
+/// The block of the kind in a section of docs/LIBRARY.md.
+fn block(title: &str, kind: &str) -> String {
+    let page = read("docs/LIBRARY.md");
+    let (_, section) = page.split_once(&format!("\n## {title}\n")).expect(title);
+    let (_, behind) = section.split_once(&format!("```{kind}\n")).expect(kind);
+    behind.split_once("```\n").expect("its end").0.to_owned()
+}
+
+/// The example, where cargo builds it beside the tests.
+fn example() -> PathBuf {
+    let test = env::current_exe().expect("this test");
+    let folder = test.ancestors().nth(2).expect("cargo's folder");
+    folder.join("examples/containers")
+}
+
+#[test]
+fn the_example_of_the_page() {
+    let code = read("bindings/rust/examples/containers.rs");
+    let (_, code) = code.split_once('\n').expect("a head");
+    assert_eq!(code, block("From Rust", "rust"));
+    let done = Command::new(example()).output().expect("the example");
+    let said = String::from_utf8(done.stdout).expect("text");
+    assert_eq!(
+        (done.status.success(), said),
+        (true, block("From Rust", "text"))
+    );
+}
