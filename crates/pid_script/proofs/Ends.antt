@@ -2,36 +2,40 @@
 use Rattle.std.proofs.Common.{◌≡◌, ℕ, ◌≤◌, List, [], ◌++◌, length, Option, Some, refl, sym, ap, ◌∙◌, subst, append-nil, inl, inr, ◌⊎◌}
 use Rattle.std.specs.Io.KnownBytes.{Appends, Consumes, IsAtEnd}
 use Rattle.pid_types.specs.State.{State}
+use Rattle.pid_types.specs.declared.call.Call.{Call}
+use Rattle.pid_types.specs.declared.reply.Reply.{Reply}
 use Rattle.pid_types.specs.Devices.{Event, heard, said}
 use Rattle.pid_script.specs.declared.line.Line.{Line}
 use Rattle.pid_script.specs.declared.tally.Tally.{Tally}
 use Rattle.pid_script.specs.Script.{begun, said_of, said_whole, said_within, kept_after, last_said}
-use Rattle.pid_script.specs.Session.{progress_of, Answers, StopsShort, Finishes, Halts, Breaks}
+use Rattle.pid_script.specs.Session.{progress_of, ended_at, Answers, StopsShort, Finishes, Halts, Breaks}
 use Rattle.pid_script.proofs.Said.{said_within-all, said_within-whole}
 use Rattle.pid_script.proofs.Within.{said_within-append, kept_after-append}
 
 module _ {state : State} {stamp : ℕ} {from to before after : Option (List ℕ)} where
   -- all lines were answered
-  pub finishes : (events : List Event) (state' : State) (stamp' : ℕ) (tally : Tally)
-      → Answers (begun state stamp) (progress_of state' stamp' tally []) (λ sent. said events ≡ sent) (said_of (heard events))
+  pub finishes : {AreMade : List (Call × Reply) → Type 0} (events : List Event) (state' : State) (stamp' : ℕ) (tally : Tally)
+      → Answers (begun state stamp) (progress_of state' stamp' tally []) (λ sent. said events ≡ sent) AreMade (said_of (heard events))
       → Consumes from to (heard events) → Appends before after (said events) → IsAtEnd to
-      → (text : List ℕ) × Finishes (begun state stamp) (progress_of state' stamp' tally text) from to before after
+      → (text : List ℕ) × (calls : List (Call × Reply)) × AreMade calls × Finishes (begun state stamp) (ended_at state' stamp' tally text calls) from to before after
   finishes events state' stamp' tally answers consumed appended at_end = (
     answers.sent,
+    answers.calls,
+    answers.made,
     record {
       read = heard events;
       script = answers.script;
       consumed = consumed;
       at_end = at_end;
       says = answers.says;
-      reached = ap (λ text. progress_of state' stamp' tally text) (sym (append-nil answers.sent)) ∙ answers.reached;
+      reached = (λ i. ended_at state' stamp' tally (sym (append-nil answers.sent) i) (sym (append-nil answers.calls) i)) ∙ answers.reached;
       written = subst (Appends before after) answers.appended appended;
     },
   )
 
   -- the lines that had ended were answered
-  pub halts : (least : ℕ) (events : List Event) (state' : State) (stamp' : ℕ) (tally : Tally) (held : List ℕ)
-      → Answers (begun state stamp) (progress_of state' stamp' tally held) (λ sent. said events ≡ sent) (said_within (Some []) (heard events)) → held ≡ []
+  pub halts : {AreMade : List (Call × Reply) → Type 0} (least : ℕ) (events : List Event) (state' : State) (stamp' : ℕ) (tally : Tally) (held : List ℕ)
+      → Answers (begun state stamp) (progress_of state' stamp' tally held) (λ sent. said events ≡ sent) AreMade (said_within (Some []) (heard events)) → held ≡ []
       → Consumes from to (heard events) → Appends before after (said events) → least ≤ length (heard events) → Halts least (begun state stamp) from to before after
   halts least events state' stamp' tally held answers empty consumed appended long = record {
     read = heard events;

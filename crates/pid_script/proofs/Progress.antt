@@ -12,35 +12,36 @@ use Rattle.pid_script.specs.declared.line.Line.TheVariants as says
 use Rattle.pid_script.specs.declared.tally.Tally.{Tally}
 use Rattle.pid_script.specs.Answers.{reply_text, fault_text, answer_of, replied}
 use Rattle.pid_script.specs.Script.{Progress, begun, with_newline, told, stepped, after_call, after_saying, after_line, after_script}
-use Rattle.pid_script.specs.Session.{Acts, Leads, progress_of, Answers, StopsShort}
+use Rattle.pid_script.specs.Session.{Acts, made_by, Leads, progress_of, Answers, StopsShort}
 use Rattle.pid_types.specs.Devices.{Event}
 use Rattle.pid_script.specs.Dialogue.{Sends, Stalls, Queues, Stops}
 use Rattle.pid_script.proofs.Numbers.{eqb-false_from}
 
 -- two ways are as far if each of their parts is
-same_progress : (s s' : State) (n n' : ℕ) (t t' : List ℕ) (l l' r r' b b' : ℕ) → s ≡ s' → n ≡ n' → t ≡ t' → l ≡ l' → r ≡ r' → b ≡ b'
-    → ◌≡◌ {A = Progress} (record { state = s; stamp = n; text = t; lines = l; recorded = r; bad = b }) (record { state = s'; stamp = n'; text = t'; lines = l'; recorded = r'; bad = b' })
-same_progress s s' n n' t t' l l' r r' b b' es en et el er eb =
-    λ i. record { state = es i; stamp = en i; text = et i; lines = el i; recorded = er i; bad = eb i }
+same_progress : (s s' : State) (n n' : ℕ) (t t' : List ℕ) (c c' : List (Call × Reply)) (l l' r r' b b' : ℕ) → s ≡ s' → n ≡ n' → t ≡ t' → c ≡ c' → l ≡ l' → r ≡ r' → b ≡ b'
+    → ◌≡◌ {A = Progress} (record { state = s; stamp = n; text = t; calls = c; lines = l; recorded = r; bad = b }) (record { state = s'; stamp = n'; text = t'; calls = c'; lines = l'; recorded = r'; bad = b' })
+same_progress s s' n n' t t' c c' l l' r r' b b' es en et ec el er eb =
+    λ i. record { state = es i; stamp = en i; text = et i; calls = ec i; lines = el i; recorded = er i; bad = eb i }
 
 -- what a call of a table makes of a script
 pub call_leads : (state : State) (stamp : ℕ) (tally : Tally) (call : Call) (made : Result Unit CallFault) (held : Option Reply) (state' : State) (stamp' : ℕ) (tally' : Tally)
     → Acts state stamp call (replied made held) state' stamp' → tally'.lines ≡ tally.lines + 1 → tally'.recorded ≡ cond (is_ok made) (tally.recorded + 1) tally.recorded → tally'.bad ≡ tally.bad
-    → Leads state stamp tally (says.Call call) (with_newline (answer_of (replied made held))) state' stamp' tally'
+    → Leads state stamp tally (says.Call call) (with_newline (answer_of (replied made held))) (made_by call (replied made held)) state' stamp' tally'
 unfolding after_call
 call_leads state stamp tally call (Ok done) reply state' stamp' tally' acts lines recorded bad = (
   false,
   λ held. (rw (eqb-false_from stamp (2 ^ 64 - 1) acts.0)
-      (same_progress _ _ _ _ _ _ _ _ _ _ _ _ (sym acts.2) (sym acts.3) (ap (λ reply. held ++ with_newline (reply_text reply)) (sym acts.1)) (sym lines) (sym recorded) (sym bad))),
+      (same_progress _ _ _ _ _ _ _ _ _ _ _ _ _ _ (sym acts.2) (sym acts.3) (ap (λ reply. held ++ with_newline (reply_text reply)) (sym acts.1))
+      (ap (λ reply. (call, reply) ∷ []) (sym acts.1)) (sym lines) (sym recorded) (sym bad))),
 )
 call_leads state stamp tally call (Err NoMemory) reply state' stamp' tally' acts lines recorded bad = (
   true,
-  λ held. (rw (eqb-false_from stamp (2 ^ 64 - 1) acts.0) (same_progress _ _ _ _ _ _ _ _ _ _ _ _ (sym acts.1) (sym acts.2) refl (sym lines) (sym recorded) (sym bad))),
+  λ held. (rw (eqb-false_from stamp (2 ^ 64 - 1) acts.0) (same_progress _ _ _ _ _ _ _ _ _ _ _ _ _ _ (sym acts.1) (sym acts.2) refl refl (sym lines) (sym recorded) (sym bad))),
 )
 call_leads state stamp tally call (Err Spent) reply state' stamp' tally' acts lines recorded bad = (
   false,
   λ held. (rw (eq-eqb stamp (2 ^ 64 - 1) acts.0)
-      (same_progress _ _ _ _ _ _ _ _ _ _ _ _ (sym acts.1) (sym acts.2) refl (sym lines) (sym recorded) (sym bad))),
+      (same_progress _ _ _ _ _ _ _ _ _ _ _ _ _ _ (sym acts.1) (sym acts.2) refl refl (sym lines) (sym recorded) (sym bad))),
 )
 
 -- a call that found no memory, after which room was made in vain
@@ -50,40 +51,53 @@ starved_acts state stamp call made held held' state' state'' stamp' stamp'' is s
     let found : Acts state stamp call (Err NoMemory) state' stamp' = subst (λ (m : Result Unit CallFault). Acts state stamp call (replied m held) state' stamp') is acts in
     subst (λ (m : Result Unit CallFault). Acts state stamp call (replied m held') state'' stamp'') (sym is) (found.0, same ∙ found.1, on ∙ found.2)
 
+-- and left the table as it was
+pub starved_same : (state : State) (stamp : ℕ) (call : Call) (made : Result Unit CallFault) (held : Option Reply) (state' : State) (stamp' : ℕ) → made ≡ Err NoMemory
+    → Acts state stamp call (replied made held) state' stamp' → (state' ≡ state) × (stamp' ≡ stamp)
+starved_same state stamp call made held state' stamp' is acts =
+    let found : Acts state stamp call (Err NoMemory) state' stamp' = subst (λ (m : Result Unit CallFault). Acts state stamp call (replied m held) state' stamp') is acts in
+    (found.1, found.2)
+
+-- and it made none
+pub starved_made : (call : Call) (made : Result Unit CallFault) (held : Option Reply) → made ≡ Err NoMemory → made_by call (replied made held) ≡ []
+starved_made call made held is = ap (λ (m : Result Unit CallFault). made_by call (replied m held)) is
+
 -- an empty line, and a bad one
 pub empty_leads : (state : State) (stamp : ℕ) (tally tally' : Tally) → tally'.lines ≡ tally.lines + 1 → tally'.recorded ≡ tally.recorded → tally'.bad ≡ tally.bad
-    → Leads state stamp tally says.Empty [] state stamp tally'
+    → Leads state stamp tally says.Empty [] [] state stamp tally'
 empty_leads state stamp tally tally' lines recorded bad = (
   false,
-  λ held. same_progress _ _ _ _ _ _ _ _ _ _ _ _ refl refl (sym (append-nil held)) (sym lines) (sym recorded) (sym bad),
+  λ held. same_progress _ _ _ _ _ _ _ _ _ _ _ _ _ _ refl refl (sym (append-nil held)) refl (sym lines) (sym recorded) (sym bad),
 )
 
 pub bad_leads : (state : State) (stamp : ℕ) (tally tally' : Tally) → tally'.lines ≡ tally.lines + 1 → tally'.recorded ≡ tally.recorded → tally'.bad ≡ tally.bad + 1
-    → Leads state stamp tally says.Bad (with_newline (codes "bad line")) state stamp tally'
+    → Leads state stamp tally says.Bad (with_newline (codes "bad line")) [] state stamp tally'
 bad_leads state stamp tally tally' lines recorded bad = (
   false,
-  λ held. same_progress _ _ _ _ _ _ _ _ _ _ _ _ refl refl refl (sym lines) (sym recorded) (sym bad),
+  λ held. same_progress _ _ _ _ _ _ _ _ _ _ _ _ _ _ refl refl refl refl (sym lines) (sym recorded) (sym bad),
 )
 
 -- a line whose answer was sent or waits
-pub answered : (state : State) (stamp : ℕ) (tally : Tally) (held : List ℕ) (line : Line) (text : List ℕ) (state' : State) (stamp' : ℕ) (tally' : Tally) (held' : List ℕ)
-    (did : List Event → Type 0) → Leads state stamp tally line text state' stamp' tally' → Queues did (held ++ text) held'
-    → Answers (progress_of state stamp tally held) (progress_of state' stamp' tally' held') (Sends did) (line ∷ [])
+pub answered : (state : State) (stamp : ℕ) (tally : Tally) (held : List ℕ) (line : Line) (text : List ℕ) (calls : List (Call × Reply)) (state' : State) (stamp' : ℕ) (tally' : Tally) (held' : List ℕ)
+    (did : List Event → Type 0) (AreMade : List (Call × Reply) → Type 0) → Leads state stamp tally line text calls state' stamp' tally' → Queues did (held ++ text) held' → AreMade calls
+    → Answers (progress_of state stamp tally held) (progress_of state' stamp' tally' held') (Sends did) AreMade (line ∷ [])
 unfolding after_script
-answered state stamp tally held line text state' stamp' tally' held' did leads queues = record {
+answered state stamp tally held line text calls state' stamp' tally' held' did AreMade leads queues made = record {
   sent = queues.0;
+  calls = calls;
   script = (line, leads.0) ∷ [];
   says = refl;
   appended = queues.1;
-  reached = ap (λ waiting. progress_of state' stamp' tally' waiting) (sym queues.2) ∙ sym (leads.1 held);
+  made = made;
+  reached = same_progress _ _ _ _ _ _ _ _ _ _ _ _ _ _ refl refl (sym queues.2) (append-nil calls) refl refl refl ∙ sym (leads.1 held);
 }
 
 -- a line whose answer could not be sent
-pub stopped : (state : State) (stamp : ℕ) (tally : Tally) (held : List ℕ) (line : Line) (text : List ℕ) (state' : State) (stamp' : ℕ) (tally' : Tally)
-    (did : List Event → Type 0) → Leads state stamp tally line text state' stamp' tally' → Stops did (held ++ text)
+pub stopped : (state : State) (stamp : ℕ) (tally : Tally) (held : List ℕ) (line : Line) (text : List ℕ) (calls : List (Call × Reply)) (state' : State) (stamp' : ℕ) (tally' : Tally)
+    (did : List Event → Type 0) → Leads state stamp tally line text calls state' stamp' tally' → Stops did (held ++ text)
     → StopsShort (progress_of state stamp tally held) (Stalls did) (line ∷ [])
 unfolding after_script
-stopped state stamp tally held line text state' stamp' tally' did leads stops = record {
+stopped state stamp tally held line text calls state' stamp' tally' did leads stops = record {
   sent = stops.0;
   left = stops.1;
   script = (line, leads.0) ∷ [];
@@ -93,63 +107,68 @@ stopped state stamp tally held line text state' stamp' tally' did leads stops = 
   some_left = stops.4;
 }
 
--- the same, with these answers in front
-abbrev fronted : List ℕ → Progress → Progress
-fronted front p = record p { text = front ++ p.text }
+-- the same, with these answers and these calls in front
+abbrev fronted : List ℕ → List (Call × Reply) → Progress → Progress
+fronted front calls p = record p { text = front ++ p.text; calls = calls ++ p.calls }
 
-told-fronted : (front : List ℕ) (p : Progress) (answer : List ℕ) → told (fronted front p) answer ≡ fronted front (told p answer)
-told-fronted front p answer =
-    same_progress _ _ _ _ _ _ _ _ _ _ _ _ refl refl (append_assoc front p.text (with_newline answer)) refl refl refl
+told-fronted : (front : List ℕ) (calls : List (Call × Reply)) (p : Progress) (answer : List ℕ) → told (fronted front calls p) answer ≡ fronted front calls (told p answer)
+told-fronted front calls p answer =
+    same_progress _ _ _ _ _ _ _ _ _ _ _ _ _ _ refl refl (append_assoc front p.text (with_newline answer)) refl refl refl refl
 
-after_call-fronted : (front : List ℕ) (p : Progress) (starved : Bool) (call : Call) → after_call (fronted front p) starved call ≡ fronted front (after_call p starved call)
+after_call-fronted : (front : List ℕ) (calls : List (Call × Reply)) (p : Progress) (starved : Bool) (call : Call)
+    → after_call (fronted front calls p) starved call ≡ fronted front calls (after_call p starved call)
 unfolding after_call
-after_call-fronted front p starved call = at (eqb p.stamp (2 ^ 64 - 1)) starved
+after_call-fronted front calls p starved call = at (eqb p.stamp (2 ^ 64 - 1)) starved
   where
-    at : (spent starved : Bool) → cond spent (told (fronted front p) (fault_text Spent)) (cond starved (told (fronted front p) (fault_text NoMemory)) (stepped (fronted front p) call))
-        ≡ fronted front (cond spent (told p (fault_text Spent)) (cond starved (told p (fault_text NoMemory)) (stepped p call)))
-    at true starved = told-fronted front p (fault_text Spent)
-    at false true = told-fronted front p (fault_text NoMemory)
-    at false false = same_progress _ _ _ _ _ _ _ _ _ _ _ _ refl refl (append_assoc front p.text _) refl refl refl
+    at : (spent starved : Bool) → cond spent (told (fronted front calls p) (fault_text Spent)) (cond starved (told (fronted front calls p) (fault_text NoMemory)) (stepped (fronted front calls p) call))
+        ≡ fronted front calls (cond spent (told p (fault_text Spent)) (cond starved (told p (fault_text NoMemory)) (stepped p call)))
+    at true starved = told-fronted front calls p (fault_text Spent)
+    at false true = told-fronted front calls p (fault_text NoMemory)
+    at false false = same_progress _ _ _ _ _ _ _ _ _ _ _ _ _ _ refl refl (append_assoc front p.text _) (append_assoc calls p.calls _) refl refl refl
 
-after_line-fronted : (front : List ℕ) (p : Progress) (line : Line) (starved : Bool) → after_saying (fronted front p) starved line ≡ fronted front (after_saying p starved line)
-after_line-fronted front p says.Empty starved = refl
-after_line-fronted front p (says.Call call) starved = after_call-fronted front p starved call
-after_line-fronted front p says.Bad starved =
-    same_progress _ _ _ _ _ _ _ _ _ _ _ _ refl refl (append_assoc front p.text (with_newline (codes "bad line"))) refl refl refl
+after_line-fronted : (front : List ℕ) (calls : List (Call × Reply)) (p : Progress) (line : Line) (starved : Bool)
+    → after_saying (fronted front calls p) starved line ≡ fronted front calls (after_saying p starved line)
+after_line-fronted front calls p says.Empty starved = refl
+after_line-fronted front calls p (says.Call call) starved = after_call-fronted front calls p starved call
+after_line-fronted front calls p says.Bad starved =
+    same_progress _ _ _ _ _ _ _ _ _ _ _ _ _ _ refl refl (append_assoc front p.text (with_newline (codes "bad line"))) refl refl refl refl
 
 -- what stands in front stays in front
-after_script-fronted : (front : List ℕ) (p : Progress) (script : List (Line × Bool)) → after_script (fronted front p) script ≡ fronted front (after_script p script)
+after_script-fronted : (front : List ℕ) (calls : List (Call × Reply)) (p : Progress) (script : List (Line × Bool)) → after_script (fronted front calls p) script ≡ fronted front calls (after_script p script)
 unfolding after_script
-after_script-fronted front p [] = refl
-after_script-fronted front p (l ∷ ls) =
-    ap (λ q. fold after_line q ls) (after_line-fronted front p l.0 l.1) ∙ after_script-fronted front (after_line p l) ls
+after_script-fronted front calls p [] = refl
+after_script-fronted front calls p (l ∷ ls) =
+    ap (λ q. fold after_line q ls) (after_line-fronted front calls p l.0 l.1) ∙ after_script-fronted front calls (after_line p l) ls
 
 after_script-append : (p : Progress) (xs ys : List (Line × Bool)) → after_script p (xs ++ ys) ≡ after_script (after_script p xs) ys
 unfolding after_script
 after_script-append p xs ys = fold-append after_line p xs ys
 
 -- no line leads nowhere
-pub Answers-nothing : (p : Progress) (IsSent : List ℕ → Type 0) → IsSent [] → Answers p p IsSent []
+pub Answers-nothing : (p : Progress) (IsSent : List ℕ → Type 0) (AreMade : List (Call × Reply) → Type 0) → IsSent [] → AreMade [] → Answers p p IsSent AreMade []
 unfolding after_script
-Answers-nothing p IsSent nothing = record { sent = []; script = []; says = refl; appended = nothing; reached = refl }
+Answers-nothing p IsSent AreMade nothing none = record { sent = []; calls = []; script = []; says = refl; appended = nothing; made = none; reached = refl }
 
 -- some lines, and then others
-pub Answers-more : {a b c : List ℕ → Type 0} → ((xs ys : List ℕ) → a xs → b ys → c (xs ++ ys)) → (p q r : Progress) (xs ys : List Line) → Answers p q a xs → Answers q r b ys → Answers p r c (xs ++ ys)
-Answers-more more p q r xs ys first second = record {
+pub Answers-more : {a b c : List ℕ → Type 0} {k l m : List (Call × Reply) → Type 0} → ((xs ys : List ℕ) → a xs → b ys → c (xs ++ ys)) → ((xs ys : List (Call × Reply)) → k xs → l ys → m (xs ++ ys))
+    → (p q r : Progress) (xs ys : List Line) → Answers p q a k xs → Answers q r b l ys → Answers p r c m (xs ++ ys)
+Answers-more more after p q r xs ys first second = record {
   sent = first.sent ++ second.sent;
+  calls = first.calls ++ second.calls;
   script = first.script ++ second.script;
   says = map-append (λ l. l.0) first.script second.script ∙ (λ i. first.says i ++ second.says i);
   appended = more first.sent second.sent first.appended second.appended;
+  made = after first.calls second.calls first.made second.made;
   reached =
-      same_progress _ _ _ _ _ _ _ _ _ _ _ _ refl refl (append_assoc first.sent second.sent r.text) refl refl refl
-      ∙ ap (fronted first.sent) second.reached
-      ∙ sym (after_script-fronted first.sent q second.script)
+      same_progress _ _ _ _ _ _ _ _ _ _ _ _ _ _ refl refl (append_assoc first.sent second.sent r.text) (append_assoc first.calls second.calls r.calls) refl refl refl
+      ∙ ap (fronted first.sent first.calls) second.reached
+      ∙ sym (after_script-fronted first.sent first.calls q second.script)
       ∙ ap (λ s. after_script s second.script) first.reached
       ∙ sym (after_script-append p first.script second.script);
 }
 
 -- some lines, and then others whose answers could not all be sent
-pub StopsShort-more : {a b c : List ℕ → Type 0} → ((xs ys : List ℕ) → a xs → b ys → c (xs ++ ys)) → (p q : Progress) (xs ys : List Line) → Answers p q a xs → StopsShort q b ys → StopsShort p c (xs ++ ys)
+pub StopsShort-more : {a b c : List ℕ → Type 0} {k : List (Call × Reply) → Type 0} → ((xs ys : List ℕ) → a xs → b ys → c (xs ++ ys)) → (p q : Progress) (xs ys : List Line) → Answers p q a k xs → StopsShort q b ys → StopsShort p c (xs ++ ys)
 StopsShort-more more p q xs ys first second = record {
   sent = first.sent ++ second.sent;
   left = second.left;
@@ -157,7 +176,7 @@ StopsShort-more more p q xs ys first second = record {
   says = map-append (λ l. l.0) first.script second.script ∙ (λ i. first.says i ++ second.says i);
   appended = more first.sent second.sent first.appended second.appended;
   short =
-      ap (λ s. s.text) (after_script-append p first.script second.script ∙ ap (λ s. after_script s second.script) (sym first.reached) ∙ after_script-fronted first.sent q second.script)
+      ap (λ s. s.text) (after_script-append p first.script second.script ∙ ap (λ s. after_script s second.script) (sym first.reached) ∙ after_script-fronted first.sent first.calls q second.script)
       ∙ ap (λ text. first.sent ++ text) second.short
       ∙ sym (append_assoc first.sent second.sent second.left);
   some_left = second.some_left;
@@ -176,8 +195,8 @@ said-with_memory (l ∷ ls) = ap (λ rest. l ∷ rest) (said-with_memory ls)
 text-grows : (p : Progress) (script : List (Line × Bool)) → (more : List ℕ) × ((after_script p script).text ≡ p.text ++ more)
 text-grows p script =
     let bare : Progress = record p { text = [] } in
-    let same : p ≡ fronted p.text bare = same_progress _ _ _ _ _ _ _ _ _ _ _ _ refl refl (sym (append-nil p.text)) refl refl refl in
-    ((after_script bare script).text, ap (λ q. (after_script q script).text) same ∙ ap (λ q. q.text) (after_script-fronted p.text bare script))
+    let same : p ≡ fronted p.text [] bare = same_progress _ _ _ _ _ _ _ _ _ _ _ _ _ _ refl refl (sym (append-nil p.text)) refl refl refl refl in
+    ((after_script bare script).text, ap (λ q. (after_script q script).text) same ∙ ap (λ q. q.text) (after_script-fronted p.text [] bare script))
 
 -- where sending stopped, it stopped before the answers to later lines
 pub StopsShort-later : (p : Progress) (IsSent : List ℕ → Type 0) (xs ys : List Line) → StopsShort p IsSent xs → StopsShort p IsSent (xs ++ ys)
@@ -195,21 +214,36 @@ StopsShort-later p IsSent xs ys stops =
     }
 
 -- the same lines
-pub Answers-same : (p q : Progress) (IsSent : List ℕ → Type 0) (xs ys : List Line) → xs ≡ ys → Answers p q IsSent xs → Answers p q IsSent ys
-Answers-same p q IsSent xs ys same answers = subst (Answers p q IsSent) same answers
+pub Answers-same : (p q : Progress) (IsSent : List ℕ → Type 0) (AreMade : List (Call × Reply) → Type 0) (xs ys : List Line) → xs ≡ ys → Answers p q IsSent AreMade xs → Answers p q IsSent AreMade ys
+Answers-same p q IsSent AreMade xs ys same answers = subst (Answers p q IsSent AreMade) same answers
 
 pub StopsShort-same : (p : Progress) (IsSent : List ℕ → Type 0) (xs ys : List Line) → xs ≡ ys → StopsShort p IsSent xs → StopsShort p IsSent ys
 StopsShort-same p IsSent xs ys same stops = subst (StopsShort p IsSent) same stops
 
+-- what leads on from where nothing has changed leads on from before that
+pub Answers-unchanged : {k m : List (Call × Reply) → Type 0} (state state' : State) (stamp stamp' : ℕ) (tally : Tally) (held : List ℕ) (q : Progress) (IsSent : List ℕ → Type 0) (lines : List Line) → state' ≡ state → stamp' ≡ stamp
+    → ((calls : List (Call × Reply)) → k calls → m calls) → Answers (progress_of state' stamp' tally held) q IsSent k lines → Answers (progress_of state stamp tally held) q IsSent m lines
+Answers-unchanged state state' stamp stamp' tally held q IsSent lines same on so answers = record {
+  sent = answers.sent;
+  calls = answers.calls;
+  script = answers.script;
+  says = answers.says;
+  appended = answers.appended;
+  made = so answers.calls answers.made;
+  reached = answers.reached ∙ (λ i. after_script (progress_of (same i) (on i) tally held) answers.script);
+}
+
 -- what waits is sent
-pub Answers-sent : (state : State) (stamp : ℕ) (tally : Tally) (held : List ℕ) (IsSent : List ℕ → Type 0) → IsSent held
-    → Answers (progress_of state stamp tally held) (progress_of state stamp tally []) IsSent []
+pub Answers-sent : (state : State) (stamp : ℕ) (tally : Tally) (held : List ℕ) (IsSent : List ℕ → Type 0) (AreMade : List (Call × Reply) → Type 0) → IsSent held → AreMade []
+    → Answers (progress_of state stamp tally held) (progress_of state stamp tally []) IsSent AreMade []
 unfolding after_script
-Answers-sent state stamp tally held IsSent appended = record {
+Answers-sent state stamp tally held IsSent AreMade appended none = record {
   sent = held;
+  calls = [];
   script = [];
   says = refl;
   appended = appended;
+  made = none;
   reached = ap (λ text. progress_of state stamp tally text) (append-nil held);
 }
 
@@ -228,16 +262,16 @@ StopsShort-sent state stamp tally held did stops = record {
 }
 
 -- a script that begins
-pub Answers-begun : (state : State) (stamp : ℕ) (tally : Tally) (held : List ℕ) (IsSent : List ℕ → Type 0) → IsSent [] → tally ≡ record { lines = 0; recorded = 0; bad = 0 } → held ≡ []
-    → Answers (begun state stamp) (progress_of state stamp tally held) IsSent []
-Answers-begun state stamp tally held IsSent nothing zero empty =
-    subst (λ q. Answers (begun state stamp) q IsSent [])
+pub Answers-begun : (state : State) (stamp : ℕ) (tally : Tally) (held : List ℕ) (IsSent : List ℕ → Type 0) (AreMade : List (Call × Reply) → Type 0) → IsSent [] → AreMade []
+    → tally ≡ record { lines = 0; recorded = 0; bad = 0 } → held ≡ [] → Answers (begun state stamp) (progress_of state stamp tally held) IsSent AreMade []
+Answers-begun state stamp tally held IsSent AreMade nothing none zero empty =
+    subst (λ q. Answers (begun state stamp) q IsSent AreMade [])
     ((λ i. progress_of state stamp (sym zero i) (sym empty i)))
-    (Answers-nothing (begun state stamp) IsSent nothing)
+    (Answers-nothing (begun state stamp) IsSent AreMade nothing none)
 
 -- what waited was sent, and nothing waits
-pub Answers-flushed : (state : State) (stamp : ℕ) (tally : Tally) (held held' : List ℕ) (IsSent : List ℕ → Type 0) → IsSent held → held' ≡ []
-    → Answers (progress_of state stamp tally held) (progress_of state stamp tally held') IsSent []
-Answers-flushed state stamp tally held held' IsSent sent empty =
-    subst (λ waits. Answers (progress_of state stamp tally held) (progress_of state stamp tally waits) IsSent []) (sym empty)
-    (Answers-sent state stamp tally held IsSent sent)
+pub Answers-flushed : (state : State) (stamp : ℕ) (tally : Tally) (held held' : List ℕ) (IsSent : List ℕ → Type 0) (AreMade : List (Call × Reply) → Type 0) → IsSent held → AreMade [] → held' ≡ []
+    → Answers (progress_of state stamp tally held) (progress_of state stamp tally held') IsSent AreMade []
+Answers-flushed state stamp tally held held' IsSent AreMade sent none empty =
+    subst (λ waits. Answers (progress_of state stamp tally held) (progress_of state stamp tally waits) IsSent AreMade []) (sym empty)
+    (Answers-sent state stamp tally held IsSent AreMade sent none)

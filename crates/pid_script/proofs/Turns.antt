@@ -5,6 +5,8 @@ use Rattle.std.proofs.lemmas.List.Folds.{list_any-append}
 use Rattle.std.proofs.lemmas.List.Concat.{flat_map-append}
 use Rattle.pid_types.specs.Devices.{Event, Reading, Writing, heard_by, heard, said_by, said, readings, IsWell, AreWell}
 use Rattle.pid_types.specs.DeviceLaws.{some_is_none, AreWell-more, readings-more, no_readings}
+use Rattle.pid_types.specs.declared.call.Call.{Call}
+use Rattle.pid_types.specs.declared.reply.Reply.{Reply}
 use Rattle.pid_script.specs.declared.line.Line.{Line}
 use Rattle.pid_script.specs.Script.{Progress, said_of, said_whole, said_within}
 use Rattle.pid_script.specs.Session.{Answers, StopsShort}
@@ -42,11 +44,11 @@ writes_follow start before (Writing offered taken ∷ es) well all none =
     (well, writes_follow start (before ++ Writing offered taken ∷ []) es (AreWell-more before (Writing offered taken ∷ []) well (all.0, tt)) all.1 none)
 
 -- events of which none is a fault or the end, and in which each read came once all before it was answered: so far a script goes on
-pub record GoesOn (start p : Progress) (lines : List Line) (events : List Event) : Type 0 where
+pub record GoesOn (start p : Progress) (AreMade : List (Call × Reply) → Type 0) (lines : List Line) (events : List Event) : Type 0 where
   pub each : Each (Follows start) [] events
   pub well : AreWell events
   pub endless : list_any is_end events ≡ false
-  pub answered : Answers start p (λ sent. said events ≡ sent) lines
+  pub answered : Answers start p (λ sent. said events ≡ sent) AreMade lines
 
 -- the lines that were read, where the end was not found, and where it was
 pub lines_going : (events : List Event) (bytes : List ℕ) → list_any is_end events ≡ false → heard events ≡ bytes → said_whole bytes ≡ lines_heard events
@@ -58,7 +60,7 @@ lines_ended events bytes ended is =
     ap said_of (sym is) ∙ ap (λ ended. if ended then said_of (heard events) else said_whole (heard events)) (sym ended)
 
 -- lines whose answers were all written are answered, where they are those that were read
-pub all_answered : (start p : Progress) (events : List Event) (lines : List Line) → Answers start p (λ sent. said events ≡ sent) lines → p.text ≡ [] → lines ≡ lines_heard events
+pub all_answered : {AreMade : List (Call × Reply) → Type 0} (start p : Progress) (events : List Event) (lines : List Line) → Answers start p (λ sent. said events ≡ sent) AreMade lines → p.text ≡ [] → lines ≡ lines_heard events
     → IsAnswered start events
 all_answered start p events lines answers empty are = record {
   script = answers.script;
@@ -114,7 +116,7 @@ goes_on asked [] some = absurd (omega (arith, some))
 goes_on asked (b ∷ bs) some = refl
 
 -- where a script goes on and nothing waits
-module _ {start p : Progress} {events : List Event} (on : GoesOn start p (said_within (Some []) (heard events)) events) (empty : p.text ≡ []) (asked : ℕ) (few : asked ≤ 4096) where
+module _ {start p : Progress} {AreMade : List (Call × Reply) → Type 0} {events : List Event} (on : GoesOn start p AreMade (said_within (Some []) (heard events)) events) (empty : p.text ≡ []) (asked : ℕ) (few : asked ≤ 4096) where
   -- all that was read is answered
   pub is_answered : IsAnswered start events
   is_answered = all_answered start p events (said_within (Some []) (heard events)) on.answered empty (said_within-whole (heard events) ∙ lines_going events (heard events) on.endless refl)
@@ -126,24 +128,25 @@ module _ {start p : Progress} {events : List Event} (on : GoesOn start p (said_w
   read_well : (piece : List ℕ) → AreWell (events ++ Reading asked (Some piece) ∷ [])
   read_well piece = AreWell-more events (Reading asked (Some piece) ∷ []) on.well (tt, tt)
 
-  module _ (piece : List ℕ) {did : List Event → Type 0} where
+  module _ (piece : List ℕ) {did : List Event → Type 0} {IsNext : List (Call × Reply) → Type 0} where
     -- the answers to the lines of what it gave
-    pub turn_answers : (q : Progress) (lines : List Line) → (more : Answers p q (Sends did) lines)
-        → Answers start q (λ sent. said (turn events asked (Some piece) more.appended.events) ≡ sent) (said_within (Some []) (heard events) ++ lines)
-    turn_answers q lines more =
-        Answers-more {a = λ sent. said events ≡ sent} {b = λ sent. said more.appended.events ≡ sent} {c = λ sent. said (turn events asked (Some piece) more.appended.events) ≡ sent}
-        (λ xs ys front back. turn_said events asked (Some piece) more.appended.events ∙ (λ i. front i ++ back i))
+    pub turn_answers : {IsAll : List (Call × Reply) → Type 0} → ((xs ys : List (Call × Reply)) → AreMade xs → IsNext ys → IsAll (xs ++ ys)) → (q : Progress) (lines : List Line) → (more : Answers p q (Sends did) IsNext lines)
+        → Answers start q (λ sent. said (turn events asked (Some piece) more.appended.events) ≡ sent) IsAll (said_within (Some []) (heard events) ++ lines)
+    turn_answers {IsAll = IsAll} after q lines more =
+        Answers-more {a = λ sent. said events ≡ sent} {b = λ sent. said more.appended.events ≡ sent} {c = λ sent. said (turn events asked (Some piece) more.appended.events) ≡ sent} {m = IsAll}
+        (λ xs ys front back. turn_said events asked (Some piece) more.appended.events ∙ (λ i. front i ++ back i)) after
         start p q (said_within (Some []) (heard events)) lines on.answered
-        (record { sent = more.sent; script = more.script; says = more.says; appended = more.appended.sent; reached = more.reached })
+        (record { sent = more.sent; calls = more.calls; script = more.script; says = more.says; appended = more.appended.sent; made = more.made; reached = more.reached })
 
-    pub turn_each : (q : Progress) (lines : List Line) → (more : Answers p q (Sends did) lines) → Each (Follows start) [] (turn events asked (Some piece) more.appended.events)
+    pub turn_each : (q : Progress) (lines : List Line) → (more : Answers p q (Sends did) IsNext lines) → Each (Follows start) [] (turn events asked (Some piece) more.appended.events)
     turn_each q lines more =
         let sends = more.appended in
         read_follows (Some piece) sends.events (writes_follow start (events ++ Reading asked (Some piece) ∷ []) sends.events (read_well piece) sends.well sends.writes)
 
-    pub turn_well : (q : Progress) (lines : List Line) → (more : Answers p q (Sends did) lines) → AreWell (turn events asked (Some piece) more.appended.events)
+    pub turn_well : (q : Progress) (lines : List Line) → (more : Answers p q (Sends did) IsNext lines) → AreWell (turn events asked (Some piece) more.appended.events)
     turn_well q lines more = AreWell-more events (Reading asked (Some piece) ∷ more.appended.events) on.well (tt, more.appended.well)
 
+  module _ (piece : List ℕ) {did : List Event → Type 0} where
     -- where a write took none
     abbrev pub stalled : {lines : List Line} → StopsShort p (Stalls did) lines → List Event
     stalled stops = stops.appended.events ++ Writing stops.appended.offered stops.appended.taken ∷ []
@@ -186,6 +189,6 @@ module _ {start p : Progress} {events : List Event} (on : GoesOn start p (said_w
         )
 
 -- what was sent one way was sent another way
-pub Answers-sent_so : {a b : List ℕ → Type 0} → ((sent : List ℕ) → a sent → b sent) → (p q : Progress) (lines : List Line) → Answers p q a lines → Answers p q b lines
+pub Answers-sent_so : {a b : List ℕ → Type 0} {k : List (Call × Reply) → Type 0} → ((sent : List ℕ) → a sent → b sent) → (p q : Progress) (lines : List Line) → Answers p q a k lines → Answers p q b k lines
 Answers-sent_so so p q lines answers =
-    record { sent = answers.sent; script = answers.script; says = answers.says; appended = so answers.sent answers.appended; reached = answers.reached }
+    record { sent = answers.sent; calls = answers.calls; script = answers.script; says = answers.says; appended = so answers.sent answers.appended; made = answers.made; reached = answers.reached }

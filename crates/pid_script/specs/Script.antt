@@ -3,6 +3,7 @@ use Rattle.std.specs.Prelude.{ℕ, ◌+◌, ◌-◌, ◌^◌, Bool, List, [], �
 use Rattle.std.specs.List.{onto_first}
 use Rattle.pid_types.specs.declared.call.Call.{Call}
 use Rattle.pid_types.specs.declared.reply.CallFault.TheVariants.{NoMemory, Spent}
+use Rattle.pid_types.specs.declared.reply.Reply.{Reply}
 use Rattle.pid_types.specs.Settings.{Settings}
 use Rattle.pid_types.specs.State.{State, root_state}
 use Rattle.pid_types.specs.Step.{step}
@@ -72,12 +73,13 @@ last_said (Some (b ∷ bs)) = parsed (b ∷ bs) ∷ []
 abbrev pub HasStopped : Bool → Bool → Type 0
 HasStopped failed full = IsTrue failed ⊎ IsTrue full
 
--- how far a script has come: the table's state and the stamp of its next call, the answers, each with its newline, and how many
--- lines there were, how many calls were recorded and how many lines were bad
+-- how far a script has come: the table's state and the stamp of its next call, the answers, each with its newline, the recorded calls
+-- with their replies, and how many lines there were, how many calls were recorded and how many lines were bad
 pub record Progress : Type 0 where
   pub state : State
   pub stamp : ℕ
   pub text : List ℕ
+  pub calls : List (Call × Reply)
   pub lines : ℕ
   pub recorded : ℕ
   pub bad : ℕ
@@ -88,6 +90,7 @@ begun state stamp = record {
   state = state;
   stamp = stamp;
   text = [];
+  calls = [];
   lines = 0;
   recorded = 0;
   bad = 0;
@@ -109,6 +112,7 @@ stepped p call =
       state = o.state;
       stamp = p.stamp + 1;
       text = p.text ++ with_newline (reply_text o.reply);
+      calls = p.calls ++ (call, o.reply) ∷ [];
       lines = p.lines + 1;
       recorded = p.recorded + 1;
     }

@@ -1,5 +1,5 @@
 -- What running a script does to a table, a source and a sink.
-use Rattle.std.specs.Prelude.{ℕ, ◌≡◌, ◌≢◌, ◌+◌, ◌-◌, ◌^◌, ◌<◌, ◌≤◌, Bool, List, ◌++◌, length, map, Option, Result, Ok, Err, IsTrue, ◌⊎◌}
+use Rattle.std.specs.Prelude.{ℕ, ◌≡◌, ◌≢◌, ◌+◌, ◌-◌, ◌^◌, ◌<◌, ◌≤◌, Bool, List, [], ◌∷◌, ◌++◌, length, map, Option, Result, Ok, Err, IsTrue, ◌⊎◌}
 use Rattle.std.specs.Io.KnownBytes.{Appends, Consumes, IsAtEnd}
 use Rattle.pid_types.specs.declared.call.Call.{Call}
 use Rattle.pid_types.specs.declared.reply.CallFault.{CallFault}
@@ -21,30 +21,42 @@ Acts state stamp call (Ok reply) state' stamp' =
 Acts state stamp call (Err NoMemory) state' stamp' = (stamp ≢ 2 ^ 64 - 1) × (state' ≡ state) × (stamp' ≡ stamp)
 Acts state stamp call (Err Spent) state' stamp' = (stamp ≡ 2 ^ 64 - 1) × (state' ≡ state) × (stamp' ≡ stamp)
 
--- how far a script has come, with the answers that are not sent yet
-abbrev pub progress_of : State → ℕ → Tally → List ℕ → Progress
-progress_of state stamp tally held = record {
+-- what a call of a table adds to those that it has made: itself with its reply, or nothing
+abbrev pub made_by : Call → Result Reply CallFault → List (Call × Reply)
+made_by call (Ok reply) = (call, reply) ∷ []
+made_by call (Err fault) = []
+
+-- how far a script has come, with all its answers and all its calls
+abbrev pub ended_at : State → ℕ → Tally → List ℕ → List (Call × Reply) → Progress
+ended_at state stamp tally text calls = record {
   state = state;
   stamp = stamp;
-  text = held;
+  text = text;
+  calls = calls;
   lines = tally.lines;
   recorded = tally.recorded;
   bad = tally.bad;
 }
 
--- whatever answers wait, the line leads from here to there, and this text waits behind them
-abbrev pub Leads : State → ℕ → Tally → Line → List ℕ → State → ℕ → Tally → Type 0
-Leads state stamp tally line text state' stamp' tally' =
-    (starved : Bool)
-    × ((held : List ℕ) → after_saying (progress_of state stamp tally held) starved line ≡ progress_of state' stamp' tally' (held ++ text))
+-- how far a script has come from here on, with the answers that are not sent yet
+abbrev pub progress_of : State → ℕ → Tally → List ℕ → Progress
+progress_of state stamp tally held = ended_at state stamp tally held []
 
--- the lines took the script from p to q, and what left the outbox of their answers was sent so
-pub record Answers (p q : Progress) (IsSent : List ℕ → Type 0) (lines : List Line) : Type 0 where
+-- whatever answers wait, the line leads from here to there by these calls, and this text waits behind them
+abbrev pub Leads : State → ℕ → Tally → Line → List ℕ → List (Call × Reply) → State → ℕ → Tally → Type 0
+Leads state stamp tally line text calls state' stamp' tally' =
+    (starved : Bool)
+    × ((held : List ℕ) → after_saying (progress_of state stamp tally held) starved line ≡ ended_at state' stamp' tally' (held ++ text) calls)
+
+-- the lines took the script from p to q, what left the outbox of their answers was sent so, and their calls were made so
+pub record Answers (p q : Progress) (IsSent : List ℕ → Type 0) (AreMade : List (Call × Reply) → Type 0) (lines : List Line) : Type 0 where
   pub sent : List ℕ
+  pub calls : List (Call × Reply)
   pub script : List (Line × Bool)
   pub says : map (λ l. l.0) script ≡ lines
   pub appended : IsSent sent
-  pub reached : record q { text = sent ++ q.text } ≡ after_script p script
+  pub made : AreMade calls
+  pub reached : record q { text = sent ++ q.text; calls = calls ++ q.calls } ≡ after_script p script
 
 -- what was sent so of the answers to the lines is not all of them
 pub record StopsShort (p : Progress) (IsSent : List ℕ → Type 0) (lines : List Line) : Type 0 where

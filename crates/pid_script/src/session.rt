@@ -5,12 +5,13 @@ ghost use Rattle.std.specs.Prelude.{◌≡◌, ◌≢◌, Some, ◌+◌, ◌^◌
 ghost use Rattle.std.specs.Result.{is_ok};
 ghost use Rattle.pid_types.specs.Devices.{DidBoth};
 ghost use Rattle.pid_types.specs.State.{State};
+ghost use Rattle.pid_types.specs.declared.call.Call.{Call};
 ghost use Rattle.pid_types.specs.declared.reply.Reply.{Reply};
 ghost use Rattle.pid_script.specs.declared.tally.RunScriptFault.TheVariants.{NoMemory, Write};
 ghost use Rattle.pid_script.specs.Script.{begun, with_newline, HasStopped, said_within, kept_after, last_said};
 ghost use Rattle.pid_script.specs.Answers.{answer_of, lent, replied};
 ghost use Rattle.pid_script.specs.Dialogue.{Converses, Queues, Sends, Stalls, Stops};
-ghost use Rattle.pid_script.specs.Session.{Acts, Leads, progress_of, Answers, StopsShort, IsTallied, Finishes, Leaves};
+ghost use Rattle.pid_script.specs.Session.{Acts, made_by, ended_at, progress_of, Answers, StopsShort, IsTallied, Finishes, Leaves};
 
 use crate::bytes::split_at_first;
 use crate::line::Line;
@@ -32,11 +33,14 @@ pub trait Table {
     ghost stamp: { Self → ℕ };
     // The reply that it holds, if any: that to the last call that was made.
     ghost held: { Self → Option Reply };
+    // The calls that it made between two moments, with their replies.
+    ghost did: { Self → Self → List (Call × Reply) → Type 0 };
 
     /// Makes the call, and holds the reply. After a fault the table is as it was.
     fn act(&mut self, call: Call) -> Result<(), CallFault>
         ensures acts { Acts (state self.old) (stamp self.old) call (replied result (held self.new)) (state self.new) (stamp self.new) }
-        ensures held { OnOk result (IsSome (held self.new)) };
+        ensures held { OnOk result (IsSome (held self.new)) }
+        ensures did { did self.old self.new (made_by call (replied result (held self.new))) };
 
     /// Lends the reply that it holds. It costs nothing.
     fn reply(&self) -> Option<&Reply>
@@ -46,7 +50,12 @@ pub trait Table {
     /// once more. The table stays as it is.
     fn make_room(&mut self) -> bool
         ensures state { state self.new ≡ state self.old }
-        ensures stamp { stamp self.new ≡ stamp self.old };
+        ensures stamp { stamp self.new ≡ stamp self.old }
+        ensures did { did self.old self.new [] };
+
+    ghost nothing: { (a : Self) → did a a [] };
+
+    ghost more: { (a b c : Self) (xs ys : List (Call × Reply)) → did a b xs → did b c ys → did a c (xs ++ ys) };
 }
 
 /// A script on its way: the line that has not ended, the answers that are not written, and the
@@ -121,7 +130,7 @@ fn answer_once<T: Table, K: Sink>(
     requires room { session.old.tally.lines + 1 < 2 ^ 64 }
     ensures ok { OnOk result (Answers (progress_of (T.state table.old) (T.stamp table.old) session.old.tally session.old.outbox)
         (progress_of (T.state table.new) (T.stamp table.new) session.new.tally session.new.outbox)
-        (Sends (K.did sink.old sink.new)) (Line.Call call ∷ [])) }
+        (Sends (K.did sink.old sink.new)) (T.did table.old table.new) (Line.Call call ∷ [])) }
     ensures err { OnErr result (StopsShort (progress_of (T.state table.old) (T.stamp table.old) session.old.tally session.old.outbox)
         (Stalls (K.did sink.old sink.new)) (Line.Call call ∷ [])) }
     ensures fault { IfErr result (λ e. e ≡ Write) }
@@ -153,7 +162,7 @@ fn answer_call<T: Table, K: Sink>(
     requires room { session.old.tally.lines + 1 < 2 ^ 64 }
     ensures ok { OnOk result (Answers (progress_of (T.state table.old) (T.stamp table.old) session.old.tally session.old.outbox)
         (progress_of (T.state table.new) (T.stamp table.new) session.new.tally session.new.outbox)
-        (Sends (K.did sink.old sink.new)) (Line.Call call ∷ [])) }
+        (Sends (K.did sink.old sink.new)) (T.did table.old table.new) (Line.Call call ∷ [])) }
     ensures err { OnErr result (StopsShort (progress_of (T.state table.old) (T.stamp table.old) session.old.tally session.old.outbox)
         (Stalls (K.did sink.old sink.new)) (Line.Call call ∷ [])) }
     ensures fault { IfErr result (λ e. e ≡ Write) }
@@ -184,7 +193,7 @@ fn answer_line<T: Table, K: Sink>(
     requires room { session.old.tally.lines + 1 < 2 ^ 64 }
     ensures ok { OnOk result (Answers (progress_of (T.state table.old) (T.stamp table.old) session.old.tally session.old.outbox)
         (progress_of (T.state table.new) (T.stamp table.new) session.new.tally session.new.outbox)
-        (Sends (K.did sink.old sink.new)) (line ∷ [])) }
+        (Sends (K.did sink.old sink.new)) (T.did table.old table.new) (line ∷ [])) }
     ensures err { OnErr result (StopsShort (progress_of (T.state table.old) (T.stamp table.old) session.old.tally session.old.outbox)
         (Stalls (K.did sink.old sink.new)) (line ∷ [])) }
     ensures fault { IfErr result (λ e. e ≡ Write) }
@@ -218,7 +227,7 @@ fn answer_chunk<T: Table, K: Sink>(
     requires room { session.old.tally.lines + length chunk.now < 2 ^ 64 }
     ensures ok { OnOk result (Answers (progress_of (T.state table.old) (T.stamp table.old) session.old.tally session.old.outbox)
         (progress_of (T.state table.new) (T.stamp table.new) session.new.tally session.new.outbox)
-        (Sends (K.did sink.old sink.new)) (said_within session.old.part chunk.now)) }
+        (Sends (K.did sink.old sink.new)) (T.did table.old table.new) (said_within session.old.part chunk.now)) }
     ensures part { OnOk result (session.new.part ≡ kept_after session.old.part chunk.now) }
     ensures err { OnErr result (StopsShort (progress_of (T.state table.old) (T.stamp table.old) session.old.tally session.old.outbox)
         (Stalls (K.did sink.old sink.new)) (said_within session.old.part chunk.now)) }
@@ -247,7 +256,7 @@ fn answer_last<T: Table, K: Sink>(
     requires room { session.old.tally.lines + 1 < 2 ^ 64 }
     ensures ok { OnOk result (Answers (progress_of (T.state table.old) (T.stamp table.old) session.old.tally session.old.outbox)
         (progress_of (T.state table.new) (T.stamp table.new) session.new.tally session.new.outbox)
-        (Sends (K.did sink.old sink.new)) (last_said session.old.part)) }
+        (Sends (K.did sink.old sink.new)) (T.did table.old table.new) (last_said session.old.part)) }
     ensures err { OnErr result (StopsShort (progress_of (T.state table.old) (T.stamp table.old) session.old.tally session.old.outbox)
         (Stalls (K.did sink.old sink.new)) (last_said session.old.part)) }
     ensures fault { IfErr result (λ e. e ≡ Write) }
@@ -270,7 +279,7 @@ fn finish<T: Table, K: Sink>(
     requires room { session.old.tally.lines + 1 < 2 ^ 64 }
     ensures ok { OnOk result (Answers (progress_of (T.state table.old) (T.stamp table.old) session.old.tally session.old.outbox)
         (progress_of (T.state table.new) (T.stamp table.new) session.new.tally [])
-        (Sends (K.did sink.old sink.new)) (last_said session.old.part)) }
+        (Sends (K.did sink.old sink.new)) (T.did table.old table.new) (last_said session.old.part)) }
     ensures err { OnErr result (StopsShort (progress_of (T.state table.old) (T.stamp table.old) session.old.tally session.old.outbox)
         (Stalls (K.did sink.old sink.new)) (last_said session.old.part)) }
     ensures fault { IfErr result (λ e. e ≡ Write) }
@@ -319,8 +328,8 @@ pub fn run_dialogue<T: Table, D: Dialogue>(
     devices: &mut D,
     turns: u32,
 ) -> Result<Tally, RunScriptFault>
-    ensures ok { IfOk result (λ tally. (text : List ℕ) × Finishes (begun (T.state table.old) (T.stamp table.old))
-        (progress_of (T.state table.new) (T.stamp table.new) tally text)
+    ensures ok { IfOk result (λ tally. (text : List ℕ) × (calls : List (Call × Reply)) × T.did table.old table.new calls × Finishes (begun (T.state table.old) (T.stamp table.old))
+        (ended_at (T.state table.new) (T.stamp table.new) tally text calls)
         (D.remaining devices.old) (D.remaining devices.new) (D.contents devices.old) (D.contents devices.new)) }
     ensures err { IfErr result (Leaves turns (begun (T.state table.old) (T.stamp table.old))
         (D.remaining devices.old) (D.remaining devices.new) (D.contents devices.old) (D.contents devices.new) (D.Source.has_failed devices.new)) }
@@ -355,8 +364,8 @@ pub fn run_script<T: Table, S: Source, K: Sink>(
     sink: &mut K,
     turns: u32,
 ) -> Result<Tally, RunScriptFault>
-    ensures ok { IfOk result (λ tally. (text : List ℕ) × Finishes (begun (T.state table.old) (T.stamp table.old))
-        (progress_of (T.state table.new) (T.stamp table.new) tally text)
+    ensures ok { IfOk result (λ tally. (text : List ℕ) × (calls : List (Call × Reply)) × T.did table.old table.new calls × Finishes (begun (T.state table.old) (T.stamp table.old))
+        (ended_at (T.state table.new) (T.stamp table.new) tally text calls)
         (S.remaining source.old) (S.remaining source.new) (K.contents sink.old) (K.contents sink.new)) }
     ensures err { IfErr result (Leaves turns (begun (T.state table.old) (T.stamp table.old))
         (S.remaining source.old) (S.remaining source.new) (K.contents sink.old) (K.contents sink.new) (S.has_failed source.new)) }

@@ -25,6 +25,9 @@ impl<L: Ledger> OneSeat<L> {
         requires parts { (blank.parts ≡ L.parts) × (L.parts ≡ 1) }
         ensures present { IfOk result (λ t. t.record.present ≡ root_state config.now.pid_max) }
         ensures stamp { IfOk result (λ t. next_stamp t.record ≡ config.now.first_stamp) }
+        ensures config { IfOk result (λ t. t.record.config ≡ config.now) }
+        ensures whole { IfOk result (λ t. t.record.first_kept ≡ 0) }
+        ensures entries { IfOk result (λ t. t.record.entries ≡ []) }
     {
         let (record, seats) = Record::<L, 1>::new(alloc, blank, config)?;
         let mut seats = seats;
@@ -36,13 +39,22 @@ impl<L: Ledger> OneSeat<L> {
 }
 
 impl<L: Ledger> Table for OneSeat<L> {
+    ghost use Rattle.std.specs.Prelude.{◌++◌};
     ghost use Rattle.locked_table.specs.Chronicle.{next_stamp, last_reply};
+    ghost use Rattle.pid_workers.specs.Made.{Makes};
+    ghost use Rattle.pid_workers.specs.MadeLaws.{makes_nothing, makes_more};
 
     ghost state = { λ t. t.record.present };
 
     ghost stamp = { λ t. next_stamp t.record };
 
     ghost held = { λ t. last_reply t.record };
+
+    ghost did = { λ a b calls. Makes a.record b.record calls };
+
+    ghost nothing = { λ a. makes_nothing a.record };
+
+    ghost more = { λ a b c xs ys. makes_more a.record b.record c.record xs ys };
 
     #[inline(always)]
     fn act(&mut self, call: Call) -> Result<(), CallFault> {

@@ -2,11 +2,14 @@
 ghost use Rattle.std.specs.Prelude.{◌≡◌, ℕ, List, IfOk, IfErr, OnOk, Err};
 ghost use Rattle.locked_table.specs.Chronicle.{next_stamp};
 ghost use Rattle.pid_types.specs.State.{State};
+ghost use Rattle.pid_types.specs.declared.call.Call.{Call};
+ghost use Rattle.pid_types.specs.declared.reply.Reply.{Reply};
+ghost use Rattle.pid_workers.specs.Made.{calls_of};
 ghost use Rattle.pid_script.specs.Script.{start_of, HasStopped};
 ghost use Rattle.pid_script.specs.declared.tally.RunScriptFault.TheVariants.{Write};
 ghost use Rattle.pid_types.specs.Devices.{DidBoth};
 ghost use Rattle.pid_script.specs.Dialogue.{Converses};
-ghost use Rattle.pid_script.specs.Session.{progress_of, Finishes, Leaves};
+ghost use Rattle.pid_script.specs.Session.{ended_at, Finishes, Leaves};
 
 use crate::one_seat::OneSeat;
 use crate::short_seat::ShortSeat;
@@ -33,8 +36,10 @@ fn run_table<L: Ledger, S: Source, K: Sink>(
     requires name { blank.name ≡ L.name }
     requires parts { (blank.parts ≡ L.parts) × (L.parts ≡ 1) }
     ensures ok { IfOk result (λ r. (text : List ℕ) × Finishes (start_of config.now)
-        (progress_of r.1.record.present (next_stamp r.1.record) r.0 text)
+        (ended_at r.1.record.present (next_stamp r.1.record) r.0 text (calls_of r.1.record))
         (S.remaining source.old) (S.remaining source.new) (K.contents sink.old) (K.contents sink.new)) }
+    ensures config { IfOk result (λ r. r.1.record.config ≡ config.now) }
+    ensures history { IfOk result (λ r. r.1.record.first_kept ≡ 0) }
     ensures err { IfErr result (Leaves turns (start_of config.now)
         (S.remaining source.old) (S.remaining source.new) (K.contents sink.old) (K.contents sink.new) (S.has_failed source.new)) }
     ensures talk { Converses turns (start_of config.now) (DidBoth (S.did source.old source.new) (K.did sink.old sink.new)) result }
@@ -68,8 +73,8 @@ pub fn run_limited<L: Ledger, S: Source, K: Sink>(
 ) -> Result<Tally, RunScriptFault>
     requires name { blank.name ≡ L.name }
     requires parts { (blank.parts ≡ L.parts) × (L.parts ≡ 1) }
-    ensures ok { IfOk result (λ tally. (present : State) × (stamp : ℕ) × (text : List ℕ) × Finishes (start_of config.now)
-        (progress_of present stamp tally text)
+    ensures ok { IfOk result (λ tally. (present : State) × (stamp : ℕ) × (text : List ℕ) × (calls : List (Call × Reply)) × Finishes (start_of config.now)
+        (ended_at present stamp tally text calls)
         (S.remaining source.old) (S.remaining source.new) (K.contents sink.old) (K.contents sink.new)) }
     ensures err { IfErr result (Leaves turns (start_of config.now)
         (S.remaining source.old) (S.remaining source.new) (K.contents sink.old) (K.contents sink.new) (S.has_failed source.new)) }
@@ -94,8 +99,8 @@ pub fn run<L: Ledger, S: Source, K: Sink>(
 ) -> Result<Tally, RunScriptFault>
     requires name { blank.name ≡ L.name }
     requires parts { (blank.parts ≡ L.parts) × (L.parts ≡ 1) }
-    ensures ok { IfOk result (λ tally. (present : State) × (stamp : ℕ) × (text : List ℕ) × Finishes (start_of config.now)
-        (progress_of present stamp tally text)
+    ensures ok { IfOk result (λ tally. (present : State) × (stamp : ℕ) × (text : List ℕ) × (calls : List (Call × Reply)) × Finishes (start_of config.now)
+        (ended_at present stamp tally text calls)
         (S.remaining source.old) (S.remaining source.new) (K.contents sink.old) (K.contents sink.new)) }
     ensures err { IfErr result (Leaves MOST_READS (start_of config.now)
         (S.remaining source.old) (S.remaining source.new) (K.contents sink.old) (K.contents sink.new) (S.has_failed source.new)) }
@@ -107,7 +112,7 @@ pub fn run<L: Ledger, S: Source, K: Sink>(
 }
 
 /// Runs a script on a new table, as [`run`] does, and hands back the record that the lines leave, with
-/// the whole history: an entry of 184 bytes for each call.
+/// the whole history: the calls of the script that were recorded, in their order, each with its reply. An entry takes 184 bytes.
 pub fn run_state<L: Ledger, S: Source, K: Sink>(
     alloc: Global,
     blank: Blank,
@@ -118,8 +123,10 @@ pub fn run_state<L: Ledger, S: Source, K: Sink>(
     requires name { blank.name ≡ L.name }
     requires parts { (blank.parts ≡ L.parts) × (L.parts ≡ 1) }
     ensures ok { IfOk result (λ r. (text : List ℕ) × Finishes (start_of config.now)
-        (progress_of r.1.present (next_stamp r.1) r.0 text)
+        (ended_at r.1.present (next_stamp r.1) r.0 text (calls_of r.1))
         (S.remaining source.old) (S.remaining source.new) (K.contents sink.old) (K.contents sink.new)) }
+    ensures config { IfOk result (λ r. r.1.config ≡ config.now) }
+    ensures history { IfOk result (λ r. r.1.first_kept ≡ 0) }
     ensures err { IfErr result (Leaves MOST_READS (start_of config.now)
         (S.remaining source.old) (S.remaining source.new) (K.contents sink.old) (K.contents sink.new) (S.has_failed source.new)) }
     ensures talk { Converses MOST_READS (start_of config.now) (DidBoth (S.did source.old source.new) (K.did sink.old sink.new)) result }

@@ -58,6 +58,7 @@ fn is_long<L: Ledger>(table: &Record<L, 1>) -> bool {
 }
 
 impl<L: Ledger> Table for ShortSeat<L> {
+    ghost use Rattle.std.specs.Prelude.{⊤};
     ghost use Rattle.locked_table.specs.Chronicle.{next_stamp, last_reply};
 
     ghost state = { λ t. t.inner.record.present };
@@ -65,6 +66,13 @@ impl<L: Ledger> Table for ShortSeat<L> {
     ghost stamp = { λ t. next_stamp t.inner.record };
 
     ghost held = { λ t. last_reply t.inner.record };
+
+    // What is cut away is not told.
+    ghost did = { λ _ _ _. ⊤ };
+
+    ghost nothing = { λ _. tt };
+
+    ghost more = { λ _ _ _ _ _ _ _. tt };
 
     #[inline(always)]
     fn act(&mut self, call: Call) -> Result<(), CallFault> {

@@ -24,6 +24,12 @@ impl Table for Starved {
 
     ghost held = { λ _. None };
 
+    ghost did = { λ _ _ _. ⊤ };
+
+    ghost nothing = { λ _. tt };
+
+    ghost more = { λ _ _ _ _ _ _ _. tt };
+
     fn act(&mut self, _call: Call) -> Result<(), CallFault> {
         Err(CallFault::NoMemory)
     }

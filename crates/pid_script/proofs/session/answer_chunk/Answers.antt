@@ -8,7 +8,7 @@ use Rattle.pid_script.proofs.session.answer_chunk.Goals as goal
 pub loop-end-init : goal.loop-end-init
 loop-end-init g c = record {
   lines = [];
-  answered = Answers-nothing _ _ (Sends-nothing _ (g.met.K.Sink.nothing _));
+  answered = Answers-nothing _ _ _ (Sends-nothing _ (g.met.K.Sink.nothing _)) (g.met.T.Table.nothing _);
   said = refl;
   kept = refl;
   counted = c.requires.counted;
@@ -29,7 +29,7 @@ loop-end-preserved g c =
     let next = c.in_ok-answer_line.ensures.part ∙ c.finish-line.ensures.next in
     record {
       lines = before.lines ++ line ∷ [];
-      answered = Answers-more (Sends-more (g.met.K.Sink.more _ _ _)) _ _ _ before.lines (line ∷ []) before.answered c.in_ok-answer_line.ensures.ok;
+      answered = Answers-more (Sends-more (g.met.K.Sink.more _ _ _)) (g.met.T.Table.more _ _ _) _ _ _ before.lines (line ∷ []) before.answered c.in_ok-answer_line.ensures.ok;
       said = said_more before.lines line c.loop-end.session.part _ c.loop-end.rest.now after c.in-Some.end.now _ c.finish-line.ensures.value next end before.said;
       kept = ap (λ kept. kept_after kept after) next ∙ sym end.left ∙ before.kept;
       counted = c.in_ok-answer_line.ensures.counted;
@@ -51,7 +51,7 @@ pub returns-clause-ok : goal.returns-clause-ok
 returns-clause-ok g c =
     let before = c.loop-end.invariant in
     let none = no_end c.loop-end.session.part c.loop-end.rest.now (sym c.in_default.ensures) in
-    Answers-same _ _ _ before.lines _
+    Answers-same _ _ _ _ before.lines _
     (sym (append-nil before.lines) ∙ ap (λ lines. before.lines ++ lines) (sym none.0) ∙ before.said) before.answered
 
 pub returns-clause-part : goal.returns-clause-part

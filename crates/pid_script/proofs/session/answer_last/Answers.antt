@@ -9,13 +9,13 @@ use Rattle.pid_script.proofs.session.answer_last.Goals.{After-answer_line}
 
 pub returns-then-is_empty-clause-ok : goal.returns-then-is_empty-clause-ok
 returns-then-is_empty-clause-ok g c =
-    Answers-same _ _ _ [] (last_said c.args.session.now.part) (ap last_said (sym (c.is_empty.ensures.0 c.if-is_empty.true))) (Answers-nothing _ _ (Sends-nothing _ (g.met.K.Sink.nothing c.args.sink.now)))
+    Answers-same _ _ _ _ [] (last_said c.args.session.now.part) (ap last_said (sym (c.is_empty.ensures.0 c.if-is_empty.true))) (Answers-nothing _ _ _ (Sends-nothing _ (g.met.K.Sink.nothing c.args.sink.now)) (g.met.T.Table.nothing c.args.table.now))
 
 pub returns-clause-ok : goal.returns-clause-ok
 returns-clause-ok g c =
     let part = c.args.session.now.part in
     let is = ap (λ l. l ∷ []) c.finish_kept-line.ensures.value ∙ last_line part (λ none. false≢true (sym c.if-is_empty.false ∙ c.is_empty.ensures.1 none)) in
-    OnOk-weaker _ _ c.answer_line.result _ _ (λ answered. Answers-same _ _ _ _ (last_said part) is answered) c.answer_line.ensures.ok
+    OnOk-weaker _ _ c.answer_line.result _ _ (λ answered. Answers-same _ _ _ _ _ (last_said part) is answered) c.answer_line.ensures.ok
 
 pub returns-clause-err : goal.returns-clause-err
 returns-clause-err g c =

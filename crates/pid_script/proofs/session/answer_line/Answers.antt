@@ -8,8 +8,9 @@ use Rattle.pid_script.proofs.session.answer_line.Goals as goal
 pub returns-in-Empty-clause-ok : goal.returns-in-Empty-clause-ok
 returns-in-Empty-clause-ok g c =
     let before = c.args.session.now in
-    rw c.in-Empty.is (answered _ _ before.tally before.outbox says.Empty [] _ _ _ before.outbox _
-    (empty_leads _ _ before.tally _ refl refl refl) ([], Sends-nothing _ (g.met.K.Sink.nothing c.args.sink.now), append-nil before.outbox))
+    rw c.in-Empty.is (answered _ _ before.tally before.outbox says.Empty [] [] _ _ _ before.outbox _
+    (g.T.Table.did c.args.table.now c.args.table.now) (empty_leads _ _ before.tally _ refl refl refl) ([], Sends-nothing _ (g.met.K.Sink.nothing c.args.sink.now), append-nil before.outbox)
+    (g.met.T.Table.nothing c.args.table.now))
 
 pub returns-in-Call-clause-ok : goal.returns-in-Call-clause-ok
 returns-in-Call-clause-ok g c = rw c.in-Call.is c.answer_call.ensures.ok
@@ -21,12 +22,12 @@ pub returns-in-Bad-clause-ok : goal.returns-in-Bad-clause-ok
 returns-in-Bad-clause-ok g c =
     let before = c.args.session.now in
     rw c.in-Bad.is (OnOk-weaker _ _ c.push_line.result _ _ (λ pushed.
-    answered _ _ before.tally before.outbox says.Bad (with_newline (codes "bad line")) _ _ _ c.push_line.new.self _
-    (bad_leads _ _ before.tally _ refl refl refl) pushed) c.push_line.ensures.ok)
+    answered _ _ before.tally before.outbox says.Bad (with_newline (codes "bad line")) [] _ _ _ c.push_line.new.self _
+    (g.T.Table.did c.args.table.now c.args.table.now) (bad_leads _ _ before.tally _ refl refl refl) pushed (g.met.T.Table.nothing c.args.table.now)) c.push_line.ensures.ok)
 
 pub returns-in-Bad-clause-err : goal.returns-in-Bad-clause-err
 returns-in-Bad-clause-err g c =
     let before = c.args.session.now in
     rw c.in-Bad.is (OnErr-weaker _ _ c.push_line.result _ _ (λ stops.
-    stopped _ _ before.tally before.outbox says.Bad (with_newline (codes "bad line")) _ _ _ _
+    stopped _ _ before.tally before.outbox says.Bad (with_newline (codes "bad line")) [] _ _ _ _
     (bad_leads _ _ before.tally _ refl refl refl) stops) c.push_line.ensures.err)

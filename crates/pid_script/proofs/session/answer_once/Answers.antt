@@ -15,8 +15,8 @@ returns-clause-ok g c =
     let after = c.tell_answer.new.session in
     let leads = call_leads _ _ before.tally c.args.call c.act-made.result held (g.T.Table.state table) (g.T.Table.stamp table) after.tally c.act-made.ensures.acts told.lines told.recorded told.bad in
     OnOk-weaker _ _ c.tell_answer.result _ _ (λ pushed.
-    answered _ _ before.tally before.outbox (says.Call c.args.call) (with_newline (answer_of answer)) _ _ after.tally after.outbox _
-    leads pushed) told.ok
+    answered _ _ before.tally before.outbox (says.Call c.args.call) (with_newline (answer_of answer)) _ _ _ after.tally after.outbox _
+    (g.T.Table.did c.args.table.now table) leads pushed c.act-made.ensures.did) told.ok
 
 pub returns-clause-err : goal.returns-clause-err
 returns-clause-err g c =
@@ -28,5 +28,5 @@ returns-clause-err g c =
     let after = c.tell_answer.new.session in
     let leads = call_leads _ _ before.tally c.args.call c.act-made.result held (g.T.Table.state table) (g.T.Table.stamp table) after.tally c.act-made.ensures.acts told.lines told.recorded told.bad in
     OnErr-weaker _ _ c.tell_answer.result _ _ (λ stops.
-    stopped _ _ before.tally before.outbox (says.Call c.args.call) (with_newline (answer_of answer)) _ _ after.tally _
+    stopped _ _ before.tally before.outbox (says.Call c.args.call) (with_newline (answer_of answer)) _ _ _ after.tally _
     leads stops) told.err

@@ -7,8 +7,9 @@ use Rattle.pid_script.proofs.session.finish.Goals as goal
 pub returns-clause-ok : goal.returns-clause-ok
 returns-clause-ok g c =
     OnOk-weaker _ _ c.flush.result _ _ (λ sent.
-    Answers-same _ _ _ _ _ (append-nil (last_said c.args.session.now.part))
-    (Answers-more (Sends-more (g.met.K.Sink.more _ _ _)) _ _ _ (last_said c.args.session.now.part) [] c.in_ok-answer_last.ensures.ok (Answers-sent _ _ _ _ _ sent))) c.flush.ensures.ok
+    Answers-same _ _ _ _ _ _ (append-nil (last_said c.args.session.now.part))
+    (Answers-more (Sends-more (g.met.K.Sink.more _ _ _)) (g.met.T.Table.more _ _ _) _ _ _ (last_said c.args.session.now.part) [] c.in_ok-answer_last.ensures.ok
+    (Answers-sent _ _ _ _ _ (g.T.Table.did c.answer_last.new.table c.answer_last.new.table) sent (g.met.T.Table.nothing _)))) c.flush.ensures.ok
 
 pub returns-clause-err : goal.returns-clause-err
 returns-clause-err g c =

@@ -25,7 +25,7 @@ loop-turn-init g c =
         each = tt;
         well = tt;
         endless = refl;
-        answered = Answers-begun _ _ c.new-session.result.tally c.new-session.result.outbox _ refl c.new-session.ensures.tally c.new-session.ensures.outbox;
+        answered = Answers-begun _ _ c.new-session.result.tally c.new-session.result.outbox _ _ refl (g.met.T.Table.nothing _) c.new-session.ensures.tally c.new-session.ensures.outbox;
       };
       part = c.new-session.ensures.part;
       empty = c.new-session.ensures.outbox;
@@ -46,7 +46,7 @@ returns-in-Err-clause-err g c =
     let same : heard all ≡ heard before.events = turn_heard before.events asked None [] refl ∙ append-nil (heard before.events) in
     let answered = Answers-sent_so {b = λ sent. said all ≡ sent} (λ sent is. turn_said before.events asked None [] ∙ append-nil (said before.events) ∙ is) _ _ _ before.on.answered in (
       halts 0 all _ _ c.loop-turn.session.tally c.loop-turn.session.outbox
-          (Answers-same _ _ _ _ _ (ap (said_within (Some [])) (sym same)) answered) before.empty
+          (Answers-same _ _ _ _ _ _ (ap (said_within (Some [])) (sym same)) answered) before.empty
           (g.met.D.Source.consumed _ _ all done) (g.met.D.Sink.appended _ _ all ((g.met.D.Dialogue.one _ _ all).0 done)) (omega arith),
       c.in-Err.ensures.fails,
     )
@@ -98,8 +98,8 @@ returns-then-count-eq0-clause-ok g c =
     turn_heard before.events asked (Some piece) es more.appended.writes ∙ ap (λ rest. heard before.events ++ rest) nothing ∙ append-nil (heard before.events) in
     let at_end = c.in-Ok.ensures.bytes.1 c.if-count-eq0.true (omega (arith, before.size)) in
     finishes all _ _ c.finish.new.session.tally
-    (Answers-same _ _ _ _ _ (last_of (heard before.events) part before.part ∙ ap said_of (sym same))
-    (turn_answers before.on before.empty asked (omega (arith, before.size)) piece _ (last_said part) more))
+    (Answers-same _ _ _ _ _ _ (last_of (heard before.events) part before.part ∙ ap said_of (sym same))
+    (turn_answers before.on before.empty asked (omega (arith, before.size)) piece (g.met.T.Table.more _ _ _) _ (last_said part) more))
     (g.met.D.Source.consumed _ _ all done) (g.met.D.Sink.appended _ _ all ((g.met.D.Dialogue.one _ _ all).0 done))
     (subst IsAtEnd (sym (g.met.D.Dialogue.apart _ _ es more.appended.done more.appended.writes)) at_end)
 
@@ -126,7 +126,7 @@ returns-then-count-eq0-clause-talk g c =
       ended = (
         turn_well before.on before.empty asked few piece _ (last_said part) more,
         ended,
-        all_answered _ _ all _ (turn_answers before.on before.empty asked few piece _ (last_said part) more) refl
+        all_answered {AreMade = g.T.Table.did c.args.table.now c.finish.new.table} _ _ all _ (turn_answers before.on before.empty asked few piece (g.met.T.Table.more _ _ _) _ (last_said part) more) refl
             (last_of (heard before.events) part before.part ∙ lines_ended all (heard before.events) ended same),
       );
     }
@@ -289,8 +289,10 @@ loop-turn-preserved g c =
     let len = length-append (heard before.events) piece in
     let piece_len = length-take-le c.in-Ok.count c.read.new.buffer within in
     let did = g.D.Sink.did c.read.new.self c.flush.new.sink in
-    let more = Answers-same _ _ (Sends did) _ _ (append-nil lines)
-    (Answers-more {c = Sends did} (Sends-more {all = did} (g.met.D.Sink.more _ _ _)) _ _ _ lines [] chunk.ok (Answers-flushed _ _ _ _ _ _ sent.ok sent.empty)) in
+    let made = g.T.Table.did c.loop-turn.table c.answer_chunk.new.table in
+    let more = Answers-same _ _ (Sends did) made _ _ (append-nil lines)
+    (Answers-more {c = Sends did} {m = made} (Sends-more {all = did} (g.met.D.Sink.more _ _ _)) (g.met.T.Table.more _ _ _) _ _ _ lines [] chunk.ok
+    (Answers-flushed _ _ _ _ _ _ (g.T.Table.did c.answer_chunk.new.table c.answer_chunk.new.table) sent.ok (g.met.T.Table.nothing _) sent.empty)) in
     let es = more.appended.events in
     let writes = more.appended.writes in
     let all = turn before.events asked (Some piece) es in
@@ -305,8 +307,8 @@ loop-turn-preserved g c =
         each = turn_each before.on before.empty asked few piece _ lines more;
         well = turn_well before.on before.empty asked few piece _ lines more;
         endless = turn_end before.events asked (Some piece) es writes before.on.endless ∙ goes_on asked piece some;
-        answered = Answers-same _ _ _ _ _ (more_said (heard before.events) piece part before.part ∙ ap (said_within (Some [])) (sym same))
-            (turn_answers before.on before.empty asked few piece _ lines more);
+        answered = Answers-same _ _ _ _ _ _ (more_said (heard before.events) piece part before.part ∙ ap (said_within (Some [])) (sym same))
+            (turn_answers before.on before.empty asked few piece (g.met.T.Table.more _ _ _) _ lines more);
       };
       part = more_kept (heard before.events) piece part _ before.part chunk.part ∙ ap (kept_after (Some [])) (sym same);
       empty = sent.empty;

@@ -10,7 +10,7 @@ invariant-loop-turn g l = record {
   events : List Event;
   done : g.D.Source.did l.initial.devices l.devices events;
   on : GoesOn (begun (g.T.Table.state l.initial.table) (g.T.Table.stamp l.initial.table))
-      (progress_of (g.T.Table.state l.table) (g.T.Table.stamp l.table) l.session.tally l.session.outbox)
+      (progress_of (g.T.Table.state l.table) (g.T.Table.stamp l.table) l.session.tally l.session.outbox) (g.T.Table.did l.initial.table l.table)
       (said_within (Some []) (heard events)) events;
   part : l.session.part ≡ kept_after (Some []) (heard events);
   empty : l.session.outbox ≡ [];

@@ -1,0 +1,16 @@
+-- The calls that a record has made.
+use Rattle.std.specs.Prelude.{◌≡◌, List, ◌++◌, map}
+use Rattle.pid_types.specs.declared.call.Call.{Call}
+use Rattle.pid_types.specs.declared.entry.Entry.{Entry}
+use Rattle.pid_types.specs.declared.reply.Reply.{Reply}
+use Rattle.locked_table.specs.Chronicle.{Chronicle}
+
+-- the calls of the kept history, with their replies
+abbrev pub calls_of : Chronicle → List (Call × Reply)
+calls_of c = map (λ (e : Entry). (e.call, e.reply)) c.entries
+
+-- between two moments a record made these calls, and nothing of its history was cut away
+pub record Makes (before after : Chronicle) (calls : List (Call × Reply)) : Type 0 where
+  pub config : after.config ≡ before.config
+  pub whole : after.first_kept ≡ before.first_kept
+  pub made : calls_of after ≡ calls_of before ++ calls
