@@ -1,5 +1,5 @@
 -- What a command says of the faults of what it runs.
-use Rattle.std.specs.Prelude.{String}
+use Rattle.std.specs.Prelude.{ℕ, List, ◌++◌, codes, decimal, String, string_bytes}
 use Rattle.std.specs.declared.alloc.Global.{Global}
 use Rattle.pid_commands.specs.declared.fault.Fault.{Fault}
 use Rattle.pid_commands.specs.declared.fault.Fault.TheVariants.{Unreadable, TooLong, BadLine, Read, Write, TooManyTurns, NoMemory, Start, Audit}
@@ -29,3 +29,19 @@ abbrev pub of_run : RunFault → Fault
 of_run run.Start = Start
 of_run run.NoMemory = NoMemory
 of_run (run.Audit worker place) = Audit worker place
+
+-- the line on standard error, without its newline
+abbrev pub fault_line : Fault → List ℕ
+fault_line (Unreadable file) = codes "pidtab: cannot read " ++ string_bytes file
+fault_line (TooLong file) = codes "pidtab: " ++ string_bytes file ++ codes ": too long"
+fault_line (BadLine file line) = codes "pidtab: " ++ string_bytes file ++ codes ": line " ++ decimal line ++ codes ": bad line"
+fault_line Read = codes "pidtab: read fault"
+fault_line Write = codes "pidtab: write fault"
+fault_line TooManyTurns = codes "pidtab: too many turns"
+fault_line NoMemory = codes "pidtab: no memory"
+fault_line Start = codes "pidtab: cannot start a thread"
+fault_line (Audit worker place) = codes "pidtab: audit " ++ decimal worker ++ codes " " ++ decimal place
+
+-- the line that says how the program is called, without its newline
+abbrev pub usage_line : List ℕ
+usage_line = codes "pidtab: usage"

@@ -2,12 +2,12 @@
 use Rattle.std.specs.Prelude.{ℕ, ◌≡◌, ◌+◌, ◌<◌, List, [], ◌∷◌, ◌++◌, ◌⊎◌, Bool, length, slice_index_or, codes, decimal, Option, None, Vec}
 use Rattle.std.specs.declared.alloc.Global.{Global}
 use Rattle.std.specs.List.{flat_map}
-use Rattle.std.specs.Io.KnownBytes.{Appends}
 use Rattle.pid_types.specs.Settings.{Settings}
 use Rattle.pid_types.specs.State.{State}
 use Rattle.pid_types.specs.Shown.{Shows}
 use Rattle.pid_types.specs.declared.call.Call.{Call}
 use Rattle.pid_types.specs.declared.entry.Receipt.{Receipt}
+use Rattle.pid_types.specs.declared.reply.Reply.{Reply}
 use Rattle.pid_types.specs.declared.plain.Plain.{Plain}
 use Rattle.locked_table.specs.Chronicle.{Chronicle}
 use Rattle.locked_table.specs.Promise.{KeepsPromise}
@@ -15,7 +15,7 @@ use Rattle.pid_jobs.specs.Job.{Fulfils}
 use Rattle.pid_jobs.specs.Receipts.{IsAudited}
 use Rattle.pid_jobs.specs.declared.result.Work.{Work}
 use Rattle.pid_script.specs.Script.{with_newline, start_of}
-use Rattle.pid_script.specs.Session.{progress_of, Finishes, Leaves}
+use Rattle.pid_script.specs.Session.{ended_at, Finishes, Leaves}
 use Rattle.pid_script.specs.declared.tally.RunScriptFault.{RunScriptFault}
 use Rattle.pid_commands.specs.declared.fault.Fault.{Fault}
 use Rattle.pid_commands.specs.declared.fault.Fault.TheVariants.{NoMemory}
@@ -40,9 +40,9 @@ abbrev pub works_text : ℕ → List Work → List ℕ
 works_text first [] = []
 works_text first (work ∷ works) = work_lines first work ++ works_text (first + 1) works
 
--- what was written is what workers of these jobs had, and the list of the table that they left. The table was made with the
--- settings, it keeps the promise of a record, its history is whole, and in it are just the receipts that the workers have
-pub record ShowsRun (settings : Settings) (jobs : List (Vec Call Global)) (before after : Option (List ℕ)) : Type 0 where
+-- the text is what workers of these jobs had, and the list of the table that they left. The table was made with the settings, it
+-- keeps the promise of a record, its history is whole, and in it are just the receipts that the workers have
+pub record ShowsRun (settings : Settings) (jobs : List (Vec Call Global)) (text : List ℕ) : Type 0 where
   pub kept : Chronicle
   pub works : List Work
   pub plain : Plain
@@ -53,7 +53,7 @@ pub record ShowsRun (settings : Settings) (jobs : List (Vec Call Global)) (befor
   pub done : (w : ℕ) (d : Work) (j : Vec Call Global) → w < length jobs → Fulfils (slice_index_or jobs w j).items (slice_index_or works w d).receipts.items (slice_index_or works w d).refused
   pub audited : IsAudited (length jobs) kept works
   pub shown : Shows kept.present plain
-  pub written : Appends before after (works_text 0 works ++ list_of plain)
+  pub told : text ≡ works_text 0 works ++ list_of plain
 
 -- the source is at its end, and the list is that of the state to which its script leads
 pub record ListsScript (settings : Settings) (from to : Option (List ℕ)) (list : List ℕ) : Type 0 where
@@ -61,8 +61,9 @@ pub record ListsScript (settings : Settings) (from to : Option (List ℕ)) (list
   pub stamp : ℕ
   pub tally : Tally
   pub text : List ℕ
+  pub calls : List (Call × Reply)
   pub plain : Plain
-  pub finished : Finishes (start_of settings) (progress_of present stamp tally text) from to None None
+  pub finished : Finishes (start_of settings) (ended_at present stamp tally text calls) from to None None
   pub shown : Shows present plain
   pub listed : list ≡ list_of plain
 

@@ -1,47 +1,63 @@
 //! What a command says of a fault.
-ghost use Rattle.std.specs.Prelude.{◌≡◌};
-ghost use Rattle.pid_commands.specs.Faults.{of_job};
+ghost use Rattle.std.specs.Prelude.{◌≡◌, OnOk};
+ghost use Rattle.std.specs.Io.KnownBytes.{Appends};
+ghost use Rattle.pid_script.specs.Script.{with_newline};
+ghost use Rattle.pid_commands.specs.Faults.{fault_line, of_job};
 
 use pid_jobs::RunFault;
 use pid_script::job::JobFault;
 use pid_script::tally::RunScriptFault;
 use std::alloc::AllocError;
-use std::io;
+use std::error::Error;
 use std::io::Write;
-use thiserror::Error;
+use std::{fmt, io};
 
 /// Why a command stopped. Its text is the line that the program writes on standard error, without the
 /// newline.
-#[derive(Debug, Drop, PartialEq, Eq, Error)]
+#[derive(Debug, Drop, PartialEq, Eq)]
 pub enum Fault {
     /// The job file cannot be opened, or a read of it failed.
-    #[error("pidtab: cannot read {0}")]
     Unreadable(String),
     /// The job file has more than [`pid_script::job::MOST_JOB_BYTES`] bytes.
-    #[error("pidtab: {0}: too long")]
     TooLong(String),
     /// The line of the job file, counted from 1, is bad.
-    #[error("pidtab: {0}: line {1}: bad line")]
     BadLine(String, u64),
     /// A read of the script failed.
-    #[error("pidtab: read fault")]
     Read,
     /// A write of the output failed.
-    #[error("pidtab: write fault")]
     Write,
     /// The script took more than [`pid_workers::MOST_READS`] reads.
-    #[error("pidtab: too many turns")]
     TooManyTurns,
     /// There was no memory for the words, the table, the jobs, the threads or the output.
-    #[error("pidtab: no memory")]
     NoMemory,
     /// A worker's thread could not be started.
-    #[error("pidtab: cannot start a thread")]
     Start,
     /// The receipts of the worker and the history differ at the place, both counted from 0.
-    #[error("pidtab: audit {worker} {place}")]
     Audit { worker: usize, place: usize },
 }
+
+impl fmt::Display for Fault {
+    ghost use Rattle.std.specs.Prelude.{Some};
+    ghost use Rattle.pid_commands.specs.Faults.{fault_line};
+
+    ghost output = { λ fault. Some (fault_line fault) };
+
+    fn fmt<W: fmt::Write>(&self, f: &mut fmt::Formatter<W>) -> fmt::Result {
+        match self {
+            Fault::Unreadable(file) => write!(f, "pidtab: cannot read {file}"),
+            Fault::TooLong(file) => write!(f, "pidtab: {file}: too long"),
+            Fault::BadLine(file, line) => write!(f, "pidtab: {file}: line {line}: bad line"),
+            Fault::Read => write!(f, "pidtab: read fault"),
+            Fault::Write => write!(f, "pidtab: write fault"),
+            Fault::TooManyTurns => write!(f, "pidtab: too many turns"),
+            Fault::NoMemory => write!(f, "pidtab: no memory"),
+            Fault::Start => write!(f, "pidtab: cannot start a thread"),
+            Fault::Audit { worker, place } => write!(f, "pidtab: audit {worker} {place}"),
+        }
+    }
+}
+
+impl Error for Fault {}
 
 impl Fault {
     /// The fault of the job file with the name.
@@ -101,6 +117,8 @@ impl From<RunFault> for Fault {
 
 /// Writes the line of the fault and its newline. It takes no memory, and the only error is that of the
 /// writer.
-pub fn write_fault_line<W: Write>(writer: &mut W, fault: &Fault) -> io::Result<()> {
+pub fn write_fault_line<W: Write>(writer: &mut W, fault: &Fault) -> io::Result<()>
+    ensures { OnOk result (Appends (W.contents writer.old) (W.contents writer.new) (with_newline (fault_line fault.now))) }
+{
     writeln!(writer, "{fault}")
 }

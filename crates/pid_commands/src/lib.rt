@@ -6,6 +6,7 @@
 
 mod fault;
 mod jobs;
+mod lent;
 mod serve;
 mod show;
 mod status;

@@ -1,23 +1,29 @@
 //! The commands `run`, `list` and `work`, over a reader and writers of the caller's. [`run_words`]
 //! is the one door; a fault of any command is one line on `errors` and the status 1.
-ghost use Rattle.std.specs.Prelude.{◌≡◌, ◌<◌, ◌≤◌, ⊤, Option, List, ℕ, None, false, length, OnOk, IfOk, IfErr, ◌⊎◌, refl};
+ghost use Rattle.std.specs.Prelude.{◌≡◌, ◌<◌, ◌≤◌, ⊤, Option, List, ℕ, None, false, length, OnOk, IfOk, IfErr, Result, refl};
+ghost use Rattle.std.specs.Io.KnownBytes.{Appends};
+ghost use Rattle.pid_script.specs.Script.{with_newline};
+ghost use Rattle.pid_words.specs.declared.words.Command.{Command};
+ghost use Rattle.pid_words.specs.declared.words.WordsFault.{WordsFault};
 ghost use Rattle.pid_jobs.specs.declared.run.RunFault.{RunFault};
-ghost use Rattle.pid_commands.specs.declared.fault.Fault.TheVariants.{Write};
 ghost use Rattle.pid_commands.specs.Faults.{of_run};
 ghost use Rattle.pid_commands.specs.Output.{ListsScript, FailsToList, ShowsRun};
+ghost use Rattle.pid_commands.specs.Commands.{RunsScript, FailsToRun, RunsInput, FailsToRunInput, WritesList, FailsToWriteList, WritesRun, FailsToWriteRun, Does, Stops, Fails, Ends, IsSomeFile};
 
-use crate::fault::Fault;
-use crate::jobs::read_jobs;
-use crate::show::write_finished;
-use crate::status::{Status, say_fault, say_usage};
+use crate::fault::{Fault, write_fault_line};
+use crate::jobs::{Opens, read_jobs};
+use crate::lent::Lent;
+use crate::show::finished_text;
+use crate::status::{Status, write_usage_line};
 use pid_jobs::{JobFiles, OpenGate, run_workers};
 use pid_types::call::Call;
 use pid_types::config::Config;
-use pid_types::device::{DeviceFault, FromReader, Sink, Source, ToWriter};
+use pid_types::device::{DeviceFault, FromReader, Sink, Source};
 use pid_words::{Command, WordsFault, read_words};
 use pid_workers::{MOST_READS, list_record, run, run_state};
 use std::alloc::Global;
-use std::io::{BufWriter, Read, Write};
+use std::io;
+use std::io::{Read, Write};
 use std::marker::Brand;
 use std::rt::Files;
 use std::sync::Wait;
@@ -30,7 +36,8 @@ use std::time::Clock;
 ///
 /// It may wait, for the workers of `work`. After a fault of `run` the output has the answers that
 /// were written before it; after one of `list` or `work` it has nothing, but where a write failed
-/// midway.
+/// midway. The contract is over the answer that [`read_words`] gave. It says of `errors` that a
+/// command that is done writes nothing there; where the line cannot be written nothing more is done.
 pub fn run_words<R, I, O, E>(
     rt: &R,
     words: &[String],
@@ -43,31 +50,90 @@ where
     I: Read + Drop,
     O: Write,
     E: Write,
+    ensures { (answer : Result Command WordsFault) × Ends MOST_READS (λ _. IsSomeFile R.File.remaining) answer (I.remaining input) (O.contents output.old) (O.contents output.new)
+        (E.contents errors.new ≡ E.contents errors.old) (λ _. ⊤) result }
 {
-    let command = match read_words(rt.alloc(), words) {
-        Ok(command) => command,
-        Err(WordsFault::Usage) => return say_usage(errors),
-        Err(WordsFault::NoMemory) => return say_fault(errors, &Fault::NoMemory),
-    };
-    match run_command(rt, command, input, output) {
-        Ok(()) => Status::Done,
-        Err(fault) => say_fault(errors, &fault),
+    let answer = read_words(rt.alloc(), words);
+    let (status, _) = run_answer(rt, rt, answer, input, output, errors);
+    status
+}
+
+/// Runs the command that the words were read as. It gives the status too, and whether the line that
+/// the status asks for could be written to `errors`.
+fn run_answer<R, D, I, O, E>(
+    rt: &R,
+    disk: &D,
+    answer: Result<Command, WordsFault>,
+    input: I,
+    output: &mut O,
+    errors: &mut E,
+) -> (Status, io::Result<()>)
+where
+    R: Threads + Wait + Clock + Sync + AllocGlobal,
+    D: Opens,
+    I: Read + Drop,
+    O: Write,
+    E: Write,
+    ensures { Ends MOST_READS (D.holds disk.now) answer (I.remaining input) (O.contents output.old) (O.contents output.new)
+        (E.contents errors.new ≡ E.contents errors.old)
+        (λ line. OnOk result.1 (Appends (E.contents errors.old) (E.contents errors.new) (with_newline line))) result.0 }
+{
+    match answer {
+        Ok(command) => match run_command(rt, disk, command, input, output) {
+            Ok(()) => (Status::Done, Ok(())),
+            Err(fault) => (Status::Failed, write_fault_line(errors, &fault)),
+        },
+        Err(WordsFault::Usage) => (Status::Misused, write_usage_line(errors)),
+        Err(WordsFault::NoMemory) => {
+            (Status::Failed, write_fault_line(errors, &Fault::NoMemory))
+        }
     }
 }
 
 /// Runs a command, and flushes the output.
-fn run_command<R, I, O>(rt: &R, command: Command, input: I, output: &mut O) -> Result<(), Fault>
+fn run_command<R, D, I, O>(
+    rt: &R,
+    disk: &D,
+    command: Command,
+    input: I,
+    output: &mut O,
+) -> Result<(), Fault>
 where
-    R: Files + Threads + Wait + Clock + Sync + AllocGlobal,
+    R: Threads + Wait + Clock + Sync + AllocGlobal,
+    D: Opens,
     I: Read + Drop,
     O: Write,
+    ensures ok { OnOk result (Does (D.holds disk.now) command (I.remaining input) (O.contents output.old) (O.contents output.new)) }
+    ensures fault { IfErr result (Fails MOST_READS (D.holds disk.now) command (I.remaining input) (O.contents output.old) (O.contents output.new)) }
+{
+    do_command(rt, disk, command, input, output)?;
+    match output.flush() {
+        Ok(()) => Ok(()),
+        Err(_) => Err(Fault::Write),
+    }
+}
+
+/// Runs a command. The output is not flushed.
+fn do_command<R, D, I, O>(
+    rt: &R,
+    disk: &D,
+    command: Command,
+    input: I,
+    output: &mut O,
+) -> Result<(), Fault>
+where
+    R: Threads + Wait + Clock + Sync + AllocGlobal,
+    D: Opens,
+    I: Read + Drop,
+    O: Write,
+    ensures ok { OnOk result (Does (D.holds disk.now) command (I.remaining input) (O.contents output.old) (O.contents output.new)) }
+    ensures fault { IfErr result (Stops MOST_READS (D.holds disk.now) command (I.remaining input) (O.contents output.old) (O.contents output.new)) }
 {
     match command {
-        Command::Run(config) => run_script(rt.alloc(), &config, input, output)?,
-        Command::List(config) => list_script(rt, &config, input, output)?,
-        Command::Work { config, files } => work(rt, &config, files, output)?,
+        Command::Run(config) => run_script(rt.alloc(), &config, input, output),
+        Command::List(config) => list_script(rt, &config, input, output),
+        Command::Work { config, files } => work(rt, disk, &config, files, output),
     }
-    output.flush().map_err(|_| Fault::Write)
 }
 
 /// Writes the answers to a script.
@@ -76,11 +142,35 @@ fn run_script<I: Read + Drop, O: Write>(
     config: &Config,
     input: I,
     output: &mut O,
-) -> Result<(), Fault> {
+) -> Result<(), Fault>
+    ensures ok { OnOk result (RunsInput config.now (I.remaining input) (O.contents output.old) (O.contents output.new)) }
+    ensures fault { IfErr result (FailsToRunInput MOST_READS config.now (I.remaining input) (O.contents output.old) (O.contents output.new)) }
+{
     let mut source = FromReader::new(input);
-    let mut sink = ToWriter::new(output);
-    run::<Brand, _, _>(alloc, Blank::new(1), &mut source, &mut sink, config)?;
-    Ok(())
+    let mut sink = Lent::new(output);
+    run_lent::<Brand, _, _>(alloc, Blank::new(1), &mut source, &mut sink, config)
+}
+
+/// Writes the answers to the script of a source to a writer that is lent.
+fn run_lent<L: Ledger, S: Source, O: Write>(
+    alloc: Global,
+    blank: Blank,
+    source: &mut S,
+    sink: &mut Lent<'_, O>,
+    config: &Config,
+) -> Result<(), Fault>
+    requires name { blank.name ≡ L.name }
+    requires parts { (blank.parts ≡ L.parts) × (L.parts ≡ 1) }
+    ensures ok { OnOk result (RunsScript config.now (S.remaining source.old) (S.remaining source.new)
+        (O.contents sink.old.writer.now) (O.contents sink.new.writer.now)) }
+    ensures fault { IfErr result (FailsToRun MOST_READS config.now (S.remaining source.old) (S.remaining source.new)
+        (O.contents sink.old.writer.now) (O.contents sink.new.writer.now) (S.has_failed source.new)) }
+    ensures same { sink.new.writer.ghost_name ≡ sink.old.writer.ghost_name }
+{
+    match run::<L, S, Lent<'_, O>>(alloc, blank, source, sink, config) {
+        Ok(_) => Ok(()),
+        Err(fault) => Err(Fault::from(fault)),
+    }
 }
 
 /// Writes the list of the table that a script leaves.
@@ -89,10 +179,16 @@ fn list_script<R: Threads + AllocGlobal, I: Read + Drop, O: Write>(
     config: &Config,
     input: I,
     output: &mut O,
-) -> Result<(), Fault> {
+) -> Result<(), Fault>
+    ensures ok { OnOk result (WritesList config.now (I.remaining input) (O.contents output.old) (O.contents output.new)) }
+    ensures fault { IfErr result (FailsToWriteList MOST_READS config.now (I.remaining input) (O.contents output.old) (O.contents output.new)) }
+{
     let mut source = FromReader::new(input);
     let list = list_of_script::<Brand, _, _>(rt, Blank::new(1), &mut source, config)?;
-    output.write_all(list.as_slice()).map_err(|_| Fault::Write)
+    match output.write_all(list.as_slice()) {
+        Ok(()) => Ok(()),
+        Err(_) => Err(Fault::Write),
+    }
 }
 
 /// A sink that takes all and keeps nothing.
@@ -141,68 +237,76 @@ fn list_of_script<L: Ledger, R: Threads + AllocGlobal, S: Source>(
     Ok(list_record(rt, rt.alloc(), &record)?)
 }
 
-/// Reads the job files, runs a worker for each, and writes what they had.
-fn work<R, O>(rt: &R, config: &Config, files: JobFiles, output: &mut O) -> Result<(), Fault>
+/// Reads the job files, runs a worker for each, and writes what they had. Its text is held whole, so
+/// nothing is written where a worker's thread, the audit or memory is at fault.
+fn work<R, D, O>(
+    rt: &R,
+    disk: &D,
+    config: &Config,
+    files: JobFiles,
+    output: &mut O,
+) -> Result<(), Fault>
 where
-    R: Files + Threads + Wait + Clock + Sync + AllocGlobal,
+    R: Threads + Wait + Clock + Sync + AllocGlobal,
+    D: Opens,
     O: Write,
+    ensures ok { OnOk result (WritesRun (D.holds disk.now) config.now files.names.items (O.contents output.old) (O.contents output.new)) }
+    ensures fault { IfErr result (FailsToWriteRun (D.holds disk.now) config.now files.names.items (O.contents output.old) (O.contents output.new)) }
 {
-    let jobs = read_jobs(rt, files)?;
+    let jobs = read_jobs(rt.alloc(), disk, files)?;
     let blank = Blank::new(jobs.len() as u64);
-    let Ok(mut writer) = BufWriter::new(rt.alloc(), output) else {
-        return Err(Fault::NoMemory);
-    };
-    run_jobs::<Brand, R, _>(rt, blank, config, jobs.as_slice(), &mut writer)?;
-    writer.flush().map_err(|_| Fault::Write)
+    let text = run_jobs::<Brand, R>(rt, blank, config, jobs.as_slice())?;
+    match output.write_all(text.as_slice()) {
+        Ok(()) => Ok(()),
+        Err(_) => Err(Fault::Write),
+    }
 }
 
-/// Runs a worker for each job, and writes what they had. There are 2 to 16. The writer is not
-/// flushed.
-fn run_jobs<L: Ledger + Send + Sync, R: Threads + Wait + Clock + Sync + AllocGlobal, W: Write>(
+/// Runs a worker for each job, and gives the text of what they had. There are 2 to 16.
+fn run_jobs<L: Ledger + Send + Sync, R: Threads + Wait + Clock + Sync + AllocGlobal>(
     rt: &R,
     blank: Blank,
     config: &Config,
     jobs: &[Vec<Call>],
-    writer: &mut W,
-) -> Result<(), Fault>
+) -> Result<Vec<u8>, Fault>
     requires name { blank.name ≡ L.name }
     requires parts { (blank.parts ≡ L.parts) × (L.parts ≡ length jobs.now) }
     requires count { (2 ≤ length jobs.now) × (length jobs.now ≤ 16) }
-    ensures ok { OnOk result (ShowsRun config.now jobs.now (W.contents writer.old) (W.contents writer.new)) }
-    ensures fault { IfErr result (λ e. (e ≡ Write) ⊎ ((fault : RunFault) × (e ≡ of_run fault))) }
+    ensures ok { IfOk result (λ text. ShowsRun config.now jobs.now text.items) }
+    ensures fault { IfErr result (λ e. (cause : RunFault) × (e ≡ of_run cause)) }
 {
     match jobs.len() {
-        2 => run_all::<L, R, W, 2>(rt, blank, config, jobs, writer),
-        3 => run_all::<L, R, W, 3>(rt, blank, config, jobs, writer),
-        4 => run_all::<L, R, W, 4>(rt, blank, config, jobs, writer),
-        5 => run_all::<L, R, W, 5>(rt, blank, config, jobs, writer),
-        6 => run_all::<L, R, W, 6>(rt, blank, config, jobs, writer),
-        7 => run_all::<L, R, W, 7>(rt, blank, config, jobs, writer),
-        8 => run_all::<L, R, W, 8>(rt, blank, config, jobs, writer),
-        9 => run_all::<L, R, W, 9>(rt, blank, config, jobs, writer),
-        10 => run_all::<L, R, W, 10>(rt, blank, config, jobs, writer),
-        11 => run_all::<L, R, W, 11>(rt, blank, config, jobs, writer),
-        12 => run_all::<L, R, W, 12>(rt, blank, config, jobs, writer),
-        13 => run_all::<L, R, W, 13>(rt, blank, config, jobs, writer),
-        14 => run_all::<L, R, W, 14>(rt, blank, config, jobs, writer),
-        15 => run_all::<L, R, W, 15>(rt, blank, config, jobs, writer),
-        16 => run_all::<L, R, W, 16>(rt, blank, config, jobs, writer),
+        2 => run_all::<L, R, 2>(rt, blank, config, jobs),
+        3 => run_all::<L, R, 3>(rt, blank, config, jobs),
+        4 => run_all::<L, R, 4>(rt, blank, config, jobs),
+        5 => run_all::<L, R, 5>(rt, blank, config, jobs),
+        6 => run_all::<L, R, 6>(rt, blank, config, jobs),
+        7 => run_all::<L, R, 7>(rt, blank, config, jobs),
+        8 => run_all::<L, R, 8>(rt, blank, config, jobs),
+        9 => run_all::<L, R, 9>(rt, blank, config, jobs),
+        10 => run_all::<L, R, 10>(rt, blank, config, jobs),
+        11 => run_all::<L, R, 11>(rt, blank, config, jobs),
+        12 => run_all::<L, R, 12>(rt, blank, config, jobs),
+        13 => run_all::<L, R, 13>(rt, blank, config, jobs),
+        14 => run_all::<L, R, 14>(rt, blank, config, jobs),
+        15 => run_all::<L, R, 15>(rt, blank, config, jobs),
+        16 => run_all::<L, R, 16>(rt, blank, config, jobs),
         _ => unreachable!(),
     }
 }
 
-/// Runs N workers, one for each job, and writes what they had. The writer is not flushed.
-fn run_all<
-    L: Ledger + Send + Sync,
-    R: Threads + Wait + Clock + Sync + AllocGlobal,
-    W: Write,
-    const N: usize,
->(rt: &R, blank: Blank, config: &Config, jobs: &[Vec<Call>], writer: &mut W) -> Result<(), Fault>
+/// Runs N workers, one for each job, and gives the text of what they had.
+fn run_all<L: Ledger + Send + Sync, R: Threads + Wait + Clock + Sync + AllocGlobal, const N: usize>(
+    rt: &R,
+    blank: Blank,
+    config: &Config,
+    jobs: &[Vec<Call>],
+) -> Result<Vec<u8>, Fault>
     requires name { blank.name ≡ L.name }
     requires parts { (blank.parts ≡ L.parts) × (L.parts ≡ N) × (0 < N) }
     requires jobs { length jobs.now ≡ N }
-    ensures ok { OnOk result (ShowsRun config.now jobs.now (W.contents writer.old) (W.contents writer.new)) }
-    ensures fault { IfErr result (λ e. (e ≡ Write) ⊎ ((fault : RunFault) × (e ≡ of_run fault))) }
+    ensures ok { IfOk result (λ text. ShowsRun config.now jobs.now text.items) }
+    ensures fault { IfErr result (λ e. (cause : RunFault) × (e ≡ of_run cause)) }
 {
     let finished = run_workers::<L, OpenGate, R, N>(
         rt,
@@ -214,5 +318,8 @@ fn run_all<
     )?;
     // What the record promises is the contract of its total.
     let _total = finished.kept.total();
-    write_finished(rt, writer, finished)
+    match finished_text(rt, finished) {
+        Ok(text) => Ok(text),
+        Err(_) => Err(Fault::NoMemory),
+    }
 }

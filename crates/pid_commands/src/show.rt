@@ -1,6 +1,5 @@
 //! What `work` writes: each worker's receipts in the order of the workers, and then the list.
-ghost use Rattle.std.specs.Prelude.{◌≡◌, ◌⊎◌, ◌++◌, OnOk, IfErr};
-ghost use Rattle.pid_commands.specs.declared.fault.Fault.TheVariants.{NoMemory, Write};
+ghost use Rattle.std.specs.Prelude.{◌≡◌, ◌++◌, OnOk, IfOk};
 ghost use Rattle.std.specs.List.{flat_map};
 ghost use Rattle.std.specs.Io.KnownBytes.{Appends};
 ghost use Rattle.pid_types.specs.Shown.{Shows};
@@ -10,35 +9,31 @@ ghost use Rattle.pid_script.specs.Lists.{list_of};
 ghost use Rattle.pid_script.specs.Script.{with_newline};
 ghost use Rattle.pid_commands.specs.Output.{receipt_line, work_lines, works_text};
 
-use crate::fault::Fault;
 use pid_jobs::{Finished, Work};
 use pid_script::answer::answer_text;
 use pid_types::entry::Receipt;
 use pid_workers::list_record;
+use std::alloc::AllocError;
 use std::io;
 use std::io::Write;
 use std::sync::ledger::Ledger;
 use std::thread::Threads;
 
-/// Writes what the workers had, in their order, and then the list of the table that they leave. The
-/// writer is not flushed.
-///
-/// `NoMemory` comes where there is none for the list, and then nothing is written. A writer's error
-/// of any kind is `Write`.
-pub(crate) fn write_finished<L: Ledger, R: Threads + AllocGlobal, W: Write, const N: usize>(
+/// The text of what the workers had, in their order, and then the list of the table that they leave.
+/// It is held whole, beside the list. The only error is want of memory.
+pub(crate) fn finished_text<L: Ledger, R: Threads + AllocGlobal, const N: usize>(
     rt: &R,
-    writer: &mut W,
     finished: Finished<L, N>,
-) -> Result<(), Fault>
-    ensures ok { OnOk result ((plain : Plain) × Shows finished.kept.present plain
-        × Appends (W.contents writer.old) (W.contents writer.new) (works_text 0 finished.works.items ++ list_of plain)) }
-    ensures fault { IfErr result (λ e. (e ≡ NoMemory) ⊎ (e ≡ Write)) }
+) -> Result<Vec<u8>, AllocError>
+    ensures { IfOk result (λ text. (plain : Plain) × Shows finished.kept.present plain
+        × (text.items ≡ works_text 0 finished.works.items ++ list_of plain)) }
 {
     let Finished { kept, works } = finished;
     let list = list_record(rt, rt.alloc(), &kept)?;
-    match write_shown(writer, works, list.as_slice()) {
-        Ok(()) => Ok(()),
-        Err(_) => Err(Fault::Write),
+    let mut text = Vec::new(rt.alloc());
+    match write_shown(&mut text, works, list.as_slice()) {
+        Ok(()) => Ok(text),
+        Err(_) => Err(AllocError),
     }
 }
 

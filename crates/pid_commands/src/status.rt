@@ -1,8 +1,12 @@
 //! How a command ends: its exit status, and the line that it leaves on standard error.
-ghost use Rattle.std.specs.Prelude.{◌≡◌};
+ghost use Rattle.std.specs.Prelude.{◌≡◌, OnOk};
+ghost use Rattle.std.specs.Io.KnownBytes.{Appends};
+ghost use Rattle.pid_script.specs.Script.{with_newline};
+ghost use Rattle.pid_commands.specs.Faults.{usage_line};
 ghost use Rattle.pid_commands.specs.declared.status.Status.TheVariants.{Done, Failed, Misused};
 
 use crate::fault::{Fault, write_fault_line};
+use std::io;
 use std::io::Write;
 
 /// How a command ended.
@@ -31,11 +35,19 @@ impl Status {
     }
 }
 
+/// Writes the line that says how the program is called, and its newline. The only error is that of
+/// the writer.
+pub(crate) fn write_usage_line<W: Write>(writer: &mut W) -> io::Result<()>
+    ensures { OnOk result (Appends (W.contents writer.old) (W.contents writer.new) (with_newline usage_line)) }
+{
+    writer.write_all(b"pidtab: usage\n")
+}
+
 /// Writes how the program is called. Where that cannot be written nothing more is done.
 pub fn say_usage<E: Write>(errors: &mut E) -> Status
     ensures { result ≡ Misused }
 {
-    let _ = errors.write_all(b"pidtab: usage\n");
+    let _ = write_usage_line(errors);
     Status::Misused
 }
 

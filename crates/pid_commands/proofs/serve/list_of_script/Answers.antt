@@ -1,6 +1,7 @@
 use Rattle.std.proofs.Common.{inl, refl}
 use Rattle.std.proofs.lemmas.Result.{err_from_is_err_and}
 use Rattle.locked_table.specs.Chronicle.{next_stamp}
+use Rattle.pid_workers.specs.Made.{calls_of}
 use Rattle.pid_commands.proofs.serve.list_of_script.Goals as goal
 
 -- the state that the script leaves, and the snapshot that the list shows
@@ -12,6 +13,7 @@ returns-clause-ok g c =
       stamp = next_stamp c.in_ok-_tally.record;
       tally = c.in_ok-_tally._tally;
       text = ran.0;
+      calls = calls_of c.in_ok-_tally.record;
       plain = listed.0;
       finished = ran.1;
       shown = listed.1;

@@ -1,0 +1,7 @@
+use Rattle.std.proofs.Common.{inl, refl, rules}
+use Rattle.pid_commands.specs.declared.fault.Fault.TheVariants.{NoMemory}
+use Rattle.pid_commands.proofs.serve.run_answer.Goals as goal
+
+-- there was no memory to read the words
+pub returns : goal.returns
+returns g c = (NoMemory, inl (search rules, refl, refl), c.write_fault_line-in-Err-NoMemory.ensures)
