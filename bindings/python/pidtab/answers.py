@@ -1,9 +1,14 @@
-"""What answers say. A program that answers what no call is answered is at fault."""
+"""What answers say, as lines and as numbers. A program that answers what no call is answered is at fault."""
 
 import re
+from collections.abc import Callable
 from dataclasses import dataclass
+from typing import Generic, TypeVar
 
 from pidtab.faults import ProgramFault
+from pidtab.raw import END, KILLED, NONE_YET, PidtabReply
+
+T = TypeVar("T")
 
 
 @dataclass(frozen=True)
@@ -72,3 +77,37 @@ def read_reaped(answer: str) -> Reaped | None:
         return None
     found = match(r"reaped (\d+) (?:exit (\d+)|killed)", answer)
     return Reaped(int(found[1]), None if found[2] is None else int(found[2]))
+
+
+def tell_next(reply: PidtabReply) -> int | None:
+    """The number that follows, None where none does."""
+    return None if reply.kind == END else reply.first
+
+
+def tell_numbers(reply: PidtabReply) -> tuple[int, ...]:
+    """A task's numbers."""
+    return tuple(reply.levels[: reply.count])
+
+
+def tell_reaped(reply: PidtabReply) -> Reaped | None:
+    """Who was reaped, None where nobody had ended."""
+    if reply.kind == NONE_YET:
+        return None
+    return Reaped(reply.first, None if reply.second == KILLED else reply.second)
+
+
+@dataclass(frozen=True)
+class Form(Generic[T]):
+    """What a call is answered: read from the line, and told by the numbers."""
+
+    read: Callable[[str], T]
+    tell: Callable[[PidtabReply], T]
+
+
+NOTHING: Form[None] = Form(read_ok, lambda reply: None)
+A_NUMBER: Form[int] = Form(read_number, lambda reply: reply.first)
+THE_NEXT: Form[int | None] = Form(read_next, tell_next)
+THE_NUMBERS: Form[tuple[int, ...]] = Form(read_numbers, tell_numbers)
+A_CONTROL: Form[int] = Form(read_control_id, lambda reply: reply.first)
+A_CHILD: Form[Forked] = Form(read_forked, lambda reply: Forked(reply.first, reply.second))
+AN_ENDED_CHILD: Form[Reaped | None] = Form(read_reaped, tell_reaped)

@@ -1,6 +1,10 @@
-"""What is raised: refusals of the table, as the kernel's errors, and faults of the program."""
+"""What is raised: refusals of the table, as the kernel's errors, and faults of the program or the library."""
 
 import errno
+
+
+class TableClosed(RuntimeError):
+    """The table was closed."""
 
 
 class ProgramFault(RuntimeError):
@@ -13,6 +17,14 @@ class ProgramMissing(ProgramFault):
 
 class ProgramEnded(ProgramFault):
     """The program answers no more."""
+
+
+class LibraryFault(RuntimeError):
+    """The library is not the one that this package is written for, or does not do what it should."""
+
+
+class LibraryMissing(LibraryFault):
+    """The library is not there, or cannot be loaded."""
 
 
 class Refusal(OSError):
@@ -52,16 +64,35 @@ REFUSALS: dict[int, type[Refusal]] = {
 }
 
 
+# The words of the refusals, by their numbers from 1 on.
+WORDS = (
+    "no-caller", "no-task", "no-child", "no-number", "pids-limit", "space-fallen", "too-deep", "elsewhere", "bad-group", "other-session",
+    "is-leader", "no-group", "executed", "root-init", "no-control", "control-busy", "root-control", "bad-limit", "control-depth",
+)  # fmt: skip
+
+# Behind these words stands the id of the namespace, or the control group, that refuses.
+WORDS_WITH_ID = ("no-number", "pids-limit")
+
+
+def say_why(number: int, id: int) -> str:
+    """What a refusal says: the word of its number, and the id where it has one."""
+    word = WORDS[number - 1]
+    return f"{word} {id}" if word in WORDS_WITH_ID else word
+
+
+def refusal_of(number: int, line: str, why: str) -> Refusal:
+    """The refusal with the errno, of the call on the line."""
+    refusal = REFUSALS.get(number, Refusal)(number, f"{line}: {why}")
+    refusal.why = why
+    return refusal
+
+
 def read_refusal(line: str, answer: str) -> Refusal | None:
     """The refusal that an answer is; None for any other answer."""
     name, _, why = answer.partition(" ")
     # No other answer begins so: all others are lower case or digits.
     number = getattr(errno, name, None) if name.startswith("E") else None
-    if number is None:
-        return None
-    refusal = REFUSALS.get(number, Refusal)(number, f"{line}: {why}")
-    refusal.why = why
-    return refusal
+    return None if number is None else refusal_of(number, line, why)
 
 
 def read_fault(line: str, answer: str) -> Exception | None:

@@ -5,15 +5,17 @@ import shutil
 from pathlib import Path
 
 from pidtab.faults import ProgramMissing
+from pidtab.places import PREFIX, REPOSITORY
 
-# In the repository this file is bindings/python/pidtab/program.py.
-BUILT_PROGRAM = Path(__file__).resolve().parents[3] / "crates" / "pidtab" / "out" / "pidtab"
+BUILT_PROGRAM = REPOSITORY / "crates" / "pidtab" / "out" / "pidtab"
+INSTALLED_PROGRAM = PREFIX / "bin" / "pidtab"
 
 
 def find_program(named: str | os.PathLike[str] | None = None) -> Path:
-    """The named program, or that of the variable PIDTAB, or else what `make run` builds, or else `pidtab` on PATH."""
+    """The program that is named, or that of the variable PIDTAB; else what `make run` builds, what is installed, or `pidtab` on PATH."""
     wanted = os.fspath(named or os.environ.get("PIDTAB") or "")
-    found = shutil.which(wanted) if wanted else shutil.which(str(BUILT_PROGRAM)) or shutil.which("pidtab")
+    places = [wanted] if wanted else [str(BUILT_PROGRAM), str(INSTALLED_PROGRAM), "pidtab"]
+    found = next((it for it in map(shutil.which, places) if it), None)
     if found is None:
         raise ProgramMissing(f"no program {wanted or 'pidtab'}: build it with `make run`, or name it by the variable PIDTAB")
     return Path(found).absolute()

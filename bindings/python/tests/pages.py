@@ -38,6 +38,16 @@ def blocks(text: str) -> list[str]:
     return [re.sub(r"^    ", "", block, flags=re.MULTILINE).strip("\n") + "\n" for block in found if block.strip()]
 
 
+def fenced(text: str, kind: str) -> list[str]:
+    """The fenced blocks of a kind."""
+    return re.findall(rf"^```{kind}\n(.*?)^```$", text, re.MULTILINE | re.DOTALL)
+
+
+def displays(page: str) -> list[str]:
+    """The literal displays of a manual page, with its escapes undone."""
+    return [it.replace("\\e", "\\") for it in re.findall(r"^\.Bd -literal.*?\n(.*?)^\.Ed$", page, re.MULTILINE | re.DOTALL)]
+
+
 def script_lines(path: Path) -> list[str]:
     """The lines of a script or of its answers."""
     return path.read_text(encoding="latin-1").splitlines()

@@ -11,6 +11,7 @@ from pathlib import Path
 from pidtab import Process
 from pidtab.language import COMMANDS, FORMS, Fault, judge
 from tests.pages import EXAMPLES, REPOSITORY, quoted, read_page, rows, section, stored_scripts
+from tests.ways import need_program
 
 LAUNCHER = REPOSITORY / "bindings" / "python" / "bin" / "pidtab-check"
 SEED = 20
@@ -159,6 +160,10 @@ class Judgement(unittest.TestCase):
 
 class Program(unittest.TestCase):
     """The same judgement as that of the program pidtab."""
+
+    @classmethod
+    def setUpClass(cls) -> None:
+        need_program()
 
     def test_random_lines(self) -> None:
         chance = random.Random(SEED)

@@ -7,7 +7,7 @@ from collections.abc import Callable
 from pathlib import Path
 from unittest import mock
 
-from pidtab import Process, ProgramEnded, ProgramFault, ProgramMissing, find_program
+from pidtab import Process, ProgramEnded, ProgramFault, ProgramMissing, TableClosed, find_program
 
 
 class Faults(unittest.TestCase):
@@ -49,21 +49,20 @@ class Faults(unittest.TestCase):
         with mock.patch.dict(os.environ, {"PIDTAB": "/no/such/pidtab"}), self.assertRaises(ProgramMissing):
             find_program()
 
-    def test_the_built_program_goes_before_one_on_the_path(self) -> None:
-        path = self.program("exit")
+    def test_the_built_program_goes_before_the_installed_one_and_this_before_one_on_the_path(self) -> None:
+        path, nowhere = self.program("exit"), Path("/no/such/pidtab")
+        found = [(Path("/bin/sh"), Path("/bin/ls"), Path("/bin/sh")), (nowhere, Path("/bin/ls"), Path("/bin/ls")), (nowhere, nowhere, path)]
         with mock.patch.dict(os.environ, {"PATH": self.folder.name, "PIDTAB": ""}):
-            with mock.patch("pidtab.program.BUILT_PROGRAM", Path("/bin/sh")):
-                self.assertEqual(find_program(), Path("/bin/sh"))
-            with mock.patch("pidtab.program.BUILT_PROGRAM", Path("/no/such/pidtab")):
-                self.assertEqual(find_program(), path)
-                path.unlink()
-                with self.assertRaisesRegex(ProgramMissing, "make run"):
-                    find_program()
+            for built, installed, wanted in found:
+                self.assertEqual(self.find(built, installed), wanted)
+            path.unlink()
+            with self.assertRaisesRegex(ProgramMissing, "make run"):
+                self.find(nowhere, nowhere)
 
-    def test_pid_max_out_of_range(self) -> None:
-        for pid_max in (300, 4194305):
-            with self.subTest(pid_max), self.assertRaisesRegex(ValueError, "301 to 4194304"):
-                Process(pid_max)
+    def find(self, built: Path, installed: Path) -> Path:
+        """The program that is found where these two may be."""
+        with mock.patch("pidtab.program.BUILT_PROGRAM", built), mock.patch("pidtab.program.INSTALLED_PROGRAM", installed):
+            return find_program()
 
     def test_a_program_that_ends_at_once(self) -> None:
         process = self.start("echo pidtab: no memory >&2", "exit 1")
@@ -151,7 +150,7 @@ class Faults(unittest.TestCase):
         with self.start("while read line; do echo 1; done", "exit 5") as process:
             self.assertEqual(process.getpid(1), 1)
         self.assertEqual([process.close(), process.close()], [5, 5])
-        with self.assertRaisesRegex(ProgramEnded, "closed"):
+        with self.assertRaisesRegex(TableClosed, "closed"):
             process.getpid(1)
 
 

@@ -1,60 +1,102 @@
-"""The examples of docs/LIBRARY.md and of the manual pages, run as printed."""
+"""The examples of the pages and of the manual pages, run as printed."""
 
-import os
 import re
 import subprocess
-import sys
+import tempfile
 import unittest
+from collections.abc import Callable
+from pathlib import Path
 
 from pidtab import Process, find_program
-from tests.pages import REPOSITORY, blocks, read_page, section
+from tests.pages import REPOSITORY, displays, fenced, read_page, section
+from tests.programs import BUILT, STRICT, need_archive, need_tool, run, run_c, run_go, run_python, run_rust, run_shell
+from tests.ways import need_library, need_program
 
 PACKAGES = REPOSITORY / "bindings" / "python"
 MANUAL = REPOSITORY / "man"
 
-
-def fenced(page: str, kind: str) -> list[str]:
-    """The fenced blocks of a kind."""
-    return re.findall(rf"^```{kind}\n(.*?)^```$", page, re.MULTILINE | re.DOTALL)
-
-
-def displays(page: str) -> list[str]:
-    """The literal displays of a manual page, with its escapes undone."""
-    return [it.replace("\\e", "\\") for it in re.findall(r"^\.Bd -literal.*?\n(.*?)^\.Ed$", page, re.MULTILINE | re.DOTALL)]
+# Where each example stands: the page, the title and the language.
+EXAMPLES = [
+    ("README.md", "### By a pipe", "sh"),
+    ("README.md", "### From C", "c"),
+    ("README.md", "### From Python", "python"),
+    ("docs/LIBRARY.md", "## From Python, by the program", "python"),
+    ("docs/LIBRARY.md", "## From Python, in its own process", "python"),
+    ("docs/LIBRARY.md", "## From C", "c"),
+    ("docs/LIBRARY.md", "## From Rust", "rust"),
+    ("docs/LIBRARY.md", "## From Go", "go"),
+]
 
 
 class Examples(unittest.TestCase):
     """Each example prints what its page says."""
 
-    def test_the_example_in_python(self) -> None:
-        page = read_page("docs/LIBRARY.md")
-        (code,), (printed,) = fenced(page, "python"), fenced(page, "text")
-        self.assertGreater(len(code.splitlines()), 15)
-        words = {**os.environ, "PIDTAB": str(find_program()), "PYTHONPATH": str(PACKAGES)}
-        done = subprocess.run([sys.executable, "-c", code], env=words, capture_output=True, text=True, check=False)
-        self.assertEqual((done.stderr, done.stdout), ("", printed))
+    def check(self, kind: str, run_example: Callable[[str, Path], str], title: str = "") -> None:
+        """Runs the examples in a language, of one title or of all."""
+        chosen = [it for it in EXAMPLES if it[2] == kind and it[1].endswith(title)]
+        self.assertTrue(chosen)
+        for page, head, _ in chosen:
+            text = section(read_page(page), head)
+            with self.subTest(f"{page}: {head}"), tempfile.TemporaryDirectory() as folder:
+                (code,), (printed,) = fenced(text, kind), fenced(text, "text")
+                self.assertEqual(run_example(code, Path(folder)), printed)
 
-    def test_the_lines_of_the_first_page(self) -> None:
-        block = blocks(section(read_page("README.md"), "## From Python"))[0]
-        calls = re.findall(r"^    (process\..*?) +# (.*)$", block, re.MULTILINE)
-        self.assertEqual(len(calls), 2)
-        with Process() as process:
-            for call, said in calls:
-                self.assertEqual(self.say(call, process), said)
+    def test_all_of_the_pages_are_here(self) -> None:
+        for page in ("README.md", "docs/LIBRARY.md"):
+            for kind in ("sh", "c", "python", "rust", "go"):
+                here = [it for it in EXAMPLES if (it[0], it[2]) == (page, kind)]
+                self.assertEqual(len(fenced(read_page(page), kind)), len(here), (page, kind))
 
-    def say(self, call: str, process: Process) -> str:
-        """What a call answers, or which of Python's errors it raises."""
-        try:
-            return repr(eval(call, {"process": process}))
-        except ProcessLookupError as fault:
-            return f"ProcessLookupError: {fault}"
+    def test_the_shell(self) -> None:
+        need_program()
+        self.check("sh", run_shell)
 
-    def test_the_manual_of_the_language(self) -> None:
+    def test_python_by_the_program(self) -> None:
+        need_program()
+        self.check("python", run_python, "by the program")
+        # The first page says that the other way answers the same.
+        self.check("python", lambda code, folder: run_python(code.replace("pidtab.Table()", "pidtab.Process()"), folder), "### From Python")
+
+    def test_python_in_its_own_process(self) -> None:
+        need_library()
+        self.check("python", run_python, "in its own process")
+        self.check("python", run_python, "### From Python")
+
+    def test_c(self) -> None:
+        need_archive()
+        self.check("c", run_c)
+
+    def test_rust(self) -> None:
+        need_archive()
+        self.check("rust", run_rust)
+
+    def test_go(self) -> None:
+        need_archive()
+        self.check("go", run_go)
+
+
+class Manuals(unittest.TestCase):
+    """Each manual page is well formed, and its examples print what it says."""
+
+    def test_their_form(self) -> None:
+        mandoc = need_tool("mandoc")
+        pages = sorted(MANUAL.iterdir())
+        done = subprocess.run([mandoc, "-T", "lint", *pages], capture_output=True, text=True, check=False)
+        # The pages that one refers to need not be installed.
+        said = [line for line in done.stdout.splitlines() if "STYLE: referenced manual not found: Xr pidtab" not in line]
+        self.assertEqual(said, [])
+        # 1 is a matter of style, as those pages are; 2 and more are faults.
+        self.assertIn(done.returncode, (0, 1))
+        self.assertEqual(len(pages), 5)
+
+    def test_the_language(self) -> None:
+        need_program()
         script, answers = displays((MANUAL / "pidtab.5").read_text())
         with Process() as process:
             self.assertEqual(list(process.answers(script.splitlines())), answers.splitlines())
 
-    def test_the_manuals_of_the_programs(self) -> None:
+    def test_the_programs(self) -> None:
+        need_program()
         shown = 0
         for name in ("pidtab.1", "pidtab-tree.1", "pidtab-check.1"):
             for display in displays((MANUAL / name).read_text()):
@@ -71,6 +113,30 @@ class Examples(unittest.TestCase):
         words = {"pidtab": find_program(), **{name: PACKAGES / "bin" / name for name in ("pidtab-tree", "pidtab-check")}}
         found = re.sub(r"(?<=\| )pidtab[-a-z]*", lambda it: f"'{words[it[0]]}'", command)
         return subprocess.run(["sh", "-c", found], capture_output=True, text=True, check=False).stdout
+
+    def test_the_structs_of_the_library(self) -> None:
+        call, reply, *_ = displays((MANUAL / "pidtab.3").read_text())
+        header = re.sub(r" */\*.*?\*/", "", read_page("bindings/c/pidtab.h"), flags=re.DOTALL)
+        for struct in (call, reply):
+            self.assertIn(struct, header)
+
+    def test_the_functions_of_the_library(self) -> None:
+        # The compiler sees whether they are those of the header.
+        _, _, functions, *_ = displays((MANUAL / "pidtab.3").read_text())
+        names = re.findall(r"pidtab_\w+(?=\()", functions)
+        header = read_page("bindings/c/pidtab.h")
+        self.assertEqual(names, [it for it in re.findall(r"^static inline int64_t (pidtab_\w+)", header, re.MULTILINE) if it in names])
+        self.assertEqual(len(names), 19)
+        code = '#include "pidtab.h"\n' + functions
+        with tempfile.TemporaryDirectory() as folder:
+            (Path(folder) / "functions.c").write_text(code)
+            run([need_tool("cc"), *STRICT, f"-I{REPOSITORY / 'bindings' / 'c'}", "-c", "functions.c"], Path(folder))
+
+    def test_the_example_of_the_library(self) -> None:
+        need_archive()
+        *_, code, printed = displays((MANUAL / "pidtab.3").read_text())
+        with tempfile.TemporaryDirectory() as folder:
+            self.assertEqual(run_c(code, Path(folder), [f"-I{BUILT}", str(BUILT / "libpidtab.a")]), printed)
 
 
 if __name__ == "__main__":

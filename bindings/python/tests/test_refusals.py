@@ -4,10 +4,10 @@ import errno
 import pickle
 import unittest
 
-from pidtab import Process, Refusal
+from pidtab import Refusal
 from tests.pages import quoted, read_page, rows, section
+from tests.ways import DEFAULT_PID_MAX, ByLibrary, ByProgram, Cases, make_call
 
-DEFAULT_PID_MAX = 32768
 LEAST_PID_MAX = 301
 
 # The lines before, the line that is refused, the words of the table, and Python's class for the error.
@@ -35,46 +35,52 @@ CASES: list[tuple[list[str], str, str, str, type[OSError]]] = [
 ]
 
 
-class Refusals(unittest.TestCase):
-    """What is refused raises the kernel's error."""
+class Page(unittest.TestCase):
+    """The cases are those of the page."""
 
     def test_all_of_the_page_are_here(self) -> None:
         table = rows(section(read_page("docs/SCRIPT.md"), "## Refusals"))
         self.assertEqual([quoted(row[0])[0] for row in table], [case[2] for case in CASES])
 
-    def test_each(self) -> None:
-        for before, line, answer, why, kind in CASES:
-            with self.subTest(answer):
-                self.refuse(before, line, answer, why, kind)
 
-    def refuse(self, before: list[str], line: str, answer: str, why: str, kind: type[OSError]) -> None:
+class RefusalCases(Cases):
+    """What is refused raises the kernel's error."""
+
+    def test_each_by_its_line(self) -> None:
+        for case in CASES:
+            with self.subTest(case[2]):
+                self.refuse(*case, by_line=True)
+
+    def test_each_by_its_method(self) -> None:
+        for case in CASES:
+            with self.subTest(case[2]):
+                self.refuse(*case, by_line=False)
+
+    def refuse(self, before: list[str], line: str, answer: str, why: str, kind: type[OSError], by_line: bool) -> None:
         """Plays a case."""
-        with Process(LEAST_PID_MAX if why.startswith("no-number") else DEFAULT_PID_MAX) as process:
-            self.assertFalse([it for it in process.answers(before) if it.startswith("E")])
-            with self.assertRaises(kind) as raised:
-                process.line(line)
+        table = self.open(LEAST_PID_MAX if why.startswith("no-number") else DEFAULT_PID_MAX)
+        self.assertFalse([it for it in table.answers(before) if it.startswith("E")])
+        with self.assertRaises(kind) as raised:
+            table.line(line) if by_line else make_call(table, line)
         refusal = raised.exception
         assert isinstance(refusal, Refusal)
         self.assertEqual(refusal.errno, getattr(errno, answer.split(" ")[0]))
         self.assertEqual(refusal.why, why)
         self.assertEqual(str(refusal), f"[Errno {refusal.errno}] {line}: {why}")
 
-    def test_a_method_raises_it(self) -> None:
-        with Process() as process:
-            with self.assertRaises(ProcessLookupError):
-                process.getpid(3)
-            with self.assertRaises(ChildProcessError):
-                process.wait(1)
-            with self.assertRaises(FileNotFoundError):
-                process.mk(5)
-            with self.assertRaises(PermissionError):
-                process.setsid(1)
-
     def test_it_can_be_sent_to_another_process(self) -> None:
-        with Process() as process, self.assertRaises(Refusal) as raised:
-            process.exit(1)
+        with self.assertRaises(Refusal) as raised:
+            self.open().exit(1)
         copy = pickle.loads(pickle.dumps(raised.exception))
         self.assertEqual((type(copy), copy.errno, copy.why), (Refusal, errno.EBUSY, "root-init"))
+
+
+class RefusalsByProgram(RefusalCases, ByProgram):
+    pass
+
+
+class RefusalsByLibrary(RefusalCases, ByLibrary):
+    pass
 
 
 if __name__ == "__main__":

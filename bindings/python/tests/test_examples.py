@@ -1,0 +1,90 @@
+"""The scripts of examples/: their lists, the walk-throughs of their page, and a session that goes on after a crash."""
+
+import subprocess
+import unittest
+from pathlib import Path
+
+from pidtab import Process, find_program
+from tests.pages import EXAMPLES, quoted, rows, script_lines
+
+# Two jobs for `pidtab work`, whose answers depend on the schedule.
+JOBS = {"worker0", "worker1"}
+
+
+def page_section(title: str) -> str:
+    """The part of the page of the examples below a title of the second level."""
+    _, found, behind = (EXAMPLES / "README.md").read_text(encoding="utf-8").partition(f"\n## {title}\n")
+    if not found:
+        raise ValueError(f"no section {title}")
+    return behind.split("\n## ")[0]
+
+
+def write_list(script: Path) -> str:
+    """What the program lists of the table that a script leaves."""
+    return subprocess.run(
+        [find_program(), "list"], input=script.read_bytes(), capture_output=True, check=True
+    ).stdout.decode()
+
+
+class Examples(unittest.TestCase):
+    """What is stored beside the scripts, and what their page says of them."""
+
+    def test_each_script_has_answers_and_a_list(self) -> None:
+        names = {file.stem for file in EXAMPLES.glob("*.script")} - JOBS
+        self.assertEqual(len(names), 8)
+        for kind in ("answers", "list"):
+            self.assertEqual({file.stem for file in EXAMPLES.glob(f"*.{kind}")}, names)
+
+    def test_lists(self) -> None:
+        for file in sorted(EXAMPLES.glob("*.list")):
+            with self.subTest(file.name):
+                self.assertEqual(write_list(file.with_suffix(".script")), file.read_text(encoding="utf-8"))
+
+    def test_walk_throughs(self) -> None:
+        for name, title in (("shell", "Job control as a shell does it"), ("recovery", "A crash, and the same lines again")):
+            with self.subTest(name):
+                self.compare(name, page_section(title))
+
+    def compare(self, name: str, text: str) -> None:
+        """The tables of a section have the script's lines with their answers."""
+        told = [[quoted(cell)[0] for cell in row[:2]] for row in rows_of_all(text)]
+        lines = script_lines(EXAMPLES / f"{name}.script")
+        answers = script_lines(EXAMPLES / f"{name}.answers")
+        self.assertEqual(told, [list(it) for it in zip(lines, answers, strict=True)])
+
+    def test_the_list_of_the_page(self) -> None:
+        shown = "".join("    " + line + "\n" for line in script_lines(EXAMPLES / "recovery.list"))
+        self.assertTrue(page_section("A crash, and the same lines again").endswith(f"\n\n{shown}"))
+
+
+def rows_of_all(text: str) -> list[list[str]]:
+    """The rows of all tables of a text, without their heads."""
+    tables = [part for part in text.split("\n\n") if part.startswith("|")]
+    return [row for table in tables for row in rows(table)]
+
+
+class Recovery(unittest.TestCase):
+    """A table that is lost at any line is had again by the same lines."""
+
+    def test_a_crash_after_each_line(self) -> None:
+        lines = script_lines(EXAMPLES / "recovery.script")
+        answers = tuple(script_lines(EXAMPLES / "recovery.answers"))
+        for place in range(len(lines) + 1):
+            with self.subTest(place):
+                self.assertEqual(self.answer_before_a_crash(lines[:place]), answers[:place])
+                with Process() as process:
+                    self.assertEqual(process.answers(lines[:place]), answers[:place])
+                    self.assertEqual(process.answers(lines[place:]), answers[place:])
+                    self.assertEqual(process.transcript.splitlines(), lines)
+
+    def answer_before_a_crash(self, lines: list[str]) -> tuple[str, ...]:
+        """What a session answers that is killed behind these lines."""
+        process = Process()
+        answers = process.answers(lines)
+        process._child.kill()
+        self.assertLess(process.close(), 0)
+        return answers
+
+
+if __name__ == "__main__":
+    unittest.main()

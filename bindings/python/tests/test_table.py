@@ -1,0 +1,326 @@
+"""What only a table of this process has: the header, the library and where it is, and its end."""
+
+import ctypes
+import gc
+import os
+import random
+import re
+import sys
+import tempfile
+import threading
+import unittest
+from collections.abc import Callable
+from pathlib import Path
+from types import SimpleNamespace
+from unittest import mock
+
+from pidtab import Calls, LibraryFault, LibraryMissing, Process, Table, TableClosed, find_library, raw
+from pidtab.calls import KINDS
+from pidtab.faults import WORDS
+from pidtab.language import FORMS
+from pidtab.library import load_library
+from tests.pages import quoted, read_page, rows, section
+from tests.ways import ask, need_library, need_program
+
+SEED = 20
+RANDOM_LINES = 3000
+
+# The names of C for the types of the fields.
+TYPES = {"void *": ctypes.c_void_p, "bool": ctypes.c_bool, "uint32_t": ctypes.c_uint32, "uint64_t": ctypes.c_uint64, "int32_t": ctypes.c_int32}
+
+# The words of docs/SCRIPT.md, in the order of their numbers, which stay.
+REFUSALS = [
+    "no-caller", "no-task", "no-child", "no-number", "pids-limit", "space-fallen", "too-deep", "elsewhere", "bad-group", "other-session",
+    "is-leader", "no-group", "executed", "root-init", "no-control", "control-busy", "root-control", "bad-limit", "control-depth",
+]  # fmt: skip
+
+
+def header() -> str:
+    """The header of C without its comments, each run of white space one space."""
+    return " ".join(re.sub(r"/\*.*?\*/", " ", read_page("bindings/c/pidtab.h"), flags=re.DOTALL).split())
+
+
+def body(words: str) -> str:
+    """What stands between the braces behind the words."""
+    _, found, behind = header().partition(words + " { ")
+    assert found, words
+    return behind.partition(" }")[0]
+
+
+def read_enum(name: str) -> dict[str, int]:
+    """The words of an enum with their numbers."""
+    numbers: dict[str, int] = {}
+    for entry in body(f"enum pidtab_{name}").split(","):
+        word, _, given = entry.strip().removeprefix("PIDTAB_").partition(" = ")
+        numbers[word] = int(given) if given else max(numbers.values(), default=-1) + 1
+    return numbers
+
+
+class Header(unittest.TestCase):
+    """The numbers, structs and functions are those of the header."""
+
+    def test_the_enums(self) -> None:
+        enums = [read_enum(name) for name in ("status", "operation", "which", "use", "kind")]
+        self.assertEqual([len(enum) for enum in enums], [9, 19, 4, 3, 10])
+        for word, number in [entry for enum in enums for entry in enum.items()]:
+            self.assertEqual(getattr(raw, word), number, word)
+
+    def test_the_bounds(self) -> None:
+        for name in ("VERSION", "KILLED", "LEVELS_MAX", "LONGEST_ANSWER"):
+            self.assertIn(f"#define PIDTAB_{name} {getattr(raw, name)} ", header())
+
+    def test_the_kinds_of_next(self) -> None:
+        uses = re.findall(r"PIDTAB_([A-Z]+)S\b", body("enum pidtab_use"))
+        self.assertEqual(list(KINDS), [use.lower() for use in uses])
+
+    def test_the_structs(self) -> None:
+        for name, known in (("pidtab", raw.Pidtab), ("pidtab_call", raw.PidtabCall), ("pidtab_reply", raw.PidtabReply)):
+            fields = re.findall(r"(void \*|\w+) ?(\w+)(\[PIDTAB_LEVELS_MAX\])?;", body(f"struct {name}"))
+            wanted = [(name, TYPES[kind] * raw.LEVELS_MAX if many else TYPES[kind]) for kind, name, many in fields]
+            self.assertEqual(list(known._fields_), wanted)
+
+    def test_the_sizes(self) -> None:
+        # Those that bindings/c/test.c asserts.
+        self.assertEqual([ctypes.sizeof(it) for it in (raw.Pidtab, raw.PidtabCall, raw.PidtabReply)], [16, 32, 168])
+        self.assertEqual(raw.CALL_FIELDS.size, 32)
+        for packed in (bytes(raw.PidtabCall(*range(1, 8))), b"\xff" * 32):
+            fields = raw.PidtabCall.from_buffer_copy(packed)
+            self.assertEqual(raw.CALL_FIELDS.unpack(packed), tuple(getattr(fields, name) for name, *_ in fields._fields_))
+
+    def test_the_functions(self) -> None:
+        declared = re.findall(r"(?<!inline )(?:uint32_t|void) (pidtab_\w+)\(([^)]*)\);", header())
+        self.assertEqual(sorted(name for name, _ in declared), sorted(raw.FUNCTIONS))
+        for name, taken in declared:
+            self.assertEqual(len(raw.FUNCTIONS[name][1]), 0 if taken == "void" else len(taken.split(",")), name)
+
+    def test_the_words_of_refusals(self) -> None:
+        self.assertEqual(list(WORDS), REFUSALS)
+        page = [quoted(row[0])[0].split(" ")[1] for row in rows(section(read_page("docs/SCRIPT.md"), "## Refusals"))]
+        self.assertEqual(sorted(page), sorted(WORDS))
+
+
+class Libraries(unittest.TestCase):
+    """Where the library is looked for, and what is none."""
+
+    def setUp(self) -> None:
+        folder = tempfile.TemporaryDirectory()
+        self.addCleanup(folder.cleanup)
+        self.folder = Path(folder.name)
+        self.nowhere = self.folder / "nothing"
+
+    def file(self, name: str) -> Path:
+        """A file that is no library."""
+        path = self.folder / name
+        path.write_text("no library\n")
+        return path
+
+    def find(self, built: Path, installed: Path) -> str:
+        """The library that is found where these two may be."""
+        with mock.patch("pidtab.library.BUILT_LIBRARY", built), mock.patch("pidtab.library.INSTALLED_LIBRARY", installed):
+            return find_library()
+
+    def test_the_variable_names_the_library(self) -> None:
+        path = self.file("named.so")
+        with mock.patch.dict(os.environ, {"PIDTAB_LIBRARY": str(path)}):
+            self.assertEqual(find_library(), str(path))
+            self.assertEqual(find_library("/bin/sh"), "/bin/sh")
+        with mock.patch.dict(os.environ, {"PIDTAB_LIBRARY": str(self.nowhere)}), self.assertRaisesRegex(LibraryMissing, "make lib"):
+            find_library()
+
+    def test_the_order_of_places(self) -> None:
+        built, installed = self.file("built.so"), self.file("installed.so")
+        with mock.patch.dict(os.environ, {"PIDTAB_LIBRARY": ""}):
+            self.assertEqual(self.find(built, installed), str(built))
+            self.assertEqual(self.find(self.nowhere, installed), str(installed))
+            self.assertEqual(self.find(self.nowhere, self.nowhere), "libpidtab.so.1")
+
+    def test_what_is_no_library(self) -> None:
+        with self.assertRaisesRegex(LibraryMissing, f"no library {self.nowhere}: build it"):
+            Table(library=self.nowhere)
+        with self.assertRaisesRegex(LibraryMissing, "cannot load .*named.so"):
+            Table(library=self.file("named.so"))
+
+    def test_another_library(self) -> None:
+        with mock.patch("ctypes.PyDLL", return_value=SimpleNamespace(other=1)), self.assertRaisesRegex(LibraryFault, "no function pidtab_version"):
+            load_library.__wrapped__("other.so")
+
+    def test_another_interface(self) -> None:
+        functions = SimpleNamespace(**{name: mock.Mock(return_value=2) for name in raw.FUNCTIONS})
+        with mock.patch("ctypes.PyDLL", return_value=functions), self.assertRaisesRegex(LibraryFault, "later.so has the interface 2"):
+            load_library.__wrapped__("later.so")
+
+    def test_an_interpreter_without_its_lock(self) -> None:
+        with mock.patch.object(sys, "_is_gil_enabled", return_value=False, create=True), self.assertRaisesRegex(LibraryFault, "without its lock"):
+            load_library.__wrapped__("any.so")
+
+
+class Statuses(unittest.TestCase):
+    """What is raised for each status that a table of a test's size does not come to."""
+
+    @classmethod
+    def setUpClass(cls) -> None:
+        need_library()
+
+    def stub(self, table: Table, status: int) -> None:
+        """Has each function but the end answer with a status from now on."""
+        names = ("pidtab_open", "pidtab_call", "pidtab_line", "pidtab_list")
+        table._functions = SimpleNamespace(**{name: mock.Mock(return_value=status) for name in names})  # type: ignore[assignment]
+
+    def test_each(self) -> None:
+        faults: list[tuple[int, type[Exception], str]] = [
+            (raw.NO_MEMORY, MemoryError, "fork 1: no memory"),
+            (raw.SPENT, OverflowError, "fork 1: spent"),
+            (raw.OUT_OF_RANGE, ValueError, "bad line: fork 1"),
+            (raw.CLOSED, TableClosed, "was closed"),
+            (raw.EMPTY_LINE, LibraryFault, "status 61"),
+            (99, LibraryFault, "status 99"),
+        ]
+        for fault in faults:
+            with self.subTest(fault[0]):
+                self.check(*fault)
+
+    def check(self, status: int, kind: type[Exception], words: str) -> None:
+        """A fork raises the kind, by its method and by its line."""
+        table = Table()
+        self.addCleanup(table.close)
+        self.stub(table, status)
+        with self.assertRaisesRegex(kind, words):
+            table.fork(1)
+        with self.assertRaisesRegex(kind, words):
+            table.line("fork 1")
+
+    def test_answers_tell_what_a_line_raises(self) -> None:
+        for status, answer in ((raw.NO_MEMORY, "no memory"), (raw.SPENT, "spent"), (raw.BAD_LINE, "bad line")):
+            with Table() as table:
+                self.stub(table, status)
+                self.assertEqual(table.answers(["fork 1"]), (answer,))
+
+    def test_no_memory_for_a_list(self) -> None:
+        with Table() as table:
+            self.stub(table, raw.NO_MEMORY)
+            with self.assertRaises(MemoryError):
+                table.list()
+
+    def test_no_memory_for_a_table(self) -> None:
+        functions = SimpleNamespace(pidtab_open=mock.Mock(return_value=raw.NO_MEMORY))
+        with mock.patch("pidtab.table.load_library", return_value=functions), self.assertRaises(MemoryError):
+            Table()
+
+
+class Ends(unittest.TestCase):
+    """A table is closed once, by whoever has it last."""
+
+    @classmethod
+    def setUpClass(cls) -> None:
+        need_library()
+
+    def test_a_table_that_nobody_has(self) -> None:
+        table = Table()
+        held, finish = table._table, table._finish
+        self.assertTrue(held.is_open)
+        del table
+        gc.collect()
+        self.assertFalse(finish.alive)
+        self.assertFalse(held.is_open)
+
+    def test_a_close_leaves_zeroes(self) -> None:
+        table = Table()
+        table.close()
+        self.assertEqual((table._table.at, table._table.is_open), (None, False))
+        table.close()
+
+    def test_a_close_amid_calls_of_another_thread(self) -> None:
+        table, calls = Table(), 0
+        ended = threading.Event()
+
+        def work() -> None:
+            nonlocal calls
+            try:
+                while True:
+                    table.getpid(1)
+                    calls += 1
+            except TableClosed:
+                ended.set()
+
+        thread = threading.Thread(target=work)
+        thread.start()
+        while calls < 1000 and thread.is_alive():
+            pass
+        table.close()
+        thread.join(60)
+        self.assertTrue(ended.is_set())
+
+    def test_two_threads_and_a_list(self) -> None:
+        # Each list is one of the table between two calls: as many tasks as its count.
+        interval = sys.getswitchinterval()
+        self.addCleanup(sys.setswitchinterval, interval)
+        sys.setswitchinterval(1e-6)
+        with Table() as table:
+            threads = [threading.Thread(target=fork_and_reap, args=(table, 3000)) for _ in range(2)]
+            for thread in threads:
+                thread.start()
+            while any(thread.is_alive() for thread in threads):
+                listing = table.list()
+                self.assertEqual(len(listing.tasks), listing.controls[0].count)
+            self.assertEqual((table.count(), table.mk()), (1, 3 * 2 * 3000 + 2))
+
+
+def fork_and_reap(table: Calls, times: int) -> None:
+    """Forks children and takes them away."""
+    for _ in range(times):
+        root = table.fork(1).root
+        table.exit(root, 3)
+        table.wait(1, root)
+
+
+class Both(unittest.TestCase):
+    """The same calls leave the same table, by either way."""
+
+    @classmethod
+    def setUpClass(cls) -> None:
+        need_program()
+        need_library()
+
+    def test_random_lines(self) -> None:
+        # Small numbers, so that most calls name what is there.
+        chance = random.Random(SEED)
+        numbers = {letter: range(-1 if letter == "G" else 0, 12) for letter in "CTPNSGI"}
+        lines = [" ".join(str(chance.choice(numbers[word])) if word in numbers else word for word in chance.choice(FORMS).split(" "))
+                 for _ in range(RANDOM_LINES)]  # fmt: skip
+        with Process(301) as process, Table(301) as table:
+            self.assertEqual(process.answers(lines), table.answers(lines))
+            for line in lines:
+                self.assertEqual((line, ask(process, line)), (line, ask(table, line)))
+            self.assertEqual(process._list_text(), table._list_text())
+            made = len(table.list().tasks)
+        self.assertGreater(made, 20)
+
+    def test_list_and_tree(self) -> None:
+        with Process() as process, Table() as table:
+            for way in (process, table):
+                self.grow(way)
+            self.assertEqual(process._list_text(), table._list_text())
+            self.assertEqual((process.list(), process.tree()), (table.list(), table.tree()))
+
+    def grow(self, table: Calls) -> None:
+        """A table with all that a list may say."""
+        group = table.mk()
+        table.limit(group, 9)
+        table.mk(group)
+        table.fork(1, new=True)
+        table.join(1, 2)
+        for _ in range(3):
+            table.fork(1)
+        table.exec(3)
+        table.subreaper(3)
+        table.setsid(4)
+        table.move(5, group)
+        table.exit(5, 4)
+        table.exit(2)
+        words = table._list_text()
+        for word in ("fallen", "killed", "exit 4", "children", "limit 9"):
+            self.assertIn(word, words)
+
+
+if __name__ == "__main__":
+    unittest.main()

@@ -1,0 +1,113 @@
+"""The two ways to a table, for cases that hold of both; and each call by its method, told as the script language tells it."""
+
+import errno
+import unittest
+from collections.abc import Callable
+from typing import TYPE_CHECKING
+
+from pidtab import Calls, Forked, LibraryFault, Process, ProgramMissing, Reaped, Refusal, Table, find_library, find_program
+from pidtab.library import load_library
+
+DEFAULT_PID_MAX = 32768
+
+
+class Way(unittest.TestCase):
+    """Opens tables, which are closed behind the test."""
+
+    def open(self, pid_max: int = DEFAULT_PID_MAX) -> Calls:
+        """A new table."""
+        raise NotImplementedError
+
+
+# Cases have no tests of their own: each class of them is joined with a way below it.
+if TYPE_CHECKING:
+    Cases = Way
+else:
+    Cases = object
+
+
+def need_program() -> None:
+    """Skips what needs the program, where it is not there."""
+    try:
+        find_program()
+    except ProgramMissing as fault:
+        raise unittest.SkipTest(str(fault)) from fault
+
+
+def need_library() -> None:
+    """Skips what needs the library, where it is not there."""
+    try:
+        load_library(find_library())
+    except LibraryFault as fault:
+        raise unittest.SkipTest(str(fault)) from fault
+
+
+class ByProgram(Way):
+    """By the program at the other end of a pipe."""
+
+    @classmethod
+    def setUpClass(cls) -> None:
+        need_program()
+
+    def open(self, pid_max: int = DEFAULT_PID_MAX) -> Calls:
+        process = Process(pid_max)
+        self.addCleanup(process.close)
+        return process
+
+
+class ByLibrary(Way):
+    """By the library, in this process."""
+
+    @classmethod
+    def setUpClass(cls) -> None:
+        need_library()
+
+    def open(self, pid_max: int = DEFAULT_PID_MAX) -> Calls:
+        table = Table(pid_max)
+        self.addCleanup(table.close)
+        return table
+
+
+def make_wait(table: Calls, caller: int, words: list[str]) -> Reaped | None:
+    """The wait that is asked for by `any`, `own`, `pid P` or `group P`."""
+    if words[0] == "pid":
+        return table.wait(caller, int(words[1]))
+    if words[0] == "group":
+        return table.wait(caller, group=int(words[1]))
+    return table.wait(caller, own=words[0] == "own")
+
+
+def make_call(table: Calls, line: str) -> object:
+    """Makes the call on a good line by its method."""
+    name, first, *words = line.split(" ")
+    number = int(first)
+    made: dict[str, Callable[[], object]] = {
+        "fork": lambda: table.fork(number, new=bool(words)),
+        "wait": lambda: make_wait(table, number, words),
+        "next": lambda: table.next(number, words[0], int(words[1])),  # type: ignore[arg-type]
+        "subreaper": lambda: table.subreaper(number, on=words[0] == "on"),
+        "limit": lambda: table.limit(number, None if words[0] == "max" else int(words[0])),
+    }
+    return made.get(name, lambda: getattr(table, name)(number, *[int(word) for word in words]))()
+
+
+def say_answer(name: str, told: object) -> str:
+    """What a method tells, in the words of docs/SCRIPT.md."""
+    if isinstance(told, Forked):
+        return f"child {told.child} root {told.root}"
+    if isinstance(told, Reaped):
+        return f"reaped {told.child} killed" if told.killed else f"reaped {told.child} exit {told.status}"
+    if isinstance(told, tuple):
+        return " ".join(str(number) for number in told)
+    if told is None:
+        return {"wait": "none", "next": "end"}.get(name, "ok")
+    return f"control {told}" if name == "mk" else str(told)
+
+
+def ask(table: Calls, line: str) -> str:
+    """The answer to a good line, by the method of its call."""
+    try:
+        return say_answer(line.split(" ")[0], make_call(table, line))
+    except Refusal as refusal:
+        assert refusal.errno is not None
+        return f"{errno.errorcode[refusal.errno]} {refusal.why}"
