@@ -1,0 +1,3 @@
+module pidtab
+
+go 1.19

@@ -1,0 +1,9 @@
+//go:build !pkgconfig
+
+package pidtab
+
+/*
+#cgo CFLAGS: -I${SRCDIR}/../../out
+#cgo LDFLAGS: ${SRCDIR}/../../out/libpidtab.a
+*/
+import "C"

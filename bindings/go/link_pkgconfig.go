@@ -1,0 +1,6 @@
+//go:build pkgconfig
+
+package pidtab
+
+// #cgo pkg-config: pidtab
+import "C"

@@ -1,0 +1,79 @@
+package pidtab
+
+// #include <pidtab.h>
+import "C"
+
+import (
+	"errors"
+	"fmt"
+	"syscall"
+)
+
+// Why a call was not made. The table is as it was.
+var (
+	ErrClosed     = errors.New("pidtab: the table is closed")
+	ErrNoMemory   = errors.New("pidtab: no memory")
+	ErrSpent      = errors.New("pidtab: spent: the table has made 2^64 - 2 calls")
+	ErrOutOfRange = errors.New("pidtab: out of range")
+	ErrEmptyLine  = errors.New("pidtab: an empty line has no answer")
+	ErrBadLine    = errors.New("pidtab: bad line")
+)
+
+// Refusal is an error of a call that the table refuses, which changes nothing but that the call is counted. Its errno is wrapped:
+// errors.Is(err, syscall.ESRCH).
+type Refusal struct {
+	Errno syscall.Errno // the error that the kernel would give
+	Why   string        // the word of the script language, as no-caller; behind no-number and pids-limit stands an id
+}
+
+// Error tells the errno and the word.
+func (refusal Refusal) Error() string {
+	return fmt.Sprintf("pidtab: %v: %s", refusal.Errno, refusal.Why)
+}
+
+// Unwrap is the errno.
+func (refusal Refusal) Unwrap() error {
+	return refusal.Errno
+}
+
+// The words of the refusals, by their numbers.
+var words = [...]string{
+	1: "no-caller", 2: "no-task", 3: "no-child", 4: "no-number", 5: "pids-limit", 6: "space-fallen", 7: "too-deep",
+	8: "elsewhere", 9: "bad-group", 10: "other-session", 11: "is-leader", 12: "no-group", 13: "executed", 14: "root-init",
+	15: "no-control", 16: "control-busy", 17: "root-control", 18: "bad-limit", 19: "control-depth",
+}
+
+const (
+	noNumber  = 4
+	pidsLimit = 5
+)
+
+// refusalOf is what a reply says that is a refusal.
+func refusalOf(reply *C.struct_pidtab_reply) error {
+	why := words[reply.refusal]
+	if reply.refusal == noNumber || reply.refusal == pidsLimit {
+		why = fmt.Sprintf("%s %d", why, reply.first)
+	}
+	return Refusal{syscall.Errno(reply.error), why}
+}
+
+// faultOf is what a status says; nothing where it is done.
+func faultOf(status uint32) error {
+	switch status {
+	case C.PIDTAB_DONE:
+		return nil
+	case C.PIDTAB_CLOSED:
+		return ErrClosed
+	case C.PIDTAB_NO_MEMORY:
+		return ErrNoMemory
+	case C.PIDTAB_SPENT:
+		return ErrSpent
+	case C.PIDTAB_OUT_OF_RANGE:
+		return ErrOutOfRange
+	case C.PIDTAB_EMPTY_LINE:
+		return ErrEmptyLine
+	case C.PIDTAB_BAD_LINE:
+		return ErrBadLine
+	}
+	return fmt.Errorf("pidtab: the library answers with the status %d", status)
+}
