@@ -6,6 +6,7 @@ import tempfile
 import unittest
 from collections.abc import Callable
 from pathlib import Path
+from textwrap import indent
 
 from pidtab import Process, find_program
 from tests.pages import REPOSITORY, displays, fenced, read_page, section
@@ -46,6 +47,17 @@ class Examples(unittest.TestCase):
             for kind in ("sh", "c", "python", "rust", "go"):
                 here = [it for it in EXAMPLES if (it[0], it[2]) == (page, kind)]
                 self.assertEqual(len(fenced(read_page(page), kind)), len(here), (page, kind))
+
+    def test_rattle(self) -> None:
+        # The gate proves the crate, and compares what it prints with its stored run.
+        text = section(read_page("docs/LIBRARY.md"), "## From Rattle")
+        folder = REPOSITORY / "crates" / "first_table"
+        (code,), (printed,) = fenced(text, "rattle"), fenced(text, "text")
+        self.assertEqual(code, (folder / "src" / "main.rt").read_text(encoding="utf-8"))
+        self.assertEqual(printed, (folder / "stdout").read_text(encoding="utf-8"))
+        proof = (folder / "proofs" / "main" / "Invariants.antt").read_text(encoding="utf-8")
+        self.assertIn(indent("```antt\n" + proof + "```\n", "  "), text)
+        self.assertIn(f"`{next(line for line in read_page('crates.txt').splitlines() if line.startswith('first_table:'))}`", text)
 
     def test_the_shell(self) -> None:
         need_program()
