@@ -4,7 +4,7 @@
     loads.py list                        the loads, their sizes, what a competent unverified peer takes
     loads.py script LOAD N               the script on standard output
     loads.py measure PROGRAM [LOAD ..]   instructions a call by callgrind, each load at two sizes
-    loads.py time PROGRAM [TASKS ..]     microseconds a call among so many live tasks, the least of five runs
+    loads.py time PROGRAM [TASKS ..]     microseconds of processor time a call among so many live tasks, the least of five runs
 
 A load is a set-up, which brings the table to a state, and a body, which is what is measured: the cost of the body is
 that of both less that of the set-up. The same words give the same bytes. Instructions repeat from run to run within
@@ -15,10 +15,10 @@ import bisect
 import os
 import random
 import re
+import resource
 import subprocess
 import sys
 import tempfile
-import time
 
 EVENTS = 8              # how often the one great event of `fall` comes
 
@@ -419,17 +419,17 @@ def measure(program, names):
             print(f"| {name} | {n:,} | {calls:,} | {cost:,.0f} | {compared} |", flush=True)
 
 
-def among(tasks, body):
-    """A script with so many live tasks, and then the body."""
+def among(tasks, body, times):
+    """A script with so many live tasks, and then the body, so many times."""
     s = Script(4194304, 1)
     tree = shells(s, tasks)
     s.body()
-    for _ in range(TIMED):
+    for _ in range(times):
         body(s, s.rng.choice(tree)[0])
     return s
 
 
-TIMED = 20000           # how often `time` makes a call
+TIMED = 100000          # how often `time` makes a call at least
 BODIES = {
     "a fork": lambda s, p: s.fork(p),
     "a fork, an exit and a wait": lambda s, p: cycle(s, p, "any"),
@@ -438,18 +438,19 @@ BODIES = {
 
 
 def seconds(program, pid_max, lines):
-    """The least of five runs."""
+    """The least of five runs, in processor time."""
     with tempfile.NamedTemporaryFile("w+", suffix=".script") as f:
         f.write("".join(line + "\n" for line in lines))
         f.flush()
-        best = None
-        for _ in range(5):
-            f.seek(0)
-            begun = time.perf_counter()
-            subprocess.run([program, "run", "--pid-max", str(pid_max)], stdin=f, stdout=subprocess.DEVNULL, check=True)
-            took = time.perf_counter() - begun
-            best = took if best is None else min(best, took)
-        return best
+        return min(one_run([program, "run", "--pid-max", str(pid_max)], f) for _ in range(5))
+
+
+def one_run(command, script):
+    script.seek(0)
+    before = resource.getrusage(resource.RUSAGE_CHILDREN)
+    subprocess.run(command, stdin=script, stdout=subprocess.DEVNULL, check=True)
+    after = resource.getrusage(resource.RUSAGE_CHILDREN)
+    return after.ru_utime + after.ru_stime - before.ru_utime - before.ru_stime
 
 
 def times(program, sizes):
@@ -457,9 +458,10 @@ def times(program, sizes):
     for name, body in BODIES.items():
         cells = []
         for n in sizes:
-            s = among(n, body)
+            calls = max(TIMED, n)
+            s = among(n, body, calls)
             took = seconds(program, s.pid_max, s.lines) - seconds(program, s.pid_max, s.lines[: s.split])
-            cells.append(f"{took / TIMED * 1e6:.1f} µs")
+            cells.append(f"{took / calls * 1e6:.1f} µs")
         print(f"| {name} | " + " | ".join(cells) + " |", flush=True)
 
 
