@@ -210,7 +210,7 @@ fn serve_two<L: Ledger + Send + Sync, R: Print + Threads + Wait + Clock + Sync +
 /// Tells what each worker was answered, without the places in the history, which the schedule picks. It
 /// answers whether no call was refused.
 fn tell_works<R: Print>(rt: &R, works: &[Work]) -> Result<bool> {
-    let is_whole = works.iter().all(|work| work.refused == 0);
+    let is_whole = made_all(works);
     tell(rt, &[if is_whole { b"= " } else { b"- " }, b"work\n"])?;
     for (worker, work) in works.iter().enumerate() {
         println!(rt; "worker {worker}")?;
@@ -220,6 +220,16 @@ fn tell_works<R: Print>(rt: &R, works: &[Work]) -> Result<bool> {
         println!(rt; "refused {}", work.refused)?;
     }
     Ok(is_whole)
+}
+
+/// Whether no call of any worker was refused.
+fn made_all(works: &[Work]) -> bool {
+    for work in works {
+        if work.refused > 0 {
+            return false;
+        }
+    }
+    true
 }
 
 /// Tells what the call of a receipt was answered.
