@@ -419,17 +419,17 @@ def measure(program, names):
             print(f"| {name} | {n:,} | {calls:,} | {cost:,.0f} | {compared} |", flush=True)
 
 
-def among(tasks, body, times):
+def among(tasks, body, calls):
     """A script with so many live tasks, and then the body, so many times."""
     s = Script(4194304, 1)
     tree = shells(s, tasks)
     s.body()
-    for _ in range(times):
+    for _ in range(calls):
         body(s, s.rng.choice(tree)[0])
     return s
 
 
-TIMED = 100000          # how often `time` makes a call at least
+TIMED = 100000          # how often at least `time` makes a call
 BODIES = {
     "a fork": lambda s, p: s.fork(p),
     "a fork, an exit and a wait": lambda s, p: cycle(s, p, "any"),
@@ -446,6 +446,7 @@ def seconds(program, pid_max, lines):
 
 
 def one_run(command, script):
+    """The processor time of one run on the script, in seconds."""
     script.seek(0)
     before = resource.getrusage(resource.RUSAGE_CHILDREN)
     subprocess.run(command, stdin=script, stdout=subprocess.DEVNULL, check=True)

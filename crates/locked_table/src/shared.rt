@@ -56,8 +56,7 @@ impl<L: Ledger, const N: usize> Shared<L, N> {
     /// receipt has the reply, a refusal too, and the call's place in the history.
     ///
     /// It waits while another thread holds the lock, and never returns where this thread holds its
-    /// guard. The other threads wait as long as the call takes: a few searches on each level that
-    /// it names, and for a fall a step for each member of the namespace.
+    /// guard. The other threads wait as long as the call takes ([`Record::act`] says what it costs).
     ///
     /// `Spent` comes where no stamp is left. `NoMemory` comes where there is none for what the call
     /// makes, or for its entry. Then nothing has changed, nothing is recorded, and the seat is as

@@ -61,6 +61,10 @@ fn make(store: &mut TaskStore, stamp: u64, call: Call, reply: &mut Reply) -> Res
 impl TaskTable {
     /// Makes the call, of which the stamp is the id of what it makes; so the stamp is above all ids that
     /// stand. The reply is written in place. The error is want of memory, and then what the reply holds is of no account.
+    ///
+    /// It costs a search on each level of the namespaces that the call names, a step for each control group around the task,
+    /// and for a fall one for each member and for each namespace that there is. A wait for a group walks the shorter of two
+    /// lists: the caller's children, and the members of the group.
     pub fn step(&mut self, stamp: u64, call: Call, reply: &mut Reply) -> Result<(), AllocError>
         requires below { IsBelow stamp self.old }
         ensures state { OnOk result (self.new ≡ (step self.old stamp call).state) }
