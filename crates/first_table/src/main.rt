@@ -41,7 +41,7 @@ fn play<L: Ledger, R: Print + AllocGlobal>(rt: &R, blank: Blank) -> Result<()>
     let config = Config::default_values();
     let (mut record, mut seats) = Record::<L, 1>::new(rt.alloc(), blank, &config)?;
     let Some(mut seat) = seats.pop() else {
-        return Ok(());
+        unreachable!()
     };
     let mut out = io::writer(rt);
     for call in calls {
