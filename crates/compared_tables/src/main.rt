@@ -9,7 +9,6 @@
 
 mod draft;
 mod generator;
-mod pair;
 mod runs;
 mod tally;
 mod worked;

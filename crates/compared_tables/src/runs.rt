@@ -2,13 +2,13 @@
 
 use crate::draft::Theme;
 use crate::generator::{Aims, Generator};
-use crate::pair::Pair;
 use crate::tally::Tally;
 use crate::worked::{ask_below_deepest, build_controls, build_spaces};
 use anyhow::{Result, bail};
 use pid_types::config::Config;
 use pid_types::reply::Refusal;
 use std::alloc::Global;
+use table_pair::Pair;
 
 /// How many calls a run has.
 const CALLS: u32 = 5000;

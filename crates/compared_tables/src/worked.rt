@@ -1,6 +1,5 @@
 //! Scripts whose replies are known beforehand, from the rules of docs/MODEL.md and not from a table.
 
-use crate::pair::Pair;
 use anyhow::{Result, ensure};
 use arrayvec::ArrayVec;
 use pid_types::call::{Call, Kind, Which};
@@ -8,6 +7,7 @@ use pid_types::config::Config;
 use pid_types::plain::{Ended, LEVELS};
 use pid_types::reply::{Refusal, Reply};
 use std::alloc::Global;
+use table_pair::Pair;
 
 /// The least and the greatest number of a thousand children of the root init.
 const FIRST_CHILD: u32 = 2;

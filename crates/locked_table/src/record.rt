@@ -35,7 +35,6 @@ use task_table::TaskTable;
 
 /// The record of a process table with N workers. Contracts see its configuration, the opening and
 /// the present state, the kept history, what was cut away before it, and the room for more entries.
-#[derive(Drop)]
 pub struct Record<L: Ledger, const N: usize> {
     config: Config,
     opening: Opening,
@@ -44,6 +43,21 @@ pub struct Record<L: Ledger, const N: usize> {
     history: Vec<Entry>,
     table: TaskTable,
     book: Book<L>,
+}
+
+// Written out, as that of the table is.
+impl<L: Ledger, const N: usize> Drop for Record<L, N> {
+    fn drop(self) {
+        let Record {
+            config: _,
+            opening: _,
+            first_kept: _,
+            cut: _,
+            history: _,
+            table: _,
+            book: _,
+        } = self;
+    }
 }
 
 impl<L: Ledger, const N: usize> Model for Record<L, N> {

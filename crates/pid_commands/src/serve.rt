@@ -15,7 +15,7 @@ use crate::jobs::{Opens, read_jobs};
 use crate::lent::Lent;
 use crate::show::finished_text;
 use crate::status::{Status, write_usage_line};
-use pid_jobs::{JobFiles, OpenGate, run_workers};
+use pid_jobs::{Finished, JobFiles, OpenGate, run_workers};
 use pid_types::call::Call;
 use pid_types::config::Config;
 use pid_types::device::{DeviceFault, FromReader, Sink, Source};
@@ -316,9 +316,10 @@ fn run_all<L: Ledger + Send + Sync, R: Threads + Wait + Clock + Sync + AllocGlob
         jobs,
         &OpenGate,
     )?;
+    let Finished { kept, works } = finished;
     // What the record promises is the contract of its total.
-    let _total = finished.kept.total();
-    match finished_text(rt, finished) {
+    let _total = kept.total();
+    match finished_text(rt, &kept, works) {
         Ok(text) => Ok(text),
         Err(_) => Err(Fault::NoMemory),
     }

@@ -9,7 +9,8 @@ ghost use Rattle.pid_script.specs.Lists.{list_of};
 ghost use Rattle.pid_script.specs.Script.{with_newline};
 ghost use Rattle.pid_commands.specs.Output.{receipt_line, work_lines, works_text};
 
-use pid_jobs::{Finished, Work};
+use locked_table::Record;
+use pid_jobs::Work;
 use pid_script::answer::answer_text;
 use pid_types::entry::Receipt;
 use pid_workers::list_record;
@@ -23,13 +24,13 @@ use std::thread::Threads;
 /// It is held whole, beside the list. The only error is want of memory.
 pub(crate) fn finished_text<L: Ledger, R: Threads + AllocGlobal, const N: usize>(
     rt: &R,
-    finished: Finished<L, N>,
+    kept: &Record<L, N>,
+    works: Vec<Work>,
 ) -> Result<Vec<u8>, AllocError>
-    ensures { IfOk result (λ text. (plain : Plain) × Shows finished.kept.present plain
-        × (text.items ≡ works_text 0 finished.works.items ++ list_of plain)) }
+    ensures { IfOk result (λ text. (plain : Plain) × Shows kept.now.present plain
+        × (text.items ≡ works_text 0 works.items ++ list_of plain)) }
 {
-    let Finished { kept, works } = finished;
-    let list = list_record(rt, rt.alloc(), &kept)?;
+    let list = list_record(rt, rt.alloc(), kept)?;
     let mut text = Vec::new(rt.alloc());
     match write_shown(&mut text, works, list.as_slice()) {
         Ok(()) => Ok(text),

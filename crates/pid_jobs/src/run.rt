@@ -2,7 +2,7 @@
 //!
 //! [`run_workers`] is the one door. It takes the jobs as lists of calls, so what a job makes cannot
 //! be named later in it but by luck: ids and numbers depend on which worker comes first.
-ghost use Rattle.std.specs.Prelude.{◌≡◌, ℕ, ◌<◌, length, vec_len, slice_index_or, IfOk};
+ghost use Rattle.std.specs.Prelude.{◌≡◌, ℕ, ◌<◌, length, vec_len, slice_index_or, IfOk, OnOk};
 ghost use Rattle.locked_table.specs.SeatState.{AreSeats};
 ghost use Rattle.pid_jobs.specs.Job.{Fulfils};
 ghost use Rattle.pid_jobs.specs.Receipts.{IsAudited};
@@ -160,6 +160,58 @@ fn part<L: Ledger, const N: usize>(
     Ok((seats, works))
 }
 
+/// Runs each job in a thread of its own, over one table made with the configuration, and joins them
+/// all. Nothing is looked at of what they leave.
+fn finish_all<
+    L: Ledger + Send + Sync,
+    G: Gate + Sync,
+    R: Threads + Wait + Clock + Sync,
+    const N: usize,
+>(
+    rt: &R,
+    alloc: Global,
+    blank: Blank,
+    config: &Config,
+    jobs: &[Vec<Call>],
+    gate: &G,
+) -> Result<Finished<L, N>, RunFault>
+    requires name { blank.name ≡ L.name }
+    requires parts { (blank.parts ≡ L.parts) × (L.parts ≡ N) × (0 < N) }
+    requires jobs { length jobs.now ≡ N }
+    ensures works { IfOk result (λ f. vec_len f.works ≡ N) }
+    ensures jobs { IfOk result (λ f. (w : ℕ) (d : _) (j : _) → w < N → Fulfils (slice_index_or jobs.now w j).items (slice_index_or f.works.items w d).receipts.items (slice_index_or f.works.items w d).refused) }
+{
+    let (shared, seats) = Shared::<L, N>::open(alloc, blank, config)?;
+    let dones = serve_all(rt, alloc, &shared, gate, seats, jobs)?;
+    let (seats, works) = part(alloc, dones)?;
+    let kept = shared.close(seats);
+    Ok(Finished { kept, works })
+}
+
+/// Whether what the workers left is what they had: all calls of one table with the configuration, from
+/// its first one on. The error is an [`RunFault::Audit`].
+fn check_finished<L: Ledger, const N: usize>(
+    finished: &Finished<L, N>,
+    config: &Config,
+) -> Result<(), RunFault>
+    requires { vec_len finished.now.works ≡ N }
+    ensures config { OnOk result (finished.now.kept.config ≡ config.now) }
+    ensures kept { OnOk result (finished.now.kept.first_kept ≡ 0) }
+    ensures audited { OnOk result (IsAudited N finished.now.kept finished.now.works.items) }
+{
+    // Never so. But no contract can name what stood behind the lock, and the answer promises both.
+    if finished.kept.config() != *config || finished.kept.first_kept() != 0 {
+        return Err(RunFault::Audit {
+            worker: 0,
+            place: 0,
+        });
+    }
+    match audit(&finished.kept, finished.works.as_slice()) {
+        Ok(()) => Ok(()),
+        Err(Audit { worker, place }) => Err(RunFault::Audit { worker, place }),
+    }
+}
+
 /// Runs each job in a thread of its own, over one table made with the configuration, joins them
 /// all, and audits what they have. The blank has one part for each job.
 ///
@@ -197,19 +249,7 @@ pub fn run_workers<
     ensures jobs { IfOk result (λ f. (w : ℕ) (d : _) (j : _) → w < N → Fulfils (slice_index_or jobs.now w j).items (slice_index_or f.works.items w d).receipts.items (slice_index_or f.works.items w d).refused) }
     ensures audited { IfOk result (λ f. IsAudited N f.kept f.works.items) }
 {
-    let (shared, seats) = Shared::<L, N>::open(alloc, blank, config)?;
-    let dones = serve_all(rt, alloc, &shared, gate, seats, jobs)?;
-    let (seats, works) = part(alloc, dones)?;
-    let kept = shared.close(seats);
-    // Never so. But no contract can name what stood behind the lock, and the answer promises both.
-    if kept.config() != *config || kept.first_kept() != 0 {
-        return Err(RunFault::Audit {
-            worker: 0,
-            place: 0,
-        });
-    }
-    match audit(&kept, works.as_slice()) {
-        Ok(()) => Ok(Finished { kept, works }),
-        Err(Audit { worker, place }) => Err(RunFault::Audit { worker, place }),
-    }
+    let finished = finish_all::<L, G, R, N>(rt, alloc, blank, config, jobs, gate)?;
+    check_finished(&finished, config)?;
+    Ok(finished)
 }

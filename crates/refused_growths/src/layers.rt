@@ -47,8 +47,11 @@ fn fill(alloc: Global, layer: Layer) -> Result<Option<u64>> {
 
 /// A sum that tells in which order the numbers stand.
 pub fn sum_of(seen: &Picture) -> u64 {
-    seen.iter()
-        .fold(0u64, |sum, n| sum.wrapping_mul(31).wrapping_add(*n))
+    let mut sum = 0u64;
+    for n in seen.iter() {
+        sum = sum.wrapping_mul(31).wrapping_add(*n);
+    }
+    sum
 }
 
 /// What can be read of the numbers: the ids and the cursors of the namespaces, and the numbers in use there.
