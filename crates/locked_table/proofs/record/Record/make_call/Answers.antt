@@ -28,3 +28,12 @@ returns-clause-reply g c =
     let e : Entry = record { worker = c.args.seat.now.worker; call = c.args.call; reply = c.step.new.reply } in
     last_reply_pushed c.reserve.new.self.items c.book_call.new.history.items e _ c.book_call.ensures.history
     (c.in_ok-step.ensures.reply ∙ ap (λ n. (step c.self.inside.table n c.args.call).reply) c.in-Some.ensures.some ∙ ap (λ (t : Chronicle). (step t.present (next_stamp c.args.self.now) c.args.call).reply) c.self.view_is)
+
+pub returns-clause-history : goal.returns-clause-history
+returns-clause-history g c = search rules
+
+pub returns-clause-others : goal.returns-clause-others
+returns-clause-others g c = search rules
+
+pub returns-in_err-reserve-clause-err : goal.returns-in_err-reserve-clause-err
+returns-in_err-reserve-clause-err g c = search rules
