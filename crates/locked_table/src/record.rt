@@ -45,7 +45,7 @@ pub struct Record<L: Ledger, const N: usize> {
     book: Book<L>,
 }
 
-// Written out, as that of the table is.
+// Written out, and not derived: so the crates above cite this drop, and do not prove it anew.
 impl<L: Ledger, const N: usize> Drop for Record<L, N> {
     fn drop(self) {
         let Record {

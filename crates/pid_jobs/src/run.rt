@@ -161,7 +161,8 @@ fn part<L: Ledger, const N: usize>(
 }
 
 /// Runs each job in a thread of its own, over one table made with the configuration, and joins them
-/// all. Nothing is looked at of what they leave.
+/// all. Nothing is looked at of what they leave. The errors are those of [`run_workers`], but for
+/// [`RunFault::Audit`].
 fn finish_all<
     L: Ledger + Send + Sync,
     G: Gate + Sync,
@@ -188,8 +189,9 @@ fn finish_all<
     Ok(Finished { kept, works })
 }
 
-/// Whether what the workers left is what they had: all calls of one table with the configuration, from
-/// its first one on. The error is an [`RunFault::Audit`].
+/// Whether the kept history is that of a table with the configuration, from its first call on, and each
+/// worker's receipts are its entries there. The error is a [`RunFault::Audit`]: of the least worker and
+/// the first place that differ, or of worker 0 and place 0 where the history is not such a one.
 fn check_finished<L: Ledger, const N: usize>(
     finished: &Finished<L, N>,
     config: &Config,

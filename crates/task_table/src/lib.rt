@@ -28,7 +28,7 @@ pub struct TaskTable {
     store: TaskStore,
 }
 
-// Written out, and not derived: so the drop of all that it holds is proved here once, and not by each crate that drops a table.
+// Written out, and not derived: so the crates above cite this drop, and do not prove it anew.
 impl Drop for TaskTable {
     fn drop(self) {
         let TaskTable { store: _ } = self;
