@@ -23,6 +23,7 @@ use task_store::TaskStore;
 /// The refusals are `NoControl`, and then `ControlDepth` where the parent has level 64, the deepest. The error is
 /// want of memory.
 #[tactic(auto, unfolding(pid_types::specs::Changes::make_control))]
+#[inline(never)]
 pub fn make_control(
     store: &mut TaskStore,
     stamp: u64,
@@ -54,6 +55,7 @@ pub fn make_control(
 /// The refusals are `NoControl`, `RootControl`, and `ControlBusy` where a live task or a control group is
 /// directly in it.
 #[tactic(auto, unfolding(pid_types::specs::Changes::remove_control))]
+#[inline(never)]
 pub fn remove_control(store: &mut TaskStore, id: u64) -> ShortReply
     requires { IsWhole store.old }
     ensures state { state_of store.new ≡ (remove_control_of (state_of store.old) id).state }
@@ -77,6 +79,7 @@ pub fn remove_control(store: &mut TaskStore, id: u64) -> ShortReply
 ///
 /// The refusals are `NoControl`, `RootControl` and `BadLimit`.
 #[tactic(auto, unfolding(pid_types::specs::Changes::set_limit))]
+#[inline(never)]
 pub fn set_limit(store: &mut TaskStore, id: u64, limit: Option<u32>) -> ShortReply
     requires { IsWhole store.old }
     ensures state { state_of store.new ≡ (set_limit_of (state_of store.old) id limit).state }

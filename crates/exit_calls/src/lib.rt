@@ -64,6 +64,7 @@ fn fall(store: &mut TaskStore, init: u32, task: Task, status: u8)
 /// step for each ancestor up to that subreaper, or else up to the first in another namespace. A fall costs a
 /// step for each namespace that is there, and a search for each member and each level of its identifier.
 #[tactic(auto, unfolding(pid_types::specs::Exit::exit))]
+#[inline(never)]
 pub fn exit(store: &mut TaskStore, caller: u32, status: u8) -> ShortReply
     requires { IsWhole store.old }
     ensures state { state_of store.new ≡ (exit_of (state_of store.old) caller status).state }

@@ -16,7 +16,7 @@ ghost use Rattle.pid_types.specs.Fork.{fork as fork_of, forked, is_gone, with_sp
 ghost use Rattle.pid_types.specs.Sound.{IsBelow};
 ghost use Rattle.pid_types.specs.declared.reply.Refusal.{Refusal};
 ghost use Rattle.pid_types.specs.Short.{reply_of};
-ghost use Rattle.pid_numbers.specs.Numbering.{id_at, path_at, draw_in, has_fallen_at, namespace_at};
+ghost use Rattle.pid_numbers.specs.Numbering.{id_at, path_at, draw_in, has_fallen_at, namespace_at, number_of};
 ghost use Rattle.task_tree.specs.declared.Task.{Task};
 ghost use Rattle.task_tree.specs.Tree.{task_at, lives};
 ghost use Rattle.store_view.specs.View.{name_at, row_of, state_of};
@@ -68,17 +68,35 @@ fn child_of(found: &Found, children_space: u64) -> Task
     }
 }
 
+/// The identifier's number in the namespace; 0 where it has none there.
+fn number_seen(store: &TaskStore, key: u32, space: u32) -> u32
+    ensures { result ≡ unwrap_or (number_of store.now.numbering key space) 0 }
+{
+    store.numbers().number_in(key, space).unwrap_or(0)
+}
+
+/// The identifier's number in its parent's namespace, where that in the root is known: most parents are there.
+fn child_number(store: &TaskStore, key: u32, own: u32, root: u32) -> u32
+    requires { root ≡ unwrap_or (number_of store.now.numbering key 0) 0 }
+    ensures { result ≡ unwrap_or (number_of store.now.numbering key own) 0 }
+{
+    if own == 0 {
+        return root;
+    }
+    number_seen(store, key, own)
+}
+
 /// The reply for a new task: its numbers in the caller's namespace and in the root.
+#[inline(always)]
 fn reply_for(store: &TaskStore, key: u32, own: u32) -> ShortReply
     requires { IsSome (task_at store.now.tree key) }
     ensures { (i : ℕ) → id_at store.now.numbering own ≡ Some i
         → reply_of result ≡ Reply.Forked (number_or_zero (state_of store.now).spaces (name_at store.now.numbering key) i) (root_number (name_at store.now.numbering key)) }
 {
     laws(store);
-    ShortReply::Forked {
-        child: store.numbers().number_in(key, own).unwrap_or(0),
-        root: store.numbers().number_in(key, 0).unwrap_or(0),
-    }
+    let root = number_seen(store, key, 0);
+    let child = child_number(store, key, own, root);
+    ShortReply::Forked { child, root }
 }
 
 /// The caller's child in a namespace that stands, with the planned numbers. The error is want of memory.
@@ -290,6 +308,7 @@ fn namespace_for(
 /// `fork(2)`; with `new_space`, `clone(2)` with `CLONE_NEWPID`, where the stamp is the id of the new namespace. A
 /// refused fork leaves every cursor as it was. The error is want of memory.
 #[tactic(auto, unfolding(pid_types::specs::Fork::fork))]
+#[inline(never)]
 pub fn fork(
     store: &mut TaskStore,
     caller: u32,

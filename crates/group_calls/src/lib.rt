@@ -114,6 +114,7 @@ fn choose(store: &TaskStore, caller: u32, pid: i32, pgid: i32) -> Result<Move, R
 /// nobody; of a child `OtherSession`, and `Executed` where it has executed; `NoTask` for who is neither the
 /// caller nor its child; `IsLeader` for the leader of a session; and `NoGroup` where nobody of the caller's
 /// session, zombies included, is in the group.
+#[inline(never)]
 pub fn set_pgid(store: &mut TaskStore, caller: u32, pid: i32, pgid: i32) -> ShortReply
     requires { IsWhole store.old }
     ensures state { state_of store.new ≡ (set_pgid_of (state_of store.old) caller pid pgid).state }
@@ -146,6 +147,7 @@ fn own_number(store: &TaskStore, key: u32) -> u32
 /// The refusals are `NoCaller`, and `IsLeader` where somebody, the caller itself or a zombie too, is in a group
 /// of the caller's name.
 #[tactic(auto, unfolding(pid_types::specs::Groups::set_sid))]
+#[inline(never)]
 pub fn set_sid(store: &mut TaskStore, caller: u32) -> ShortReply
     requires { IsWhole store.old }
     ensures state { state_of store.new ≡ (set_sid_of (state_of store.old) caller).state }

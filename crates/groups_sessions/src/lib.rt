@@ -57,6 +57,7 @@ impl Members {
 
     /// Makes room for the key of a task and for that of an identifier. It costs a step for each key that is
     /// new. The error is want of memory; then each task is where it was.
+    #[inline(always)]
     pub fn reserve(&mut self, task: u32, ident: u32) -> Result<(), AllocError>
         requires task { task < 2 ^ 30 }
         requires ident { ident < 2 ^ 30 }

@@ -8,6 +8,7 @@ use owner_lists::OwnerLists;
 use std::alloc::AllocError;
 
 /// Makes room for one more key.
+#[inline(always)]
 fn grow(groups: &mut OwnerLists, sessions: &mut Vec<u32>) -> Result<(), AllocError>
     requires small { length groups.old < 2 ^ 30 }
     requires kept { IsKept groups.old sessions.old.items }
@@ -24,6 +25,7 @@ fn grow(groups: &mut OwnerLists, sessions: &mut Vec<u32>) -> Result<(), AllocErr
 }
 
 /// Makes room for all keys up to one.
+#[inline(always)]
 pub(crate) fn make_room(
     groups: &mut OwnerLists,
     sessions: &mut Vec<u32>,

@@ -6,7 +6,7 @@ use Rattle.std.proofs.lemmas.List.Sums.{sum_by_more, sum_by-cons, sum_by-set, co
 use Rattle.std.proofs.lemmas.List.{take_all, get_or-set_same, get_or-set_other}
 use Rattle.std.proofs.lemmas.List.Elements.{All-head, All-tail}
 use Rattle.std.specs.Prelude.{All, slice_index, ◌==◌, nat_lt, if◌then◌else◌}
-use Rattle.std.proofs.Math.Seq.{get_or-append_seam}
+use Rattle.std.proofs.Math.Seq.{get_or-append_seam, set-append_seam}
 use Rattle.std.proofs.lemmas.Option.{slice_get-get_or}
 use Rattle.std.specs.Option.{option_map}
 use Rattle.pid_types.specs.declared.entry.Entry.{Entry}
@@ -145,3 +145,13 @@ last_reply_pushed entries more e reply are is =
     ap (λ (es : List Entry). option_map (λ (x : Entry). x.reply) (slice_get es (length es - 1))) are
     ∙ ap (λ o. option_map (λ (x : Entry). x.reply) o) (last_of_pushed entries e)
     ∙ ap (λ (r : Reply). Some r) is
+
+-- an entry was pushed, and a reply written into it
+pub entered : (before after : List Entry) (place : ℕ) (e here : Entry) (reply : Reply) → after ≡ before ++ e ∷ [] → place ≡ length before → here ≡ get_or after place here
+    → set after place (record here { reply = reply }) ≡ before ++ record e { reply = reply } ∷ []
+entered before after place e here reply pushed at there =
+    let is : here ≡ e = there ∙ (ap (λ es. get_or es place here) pushed ∙ (ap (λ k. get_or (before ++ e ∷ []) k here) at ∙ get_or-append_seam before e [] here)) in
+    ap (λ es. set es place (record here { reply = reply })) pushed
+    ∙ (ap (λ k. set (before ++ e ∷ []) k (record here { reply = reply })) at
+    ∙ (set-append_seam before e [] (record here { reply = reply })
+    ∙ ap (λ (x : Entry). before ++ record x { reply = reply } ∷ []) is))

@@ -13,6 +13,7 @@ ghost use Rattle.model_laws.specs.PathLaws.{TellsSubtree};
 ghost use Rattle.pid_types.specs.State.{root_state};
 ghost use Rattle.pid_types.specs.declared.entry.Entry.{Entry};
 ghost use Rattle.pid_types.specs.Shown.{Shows};
+ghost use Rattle.pid_types.specs.Sound.{IsBelow};
 ghost use Rattle.pid_types.specs.Step.{step, may_grow};
 ghost use Rattle.locked_table.specs.Chronicle.{Chronicle, total, next_stamp, recorded, recorded_by_all, kept_entry, last_reply, by_worker};
 ghost use Rattle.locked_table.specs.Promise.{KeepsPromise};
@@ -309,6 +310,7 @@ impl<L: Ledger, const N: usize> Record<L, N> {
 
     /// Makes a call as [`Record::act`] does, and copies no reply: [`Record::last_reply`] lends it from
     /// the entry that was recorded.
+    #[inline(always)]
     pub fn make_call(&mut self, seat: &mut Seat<L, N>, call: Call) -> Result<(), CallFault>
         ensures step { OnOk result (self.new.present ≡ (step self.old.present (next_stamp self.old) call).state) }
         ensures reply { OnOk result (last_reply self.new ≡ Some (step self.old.present (next_stamp self.old) call).reply) }
@@ -328,26 +330,47 @@ impl<L: Ledger, const N: usize> Record<L, N> {
         };
         self.history.reserve(1)?;
         soundness_is_kept();
-        let mut reply = Reply::Done;
-        self.table.step(stamp, call, &mut reply)?;
-        book_call(&mut self.history, &mut self.book, seat, call, reply);
+        enter_call(&mut self.table, &mut self.history, stamp, seat.worker, call)?;
+        book_call(&mut self.book, seat);
         Ok(())
     }
 }
 
-/// Books a call that was made: its entry behind the history, for which there is room, and one more
-/// in the book and at the seat.
-fn book_call<L: Ledger, const N: usize>(
+/// Makes a call, and enters it behind the history, for which there is room. The reply is written where the entry keeps
+/// it. The error is want of memory, and then there is no entry.
+#[inline(always)]
+fn enter_call(
+    table: &mut TaskTable,
     history: &mut Vec<Entry>,
-    book: &mut Book<L>,
-    seat: &mut Seat<L, N>,
+    stamp: u64,
+    worker: usize,
     call: Call,
-    reply: Reply,
-)
+) -> Result<(), AllocError>
+    requires below { IsBelow stamp table.old }
     requires room { vec_len history.old < vec_capacity history.old }
-    requires fits { book.old.total + 1 < 2 ^ 64 }
-    ensures history { history.new.items ≡ history.old.items ++ record { worker = seat.old.worker; call = call; reply = reply } ∷ [] }
+    ensures state { OnOk result (table.new ≡ (step table.old stamp call).state) }
+    ensures history { OnOk result (history.new.items ≡ history.old.items ++ record { worker = worker; call = call; reply = (step table.old stamp call).reply } ∷ []) }
+    ensures err { OnErr result (table.new ≡ table.old) }
+    ensures none { OnErr result (history.new.items ≡ history.old.items) }
+    ensures grows { OnErr result (IsTrue (may_grow call)) }
     ensures capacity { vec_capacity history.new ≡ vec_capacity history.old }
+{
+    let place = history.len();
+    history.push_reserved(Entry {
+        worker,
+        call,
+        reply: Reply::Done,
+    });
+    let made = table.step(stamp, call, &mut history[place].reply);
+    if made.is_err() {
+        history.truncate(place);
+    }
+    made
+}
+
+/// Counts a call that was made: one more in the book and at the seat.
+fn book_call<L: Ledger, const N: usize>(book: &mut Book<L>, seat: &mut Seat<L, N>)
+    requires fits { book.old.total + 1 < 2 ^ 64 }
     ensures book { book.new.total ≡ book.old.total + 1 }
     ensures seat { seat.new ≡ record seat.old { calls = seat.old.calls + 1 } }
     ensures known { seat.old.worker < N }
@@ -355,12 +378,6 @@ fn book_call<L: Ledger, const N: usize>(
     book.audit(&mut seat.share);
     book.add(&mut seat.share, 1);
     seat.calls += 1;
-    let worker = seat.worker;
-    history.push_reserved(Entry {
-        worker,
-        call,
-        reply,
-    });
 }
 
 /// The entry at a place.

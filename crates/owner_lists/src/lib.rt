@@ -122,6 +122,7 @@ impl OwnerLists {
 
     /// Makes room for one more key, which has no owner, and for the owner of the same number, which has
     /// no member. The error is want of memory, and then nothing has changed.
+    #[inline(always)]
     pub fn grow(&mut self) -> Result<(), AllocError>
         requires { length self.old < 2 ^ 30 }
         ensures ok { OnOk result (self.new ≡ self.old ++ None ∷ []) }

@@ -49,6 +49,7 @@ impl LevelNumbers {
     }
 
     /// Writes the innermost numbers, so many, the outermost of them first.
+    #[inline(always)]
     pub(crate) fn write_inwards(&self, count: usize, numbers: &mut ArrayVec<u32, 33>)
         requires there { count ≤ length self.now }
         requires few { count ≤ 33 }

@@ -110,6 +110,7 @@ impl Numbers {
 
     /// The identifier that has the number in the namespace; none where the number is free. It costs one
     /// search in the namespace's tree of numbers.
+    #[inline(always)]
     pub fn find(&self, space: u32, n: u32) -> Option<u32>
         ensures { MatchOption result ((i : ℕ) → number_of self.now i space ≢ Some n) (λ i. number_of self.now i space ≡ Some n) }
     {
@@ -311,6 +312,7 @@ impl Numbers {
 
     /// Gives the planned numbers to a new identifier, which one task uses, and answers its key. The
     /// error is want of memory, and then nothing has changed.
+    #[inline(always)]
     pub fn draw(&mut self, space: u32, numbers: &ArrayVec<u32, 33>) -> Result<u32, AllocError>
         requires there { IsSome (namespace_at self.old space) }
         requires all { find (λ s. is_none (draw_in self.old s)) (path_at self.old space) ≡ None }
@@ -413,6 +415,7 @@ impl Numbers {
     }
 
     /// One use more. The first of its kind costs a step for each level.
+    #[inline(always)]
     pub fn add_use(&mut self, ident: u32, kind: Kind)
         requires there { IsSome (identifier_at self.old ident) }
         requires few { IfSome (identifier_at self.old ident) (λ u. uses kind u + 1 < 2 ^ 64) }
@@ -433,6 +436,7 @@ impl Numbers {
     /// One use less. With the last use the identifier goes, and its numbers are free; a namespace that
     /// has fallen goes with the last number in it, as the kernel frees a namespace with its last process
     /// (`namespaces(7)`, "Namespace lifetime"). The last use of a kind costs a step for each level.
+    #[inline(always)]
     pub fn drop_use(&mut self, ident: u32, kind: Kind)
         requires { is_used_as kind (identifier_at self.old ident) ≡ true }
         ensures here { (u : Identifier) → identifier_at self.old ident ≡ Some u → identifier_at self.new ident ≡ left_of (less kind u) }

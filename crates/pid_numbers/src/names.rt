@@ -92,6 +92,7 @@ pub(crate) fn number_at(idents: &Slab<Ident>, ident: u32, place: usize) -> Optio
 }
 
 /// Writes the identifier's innermost numbers, so many, the outermost of them first.
+#[inline(always)]
 pub(crate) fn write_numbers_inwards(
     idents: &Slab<Ident>,
     ident: u32,

@@ -41,6 +41,7 @@ pub(crate) fn mark(kind: Kind) -> usize
 }
 
 /// What a number leads to.
+#[inline(always)]
 pub(crate) fn look(spaces: &Slab<Space>, space: u32, n: u32) -> Option<u32>
     ensures { result ≡ leads (entry_on spaces.now) space n }
 {
@@ -83,6 +84,7 @@ pub(crate) fn plan_at(spaces: &Slab<Space>, space: u32) -> Option<u32>
 }
 
 /// The numbers that those on the path give next, or the first that gives none.
+#[inline(always)]
 pub(crate) fn plan_path(spaces: &Slab<Space>, space: u32) -> Result<ArrayVec<u32, 33>, u32>
     ensures ok { IfOk result (λ numbers. (find (λ s. is_none (plan_on spaces.now s)) (way spaces.now space) ≡ None)
         × (numbers.items ≡ map (λ s. unwrap_or (plan_on spaces.now s) 0) (way spaces.now space))) }
@@ -117,6 +119,7 @@ pub(crate) fn prepare_at(spaces: &mut Slab<Space>, key: u32, n: u32) -> Result<(
 }
 
 /// Takes the memory for the numbers along a path.
+#[inline(always)]
 pub(crate) fn prepare_path(
     spaces: &mut Slab<Space>,
     space: u32,
@@ -156,6 +159,7 @@ pub(crate) fn give_at(spaces: &mut Slab<Space>, key: u32, n: u32, value: u32)
 }
 
 /// Gives the planned numbers along a path to a task.
+#[inline(always)]
 pub(crate) fn give_path(spaces: &mut Slab<Space>, space: u32, numbers: &[u32], value: u32)
     requires distinct { IsDistinct (way spaces.old space) }
     requires planned { ArePlanned spaces.old (way spaces.old space) numbers.now }

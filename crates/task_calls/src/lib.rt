@@ -19,6 +19,7 @@ use task_tree::Task;
 
 /// `execve(2)`: the caller has executed.
 #[tactic(auto, unfolding(pid_types::specs::Changes::exec))]
+#[inline(never)]
 pub fn exec(store: &mut TaskStore, caller: u32) -> ShortReply
     requires { IsWhole store.old }
     ensures state { state_of store.new ≡ (exec_of (state_of store.old) caller).state }
@@ -42,6 +43,7 @@ pub fn exec(store: &mut TaskStore, caller: u32) -> ShortReply
 
 /// `setns(2)`: the caller's later children go into the target's namespace.
 #[tactic(auto, unfolding(pid_types::specs::Changes::join))]
+#[inline(never)]
 pub fn join(store: &mut TaskStore, caller: u32, target: u32) -> ShortReply
     requires { IsWhole store.old }
     ensures state { state_of store.new ≡ (join_of (state_of store.old) caller target).state }
@@ -85,6 +87,7 @@ fn id_of(store: &TaskStore, key: u32) -> u64
 
 /// `prctl(2)`: the caller takes the subreaper's mark, or gives it back.
 #[tactic(auto, unfolding(pid_types::specs::Changes::set_subreaper))]
+#[inline(never)]
 pub fn set_subreaper(store: &mut TaskStore, caller: u32, on: bool) -> ShortReply
     requires { IsWhole store.old }
     ensures state { state_of store.new ≡ (set_subreaper_of (state_of store.old) caller on).state }
@@ -108,6 +111,7 @@ pub fn set_subreaper(store: &mut TaskStore, caller: u32, on: bool) -> ShortReply
 
 /// A write to `cgroup.procs`: the live task goes into the control group, whatever its limit.
 #[tactic(auto, unfolding(pid_types::specs::Changes::move_task))]
+#[inline(never)]
 pub fn move_task(store: &mut TaskStore, task: u32, id: u64) -> ShortReply
     requires { IsWhole store.old }
     ensures state { state_of store.new ≡ (move_of (state_of store.old) task id).state }

@@ -10,6 +10,7 @@ use pids_charge::Controls;
 use task_tree::Task;
 
 /// A task goes from its home.
+#[inline(always)]
 pub(crate) fn leave_home(controls: &mut Controls, task: &Task)
     requires live { lives task.now ≡ true → 0 < live_at controls.old task.now.home }
     requires ended { lives task.now ≡ false → 0 < zombies_at controls.old task.now.home }

@@ -145,6 +145,7 @@ impl TaskStore {
     }
 
     /// A live task ends, and waits for its parent by its number in the parent's namespace.
+    #[inline(always)]
     pub fn finish(&mut self, key: u32, task: Task, end: Ended)
         requires there { task_at self.old.tree key ≡ Some task }
         requires live { lives task ≡ true }
@@ -162,6 +163,7 @@ impl TaskStore {
     }
 
     /// The number of a task in its parent's namespace; 0 where it has no parent.
+    #[inline(always)]
     fn rank_for(&self, key: u32) -> u32
         requires key { key < length self.now.tree.tasks }
         requires visible { (p : ℕ) → parent_of self.now.tree key ≡ Some p → (u : Identifier) × (identifier_at self.now.numbering p ≡ Some u) × IsSome (number_of self.now.numbering key u.space) }
@@ -229,6 +231,7 @@ impl TaskStore {
     }
 
     /// A task is gone. Its children, if it has any, keep its key as their parent's.
+    #[inline(always)]
     pub fn remove(&mut self, key: u32, task: Task)
         requires { task_at self.old.tree key ≡ Some task }
         ensures tasks { self.new.tree.tasks ≡ slice_set self.old.tree.tasks key None }
@@ -304,6 +307,7 @@ impl TaskStore {
 
     /// Takes the memory for one task more, and answers its key. The error is want of memory. Nothing changes
     /// but the room.
+    #[inline(always)]
     fn make_room(&mut self) -> Result<u32, AllocError>
         ensures same { IsSame self.old self.new }
         ensures key { IfOk result (λ key. key ≡ self.new.numbering.next) }
@@ -320,6 +324,7 @@ impl TaskStore {
     /// A live task begins, with the planned numbers in the namespace and those around it: the child of a task,
     /// whose group and session it has, or else the first of all, which leads its own. Its key is answered. The
     /// error is want of memory, and then nothing has changed but the room.
+    #[inline(always)]
     pub fn fork(
         &mut self,
         from: Option<u32>,

@@ -7,6 +7,7 @@ use std::alloc::AllocError;
 use task_tree::TaskTree;
 
 /// Makes room for all keys up to one. The error is want of memory.
+#[inline(always)]
 pub(crate) fn room_for(tree: &mut TaskTree, key: u32) -> Result<(), AllocError>
     requires { key < 2 ^ 30 }
     ensures room { OnOk result (key < length tree.new.tasks) }

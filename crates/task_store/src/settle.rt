@@ -26,6 +26,7 @@ fn lineage(members: &Members, key: u32, from: Option<u32>) -> (u32, u32)
 }
 
 /// The task whose identifier has the key begins.
+#[inline(always)]
 pub(crate) fn settle(
     numbers: &mut Numbers,
     tree: &mut TaskTree,

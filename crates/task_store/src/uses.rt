@@ -9,6 +9,7 @@ use pid_numbers::Numbers;
 use pid_types::call::Kind;
 
 /// One use less.
+#[inline(always)]
 pub(crate) fn take_use(numbers: &mut Numbers, ident: u32, kind: Kind)
     requires { 0 < uses_at numbers.old kind ident }
     ensures uses { (k : Kind) (i : ℕ) → uses_at numbers.new k i + one_if ((i == ident) && is_kind k kind) ≡ uses_at numbers.old k i }
@@ -30,6 +31,7 @@ pub(crate) fn take_uses(numbers: &mut Numbers, group: u32, session: u32)
 }
 
 /// One use more as a group and one as a session.
+#[inline(always)]
 pub(crate) fn add_uses(numbers: &mut Numbers, group: u32, session: u32)
     requires group { IsSome (identifier_at numbers.old group) }
     requires session { IsSome (identifier_at numbers.old session) }

@@ -21,6 +21,7 @@ use wait_calls::wait;
 
 /// Makes the call on a store, and writes the reply in place. Only the reply to `NSpid` is made as a whole.
 #[tactic(auto, unfolding(pid_types::specs::Step::step))]
+#[inline(always)]
 fn make(store: &mut TaskStore, stamp: u64, call: Call, reply: &mut Reply) -> Result<(), AllocError>
     requires whole { IsWhole store.old }
     requires below { IsBelow stamp (state_of store.old) }
@@ -65,6 +66,7 @@ impl TaskTable {
     /// It costs a search on each level of the namespaces that the call names, a step for each control group around the task,
     /// and for a fall one for each member and for each namespace that there is. A wait for a group walks the shorter of two
     /// lists: the caller's children, and the members of the group.
+    #[inline(always)]
     pub fn step(&mut self, stamp: u64, call: Call, reply: &mut Reply) -> Result<(), AllocError>
         requires below { IsBelow stamp self.old }
         ensures state { OnOk result (self.new ≡ (step self.old stamp call).state) }

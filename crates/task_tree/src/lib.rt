@@ -70,6 +70,7 @@ impl TaskTree {
 
     /// Makes room for one key more. The error is want of memory, and then nothing has changed that another
     /// call shows.
+    #[inline(always)]
     pub fn grow(&mut self) -> Result<(), AllocError>
         requires { length self.old.tasks < 2 ^ 30 }
         ensures ok { OnOk result (self.new.tasks ≡ self.old.tasks ++ None ∷ []) }

@@ -11,6 +11,7 @@ use owner_lists::OwnerLists;
 use std::alloc::AllocError;
 
 /// Makes room for a key among the parents, where there is none yet.
+#[inline(always)]
 pub(crate) fn room_for_parent(children: &mut OwnerLists, key: usize) -> Result<(), AllocError>
     requires next { key ≤ length children.old }
     requires few { key < 2 ^ 30 }
@@ -25,6 +26,7 @@ pub(crate) fn room_for_parent(children: &mut OwnerLists, key: usize) -> Result<(
 }
 
 /// Makes room for a key among the ranks, where there is none yet.
+#[inline(always)]
 pub(crate) fn room_for_rank(ended: &mut LeastMembers, key: usize) -> Result<(), AllocError>
     requires next { key ≤ length ended.old }
     requires few { key < 2 ^ 30 }

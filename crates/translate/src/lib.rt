@@ -138,6 +138,7 @@ pub fn get_sid(store: &TaskStore, caller: u32, pid: u32) -> ShortReply
 
 /// `NSpid` of `proc_pid_status(5)`: the target's numbers from the caller's namespace inwards.
 #[tactic(auto, unfolding(pid_types::specs::Queries::ns_pid))]
+#[inline(never)]
 pub fn ns_pid(store: &TaskStore, caller: u32, target: u32) -> Reply
     requires { IsWhole store.now }
     ensures { result ≡ ns_pid_of (state_of store.now) caller target }

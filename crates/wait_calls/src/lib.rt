@@ -70,6 +70,7 @@ fn reap(store: &mut TaskStore, child: u32, task: Task) -> Ended
 
 /// `waitpid(2)` with `WNOHANG`: reaps the selected child with the least number that has ended.
 #[tactic(auto, unfolding(pid_types::specs::Wait::wait))]
+#[inline(never)]
 pub fn wait(store: &mut TaskStore, caller: u32, which: Which) -> ShortReply
     requires { IsWhole store.old }
     ensures state { state_of store.new ≡ (wait_of (state_of store.old) caller which).state }

@@ -6,6 +6,3 @@ invariant_of-seat g c = search rules
 
 pub returns-clause-book : goal.returns-clause-book
 returns-clause-book g c = search rules
-
-pub returns-clause-history : goal.returns-clause-history
-returns-clause-history g c = search rules
