@@ -293,6 +293,7 @@ impl Numbers {
 
     /// The numbers that the namespace and those around it give next, innermost first, or the first
     /// of them that has none to give. It costs one or two searches for each level.
+    #[inline(always)]
     pub fn plan(&self, space: u32) -> Result<ArrayVec<u32, 33>, u32>
         ensures ok { IfOk result (λ numbers. (find (λ s. is_none (draw_in self.now s)) (path_at self.now space) ≡ None)
             × (numbers.items ≡ map (λ s. unwrap_or (draw_in self.now s) 0) (path_at self.now space))) }

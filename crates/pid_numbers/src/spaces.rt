@@ -233,6 +233,7 @@ pub(crate) fn release_at(spaces: &mut Slab<Space>, key: u32, n: u32)
 }
 
 /// Makes the numbers along a path free.
+#[inline(always)]
 pub(crate) fn release_path(spaces: &mut Slab<Space>, space: u32, numbers: &LevelNumbers)
     requires distinct { IsDistinct (way spaces.old space) }
     requires len { length numbers.now ≡ length (way spaces.old space) }

@@ -19,6 +19,7 @@ pub(crate) fn take_use(numbers: &mut Numbers, ident: u32, kind: Kind)
 }
 
 /// One use less as a group and one as a session.
+#[inline(always)]
 pub(crate) fn take_uses(numbers: &mut Numbers, group: u32, session: u32)
     requires group { 0 < uses_at numbers.old Kind.Group group }
     requires session { 0 < uses_at numbers.old Kind.Session session }
