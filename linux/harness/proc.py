@@ -48,7 +48,7 @@ class Proc:
     """The procfs that a process sees, by way of that process's root directory."""
 
     def __init__(self, outer_number: int) -> None:
-        path = f"/proc/{outer_number}/root/proc"
+        path = os.path.join("/proc", str(outer_number), "root", "proc")
         self.folder = os.open(path, os.O_RDONLY | os.O_DIRECTORY | os.O_CLOEXEC)
 
     def close(self) -> None:
