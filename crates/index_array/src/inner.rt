@@ -174,9 +174,9 @@ impl<T: Drop, C: Block<T>> Block<T> for Inner<T, C> {
         ensures writes { WritesEntry self.old.places self.new.places i (entry_with value marks) }
         ensures keeps { KeepsPrepared self.old.places self.new.places }
         ensures answer { result.old ≡ value_at self.old.places i }
-        ensures marked { result.marked ≡ false → (m : ℕ)
-            → list_any (carries (Sought.Mark m)) self.new.places
-            ≡ list_any (carries (Sought.Mark m)) self.old.places }
+        ensures same { result.changed ≡ false → (s : Sought)
+            → list_any (carries s) self.new.places
+            ≡ list_any (carries s) self.old.places }
     {
         let _words = &self.words;
         let height = C::height() + 1;
@@ -189,11 +189,17 @@ impl<T: Drop, C: Block<T>> Block<T> for Inner<T, C> {
             None => unreachable!(),
             Some(child) => {
                 let child: &mut C = child;
-                let present = value.is_some();
                 let written = child.put(rest_of(i, height), value, marks);
-                let bits = child.together().knowing(present);
-                self.words.set_slot(slot, bits, written.marked);
-                written
+                if !written.changed {
+                    return written;
+                }
+                let before = self.words.together();
+                self.words.set_slot(slot, child.together(), true);
+                Written {
+                    old: written.old,
+                    changed: before.differ(self.words.together()),
+                    emptied: written.emptied,
+                }
             }
         }
     }

@@ -64,9 +64,9 @@ impl<T: Drop> Block<T> for Node1<T> {
         ensures writes { WritesEntry self.old.0.places self.new.0.places i (entry_with value marks) }
         ensures keeps { KeepsPrepared self.old.0.places self.new.0.places }
         ensures answer { result.old ≡ value_at self.old.0.places i }
-        ensures marked { result.marked ≡ false → (m : ℕ)
-            → list_any (carries (Sought.Mark m)) self.new.0.places
-            ≡ list_any (carries (Sought.Mark m)) self.old.0.places }
+        ensures same { result.changed ≡ false → (s : Sought)
+            → list_any (carries s) self.new.0.places
+            ≡ list_any (carries s) self.old.0.places }
     {
         self.0.put(i, value, marks)
     }
@@ -150,9 +150,9 @@ impl<T: Drop> Block<T> for Node2<T> {
         ensures writes { WritesEntry self.old.0.places self.new.0.places i (entry_with value marks) }
         ensures keeps { KeepsPrepared self.old.0.places self.new.0.places }
         ensures answer { result.old ≡ value_at self.old.0.places i }
-        ensures marked { result.marked ≡ false → (m : ℕ)
-            → list_any (carries (Sought.Mark m)) self.new.0.places
-            ≡ list_any (carries (Sought.Mark m)) self.old.0.places }
+        ensures same { result.changed ≡ false → (s : Sought)
+            → list_any (carries s) self.new.0.places
+            ≡ list_any (carries s) self.old.0.places }
     {
         self.0.put(i, value, marks)
     }
