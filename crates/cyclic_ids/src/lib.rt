@@ -33,11 +33,21 @@ pub const SESSION_MARK: usize = 2;
 ///
 /// It owns its values. A call makes one call of an `IndexArray`, `plan` at most two, so its cost hardly
 /// grows with the numbers in use.
-#[derive(Drop)]
 pub struct CyclicIds<T: Drop> {
     ids: IndexArray<T>,
     pid_max: u32,
     cursor: u32,
+}
+
+// Written out, and not derived: so the crates above cite this drop, and do not prove it anew.
+impl<T: Drop> Drop for CyclicIds<T> {
+    fn drop(self) {
+        let CyclicIds {
+            ids: _,
+            pid_max: _,
+            cursor: _,
+        } = self;
+    }
 }
 
 impl<T: Drop> Model for CyclicIds<T> {
@@ -103,6 +113,7 @@ impl<T: Drop> CyclicIds<T> {
 
     /// Takes the memory that a later `commit` of a number needs. An error is want of memory; then no
     /// number, no mark and not the cursor has changed.
+    #[inline(always)]
     pub fn prepare(&mut self, n: u32) -> Result<(), AllocError>
         requires { n < self.old.pid_max }
         ensures ok { OnOk result (is_prepared self.new.places n ≡ true) }
@@ -140,6 +151,7 @@ impl<T: Drop> CyclicIds<T> {
 
     /// Gives the planned number to a value, with the marks that `marks` has at their place. It takes no
     /// memory, and costs what `commit` does, where each `set_mark` after it would be a call of its own.
+    #[inline(always)]
     pub fn commit_marked(&mut self, n: u32, v: T, marks: [bool; 3])
         requires planned { planned self.old ≡ Some n }
         requires prepared { is_prepared self.old.places n ≡ true }
@@ -155,6 +167,7 @@ impl<T: Drop> CyclicIds<T> {
     }
 
     /// Makes a number free and answers its value, none where it was not in use. The cursor stays.
+    #[inline(always)]
     pub fn release(&mut self, n: u32) -> Option<T>
         ensures writes { WritesEntry self.old.places self.new.places n None }
         ensures answer { result ≡ value_at self.old.places n }

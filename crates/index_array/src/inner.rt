@@ -189,17 +189,14 @@ impl<T: Drop, C: Block<T>> Block<T> for Inner<T, C> {
             None => unreachable!(),
             Some(child) => {
                 let child: &mut C = child;
+                let present = value.is_some();
                 let written = child.put(rest_of(i, height), value, marks);
                 if !written.changed {
                     return written;
                 }
-                let before = self.words.together();
-                self.words.set_slot(slot, child.together(), true);
-                Written {
-                    old: written.old,
-                    changed: before.differ(self.words.together()),
-                    emptied: written.emptied,
-                }
+                let bits = child.together().knowing(present);
+                self.words.set_slot(slot, bits);
+                written
             }
         }
     }
@@ -269,6 +266,6 @@ impl<T: Drop, C: Block<T>> Parent<T, C> for Inner<T, C> {
     {
         let bits = child.together();
         self.children[0] = Some(child);
-        self.words.set_slot(0, bits, true);
+        self.words.set_slot(0, bits);
     }
 }

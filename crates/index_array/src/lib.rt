@@ -53,12 +53,22 @@ pub enum IndexFault {
 ///
 /// A call walks down at most four nodes and changes those on the way, a search looks at most at eight.
 /// A leaf takes 64 bytes and, apart from it, 64 `Option<T>`; a node above it 64 bytes and 64 slots of 16.
-#[derive(Drop)]
 pub struct IndexArray<T: Drop> {
     root: Root<T>,
     alloc: Global,
     /// The index at which the last erase left its leaf empty, where that leaf may still stand.
     emptied: Option<u32>,
+}
+
+// Written out, and not derived: so the crates above cite this drop, and do not prove it anew.
+impl<T: Drop> Drop for IndexArray<T> {
+    fn drop(self) {
+        let IndexArray {
+            root: _,
+            alloc: _,
+            emptied: _,
+        } = self;
+    }
 }
 
 impl<T: Drop> Model for IndexArray<T> {
@@ -129,6 +139,7 @@ impl<T: Drop> IndexArray<T> {
 
     /// Whether `store_prepared` may be called for an index. `prepare` makes it so, and it stays so
     /// until the next `erase`.
+    #[inline(always)]
     pub fn is_prepared(&self, i: u32) -> bool
         ensures { result ≡ is_prepared self.now i }
     {
@@ -139,6 +150,7 @@ impl<T: Drop> IndexArray<T> {
     ///
     /// The error is `BadIndex` at 2^24 and above, and else `NoMemory`, where some of the nodes may
     /// have been made.
+    #[inline(always)]
     pub fn prepare(&mut self, i: u32) -> Result<(), IndexFault>
         ensures ok { OnOk result (is_prepared self.new i ≡ true) }
         ensures bad_index { (result ≡ Err IndexFault.BadIndex) ↔ INDEX_COUNT ≤ i }
@@ -159,6 +171,7 @@ impl<T: Drop> IndexArray<T> {
 
     /// Makes the nodes on the way to an index: levels above the root, and nodes below it. The error is
     /// want of memory.
+    #[inline(never)]
     fn make_nodes(&mut self, i: u32) -> Result<(), AllocError>
         requires { i < INDEX_COUNT }
         ensures ok { OnOk result (is_prepared self.new i ≡ true) }
@@ -246,6 +259,7 @@ impl<T: Drop> IndexArray<T> {
 
     /// Stores a value with its marks at an index that is prepared, and answers the value that stood
     /// there. It takes no memory.
+    #[inline(always)]
     pub fn store_prepared(&mut self, i: u32, v: T, marks: [bool; 3]) -> Option<T>
         requires { is_prepared self.old i ≡ true }
         ensures writes { WritesEntry self.old self.new i (Some (record { value = v; marks = marks })) }
@@ -289,6 +303,7 @@ impl<T: Drop> IndexArray<T> {
     /// A leaf that is left with no entry stands until an erase in another leaf, which gives it back with
     /// the nodes above it that have no entry. So an index is prepared afterwards only if `is_prepared`
     /// says so.
+    #[inline(always)]
     pub fn erase(&mut self, i: u32) -> Option<T>
         ensures writes { WritesEntry self.old self.new i None }
         ensures answer { result ≡ value_at self.old i }

@@ -1,7 +1,7 @@
-use Rattle.std.proofs.Common.{rules, ap, sym, ◌∙◌, ◌≡◌, ℕ, zero, suc, ◌<◌, length, get_or, Option, Some, None, is_some, not, Bool, false, List, [], ◌∷◌, IsNone, refl}
+use Rattle.std.proofs.Common.{rules, ap, ◌∙◌, ◌≡◌, ℕ, zero, suc, ◌<◌, length, get_or, Option, Some, None, is_some, not, Bool, false, List, [], ◌∷◌, IsNone, refl}
 use Rattle.std.proofs.lemmas.List.{get_or_default}
 use Rattle.index_array.proofs.Leaves.{leaf_index, leaf_written, leaf_value}
-use Rattle.index_array.proofs.Blocks.{together_is}
+use Rattle.index_array.proofs.Marks.{any_kept}
 use Rattle.index_array.proofs.leaf.LeafBlock.put.Goals as goal
 
 -- where there is no value no mark is given
@@ -31,5 +31,5 @@ returns g c =
       writes = rw (c.replace.ensures.after, ← c.self.view_is) all.writes;
       keeps = rw (c.replace.ensures.after, ← c.self.view_is) all.keeps;
       answer = rw (← c.self.view_is, leaf_value _ _ _ _ c.self.invariant refl c.args.i b) (c.replace.ensures.value ∙ c.index_mut.ensures.value ∙ get_or_default c.self.inside.entries.items c.args.i c.index_mut.result.now None within);
-      same = λ off s. rw (c.replace.ensures.after, ← c.self.view_is) (sym (together_is _ _ _ _ all.node s _ (c.together.ensures s)) ∙ c.differ.ensures off s ∙ together_is _ _ _ _ c.self.invariant s _ (c.together-before.ensures s));
+      same = λ off s. rw (c.replace.ensures.after, ← c.self.view_is) (any_kept _ _ _ _ _ _ _ c.self.invariant all.node s (c.have_turned-changed.ensures off s));
     }
