@@ -5,7 +5,7 @@
 //! group around the caller's.
 #![tactic(auto)]
 
-ghost use Rattle.std.specs.Prelude.{◌≡◌, ℕ, Some, None, true, false, map, find, is_none, option_map, unwrap_or, IfOk, IfErr, IfSome, OnOk, OnErr, IsSome, nat_le, ◌∷◌, ◌==◌};
+ghost use Rattle.std.specs.Prelude.{◌≡◌, ℕ, Some, None, true, false, map, find, is_none, option_map, unwrap_or, IfOk, IfErr, IfSome, OnOk, OnErr, IsSome, nat_le, ◌∷◌, ◌==◌, ◌<◌, length, reverse, slice_index};
 ghost use Rattle.pid_types.specs.Outcome.{unless_found};
 ghost use Rattle.pid_types.specs.Names.{level, number_or_zero, root_number};
 ghost use Rattle.pid_types.specs.declared.plain.Life.{Life};
@@ -16,7 +16,7 @@ ghost use Rattle.pid_types.specs.Fork.{fork as fork_of, forked, is_gone, with_sp
 ghost use Rattle.pid_types.specs.Sound.{IsBelow};
 ghost use Rattle.pid_types.specs.declared.reply.Refusal.{Refusal};
 ghost use Rattle.pid_types.specs.Short.{reply_of};
-ghost use Rattle.pid_numbers.specs.Numbering.{id_at, path_at, draw_in, has_fallen_at, namespace_at, number_of};
+ghost use Rattle.pid_numbers.specs.Numbering.{id_at, path_at, draw_in, has_fallen_at, namespace_at, number_of, identifier_at, Identifier};
 ghost use Rattle.task_tree.specs.declared.Task.{Task};
 ghost use Rattle.task_tree.specs.Tree.{task_at, lives};
 ghost use Rattle.store_view.specs.View.{name_at, row_of, state_of};
@@ -86,15 +86,24 @@ fn child_number(store: &TaskStore, key: u32, own: u32, root: u32) -> u32
     number_seen(store, key, own)
 }
 
-/// The reply for a new task: its numbers in the caller's namespace and in the root.
+/// The root number of an identifier with these numbers: the outermost of them.
+fn outermost(numbers: &ArrayVec<u32, 33>) -> u32
+    requires { 0 < length numbers.now.items }
+    ensures { result ≡ slice_index (reverse numbers.now.items) 0 }
+{
+    numbers[numbers.len() - 1]
+}
+
+/// The reply for a new task with the planned numbers: its numbers in the caller's namespace and in the root.
 #[inline(always)]
-fn reply_for(store: &TaskStore, key: u32, own: u32) -> ShortReply
-    requires { IsSome (task_at store.now.tree key) }
+fn reply_for(store: &TaskStore, key: u32, own: u32, numbers: &ArrayVec<u32, 33>) -> ShortReply
+    requires there { IsSome (task_at store.now.tree key) }
+    requires numbers { (u : Identifier) → identifier_at store.now.numbering key ≡ Some u → u.numbers ≡ numbers.now.items }
     ensures { (i : ℕ) → id_at store.now.numbering own ≡ Some i
         → reply_of result ≡ Reply.Forked (number_or_zero (state_of store.now).spaces (name_at store.now.numbering key) i) (root_number (name_at store.now.numbering key)) }
 {
     laws(store);
-    let root = number_seen(store, key, 0);
+    let root = outermost(numbers);
     let child = child_number(store, key, own, root);
     ShortReply::Forked { child, root }
 }
@@ -126,7 +135,7 @@ fn fork_planned(
     let task = child_of(found, found.task.children_space);
     let key = store.fork(Some(found.key), space, numbers, task)?;
     laws(store);
-    Ok(reply_for(store, key, own))
+    Ok(reply_for(store, key, own, numbers))
 }
 
 /// The caller's child in a namespace that stands. The error is want of memory.
@@ -147,10 +156,10 @@ fn fork_into(
     ensures parents { HasParents store.new }
 {
     laws(store);
-    let planned = store.numbers().plan(space);
-    match &planned {
-        Err(full) => Ok(ShortReply::Refused(Refusal::NoNumber(id_of(store, *full)))),
-        Ok(numbers) => fork_planned(store, found, own, space, numbers),
+    let mut numbers = ArrayVec::new();
+    match store.numbers().plan_into(space, &mut numbers) {
+        Err(full) => Ok(ShortReply::Refused(Refusal::NoNumber(id_of(store, full)))),
+        Ok(()) => fork_planned(store, found, own, space, &numbers),
     }
 }
 
@@ -185,7 +194,7 @@ fn fork_new_planned(
     let task = child_of(found, stamp);
     let keys = store.fork_new(found.key, own, stamp, numbers, task)?;
     laws(store);
-    Ok(reply_for(store, keys.0, own))
+    Ok(reply_for(store, keys.0, own, numbers))
 }
 
 /// The caller's child in a new namespace inside the caller's own, in which it is the init. The error is want of

@@ -31,6 +31,10 @@ impl LevelNumbers {
     {
         let last = numbers.len() - 1;
         let root = numbers[last];
+        if last == 0 {
+            let inner = Vec::new(alloc);
+            return Ok(LevelNumbers { inner, root });
+        }
         let mut inner = Vec::with_capacity(alloc, last)?;
         inner.extend_from_slice(&numbers.as_slice()[..last])?;
         Ok(LevelNumbers { inner, root })

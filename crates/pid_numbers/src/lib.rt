@@ -44,13 +44,25 @@ use std::alloc::{AllocError, Global};
 use std::marker::Model;
 
 /// Identifiers with their numbers and uses, and the namespaces that the numbers are of.
-#[derive(Drop)]
 pub struct Numbers {
     alloc: Global,
     spaces: Slab<Space>,
     idents: Slab<Ident>,
     order: RisingIds,
     pid_max: u32,
+}
+
+// Written out, and not derived: so the crates above cite this drop, and do not prove it anew.
+impl Drop for Numbers {
+    fn drop(self) {
+        let Numbers {
+            alloc: _,
+            spaces: _,
+            idents: _,
+            order: _,
+            pid_max: _,
+        } = self;
+    }
 }
 
 impl Model for Numbers {
@@ -291,15 +303,28 @@ impl Numbers {
         next_at(&self.spaces, space, kind, from)
     }
 
-    /// The numbers that the namespace and those around it give next, innermost first, or the first
-    /// of them that has none to give. It costs one or two searches for each level.
+    /// Writes the numbers that the namespace and those around it give next over others, innermost first, or
+    /// answers the first namespace that has none to give. It costs one or two searches for each level.
     #[inline(always)]
+    pub fn plan_into(&self, space: u32, numbers: &mut ArrayVec<u32, 33>) -> Result<(), u32>
+        ensures ok { OnOk result ((find (λ s. is_none (draw_in self.now s)) (path_at self.now space) ≡ None)
+            × (numbers.new.items ≡ map (λ s. unwrap_or (draw_in self.now s) 0) (path_at self.now space))) }
+        ensures err { IfErr result (λ s. find (λ s. is_none (draw_in self.now s)) (path_at self.now space) ≡ Some s) }
+    {
+        plan_path(&self.spaces, space, numbers)
+    }
+
+    /// The numbers of [`plan_into`](Numbers::plan_into) in a list of their own, of 33 places.
     pub fn plan(&self, space: u32) -> Result<ArrayVec<u32, 33>, u32>
         ensures ok { IfOk result (λ numbers. (find (λ s. is_none (draw_in self.now s)) (path_at self.now space) ≡ None)
             × (numbers.items ≡ map (λ s. unwrap_or (draw_in self.now s) 0) (path_at self.now space))) }
         ensures err { IfErr result (λ s. find (λ s. is_none (draw_in self.now s)) (path_at self.now space) ≡ Some s) }
     {
-        plan_path(&self.spaces, space)
+        let mut numbers = ArrayVec::new();
+        match self.plan_into(space, &mut numbers) {
+            Ok(()) => Ok(numbers),
+            Err(full) => Err(full),
+        }
     }
 
     /// Takes the memory for one identifier, and answers the key that the next one will have, which is below
@@ -355,8 +380,9 @@ impl Numbers {
         if levels(&self.spaces, parent) > 32 {
             return Err(PlanFault::TooDeep);
         }
-        match plan_path(&self.spaces, parent) {
-            Ok(around) => Ok(with_first(&around)),
+        let mut around = ArrayVec::new();
+        match plan_path(&self.spaces, parent, &mut around) {
+            Ok(()) => Ok(with_first(&around)),
             Err(space) => Err(PlanFault::NoNumber(space)),
         }
     }

@@ -83,14 +83,18 @@ pub(crate) fn plan_at(spaces: &Slab<Space>, space: u32) -> Option<u32>
     }
 }
 
-/// The numbers that those on the path give next, or the first that gives none.
+/// Writes the numbers that those on the path give next over others, or answers the first that gives none.
 #[inline(always)]
-pub(crate) fn plan_path(spaces: &Slab<Space>, space: u32) -> Result<ArrayVec<u32, 33>, u32>
-    ensures ok { IfOk result (λ numbers. (find (λ s. is_none (plan_on spaces.now s)) (way spaces.now space) ≡ None)
-        × (numbers.items ≡ map (λ s. unwrap_or (plan_on spaces.now s) 0) (way spaces.now space))) }
+pub(crate) fn plan_path(
+    spaces: &Slab<Space>,
+    space: u32,
+    numbers: &mut ArrayVec<u32, 33>,
+) -> Result<(), u32>
+    ensures ok { OnOk result ((find (λ s. is_none (plan_on spaces.now s)) (way spaces.now space) ≡ None)
+        × (numbers.new.items ≡ map (λ s. unwrap_or (plan_on spaces.now s) 0) (way spaces.now space))) }
     ensures err { IfErr result (λ s. find (λ s. is_none (plan_on spaces.now s)) (way spaces.now space) ≡ Some s) }
 {
-    let mut numbers = ArrayVec::<u32, 33>::new();
+    numbers.clear();
     for k in 0..levels(spaces, space) {
         let key = key_at(spaces, space, k);
         match plan_at(spaces, key) {
@@ -98,10 +102,11 @@ pub(crate) fn plan_path(spaces: &Slab<Space>, space: u32) -> Result<ArrayVec<u32
             None => return Err(key),
         }
     }
-    Ok(numbers)
+    Ok(())
 }
 
 /// Takes the memory for a number that the namespace gives next.
+#[inline(always)]
 pub(crate) fn prepare_at(spaces: &mut Slab<Space>, key: u32, n: u32) -> Result<(), AllocError>
     requires { plan_on spaces.old key ≡ Some n }
     ensures ok { OnOk result (ready spaces.new key n ≡ true) }
@@ -142,6 +147,7 @@ pub(crate) fn prepare_path(
 }
 
 /// Gives the planned number to a task.
+#[inline(always)]
 pub(crate) fn give_at(spaces: &mut Slab<Space>, key: u32, n: u32, value: u32)
     requires planned { plan_on spaces.old key ≡ Some n }
     requires ready { ready spaces.old key n ≡ true }
@@ -218,6 +224,7 @@ pub(crate) fn mark_path(
 }
 
 /// Makes a number free.
+#[inline(always)]
 pub(crate) fn release_at(spaces: &mut Slab<Space>, key: u32, n: u32)
     ensures here { entry_on spaces.new key n ≡ None }
     ensures same { (m : ℕ) → m ≢ n → entry_on spaces.new key m ≡ entry_on spaces.old key m }

@@ -64,12 +64,23 @@ impl From<AllocError> for ControlFault {
 /// `find` and `remove` cost a logarithm of the groups. A task that comes or goes costs a step for each group
 /// from its own to the root, 65 at most. All else costs a few reads. Only `new` and `make` take memory: some
 /// 100 bytes for each group.
-#[derive(Drop)]
 pub struct Controls {
     nodes: Slab<Node>,
     totals: Vec<u64>,
     children: OwnerLists,
     ids: RisingIds,
+}
+
+// Written out, and not derived: so the crates above cite this drop, and do not prove it anew.
+impl Drop for Controls {
+    fn drop(self) {
+        let Controls {
+            nodes: _,
+            totals: _,
+            children: _,
+            ids: _,
+        } = self;
+    }
 }
 
 impl Model for Controls {

@@ -39,11 +39,21 @@ pub struct Task {
 /// Tasks by key, in a tree.
 ///
 /// It takes some 70 bytes for each key.
-#[derive(Drop)]
 pub struct TaskTree {
     tasks: Vec<Option<Task>>,
     children: OwnerLists,
     ended: LeastMembers,
+}
+
+// Written out, and not derived: so the crates above cite this drop, and do not prove it anew.
+impl Drop for TaskTree {
+    fn drop(self) {
+        let TaskTree {
+            tasks: _,
+            children: _,
+            ended: _,
+        } = self;
+    }
 }
 
 impl Model for TaskTree {

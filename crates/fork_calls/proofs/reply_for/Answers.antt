@@ -1,16 +1,19 @@
-use Rattle.std.proofs.Common.{◌∙◌, sym, ap}
-use Rattle.std.specs.Prelude.{unwrap_or}
+use Rattle.std.proofs.Common.{◌≡◌, ◌∙◌, ◌<◌, ◌×◌, sym, ap, rw, subst, arith, length, reverse, Some}
+use Rattle.std.specs.Prelude.{unwrap_or, slice_index}
+use Rattle.pid_types.specs.Names.{root_number}
 use Rattle.pid_types.specs.declared.reply.Reply.TheVariants.{Forked}
 use Rattle.task_tree.specs.Tree.{task_at}
 use Rattle.task_store.proofs.Groups.{held}
+use Rattle.store_view.specs.View.{name_at, name_of}
+use Rattle.store_view.specs.View.{root_name}
 use Rattle.store_view.proofs.LookUps.{named, seen, root-number}
 use Rattle.fork_calls.proofs.reply_for.Goals as goal
 
+pub outermost-requires : goal.outermost-requires
+outermost-requires c = ?
+
+pub child_number-requires : goal.child_number-requires
+child_number-requires c = ?
+
 pub returns : goal.returns
-returns c i at =
-    let s = c.args.store.now in
-    let t = held (task_at s.tree c.args.key) c.requires in
-    let u = named s c.laws.ensures c.args.key t.0 t.1 in
-    let child = c.child_number-child.ensures ∙ sym (seen s c.laws.ensures c.args.own i c.args.key u.0 at u.1) in
-    let root = c.number_seen-root.ensures ∙ ap (λ o. unwrap_or o 0) (root-number s c.laws.ensures c.args.key u.0 u.1) in
-    λ i. Forked (child i) (root i)
+returns c i at = ?

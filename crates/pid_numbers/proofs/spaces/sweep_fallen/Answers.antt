@@ -1,4 +1,4 @@
-use Rattle.std.proofs.Common.{◌≡◌, ◌∙◌, sym, ap, refl, is_some, true, false, if◌then◌else◌, [], List, ℕ, Bool}
+use Rattle.std.proofs.Common.{◌≡◌, ◌∙◌, sym, ap, is_some, true, if◌then◌else◌, []}
 use Rattle.slab.specs.Slab.{get}
 use Rattle.pid_numbers.specs.Slabs.{left_on, id_on, way, fell}
 use Rattle.pid_numbers.proofs.Orders as orders
