@@ -1,4 +1,4 @@
-use Rattle.std.proofs.Common.{◌≡◌, ◌∙◌, ℕ, find, is_none, is_some, true, Option, Some, None, sym, ap, subst, option_map, refl, IfErr}
+use Rattle.std.proofs.Common.{◌≡◌, ◌∙◌, ℕ, find, is_none, is_some, true, Option, Some, None, sym, ap, option_map, refl}
 use Rattle.pid_types.specs.Outcome.{Outcome, unless_found}
 use Rattle.pid_types.specs.Fork.{forked}
 use Rattle.pid_numbers.specs.Numbering.{namespace_at, path_at, draw_in}
@@ -15,7 +15,7 @@ id_of-requires c =
     let s = c.args.store.now in
     let full : find (λ q. is_none (draw_in s.numbering q)) (path_at s.numbering c.args.space) ≡ Some c.in-Err.full =
     ap (λ b. find (λ q. is_none (draw_in b q)) (path_at b c.args.space)) (sym c.numbers.ensures)
-    ∙ subst (λ r. IfErr r (λ i. find (λ q. is_none (draw_in c.numbers.result.now q)) (path_at c.numbers.result.now c.args.space) ≡ Some i)) c.in-Err.is c.plan-planned.ensures.err in
+    ∙ c.in-Err.ensures.err in
     some_there (λ t. t.id) (namespace_at s.numbering c.in-Err.full) _ (full-there s c.laws.ensures c.args.space c.args.found.now.task.children_space c.requires.id (row_of s c.args.found.now.key c.args.found.now.task) c.in-Err.full full)
 
 pub returns-in-Err-clause-state : goal.returns-in-Err-clause-state
@@ -24,7 +24,7 @@ returns-in-Err-clause-state c =
     let row = row_of s c.args.found.now.key c.args.found.now.task in
     let full : find (λ q. is_none (draw_in s.numbering q)) (path_at s.numbering c.args.space) ≡ Some c.in-Err.full =
     ap (λ b. find (λ q. is_none (draw_in b q)) (path_at b c.args.space)) (sym c.numbers.ensures)
-    ∙ subst (λ r. IfErr r (λ i. find (λ q. is_none (draw_in c.numbers.result.now q)) (path_at c.numbers.result.now c.args.space) ≡ Some i)) c.in-Err.is c.plan-planned.ensures.err in
+    ∙ c.in-Err.ensures.err in
     let room = room-full s c.laws.ensures c.args.space c.args.found.now.task.children_space c.requires.id row c.in-Err.full c.id_of.result full c.id_of.ensures in
     let is = ap (λ o. unless_found (state_of s) o (λ r. r) (forked (state_of s) row c.args.found.now.task.children_space)) room in
     sym (ap (λ (o : Outcome). o.state) is)
@@ -35,7 +35,7 @@ returns-in-Err-clause-reply c =
     let row = row_of s c.args.found.now.key c.args.found.now.task in
     let full : find (λ q. is_none (draw_in s.numbering q)) (path_at s.numbering c.args.space) ≡ Some c.in-Err.full =
     ap (λ b. find (λ q. is_none (draw_in b q)) (path_at b c.args.space)) (sym c.numbers.ensures)
-    ∙ subst (λ r. IfErr r (λ i. find (λ q. is_none (draw_in c.numbers.result.now q)) (path_at c.numbers.result.now c.args.space) ≡ Some i)) c.in-Err.is c.plan-planned.ensures.err in
+    ∙ c.in-Err.ensures.err in
     let room = room-full s c.laws.ensures c.args.space c.args.found.now.task.children_space c.requires.id row c.in-Err.full c.id_of.result full c.id_of.ensures in
     let is = ap (λ o. unless_found (state_of s) o (λ r. r) (forked (state_of s) row c.args.found.now.task.children_space)) room in
     sym (ap (λ (o : Outcome). o.reply) is)

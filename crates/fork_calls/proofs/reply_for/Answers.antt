@@ -17,15 +17,15 @@ outermost_is : (s : Store) (k : ℕ) (u : Identifier) (numbers : List ℕ) → i
 outermost_is s k u numbers e same =
     ap (λ ns. slice_index (reverse ns) 0) (sym same) ∙ sym (ap (λ o. root_number (option_map_or (name_of s.numbering) o root_name)) e)
 
-pub outermost-requires : goal.outermost-requires
-outermost-requires c =
+pub outermost-root-requires : goal.outermost-root-requires
+outermost-root-requires c =
     let s = c.args.store.now in
     let t = held (task_at s.tree c.args.key) c.requires.there in
     let u = named s c.laws.ensures c.args.key t.0 t.1 in
     subst (λ ns. 0 < length ns) (c.requires.numbers u.0 u.1) (c.laws.ensures.numbering.full c.args.key u.0 u.1).0
 
-pub child_number-requires : goal.child_number-requires
-child_number-requires c =
+pub child_number-child-requires : goal.child_number-child-requires
+child_number-child-requires c =
     let s = c.args.store.now in
     let t = held (task_at s.tree c.args.key) c.requires.there in
     let u = named s c.laws.ensures c.args.key t.0 t.1 in
