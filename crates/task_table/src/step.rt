@@ -1,5 +1,6 @@
 //! Any call: [`TaskTable::step`] picks the function that makes it. The record makes all its calls so.
 ghost use Rattle.std.specs.Prelude.{◌≡◌, IsTrue, OnOk, OnErr};
+ghost use Rattle.pid_types.specs.Queries.{ns_pid as ns_pid_of};
 ghost use Rattle.pid_types.specs.Sound.{IsBelow};
 ghost use Rattle.pid_types.specs.Step.{step, may_grow};
 ghost use Rattle.store_view.specs.View.{state_of};
