@@ -14,3 +14,4 @@ pub mod Said
 pub mod Ends
 pub mod Turns
 pub mod Jobs
+pub mod Search

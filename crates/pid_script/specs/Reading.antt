@@ -1,5 +1,5 @@
 -- What a line of a script says.
-use Rattle.std.specs.Prelude.{ℕ, ◌^◌, ◌+◌, ◌<◌, ◌≡◌, length, slice_index, Bool, true, false, ◌&&◌, List, [], ◌∷◌, codes, decimal, Option, Some, None, if◌then◌else◌, ◌==◌, nat_lt, option_and_then, ℤ, pos}
+use Rattle.std.specs.Prelude.{ℕ, ◌^◌, ◌+◌, ◌<◌, ◌≡◌, ◌≢◌, length, slice_index, Bool, true, false, ◌&&◌, List, [], ◌∷◌, codes, decimal, Option, Some, None, if◌then◌else◌, ◌==◌, nat_lt, option_and_then, ℤ, pos}
 use lib.IntN.{neg_ℤ}
 use Rattle.std.specs.Option.{option_map}
 use Rattle.std.specs.Str.{bytes_eq}
@@ -20,6 +20,10 @@ o >>= f = option_and_then f o
 -- whether the word is this one
 abbrev pub is_word : List ℕ → List ℕ → Bool
 is_word word bytes = bytes_eq bytes word
+
+-- no such byte stands before this index
+abbrev pub IsFreeOf : ℕ → ℕ → List ℕ → Type 0
+IsFreeOf byte end bytes = (k : ℕ) → k < end → slice_index bytes k ≢ byte
 
 -- what stands before the first such byte, and what stands after it
 abbrev pub cut : ℕ → List ℕ → Option (List ℕ × List ℕ)
