@@ -331,9 +331,8 @@ fn wait_line(words: &[u8]) -> Line
 fn any_line(line: &[u8]) -> Line
     ensures { result ≡ call_or_bad (call_of line.now) }
 {
-    line_of_call(split_at_first(line, b' ').and_then(|(command, words)| read_command(
-        command, words,
-    )))
+    let call = split_at_first(line, b' ').and_then(|(command, words)| read_command(command, words));
+    line_of_call(call)
 }
 
 /// What a line says that has a byte. `fork`, `exit` and `wait` are told by its first bytes, before any space is looked for.

@@ -60,7 +60,7 @@ pub fn read_u64(word: &[u8]) -> Option<u64>
     read_digits(word)
 }
 
-/// The number of a word of at most nine bytes, which no number of so few digits passes.
+/// The number of a word of at most nine bytes. So few digits write a number below 2^32.
 fn read_short(word: &[u8]) -> Option<u32>
     requires plain { IsPlain word.now }
     requires short { length word.now ≤ 9 }
