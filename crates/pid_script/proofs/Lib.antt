@@ -1,6 +1,8 @@
 pub mod Cuts
+pub mod Digits
 pub mod Numbers
 pub mod Printed
+pub mod Prefixes
 pub mod Read
 pub mod Room
 pub mod Joined
@@ -12,3 +14,4 @@ pub mod Said
 pub mod Ends
 pub mod Turns
 pub mod Jobs
+pub mod Search

@@ -1,15 +1,16 @@
 -- Numbers, and the words that they are written as.
-use Rattle.std.proofs.Common.{◌≡◌, ◌≢◌, ℕ, ◌+◌, ◌*◌, ◌^◌, ◌<◌, ◌≤◌, Bool, true, false, cond, ◌&&◌, eqb, ltb, List, [], ◌∷◌, length, get_or, Option, Some, None, IfSome, IfNone, Result, Ok, Err, OkIff, decimal, refl, sym, ap, ◌∙◌, subst, arith, bytes_eq, lt-ltb, ltb-true, zero, suc, lit<, lit≤, take, drop, ℤ, pos, neg_ℤ, ◌-ℤ◌, FitsSigned, SomeIff, option_map, eq-eqb, eqb-true, ⊎_elim}
+use Rattle.std.proofs.Common.{◌≡◌, ◌≢◌, ℕ, ◌+◌, ◌*◌, ◌^◌, ◌<◌, ◌≤◌, Bool, true, false, cond, ◌&&◌, eqb, ltb, List, [], ◌∷◌, length, get_or, Option, Some, None, IfSome, IfNone, Result, Ok, Err, OkIff, decimal, refl, sym, ap, ◌∙◌, subst, arith, bytes_eq, lt-ltb, ltb-true, zero, suc, lit<, lit≤, take, drop, length-take-le, ℤ, pos, neg_ℤ, ◌-ℤ◌, FitsSigned, SomeIff, option_map, eq-eqb, eqb-true, ⊎_elim}
 use Rattle.std.specs.Result.{result_ok}
 use Rattle.std.specs.Int.{w32}
 use Rattle.std.specs.Fmt.{signed_decimal}
 use Rattle.std.specs.Char.{digit_value}
 use lib.IntN.{negsuc, +ℤ_idl}
+use Rattle.std.proofs.lemmas.List.{take_all}
 use Rattle.std.proofs.lemmas.Bool.{cases_lt}
 use Rattle.std.proofs.lemmas.Bool.Decides.{nat_tests}
 use Rattle.std.specs.Str.Parse.{AllDigits, digits_value}
 use Rattle.std.proofs.lemmas.Slice.Eq.{bytes_eq-Decides}
-use Rattle.std.proofs.lemmas.Str.Parse.{IsNumeralModel, numerals_by_value, tells_digits, not_in_digits, digit_from_value, digits_value-take-le}
+use Rattle.std.proofs.lemmas.Str.Parse.{IsNumeralModel, numerals_by_value, tells_digits, not_in_digits, digit_from_value, digits_value-take-le, digits_value_short}
 use Rattle.std.proofs.lemmas.Int.Digits.{digits_value_more}
 use Rattle.std.proofs.lemmas.Str.{digit_value_digit}
 use Rattle.std.proofs.lemmas.Option.{none-some, same_Some, option_and_then_some}
@@ -50,10 +51,10 @@ number_below-None bound word none =
 
 -- how a number is written
 plain_decimal : (n : ℕ) → n < 2 ^ 64 → IsPlain (decimal n)
-plain_decimal zero small = subst IsPlain (sym (decimal_digit 0 (lit< tt))) (lit< tt, (λ e. absurd (omega (arith, e))), λ e. refl)
+plain_decimal zero small = subst IsPlain (sym (decimal_digit 0 (lit< tt))) (lit< tt, λ e. refl)
 plain_decimal (suc n) small =
     let first = first_decimal (suc n) (omega arith) small in
-    (decimal_nonempty (suc n) small, (λ e. absurd (omega (arith, e, first))), λ e. absurd (omega (arith, e, first)))
+    (decimal_nonempty (suc n) small, λ e. absurd (omega (arith, e, first)))
 
 -- a word that is not plain says no number
 pub number_below-not_plain : (word : List ℕ) → (IsPlain word → ⊥) → number_below (2 ^ 64) word ≡ None
@@ -66,7 +67,7 @@ pub ruleset digit = (digit_value_digit, digit_from_value)
 -- a plain word of digits says what they write
 pub number_below-digits : (word : List ℕ) (n : ℕ) → IsPlain word → AllDigits 10 word → n ≡ digits_value 10 word → n < 2 ^ 64 → Some n ≡ number_below (2 ^ 64) word
 number_below-digits word n plain digits is small =
-    let written = decimal-digits_value numerals word digits plain.0 plain.2 (subst (λ m. m < 2 ^ 64) is small) in
+    let written = decimal-digits_value numerals word digits plain.0 plain.1 (subst (λ m. m < 2 ^ 64) is small) in
     sym (subst (λ w. number_below (2 ^ 64) w ≡ Some n) written (subst (λ m. number_below (2 ^ 64) (decimal m) ≡ Some n) is (number_below-decimal (2 ^ 64) n small small)))
 
 -- a word with another byte, or of too great a number, says none
@@ -117,6 +118,27 @@ module _ (wide bound : ℕ) (word : List ℕ) (fits : wide ≤ 2 ^ 64) (le : bou
   pub number_below-narrowed : (E : Type 0) (n : ℕ) (r : Result ℕ E) → Some n ≡ number_below wide word → OkIff r (n < bound) n → result_ok r ≡ number_below bound word
   number_below-narrowed E n (Ok x) some is = ap Some is.1 ∙ sym (number_below-within n (sym some) is.0)
   number_below-narrowed E n (Err e) some not_below = sym (number_below-beyond n (sym some) (omega (arith, not_below)))
+
+-- the number of a word of few digits, of which these were read
+module _ (word : List ℕ) (short : length word ≤ 9) where
+  -- it does not pass the bound, nor with one more digit
+  pub short_fits : (i n : ℕ) → i < length word → AllDigits 10 (take i word) → n ≡ digits_value 10 (take i word) → n < 10 ^ 8
+  short_fits i n lt digits is =
+      let few : length (take i word) ≤ 8 = omega (arith, length-take-le i word (omega arith)) in
+      rw is (digits_value_short numerals (take i word) 8 digits few)
+
+  -- it is what the word says
+  pub short_some : (i n : ℕ) → length word ≤ i → IsPlain word → AllDigits 10 (take i word) → n ≡ digits_value 10 (take i word) → Some n ≡ number_below (2 ^ 32) word
+  short_some i n whole plain digits_read read =
+      let digits : AllDigits 10 word = subst (AllDigits 10) (take_all i word whole) digits_read in
+      let is : n ≡ digits_value 10 word = read ∙ ap (digits_value 10) (take_all i word whole) in
+      let small : n < 10 ^ 9 = rw is (digits_value_short numerals word 9 digits short) in
+      sym (number_below-within (2 ^ 64) (2 ^ 32) word (lit≤ tt) (lit≤ tt) n (sym (number_below-digits word n plain digits is (omega arith))) (omega arith))
+
+-- a word with a byte that is no digit says no number
+pub short_none : (word : List ℕ) (i : ℕ) → i < length word → (digit_value (get_or word i 0) < 10 → ⊥) → number_below (2 ^ 32) word ≡ None
+short_none word i lt refused =
+    number_below-missing (2 ^ 64) (2 ^ 32) word (lit≤ tt) (lit≤ tt) (sym (number_below-no_digits word (λ digits small. refused (digit_at word i lt digits))))
 
 -- where there is no number, there is none with a minus sign
 pub negative_of-missing : (digits : List ℕ) → number_below (2 ^ 32) digits ≡ None → negative_of digits ≡ None

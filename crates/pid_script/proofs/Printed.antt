@@ -17,7 +17,7 @@ use Rattle.pid_types.specs.declared.call.Kind.{Kind}
 use Rattle.pid_types.specs.declared.call.Kind.TheVariants as kind
 use Rattle.pid_script.specs.declared.line.Line.TheVariants as says
 use Rattle.pid_script.specs.Lines.{word_of_kind, words_of_which, line_of, Fits, FitsWhich}
-use Rattle.pid_script.specs.Reading.{cut, number_below, signed_of, pair_of, is_word, fork_of, exit_of, numbered_of, which_of, wait_of, set_pgid_of, kind_of, next_of, limit_of, move_of, switch_of, subreaper_of, command_of, by_process, by_pair, by_control, call_or_bad, parsed}
+use Rattle.pid_script.specs.Reading.{cut, number_below, signed_of, pair_of, is_word, fork_of, exit_of, numbered_of, which_of, wait_of, set_pgid_of, kind_of, next_of, limit_of, move_of, switch_of, subreaper_of, two_letters_of, four_letters_of, five_letters_of, six_letters_of, seven_letters_of, nine_letters_of, command_of, by_process, by_pair, by_control, call_or_bad, parsed}
 use Rattle.pid_script.proofs.Cuts.{Lacks, cut-append, cut-lacks}
 use Rattle.pid_script.proofs.Numbers.{numerals, number_below-decimal, signed_of-decimal}
 
@@ -144,7 +144,7 @@ by_id call id below = ap (λ o. call_or_bad (option_map call o)) (number (2 ^ 64
 
 -- each call's line says that call
 pub parsed-line_of : (c : Call) → Fits c → parsed (line_of c) ≡ says.Call c
-unfolding line_of command_of
+unfolding line_of command_of two_letters_of four_letters_of five_letters_of six_letters_of seven_letters_of nine_letters_of
 parsed-line_of (Fork caller false) fits = ap call_or_bad (fork_same caller fits)
 parsed-line_of (Fork caller true) fits = ap call_or_bad (fork_new caller fits)
 parsed-line_of (Exec caller) fits = by_one Exec caller fits

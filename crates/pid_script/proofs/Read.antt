@@ -1,5 +1,5 @@
 -- A line that says a call is that call's line.
-use Rattle.std.proofs.Common.{◌≡◌, ℕ, ◌^◌, ◌<◌, Bool, true, false, cond, List, [], ◌∷◌, ◌++◌, Option, Some, None, decimal, codes, refl, sym, ap, ◌∙◌, subst, option_map, option_and_then}
+use Rattle.std.proofs.Common.{◌≡◌, ℕ, ◌^◌, ◌<◌, Bool, true, false, cond, eqb, List, [], ◌∷◌, ◌++◌, length, Option, Some, None, decimal, codes, refl, sym, ap, ◌∙◌, subst, option_map, option_and_then}
 use Rattle.std.specs.Fmt.{signed_decimal}
 use Rattle.std.specs.List.{join_with_byte}
 use Rattle.std.proofs.lemmas.Option.{none-some, same_Some, option_and_then_some}
@@ -11,7 +11,7 @@ use Rattle.pid_types.specs.declared.call.Which.TheVariants.{Any, Pid, OwnGroup, 
 use Rattle.pid_types.specs.declared.call.Kind.{Kind}
 use Rattle.pid_script.specs.declared.line.Line.TheVariants as says
 use Rattle.pid_script.specs.Lines.{word_of_kind, words_of_which, line_of, Fits, FitsWhich, IsLineOf, Says}
-use Rattle.pid_script.specs.Reading.{cut, number_below, signed_of, pair_of, is_word, forked_by, fork_of, exit_of, numbered_of, which_of, wait_of, set_pgid_of, kind_of, next_of, limit_of, move_of, switch_of, subreaper_of, command_of, by_pair, call_of, call_or_bad, parsed}
+use Rattle.pid_script.specs.Reading.{cut, number_below, signed_of, pair_of, is_word, forked_by, fork_of, exit_of, numbered_of, which_of, wait_of, set_pgid_of, kind_of, next_of, limit_of, move_of, switch_of, subreaper_of, two_letters_of, four_letters_of, five_letters_of, six_letters_of, seven_letters_of, nine_letters_of, command_of, by_pair, call_of, call_or_bad, parsed}
 use Rattle.pid_script.proofs.Cuts.{cut-Some, option_map_some}
 use Rattle.pid_script.proofs.Printed.{parsed-line_of}
 use Rattle.pid_script.proofs.Numbers.{number_below-Some, signed_of-Some}
@@ -225,29 +225,68 @@ read_two word call line fits words c is =
     let a = read_pair words p pair in
     subst (Spells word words) same (record { written = ap (λ w. word ++ 32 ∷ w) a.0 ∙ sym (line p.0 p.1); fits = fits p.0 p.1 a.1 a.2 }))
 
-read_command : (command words : List ℕ) (c : Call) → command_of command words ≡ Some c → Spells command words c
-unfolding command_of line_of
-read_command command words c is =
+read_two_letters : (command words : List ℕ) (c : Call) → two_letters_of command words ≡ Some c → Spells command words c
+unfolding two_letters_of line_of
+read_two_letters command words c is =
+    branch (codes "mk") command _ _ c (λ w. Spells w words c) (read_one (2 ^ 64) (codes "mk") MakeControl (λ n. refl) (λ n h. h) words c) (λ rest.
+    branch (codes "rm") command _ _ c (λ w. Spells w words c) (read_one (2 ^ 64) (codes "rm") RemoveControl (λ n. refl) (λ n h. h) words c) (λ none. absurd (none-some c none))
+    rest) is
+
+read_four_letters : (command words : List ℕ) (c : Call) → four_letters_of command words ≡ Some c → Spells command words c
+unfolding four_letters_of line_of
+read_four_letters command words c is =
     branch (codes "fork") command _ _ c (λ w. Spells w words c) (read_fork words c) (λ rest.
     branch (codes "exec") command _ _ c (λ w. Spells w words c) (read_one (2 ^ 32) (codes "exec") Exec (λ n. refl) (λ n h. h) words c) (λ rest.
     branch (codes "exit") command _ _ c (λ w. Spells w words c) (read_exit words c) (λ rest.
     branch (codes "wait") command _ _ c (λ w. Spells w words c) (read_wait words c) (λ rest.
-    branch (codes "setpgid") command _ _ c (λ w. Spells w words c) (read_set_pgid words c) (λ rest.
+    branch (codes "next") command _ _ c (λ w. Spells w words c) (read_next words c) (λ rest.
+    branch (codes "move") command _ _ c (λ w. Spells w words c) (read_move words c) (λ rest.
+    branch (codes "join") command _ _ c (λ w. Spells w words c) (read_two (codes "join") Join (λ a b. refl) (λ a b h k. (h, k)) words c) (λ none. absurd (none-some c none))
+    rest) rest) rest) rest) rest) rest) is
+
+read_five_letters : (command words : List ℕ) (c : Call) → five_letters_of command words ≡ Some c → Spells command words c
+unfolding five_letters_of line_of
+read_five_letters command words c is =
+    branch (codes "nspid") command _ _ c (λ w. Spells w words c) (read_two (codes "nspid") NsPid (λ a b. refl) (λ a b h k. (h, k)) words c) (λ rest.
+    branch (codes "limit") command _ _ c (λ w. Spells w words c) (read_limit words c) (λ rest.
+    branch (codes "count") command _ _ c (λ w. Spells w words c) (read_one (2 ^ 64) (codes "count") Count (λ n. refl) (λ n h. h) words c) (λ none. absurd (none-some c none))
+    rest) rest) is
+
+read_six_letters : (command words : List ℕ) (c : Call) → six_letters_of command words ≡ Some c → Spells command words c
+unfolding six_letters_of line_of
+read_six_letters command words c is =
     branch (codes "setsid") command _ _ c (λ w. Spells w words c) (read_one (2 ^ 32) (codes "setsid") SetSid (λ n. refl) (λ n h. h) words c) (λ rest.
     branch (codes "getpid") command _ _ c (λ w. Spells w words c) (read_one (2 ^ 32) (codes "getpid") GetPid (λ n. refl) (λ n h. h) words c) (λ rest.
+    branch (codes "getsid") command _ _ c (λ w. Spells w words c) (read_two (codes "getsid") GetSid (λ a b. refl) (λ a b h k. (h, k)) words c) (λ none. absurd (none-some c none))
+    rest) rest) is
+
+read_seven_letters : (command words : List ℕ) (c : Call) → seven_letters_of command words ≡ Some c → Spells command words c
+unfolding seven_letters_of line_of
+read_seven_letters command words c is =
+    branch (codes "setpgid") command _ _ c (λ w. Spells w words c) (read_set_pgid words c) (λ rest.
     branch (codes "getppid") command _ _ c (λ w. Spells w words c) (read_one (2 ^ 32) (codes "getppid") GetPpid (λ n. refl) (λ n h. h) words c) (λ rest.
-    branch (codes "getpgid") command _ _ c (λ w. Spells w words c) (read_two (codes "getpgid") GetPgid (λ a b. refl) (λ a b h k. (h, k)) words c) (λ rest.
-    branch (codes "getsid") command _ _ c (λ w. Spells w words c) (read_two (codes "getsid") GetSid (λ a b. refl) (λ a b h k. (h, k)) words c) (λ rest.
-    branch (codes "nspid") command _ _ c (λ w. Spells w words c) (read_two (codes "nspid") NsPid (λ a b. refl) (λ a b h k. (h, k)) words c) (λ rest.
-    branch (codes "next") command _ _ c (λ w. Spells w words c) (read_next words c) (λ rest.
-    branch (codes "mk") command _ _ c (λ w. Spells w words c) (read_one (2 ^ 64) (codes "mk") MakeControl (λ n. refl) (λ n h. h) words c) (λ rest.
-    branch (codes "rm") command _ _ c (λ w. Spells w words c) (read_one (2 ^ 64) (codes "rm") RemoveControl (λ n. refl) (λ n h. h) words c) (λ rest.
-    branch (codes "limit") command _ _ c (λ w. Spells w words c) (read_limit words c) (λ rest.
-    branch (codes "move") command _ _ c (λ w. Spells w words c) (read_move words c) (λ rest.
-    branch (codes "count") command _ _ c (λ w. Spells w words c) (read_one (2 ^ 64) (codes "count") Count (λ n. refl) (λ n h. h) words c) (λ rest.
-    branch (codes "join") command _ _ c (λ w. Spells w words c) (read_two (codes "join") Join (λ a b. refl) (λ a b h k. (h, k)) words c) (λ rest.
+    branch (codes "getpgid") command _ _ c (λ w. Spells w words c) (read_two (codes "getpgid") GetPgid (λ a b. refl) (λ a b h k. (h, k)) words c) (λ none. absurd (none-some c none))
+    rest) rest) is
+
+read_nine_letters : (command words : List ℕ) (c : Call) → nine_letters_of command words ≡ Some c → Spells command words c
+unfolding nine_letters_of line_of
+read_nine_letters command words c is =
     branch (codes "subreaper") command _ _ c (λ w. Spells w words c) (read_subreaper words c) (λ none. absurd (none-some c none))
-    rest) rest) rest) rest) rest) rest) rest) rest) rest) rest) rest) rest) rest) rest) rest) rest) rest) rest) is
+    is
+
+either : {P : Type 0} (b : Bool) (x y : Option Call) (c : Call) → cond b x y ≡ Some c → (x ≡ Some c → P) → (y ≡ Some c → P) → P
+either true x y c is first second = first is
+either false x y c is first second = second is
+
+read_command : (command words : List ℕ) (c : Call) → command_of command words ≡ Some c → Spells command words c
+unfolding command_of
+read_command command words c is =
+    let letters = length command in
+    either (eqb letters 2) _ _ c is (read_two_letters command words c) (λ not_two.
+    either (eqb letters 4) _ _ c not_two (read_four_letters command words c) (λ not_four.
+    either (eqb letters 5) _ _ c not_four (read_five_letters command words c) (λ not_five.
+    either (eqb letters 6) _ _ c not_five (read_six_letters command words c) (λ not_six.
+    either (eqb letters 7) _ _ c not_six (read_seven_letters command words c) (read_nine_letters command words c)))))
 
 says_call : (o : Option Call) (c : Call) → call_or_bad o ≡ says.Call c → o ≡ Some c
 says_call None c is = cc

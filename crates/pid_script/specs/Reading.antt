@@ -21,14 +21,18 @@ o >>= f = option_and_then f o
 abbrev pub is_word : List ℕ → List ℕ → Bool
 is_word word bytes = bytes_eq bytes word
 
+-- no such byte stands before this index
+abbrev pub IsFreeOf : ℕ → ℕ → List ℕ → Type 0
+IsFreeOf byte end bytes = (k : ℕ) → k < end → slice_index bytes k ≢ byte
+
 -- what stands before the first such byte, and what stands after it
 abbrev pub cut : ℕ → List ℕ → Option (List ℕ × List ℕ)
 cut byte [] = None
 cut byte (b ∷ bs) = if b == byte then Some ([], bs) else option_map (λ p. (b ∷ p.0, p.1)) (cut byte bs)
 
--- the word is not empty, and has no plus sign and no leading zero
+-- the word is not empty, and has no leading zero
 abbrev pub IsPlain : List ℕ → Type 0
-IsPlain word = (0 < length word) × (slice_index word 0 ≢ 43) × (slice_index word 0 ≡ 48 → length word ≡ 1)
+IsPlain word = (0 < length word) × (slice_index word 0 ≡ 48 → length word ≡ 1)
 
 -- the number below the bound that is written so
 unfoldable pub number_below : ℕ → List ℕ → Option ℕ
@@ -165,29 +169,63 @@ by_pair call words = option_map (λ p. call p.0 p.1) (pair_of words)
 abbrev pub by_control : (ℕ → Call) → List ℕ → Option Call
 by_control call words = option_map call (number_below (2 ^ 64) words)
 
--- the call of a command and its arguments
-unfoldable pub command_of : List ℕ → List ℕ → Option Call
-command_of command words =
+-- the call of a command of two letters and its arguments
+unfoldable pub two_letters_of : List ℕ → List ℕ → Option Call
+two_letters_of command words =
+    if is_word (codes "mk") command then by_control MakeControl words
+    else (if is_word (codes "rm") command then by_control RemoveControl words
+    else None)
+
+-- the call of a command of four letters and its arguments
+unfoldable pub four_letters_of : List ℕ → List ℕ → Option Call
+four_letters_of command words =
     if is_word (codes "fork") command then fork_of words
     else (if is_word (codes "exec") command then by_process Exec words
     else (if is_word (codes "exit") command then exit_of words
     else (if is_word (codes "wait") command then wait_of words
-    else (if is_word (codes "setpgid") command then set_pgid_of words
-    else (if is_word (codes "setsid") command then by_process SetSid words
+    else (if is_word (codes "next") command then next_of words
+    else (if is_word (codes "move") command then move_of words
+    else (if is_word (codes "join") command then by_pair Join words
+    else None))))))
+
+-- the call of a command of five letters and its arguments
+unfoldable pub five_letters_of : List ℕ → List ℕ → Option Call
+five_letters_of command words =
+    if is_word (codes "nspid") command then by_pair NsPid words
+    else (if is_word (codes "limit") command then limit_of words
+    else (if is_word (codes "count") command then by_control Count words
+    else None))
+
+-- the call of a command of six letters and its arguments
+unfoldable pub six_letters_of : List ℕ → List ℕ → Option Call
+six_letters_of command words =
+    if is_word (codes "setsid") command then by_process SetSid words
     else (if is_word (codes "getpid") command then by_process GetPid words
+    else (if is_word (codes "getsid") command then by_pair GetSid words
+    else None))
+
+-- the call of a command of seven letters and its arguments
+unfoldable pub seven_letters_of : List ℕ → List ℕ → Option Call
+seven_letters_of command words =
+    if is_word (codes "setpgid") command then set_pgid_of words
     else (if is_word (codes "getppid") command then by_process GetPpid words
     else (if is_word (codes "getpgid") command then by_pair GetPgid words
-    else (if is_word (codes "getsid") command then by_pair GetSid words
-    else (if is_word (codes "nspid") command then by_pair NsPid words
-    else (if is_word (codes "next") command then next_of words
-    else (if is_word (codes "mk") command then by_control MakeControl words
-    else (if is_word (codes "rm") command then by_control RemoveControl words
-    else (if is_word (codes "limit") command then limit_of words
-    else (if is_word (codes "move") command then move_of words
-    else (if is_word (codes "count") command then by_control Count words
-    else (if is_word (codes "join") command then by_pair Join words
-    else (if is_word (codes "subreaper") command then subreaper_of words
-    else None))))))))))))))))))
+    else None))
+
+-- the call of a command of nine letters and its arguments
+unfoldable pub nine_letters_of : List ℕ → List ℕ → Option Call
+nine_letters_of command words =
+    if is_word (codes "subreaper") command then subreaper_of words else None
+
+-- the call of a command and its arguments
+unfoldable pub command_of : List ℕ → List ℕ → Option Call
+command_of command words =
+    if length command == 2 then two_letters_of command words
+    else (if length command == 4 then four_letters_of command words
+    else (if length command == 5 then five_letters_of command words
+    else (if length command == 6 then six_letters_of command words
+    else (if length command == 7 then seven_letters_of command words
+    else nine_letters_of command words))))
 
 -- the call on a line
 abbrev pub call_of : List ℕ → Option Call

@@ -1,6 +1,6 @@
 //! Replies to answers: [`answer_text`] is the table of all answers. A text is at most 362 bytes and
 //! held in place, so nothing here takes memory or fails.
-ghost use Rattle.std.specs.Prelude.{◌≡◌, ◌+◌, ◌*◌, ◌≤◌, ◌++◌, ◌∷◌, length, codes, decimal};
+ghost use Rattle.std.specs.Prelude.{◌≡◌, ◌+◌, ◌*◌, ◌<◌, ◌≤◌, ◌++◌, ◌∷◌, length, codes, decimal};
 ghost use Rattle.std.specs.List.{flat_map};
 ghost use Rattle.pid_script.specs.Answers.{joined, refused_by, refusal_text, ended_text, reply_text, answer_of, received, lent};
 
@@ -21,14 +21,99 @@ fn push_bytes<const N: usize>(text: &mut ArrayVec<u8, N>, bytes: &[u8])
     text.try_extend_from_slice(bytes).unwrap();
 }
 
-#[tactic(auto, using(crate::proofs::Room::room))]
+/// A number of one digit.
+#[inline(always)]
+fn push_ones<const N: usize>(text: &mut ArrayVec<u8, N>, number: u32)
+    requires few { number < 10 }
+    requires room { length text.old.items + 1 ≤ N }
+    ensures items { text.new.items ≡ text.old.items ++ decimal number }
+    ensures len { length text.new.items ≡ length text.old.items + 1 }
+{
+    text.push(b'0' + number as u8);
+}
+
+/// A number of at most two digits.
+#[inline(always)]
+fn push_tens<const N: usize>(text: &mut ArrayVec<u8, N>, number: u32)
+    requires few { number < 100 }
+    requires room { length text.old.items + length (decimal number) ≤ N }
+    ensures items { text.new.items ≡ text.old.items ++ decimal number }
+{
+    if number < 10 {
+        push_ones(text, number);
+        return;
+    }
+    push_ones(text, number / 10);
+    push_ones(text, number % 10);
+}
+
+/// A number of at most three digits.
+#[inline(always)]
+fn push_hundreds<const N: usize>(text: &mut ArrayVec<u8, N>, number: u32)
+    requires few { number < 1000 }
+    requires room { length text.old.items + length (decimal number) ≤ N }
+    ensures items { text.new.items ≡ text.old.items ++ decimal number }
+{
+    if number < 10 {
+        push_ones(text, number);
+        return;
+    }
+    push_tens(text, number / 10);
+    push_ones(text, number % 10);
+}
+
+/// A number of at most four digits.
+#[inline(always)]
+fn push_thousands<const N: usize>(text: &mut ArrayVec<u8, N>, number: u32)
+    requires few { number < 10000 }
+    requires room { length text.old.items + length (decimal number) ≤ N }
+    ensures items { text.new.items ≡ text.old.items ++ decimal number }
+{
+    if number < 10 {
+        push_ones(text, number);
+        return;
+    }
+    push_hundreds(text, number / 10);
+    push_ones(text, number % 10);
+}
+
+/// A number of at most five digits.
+#[inline(always)]
+fn push_ten_thousands<const N: usize>(text: &mut ArrayVec<u8, N>, number: u32)
+    requires few { number < 100000 }
+    requires room { length text.old.items + length (decimal number) ≤ N }
+    ensures items { text.new.items ≡ text.old.items ++ decimal number }
+{
+    if number < 10 {
+        push_ones(text, number);
+        return;
+    }
+    push_thousands(text, number / 10);
+    push_ones(text, number % 10);
+}
+
+/// A number of any length.
+#[inline(never)]
+fn push_long<const N: usize>(text: &mut ArrayVec<u8, N>, number: u64)
+    requires { length text.old.items + length (decimal number) ≤ N }
+    ensures items { text.new.items ≡ text.old.items ++ decimal number }
+{
+    let mut buffer = Buffer::new();
+    push_bytes(text, buffer.format(number).as_bytes());
+}
+
+#[inline(never)]
 fn push_number<const N: usize>(text: &mut ArrayVec<u8, N>, number: u64)
     requires { length text.old.items + length (decimal number) ≤ N }
     ensures items { text.new.items ≡ text.old.items ++ decimal number }
     ensures len { length text.new.items ≡ length text.old.items + length (decimal number) }
 {
-    let mut buffer = Buffer::new();
-    push_bytes(text, buffer.format(number).as_bytes());
+    // Most numbers have few digits, which cost less one by one.
+    if number < 100_000 {
+        push_ten_thousands(text, number as u32);
+    } else {
+        push_long(text, number);
+    }
 }
 
 /// The label, and the number behind it.
@@ -53,6 +138,7 @@ fn push_id<const N: usize>(text: &mut ArrayVec<u8, N>, refusal: Refusal)
     }
 }
 
+#[inline(never)]
 fn push_refusal<const N: usize>(text: &mut ArrayVec<u8, N>, refusal: Refusal)
     requires { length text.old.items + 362 ≤ N }
     ensures items { text.new.items ≡ text.old.items ++ refusal_text refusal }
@@ -64,6 +150,7 @@ fn push_refusal<const N: usize>(text: &mut ArrayVec<u8, N>, refusal: Refusal)
     push_id(text, refusal);
 }
 
+#[inline(never)]
 fn push_forked<const N: usize>(text: &mut ArrayVec<u8, N>, child: u32, root: u32)
     requires { length text.old.items + 362 ≤ N }
     ensures items { text.new.items ≡ text.old.items ++ codes "child " ++ decimal child ++ codes " root " ++ decimal root }
@@ -73,6 +160,7 @@ fn push_forked<const N: usize>(text: &mut ArrayVec<u8, N>, child: u32, root: u32
     push_labelled(text, b" root ", u64::from(root));
 }
 
+#[inline(never)]
 fn push_reaped<const N: usize>(text: &mut ArrayVec<u8, N>, child: u32, ended: Ended)
     requires { length text.old.items + 362 ≤ N }
     ensures items { text.new.items ≡ text.old.items ++ codes "reaped " ++ decimal child ++ ended_text ended }
@@ -109,6 +197,7 @@ fn push_rest<const N: usize>(text: &mut ArrayVec<u8, N>, separator: u8, numbers:
 
 /// The numbers in order, with the byte between them.
 #[tactic(auto, using(crate::proofs::Room::room))]
+#[inline(never)]
 fn push_joined<const N: usize>(
     text: &mut ArrayVec<u8, N>,
     separator: u8,
@@ -157,6 +246,7 @@ fn push_reply<const N: usize>(text: &mut ArrayVec<u8, N>, reply: &Reply)
 }
 
 /// Appends the answer to a call, without its newline, as [`answer_text`] says it.
+#[inline(always)]
 pub(crate) fn push_answer<const N: usize>(
     text: &mut ArrayVec<u8, N>,
     answer: Result<&Reply, CallFault>,

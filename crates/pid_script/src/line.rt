@@ -1,7 +1,8 @@
 //! Lines to calls: [`parse_line`] is the table of all lines. Below it stands a reader for the words
 //! of each command; each answers `None` for words that are no such command's.
-ghost use Rattle.std.specs.Prelude.{◌≡◌, ◌^◌};
-ghost use Rattle.pid_script.specs.Reading.{pair_of, fork_of, exit_of, numbered_of, which_of, wait_of, set_pgid_of, kind_of, next_of, limit_of, move_of, switch_of, subreaper_of, command_of, call_of, parsed};
+ghost use Rattle.std.specs.Prelude.{◌≡◌};
+ghost use Rattle.pid_types.specs.declared.call.Call.TheVariants as calls;
+ghost use Rattle.pid_script.specs.Reading.{pair_of, fork_of, exit_of, numbered_of, which_of, wait_of, set_pgid_of, kind_of, next_of, limit_of, move_of, switch_of, subreaper_of, by_process, two_letters_of, four_letters_of, five_letters_of, six_letters_of, seven_letters_of, nine_letters_of, command_of, call_of, call_or_bad, parsed};
 ghost use Rattle.pid_script.specs.Lines.{Says};
 
 use crate::bytes::split_at_first;
@@ -30,6 +31,7 @@ fn read_pair(words: &[u8]) -> Option<(u32, u32)>
 
 /// `P` or `P new`.
 #[tactic(auto, unfolding(crate::specs::Reading::fork_of))]
+#[inline(always)]
 fn read_fork(words: &[u8]) -> Option<Call>
     ensures { result ≡ fork_of words.now }
 {
@@ -46,6 +48,7 @@ fn read_fork(words: &[u8]) -> Option<Call>
 
 /// `P S`.
 #[tactic(auto, unfolding(crate::specs::Reading::exit_of))]
+#[inline(always)]
 fn read_exit(words: &[u8]) -> Option<Call>
     ensures { result ≡ exit_of words.now }
 {
@@ -84,6 +87,7 @@ fn read_which(words: &[u8]) -> Option<Which>
 
 /// `P`, and which children.
 #[tactic(auto, unfolding(crate::specs::Reading::wait_of))]
+#[inline(always)]
 fn read_wait(words: &[u8]) -> Option<Call>
     ensures { result ≡ wait_of words.now }
 {
@@ -185,32 +189,174 @@ fn read_subreaper(words: &[u8]) -> Option<Call>
     })
 }
 
-/// The call of a command and the words behind it.
-#[tactic(auto, unfolding(crate::specs::Reading::command_of))]
-fn read_command(command: &[u8], words: &[u8]) -> Option<Call>
-    ensures { result ≡ command_of command.now words.now }
+/// The call of a command of two letters and the words behind it.
+#[tactic(auto, unfolding(crate::specs::Reading::two_letters_of))]
+fn read_two_letters(command: &[u8], words: &[u8]) -> Option<Call>
+    ensures { result ≡ two_letters_of command.now words.now }
+{
+    match command {
+        b"mk" => read_u64(words).map(|parent| Call::MakeControl { parent }),
+        b"rm" => read_u64(words).map(|id| Call::RemoveControl { id }),
+        _ => None,
+    }
+}
+
+/// The call of a command of four letters and the words behind it.
+#[tactic(auto, unfolding(crate::specs::Reading::four_letters_of))]
+fn read_four_letters(command: &[u8], words: &[u8]) -> Option<Call>
+    ensures { result ≡ four_letters_of command.now words.now }
 {
     match command {
         b"fork" => read_fork(words),
         b"exec" => read_u32(words).map(|caller| Call::Exec { caller }),
         b"exit" => read_exit(words),
         b"wait" => read_wait(words),
-        b"setpgid" => read_set_pgid(words),
+        b"next" => read_next(words),
+        b"move" => read_move(words),
+        b"join" => read_pair(words).map(|(caller, target)| Call::Join { caller, target }),
+        _ => None,
+    }
+}
+
+/// The call of a command of five letters and the words behind it.
+#[tactic(auto, unfolding(crate::specs::Reading::five_letters_of))]
+fn read_five_letters(command: &[u8], words: &[u8]) -> Option<Call>
+    ensures { result ≡ five_letters_of command.now words.now }
+{
+    match command {
+        b"nspid" => read_pair(words).map(|(caller, target)| Call::NsPid { caller, target }),
+        b"limit" => read_limit(words),
+        b"count" => read_u64(words).map(|id| Call::Count { id }),
+        _ => None,
+    }
+}
+
+/// The call of a command of six letters and the words behind it.
+#[tactic(auto, unfolding(crate::specs::Reading::six_letters_of))]
+fn read_six_letters(command: &[u8], words: &[u8]) -> Option<Call>
+    ensures { result ≡ six_letters_of command.now words.now }
+{
+    match command {
         b"setsid" => read_u32(words).map(|caller| Call::SetSid { caller }),
         b"getpid" => read_u32(words).map(|caller| Call::GetPid { caller }),
+        b"getsid" => read_pair(words).map(|(caller, pid)| Call::GetSid { caller, pid }),
+        _ => None,
+    }
+}
+
+/// The call of a command of seven letters and the words behind it.
+#[tactic(auto, unfolding(crate::specs::Reading::seven_letters_of))]
+fn read_seven_letters(command: &[u8], words: &[u8]) -> Option<Call>
+    ensures { result ≡ seven_letters_of command.now words.now }
+{
+    match command {
+        b"setpgid" => read_set_pgid(words),
         b"getppid" => read_u32(words).map(|caller| Call::GetPpid { caller }),
         b"getpgid" => read_pair(words).map(|(caller, pid)| Call::GetPgid { caller, pid }),
-        b"getsid" => read_pair(words).map(|(caller, pid)| Call::GetSid { caller, pid }),
-        b"nspid" => read_pair(words).map(|(caller, target)| Call::NsPid { caller, target }),
-        b"next" => read_next(words),
-        b"mk" => read_u64(words).map(|parent| Call::MakeControl { parent }),
-        b"rm" => read_u64(words).map(|id| Call::RemoveControl { id }),
-        b"limit" => read_limit(words),
-        b"move" => read_move(words),
-        b"count" => read_u64(words).map(|id| Call::Count { id }),
-        b"join" => read_pair(words).map(|(caller, target)| Call::Join { caller, target }),
+        _ => None,
+    }
+}
+
+/// The call of a command of nine letters and the words behind it.
+#[tactic(auto, unfolding(crate::specs::Reading::nine_letters_of))]
+fn read_nine_letters(command: &[u8], words: &[u8]) -> Option<Call>
+    ensures { result ≡ nine_letters_of command.now words.now }
+{
+    match command {
         b"subreaper" => read_subreaper(words),
         _ => None,
+    }
+}
+
+/// The call of a command and the words behind it. A command is told by its length first.
+#[tactic(auto, unfolding(crate::specs::Reading::command_of))]
+fn read_command(command: &[u8], words: &[u8]) -> Option<Call>
+    ensures { result ≡ command_of command.now words.now }
+{
+    match command.len() {
+        2 => read_two_letters(command, words),
+        4 => read_four_letters(command, words),
+        5 => read_five_letters(command, words),
+        6 => read_six_letters(command, words),
+        7 => read_seven_letters(command, words),
+        _ => read_nine_letters(command, words),
+    }
+}
+
+/// The call, or a bad line where there is none.
+#[inline(always)]
+fn line_of_call(call: Option<Call>) -> Line
+    ensures { result ≡ call_or_bad call }
+{
+    match call {
+        Some(call) => Line::Call(call),
+        None => Line::Bad,
+    }
+}
+
+/// What `getpid` says with the words behind it.
+#[inline(never)]
+fn get_pid_line(words: &[u8]) -> Line
+    ensures { result ≡ call_or_bad (by_process calls.GetPid words.now) }
+{
+    line_of_call(read_u32(words).map(|caller| Call::GetPid { caller }))
+}
+
+/// What `fork` says with the words behind it.
+#[inline(never)]
+fn fork_line(words: &[u8]) -> Line
+    ensures { result ≡ call_or_bad (fork_of words.now) }
+{
+    line_of_call(read_fork(words))
+}
+
+/// What `exit` says with the words behind it.
+#[inline(never)]
+fn exit_line(words: &[u8]) -> Line
+    ensures { result ≡ call_or_bad (exit_of words.now) }
+{
+    line_of_call(read_exit(words))
+}
+
+/// What `wait` says with the words behind it.
+#[inline(never)]
+fn wait_line(words: &[u8]) -> Line
+    ensures { result ≡ call_or_bad (wait_of words.now) }
+{
+    line_of_call(read_wait(words))
+}
+
+/// What a line says that has a byte, whatever its command.
+#[inline(never)]
+fn any_line(line: &[u8]) -> Line
+    ensures { result ≡ call_or_bad (call_of line.now) }
+{
+    let call = split_at_first(line, b' ').and_then(|(command, words)| read_command(command, words));
+    line_of_call(call)
+}
+
+/// What a line says that has a byte. `fork`, `exit` and `wait` are told by its first bytes, before any space is looked for.
+#[inline(always)]
+fn life_line(line: &[u8]) -> Line
+    ensures { result ≡ call_or_bad (call_of line.now) }
+{
+    match line {
+        [b'f', b'o', b'r', b'k', b' ', words @ ..] => fork_line(words),
+        [b'e', b'x', b'i', b't', b' ', words @ ..] => exit_line(words),
+        [b'w', b'a', b'i', b't', b' ', words @ ..] => wait_line(words),
+        _ => any_line(line),
+    }
+}
+
+/// What the line says. `getpid` is told by its first bytes too.
+#[inline(always)]
+fn read_line(line: &[u8]) -> Line
+    ensures { result ≡ parsed line.now }
+{
+    match line {
+        [] => Line::Empty,
+        [b'g', b'e', b't', b'p', b'i', b'd', b' ', words @ ..] => get_pid_line(words),
+        _ => life_line(line),
     }
 }
 
@@ -239,16 +385,10 @@ fn read_command(command: &[u8], words: &[u8]) -> Option<Call>
 /// | `subreaper P on`, `subreaper P off` | [`Call::SetSubreaper`] |
 ///
 /// `P` is a `u32`, `S` a `u8`, `I` a `u64` and `G` an `i32`. The cost is linear in the line.
+#[inline(always)]
 pub fn parse_line(line: &[u8]) -> Line
     ensures value { result ≡ parsed line.now }
     ensures table { Says result line.now }
 {
-    if line.is_empty() {
-        return Line::Empty;
-    }
-    let call = split_at_first(line, b' ').and_then(|(command, words)| read_command(command, words));
-    match call {
-        Some(call) => Line::Call(call),
-        None => Line::Bad,
-    }
+    read_line(line)
 }

@@ -1,31 +1,40 @@
 //! Numbers as scripts write them: decimal digits without a leading zero.
-ghost use Rattle.std.specs.Prelude.{◌≡◌, ◌+◌, ◌*◌, ◌^◌, ◌<◌, ◌↔◌, IsTrue, IfSome, IfNone};
+ghost use Rattle.std.specs.Prelude.{◌≡◌, ◌+◌, ◌*◌, ◌^◌, ◌<◌, ◌≤◌, ◌↔◌, length, IsTrue, IfSome, IfNone};
 ghost use Rattle.std.specs.Char.{digit_value};
 ghost use Rattle.std.specs.Str.Parse.{AllDigits, digits_value};
 ghost use Rattle.pid_script.specs.Reading.{IsPlain, number_below, negative_of, signed_of};
 
-/// Whether the word begins with no plus sign and no leading zero, both of which std reads.
+/// Whether the word is not empty and has no leading zero.
 fn is_plain(word: &[u8]) -> bool
     ensures { IsTrue result ↔ IsPlain word.now }
 {
     match word.first() {
-        None | Some(b'+') => false,
+        None => false,
         Some(b'0') => word.len() == 1,
         Some(_) => true,
     }
 }
 
-/// The number with the digit behind it, where the byte is a digit and the number one below 2^64.
+/// What the byte says as a digit.
 #[tactic(auto, using(crate::proofs::Numbers::digit))]
+fn digit_of(byte: u8) -> Option<u8>
+    ensures some { IfSome result (λ d. (d < 10) × (d ≡ digit_value byte)) }
+    ensures none { IfNone result (digit_value byte < 10 → ⊥) }
+{
+    if !byte.is_ascii_digit() {
+        return None;
+    }
+    Some(byte - b'0')
+}
+
+/// The number with the digit behind it, where the byte is a digit and the number one below 2^64.
 fn with_digit(number: u64, byte: u8) -> Option<u64>
     ensures some { IfSome result (λ n. (digit_value byte < 10) × (n ≡ number * 10 + digit_value byte)) }
     ensures none { IfNone result (digit_value byte < 10 → number * 10 + digit_value byte < 2 ^ 64 → ⊥) }
     ensures small { IfSome result (λ n. n < 2 ^ 64) }
 {
-    if !byte.is_ascii_digit() {
-        return None;
-    }
-    number.checked_mul(10)?.checked_add(u64::from(byte - b'0'))
+    let digit = digit_of(byte)?;
+    number.checked_mul(10)?.checked_add(u64::from(digit))
 }
 
 /// The number that the digits write, where they are digits and it is one below 2^64.
@@ -51,10 +60,28 @@ pub fn read_u64(word: &[u8]) -> Option<u64>
     read_digits(word)
 }
 
+/// The number of a word of at most nine bytes. So few digits write a number below 2^32.
+fn read_short(word: &[u8]) -> Option<u32>
+    requires plain { IsPlain word.now }
+    requires short { length word.now ≤ 9 }
+    ensures { result ≡ number_below (2 ^ 32) word.now }
+{
+    let mut number = 0_u32;
+    for byte in word {
+        let digit = digit_of(*byte)?;
+        number = number * 10 + u32::from(digit);
+    }
+    Some(number)
+}
+
 /// The number of a word, where it is one below 2^32.
 pub fn read_u32(word: &[u8]) -> Option<u32>
     ensures { result ≡ number_below (2 ^ 32) word.now }
 {
+    // Most words are short, and are read without a test at each digit that the number fits.
+    if word.len() < 10 && is_plain(word) {
+        return read_short(word);
+    }
     u32::try_from(read_u64(word)?).ok()
 }
 
