@@ -1,8 +1,7 @@
-//! Worked lists, ranks, ids and counts.
+//! Worked lists, ranks and ids.
 
 ghost use Rattle.std.specs.Prelude.{◌≡◌, ◌<◌, ℕ, [], ◌∷◌, length, Some, IfOk};
 
-use key_counts::KeyCounts;
 use least_members::LeastMembers;
 use owner_lists::OwnerLists;
 use rising_ids::RisingIds;
@@ -117,27 +116,4 @@ fn change_ids(rt: &impl Abort, ids: &mut RisingIds) -> Result<(), Fail>
 #[test]
 fn keeps_rising_ids(rt: HostRuntime) -> Result<(), Fail> {
     change_ids(&rt, &mut RisingIds::new(rt.alloc()))
-}
-
-/// Two keys, of which the second is counted up and down again.
-fn change_counts(rt: &impl Abort, counts: &mut KeyCounts) -> Result<(), Fail>
-    requires { counts.old ≡ [] }
-{
-    counts.grow()?;
-    counts.grow()?;
-    assert_eq!(rt; counts.keys(), 2);
-    assert_eq!(rt; counts.count(1), 0);
-    counts.raise(1);
-    counts.raise(1);
-    assert_eq!(rt; counts.count(1), 2);
-    assert_eq!(rt; counts.count(0), 0);
-    assert!(rt; !counts.lower(1));
-    assert!(rt; counts.lower(1));
-    Ok(())
-}
-
-/// A count of two that goes down to none.
-#[test]
-fn counts_by_key(rt: HostRuntime) -> Result<(), Fail> {
-    change_counts(&rt, &mut KeyCounts::new(rt.alloc()))
 }
