@@ -9,7 +9,7 @@
 //! it, and `commit` gives it. Only `prepare` takes memory.
 #![tactic(auto)]
 
-ghost use Rattle.std.specs.Prelude.{◌≡◌, ℕ, ◌+◌, ◌<◌, ◌≤◌, Option, Some, None, OnOk, IfSome, true, false, is_some, [], ◌∷◌};
+ghost use Rattle.std.specs.Prelude.{◌≡◌, ℕ, ◌+◌, ◌<◌, ◌≤◌, Option, Some, None, OnOk, IfSome, MatchBool, true, false, is_some, [], ◌∷◌};
 ghost use Rattle.std.specs.Option.{option_copied};
 ghost use Rattle.index_array.specs.Place.{entry_at, is_prepared, value_at, is_marked, with_mark, IsLeastIndex, WritesEntry, KeepsEntries, KeepsPrepared};
 ghost use Rattle.pid_types.specs.Draw.{restart};
@@ -231,5 +231,14 @@ impl<T: Drop> CyclicIds<T> {
         ensures { IsLeastIndex (λ k. is_some (entry_at self.now.places k)) from 16777216 result }
     {
         self.ids.next(from)
+    }
+
+    /// Whether no number is in use. It costs one read.
+    #[inline(always)]
+    pub fn is_empty(&self) -> bool
+        ensures { MatchBool result ((n : ℕ) → entry_at self.now.places n ≡ None)
+            ((n : ℕ) × (is_some (entry_at self.now.places n) ≡ true)) }
+    {
+        self.ids.is_empty()
     }
 }

@@ -8,7 +8,7 @@
 //! Memory is taken by `prepare` (and by `store`, which calls it) and by nothing else.
 #![tactic(auto)]
 
-ghost use Rattle.std.specs.Prelude.{◌≡◌, ◌≢◌, ℕ, ◌<◌, ◌≤◌, min, Option, Some, None, MatchOption, IfOk, IfErr, OnOk, OnErr, Err, ◌↔◌, true, false, not, is_some, List, length, ◌*◌};
+ghost use Rattle.std.specs.Prelude.{◌≡◌, ◌≢◌, ℕ, ◌<◌, ◌≤◌, min, Option, Some, None, MatchOption, MatchBool, IfOk, IfErr, OnOk, OnErr, Err, ◌↔◌, true, false, not, is_some, List, length, ◌*◌};
 ghost use Rattle.std.specs.Option.{option_copied};
 ghost use Rattle.index_array.specs.Place.{Place, bare, place_at, entry_at, is_prepared, value_at, is_marked, with_mark, IsLeastIndex, IsFirst, WritesEntry, KeepsEntries, KeepsPrepared};
 ghost use Rattle.index_array.specs.Tree.{IsInLeaf};
@@ -26,8 +26,8 @@ use bits::Sought;
 use block::Block;
 use leaf::Leaf;
 use root::{
-    Root, erase_in, find_in, gap_in, give_back_in, grown, leaf_in, planted, prepare_in,
-    put_mark_in, store_in,
+    Root, erase_in, find_in, gap_in, give_back_in, grown, is_empty_in, leaf_in, planted,
+    prepare_in, put_mark_in, store_in,
 };
 use std::alloc::{AllocError, Global};
 use std::marker::Model;
@@ -393,6 +393,21 @@ impl<T: Drop> IndexArray<T> {
             Root::Height1(node) => put_mark_in(&mut **node, i, m, on),
             Root::Height2(node) => put_mark_in(&mut **node, i, m, on),
             Root::Height3(node) => put_mark_in(&mut **node, i, m, on),
+        }
+    }
+
+    /// Whether there is no entry. It costs one read.
+    #[inline(always)]
+    pub fn is_empty(&self) -> bool
+        ensures { MatchBool result ((i : ℕ) → entry_at self.now i ≡ None)
+            ((i : ℕ) × (is_some (entry_at self.now i) ≡ true)) }
+    {
+        match &self.root {
+            Root::Empty => true,
+            Root::Height0(node) => is_empty_in(&**node),
+            Root::Height1(node) => is_empty_in(&**node),
+            Root::Height2(node) => is_empty_in(&**node),
+            Root::Height3(node) => is_empty_in(&**node),
         }
     }
 

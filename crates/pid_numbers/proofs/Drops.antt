@@ -203,17 +203,6 @@ nothing-dead pid_max spaces idents order b s =
     go None at = refl
     go (Some z) at = sym (ap (λ g. if g then None else Some (namespace_of z)) (lives z at))
 
--- the numbers in use are few
-pub few-entries : (pid_max : ℕ) (ways : ℕ → List ℕ) (at : ℕ → ℕ → Option (Entry ℕ)) (bound : ℕ → Option ℕ) (names : ℕ → Option Identifier) → IsNumbering pid_max ways at bound names → (s n : ℕ) → at s n ≢ None → n < 16777216
-few-entries pid_max ways at bound names b s n some = go (at s n) refl
-  where
-    go : (o : Option (Entry ℕ)) → at s n ≡ o → n < 16777216
-    go None e = absurd (some e)
-    go (Some x) e =
-        let r = (b.range s n x.value (ap (option_map (λ e. e.value)) e)).1 in
-        let g = b.good.1 in
-        omega (arith, r, g)
-
 -- the identifier that lost its last use
 pub last_one : (pid_max : ℕ) (spaces : Slab Space) (idents : Slab Ident) (order : List (ℕ × ℕ)) (idents1 : Slab Ident) (b : Numbering) → numbering_of pid_max spaces idents order ≡ b → (i : ℕ) (kind : Kind) → is_used_as kind (identifier_at b i) ≡ true
     → ((u : Identifier) → name_at idents i ≡ Some u → name_at idents1 i ≡ Some (less kind u)) → (gone : Identifier) → name_at idents1 i ≡ Some gone

@@ -1,5 +1,6 @@
 -- Namespaces that fall, and those that go.
 use Rattle.std.proofs.Common.{◌≡◌, ◌≢◌, ◌⊎◌, inl, inr, ℕ, zero, suc, ◌+◌, ◌-◌, ◌<◌, ◌≤◌, Bool, true, false, ◌==◌, ◌&&◌, ◌||◌, List, [], ◌∷◌, length, get_or, drop, length-drop, Option, Some, None, is_some, is_none, not, option_and_then, if◌then◌else◌, refl, sym, ap, subst, ◌∙◌, arith, option_map}
+use Rattle.std.specs.Prelude.{MatchBool}
 use Rattle.std.specs.Option.{option_map_or}
 use Rattle.std.proofs.lemmas.List.{get_or-drop}
 use Rattle.std.proofs.lemmas.Bool.{cases_eq, eq-eqb}
@@ -271,24 +272,17 @@ empty_same ns ms same = go (cases (length ns == 0)) (cases (length ms == 0))
         let bad : false ≡ true = sym (none_in ms b r.0) ∙ sym (same r.0) ∙ r.1 in
         cc
 
-pub negated : (r : Option ℕ) (x : Bool) → is_some r ≡ not x → x ≡ is_none r
-negated None true e = refl
-negated None false e = absurd (cc)
-negated (Some b) true e = absurd (cc)
-negated (Some b) false e = refl
-
--- where no least number is found, none has an entry
-pub next_empty : (ps : List (Place ℕ)) (r : Option ℕ) → IsLeastIndex (λ k. is_some (entry_at ps k)) 0 16777216 r → ((n : ℕ) → entry_at ps n ≢ None → n < 16777216) → is_none r ≡ (length (indexes ps) == 0)
-next_empty ps None none few = elim (cases (length (indexes ps) == 0)) [
+-- where no number has an entry the list of those that have one is empty
+pub empty_is : (ps : List (Place ℕ)) (b : Bool) → MatchBool b ((n : ℕ) → entry_at ps n ≡ None) ((n : ℕ) × (is_some (entry_at ps n) ≡ true)) → b ≡ (length (indexes ps) == 0)
+empty_is ps true none = elim (cases (length (indexes ps) == 0)) [
   | inl e ↦ sym e
   | inr e ↦
       let r = one_in (indexes ps) e in
       let there : is_some (entry_at ps r.0) ≡ true = sym (contains_indexes ps r.0) ∙ r.1 in
-      let lt = few r.0 (λ z. let bad : false ≡ true = sym (ap is_some z) ∙ there in cc) in
-      absurd (let bad : true ≡ false = sym there ∙ none r.0 (omega arith) lt in cc)
+      absurd (let bad : true ≡ false = sym there ∙ ap is_some (none r.0) in cc)
 ]
-next_empty ps (Some b) least few = elim (cases (length (indexes ps) == 0)) [
-  | inl e ↦ absurd (let bad : false ≡ true = sym (none_in (indexes ps) e b) ∙ contains_indexes ps b ∙ least.2 in cc)
+empty_is ps false some = elim (cases (length (indexes ps) == 0)) [
+  | inl e ↦ absurd (let bad : false ≡ true = sym (none_in (indexes ps) e some.0) ∙ contains_indexes ps some.0 ∙ some.1 in cc)
   | inr e ↦ sym e
 ]
 
@@ -319,19 +313,6 @@ module _ (key : ℕ) (rest : List ℕ) (old new : Slab Space) (here : get new ke
         ap (λ o. if contains rest s && option_map_or (λ t. t.fallen && (length (indexes t.ids.places) == 0)) o false then None else o) (others s m)
         ∙ sym (ap (λ t. if (t || contains rest s) && dead_on old s then None else get old s) off)
   ]
-
-  -- and nothing new stands in them
-  pub few-more : ((s n : ℕ) → entry_on old s n ≢ None → n < 16777216) → (s n : ℕ) → entry_on new s n ≢ None → n < 16777216
-  few-more few s n some = few s n (λ none. some (elim (cases_eq s key) [
-    | inl e ↦
-        let was : entry_on old key n ≡ None = ap (λ z. entry_on old z n) (sym e) ∙ none in
-        ap (λ z. entry_on new z n) e ∙ ap (option_and_then (λ t. entry_at t.ids.places n)) here ∙ go (dead_on old key) was
-    | inr m ↦ ap (option_and_then (λ t. entry_at t.ids.places n)) (others s m) ∙ none
-  ]))
-    where
-      go : (g : Bool) → entry_on old key n ≡ None → option_and_then (λ t. entry_at t.ids.places n) (if g then None else get old key) ≡ None
-      go true e = refl
-      go false e = e
 
 -- what a slab shows of one that is there or not
 pub through : {X Y : Type 0} (h : X → Y) (g : Bool) (a b : X) → h (if g then a else b) ≡ if g then h a else h b

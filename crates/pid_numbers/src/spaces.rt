@@ -308,15 +308,13 @@ fn path_of(spaces: &Slab<Space>, space: u32) -> ArrayVec<u32, 33>
 
 /// Whether the namespace has fallen and no number in it is in use.
 fn is_dead(space: &Space) -> bool
-    requires { (n : ℕ) → entry_at space.now.ids.places n ≢ None → n < 16777216 }
     ensures { result ≡ space.now.fallen && (length (indexes space.now.ids.places) == 0) }
 {
-    space.fallen && space.ids.next(0).is_none()
+    space.fallen && space.ids.is_empty()
 }
 
 /// Drops the namespace, where it is dead.
 fn drop_dead(spaces: &mut Slab<Space>, order: &mut RisingIds, key: u32)
-    requires few { (n : ℕ) → entry_on spaces.old key n ≢ None → n < 16777216 }
     requires listed { AreListed (id_on spaces.old) order.old }
     ensures here { get spaces.new key ≡ if dead_on spaces.old key then None else get spaces.old key }
     ensures others { (s : ℕ) → s ≢ key → get spaces.new s ≡ get spaces.old s }
@@ -336,7 +334,6 @@ fn drop_dead(spaces: &mut Slab<Space>, order: &mut RisingIds, key: u32)
 
 /// Drops the dead namespaces of the path.
 fn sweep_path(spaces: &mut Slab<Space>, order: &mut RisingIds, path: &ArrayVec<u32, 33>)
-    requires few { (s n : ℕ) → entry_on spaces.old s n ≢ None → n < 16777216 }
     requires listed { AreListed (id_on spaces.old) order.old }
     ensures left { (s : ℕ) → get spaces.new s ≡ left_on path.now.items spaces.old s }
     ensures order { order.new ≡ filter (λ p. is_some (get spaces.new p.1)) order.old }
@@ -349,7 +346,6 @@ fn sweep_path(spaces: &mut Slab<Space>, order: &mut RisingIds, path: &ArrayVec<u
 
 /// Drops the dead namespaces on the path of a namespace that has fallen. On that of one that stands none is dead.
 pub(crate) fn sweep_fallen(spaces: &mut Slab<Space>, order: &mut RisingIds, space: u32)
-    requires few { (s n : ℕ) → entry_on spaces.old s n ≢ None → n < 16777216 }
     requires listed { AreListed (id_on spaces.old) order.old }
     ensures left { (s : ℕ) → get spaces.new s ≡ left_on (if fell spaces.old space then way spaces.old space else []) spaces.old s }
     ensures order { order.new ≡ filter (λ p. is_some (get spaces.new p.1)) order.old }

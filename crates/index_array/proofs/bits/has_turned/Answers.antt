@@ -1,6 +1,6 @@
-use Rattle.std.proofs.Common.{rules, arith}
-use Rattle.index_array.proofs.WordBits.{some_kept, above_0}
+use Rattle.std.proofs.Common.{rules}
+use Rattle.index_array.proofs.WordBits.{kept_alike}
 use Rattle.index_array.proofs.bits.has_turned.Goals as goal
 
-pub returns-else-old-eq0 : goal.returns-else-old-eq0
-returns-else-old-eq0 c = λ off. some_kept c.args.old c.args.new (search rules) (search rules) (omega arith) (above_0 _ off)
+pub returns : goal.returns
+returns c = λ same. kept_alike c.args.old c.args.new (search rules) (search rules) same

@@ -119,7 +119,6 @@ sweep_fallen-requires c =
     let b = drops.after-release c.self.inside.pid_max spaces c.release_path.new.spaces (name_at idents) (name_at c.try_remove.new.self) c.self.invariant.whole.numbering c.args.ident gone one c.release_path.ensures.way c.release_path.ensures.bound c.release_path.ensures.entries
     (ap (option_map identifier_of) c.try_remove.ensures.updates.changed) (λ j m. ap (option_map identifier_of) (c.try_remove.ensures.updates.others j m) ∙ c.less_use.ensures.others j m) in
     record {
-      few = drops.few-entries c.self.inside.pid_max (way c.release_path.new.spaces) (entry_on c.release_path.new.spaces) (bound_on c.release_path.new.spaces) (name_at c.try_remove.new.self) b;
       listed = orders.listed-same (id_on spaces) (id_on c.release_path.new.spaces) c.self.inside.order c.self.invariant.listed (orders.ids-same c.release_path.new.spaces spaces c.release_path.ensures.namespaces);
     }
 

@@ -5,9 +5,6 @@ use Rattle.pid_numbers.specs.Slabs.{namespace_of, id_on}
 use Rattle.pid_numbers.proofs.Orders as orders
 use Rattle.pid_numbers.proofs.spaces.drop_dead.Goals as goal
 
-pub is_dead-dead-requires : goal.is_dead-dead-requires
-is_dead-dead-requires c n some = c.requires.few n (λ e. some (ap (option_and_then (λ t. entry_at t.ids.places n)) c.in-Some.ensures ∙ e))
-
 pub returns-then-not-dead-clause-order : goal.returns-then-not-dead-clause-order
 returns-then-not-dead-clause-order c =
     let spaces = c.args.spaces.now in

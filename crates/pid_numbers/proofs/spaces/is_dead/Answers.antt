@@ -5,5 +5,5 @@ use Rattle.pid_numbers.proofs.spaces.is_dead.Goals as goal
 
 pub returns-then-space : goal.returns-then-space
 returns-then-space c =
-    sweeps.negated c.next.result c.is_none.result c.is_none.ensures ∙ sweeps.next_empty c.args.space.now.ids.places c.next.result c.next.ensures c.requires
+    sweeps.empty_is c.args.space.now.ids.places c.is_empty.result c.is_empty.ensures
     ∙ sym (ap (λ b. b && (length (indexes c.args.space.now.ids.places) == 0)) c.if-space.true)

@@ -12,7 +12,6 @@ loop-k-init c =
     let spaces = c.args.spaces.now in
     record {
       left = λ s. refl;
-      few = c.requires.few;
       order = sym (orders.all-there (id_on spaces) (id_on spaces) c.args.order.now c.requires.listed (λ s. is_some (get spaces s)) (orders.id-there spaces));
       listed = c.requires.listed;
     }
@@ -29,7 +28,6 @@ loop-k-preserved c =
     record {
       left = λ s. sweeps.left-more key (drop (k + 1) path) c.loop-k.spaces c.drop_dead.new.spaces c.drop_dead.ensures.here c.drop_dead.ensures.others s
           ∙ sym (ap (λ p. left_on p c.loop-k.spaces s) head) ∙ c.loop-k.invariant.left s;
-      few = sweeps.few-more key (drop (k + 1) path) c.loop-k.spaces c.drop_dead.new.spaces c.drop_dead.ensures.here c.drop_dead.ensures.others c.loop-k.invariant.few;
       order = c.drop_dead.ensures.order ∙ ap (filter (λ p. is_some (get new p.1))) c.loop-k.invariant.order
           ∙ orders.filter-filter (λ p. is_some (get new p.1)) (λ p. is_some (get c.loop-k.spaces p.1)) (orders.there-before key c.loop-k.spaces new c.drop_dead.ensures.here c.drop_dead.ensures.others) c.args.order.now;
       listed = subst (AreListed (id_on new)) (sym c.drop_dead.ensures.order) (orders.listed-dropped key c.loop-k.spaces new c.drop_dead.ensures.here c.drop_dead.ensures.others c.loop-k.order c.loop-k.invariant.listed);
