@@ -1,5 +1,5 @@
 -- Namespaces that fall, and those that go.
-use Rattle.std.proofs.Common.{◌≡◌, ◌≢◌, ◌⊎◌, inl, inr, ℕ, zero, suc, ◌+◌, ◌-◌, ◌<◌, ◌≤◌, Bool, true, false, ◌==◌, ◌&&◌, ◌||◌, List, [], ◌∷◌, length, get_or, drop, length-drop, Option, Some, None, is_some, is_none, not, option_and_then, if◌then◌else◌, refl, sym, ap, subst, ◌∙◌, arith, option_map}
+use Rattle.std.proofs.Common.{◌≡◌, ◌≢◌, ◌⊎◌, inl, inr, ℕ, zero, suc, ◌+◌, ◌-◌, ◌<◌, ◌≤◌, Bool, true, false, ◌==◌, ◌&&◌, ◌||◌, List, [], ◌∷◌, length, get_or, drop, length-drop, Option, Some, None, is_some, if◌then◌else◌, refl, sym, ap, subst, ◌∙◌, arith, option_map}
 use Rattle.std.specs.Prelude.{MatchBool}
 use Rattle.std.specs.Option.{option_map_or}
 use Rattle.std.proofs.lemmas.List.{get_or-drop}
@@ -9,10 +9,10 @@ use Rattle.pid_types.specs.Chains.{contains}
 use Rattle.pid_types.specs.Names.{beside}
 use Rattle.slab.specs.Slab.{Slab, get}
 use Rattle.pid_numbers.specs.declared.spaces.Space.{Space}
-use Rattle.index_array.specs.Place.{Entry, Place, entry_at, indexes, IsLeastIndex}
+use Rattle.index_array.specs.Place.{Entry, Place, entry_at, indexes}
 use Rattle.index_array.proofs.Indexes.{contains_indexes}
 use Rattle.pid_numbers.specs.Numbering.{Identifier, number_in}
-use Rattle.pid_numbers.specs.Slabs.{IsPath, IsTree, IsNumbering, AreFallen, leads, entry_on, dead_on, left_on, IsDistinct}
+use Rattle.pid_numbers.specs.Slabs.{IsPath, IsTree, IsNumbering, AreFallen, leads, dead_on, left_on, IsDistinct}
 use Rattle.pid_numbers.proofs.Ties.{at-path, distinct-path}
 
 -- the namespaces that have fallen stay, where none loses its last number

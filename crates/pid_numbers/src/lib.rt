@@ -279,6 +279,7 @@ impl Numbers {
 
     /// Writes the identifier's name over another: the id of its namespace, and its numbers, the root's first. It costs a few
     /// reads and a step for each level.
+    #[inline(always)]
     pub fn write_name(&self, ident: u32, name: &mut Name)
         requires { IsSome (identifier_at self.now ident) }
         ensures space { IfSome (identifier_at self.now ident) (λ u. id_at self.now u.space ≡ Some name.new.space) }

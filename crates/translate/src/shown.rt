@@ -18,6 +18,7 @@ use store_view::{Found, find_task, laws};
 use task_store::TaskStore;
 
 /// Writes the name of an identifier.
+#[inline(always)]
 fn write_name(store: &TaskStore, key: u32, name: &mut Name)
     requires { IsSome (identifier_at store.now.numbering key) }
     ensures { name.new ≡ name_at store.now.numbering key }

@@ -1,6 +1,5 @@
-use Rattle.std.proofs.Common.{◌≡◌, ◌∙◌, sym, ap, Some, is_some, option_map, option_and_then}
+use Rattle.std.proofs.Common.{◌≡◌, ◌∙◌, sym, ap, Some, is_some, option_map}
 use Rattle.slab.specs.Slab.{get}
-use Rattle.index_array.specs.Place.{entry_at}
 use Rattle.pid_numbers.specs.Slabs.{namespace_of, id_on}
 use Rattle.pid_numbers.proofs.Orders as orders
 use Rattle.pid_numbers.proofs.spaces.drop_dead.Goals as goal

@@ -1,7 +1,7 @@
-use Rattle.std.proofs.Common.{◌≡◌, ◌≢◌, ◌<◌, ℕ, drop, None, is_some}
+use Rattle.std.proofs.Common.{◌≡◌, ℕ, drop, is_some}
 use Rattle.std.specs.List.{filter}
 use Rattle.slab.specs.Slab.{get}
-use Rattle.pid_numbers.specs.Slabs.{entry_on, left_on, id_on, AreListed}
+use Rattle.pid_numbers.specs.Slabs.{left_on, id_on, AreListed}
 use Rattle.pid_numbers.proofs.spaces.sweep_path.Given as goal
 
 abbrev pub invariant-loop-k : goal.invariant-loop-k
