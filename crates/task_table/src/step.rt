@@ -1,6 +1,5 @@
 //! Any call: [`TaskTable::step`] picks the function that makes it. The record makes all its calls so.
 ghost use Rattle.std.specs.Prelude.{◌≡◌, IsTrue, OnOk, OnErr};
-ghost use Rattle.pid_types.specs.Queries.{ns_pid as ns_pid_of};
 ghost use Rattle.pid_types.specs.Sound.{IsBelow};
 ghost use Rattle.pid_types.specs.Step.{step, may_grow};
 ghost use Rattle.store_view.specs.View.{state_of};
@@ -20,16 +19,8 @@ use task_store::TaskStore;
 use translate::{get_pgid, get_pid, get_ppid, get_sid, next, ns_pid};
 use wait_calls::wait;
 
-/// Writes the reply to `NSpid`, which is made as a whole: apart, so that no other call has room for it.
-#[inline(never)]
-fn tell_ns_pid(store: &TaskStore, caller: u32, target: u32, reply: &mut Reply)
-    requires { IsWhole store.now }
-    ensures { reply.new ≡ ns_pid_of (state_of store.now) caller target }
-{
-    *reply = ns_pid(store, caller, target);
-}
-
-/// Makes the call on a store, and writes the reply in place. Only the reply to `NSpid` is made as a whole.
+/// Makes the call on a store, and writes the reply in place. Only the reply to `NSpid` is made as a whole, by a function that
+/// is not inlined, so that no other call has room for it.
 #[tactic(auto, unfolding(pid_types::specs::Step::step))]
 #[inline(always)]
 fn make(store: &mut TaskStore, stamp: u64, call: Call, reply: &mut Reply) -> Result<(), AllocError>
@@ -59,7 +50,7 @@ fn make(store: &mut TaskStore, stamp: u64, call: Call, reply: &mut Reply) -> Res
         Call::GetPgid { caller, pid } => get_pgid(store, caller, pid),
         Call::GetSid { caller, pid } => get_sid(store, caller, pid),
         Call::NsPid { caller, target } => {
-            tell_ns_pid(store, caller, target, reply);
+            ns_pid(store, caller, target, reply);
             return Ok(());
         }
         Call::Next { caller, kind, from } => next(store, caller, kind, from),

@@ -136,22 +136,24 @@ pub fn get_sid(store: &TaskStore, caller: u32, pid: u32) -> ShortReply
     ShortReply::Number(seen_session(store, space, &task))
 }
 
-/// `NSpid` of `proc_pid_status(5)`: the target's numbers from the caller's namespace inwards.
+/// Writes `NSpid` of `proc_pid_status(5)` over another reply: the target's numbers from the caller's namespace inwards.
 #[tactic(auto, unfolding(pid_types::specs::Queries::ns_pid))]
 #[inline(never)]
-pub fn ns_pid(store: &TaskStore, caller: u32, target: u32) -> Reply
+pub fn ns_pid(store: &TaskStore, caller: u32, target: u32, reply: &mut Reply)
     requires { IsWhole store.now }
-    ensures { result ≡ ns_pid_of (state_of store.now) caller target }
+    ensures { reply.new ≡ ns_pid_of (state_of store.now) caller target }
 {
     laws(store);
     let Some(found) = find_live(store, caller) else {
-        return Reply::Refused(Refusal::NoCaller);
+        *reply = Reply::Refused(Refusal::NoCaller);
+        return;
     };
     let space = own_space(store, found.key);
     let Some(task) = find_task(store, space, target) else {
-        return Reply::Refused(Refusal::NoTask);
+        *reply = Reply::Refused(Refusal::NoTask);
+        return;
     };
-    Reply::Levels(store.numbers().levels_from(task.key, space))
+    *reply = Reply::Levels(store.numbers().levels_from(task.key, space));
 }
 
 /// The least number from the given one on that is in use as the kind, in the caller's namespace. It costs one
