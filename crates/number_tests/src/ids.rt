@@ -70,6 +70,21 @@ fn clear_mark(ids: &mut CyclicIds<u32>, n: u32, mark: usize) -> bool
     ids.clear_mark(n, mark)
 }
 
+fn expect_empty(rt: &impl Abort, ids: &CyclicIds<u32>, is_empty: bool) {
+    assert_eq!(rt; ids.is_empty(), is_empty);
+}
+
+/// No number is in use, then one, then none again.
+#[test]
+fn tells_whether_a_number_is_in_use(rt: HostRuntime) {
+    let mut ids = CyclicIds::<u32>::new(rt.alloc(), 301);
+    expect_empty(&rt, &ids, true);
+    expect_draw(&rt, &mut ids, Some(1));
+    expect_empty(&rt, &ids, false);
+    expect_release(&rt, &mut ids, 1);
+    expect_empty(&rt, &ids, true);
+}
+
 /// 1 to 300, and then only what is freed from 300 on.
 #[test]
 fn draws_in_turn(rt: HostRuntime) {
