@@ -1,6 +1,6 @@
 """Every growth refused in turn: want of memory is the answer, nothing has changed, and the same call then answers.
 
-`refused_growths` itself compares its table before and after a call that found no memory, and stops where they differ.
+`demo_no_memory` itself compares its table before and after a call that found no memory, and stops where they differ.
 Here its growths are refused, and what it writes is compared with what it writes undisturbed.
 """
 
@@ -10,7 +10,7 @@ import unittest
 
 from hostile import ALL, NO_MEMORY, TOP, Report, builds_of, environment, run
 
-CRATE = TOP / "crates" / "refused_growths"
+CRATE = TOP / "crates" / "demo_no_memory"
 STEPS = (CRATE / "stdin").read_bytes()
 UNDISTURBED = (CRATE / "stdout").read_text()
 
@@ -134,13 +134,13 @@ class Growths(unittest.TestCase):
         self.assertEqual(lines, [])
 
     def test_undisturbed(self):
-        for program in builds_of("refused_growths"):
+        for program in builds_of("demo_no_memory"):
             ran = self.play(program)
             self.assertEqual((ran.returncode, ran.stderr, ran.stdout.decode()), (0, b"", UNDISTURBED))
             self.assertEqual(self.report.refused(), 0)
 
     def test_each_growth_once(self):
-        for program, count in itertools.product(builds_of("refused_growths"), COUNTS):
+        for program, count in itertools.product(builds_of("demo_no_memory"), COUNTS):
             with self.subTest(program=program.name, count=count):
                 self.refuse_each(program, count)
 
@@ -155,23 +155,23 @@ class Growths(unittest.TestCase):
             kinds.update(it.kind() for it in refused)
             starts += any(it.lines[0] == "- cannot start a thread" for it in refused)
         self.assertGreater(growth, 200)
-        # A run makes a call once more behind a checkpoint, so it takes two refusals to have it go on without one.
+        # The layers make a call once more on the spot, so a single refusal shows nothing of them.
         self.assertLessEqual(TAKE_MEMORY | (LAYERS if count > 1 else set()), kinds)
         # A call that makes nothing needs memory for its entry.
         self.assertTrue(kinds - TAKE_MEMORY - LAYERS)
         self.assertGreater(starts, 0)
 
     def test_each_growth_of_a_step_in_turn(self):
-        for program in builds_of("refused_growths"):
+        for program in builds_of("demo_no_memory"):
             refused = self.assert_undisturbed_but_for_refusals(self.play(program, REFUSE_IN_TURN=1))
-            # A run that found memory at the second try, and a list by one thread, show no refusal.
+            # A list that one thread writes shows no refusal.
             self.assertLessEqual(len(refused), self.report.refused())
             self.assertLessEqual(TAKE_MEMORY - {"split"}, {it.kind() for it in refused})
             self.assertIn("? fork 4", [it.heading for it in refused])
             self.assertIn("? fork 33", [it.heading for it in refused])
 
     def test_every_growth_is_refused_behind_a_mark(self):
-        for program in builds_of("refused_growths"):
+        for program in builds_of("demo_no_memory"):
             ran = self.play(program, steps=b"# none 32768\n! fork 1\n")
             self.assertEqual(ran.returncode, 1)
             self.assertTrue(ran.stdout.endswith(b"! fork 1\n- no memory\n" * 1000), ran.stdout[-80:])
@@ -207,7 +207,7 @@ class Commands(unittest.TestCase):
             with self.subTest(program=program.name, count=count):
                 outcomes = self.refuse_each(program, count, self.play_run)
                 self.assertGreater(outcomes["fault"], 0)
-                self.assertEqual(outcomes["refused"] > 0, count > 1)
+                self.assertGreater(outcomes["refused"], 0)
 
     def play_run(self, program, growth, count):
         """Sends the calls one by one, and each once more that found no memory."""

@@ -5,10 +5,11 @@
     loads.py script LOAD N               the script on standard output
     loads.py measure PROGRAM [LOAD ..]   instructions a call by callgrind, each load at two sizes
     loads.py time PROGRAM [TASKS ..]     microseconds of processor time a call among so many live tasks, the least of five runs
+    loads.py longest PROGRAM [TASKS ..]  the longest answer to 100 lines among so many live tasks, and the memory held
 
 A load is a set-up, which brings the table to a state, and a body, which is what is measured: the cost of the body is
 that of both less that of the set-up. The same words give the same bytes. Instructions repeat from run to run within
-1 %; times on a busy machine do not. `measure` needs valgrind (a Debian package). The peer is a competent table with a
+1 %; times on a busy machine do not, and the longest answer is that of the machine where others work on it. `measure` needs valgrind (a Debian package). The peer is a competent table with a
 history that answers the same lines and is not verified; its figures stand below as they were given.
 """
 import bisect
@@ -19,6 +20,7 @@ import resource
 import subprocess
 import sys
 import tempfile
+import time
 
 EVENTS = 8              # how often the one great event of `fall` comes
 
@@ -466,6 +468,47 @@ def times(program, sizes):
         print(f"| {name} | " + " | ".join(cells) + " |", flush=True)
 
 
+PIECE = 100             # lines that are sent at once, and answered before the next ones
+PIECES = 10000          # how many such pieces `longest` sends
+
+
+def resident(pid, field):
+    """A field of proc_pid_status(5) in bytes."""
+    with open(f"/proc/{pid}/status") as status:
+        found = re.search(rf"{field}:\s+(\d+) kB", status.read())
+    return int(found.group(1)) * 1024
+
+
+def answered_in(run, lines):
+    """The seconds that it takes to have so many lines answered, each by one line."""
+    began = time.perf_counter()
+    run.stdin.write("".join(line + "\n" for line in lines).encode())
+    run.stdin.flush()
+    for _ in lines:
+        run.stdout.readline()
+    return time.perf_counter() - began
+
+
+def longest_of(program, tasks):
+    """The longest answer to a piece of queries among so many live tasks, in seconds, and the most memory held, in bytes."""
+    s = Script(4194304, 1)
+    tree = shells(s, tasks)
+    with subprocess.Popen([program, "run", "--pid-max", "4194304"], stdin=subprocess.PIPE, stdout=subprocess.PIPE) as run:
+        for start in range(0, len(s.lines), PIECE):
+            answered_in(run, s.lines[start : start + PIECE])
+        took = max(answered_in(run, [f"getppid {s.rng.choice(tree)[0]}" for _ in range(PIECE)]) for _ in range(PIECES))
+        held = resident(run.pid, "VmHWM")
+        run.stdin.close()
+    return took, held
+
+
+def longest(program, sizes):
+    print("| live tasks | longest answer to 100 lines | memory | bytes a task |\n|---|---|---|---|")
+    for n in sizes:
+        took, held = longest_of(program, n)
+        print(f"| {n:,} | {took * 1e3:.1f} ms | {held / 1e6:.1f} MB | {held / n:.0f} |", flush=True)
+
+
 def main():
     words = sys.argv[1:]
     if words[:1] == ["list"]:
@@ -475,6 +518,8 @@ def main():
         print("\n".join(make(words[1], int(words[2])).lines))
     elif words[:1] == ["time"] and len(words) >= 2:
         times(words[1], [int(n) for n in words[2:]] or [100, 10000, 1000000])
+    elif words[:1] == ["longest"] and len(words) >= 2:
+        longest(words[1], [int(n) for n in words[2:]] or [20000, 200000])
     elif words[:1] == ["measure"] and len(words) >= 2:
         measure(words[1], words[2:] or [name for name in LOADS if name not in LONG])
     else:

@@ -1,4 +1,4 @@
-//! The numbers of one namespace, given in turn.
+//! The numbers of one PID namespace, drawn in turn as by the kernel's cyclic IDR.
 //!
 //! A number is drawn as the kernel draws a process number: the least free one from a cursor on, and
 //! where there is none below the bound, the least free one from the start again (`idr_alloc_cyclic`
@@ -11,12 +11,13 @@
 
 ghost use Rattle.std.specs.Prelude.{◌≡◌, ℕ, ◌+◌, ◌<◌, ◌≤◌, Option, Some, None, OnOk, IfSome, MatchBool, true, false, is_some, [], ◌∷◌};
 ghost use Rattle.std.specs.Option.{option_copied};
-ghost use Rattle.index_array.specs.Place.{entry_at, is_prepared, value_at, is_marked, with_mark, IsLeastIndex, WritesEntry, KeepsEntries, KeepsPrepared};
+ghost use Rattle.index_array.specs.Place.{index_count, entry_at, is_prepared, value_at, is_marked, with_mark, IsLeastIndex, WritesEntry, KeepsEntries, KeepsPrepared};
 ghost use Rattle.pid_types.specs.Draw.{restart};
 ghost use Rattle.pid_types.specs.Settings.{HasGoodPidMax};
 ghost use Rattle.cyclic_ids.specs.Ids.{Ids, planned, AreInRange};
 
 use index_array::IndexArray;
+use pid_types::keys::Pid;
 use std::alloc::{AllocError, Global};
 use std::marker::Model;
 
@@ -36,7 +37,7 @@ pub const SESSION_MARK: usize = 2;
 pub struct CyclicIds<T: Drop> {
     ids: IndexArray<T>,
     pid_max: u32,
-    cursor: u32,
+    cursor: Pid,
 }
 
 // Written out, and not derived: so the crates above cite this drop, and do not prove it anew.
@@ -76,14 +77,14 @@ impl<T: Drop> CyclicIds<T> {
     }
 
     /// Does nothing: its contract says that the numbers in use are at least 1 and below the bound.
-    pub fn bounds(&self)
+    pub fn laws(&self)
         ensures { AreInRange self.now.pid_max self.now.places }
     {
         let _ids = &self.ids;
     }
 
     /// Where the next draw begins: one above the number that was given last.
-    pub fn cursor(&self) -> u32
+    pub fn cursor(&self) -> Pid
         ensures { result ≡ self.now.cursor }
     {
         self.cursor
@@ -91,7 +92,7 @@ impl<T: Drop> CyclicIds<T> {
 
     /// The number that is given next, by the rule above; none where all from the restart on are in use.
     /// It changes nothing.
-    pub fn plan(&self) -> Option<u32>
+    pub fn plan(&self) -> Option<Pid>
         ensures draw { result ≡ planned self.now }
         ensures above { IfSome result (λ n. 1 ≤ n) }
         ensures below { IfSome result (λ n. n < self.now.pid_max) }
@@ -105,7 +106,7 @@ impl<T: Drop> CyclicIds<T> {
 
     /// Where a draw starts again: 300 once the cursor has passed it, so that the low numbers stay with
     /// the first processes, and else 1.
-    fn restart(&self) -> u32
+    fn restart(&self) -> Pid
         ensures { result ≡ restart self.now.cursor }
     {
         if self.cursor > 300 { 300 } else { 1 }
@@ -114,7 +115,7 @@ impl<T: Drop> CyclicIds<T> {
     /// Takes the memory that a later `commit` of a number needs. An error is want of memory; then no
     /// number, no mark and not the cursor has changed.
     #[inline(always)]
-    pub fn prepare(&mut self, n: u32) -> Result<(), AllocError>
+    pub fn prepare(&mut self, n: Pid) -> Result<(), AllocError>
         requires { n < self.old.pid_max }
         ensures ok { OnOk result (is_prepared self.new.places n ≡ true) }
         ensures entries { KeepsEntries self.old.places self.new.places }
@@ -130,14 +131,14 @@ impl<T: Drop> CyclicIds<T> {
     }
 
     /// Whether `commit` has the memory that it needs for a number.
-    pub fn is_prepared(&self, n: u32) -> bool
+    pub fn is_prepared(&self, n: Pid) -> bool
         ensures { result ≡ is_prepared self.now.places n }
     {
         self.ids.is_prepared(n)
     }
 
     /// Gives the planned number to a value, with no mark. It takes no memory.
-    pub fn commit(&mut self, n: u32, v: T)
+    pub fn commit(&mut self, n: Pid, v: T)
         requires planned { planned self.old ≡ Some n }
         requires prepared { is_prepared self.old.places n ≡ true }
         ensures writes { WritesEntry self.old.places self.new.places n
@@ -152,7 +153,7 @@ impl<T: Drop> CyclicIds<T> {
     /// Gives the planned number to a value, with the marks that `marks` has at their place. It takes no
     /// memory, and costs what `commit` does, where each `set_mark` after it would be a call of its own.
     #[inline(always)]
-    pub fn commit_marked(&mut self, n: u32, v: T, marks: [bool; 3])
+    pub fn commit_marked(&mut self, n: Pid, v: T, marks: [bool; 3])
         requires planned { planned self.old ≡ Some n }
         requires prepared { is_prepared self.old.places n ≡ true }
         ensures writes { WritesEntry self.old.places self.new.places n
@@ -168,7 +169,7 @@ impl<T: Drop> CyclicIds<T> {
 
     /// Makes a number free and answers its value, none where it was not in use. The cursor stays.
     #[inline(always)]
-    pub fn release(&mut self, n: u32) -> Option<T>
+    pub fn release(&mut self, n: Pid) -> Option<T>
         ensures writes { WritesEntry self.old.places self.new.places n None }
         ensures answer { result ≡ value_at self.old.places n }
         ensures pid_max { self.new.pid_max ≡ self.old.pid_max }
@@ -178,14 +179,14 @@ impl<T: Drop> CyclicIds<T> {
     }
 
     /// The value of a number; none where it is not in use.
-    pub fn find(&self, n: u32) -> Option<&T>
+    pub fn find(&self, n: Pid) -> Option<&T>
         ensures { option_copied result ≡ value_at self.now.places n }
     {
         self.ids.get(n)
     }
 
     /// Whether a number is in use and has mark `m`.
-    pub fn has_mark(&self, n: u32, m: usize) -> bool
+    pub fn has_mark(&self, n: Pid, m: usize) -> bool
         requires { m < 3 }
         ensures { result ≡ is_marked m (entry_at self.now.places n) }
     {
@@ -193,7 +194,7 @@ impl<T: Drop> CyclicIds<T> {
     }
 
     /// Gives a number mark `m`, and says whether it is in use.
-    pub fn set_mark(&mut self, n: u32, m: usize) -> bool
+    pub fn set_mark(&mut self, n: Pid, m: usize) -> bool
         requires { m < 3 }
         ensures writes { WritesEntry self.old.places self.new.places n
             (with_mark m true (entry_at self.old.places n)) }
@@ -206,7 +207,7 @@ impl<T: Drop> CyclicIds<T> {
     }
 
     /// Takes mark `m` from a number, and says whether it is in use.
-    pub fn clear_mark(&mut self, n: u32, m: usize) -> bool
+    pub fn clear_mark(&mut self, n: Pid, m: usize) -> bool
         requires { m < 3 }
         ensures writes { WritesEntry self.old.places self.new.places n
             (with_mark m false (entry_at self.old.places n)) }
@@ -219,16 +220,16 @@ impl<T: Drop> CyclicIds<T> {
     }
 
     /// The least number at or above `from` that is in use and has mark `m`; none where there is none.
-    pub fn next_marked(&self, from: u32, m: usize) -> Option<u32>
+    pub fn next_marked(&self, from: Pid, m: usize) -> Option<Pid>
         requires { m < 3 }
-        ensures { IsLeastIndex (λ k. is_marked m (entry_at self.now.places k)) from 16777216 result }
+        ensures { IsLeastIndex (λ k. is_marked m (entry_at self.now.places k)) from index_count result }
     {
         self.ids.next_marked(from, m)
     }
 
     /// The least number at or above `from` that is in use; none where there is none.
-    pub fn next(&self, from: u32) -> Option<u32>
-        ensures { IsLeastIndex (λ k. is_some (entry_at self.now.places k)) from 16777216 result }
+    pub fn next(&self, from: Pid) -> Option<Pid>
+        ensures { IsLeastIndex (λ k. is_some (entry_at self.now.places k)) from index_count result }
     {
         self.ids.next(from)
     }

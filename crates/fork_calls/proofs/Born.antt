@@ -16,16 +16,16 @@ use Rattle.task_tree.specs.declared.Task.{Task}
 use Rattle.task_tree.specs.Tree.{task_at, parent_of}
 use Rattle.groups_sessions.specs.Membership.{Membership, membership_at}
 use Rattle.pids_charge.specs.Charges.{Home, home_at, id_at as home_id}
-use Rattle.task_store.specs.Store.{Store, Begins, bare}
-use Rattle.task_store.proofs.Groups.{held}
-use Rattle.store_view.specs.View.{name_of, name_at, row_of, row_with, spaces_of, state_of}
-use Rattle.store_view.specs.Lawful.{IsLawful}
-use Rattle.store_view.specs.Whole.{HasParents}
-use Rattle.store_view.proofs.Keys.{on_path}
-use Rattle.store_view.proofs.LookUps.{named, group-named, session-named}
-use Rattle.store_view.proofs.Uses.{member}
-use Rattle.store_view.proofs.Rows.{row-ext, rows-insert}
-use Rattle.store_view.proofs.Changed.{IsLess-same, swept}
+use Rattle.task_table.specs.Store.{Store, Begins, bare}
+use Rattle.task_table.proofs.Groups.{held}
+use Rattle.task_table.specs.View.{name_of, name_at, row_of, row_with, spaces_of, state_of}
+use Rattle.task_table.specs.Lawful.{IsLawful}
+use Rattle.task_table.specs.Whole.{HasParents}
+use Rattle.task_table.proofs.Keys.{on_path}
+use Rattle.task_table.proofs.LookUps.{named, group-named, session-named}
+use Rattle.task_table.proofs.InUse.{member}
+use Rattle.task_table.proofs.Rows.{row-ext, rows-insert}
+use Rattle.task_table.proofs.Changed.{IsLess-same, swept}
 
 -- namespaces from before have the ids and the paths that they had
 abbrev pub KeepsNamespaces : Numbering → Numbering → Type 0

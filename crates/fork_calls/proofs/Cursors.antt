@@ -10,10 +10,10 @@ use Rattle.pid_types.specs.State.{State}
 use Rattle.pid_types.specs.Names.{path_up}
 use Rattle.pid_types.specs.Fork.{drawn, moved_cursor, with_cursors}
 use Rattle.pid_numbers.specs.Numbering.{Numbering, Namespace, namespace_at, id_at, path_at, has_fallen_at, draw_in, moved}
-use Rattle.task_store.specs.Store.{Store}
-use Rattle.store_view.specs.View.{parent_id, space_of, spaces_of, state_of}
-use Rattle.store_view.specs.Lawful.{HasLaws, IsLawful}
-use Rattle.store_view.proofs.Keys.{id_for, own_id, only, on_path, path-is, space_at-key, number-is_key}
+use Rattle.task_table.specs.Store.{Store}
+use Rattle.task_table.specs.View.{parent_id, space_of, spaces_of, state_of}
+use Rattle.task_table.specs.Lawful.{HasLaws, IsLawful}
+use Rattle.task_table.proofs.Keys.{id_for, own_id, only, on_path, path-is, space_at-key, number-is_key}
 use Rattle.fork_calls.proofs.Draws.{IsPlanned, draw-key, beside-map}
 use Rattle.fork_calls.proofs.Born.{KeepsNamespaces}
 

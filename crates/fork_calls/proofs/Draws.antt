@@ -11,11 +11,11 @@ use Rattle.pid_types.specs.Fork.{drawn}
 use Rattle.model_laws.proofs.Lists.{find-map, find-same}
 use Rattle.pid_numbers.specs.Numbering.{Namespace, Identifier, namespace_at, id_at, identifier_at, number_of, path_at, draw_in}
 use Rattle.pid_numbers.proofs.Model.{draw-is}
-use Rattle.task_store.specs.Store.{Store}
-use Rattle.store_view.specs.View.{name_at, state_of}
-use Rattle.store_view.specs.Lawful.{IsLawful}
-use Rattle.store_view.proofs.Keys.{id_for, path-there}
-use Rattle.store_view.proofs.Uses.{used-from, used-in}
+use Rattle.task_table.specs.Store.{Store}
+use Rattle.task_table.specs.View.{name_at, state_of}
+use Rattle.task_table.specs.Lawful.{IsLawful}
+use Rattle.task_table.proofs.Keys.{id_for, path-there}
+use Rattle.task_table.proofs.InUse.{used-from, used-in}
 
 place_of : (xs : List Name) (a : Name) → IsIn a xs → (x : ℕ) × (x < length xs) × (get_or xs x root_name ≡ a)
 place_of [] a i = absurd i

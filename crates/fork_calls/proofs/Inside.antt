@@ -3,7 +3,7 @@ use Rattle.std.proofs.Common.{◌≡◌, inl, inr, ℕ, ◌-◌, ◌<◌, ◌≤
 use Rattle.std.specs.Option.{option_map_or}
 use Rattle.std.specs.List.{AllByRecursion}
 use Rattle.std.proofs.lemmas.List.{length-map}
-use Rattle.rising_ids.specs.Ids.{AreBelow}
+use Rattle.id_slab.specs.Ids.{AreBelow}
 use Rattle.pid_types.specs.declared.plain.Space.{Space}
 use Rattle.pid_types.specs.declared.plain.Row.{Row}
 use Rattle.pid_types.specs.declared.reply.Refusal.TheVariants.{NoNumber, PidsLimit}
@@ -22,12 +22,12 @@ use Rattle.model_laws.proofs.Forests.{at-push_new}
 use Rattle.model_laws.proofs.Chains.{climb_short}
 use Rattle.model_laws.proofs.ForkKept as kept
 use Rattle.pid_numbers.specs.Numbering.{Namespace, namespace_at, id_at, path_at, draw_in}
-use Rattle.task_store.specs.Store.{Store}
-use Rattle.store_view.specs.View.{name_at, space_of, state_of}
-use Rattle.store_view.specs.Lawful.{IsLawful}
-use Rattle.store_view.specs.Whole.{IsWhole}
-use Rattle.store_view.proofs.Keys.{id_for, path-is, path-there, space_at-key, number-is_key}
-use Rattle.store_view.proofs.Uses.{used-in}
+use Rattle.task_table.specs.Store.{Store}
+use Rattle.task_table.specs.View.{name_at, space_of, state_of}
+use Rattle.task_table.specs.Lawful.{IsLawful}
+use Rattle.task_table.specs.Whole.{IsWhole}
+use Rattle.task_table.proofs.Keys.{id_for, path-is, path-there, space_at-key, number-is_key}
+use Rattle.task_table.proofs.InUse.{used-in}
 use Rattle.fork_calls.proofs.Draws.{IsPlanned, find-draws, map-draws}
 
 -- the first number of a new namespace

@@ -9,11 +9,11 @@ use Rattle.pid_types.specs.Fork.{drawn, child_of, forked, no_room, with_cursors}
 use Rattle.pid_numbers.specs.Numbering.{Namespace, namespace_at, id_at, path_at, draw_in, moved, new_identifier}
 use Rattle.task_tree.specs.declared.Task.{Task}
 use Rattle.task_tree.specs.Tree.{task_at}
-use Rattle.task_store.specs.Store.{Store, Begins}
-use Rattle.store_view.specs.View.{name_at, row_of, spaces_of, state_of}
-use Rattle.store_view.specs.Lawful.{IsLawful}
-use Rattle.store_view.specs.Whole.{HasParents}
-use Rattle.store_view.proofs.Keys.{path-is}
+use Rattle.task_table.specs.Store.{Store, Begins}
+use Rattle.task_table.specs.View.{name_at, row_of, spaces_of, state_of}
+use Rattle.task_table.specs.Lawful.{IsLawful}
+use Rattle.task_table.specs.Whole.{HasParents}
+use Rattle.task_table.proofs.Keys.{path-is}
 use Rattle.fork_calls.specs.Outcomes.{forked_into}
 use Rattle.fork_calls.proofs.Draws.{map-draws}
 use Rattle.fork_calls.proofs.Born.{KeepsNamespaces, state-born, reply-born}

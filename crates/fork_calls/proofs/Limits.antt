@@ -5,10 +5,10 @@ use Rattle.pid_types.specs.declared.reply.Refusal.TheVariants.{PidsLimit}
 use Rattle.pid_types.specs.Controls.{control_path, is_limited_below, passed_limit, count as count_in}
 use Rattle.model_laws.proofs.Lists.{find-same}
 use Rattle.pids_charge.specs.Charges.{charge_refusal, is_full, limit_of}
-use Rattle.task_store.specs.Store.{Store}
-use Rattle.store_view.specs.View.{state_of}
-use Rattle.store_view.specs.Lawful.{IsLawful}
-use Rattle.store_view.proofs.Counts.{count-is}
+use Rattle.task_table.specs.Store.{Store}
+use Rattle.task_table.specs.View.{state_of}
+use Rattle.task_table.specs.Lawful.{IsLawful}
+use Rattle.task_table.proofs.Counts.{count-is}
 
 -- the nearest control group that is full is the model's
 pub limit-is : (s : Store) → IsLawful s → (home : ℕ) → charge_refusal s.charges home ≡ option_map PidsLimit (passed_limit (state_of s) home)

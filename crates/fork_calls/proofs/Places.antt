@@ -2,8 +2,8 @@
 use Rattle.std.proofs.Common.{◌≡◌, ◌≢◌, ℕ, ◌-◌, Bool, true, false, not, ◌&&◌, ◌==◌, nat_le, [], ◌∷◌, length, Option, Some, None, if◌then◌else◌, refl, ap, ◌∙◌, option_map, option_and_then}
 use Rattle.std.specs.Option.{option_map_or}
 use Rattle.std.proofs.lemmas.List.{length-map}
-use Rattle.rising_ids.specs.Ids.{key_of}
-use Rattle.rising_ids.proofs.Keys.{entry_of}
+use Rattle.id_slab.specs.Ids.{key_of}
+use Rattle.id_slab.proofs.Keys.{entry_of}
 use Rattle.pid_types.specs.declared.plain.Row.{Row}
 use Rattle.pid_types.specs.declared.plain.Space.{Space}
 use Rattle.pid_types.specs.declared.reply.Refusal.TheVariants.{TooDeep, Elsewhere, SpaceFallen}
@@ -13,10 +13,10 @@ use Rattle.pid_types.specs.Names.{level, path_up, parent_space, space_at}
 use Rattle.pid_types.specs.Outcome.{Outcome, refused, refuse_if, unless_found}
 use Rattle.pid_types.specs.Fork.{forked, no_room, is_gone, with_space}
 use Rattle.pid_numbers.specs.Numbering.{id_at, path_at, has_fallen_at}
-use Rattle.task_store.specs.Store.{Store}
-use Rattle.store_view.specs.View.{space_of, spaces_of, state_of}
-use Rattle.store_view.specs.Lawful.{IsLawful}
-use Rattle.store_view.proofs.Keys.{id_for, path-is, space_at-is, space_at-key}
+use Rattle.task_table.specs.Store.{Store}
+use Rattle.task_table.specs.View.{space_of, spaces_of, state_of}
+use Rattle.task_table.specs.Lawful.{IsLawful}
+use Rattle.task_table.proofs.Keys.{id_for, path-is, space_at-is, space_at-key}
 use Rattle.fork_calls.specs.Outcomes.{forked_into, space_refusal}
 
 module _ (s : Store) (l : IsLawful s) where

@@ -9,10 +9,10 @@ use Rattle.pid_types.specs.Draw.{draw}
 use Rattle.pid_types.specs.Fork.{no_room}
 use Rattle.model_laws.proofs.Lists.{find-Some}
 use Rattle.pid_numbers.specs.Numbering.{id_at, path_at, draw_in}
-use Rattle.task_store.specs.Store.{Store}
-use Rattle.store_view.specs.View.{state_of}
-use Rattle.store_view.specs.Lawful.{IsLawful}
-use Rattle.store_view.proofs.Keys.{id_for, path-is, path-there}
+use Rattle.task_table.specs.Store.{Store}
+use Rattle.task_table.specs.View.{state_of}
+use Rattle.task_table.specs.Lawful.{IsLawful}
+use Rattle.task_table.proofs.Keys.{id_for, path-is, path-there}
 use Rattle.fork_calls.proofs.Draws.{find-draws}
 use Rattle.fork_calls.proofs.Cursors.{IsPlanned-own}
 

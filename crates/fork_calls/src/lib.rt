@@ -1,4 +1,4 @@
-//! Fork: `fork(2)`, and `clone(2)` with `CLONE_NEWPID`, in the model's words over a store.
+//! Fork: `fork(2)`, and `clone(2)` with `CLONE_NEWPID`, over the tasks of a table.
 //!
 //! A fork is planned on the unchanged store, then memory is taken, then the store changes: so neither a refusal
 //! nor want of memory changes anything. It costs one or two searches for each level, and a step for each control
@@ -6,6 +6,7 @@
 #![tactic(auto)]
 
 ghost use Rattle.std.specs.Prelude.{◌≡◌, ℕ, Some, None, true, false, map, find, is_none, option_map, unwrap_or, IfOk, IfErr, IfSome, OnOk, OnErr, IsSome, nat_le, ◌∷◌, ◌==◌, ◌<◌, length, reverse, slice_index};
+ghost use Rattle.pid_types.specs.Bounds.{deepest_space};
 ghost use Rattle.pid_types.specs.Outcome.{unless_found};
 ghost use Rattle.pid_types.specs.Names.{level, number_or_zero, root_number};
 ghost use Rattle.pid_types.specs.declared.plain.Life.{Life};
@@ -19,20 +20,21 @@ ghost use Rattle.pid_types.specs.Short.{reply_of};
 ghost use Rattle.pid_numbers.specs.Numbering.{id_at, path_at, draw_in, has_fallen_at, namespace_at, number_of, identifier_at, Identifier};
 ghost use Rattle.task_tree.specs.declared.Task.{Task};
 ghost use Rattle.task_tree.specs.Tree.{task_at, lives};
-ghost use Rattle.store_view.specs.View.{name_at, row_of, state_of};
-ghost use Rattle.store_view.specs.Whole.{IsWhole, HasParents};
+ghost use Rattle.task_table.specs.View.{name_at, row_of, state_of};
+ghost use Rattle.task_table.specs.Whole.{IsWhole, HasParents};
 
 use arrayvec::ArrayVec;
 use pid_numbers::PlanFault;
-use pid_types::plain::Life;
+use pid_types::keys::{Pid, SpaceKey, TaskKey};
+use pid_types::plain::{DEEPEST_SPACE, LEVELS, Life};
 use pid_types::reply::{Refusal, ShortReply};
 use std::alloc::AllocError;
-use store_view::{Found, find_live, laws, own_space};
-use task_store::TaskStore;
+use task_table::Tasks;
+use task_table::view::{Found, find_live, laws, own_space};
 use task_tree::Task;
 
 /// The control group whose limit one task more beside the caller would pass.
-fn passed_limit(store: &TaskStore, found: &Found) -> Option<Refusal>
+fn passed_limit(store: &Tasks, found: &Found) -> Option<Refusal>
     requires there { task_at store.now.tree found.now.key ≡ Some found.now.task }
     requires live { lives found.now.task ≡ true }
     ensures { result ≡ option_map Refusal.PidsLimit (passed_limit_of (state_of store.now) (row_of store.now found.now.key found.now.task).home) }
@@ -45,7 +47,7 @@ fn passed_limit(store: &TaskStore, found: &Found) -> Option<Refusal>
 }
 
 /// The id of a namespace that is there.
-fn id_of(store: &TaskStore, space: u32) -> u64
+fn id_of(store: &Tasks, space: SpaceKey) -> u64
     requires { IsSome (namespace_at store.now.numbering space) }
     ensures { id_at store.now.numbering space ≡ Some result }
 {
@@ -69,14 +71,14 @@ fn child_of(found: &Found, children_space: u64) -> Task
 }
 
 /// The identifier's number in the namespace; 0 where it has none there.
-fn number_seen(store: &TaskStore, key: u32, space: u32) -> u32
+fn number_seen(store: &Tasks, key: TaskKey, space: SpaceKey) -> Pid
     ensures { result ≡ unwrap_or (number_of store.now.numbering key space) 0 }
 {
     store.numbers().number_in(key, space).unwrap_or(0)
 }
 
 /// The identifier's number in its parent's namespace, where that in the root is known: most parents are there.
-fn child_number(store: &TaskStore, key: u32, own: u32, root: u32) -> u32
+fn child_number(store: &Tasks, key: TaskKey, own: SpaceKey, root: Pid) -> Pid
     requires { root ≡ unwrap_or (number_of store.now.numbering key 0) 0 }
     ensures { result ≡ unwrap_or (number_of store.now.numbering key own) 0 }
 {
@@ -87,7 +89,7 @@ fn child_number(store: &TaskStore, key: u32, own: u32, root: u32) -> u32
 }
 
 /// The root number of an identifier with these numbers: the outermost of them.
-fn outermost(numbers: &ArrayVec<u32, 33>) -> u32
+fn outermost(numbers: &ArrayVec<Pid, LEVELS>) -> Pid
     requires { 0 < length numbers.now.items }
     ensures { result ≡ slice_index (reverse numbers.now.items) 0 }
 {
@@ -96,7 +98,12 @@ fn outermost(numbers: &ArrayVec<u32, 33>) -> u32
 
 /// The reply for a new task with the planned numbers: its numbers in the caller's namespace and in the root.
 #[inline(always)]
-fn reply_for(store: &TaskStore, key: u32, own: u32, numbers: &ArrayVec<u32, 33>) -> ShortReply
+fn reply_for(
+    store: &Tasks,
+    key: TaskKey,
+    own: SpaceKey,
+    numbers: &ArrayVec<Pid, LEVELS>,
+) -> ShortReply
     requires there { IsSome (task_at store.now.tree key) }
     requires numbers { (u : Identifier) → identifier_at store.now.numbering key ≡ Some u → u.numbers ≡ numbers.now.items }
     ensures { (i : ℕ) → id_at store.now.numbering own ≡ Some i
@@ -110,11 +117,11 @@ fn reply_for(store: &TaskStore, key: u32, own: u32, numbers: &ArrayVec<u32, 33>)
 
 /// The caller's child in a namespace that stands, with the planned numbers. The error is want of memory.
 fn fork_planned(
-    store: &mut TaskStore,
+    store: &mut Tasks,
     found: &Found,
-    own: u32,
-    space: u32,
-    numbers: &ArrayVec<u32, 33>,
+    own: SpaceKey,
+    space: SpaceKey,
+    numbers: &ArrayVec<Pid, LEVELS>,
 ) -> Result<ShortReply, AllocError>
     requires whole { IsWhole store.old }
     requires there { task_at store.old.tree found.now.key ≡ Some found.now.task }
@@ -140,10 +147,10 @@ fn fork_planned(
 
 /// The caller's child in a namespace that stands. The error is want of memory.
 fn fork_into(
-    store: &mut TaskStore,
+    store: &mut Tasks,
     found: &Found,
-    own: u32,
-    space: u32,
+    own: SpaceKey,
+    space: SpaceKey,
 ) -> Result<ShortReply, AllocError>
     requires whole { IsWhole store.old }
     requires there { task_at store.old.tree found.now.key ≡ Some found.now.task }
@@ -166,11 +173,11 @@ fn fork_into(
 /// The caller's child in a new namespace inside the caller's own, with the planned numbers. The error is want of
 /// memory.
 fn fork_new_planned(
-    store: &mut TaskStore,
+    store: &mut Tasks,
     found: &Found,
-    own: u32,
+    own: SpaceKey,
     stamp: u64,
-    numbers: &ArrayVec<u32, 33>,
+    numbers: &ArrayVec<Pid, LEVELS>,
 ) -> Result<ShortReply, AllocError>
     requires whole { IsWhole store.old }
     requires below { IsBelow stamp (state_of store.old) }
@@ -179,7 +186,7 @@ fn fork_new_planned(
     requires own { id_at store.old.numbering own ≡ Some (name_at store.old.numbering found.now.key).space }
     requires id { id_at store.old.numbering own ≡ Some found.now.task.children_space }
     requires stands { is_gone (state_of store.old) found.now.task.children_space ≡ false }
-    requires shallow { nat_le 32 (level (state_of store.old).spaces found.now.task.children_space) ≡ false }
+    requires shallow { nat_le deepest_space (level (state_of store.old).spaces found.now.task.children_space) ≡ false }
     requires all { find (λ s. is_none (draw_in store.old.numbering s)) (path_at store.old.numbering own) ≡ None }
     requires planned { numbers.now.items ≡ 1 ∷ map (λ s. unwrap_or (draw_in store.old.numbering s) 0) (path_at store.old.numbering own) }
     ensures state { OnOk result (state_of store.new ≡ (forked_into (state_of store.old) (with_space (state_of store.old) found.now.task.children_space stamp) (row_of store.old found.now.key found.now.task) stamp).state) }
@@ -200,9 +207,9 @@ fn fork_new_planned(
 /// The caller's child in a new namespace inside the caller's own, in which it is the init. The error is want of
 /// memory.
 fn fork_inside(
-    store: &mut TaskStore,
+    store: &mut Tasks,
     found: &Found,
-    own: u32,
+    own: SpaceKey,
     stamp: u64,
 ) -> Result<ShortReply, AllocError>
     requires whole { IsWhole store.old }
@@ -212,7 +219,7 @@ fn fork_inside(
     requires own { id_at store.old.numbering own ≡ Some (name_at store.old.numbering found.now.key).space }
     requires id { id_at store.old.numbering own ≡ Some found.now.task.children_space }
     requires stands { is_gone (state_of store.old) found.now.task.children_space ≡ false }
-    requires shallow { nat_le 32 (level (state_of store.old).spaces found.now.task.children_space) ≡ false }
+    requires shallow { nat_le deepest_space (level (state_of store.old).spaces found.now.task.children_space) ≡ false }
     ensures state { OnOk result (state_of store.new ≡ (forked_into (state_of store.old) (with_space (state_of store.old) found.now.task.children_space stamp) (row_of store.old found.now.key found.now.task) stamp).state) }
     ensures reply { IfOk result (λ reply. reply_of reply ≡ (forked_into (state_of store.old) (with_space (state_of store.old) found.now.task.children_space stamp) (row_of store.old found.now.key found.now.task) stamp).reply) }
     ensures err { OnErr result (state_of store.new ≡ state_of store.old) }
@@ -232,19 +239,19 @@ fn fork_inside(
 }
 
 /// Whether the namespace, if it is there, has the deepest level.
-fn is_deepest(store: &TaskStore, space: Option<u32>) -> bool
+fn is_deepest(store: &Tasks, space: Option<SpaceKey>) -> bool
     requires { IfSome space (λ s. IsSome (id_at store.now.numbering s)) }
-    ensures { (id : ℕ) → IsKeyOf store.now.numbering id space → result ≡ nat_le 32 (level (state_of store.now).spaces id) }
+    ensures { (id : ℕ) → IsKeyOf store.now.numbering id space → result ≡ nat_le deepest_space (level (state_of store.now).spaces id) }
 {
     laws(store);
     match space {
-        Some(space) => store.numbers().level(space) >= 32,
+        Some(space) => store.numbers().level(space) >= DEEPEST_SPACE,
         None => false,
     }
 }
 
 /// Whether the namespace, which is there, has fallen.
-fn has_fallen(store: &TaskStore, space: u32) -> bool
+fn has_fallen(store: &Tasks, space: SpaceKey) -> bool
     ensures { (id : ℕ) → id_at store.now.numbering space ≡ Some id → result ≡ is_gone (state_of store.now) id }
 {
     laws(store);
@@ -252,7 +259,7 @@ fn has_fallen(store: &TaskStore, space: u32) -> bool
 }
 
 /// Whether the namespace is the caller's own.
-fn is_own(store: &TaskStore, space: Option<u32>, own: u32) -> bool
+fn is_own(store: &Tasks, space: Option<SpaceKey>, own: SpaceKey) -> bool
     ensures { (id i : ℕ) → IsKeyOf store.now.numbering id space → id_at store.now.numbering own ≡ Some i → result ≡ (id == i) }
 {
     laws(store);
@@ -263,7 +270,7 @@ fn is_own(store: &TaskStore, space: Option<u32>, own: u32) -> bool
 }
 
 /// Why the caller can have no new namespace in the namespace for its children.
-fn nest_refusal(store: &TaskStore, space: Option<u32>, own: u32) -> Option<Refusal>
+fn nest_refusal(store: &Tasks, space: Option<SpaceKey>, own: SpaceKey) -> Option<Refusal>
     requires { IfSome space (λ s. IsSome (id_at store.now.numbering s)) }
     ensures { (id i : ℕ) → IsKeyOf store.now.numbering id space → id_at store.now.numbering own ≡ Some i → result ≡ nest_refusal_of (state_of store.now) id i }
 {
@@ -277,7 +284,7 @@ fn nest_refusal(store: &TaskStore, space: Option<u32>, own: u32) -> Option<Refus
 }
 
 /// The namespace for the caller's children, or why it can have none there.
-fn standing(store: &TaskStore, found: &Found, space: Option<u32>) -> Result<u32, Refusal>
+fn standing(store: &Tasks, found: &Found, space: Option<SpaceKey>) -> Result<SpaceKey, Refusal>
     requires { IsKeyOf store.now.numbering found.now.task.children_space space }
     ensures ok { IfOk result (λ space. (is_gone (state_of store.now) found.now.task.children_space ≡ false) × (id_at store.now.numbering space ≡ Some found.now.task.children_space)) }
     ensures err { IfErr result (λ r. (is_gone (state_of store.now) found.now.task.children_space ≡ true) × (r ≡ Refusal.SpaceFallen)) }
@@ -294,11 +301,11 @@ fn standing(store: &TaskStore, found: &Found, space: Option<u32>) -> Result<u32,
 
 /// The namespace for the caller's children, or why it can have none there or in a new one below it.
 fn namespace_for(
-    store: &TaskStore,
+    store: &Tasks,
     found: &Found,
-    own: u32,
+    own: SpaceKey,
     new_space: bool,
-) -> Result<u32, Refusal>
+) -> Result<SpaceKey, Refusal>
     requires there { task_at store.now.tree found.now.key ≡ Some found.now.task }
     requires own { id_at store.now.numbering own ≡ Some (name_at store.now.numbering found.now.key).space }
     ensures ok { IfOk result (λ space. (space_refusal (state_of store.now) (row_of store.now found.now.key found.now.task) new_space ≡ None) × (id_at store.now.numbering space ≡ Some found.now.task.children_space)) }
@@ -319,8 +326,8 @@ fn namespace_for(
 #[tactic(auto, unfolding(pid_types::specs::Fork::fork))]
 #[inline(never)]
 pub fn fork(
-    store: &mut TaskStore,
-    caller: u32,
+    store: &mut Tasks,
+    caller: Pid,
     new_space: bool,
     stamp: u64,
 ) -> Result<ShortReply, AllocError>

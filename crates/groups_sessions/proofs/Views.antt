@@ -4,7 +4,7 @@ use Rattle.std.specs.Prelude.{slice_index}
 use Rattle.std.proofs.lemmas.Bool.{cases_eq}
 use Rattle.std.proofs.lemmas.List.{ext_get_or, get_or-set_same, get_or-set_other, length-map, map-set}
 use Rattle.std.proofs.Math.ListN.{get_or-map}
-use Rattle.owner_lists.specs.Owners.{owner_of}
+use Rattle.member_lists.specs.Owners.{owner_of}
 use Rattle.groups_sessions.specs.Membership.{Membership, membership_at, group_of, session_of, groups_of, AreInSession, membership_in, memberships_of, IsKept}
 
 module _ (groups : List (Option ℕ)) (sessions : List ℕ) where

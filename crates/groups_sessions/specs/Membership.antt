@@ -1,6 +1,6 @@
 -- What a contract sees of `Members`: at each task's key the group and the session that it is in.
 use Rattle.std.specs.Prelude.{◌≤◌, ◌≡◌, ◌≢◌, ℕ, ◌<◌, List, Option, Some, None, option_map, MatchOption, map, length, slice_index, slice_index_or}
-use Rattle.owner_lists.specs.Owners.{owner_of}
+use Rattle.member_lists.specs.Owners.{owner_of}
 
 -- the keys of the identifiers that a task's group and session are named after
 pub record Membership : Type 0 where

@@ -4,15 +4,16 @@ ghost use Rattle.std.specs.Prelude.{◌≡◌};
 ghost use Rattle.std.specs.Result.{result_err};
 ghost use Rattle.groups_sessions.specs.Setpgid.{target_refusal};
 
+use pid_types::keys::{IdentKey, SpaceKey};
 use pid_types::reply::Refusal;
 
 /// A task that is to be put into a group.
 #[derive(Clone, Copy)]
 pub struct Target {
     /// The key of its identifier.
-    pub ident: u32,
+    pub ident: IdentKey,
     /// The key of the identifier that its session is named after.
-    pub session: u32,
+    pub session: IdentKey,
     /// Whether the caller is its parent.
     pub is_child: bool,
     /// Whether it has executed a program since it was forked: `execve(2)`.
@@ -23,11 +24,11 @@ pub struct Target {
 #[derive(Clone, Copy)]
 pub struct GroupAsk {
     /// The key of the caller's identifier.
-    pub caller: u32,
+    pub caller: IdentKey,
     /// The key of the identifier that the caller's session is named after.
-    pub session: u32,
+    pub session: IdentKey,
     /// The key of the caller's own namespace.
-    pub space: u32,
+    pub space: SpaceKey,
     /// The number of the group in that namespace; 0 for the target's own identifier.
     pub pgid: i32,
     /// The task that the first argument of the call names; none where it names nobody.

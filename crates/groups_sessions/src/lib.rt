@@ -6,7 +6,7 @@
 #![tactic(auto)]
 
 ghost use Rattle.std.specs.Prelude.{◌≡◌, ◌≢◌, ℕ, ◌<◌, ◌≤◌, ◌^◌, ◌↔◌, [], length, option_map, Some, None, IsSome, IsTrue, OnOk, MatchResult, slice_set};
-ghost use Rattle.owner_lists.specs.Owners.{AreMembers};
+ghost use Rattle.member_lists.specs.Owners.{AreMembers};
 ghost use Rattle.groups_sessions.specs.Membership.{Membership, membership_at, group_of, session_of, groups_of, HasMembers, AreInSession, IsSessionOf};
 ghost use Rattle.groups_sessions.specs.Setpgid.{session_group as session_group_of, group_for as group_for_of, setpgid_answer};
 
@@ -14,9 +14,10 @@ mod ask;
 mod room;
 
 pub use ask::{GroupAsk, Target};
-pub use owner_lists::Members as GroupMembers;
-use owner_lists::OwnerLists;
+use member_lists::MemberLists;
+pub use member_lists::Members as GroupMembers;
 use pid_numbers::Numbers;
+use pid_types::keys::{IdentKey, Pid, SpaceKey, TaskKey};
 use pid_types::reply::Refusal;
 use room::{group_in, has_member, make_room};
 use std::alloc::{AllocError, Global};
@@ -28,8 +29,8 @@ use std::marker::Model;
 /// and only `reserve` takes memory. But for that one and `may_setpgid` each call costs a few reads and
 /// writes, however many tasks and groups there are.
 pub struct Members {
-    groups: OwnerLists,
-    sessions: Vec<u32>,
+    groups: MemberLists,
+    sessions: Vec<IdentKey>,
 }
 
 // Written out, and not derived: so the crates above cite this drop, and do not prove it anew.
@@ -59,7 +60,7 @@ impl Members {
         ensures { result ≡ [] }
     {
         Members {
-            groups: OwnerLists::new(alloc),
+            groups: MemberLists::new(alloc),
             sessions: Vec::new(alloc),
         }
     }
@@ -67,7 +68,7 @@ impl Members {
     /// Makes room for the key of a task and for that of an identifier. It costs a step for each key that is
     /// new. The error is want of memory; then each task is where it was.
     #[inline(always)]
-    pub fn reserve(&mut self, task: u32, ident: u32) -> Result<(), AllocError>
+    pub fn reserve(&mut self, task: TaskKey, ident: IdentKey) -> Result<(), AllocError>
         requires task { task < 2 ^ 30 }
         requires ident { ident < 2 ^ 30 }
         ensures task { OnOk result (task < length self.new) }
@@ -81,7 +82,7 @@ impl Members {
 
     /// A task that is in no group enters one, as `fork(2)` has it enter its parent's. Whoever is in the
     /// group must be in the session.
-    pub fn enter(&mut self, task: u32, group: u32, session: u32)
+    pub fn enter(&mut self, task: TaskKey, group: IdentKey, session: IdentKey)
         requires task { task < length self.old }
         requires group { group < length self.old }
         requires free { membership_at self.old task ≡ None }
@@ -94,7 +95,7 @@ impl Members {
 
     /// A task goes to another group, or to the one that it is in, and stays in its session: `setpgid(2)`.
     /// Whoever is in the group must be in the task's session.
-    pub fn join_group(&mut self, task: u32, ident: u32)
+    pub fn join_group(&mut self, task: TaskKey, ident: IdentKey)
         requires group { ident < length self.old }
         requires there { IsSome (membership_at self.old task) }
         requires together { (s : ℕ) → session_of self.old task ≡ Some s → AreInSession self.old ident s }
@@ -107,7 +108,7 @@ impl Members {
 
     /// A task leads a new session and a new group in it, both named after the identifier: `setsid(2)`.
     /// Nobody may be in that group.
-    pub fn start_session(&mut self, task: u32, ident: u32)
+    pub fn start_session(&mut self, task: TaskKey, ident: IdentKey)
         requires group { ident < length self.old }
         requires there { IsSome (membership_at self.old task) }
         requires free { (k : ℕ) → group_of self.old k ≢ Some ident }
@@ -118,7 +119,7 @@ impl Members {
     }
 
     /// A task is gone: it was reaped.
-    pub fn leave(&mut self, task: u32)
+    pub fn leave(&mut self, task: TaskKey)
         requires { IsSome (membership_at self.old task) }
         ensures { self.new ≡ slice_set self.old task None }
     {
@@ -126,7 +127,7 @@ impl Members {
     }
 
     /// The group that a task is in: `getpgid(2)`.
-    pub fn group(&self, task: u32) -> u32
+    pub fn group(&self, task: TaskKey) -> IdentKey
         requires { IsSome (membership_at self.now task) }
         ensures { group_of self.now task ≡ Some result }
     {
@@ -134,7 +135,7 @@ impl Members {
     }
 
     /// The session that a task is in: `getsid(2)`.
-    pub fn session(&self, task: u32) -> u32
+    pub fn session(&self, task: TaskKey) -> IdentKey
         requires { IsSome (membership_at self.now task) }
         ensures { session_of self.now task ≡ Some result }
     {
@@ -143,14 +144,14 @@ impl Members {
     }
 
     /// Whether some task is in the group.
-    pub fn any_in_group(&self, ident: u32) -> bool
+    pub fn any_in_group(&self, ident: IdentKey) -> bool
         ensures { IsTrue result ↔ HasMembers self.now ident }
     {
         has_member(&self.groups, ident)
     }
 
     /// The session of those who are in the group; none where nobody is.
-    pub fn session_of_group(&self, ident: u32) -> Option<u32>
+    pub fn session_of_group(&self, ident: IdentKey) -> Option<IdentKey>
         ensures { IsSessionOf self.now ident result }
     {
         if has_member(&self.groups, ident) {
@@ -161,7 +162,7 @@ impl Members {
     }
 
     /// Those who are in the group, one after the other.
-    pub fn group_members(&self, ident: u32) -> GroupMembers<'_>
+    pub fn group_members(&self, ident: IdentKey) -> GroupMembers<'_>
         requires { ident < length self.now }
         ensures { AreMembers (groups_of self.now) ident result }
     {
@@ -169,7 +170,13 @@ impl Members {
     }
 
     /// The group with the number in the namespace, if some task of the session is in it.
-    fn session_group(&self, numbers: &Numbers, session: u32, space: u32, n: u32) -> Option<u32>
+    fn session_group(
+        &self,
+        numbers: &Numbers,
+        session: IdentKey,
+        space: SpaceKey,
+        n: Pid,
+    ) -> Option<IdentKey>
         ensures { result ≡ session_group_of self.now numbers.now session space n }
     {
         numbers.laws();
@@ -184,7 +191,7 @@ impl Members {
     }
 
     /// The group that the number names for the target.
-    fn group_for(&self, numbers: &Numbers, ask: &GroupAsk, target: &Target) -> Option<u32>
+    fn group_for(&self, numbers: &Numbers, ask: &GroupAsk, target: &Target) -> Option<IdentKey>
         ensures { result ≡ group_for_of self.now numbers.now ask.now target.now ask.now.pgid }
     {
         let n = u32::try_from(ask.pgid).ok()?;
@@ -198,7 +205,7 @@ impl Members {
     /// number; `NoTask` where there is no target; of a child `OtherSession` and `Executed`; `NoTask` for who is
     /// neither the caller nor its child; `IsLeader`; and `NoGroup` where nobody of the caller's session,
     /// zombies included, is in the group. It costs one search in the namespace's tree of numbers.
-    pub fn may_setpgid(&self, numbers: &Numbers, ask: &GroupAsk) -> Result<u32, Refusal>
+    pub fn may_setpgid(&self, numbers: &Numbers, ask: &GroupAsk) -> Result<IdentKey, Refusal>
         ensures { result ≡ setpgid_answer self.now numbers.now ask.now }
     {
         if ask.pgid < 0 {
@@ -214,7 +221,7 @@ impl Members {
 
     /// Whether the task with the identifier may lead a new session: `IsLeader` where somebody, the task
     /// itself or a zombie too, is in a group of that name (`setsid(2)`, `EPERM`).
-    pub fn may_setsid(&self, ident: u32) -> Result<(), Refusal>
+    pub fn may_setsid(&self, ident: IdentKey) -> Result<(), Refusal>
         ensures { MatchResult result (λ _. (k : ℕ) → group_of self.now k ≢ Some ident) (λ refusal. (refusal ≡ Refusal.IsLeader) × HasMembers self.now ident) }
     {
         if self.any_in_group(ident) {

@@ -1,15 +1,16 @@
 //! Memory for one more key, and look-ups in the lists of tasks by group.
 
 ghost use Rattle.std.specs.Prelude.{◌≡◌, ◌≢◌, ℕ, ◌+◌, ◌<◌, ◌≤◌, ◌^◌, length, Some, IsSome, IsTrue, false, OnOk, slice_index};
-ghost use Rattle.owner_lists.specs.Owners.{owner_of};
+ghost use Rattle.member_lists.specs.Owners.{owner_of};
 ghost use Rattle.groups_sessions.specs.Membership.{IsKept};
 
-use owner_lists::OwnerLists;
+use member_lists::MemberLists;
+use pid_types::keys::{IdentKey, TaskKey};
 use std::alloc::AllocError;
 
 /// Makes room for one more key.
 #[inline(always)]
-fn grow(groups: &mut OwnerLists, sessions: &mut Vec<u32>) -> Result<(), AllocError>
+fn grow(groups: &mut MemberLists, sessions: &mut Vec<IdentKey>) -> Result<(), AllocError>
     requires small { length groups.old < 2 ^ 30 }
     requires kept { IsKept groups.old sessions.old.items }
     ensures kept { IsKept groups.new sessions.new.items }
@@ -27,9 +28,9 @@ fn grow(groups: &mut OwnerLists, sessions: &mut Vec<u32>) -> Result<(), AllocErr
 /// Makes room for all keys up to one.
 #[inline(always)]
 pub(crate) fn make_room(
-    groups: &mut OwnerLists,
-    sessions: &mut Vec<u32>,
-    key: u32,
+    groups: &mut MemberLists,
+    sessions: &mut Vec<IdentKey>,
+    key: IdentKey,
 ) -> Result<(), AllocError>
     requires key { key < 2 ^ 30 }
     requires kept { IsKept groups.old sessions.old.items }
@@ -46,7 +47,7 @@ pub(crate) fn make_room(
 }
 
 /// The group of a task that is in one.
-pub(crate) fn group_in(groups: &OwnerLists, task: u32) -> u32
+pub(crate) fn group_in(groups: &MemberLists, task: TaskKey) -> IdentKey
     requires { IsSome (owner_of groups.now task) }
     ensures { owner_of groups.now task ≡ Some result }
 {
@@ -57,7 +58,7 @@ pub(crate) fn group_in(groups: &OwnerLists, task: u32) -> u32
 }
 
 /// Whether some task is in the group.
-pub(crate) fn has_member(groups: &OwnerLists, ident: u32) -> bool
+pub(crate) fn has_member(groups: &MemberLists, ident: IdentKey) -> bool
     requires { (k g : ℕ) → owner_of groups.now k ≡ Some g → g < length groups.now }
     ensures some { IsTrue result → (k : ℕ) × (owner_of groups.now k ≡ Some ident) }
     ensures none { result ≡ false → (k : ℕ) → owner_of groups.now k ≢ Some ident }

@@ -3,7 +3,7 @@
 ghost use Rattle.std.specs.Prelude.{◌≡◌, ℕ, ◌<◌, ◌≤◌, ◌+◌, ◌^◌, ◌/◌, ◌%◌, ◌*◌, length, Option, None, MatchOption, IfOk, IsSome, IsNone, true, false, [], ◌∷◌};
 ghost use Rattle.std.specs.List.{list_any};
 ghost use Rattle.index_array.specs.Words.{IsSought};
-ghost use Rattle.index_array.specs.Place.{bare, place_at, entry_at, is_prepared, value_at, entry_with, carries, IsFirst, WritesEntry, KeepsEntries, KeepsPrepared};
+ghost use Rattle.index_array.specs.Place.{index_count, bare, place_at, entry_at, is_prepared, value_at, entry_with, carries, IsFirst, WritesEntry, KeepsEntries, KeepsPrepared};
 ghost use Rattle.index_array.specs.Tree.{Tree, IsNew, IsChild, IsBelow};
 ghost use Rattle.index_array.specs.declared.bits.Sought.{Sought};
 
@@ -56,7 +56,7 @@ fn start_of(slot: u32, height: u32) -> u32
     requires slot { slot < 64 }
     requires height { height < 4 }
     ensures start { result ≡ slot * 64 ^ height }
-    ensures fits { result + 64 ^ height ≤ 16777216 }
+    ensures fits { result + 64 ^ height ≤ index_count }
 {
     slot << (6 * height)
 }

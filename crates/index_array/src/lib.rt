@@ -1,4 +1,4 @@
-//! A sparse array of 2^24 indexes, with three marks on each entry.
+//! A sparse array of 2^24 indexes with three marks on each entry, in the manner of the kernel's XArray.
 //!
 //! The form is that of the kernel's XArray (`Documentation/core-api/xarray.rst`): a tree of nodes of
 //! 64 slots, each with words of 64 bits that say what stands below each slot, so that a search for a
@@ -96,7 +96,7 @@ impl<T: Drop> IndexArray<T> {
     }
 
     /// Does nothing: its contract says that there is no entry at 2^24 and above.
-    pub fn bounds(&self)
+    pub fn laws(&self)
         ensures { (i : ℕ) → INDEX_COUNT ≤ i → entry_at self.now i ≡ None }
     {
         let _root = &self.root;

@@ -1,4 +1,0 @@
-pub mod Along
-pub mod Counts
-pub mod Kept
-mod Promise

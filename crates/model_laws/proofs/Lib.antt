@@ -7,7 +7,6 @@ pub mod Names
 pub mod Rising
 pub mod Trees
 pub mod Forests
-pub mod SoundTest
 pub mod Sweeps
 pub mod RowMaps
 pub mod Kept

@@ -1,7 +1,6 @@
 -- Every call leaves a sound state, and the root namespace stands.
-use Rattle.std.proofs.Common.{◌≡◌, ℕ, suc, ◌+◌, ◌<◌, true, false, List, [], ◌∷◌, length, Option, Some, None, refl, ap, ◌∙◌, subst, inl, inr, arith}
+use Rattle.std.proofs.Common.{◌≡◌, ℕ, suc, ◌+◌, ◌<◌, true, false, List, [], ◌∷◌, length, Option, Some, None, refl, sym, ap, ◌∙◌, subst, inl, inr, arith}
 use Rattle.std.specs.Option.{option_map_or}
-use Rattle.std.proofs.lemmas.Bool.{lt-ltb}
 use Rattle.pid_types.specs.declared.call.Call.{Call}
 use Rattle.pid_types.specs.declared.call.Call.TheVariants.{Fork, GetPid, NsPid, Exec, Exit, Wait, GetPpid, SetPgid, SetSid, MakeControl, RemoveControl, SetLimit, Move, Count, GetPgid, GetSid, Next, Join, SetSubreaper}
 use Rattle.pid_types.specs.declared.plain.Row.{Row}
@@ -11,17 +10,20 @@ use Rattle.pid_types.specs.declared.reply.Reply.TheVariants.{Counted, Refused}
 use Rattle.pid_types.specs.declared.reply.Refusal.TheVariants.{NoControl}
 use Rattle.pid_types.specs.Settings.{HasGoodPidMax}
 use Rattle.pid_types.specs.Chains.{climb}
-use Rattle.pid_types.specs.State.{State, root_state}
-use Rattle.pid_types.specs.Names.{path_up, number, taken}
+use Rattle.pid_types.specs.State.{State, root_state, root_init, root_name}
+use Rattle.pid_types.specs.Membership.{IsIn}
+use Rattle.pid_types.specs.declared.plain.Name.{Name}
+use Rattle.pid_types.specs.Names.{path_up, number, names_in_use}
 use Rattle.pid_types.specs.Controls.{control_at, control_path, count}
 use Rattle.pid_types.specs.Outcome.{answered, for_found}
 use Rattle.pid_types.specs.Fork.{is_gone}
 use Rattle.pid_types.specs.Changes.{count_tasks}
 use Rattle.pid_types.specs.Step.{step}
 use Rattle.pid_types.specs.Replay.{state_after}
-use Rattle.pid_types.specs.Sound.{IsSound, IsBelow}
+use Rattle.pid_types.specs.Sound.{IsSound, IsBelow, IsWellNumbered, HasGoodParents}
+use Rattle.model_laws.specs.Script.{EndsSound}
+use Rattle.pid_types.specs.Names.{space_at}
 use Rattle.model_laws.proofs.Trees.{space_at-Some}
-use Rattle.model_laws.proofs.SoundTest.{IsSound-from_test}
 use Rattle.model_laws.proofs.Kept.{Keeps, Keeps-same, exec_keeps, set_subreaper_keeps, move_task_keeps, join_keeps, set_pgid_keeps, set_sid_keeps}
 use Rattle.model_laws.proofs.ControlsKept.{make_control_keeps, remove_control_keeps, set_limit_keeps}
 use Rattle.model_laws.proofs.EndsKept.{wait_keeps}
@@ -72,11 +74,74 @@ run_keeps opening first (call ∷ calls) sound below =
 
 -- ---- the state that a table begins with
 
+-- the names in use are all the root init's
+only_name : (a : Name) → IsIn a (names_in_use (root_init ∷ [])) → a ≡ root_name
+only_name a i = elim i [
+  | inl e ↦ e
+  | inr j ↦ elim j [
+    | inl e ↦ e
+    | inr k ↦ elim k [ inl e ↦ e | inr none ↦ elim none [ ] ]
+  ]
+]
+
 -- the state that a table begins with is sound
 pub root_state_sound : (pid_max : ℕ) → HasGoodPidMax pid_max → IsSound (root_state pid_max)
-unfolding climb path_up number taken control_path
-root_state_sound pid_max good =
-    let l : 1 < pid_max = omega (arith, good.0) in IsSound-from_test (root_state pid_max) (rw (lt-ltb 1 pid_max l) refl)
+unfolding climb path_up number control_path
+root_state_sound pid_max good = record {
+  coherent = record {
+    distinct = λ a b i j s n x y. only_name a i ∙ sym (only_name b j);
+    numbered = λ a i. subst (λ n. IsWellNumbered (root_state pid_max).spaces pid_max n) (sym (only_name a i)) (record {
+      listed = λ x j. elim j [ inl e ↦ subst (λ m. (s : Space) × (space_at (root_state pid_max).spaces m ≡ Some s)) (sym e) (_, refl) | inr none ↦ elim none [ ] ];
+      one_each = refl;
+      in_range = λ n j. elim j [ inl e ↦ (omega (arith, e), (let g = good.0 in omega (arith, e, g))) | inr none ↦ elim none [ ] ];
+    });
+    parents = λ r i. elim i [
+      | inl e ↦ subst (λ q. HasGoodParents (root_state pid_max).rows (root_state pid_max).spaces q) (sym e) (record {
+        first = λ none. refl;
+        good = λ parent some. absurd (cc);
+        chain = inl refl;
+      })
+      | inr none ↦ elim none [ ]
+    ];
+    children = λ r i. elim i [
+      | inl e ↦ inr (subst (λ (q : Row). IsIn q.name.space (path_up (root_state pid_max).spaces q.children_space)) (sym e) (inl refl))
+      | inr none ↦ elim none [ ]
+    ];
+    root = λ s i zero. elim i [ inl e ↦ ap (λ (t : Space). t.fallen) e | inr none ↦ elim none [ ] ];
+    standing = λ s i up. elim i [
+      | inl e ↦ (root_init, inl refl, refl, sym (ap (λ (t : Space). t.id) e), ap (λ (t : Space). number (root_state pid_max).spaces root_name t.id) e)
+      | inr none ↦ elim none [ ]
+    ];
+    fallen = λ s i down. elim i [ inl e ↦ absurd (let up = ap (λ (t : Space). t.fallen) e in cc) | inr none ↦ elim none [ ] ];
+    groups = record {
+      together = λ a b i j same. elim i [
+        | inl e ↦ elim j [ inl f ↦ ap (λ (r : Row). r.session) (e ∙ sym f) | inr none ↦ elim none [ ] ]
+        | inr none ↦ elim none [ ]
+      ];
+      leader = λ a b i j same. elim i [
+        | inl e ↦ elim j [ inl f ↦ ap (λ (r : Row). r.session) (e ∙ sym f) | inr none ↦ elim none [ ] ]
+        | inr none ↦ elim none [ ]
+      ];
+    };
+    rows_rise = (λ m none. elim none [ ], tt);
+    spaces = record {
+      rising = (λ m none. elim none [ ], tt);
+      root = (_, refl, refl);
+      chains = λ s i. elim i [ inl e ↦ subst (λ (t : Space). IsIn 0 (path_up (root_state pid_max).spaces t.id)) (sym e) (inl refl) | inr none ↦ elim none [ ] ];
+    };
+    controls = record {
+      rising = (λ m none. elim none [ ], tt);
+      root = (_, refl, refl);
+      chains = λ c i. elim i [ inl e ↦ subst (λ (d : Control). IsIn 0 (control_path (root_state pid_max).controls d.id)) (sym e) (inl refl) | inr none ↦ elim none [ ] ];
+    };
+    limits = λ c i. elim i [
+      | inl e ↦ record { root = λ zero. ap (λ (d : Control). d.limit) e; bounded = λ limit some. absurd (let none = ap (λ (d : Control). d.limit) e in cc) }
+      | inr none ↦ elim none [ ]
+    ];
+    homes = λ r i. elim i [ inl e ↦ subst (λ (q : Row). (c : Control) × (control_at (root_state pid_max).controls q.home ≡ Some c)) (sym e) (_, refl) | inr none ↦ elim none [ ] ];
+  };
+  named = λ s i down. elim i [ inl e ↦ absurd (let up = ap (λ (t : Space). t.fallen) e in cc) | inr none ↦ elim none [ ] ];
+}
 
 -- and its ids are below the first stamp
 pub root_state_below : (pid_max first : ℕ) → 0 < first → IsBelow first (root_state pid_max)
@@ -85,6 +150,13 @@ root_state_below pid_max first l = record {
   controls = λ c i. elim i [ inl e ↦ (let z : c.id ≡ 0 = ap (λ (d : Control). d.id) e in omega arith) | inr none ↦ elim none [ ] ];
   children =
       λ r i. elim i [ inl e ↦ (let z : r.children_space ≡ 0 = ap (λ (q : Row). q.children_space) e in omega arith) | inr none ↦ elim none [ ] ];
+}
+
+-- a script that ends in a state leaves a sound one
+pub ends_sound : (pid_max : ℕ) → HasGoodPidMax pid_max → (calls : List Call) (end : State) → state_after (root_state pid_max) 1 calls ≡ end → EndsSound pid_max calls end
+ends_sound pid_max good calls end is = record {
+  ends = is;
+  sound = subst IsSound is (run_keeps (root_state pid_max) 1 calls (root_state_sound pid_max good) (root_state_below pid_max 1 (omega arith))).0;
 }
 
 -- ---- the root namespace stands

@@ -7,10 +7,10 @@ use Rattle.pid_numbers.specs.Numbering.{Identifier, identifier_at, number_of, us
 use Rattle.task_tree.specs.declared.Task.{Task}
 use Rattle.task_tree.specs.Tree.{task_at, parent_of, lives}
 use Rattle.groups_sessions.specs.Membership.{Membership, membership_at}
-use Rattle.task_store.specs.Store.{Store, IsStore, IsLess, one_if}
-use Rattle.task_store.proofs.Less as less
-use Rattle.store_view.specs.Lawful.{IsLawful}
-use Rattle.store_view.specs.Whole.{HasParents}
+use Rattle.task_table.specs.Store.{Store, IsStore, IsLess, one_if}
+use Rattle.task_table.proofs.Less as less
+use Rattle.task_table.specs.Lawful.{IsLawful}
+use Rattle.task_table.specs.Whole.{HasParents}
 use Rattle.ns_teardown.specs.Fall.{Slot, slot_at, vacant, is_member, has_parent_within, member_after_fall, slot_after_fall, parent_falls_at, is_passed, slot_midway}
 use Rattle.ns_teardown.proofs.Visible as visible
 

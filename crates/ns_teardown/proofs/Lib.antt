@@ -1,3 +1,11 @@
+pub mod Climbs
+pub mod Within
+pub mod Ancestry
+pub mod Good
+pub mod Inheritors
+pub mod Ended
+pub mod Fallen
+pub mod Exits
 pub mod Ancestors
 pub mod Visible
 pub mod NewParents

@@ -10,10 +10,10 @@ use Rattle.pid_numbers.proofs.Ties.{beside-some}
 use Rattle.pid_numbers.proofs.Sweeps.{contains_at}
 use Rattle.task_tree.specs.declared.Task.{Task}
 use Rattle.task_tree.specs.Tree.{task_at, parent_of}
-use Rattle.task_store.specs.Store.{Store}
-use Rattle.task_store.proofs.Less as less
-use Rattle.store_view.specs.Lawful.{HasLaws, IsLawful}
-use Rattle.store_view.specs.Whole.{HasParents}
+use Rattle.task_table.specs.Store.{Store}
+use Rattle.task_table.proofs.Less as less
+use Rattle.task_table.specs.Lawful.{HasLaws, IsLawful}
+use Rattle.task_table.specs.Whole.{HasParents}
 use Rattle.ns_teardown.specs.GoodTasks.{HasGoodTasks}
 use Rattle.ns_teardown.specs.Fall.{Slot, FallsWithin, slot_at, is_member, member_after_fall, has_parent_within, slot_after_fall}
 use Rattle.ns_teardown.proofs.Outer as outer

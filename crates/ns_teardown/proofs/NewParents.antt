@@ -3,15 +3,15 @@ use Rattle.std.proofs.Common.{◌≡◌, inl, inr, List, ◌≢◌, ℕ, ◌+◌
 use Rattle.std.specs.Prelude.{slice_set, slice_index_or, drop, MatchOption}
 use Rattle.std.specs.Option.{option_map_or}
 use Rattle.std.proofs.lemmas.List.{get_or-set_same, get_or-set_other}
-use Rattle.task_store.proofs.Changes.{in_range}
-use Rattle.store_view.specs.Whole.{HasParents}
+use Rattle.task_table.proofs.Changes.{in_range}
+use Rattle.task_table.specs.Whole.{HasParents}
 use Rattle.std.proofs.lemmas.Bool.{cases_eq, eqb-true}
 use Rattle.pid_types.specs.Chains.{climb, contains}
 use Rattle.pid_numbers.specs.Numbering.{Namespace, Identifier, identifier_at, namespace_at, path_at, number_of}
 use Rattle.task_tree.specs.declared.Task.{Task}
 use Rattle.task_tree.specs.Tree.{task_at, parent_of, lives, handed}
-use Rattle.task_store.specs.Store.{Store}
-use Rattle.store_view.specs.Lawful.{IsLawful}
+use Rattle.task_table.specs.Store.{Store}
+use Rattle.task_table.specs.Lawful.{IsLawful}
 use Rattle.ns_teardown.specs.GoodTasks.{HasGoodTasks, HasInit}
 use Rattle.ns_teardown.specs.Heirs.{IsHeir, is_subreaper_in, ancestors, nearest_subreaper}
 use Rattle.ns_teardown.proofs.Ancestors as above

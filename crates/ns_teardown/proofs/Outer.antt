@@ -8,8 +8,8 @@ use Rattle.pid_types.specs.Chains.{climb, contains}
 use Rattle.pid_numbers.specs.Numbering.{Numbering, Identifier, identifier_at, path_at}
 use Rattle.pid_numbers.proofs.Sweeps.{contains_at, place_of}
 use Rattle.task_tree.specs.Tree.{task_at, parent_of}
-use Rattle.task_store.specs.Store.{Store}
-use Rattle.store_view.specs.Lawful.{HasLaws, IsLawful}
+use Rattle.task_table.specs.Store.{Store}
+use Rattle.task_table.specs.Lawful.{HasLaws, IsLawful}
 use Rattle.ns_teardown.specs.GoodTasks.{HasGoodTasks}
 use Rattle.ns_teardown.specs.Heirs.{is_subreaper_in}
 use Rattle.ns_teardown.proofs.Ancestors.{found_above}

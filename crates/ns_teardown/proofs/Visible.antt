@@ -8,9 +8,9 @@ use Rattle.pid_numbers.specs.Numbering.{Numbering, Identifier, identifier_at, pa
 use Rattle.pid_numbers.proofs.Sweeps.{contains_at}
 use Rattle.task_tree.specs.declared.Task.{Task}
 use Rattle.task_tree.specs.Tree.{task_at, lives}
-use Rattle.task_store.specs.Store.{Store, IsStore, uses_at, one_if}
-use Rattle.task_store.proofs.Less as less
-use Rattle.store_view.specs.Lawful.{HasLaws}
+use Rattle.task_table.specs.Store.{Store, IsStore, uses_at, one_if}
+use Rattle.task_table.proofs.Less as less
+use Rattle.task_table.specs.Lawful.{HasLaws}
 
 pub some_of : {X : Type 0} (o : Option X) → IsSome o → (x : X) × (o ≡ Some x)
 some_of None some = absurd (cc)

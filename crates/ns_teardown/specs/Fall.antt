@@ -9,7 +9,7 @@ use Rattle.task_tree.specs.declared.Task.{Task}
 use Rattle.task_tree.specs.Tree.{task_at, parent_of, lives}
 use Rattle.groups_sessions.specs.Membership.{Membership, membership_at}
 use Rattle.pids_charge.specs.Charges.{Charges, Home, home_at}
-use Rattle.task_store.specs.Store.{Store}
+use Rattle.task_table.specs.Store.{Store}
 
 -- what is at a key: the task, its parent, and its group and session
 pub record Slot : Type 0 where

@@ -4,8 +4,8 @@ use Rattle.pid_types.specs.Chains.{climb, contains}
 use Rattle.pid_numbers.specs.Numbering.{Namespace, Identifier, namespace_at, identifier_at, path_at, number_of, has_fallen_at}
 use Rattle.task_tree.specs.declared.Task.{Task}
 use Rattle.task_tree.specs.Tree.{task_at, parent_of, lives}
-use Rattle.task_store.specs.Store.{Store}
-use Rattle.store_view.specs.Whole.{HasParents}
+use Rattle.task_table.specs.Store.{Store}
+use Rattle.task_table.specs.Whole.{HasParents}
 
 -- a task whose own namespace this is has number 1 in it: pid_namespaces(7), "The namespace init process"
 pub record HasInit (s : Store) (space : ℕ) : Type 0 where

@@ -4,7 +4,7 @@ use Rattle.std.specs.Option.{option_map_or}
 use Rattle.pid_types.specs.Chains.{climb}
 use Rattle.pid_numbers.specs.Numbering.{Identifier, identifier_at, number_of}
 use Rattle.task_tree.specs.Tree.{task_at, parent_of}
-use Rattle.task_store.specs.Store.{Store}
+use Rattle.task_table.specs.Store.{Store}
 
 -- the parent, its parent and so on, nearest first
 abbrev pub ancestors : Store → ℕ → List ℕ

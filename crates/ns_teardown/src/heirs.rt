@@ -6,11 +6,12 @@ ghost use Rattle.task_tree.specs.Tree.{task_at};
 ghost use Rattle.ns_teardown.specs.GoodTasks.{HasGoodTasks};
 ghost use Rattle.ns_teardown.specs.Heirs.{nearest_subreaper as nearest_subreaper_of};
 
-use store_view::laws;
-use task_store::TaskStore;
+use pid_types::keys::{SpaceKey, TaskKey};
+use task_table::Tasks;
+use task_table::view::laws;
 
 /// Whether the task is a subreaper.
-fn is_subreaper(store: &TaskStore, key: u32) -> bool
+fn is_subreaper(store: &Tasks, key: TaskKey) -> bool
     ensures { result ≡ option_map_or (λ t. t.subreaper) (task_at store.now.tree key) false }
 {
     match store.tree().task(key) {
@@ -21,7 +22,7 @@ fn is_subreaper(store: &TaskStore, key: u32) -> bool
 
 /// The nearest ancestor of a task of the namespace that is a subreaper there. It costs a step for each
 /// ancestor up to that one, or else up to the first in another namespace, above which none is in this one.
-pub fn nearest_subreaper(store: &TaskStore, space: u32, key: u32) -> Option<u32>
+pub fn nearest_subreaper(store: &Tasks, space: SpaceKey, key: TaskKey) -> Option<TaskKey>
     requires good { HasGoodTasks store.now }
     requires there { IsSome (task_at store.now.tree key) }
     requires own { option_map (λ u. u.space) (identifier_at store.now.numbering key) ≡ Some space }

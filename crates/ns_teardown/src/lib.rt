@@ -1,121 +1,94 @@
-//! The end of a task, the new parent of its children, and the fall of a namespace, by key over what a
-//! table of processes holds.
-//!
-//! A task that ends stays as a zombie until its parent waits for it, and its children go to its nearest
-//! ancestor that is a subreaper in its own namespace, or else to the init there. The end of a namespace's
-//! init ends the whole namespace (`pid_namespaces(7)`): it falls with all namespaces inside it, its init
-//! has ended by its exit, and every other member is gone, but for those whose parent is outside: they are
-//! killed, and their parent can still wait for them.
-//!
-//! No call here takes memory, and none refuses: who calls has seen that the task lives.
+//! Exit over the tasks of a table: `_exit(2)`, the new parent of orphans, and the teardown of a PID namespace whose
+//! init has ended (`pid_namespaces(7)`).
 #![tactic(auto)]
 
-ghost use Rattle.std.specs.Prelude.{◌≡◌, ◌≢◌, ℕ, ◌+◌, ◌-◌, option_map, Some, true, false, slice_set};
-ghost use Rattle.std.specs.Option.{option_map_or};
-ghost use Rattle.pid_types.specs.Settings.{HasGoodPidMax};
-ghost use Rattle.pid_types.specs.declared.plain.Life.{Life};
-ghost use Rattle.pid_types.specs.declared.plain.Ended.{Ended};
-ghost use Rattle.pid_numbers.specs.Numbering.{Identifier, Numbering, identifier_at, number_of};
-ghost use Rattle.pids_charge.specs.Charges.{Home, home_at, ChangesHome};
-ghost use Rattle.task_tree.specs.Tree.{task_at, parent_of, lives, handed};
-ghost use Rattle.task_store.specs.Store.{IsLess};
-ghost use Rattle.store_view.specs.Lawful.{HasLaws};
-ghost use Rattle.store_view.specs.Whole.{HasParents};
-ghost use Rattle.ns_teardown.specs.GoodTasks.{HasGoodTasks};
-ghost use Rattle.ns_teardown.specs.Heirs.{IsHeir};
-ghost use Rattle.ns_teardown.specs.Fall.{slot_at, member_after_fall, slot_after_fall, FallsWithin, KeepsHomes};
+ghost use Rattle.std.specs.Prelude.{◌≡◌, ◌≢◌, ◌==◌, Some, true};
+ghost use Rattle.std.specs.Option.{option_eq};
+ghost use Rattle.pid_types.specs.Outcome.{sweep};
+ghost use Rattle.pid_types.specs.Exit.{exit as exit_of, fall as fall_of, rows_after_exit};
+ghost use Rattle.pid_types.specs.Short.{reply_of};
+ghost use Rattle.pid_numbers.specs.Numbering.{Identifier, identifier_at, number_of};
+ghost use Rattle.task_tree.specs.Tree.{task_at, lives};
+ghost use Rattle.task_table.specs.View.{row_of, state_of};
+ghost use Rattle.task_table.specs.Whole.{HasParents, IsWhole};
 
 mod heirs;
 mod members;
+mod teardown;
 
-use heirs::nearest_subreaper;
-use members::end_members;
-use pid_types::plain::Ended;
-use store_view::laws;
-use task_store::TaskStore;
+use pid_types::keys::{Pid, SpaceKey, TaskKey};
+use pid_types::reply::{Refusal, ShortReply};
+use task_table::Tasks;
+use task_table::view::{find_live, laws, own_space};
 use task_tree::Task;
+pub use teardown::{fall, new_parent};
 
-/// Who takes the children of a live task when it ends: the nearest subreaper of its own namespace among its
-/// ancestors (`PR_SET_CHILD_SUBREAPER(2const)`), or else the init there. Ancestors in other namespaces take
-/// no children. It costs a step for each ancestor up to the first such subreaper, or else up to the first in
-/// another namespace.
-pub fn new_parent(store: &TaskStore, key: u32) -> u32
-    requires good { HasGoodTasks store.now }
-    requires live { option_map_or lives (task_at store.now.tree key) false ≡ true }
-    ensures { IsHeir store.now key result }
+/// Whether the task has number 1 in the namespace.
+fn is_first(store: &Tasks, space: SpaceKey, key: TaskKey) -> bool
+    ensures { result ≡ option_eq ◌==◌ (number_of store.now.numbering key space) (Some 1) }
 {
-    laws(store);
-    let Some(space) = store.numbers().space_of(key) else {
-        unreachable!()
-    };
-    if let Some(ancestor) = nearest_subreaper(store, space, key) {
-        return ancestor;
-    }
-    match store.numbers().find(space, 1) {
-        Some(init) => init,
-        None => unreachable!(),
-    }
+    store.numbers().number_in(key, space) == Some(1)
 }
 
-/// The children of a live task that is no init get their new parent. It costs a few writes for each child,
-/// and one walk up the ancestors if there is a child.
-fn hand_children(store: &mut TaskStore, key: u32)
-    requires good { HasGoodTasks store.old }
-    requires live { option_map_or lives (task_at store.old.tree key) false ≡ true }
-    requires inner { (u : Identifier) → identifier_at store.old.numbering key ≡ Some u → number_of store.old.numbering key u.space ≢ Some 1 }
-    ensures parents { (heir : ℕ) × IsHeir store.old key heir × ((k : ℕ) → parent_of store.new.tree k ≡ option_map (handed key heir) (parent_of store.old.tree k)) }
-    ensures tasks { store.new.tree.tasks ≡ store.old.tree.tasks }
-    ensures rest { store.new ≡ record store.old { tree = store.new.tree } }
-{
-    laws(store);
-    if store.tree().first_child(key).is_none() {
-        return;
-    }
-    let heir = new_parent(store, key);
-    store.hand_on(key, heir);
-}
-
-/// A live task that is no init of its own namespace ends (`_exit(2)`): its children get their new parent,
-/// and it waits for its own as a zombie. A task without children costs no walk up its ancestors.
-pub fn exit(store: &mut TaskStore, key: u32, task: Task, status: u8)
-    requires good { HasGoodTasks store.old }
+/// A live task that is no init ends, and its children have a new parent.
+fn end_task(store: &mut Tasks, key: TaskKey, task: Task, status: u8)
+    requires whole { IsWhole store.old }
     requires there { task_at store.old.tree key ≡ Some task }
     requires live { lives task ≡ true }
     requires inner { (u : Identifier) → identifier_at store.old.numbering key ≡ Some u → number_of store.old.numbering key u.space ≢ Some 1 }
-    ensures tasks { store.new.tree.tasks ≡ slice_set store.old.tree.tasks key (Some (record task { life = Life.Zombie (Ended.Exited status) })) }
-    ensures parents { (heir : ℕ) × IsHeir store.old key heir × ((k : ℕ) → parent_of store.new.tree k ≡ option_map (handed key heir) (parent_of store.old.tree k)) }
-    ensures home { ChangesHome store.old.charges store.new.charges task.home (option_map (λ (h : Home). record h { live = h.live - 1; zombies = h.zombies + 1 }) (home_at store.old.charges task.home)) }
-    ensures rest { (store.new.numbering ≡ store.old.numbering) × (store.new.members ≡ store.old.members) }
-    ensures tree { HasParents store.new }
+    ensures state { state_of store.new ≡ sweep (record (state_of store.old) { rows = rows_after_exit (state_of store.old) (row_of store.old key task) status }) }
+    ensures parents { HasParents store.new }
 {
     laws(store);
-    hand_children(store, key);
-    store.finish(key, task, Ended::Exited(status));
+    teardown::exit(store, key, task, status);
+    laws(store);
 }
 
-/// The live init of a namespace other than the root ends, and the namespace falls with all inside it: of
-/// its members the init has ended by its exit; another one whose parent is outside is killed, if it lived;
-/// and who is the child of a member is gone, zombies too. A namespace that has fallen is dropped when no
-/// identifier with a number in it is left.
-///
-/// It costs a step for each namespace that is there, and a search for each member and each level of its
-/// identifier.
-pub fn fall(store: &mut TaskStore, init: u32, status: u8)
-    requires good { HasGoodTasks store.old }
-    requires bound { HasGoodPidMax store.old.numbering.pid_max }
-    requires live { option_map_or lives (task_at store.old.tree init) false ≡ true }
+/// The live init of a namespace other than the root ends, and the namespace falls.
+fn end_init(store: &mut Tasks, init: TaskKey, task: Task, status: u8)
+    requires whole { IsWhole store.old }
+    requires there { task_at store.old.tree init ≡ Some task }
+    requires live { lives task ≡ true }
     requires top { (u : Identifier) → identifier_at store.old.numbering init ≡ Some u → (number_of store.old.numbering init u.space ≡ Some 1) × (u.space ≢ 0) }
-    ensures slots { (u : Identifier) → identifier_at store.old.numbering init ≡ Some u → (k : ℕ) → slot_at store.new k ≡ slot_after_fall store.old u.space init status k }
-    ensures init { slot_at store.new init ≡ member_after_fall false true status (slot_at store.old init) }
-    ensures numbers { (u : Identifier) → identifier_at store.old.numbering init ≡ Some u → (b : Numbering) × FallsWithin u.space store.old.numbering b × HasLaws b × IsLess b store.new.numbering }
-    ensures homes { KeepsHomes store.old.charges store.new.charges }
-    ensures tree { HasParents store.new }
+    ensures state { state_of store.new ≡ sweep (fall_of (state_of store.old) (row_of store.old init task) status) }
+    ensures parents { HasParents store.new }
 {
     laws(store);
-    let Some(space) = store.numbers().space_of(init) else {
-        unreachable!()
-    };
-    store.fell(space);
+    teardown::fall(store, init, status);
     laws(store);
-    end_members(store, space, init, status);
+}
+
+/// `_exit(2)`: the caller is a zombie until its parent waits, and its children go to its nearest ancestor
+/// that is a subreaper in its own namespace, or else to the init there (`PR_SET_CHILD_SUBREAPER(2const)`).
+/// The exit of a namespace's init ends all its members, and the namespace falls with all inside it
+/// (`pid_namespaces(7)`).
+///
+/// It is refused where no live task has the caller's number, and to the init of the root namespace. It takes
+/// no memory.
+///
+/// It costs one search for the caller, and a few writes for each child. If there is a child, it also costs a
+/// step for each ancestor up to that subreaper, or else up to the first in another namespace. A fall costs a
+/// step for each namespace that is there, and a search for each member and each level of its identifier.
+#[tactic(auto, unfolding(pid_types::specs::Exit::exit))]
+#[inline(never)]
+pub fn exit(store: &mut Tasks, caller: Pid, status: u8) -> ShortReply
+    requires { IsWhole store.old }
+    ensures state { state_of store.new ≡ (exit_of (state_of store.old) caller status).state }
+    ensures reply { reply_of result ≡ (exit_of (state_of store.old) caller status).reply }
+    ensures parents { HasParents store.new }
+{
+    laws(store);
+    let Some(found) = find_live(store, caller) else {
+        return ShortReply::Refused(Refusal::NoCaller);
+    };
+    if is_first(store, 0, found.key) {
+        return ShortReply::Refused(Refusal::RootInit);
+    }
+    let space = own_space(store, found.key);
+    if is_first(store, space, found.key) {
+        end_init(store, found.key, found.task, status);
+    } else {
+        end_task(store, found.key, found.task, status);
+    }
+    ShortReply::Done
 }

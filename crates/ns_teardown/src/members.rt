@@ -4,18 +4,19 @@ ghost use Rattle.std.specs.Option.{option_map_or};
 ghost use Rattle.pid_types.specs.Settings.{HasGoodPidMax};
 ghost use Rattle.pid_numbers.specs.Numbering.{Identifier, identifier_at, number_of};
 ghost use Rattle.task_tree.specs.Tree.{task_at, parent_of, lives};
-ghost use Rattle.task_store.specs.Store.{IsLess};
-ghost use Rattle.store_view.specs.Whole.{HasParents};
+ghost use Rattle.task_table.specs.Store.{IsLess};
+ghost use Rattle.task_table.specs.Whole.{HasParents};
 ghost use Rattle.ns_teardown.specs.Fall.{slot_at, member_after_fall, slot_after_fall, parent_falls_at, KeepsHomes};
 
 use pid_types::call::Kind;
+use pid_types::keys::{SpaceKey, TaskKey};
 use pid_types::plain::{Ended, Life};
-use store_view::laws;
-use task_store::TaskStore;
+use task_table::Tasks;
+use task_table::view::laws;
 use task_tree::Task;
 
 /// Whether the task goes with its parent: that is a member of the namespace, or it has gone.
-fn parent_falls(store: &TaskStore, space: u32, key: u32) -> bool
+fn parent_falls(store: &Tasks, space: SpaceKey, key: TaskKey) -> bool
     requires { key < length store.now.tree.tasks }
     ensures { result ≡ parent_falls_at store.now space key }
 {
@@ -29,7 +30,7 @@ fn parent_falls(store: &TaskStore, space: u32, key: u32) -> bool
 }
 
 /// The member ends in its place, if it lives: the init by its exit, and another one is killed.
-fn finish_member(store: &mut TaskStore, is_init: bool, status: u8, key: u32, task: Task)
+fn finish_member(store: &mut Tasks, is_init: bool, status: u8, key: TaskKey, task: Task)
     requires there { task_at store.old.tree key ≡ Some task }
     requires live { is_init ≡ true → lives task ≡ true }
     requires visible { (p : ℕ) → parent_of store.old.tree key ≡ Some p → (u : Identifier) × (identifier_at store.old.numbering p ≡ Some u) × IsSome (number_of store.old.numbering key u.space) }
@@ -50,7 +51,7 @@ fn finish_member(store: &mut TaskStore, is_init: bool, status: u8, key: u32, tas
 }
 
 /// The member goes with its parent, or ends in its place.
-fn end_member(store: &mut TaskStore, space: u32, init: u32, status: u8, key: u32)
+fn end_member(store: &mut Tasks, space: SpaceKey, init: TaskKey, status: u8, key: TaskKey)
     requires there { IsSome (task_at store.old.tree key) }
     requires live { key ≡ init → option_map_or lives (task_at store.old.tree key) false ≡ true }
     requires visible { (p : ℕ) → parent_of store.old.tree key ≡ Some p → IsSome (task_at store.old.tree p) → (u : Identifier) × (identifier_at store.old.numbering p ≡ Some u) × IsSome (number_of store.old.numbering key u.space) }
@@ -72,7 +73,7 @@ fn end_member(store: &mut TaskStore, space: u32, init: u32, status: u8, key: u32
 
 /// All members of the namespace end, in the order of their numbers there. Nothing is handed on: a member
 /// whose parent has gone already goes too.
-pub fn end_members(store: &mut TaskStore, space: u32, init: u32, status: u8)
+pub fn end_members(store: &mut Tasks, space: SpaceKey, init: TaskKey, status: u8)
     requires bound { HasGoodPidMax store.old.numbering.pid_max }
     requires live { option_map_or lives (task_at store.old.tree init) false ≡ true }
     requires parents { HasParents store.old }

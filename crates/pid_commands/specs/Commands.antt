@@ -13,7 +13,7 @@ use Rattle.pid_script.specs.Session.{ended_at, Finishes, Leaves}
 use Rattle.pid_script.specs.declared.job.JobFault.{JobFault}
 use Rattle.pid_script.specs.declared.tally.RunScriptFault.{RunScriptFault}
 use Rattle.pid_script.specs.declared.tally.Tally.{Tally}
-use Rattle.pid_jobs.specs.declared.run.RunFault.{RunFault}
+use Rattle.pid_workers.specs.declared.threads.RunFault.{RunFault}
 use Rattle.pid_words.specs.declared.words.Command.{Command}
 use Rattle.pid_words.specs.declared.words.Command.TheVariants as command
 use Rattle.pid_words.specs.declared.words.WordsFault.{WordsFault}

@@ -3,8 +3,8 @@ use Rattle.std.specs.Prelude.{ℕ, List, ◌++◌, codes, decimal, String, strin
 use Rattle.std.specs.declared.alloc.Global.{Global}
 use Rattle.pid_commands.specs.declared.fault.Fault.{Fault}
 use Rattle.pid_commands.specs.declared.fault.Fault.TheVariants.{Unreadable, TooLong, BadLine, Read, Write, TooManyTurns, NoMemory, Start, Audit}
-use Rattle.pid_jobs.specs.declared.run.RunFault.{RunFault}
-use Rattle.pid_jobs.specs.declared.run.RunFault.TheVariants as run
+use Rattle.pid_workers.specs.declared.threads.RunFault.{RunFault}
+use Rattle.pid_workers.specs.declared.threads.RunFault.TheVariants as run
 use Rattle.pid_script.specs.declared.job.JobFault.{JobFault}
 use Rattle.pid_script.specs.declared.job.JobFault.TheVariants as job
 use Rattle.pid_script.specs.declared.tally.RunScriptFault.{RunScriptFault}

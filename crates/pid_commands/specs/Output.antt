@@ -9,11 +9,11 @@ use Rattle.pid_types.specs.declared.call.Call.{Call}
 use Rattle.pid_types.specs.declared.entry.Receipt.{Receipt}
 use Rattle.pid_types.specs.declared.reply.Reply.{Reply}
 use Rattle.pid_types.specs.declared.plain.Plain.{Plain}
-use Rattle.locked_table.specs.Chronicle.{Chronicle}
-use Rattle.locked_table.specs.Promise.{KeepsPromise}
-use Rattle.pid_jobs.specs.Job.{Fulfils}
-use Rattle.pid_jobs.specs.Receipts.{IsAudited}
-use Rattle.pid_jobs.specs.declared.result.Work.{Work}
+use Rattle.kept_table.specs.Chronicle.{Chronicle}
+use Rattle.kept_table.specs.Promise.{KeepsPromise}
+use Rattle.pid_workers.specs.Job.{Fulfils}
+use Rattle.pid_workers.specs.Receipts.{IsAudited}
+use Rattle.pid_workers.specs.declared.result.Work.{Work}
 use Rattle.pid_script.specs.Script.{with_newline, start_of}
 use Rattle.pid_script.specs.Session.{ended_at, Finishes, Leaves}
 use Rattle.pid_script.specs.declared.tally.RunScriptFault.{RunScriptFault}

@@ -4,9 +4,9 @@ ghost use Rattle.std.specs.Io.KnownBytes.{Appends};
 ghost use Rattle.pid_script.specs.Script.{with_newline};
 ghost use Rattle.pid_commands.specs.Faults.{fault_line, of_job};
 
-use pid_jobs::RunFault;
 use pid_script::job::JobFault;
 use pid_script::tally::RunScriptFault;
+use pid_workers::RunFault;
 use std::alloc::AllocError;
 use std::error::Error;
 use std::io::Write;

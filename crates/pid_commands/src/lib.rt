@@ -6,13 +6,12 @@
 
 mod fault;
 mod jobs;
-mod lent;
 mod serve;
 mod show;
 mod status;
 
 pub use fault::{Fault, write_fault_line};
-pub use pid_jobs::JobFiles;
 pub use pid_words::{Command, WordsFault, read_words};
+pub use pid_workers::JobFiles;
 pub use serve::run_words;
 pub use status::{Status, say_fault, say_usage};

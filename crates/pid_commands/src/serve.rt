@@ -5,22 +5,22 @@ ghost use Rattle.std.specs.Io.KnownBytes.{Appends};
 ghost use Rattle.pid_script.specs.Script.{with_newline};
 ghost use Rattle.pid_words.specs.declared.words.Command.{Command};
 ghost use Rattle.pid_words.specs.declared.words.WordsFault.{WordsFault};
-ghost use Rattle.pid_jobs.specs.declared.run.RunFault.{RunFault};
+ghost use Rattle.pid_workers.specs.declared.threads.RunFault.{RunFault};
 ghost use Rattle.pid_commands.specs.Faults.{of_run};
 ghost use Rattle.pid_commands.specs.Output.{ListsScript, FailsToList, ShowsRun};
 ghost use Rattle.pid_commands.specs.Commands.{RunsScript, FailsToRun, RunsInput, FailsToRunInput, WritesList, FailsToWriteList, WritesRun, FailsToWriteRun, Does, Stops, Fails, Ends, IsSomeFile};
 
 use crate::fault::{Fault, write_fault_line};
 use crate::jobs::{Opens, read_jobs};
-use crate::lent::Lent;
 use crate::show::finished_text;
 use crate::status::{Status, write_usage_line};
-use pid_jobs::{Finished, JobFiles, OpenGate, run_workers};
 use pid_types::call::Call;
 use pid_types::config::Config;
-use pid_types::device::{DeviceFault, FromReader, Sink, Source};
+use pid_types::device::{Discard, FromReader, Source, ToWriter};
 use pid_words::{Command, WordsFault, read_words};
-use pid_workers::{MOST_READS, list_record, run, run_state};
+use pid_workers::{
+    Finished, JobFiles, MOST_READS, OpenGate, list_record, run, run_state, run_workers,
+};
 use std::alloc::Global;
 use std::io;
 use std::io::{Read, Write};
@@ -147,16 +147,16 @@ fn run_script<I: Read + Drop, O: Write>(
     ensures fault { IfErr result (FailsToRunInput MOST_READS config.now (I.remaining input) (O.contents output.old) (O.contents output.new)) }
 {
     let mut source = FromReader::new(input);
-    let mut sink = Lent::new(output);
-    run_lent::<Brand, _, _>(alloc, Blank::new(1), &mut source, &mut sink, config)
+    let mut sink = ToWriter::new(output);
+    run_to_writer::<Brand, _, _>(alloc, Blank::new(1), &mut source, &mut sink, config)
 }
 
 /// Writes the answers to the script of a source to a writer that is lent.
-fn run_lent<L: Ledger, S: Source, O: Write>(
+fn run_to_writer<L: Ledger, S: Source, O: Write>(
     alloc: Global,
     blank: Blank,
     source: &mut S,
-    sink: &mut Lent<'_, O>,
+    sink: &mut ToWriter<'_, O>,
     config: &Config,
 ) -> Result<(), Fault>
     requires name { blank.name ≡ L.name }
@@ -167,7 +167,7 @@ fn run_lent<L: Ledger, S: Source, O: Write>(
         (O.contents sink.old.writer.now) (O.contents sink.new.writer.now) (S.has_failed source.new)) }
     ensures same { sink.new.writer.ghost_name ≡ sink.old.writer.ghost_name }
 {
-    match run::<L, S, Lent<'_, O>>(alloc, blank, source, sink, config) {
+    match run::<L, S, ToWriter<'_, O>>(alloc, blank, source, sink, config) {
         Ok(_) => Ok(()),
         Err(fault) => Err(Fault::from(fault)),
     }
@@ -188,36 +188,6 @@ fn list_script<R: Threads + AllocGlobal, I: Read + Drop, O: Write>(
     match output.write_all(list.as_slice()) {
         Ok(()) => Ok(()),
         Err(_) => Err(Fault::Write),
-    }
-}
-
-/// A sink that takes all and keeps nothing.
-#[derive(Drop)]
-struct Discard;
-
-impl Sink for Discard {
-    ghost contents = { λ _. None };
-
-    ghost has_failed = { λ _. false };
-
-    ghost is_full = { λ _. false };
-
-    ghost did = { λ _ _ _. ⊤ };
-
-    ghost nothing = { λ _. tt };
-
-    ghost more = { λ _ _ _ _ _ _ _. tt };
-
-    ghost appended = { λ _ _ _ _. tt };
-
-    ghost kept = { λ _ _ _ _ _. (refl, refl) };
-
-    fn write(&mut self, buffer: &[u8]) -> Result<usize, DeviceFault> {
-        Ok(buffer.len())
-    }
-
-    fn failed(&self) -> bool {
-        false
     }
 }
 

@@ -10,10 +10,9 @@ ghost use Rattle.pid_script.specs.Script.{with_newline};
 ghost use Rattle.pid_commands.specs.Output.{receipt_line, work_lines, works_text};
 
 use locked_table::Record;
-use pid_jobs::Work;
 use pid_script::answer::answer_text;
 use pid_types::entry::Receipt;
-use pid_workers::list_record;
+use pid_workers::{Work, list_record};
 use std::alloc::AllocError;
 use std::io;
 use std::io::Write;

@@ -6,8 +6,8 @@ use Rattle.std.proofs.lemmas.Bool.{cases_eq, eq-eqb}
 use Rattle.std.proofs.lemmas.List.Folds.{list_any-append}
 use Rattle.pid_types.specs.Chains.{contains}
 use Rattle.slab.specs.Slab.{Slab, get}
-use Rattle.rising_ids.specs.Ids.{key_of, without, AreBelow}
-use Rattle.rising_ids.proofs.Keys.{key_of-push, key_of-new, key_of-kept}
+use Rattle.id_slab.specs.Ids.{key_of, without, AreBelow}
+use Rattle.id_slab.proofs.Keys.{key_of-push, key_of-new, key_of-kept}
 use Rattle.pid_numbers.specs.declared.spaces.Space.{Space}
 use Rattle.pid_numbers.specs.Numbering.{Namespace, moved, fallen_within}
 use Rattle.pid_numbers.specs.Slabs.{namespace_of, namespaces_of, id_on, dead_on, AreListed}

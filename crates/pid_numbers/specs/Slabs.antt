@@ -3,7 +3,7 @@ use Rattle.std.specs.Prelude.{◌≡◌, ◌≢◌, ◌⊎◌, ℕ, ◌+◌, ◌
 use Rattle.std.specs.Option.{option_map_or, option_eq}
 use Rattle.std.specs.List.{AllByRecursion}
 use Rattle.slab.specs.Slab.{Slab, get}
-use Rattle.rising_ids.specs.Ids.{key_of}
+use Rattle.id_slab.specs.Ids.{key_of}
 use Rattle.index_array.specs.Place.{Entry, entry_at, is_prepared, indexes}
 use Rattle.cyclic_ids.specs.Ids.{planned}
 use Rattle.pid_types.specs.Chains.{contains}

@@ -1,8 +1,11 @@
 //! The numbers of one identifier.
 
-ghost use Rattle.std.specs.Prelude.{◌≡◌, ◌<◌, ◌≤◌, length, reverse, take, IfOk, slice_index_or};
+ghost use Rattle.pid_types.specs.Bounds.{deepest_space};
+ghost use Rattle.std.specs.Prelude.{◌≡◌, ◌<◌, ◌≤◌, length, reverse, take, IfOk, slice_index_or, ◌+◌};
 
 use arrayvec::ArrayVec;
+use pid_types::keys::Pid;
+use pid_types::plain::LEVELS;
 use std::alloc::{AllocError, Global};
 use std::marker::Model;
 
@@ -11,8 +14,8 @@ use std::marker::Model;
 /// An identifier of the root namespace takes no memory beside this record.
 #[derive(Drop)]
 pub(crate) struct LevelNumbers {
-    inner: Vec<u32>,
-    root: u32,
+    inner: Vec<Pid>,
+    root: Pid,
 }
 
 impl Model for LevelNumbers {
@@ -25,7 +28,7 @@ impl Model for LevelNumbers {
 
 impl LevelNumbers {
     /// Keeps the numbers. The error is want of memory.
-    pub(crate) fn from(alloc: Global, numbers: &ArrayVec<u32, 33>) -> Result<Self, AllocError>
+    pub(crate) fn from(alloc: Global, numbers: &ArrayVec<Pid, LEVELS>) -> Result<Self, AllocError>
         requires { 0 < length numbers.now.items }
         ensures { IfOk result (λ r. r ≡ numbers.now.items) }
     {
@@ -41,7 +44,7 @@ impl LevelNumbers {
     }
 
     /// The number at a level, counted from the innermost.
-    pub(crate) fn at(&self, k: usize) -> u32
+    pub(crate) fn at(&self, k: usize) -> Pid
         requires { k < length self.now }
         ensures { result ≡ slice_index_or self.now k 0 }
     {
@@ -54,9 +57,9 @@ impl LevelNumbers {
 
     /// Writes the innermost numbers, so many, the outermost of them first.
     #[inline(always)]
-    pub(crate) fn write_inwards(&self, count: usize, numbers: &mut ArrayVec<u32, 33>)
+    pub(crate) fn write_inwards(&self, count: usize, numbers: &mut ArrayVec<Pid, LEVELS>)
         requires there { count ≤ length self.now }
-        requires few { count ≤ 33 }
+        requires few { count ≤ deepest_space + 1 }
         ensures { numbers.new.items ≡ reverse (take count self.now) }
     {
         numbers.clear();

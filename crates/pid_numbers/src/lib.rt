@@ -10,7 +10,7 @@
 
 ghost use Rattle.std.specs.Prelude.{◌≡◌, ◌≢◌, ℕ, ◌+◌, ◌<◌, ◌≤◌, ◌^◌, length, map, Some, None, IsSome, IsTrue, IfOk, IfErr, IfSome, OnOk, OnErr, MatchOption, option_map, find, is_none, unwrap_or, slice_index_or, is_some, reverse, true, false, [], ◌∷◌, ◌++◌, drop, nat_lt, if◌then◌else◌};
 ghost use Rattle.std.specs.List.{AllByRecursion, filter};
-ghost use Rattle.rising_ids.specs.Ids.{key_of, AreBelow, AreRising};
+ghost use Rattle.id_slab.specs.Ids.{key_of, AreBelow, AreRising};
 ghost use Rattle.pid_numbers.specs.Numbering.{Identifier, is_there, id_at, namespace_at, identifier_at, number_of, path_at, draw_in, moved, more, less, left_of, uses, is_used, is_used_as, swept_at, new_namespace, new_identifier, levels_of, fallen_within, taken_in, has_fallen_at, IsNextUsed, IsPlanFault};
 ghost use Rattle.pid_types.specs.Bounds.{deepest_space};
 ghost use Rattle.pid_types.specs.Chains.{contains};
@@ -24,18 +24,18 @@ mod spaces;
 
 use arrayvec::ArrayVec;
 use cyclic_ids::CyclicIds;
+use id_slab::{Iter, RisingIds, make_room};
 use levels::LevelNumbers;
 use names::{
     Ident, count_at, has_use, home_of, in_use, less_use, mark_numbers, more_use, number_at,
     write_numbers_inwards,
 };
 use pid_types::call::Kind;
-use pid_types::plain::Name;
+use pid_types::keys::{IdentKey, Pid, SpaceKey};
+use pid_types::plain::{DEEPEST_SPACE, LEVELS, Name};
 pub use plan::PlanFault;
 use plan::with_first;
-use rising_ids::{Iter, RisingIds};
 use slab::Slab;
-use slab_room::make_room;
 use spaces::{
     Space, add_space, cursor_at, fall_all, first_ids, give_path, has_fallen, id_at, is_inside,
     key_at, levels, look, next_at, path_below, plan_path, prepare_path, release_path, sweep_fallen,
@@ -91,7 +91,7 @@ impl Numbers {
         order.push(0, 0)?;
         let mut spaces = Slab::new(alloc);
         make_room(&mut spaces)?;
-        let mut path = ArrayVec::<u32, 33>::new();
+        let mut path = ArrayVec::<SpaceKey, LEVELS>::new();
         path.push(0);
         spaces.insert_reserved(Space {
             id: 0,
@@ -123,7 +123,7 @@ impl Numbers {
     /// The identifier that has the number in the namespace; none where the number is free. It costs one
     /// search in the namespace's tree of numbers.
     #[inline(always)]
-    pub fn find(&self, space: u32, n: u32) -> Option<u32>
+    pub fn find(&self, space: SpaceKey, n: Pid) -> Option<IdentKey>
         ensures { MatchOption result ((i : ℕ) → number_of self.now i space ≢ Some n) (λ i. number_of self.now i space ≡ Some n) }
     {
         look(&self.spaces, space, n)
@@ -173,35 +173,35 @@ impl Numbers {
     }
 
     /// The key of the namespace with an id. It costs a logarithm of the namespaces.
-    pub fn find_space(&self, id: u64) -> Option<u32>
+    pub fn find_space(&self, id: u64) -> Option<SpaceKey>
         ensures { MatchOption result ((s : ℕ) → id_at self.now s ≢ Some id) (λ s. id_at self.now s ≡ Some id) }
     {
         self.order.find(id)
     }
 
     /// The id of the namespace.
-    pub fn id(&self, space: u32) -> Option<u64>
+    pub fn id(&self, space: SpaceKey) -> Option<u64>
         ensures { result ≡ option_map (λ t. t.id) (namespace_at self.now space) }
     {
         id_at(&self.spaces, space)
     }
 
     /// Where the next draw in the namespace begins.
-    pub fn cursor(&self, space: u32) -> Option<u32>
+    pub fn cursor(&self, space: SpaceKey) -> Option<Pid>
         ensures { result ≡ option_map (λ t. t.cursor) (namespace_at self.now space) }
     {
         cursor_at(&self.spaces, space)
     }
 
     /// Whether the namespace is there and has fallen.
-    pub fn is_fallen(&self, space: u32) -> bool
+    pub fn is_fallen(&self, space: SpaceKey) -> bool
         ensures { result ≡ has_fallen_at self.now space }
     {
         has_fallen(&self.spaces, space)
     }
 
     /// How many namespaces are around the one with the key: 0 for the root.
-    pub fn level(&self, space: u32) -> usize
+    pub fn level(&self, space: SpaceKey) -> usize
         requires { IsSome (namespace_at self.now space) }
         ensures { result + 1 ≡ length (path_at self.now space) }
     {
@@ -209,14 +209,14 @@ impl Numbers {
     }
 
     /// Whether the first namespace is the second one or inside it.
-    pub fn is_within(&self, space: u32, outer: u32) -> bool
+    pub fn is_within(&self, space: SpaceKey, outer: SpaceKey) -> bool
         ensures { result ≡ contains (path_at self.now space) outer }
     {
         is_inside(&self.spaces, space, outer)
     }
 
     /// The namespace that the one with the key is in; none for the root.
-    pub fn parent(&self, space: u32) -> Option<u32>
+    pub fn parent(&self, space: SpaceKey) -> Option<SpaceKey>
         ensures { result ≡ if nat_lt 1 (length (path_at self.now space)) then Some (slice_index_or (path_at self.now space) 1 0) else None }
     {
         if levels(&self.spaces, space) > 1 {
@@ -227,21 +227,21 @@ impl Numbers {
     }
 
     /// The namespace of the identifier.
-    pub fn space_of(&self, ident: u32) -> Option<u32>
+    pub fn space_of(&self, ident: IdentKey) -> Option<SpaceKey>
         ensures { result ≡ option_map (λ u. u.space) (identifier_at self.now ident) }
     {
         home_of(&self.idents, ident)
     }
 
     /// Whether the identifier has a use of the kind.
-    pub fn has_use(&self, ident: u32, kind: Kind) -> bool
+    pub fn has_use(&self, ident: IdentKey, kind: Kind) -> bool
         ensures { result ≡ is_used_as kind (identifier_at self.now ident) }
     {
         has_use(&self.idents, ident, kind)
     }
 
     /// How many uses of the kind the identifier has; 0 where it is not there.
-    pub fn count(&self, ident: u32, kind: Kind) -> u64
+    pub fn count(&self, ident: IdentKey, kind: Kind) -> u64
         ensures { result ≡ option_map_or (uses kind) (identifier_at self.now ident) 0 }
     {
         count_at(&self.idents, ident, kind)
@@ -249,7 +249,7 @@ impl Numbers {
 
     /// The identifier's number in the namespace; none where it is not visible there. It costs a few
     /// reads at any level.
-    pub fn number_in(&self, ident: u32, space: u32) -> Option<u32>
+    pub fn number_in(&self, ident: IdentKey, space: SpaceKey) -> Option<Pid>
         ensures { result ≡ number_of self.now ident space }
     {
         let own = home_of(&self.idents, ident)?;
@@ -262,7 +262,7 @@ impl Numbers {
 
     /// The identifier's numbers from the namespace inwards, the one there first: `NSpid` of
     /// `proc_pid_status(5)`. There are none where it is not visible in the namespace.
-    pub fn levels_from(&self, ident: u32, space: u32) -> ArrayVec<u32, 33>
+    pub fn levels_from(&self, ident: IdentKey, space: SpaceKey) -> ArrayVec<Pid, LEVELS>
         ensures { result.items ≡ levels_of self.now ident space }
     {
         let Some(own) = home_of(&self.idents, ident) else {
@@ -280,7 +280,7 @@ impl Numbers {
     /// Writes the identifier's name over another: the id of its namespace, and its numbers, the root's first. It costs a few
     /// reads and a step for each level.
     #[inline(always)]
-    pub fn write_name(&self, ident: u32, name: &mut Name)
+    pub fn write_name(&self, ident: IdentKey, name: &mut Name)
         requires { IsSome (identifier_at self.now ident) }
         ensures space { IfSome (identifier_at self.now ident) (λ u. id_at self.now u.space ≡ Some name.new.space) }
         ensures numbers { IfSome (identifier_at self.now ident) (λ u. name.new.numbers.items ≡ reverse u.numbers) }
@@ -298,7 +298,7 @@ impl Numbers {
 
     /// The least number at or above `from` whose identifier has a use of the kind, in the namespace. It
     /// costs one search in the namespace's tree of numbers.
-    pub fn next_used(&self, space: u32, kind: Kind, from: u32) -> Option<u32>
+    pub fn next_used(&self, space: SpaceKey, kind: Kind, from: Pid) -> Option<Pid>
         ensures { IsNextUsed self.now kind space from result }
     {
         next_at(&self.spaces, space, kind, from)
@@ -307,7 +307,11 @@ impl Numbers {
     /// Writes the numbers that the namespace and those around it give next over others, innermost first, or
     /// answers the first namespace that has none to give. It costs one or two searches for each level.
     #[inline(always)]
-    pub fn plan_into(&self, space: u32, numbers: &mut ArrayVec<u32, 33>) -> Result<(), u32>
+    pub fn plan_into(
+        &self,
+        space: SpaceKey,
+        numbers: &mut ArrayVec<Pid, LEVELS>,
+    ) -> Result<(), SpaceKey>
         ensures ok { OnOk result ((find (λ s. is_none (draw_in self.now s)) (path_at self.now space) ≡ None)
             × (numbers.new.items ≡ map (λ s. unwrap_or (draw_in self.now s) 0) (path_at self.now space))) }
         ensures err { IfErr result (λ s. find (λ s. is_none (draw_in self.now s)) (path_at self.now space) ≡ Some s) }
@@ -316,7 +320,7 @@ impl Numbers {
     }
 
     /// The numbers of [`plan_into`](Numbers::plan_into) in a list of their own, of 33 places.
-    pub fn plan(&self, space: u32) -> Result<ArrayVec<u32, 33>, u32>
+    pub fn plan(&self, space: SpaceKey) -> Result<ArrayVec<Pid, LEVELS>, SpaceKey>
         ensures ok { IfOk result (λ numbers. (find (λ s. is_none (draw_in self.now s)) (path_at self.now space) ≡ None)
             × (numbers.items ≡ map (λ s. unwrap_or (draw_in self.now s) 0) (path_at self.now space))) }
         ensures err { IfErr result (λ s. find (λ s. is_none (draw_in self.now s)) (path_at self.now space) ≡ Some s) }
@@ -330,7 +334,7 @@ impl Numbers {
 
     /// Takes the memory for one identifier, and answers the key that the next one will have, which is below
     /// 2^30. The error is want of memory.
-    pub fn reserve(&mut self) -> Result<u32, AllocError>
+    pub fn reserve(&mut self) -> Result<IdentKey, AllocError>
         ensures same { self.new ≡ self.old }
         ensures next { IfOk result (λ key. (key ≡ self.new.next) × (key < 2 ^ 30)) }
     {
@@ -340,7 +344,11 @@ impl Numbers {
     /// Gives the planned numbers to a new identifier, which one task uses, and answers its key. The
     /// error is want of memory, and then nothing has changed.
     #[inline(always)]
-    pub fn draw(&mut self, space: u32, numbers: &ArrayVec<u32, 33>) -> Result<u32, AllocError>
+    pub fn draw(
+        &mut self,
+        space: SpaceKey,
+        numbers: &ArrayVec<Pid, LEVELS>,
+    ) -> Result<IdentKey, AllocError>
         requires there { IsSome (namespace_at self.old space) }
         requires all { find (λ s. is_none (draw_in self.old s)) (path_at self.old space) ≡ None }
         requires planned { numbers.now.items ≡ map (λ s. unwrap_or (draw_in self.old s) 0) (path_at self.old space) }
@@ -373,12 +381,12 @@ impl Numbers {
     ///
     /// The error is that the parent has the deepest level, 32 (`pid_namespaces(7)`, "Nesting PID
     /// namespaces"), or else the first namespace that has no number to give.
-    pub fn plan_new(&self, parent: u32) -> Result<ArrayVec<u32, 33>, PlanFault>
+    pub fn plan_new(&self, parent: SpaceKey) -> Result<ArrayVec<Pid, LEVELS>, PlanFault>
         ensures ok { IfOk result (λ numbers. (length (path_at self.now parent) ≤ deepest_space) × (find (λ s. is_none (draw_in self.now s)) (path_at self.now parent) ≡ None)
             × (numbers.items ≡ 1 ∷ map (λ s. unwrap_or (draw_in self.now s) 0) (path_at self.now parent))) }
         ensures err { IfErr result (λ fault. IsPlanFault self.now parent fault) }
     {
-        if levels(&self.spaces, parent) > 32 {
+        if levels(&self.spaces, parent) > DEEPEST_SPACE {
             return Err(PlanFault::TooDeep);
         }
         let mut around = ArrayVec::new();
@@ -393,10 +401,10 @@ impl Numbers {
     /// want of memory, and then nothing has changed.
     pub fn draw_new(
         &mut self,
-        parent: u32,
+        parent: SpaceKey,
         id: u64,
-        numbers: &ArrayVec<u32, 33>,
-    ) -> Result<(u32, u32), AllocError>
+        numbers: &ArrayVec<Pid, LEVELS>,
+    ) -> Result<(IdentKey, SpaceKey), AllocError>
         requires stands { option_map_or (λ t. t.fallen) (namespace_at self.old parent) true ≡ false }
         requires shallow { length (path_at self.old parent) ≤ deepest_space }
         requires above { AreBelow self.old.order id }
@@ -431,7 +439,7 @@ impl Numbers {
     }
 
     /// The namespace and all inside it have fallen. It costs a step for each namespace that is there.
-    pub fn fell(&mut self, space: u32)
+    pub fn fell(&mut self, space: SpaceKey)
         requires inner { space ≢ 0 }
         requires used { (s : ℕ) → contains (path_at self.old s) space ≡ true → 0 < length (taken_in self.old s) }
         ensures names { self.new.names ≡ self.old.names }
@@ -444,7 +452,7 @@ impl Numbers {
 
     /// One use more. The first of its kind costs a step for each level.
     #[inline(always)]
-    pub fn add_use(&mut self, ident: u32, kind: Kind)
+    pub fn add_use(&mut self, ident: IdentKey, kind: Kind)
         requires there { IsSome (identifier_at self.old ident) }
         requires few { IfSome (identifier_at self.old ident) (λ u. uses kind u + 1 < 2 ^ 64) }
         ensures here { (u : Identifier) → identifier_at self.old ident ≡ Some u → identifier_at self.new ident ≡ Some (more kind u) }
@@ -465,7 +473,7 @@ impl Numbers {
     /// has fallen goes with the last number in it, as the kernel frees a namespace with its last process
     /// (`namespaces(7)`, "Namespace lifetime"). The last use of a kind costs a step for each level.
     #[inline(always)]
-    pub fn drop_use(&mut self, ident: u32, kind: Kind)
+    pub fn drop_use(&mut self, ident: IdentKey, kind: Kind)
         requires { is_used_as kind (identifier_at self.old ident) ≡ true }
         ensures here { (u : Identifier) → identifier_at self.old ident ≡ Some u → identifier_at self.new ident ≡ left_of (less kind u) }
         ensures others { (j : ℕ) → j ≢ ident → identifier_at self.new j ≡ identifier_at self.old j }

@@ -2,6 +2,7 @@
 
 ghost use Rattle.std.specs.Prelude.{◌≡◌, ◌≢◌, ℕ, ◌+◌, ◌<◌, ◌≤◌, [], reverse, take, Some, IsSome, IfSome, true, ◌^◌, length, option_map, slice_index_or};
 ghost use Rattle.std.specs.Option.{option_map_or};
+ghost use Rattle.pid_types.specs.Bounds.{deepest_space};
 ghost use Rattle.pid_numbers.specs.Numbering.{Identifier, uses, less, more, is_used, is_used_as};
 ghost use Rattle.pid_numbers.specs.Slabs.{identifier_of, name_at, way, entry_on, touched, mark_of, namespaces_of, bound_on, IsDistinct};
 ghost use Rattle.index_array.specs.Place.{with_mark};
@@ -11,12 +12,14 @@ use crate::levels::LevelNumbers;
 use crate::spaces::{Space, mark_path};
 use arrayvec::ArrayVec;
 use pid_types::call::Kind;
+use pid_types::keys::{IdentKey, Pid, SpaceKey};
+use pid_types::plain::LEVELS;
 use slab::Slab;
 
 /// An identifier, and how many use it as what.
 #[derive(Drop)]
 pub(crate) struct Ident {
-    pub space: u32,
+    pub space: SpaceKey,
     pub numbers: LevelNumbers,
     pub tasks: u64,
     pub groups: u64,
@@ -71,7 +74,7 @@ fn raise(x: &mut Ident, kind: Kind)
 }
 
 /// The namespace of the identifier.
-pub(crate) fn home_of(idents: &Slab<Ident>, ident: u32) -> Option<u32>
+pub(crate) fn home_of(idents: &Slab<Ident>, ident: IdentKey) -> Option<SpaceKey>
     ensures { result ≡ option_map (λ u. u.space) (name_at idents.now ident) }
 {
     match idents.get(ident as usize) {
@@ -81,7 +84,7 @@ pub(crate) fn home_of(idents: &Slab<Ident>, ident: u32) -> Option<u32>
 }
 
 /// The identifier's number at a place of its path.
-pub(crate) fn number_at(idents: &Slab<Ident>, ident: u32, place: usize) -> Option<u32>
+pub(crate) fn number_at(idents: &Slab<Ident>, ident: IdentKey, place: usize) -> Option<Pid>
     requires { IfSome (name_at idents.now ident) (λ u. place < length u.numbers) }
     ensures { result ≡ option_map (λ u. slice_index_or u.numbers place 0) (name_at idents.now ident) }
 {
@@ -95,12 +98,12 @@ pub(crate) fn number_at(idents: &Slab<Ident>, ident: u32, place: usize) -> Optio
 #[inline(always)]
 pub(crate) fn write_numbers_inwards(
     idents: &Slab<Ident>,
-    ident: u32,
+    ident: IdentKey,
     count: usize,
-    numbers: &mut ArrayVec<u32, 33>,
+    numbers: &mut ArrayVec<Pid, LEVELS>,
 )
     requires there { IfSome (name_at idents.now ident) (λ u. count ≤ length u.numbers) }
-    requires few { count ≤ 33 }
+    requires few { count ≤ deepest_space + 1 }
     ensures { numbers.new.items ≡ option_map_or (λ u. reverse (take count u.numbers)) (name_at idents.now ident) [] }
 {
     match idents.get(ident as usize) {
@@ -110,7 +113,7 @@ pub(crate) fn write_numbers_inwards(
 }
 
 /// How many uses of the kind the identifier has.
-pub(crate) fn count_at(idents: &Slab<Ident>, ident: u32, kind: Kind) -> u64
+pub(crate) fn count_at(idents: &Slab<Ident>, ident: IdentKey, kind: Kind) -> u64
     ensures { result ≡ option_map_or (uses kind) (name_at idents.now ident) 0 }
 {
     match idents.get(ident as usize) {
@@ -120,7 +123,7 @@ pub(crate) fn count_at(idents: &Slab<Ident>, ident: u32, kind: Kind) -> u64
 }
 
 /// Whether the identifier has a use of the kind.
-pub(crate) fn has_use(idents: &Slab<Ident>, ident: u32, kind: Kind) -> bool
+pub(crate) fn has_use(idents: &Slab<Ident>, ident: IdentKey, kind: Kind) -> bool
     ensures { result ≡ is_used_as kind (name_at idents.now ident) }
 {
     match idents.get(ident as usize) {
@@ -130,7 +133,7 @@ pub(crate) fn has_use(idents: &Slab<Ident>, ident: u32, kind: Kind) -> bool
 }
 
 /// Whether the identifier has a use.
-pub(crate) fn in_use(idents: &Slab<Ident>, ident: u32) -> bool
+pub(crate) fn in_use(idents: &Slab<Ident>, ident: IdentKey) -> bool
     ensures { (u : Identifier) → name_at idents.now ident ≡ Some u → result ≡ is_used u }
 {
     match idents.get(ident as usize) {
@@ -140,7 +143,7 @@ pub(crate) fn in_use(idents: &Slab<Ident>, ident: u32) -> bool
 }
 
 /// One use less.
-pub(crate) fn less_use(idents: &mut Slab<Ident>, ident: u32, kind: Kind)
+pub(crate) fn less_use(idents: &mut Slab<Ident>, ident: IdentKey, kind: Kind)
     requires { is_used_as kind (name_at idents.old ident) ≡ true }
     ensures here { (u : Identifier) → name_at idents.old ident ≡ Some u → name_at idents.new ident ≡ Some (less kind u) }
     ensures others { (j : ℕ) → j ≢ ident → name_at idents.new j ≡ name_at idents.old j }
@@ -152,7 +155,7 @@ pub(crate) fn less_use(idents: &mut Slab<Ident>, ident: u32, kind: Kind)
 }
 
 /// One use more.
-pub(crate) fn more_use(idents: &mut Slab<Ident>, ident: u32, kind: Kind)
+pub(crate) fn more_use(idents: &mut Slab<Ident>, ident: IdentKey, kind: Kind)
     requires there { IsSome (name_at idents.old ident) }
     requires few { IfSome (name_at idents.old ident) (λ u. uses kind u + 1 < 2 ^ 64) }
     ensures here { (u : Identifier) → name_at idents.old ident ≡ Some u → name_at idents.new ident ≡ Some (more kind u) }
@@ -168,7 +171,7 @@ pub(crate) fn more_use(idents: &mut Slab<Ident>, ident: u32, kind: Kind)
 pub(crate) fn mark_numbers(
     spaces: &mut Slab<Space>,
     idents: &Slab<Ident>,
-    ident: u32,
+    ident: IdentKey,
     kind: Kind,
     on: bool,
 )

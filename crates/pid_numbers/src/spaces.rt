@@ -2,9 +2,10 @@
 
 ghost use Rattle.std.specs.Prelude.{◌≡◌, ◌≢◌, ℕ, ◌+◌, ◌<◌, ◌≤◌, length, map, option_map, Some, None, IsSome, IfOk, IfErr, IfSome, OnOk, OnErr, MatchOption, find, is_none, is_some, unwrap_or, slice_index_or, true, false, [], ◌∷◌, ◌++◌, ◌&&◌, ◌==◌, if◌then◌else◌, drop};
 ghost use Rattle.slab.specs.Slab.{get};
-ghost use Rattle.index_array.specs.Place.{Entry, entry_at, indexes, with_mark, is_marked, IsLeastIndex};
+ghost use Rattle.index_array.specs.Place.{index_count, Entry, entry_at, indexes, with_mark, is_marked, IsLeastIndex};
 ghost use Rattle.std.specs.List.{filter};
-ghost use Rattle.rising_ids.specs.Ids.{AreBelow};
+ghost use Rattle.id_slab.specs.Ids.{AreBelow};
+ghost use Rattle.pid_types.specs.Bounds.{deepest_space};
 ghost use Rattle.pid_numbers.specs.Slabs.{id_on, AreListed, way, fell, dead_on, left_on, entry_on, leads, plan_on, touched, given_to, ready, namespaces_of, namespace_on, bound_on, stepped, mark_of, IsTree, IsDistinct, ArePlanned, AreReady};
 ghost use Rattle.pid_numbers.specs.Numbering.{moved, fallen_within};
 ghost use Rattle.pid_types.specs.Settings.{HasGoodPidMax};
@@ -13,10 +14,11 @@ ghost use Rattle.pid_types.specs.Chains.{contains};
 use crate::levels::LevelNumbers;
 use arrayvec::ArrayVec;
 use cyclic_ids::{CyclicIds, GROUP_MARK, SESSION_MARK, TASK_MARK};
+use id_slab::{RisingIds, make_room};
 use pid_types::call::Kind;
-use rising_ids::RisingIds;
+use pid_types::keys::{IdentKey, Pid, SpaceKey};
+use pid_types::plain::LEVELS;
 use slab::Slab;
-use slab_room::make_room;
 use std::alloc::{AllocError, Global};
 
 /// A namespace, its numbers, and the keys of it and of those around it, innermost first.
@@ -24,8 +26,8 @@ use std::alloc::{AllocError, Global};
 pub(crate) struct Space {
     pub id: u64,
     pub fallen: bool,
-    pub path: ArrayVec<u32, 33>,
-    pub ids: CyclicIds<u32>,
+    pub path: ArrayVec<SpaceKey, LEVELS>,
+    pub ids: CyclicIds<IdentKey>,
 }
 
 /// The mark of a kind.
@@ -42,7 +44,7 @@ pub(crate) fn mark(kind: Kind) -> usize
 
 /// What a number leads to.
 #[inline(always)]
-pub(crate) fn look(spaces: &Slab<Space>, space: u32, n: u32) -> Option<u32>
+pub(crate) fn look(spaces: &Slab<Space>, space: SpaceKey, n: Pid) -> Option<IdentKey>
     ensures { result ≡ leads (entry_on spaces.now) space n }
 {
     match spaces.get(space as usize) {
@@ -52,9 +54,9 @@ pub(crate) fn look(spaces: &Slab<Space>, space: u32, n: u32) -> Option<u32>
 }
 
 /// The number of namespaces on the path.
-pub(crate) fn levels(spaces: &Slab<Space>, space: u32) -> usize
+pub(crate) fn levels(spaces: &Slab<Space>, space: SpaceKey) -> usize
     ensures value { result ≡ length (way spaces.now space) }
-    ensures few { result ≤ 33 }
+    ensures few { result ≤ deepest_space + 1 }
 {
     match spaces.get(space as usize) {
         Some(s) => s.path.len(),
@@ -63,7 +65,7 @@ pub(crate) fn levels(spaces: &Slab<Space>, space: u32) -> usize
 }
 
 /// One namespace of the path.
-pub(crate) fn key_at(spaces: &Slab<Space>, space: u32, k: usize) -> u32
+pub(crate) fn key_at(spaces: &Slab<Space>, space: SpaceKey, k: usize) -> SpaceKey
     requires { k < length (way spaces.now space) }
     ensures { result ≡ slice_index_or (way spaces.now space) k 0 }
 {
@@ -74,7 +76,7 @@ pub(crate) fn key_at(spaces: &Slab<Space>, space: u32, k: usize) -> u32
 }
 
 /// The number that the namespace gives next.
-pub(crate) fn plan_at(spaces: &Slab<Space>, space: u32) -> Option<u32>
+pub(crate) fn plan_at(spaces: &Slab<Space>, space: SpaceKey) -> Option<Pid>
     ensures { result ≡ plan_on spaces.now space }
 {
     match spaces.get(space as usize) {
@@ -87,9 +89,9 @@ pub(crate) fn plan_at(spaces: &Slab<Space>, space: u32) -> Option<u32>
 #[inline(always)]
 pub(crate) fn plan_path(
     spaces: &Slab<Space>,
-    space: u32,
-    numbers: &mut ArrayVec<u32, 33>,
-) -> Result<(), u32>
+    space: SpaceKey,
+    numbers: &mut ArrayVec<Pid, LEVELS>,
+) -> Result<(), SpaceKey>
     ensures ok { OnOk result ((find (λ s. is_none (plan_on spaces.now s)) (way spaces.now space) ≡ None)
         × (numbers.new.items ≡ map (λ s. unwrap_or (plan_on spaces.now s) 0) (way spaces.now space))) }
     ensures err { IfErr result (λ s. find (λ s. is_none (plan_on spaces.now s)) (way spaces.now space) ≡ Some s) }
@@ -107,7 +109,7 @@ pub(crate) fn plan_path(
 
 /// Takes the memory for a number that the namespace gives next.
 #[inline(always)]
-pub(crate) fn prepare_at(spaces: &mut Slab<Space>, key: u32, n: u32) -> Result<(), AllocError>
+pub(crate) fn prepare_at(spaces: &mut Slab<Space>, key: SpaceKey, n: Pid) -> Result<(), AllocError>
     requires { plan_on spaces.old key ≡ Some n }
     ensures ok { OnOk result (ready spaces.new key n ≡ true) }
     ensures ready { (s m : ℕ) → ready spaces.old s m ≡ true → ready spaces.new s m ≡ true }
@@ -127,8 +129,8 @@ pub(crate) fn prepare_at(spaces: &mut Slab<Space>, key: u32, n: u32) -> Result<(
 #[inline(always)]
 pub(crate) fn prepare_path(
     spaces: &mut Slab<Space>,
-    space: u32,
-    numbers: &[u32],
+    space: SpaceKey,
+    numbers: &[Pid],
 ) -> Result<(), AllocError>
     requires planned { ArePlanned spaces.old (way spaces.old space) numbers.now }
     requires len { length numbers.now ≡ length (way spaces.old space) }
@@ -148,7 +150,7 @@ pub(crate) fn prepare_path(
 
 /// Gives the planned number to a task.
 #[inline(always)]
-pub(crate) fn give_at(spaces: &mut Slab<Space>, key: u32, n: u32, value: u32)
+pub(crate) fn give_at(spaces: &mut Slab<Space>, key: SpaceKey, n: Pid, value: IdentKey)
     requires planned { plan_on spaces.old key ≡ Some n }
     requires ready { ready spaces.old key n ≡ true }
     ensures here { entry_on spaces.new key n ≡ given_to value }
@@ -166,7 +168,7 @@ pub(crate) fn give_at(spaces: &mut Slab<Space>, key: u32, n: u32, value: u32)
 
 /// Gives the planned numbers along a path to a task.
 #[inline(always)]
-pub(crate) fn give_path(spaces: &mut Slab<Space>, space: u32, numbers: &[u32], value: u32)
+pub(crate) fn give_path(spaces: &mut Slab<Space>, space: SpaceKey, numbers: &[Pid], value: IdentKey)
     requires distinct { IsDistinct (way spaces.old space) }
     requires planned { ArePlanned spaces.old (way spaces.old space) numbers.now }
     requires ready { AreReady spaces.old (way spaces.old space) numbers.now }
@@ -183,7 +185,7 @@ pub(crate) fn give_path(spaces: &mut Slab<Space>, space: u32, numbers: &[u32], v
 }
 
 /// Gives a number the mark of a kind, or takes it away.
-pub(crate) fn mark_at(spaces: &mut Slab<Space>, key: u32, n: u32, kind: Kind, on: bool)
+pub(crate) fn mark_at(spaces: &mut Slab<Space>, key: SpaceKey, n: Pid, kind: Kind, on: bool)
     ensures here { entry_on spaces.new key n ≡ with_mark (mark_of kind) on (entry_on spaces.old key n) }
     ensures same { (m : ℕ) → m ≢ n → entry_on spaces.new key m ≡ entry_on spaces.old key m }
     ensures others { (s : ℕ) → s ≢ key → get spaces.new s ≡ get spaces.old s }
@@ -205,7 +207,7 @@ pub(crate) fn mark_at(spaces: &mut Slab<Space>, key: u32, n: u32, kind: Kind, on
 /// Gives the numbers along a path the mark of a kind, or takes it away.
 pub(crate) fn mark_path(
     spaces: &mut Slab<Space>,
-    space: u32,
+    space: SpaceKey,
     numbers: &LevelNumbers,
     kind: Kind,
     on: bool,
@@ -225,7 +227,7 @@ pub(crate) fn mark_path(
 
 /// Makes a number free.
 #[inline(always)]
-pub(crate) fn release_at(spaces: &mut Slab<Space>, key: u32, n: u32)
+pub(crate) fn release_at(spaces: &mut Slab<Space>, key: SpaceKey, n: Pid)
     ensures here { entry_on spaces.new key n ≡ None }
     ensures same { (m : ℕ) → m ≢ n → entry_on spaces.new key m ≡ entry_on spaces.old key m }
     ensures others { (s : ℕ) → s ≢ key → get spaces.new s ≡ get spaces.old s }
@@ -241,7 +243,7 @@ pub(crate) fn release_at(spaces: &mut Slab<Space>, key: u32, n: u32)
 
 /// Makes the numbers along a path free.
 #[inline(always)]
-pub(crate) fn release_path(spaces: &mut Slab<Space>, space: u32, numbers: &LevelNumbers)
+pub(crate) fn release_path(spaces: &mut Slab<Space>, space: SpaceKey, numbers: &LevelNumbers)
     requires distinct { IsDistinct (way spaces.old space) }
     requires len { length numbers.now ≡ length (way spaces.old space) }
     ensures entries { (s n : ℕ) → entry_on spaces.new s n ≡ touched (way spaces.old space) numbers.now (λ _. None) (entry_on spaces.old) s n }
@@ -256,8 +258,8 @@ pub(crate) fn release_path(spaces: &mut Slab<Space>, space: u32, numbers: &Level
 }
 
 /// The least number from one on that has the mark of a kind.
-pub(crate) fn next_at(spaces: &Slab<Space>, space: u32, kind: Kind, from: u32) -> Option<u32>
-    ensures { IsLeastIndex (λ n. is_marked (mark_of kind) (entry_on spaces.now space n)) from 16777216 result }
+pub(crate) fn next_at(spaces: &Slab<Space>, space: SpaceKey, kind: Kind, from: Pid) -> Option<Pid>
+    ensures { IsLeastIndex (λ n. is_marked (mark_of kind) (entry_on spaces.now space n)) from index_count result }
 {
     match spaces.get(space as usize) {
         Some(s) => s.ids.next_marked(from, mark(kind)),
@@ -266,7 +268,7 @@ pub(crate) fn next_at(spaces: &Slab<Space>, space: u32, kind: Kind, from: u32) -
 }
 
 /// The id of the namespace.
-pub(crate) fn id_at(spaces: &Slab<Space>, space: u32) -> Option<u64>
+pub(crate) fn id_at(spaces: &Slab<Space>, space: SpaceKey) -> Option<u64>
     ensures { result ≡ option_map (λ t. t.id) (namespace_on spaces.now space) }
 {
     match spaces.get(space as usize) {
@@ -276,7 +278,7 @@ pub(crate) fn id_at(spaces: &Slab<Space>, space: u32) -> Option<u64>
 }
 
 /// Where the next draw in the namespace begins.
-pub(crate) fn cursor_at(spaces: &Slab<Space>, space: u32) -> Option<u32>
+pub(crate) fn cursor_at(spaces: &Slab<Space>, space: SpaceKey) -> Option<Pid>
     ensures { result ≡ option_map (λ t. t.cursor) (namespace_on spaces.now space) }
 {
     match spaces.get(space as usize) {
@@ -286,7 +288,7 @@ pub(crate) fn cursor_at(spaces: &Slab<Space>, space: u32) -> Option<u32>
 }
 
 /// Whether the namespace is there and has fallen.
-pub(crate) fn has_fallen(spaces: &Slab<Space>, space: u32) -> bool
+pub(crate) fn has_fallen(spaces: &Slab<Space>, space: SpaceKey) -> bool
     ensures { result ≡ fell spaces.now space }
 {
     match spaces.get(space as usize) {
@@ -296,10 +298,10 @@ pub(crate) fn has_fallen(spaces: &Slab<Space>, space: u32) -> bool
 }
 
 /// The path of the namespace.
-fn path_of(spaces: &Slab<Space>, space: u32) -> ArrayVec<u32, 33>
+fn path_of(spaces: &Slab<Space>, space: SpaceKey) -> ArrayVec<SpaceKey, LEVELS>
     ensures { result.items ≡ way spaces.now space }
 {
-    let mut path = ArrayVec::<u32, 33>::new();
+    let mut path = ArrayVec::<SpaceKey, LEVELS>::new();
     for k in 0..levels(spaces, space) {
         path.push(key_at(spaces, space, k));
     }
@@ -314,7 +316,7 @@ fn is_dead(space: &Space) -> bool
 }
 
 /// Drops the namespace, where it is dead.
-fn drop_dead(spaces: &mut Slab<Space>, order: &mut RisingIds, key: u32)
+fn drop_dead(spaces: &mut Slab<Space>, order: &mut RisingIds, key: SpaceKey)
     requires listed { AreListed (id_on spaces.old) order.old }
     ensures here { get spaces.new key ≡ if dead_on spaces.old key then None else get spaces.old key }
     ensures others { (s : ℕ) → s ≢ key → get spaces.new s ≡ get spaces.old s }
@@ -333,7 +335,7 @@ fn drop_dead(spaces: &mut Slab<Space>, order: &mut RisingIds, key: u32)
 }
 
 /// Drops the dead namespaces of the path.
-fn sweep_path(spaces: &mut Slab<Space>, order: &mut RisingIds, path: &ArrayVec<u32, 33>)
+fn sweep_path(spaces: &mut Slab<Space>, order: &mut RisingIds, path: &ArrayVec<SpaceKey, LEVELS>)
     requires listed { AreListed (id_on spaces.old) order.old }
     ensures left { (s : ℕ) → get spaces.new s ≡ left_on path.now.items spaces.old s }
     ensures order { order.new ≡ filter (λ p. is_some (get spaces.new p.1)) order.old }
@@ -345,7 +347,7 @@ fn sweep_path(spaces: &mut Slab<Space>, order: &mut RisingIds, path: &ArrayVec<u
 }
 
 /// Drops the dead namespaces on the path of a namespace that has fallen. On that of one that stands none is dead.
-pub(crate) fn sweep_fallen(spaces: &mut Slab<Space>, order: &mut RisingIds, space: u32)
+pub(crate) fn sweep_fallen(spaces: &mut Slab<Space>, order: &mut RisingIds, space: SpaceKey)
     requires listed { AreListed (id_on spaces.old) order.old }
     ensures left { (s : ℕ) → get spaces.new s ≡ left_on (if fell spaces.old space then way spaces.old space else []) spaces.old s }
     ensures order { order.new ≡ filter (λ p. is_some (get spaces.new p.1)) order.old }
@@ -359,11 +361,15 @@ pub(crate) fn sweep_fallen(spaces: &mut Slab<Space>, order: &mut RisingIds, spac
 }
 
 /// The path of a new namespace below the parent.
-pub(crate) fn path_below(spaces: &Slab<Space>, key: u32, parent: u32) -> ArrayVec<u32, 33>
-    requires { length (way spaces.now parent) < 33 }
+pub(crate) fn path_below(
+    spaces: &Slab<Space>,
+    key: SpaceKey,
+    parent: SpaceKey,
+) -> ArrayVec<SpaceKey, LEVELS>
+    requires { length (way spaces.now parent) < deepest_space + 1 }
     ensures { result.items ≡ key ∷ way spaces.now parent }
 {
-    let mut path = ArrayVec::<u32, 33>::new();
+    let mut path = ArrayVec::<SpaceKey, LEVELS>::new();
     path.push(key);
     for k in 0..levels(spaces, parent) {
         path.push(key_at(spaces, parent, k));
@@ -375,11 +381,11 @@ pub(crate) fn path_below(spaces: &Slab<Space>, key: u32, parent: u32) -> ArrayVe
 pub(crate) fn add_space(
     spaces: &mut Slab<Space>,
     order: &mut RisingIds,
-    parent: u32,
+    parent: SpaceKey,
     id: u64,
-    ids: CyclicIds<u32>,
-) -> Result<u32, AllocError>
-    requires few { length (way spaces.old parent) < 33 }
+    ids: CyclicIds<IdentKey>,
+) -> Result<SpaceKey, AllocError>
+    requires few { length (way spaces.old parent) < deepest_space + 1 }
     requires above { AreBelow order.old id }
     ensures vacant { IfOk result (λ key. get spaces.old key ≡ None) }
     ensures here { IfOk result (λ key. namespace_on spaces.new key ≡ Some (record { id = id; fallen = false; path = key ∷ way spaces.old parent; cursor = ids.cursor })) }
@@ -407,8 +413,8 @@ pub(crate) fn add_space(
 pub(crate) fn first_ids(
     alloc: Global,
     pid_max: u32,
-    value: u32,
-) -> Result<CyclicIds<u32>, AllocError>
+    value: IdentKey,
+) -> Result<CyclicIds<IdentKey>, AllocError>
     requires { HasGoodPidMax pid_max }
     ensures here { IfOk result (λ ids. entry_at ids.places 1 ≡ given_to value) }
     ensures others { IfOk result (λ ids. (n : ℕ) → n ≢ 1 → entry_at ids.places n ≡ None) }
@@ -422,7 +428,7 @@ pub(crate) fn first_ids(
 }
 
 /// Whether the namespace is the other one or inside it.
-pub(crate) fn is_inside(spaces: &Slab<Space>, key: u32, outer: u32) -> bool
+pub(crate) fn is_inside(spaces: &Slab<Space>, key: SpaceKey, outer: SpaceKey) -> bool
     requires { IsTree (way spaces.now) }
     ensures { result ≡ contains (way spaces.now key) outer }
 {
@@ -438,7 +444,7 @@ pub(crate) fn is_inside(spaces: &Slab<Space>, key: u32, outer: u32) -> bool
 }
 
 /// The namespace has fallen, if it is the other one or inside it.
-fn fall_at(spaces: &mut Slab<Space>, key: u32, outer: u32)
+fn fall_at(spaces: &mut Slab<Space>, key: SpaceKey, outer: SpaceKey)
     requires { IsTree (way spaces.old) }
     ensures here { namespace_on spaces.new key ≡ option_map (fallen_within outer) (namespace_on spaces.old key) }
     ensures others { (s : ℕ) → s ≢ key → get spaces.new s ≡ get spaces.old s }
@@ -456,7 +462,7 @@ fn fall_at(spaces: &mut Slab<Space>, key: u32, outer: u32)
 }
 
 /// The namespace and all inside it have fallen.
-pub(crate) fn fall_all(spaces: &mut Slab<Space>, order: &RisingIds, outer: u32)
+pub(crate) fn fall_all(spaces: &mut Slab<Space>, order: &RisingIds, outer: SpaceKey)
     requires tree { IsTree (way spaces.old) }
     requires listed { AreListed (id_on spaces.old) order.now }
     ensures namespaces { (s : ℕ) → namespace_on spaces.new s ≡ option_map (fallen_within outer) (namespace_on spaces.old s) }

@@ -44,24 +44,6 @@ call_leads state stamp tally call (Err Spent) reply state' stamp' tally' acts li
       (same_progress _ _ _ _ _ _ _ _ _ _ _ _ _ _ (sym acts.1) (sym acts.2) refl refl (sym lines) (sym recorded) (sym bad))),
 )
 
--- a call that found no memory, after which room was made in vain
-pub starved_acts : (state : State) (stamp : ℕ) (call : Call) (made : Result Unit CallFault) (held held' : Option Reply) (state' state'' : State) (stamp' stamp'' : ℕ) → made ≡ Err NoMemory → state'' ≡ state' → stamp'' ≡ stamp'
-    → Acts state stamp call (replied made held) state' stamp' → Acts state stamp call (replied made held') state'' stamp''
-starved_acts state stamp call made held held' state' state'' stamp' stamp'' is same on acts =
-    let found : Acts state stamp call (Err NoMemory) state' stamp' = subst (λ (m : Result Unit CallFault). Acts state stamp call (replied m held) state' stamp') is acts in
-    subst (λ (m : Result Unit CallFault). Acts state stamp call (replied m held') state'' stamp'') (sym is) (found.0, same ∙ found.1, on ∙ found.2)
-
--- and left the table as it was
-pub starved_same : (state : State) (stamp : ℕ) (call : Call) (made : Result Unit CallFault) (held : Option Reply) (state' : State) (stamp' : ℕ) → made ≡ Err NoMemory
-    → Acts state stamp call (replied made held) state' stamp' → (state' ≡ state) × (stamp' ≡ stamp)
-starved_same state stamp call made held state' stamp' is acts =
-    let found : Acts state stamp call (Err NoMemory) state' stamp' = subst (λ (m : Result Unit CallFault). Acts state stamp call (replied m held) state' stamp') is acts in
-    (found.1, found.2)
-
--- and it made none
-pub starved_made : (call : Call) (made : Result Unit CallFault) (held : Option Reply) → made ≡ Err NoMemory → made_by call (replied made held) ≡ []
-starved_made call made held is = ap (λ (m : Result Unit CallFault). made_by call (replied m held)) is
-
 -- an empty line, and a bad one
 pub empty_leads : (state : State) (stamp : ℕ) (tally tally' : Tally) → tally'.lines ≡ tally.lines + 1 → tally'.recorded ≡ tally.recorded → tally'.bad ≡ tally.bad
     → Leads state stamp tally says.Empty [] [] state stamp tally'
@@ -219,19 +201,6 @@ Answers-same p q IsSent AreMade xs ys same answers = subst (Answers p q IsSent A
 
 pub StopsShort-same : (p : Progress) (IsSent : List ℕ → Type 0) (xs ys : List Line) → xs ≡ ys → StopsShort p IsSent xs → StopsShort p IsSent ys
 StopsShort-same p IsSent xs ys same stops = subst (StopsShort p IsSent) same stops
-
--- what leads on from where nothing has changed leads on from before that
-pub Answers-unchanged : {k m : List (Call × Reply) → Type 0} (state state' : State) (stamp stamp' : ℕ) (tally : Tally) (held : List ℕ) (q : Progress) (IsSent : List ℕ → Type 0) (lines : List Line) → state' ≡ state → stamp' ≡ stamp
-    → ((calls : List (Call × Reply)) → k calls → m calls) → Answers (progress_of state' stamp' tally held) q IsSent k lines → Answers (progress_of state stamp tally held) q IsSent m lines
-Answers-unchanged state state' stamp stamp' tally held q IsSent lines same on so answers = record {
-  sent = answers.sent;
-  calls = answers.calls;
-  script = answers.script;
-  says = answers.says;
-  appended = answers.appended;
-  made = so answers.calls answers.made;
-  reached = answers.reached ∙ (λ i. after_script (progress_of (same i) (on i) tally held) answers.script);
-}
 
 -- what waits is sent
 pub Answers-sent : (state : State) (stamp : ℕ) (tally : Tally) (held : List ℕ) (IsSent : List ℕ → Type 0) (AreMade : List (Call × Reply) → Type 0) → IsSent held → AreMade []

@@ -368,23 +368,23 @@ fn read_line(line: &[u8]) -> Line
 ///
 /// | Line | Call |
 /// |---|---|
-/// | `fork P`, `fork P new` | [`Call::Fork`] |
-/// | `exec P` | [`Call::Exec`] |
-/// | `exit P S` | [`Call::Exit`] |
-/// | `wait P any`, `wait P pid P`, `wait P own`, `wait P group P` | [`Call::Wait`] |
-/// | `setpgid P G G` | [`Call::SetPgid`] |
-/// | `setsid P` | [`Call::SetSid`] |
-/// | `getpid P`, `getppid P` | [`Call::GetPid`], [`Call::GetPpid`] |
-/// | `getpgid P P`, `getsid P P`, `nspid P P` | [`Call::GetPgid`], [`Call::GetSid`], [`Call::NsPid`] |
-/// | `next P task P`, `next P group P`, `next P session P` | [`Call::Next`] |
+/// | `fork C`, `fork C new` | [`Call::Fork`] |
+/// | `exec C` | [`Call::Exec`] |
+/// | `exit C S` | [`Call::Exit`] |
+/// | `wait C any`, `wait C pid P`, `wait C own`, `wait C group P` | [`Call::Wait`] |
+/// | `setpgid C G G` | [`Call::SetPgid`] |
+/// | `setsid C` | [`Call::SetSid`] |
+/// | `getpid C`, `getppid C` | [`Call::GetPid`], [`Call::GetPpid`] |
+/// | `getpgid C P`, `getsid C P`, `nspid C P` | [`Call::GetPgid`], [`Call::GetSid`], [`Call::NsPid`] |
+/// | `next C task P`, `next C group P`, `next C session P` | [`Call::Next`] |
 /// | `mk I`, `rm I` | [`Call::MakeControl`], [`Call::RemoveControl`] |
-/// | `limit I P`, `limit I max` | [`Call::SetLimit`] |
-/// | `move P I` | [`Call::Move`] |
+/// | `limit I N`, `limit I max` | [`Call::SetLimit`] |
+/// | `move T I` | [`Call::Move`] |
 /// | `count I` | [`Call::Count`] |
-/// | `join P P` | [`Call::Join`] |
-/// | `subreaper P on`, `subreaper P off` | [`Call::SetSubreaper`] |
+/// | `join C P` | [`Call::Join`] |
+/// | `subreaper C on`, `subreaper C off` | [`Call::SetSubreaper`] |
 ///
-/// `P` is a `u32`, `S` a `u8`, `I` a `u64` and `G` an `i32`. The cost is linear in the line.
+/// `C`, `T`, `P` and `N` are a `u32`, `S` is a `u8`, `I` a `u64` and `G` an `i32`. The cost is linear in the line.
 #[inline(always)]
 pub fn parse_line(line: &[u8]) -> Line
     ensures value { result ≡ parsed line.now }

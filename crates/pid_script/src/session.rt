@@ -46,13 +46,6 @@ pub trait Table {
     fn reply(&self) -> Option<&Reply>
         ensures { option_copied result ≡ held self.now };
 
-    /// Makes room after a call that found no memory, if it can, and says whether the call may be made
-    /// once more. The table stays as it is.
-    fn make_room(&mut self) -> bool
-        ensures state { state self.new ≡ state self.old }
-        ensures stamp { stamp self.new ≡ stamp self.old }
-        ensures did { did self.old self.new [] };
-
     ghost nothing: { (a : Self) → did a a [] };
 
     ghost more: { (a b c : Self) (xs ys : List (Call × Reply)) → did a b xs → did b c ys → did a c (xs ++ ys) };
@@ -119,38 +112,7 @@ fn tell_answer<T: Table, K: Sink>(
     session.outbox.push_answer(sink, answer_held(table, made))
 }
 
-/// Makes a call once, and answers it.
-fn answer_once<T: Table, K: Sink>(
-    session: &mut Session,
-    table: &mut T,
-    sink: &mut K,
-    call: Call,
-) -> Result<(), RunScriptFault>
-    requires counted { IsTallied session.old.tally }
-    requires room { session.old.tally.lines + 1 < 2 ^ 64 }
-    ensures ok { OnOk result (Answers (progress_of (T.state table.old) (T.stamp table.old) session.old.tally session.old.outbox)
-        (progress_of (T.state table.new) (T.stamp table.new) session.new.tally session.new.outbox)
-        (Sends (K.did sink.old sink.new)) (T.did table.old table.new) (Line.Call call ∷ [])) }
-    ensures err { OnErr result (StopsShort (progress_of (T.state table.old) (T.stamp table.old) session.old.tally session.old.outbox)
-        (Stalls (K.did sink.old sink.new)) (Line.Call call ∷ [])) }
-    ensures fault { IfErr result (λ e. e ≡ Write) }
-    ensures stopped { OnErr result (HasStopped (K.has_failed sink.new) (K.is_full sink.new)) }
-    ensures part { session.new.part ≡ session.old.part }
-    ensures counted { IsTallied session.new.tally }
-    ensures lines { session.new.tally.lines ≡ session.old.tally.lines + 1 }
-{
-    let made = table.act(call);
-    tell_answer(session, table, sink, made)
-}
-
-/// Whether a call found no memory.
-fn is_starved(made: Result<(), CallFault>) -> bool
-    ensures { IsTrue result → made ≡ Err CallFault.NoMemory }
-{
-    matches!(made, Err(CallFault::NoMemory))
-}
-
-/// Makes a call, once more where it found no memory and the table has made room, and answers it.
+/// Makes a call, and answers it.
 #[inline(always)]
 fn answer_call<T: Table, K: Sink>(
     session: &mut Session,
@@ -172,12 +134,6 @@ fn answer_call<T: Table, K: Sink>(
     ensures lines { session.new.tally.lines ≡ session.old.tally.lines + 1 }
 {
     let made = table.act(call);
-    if !is_starved(made) {
-        return tell_answer(session, table, sink, made);
-    }
-    if table.make_room() {
-        return answer_once(session, table, sink, call);
-    }
     tell_answer(session, table, sink, made)
 }
 
@@ -312,10 +268,9 @@ impl Session {
 ///
 /// A line ends at a newline; what follows the last newline is a line if it has a byte. An empty
 /// line is answered with nothing, a call with [`crate::answer::answer_text`], and each other line,
-/// also one of more than [`crate::part::LONGEST_LINE`] bytes, with `bad line`. A call that found no
-/// memory is made once more where [`Table::make_room`] says so. The answers of all lines that have
-/// ended are written before the next read, so whoever drives the script by a pipe may wait for them.
-/// A read asks for at most 4096 bytes, and there are at most `turns`.
+/// also one of more than [`crate::part::LONGEST_LINE`] bytes, with `bad line`. The answers of all lines
+/// that have ended are written before the next read, so whoever drives the script by a pipe may wait for
+/// them. A read asks for at most 4096 bytes, and there are at most `turns`.
 ///
 /// `Read` comes where the source has failed, `Write` where the sink has failed or took nothing of a
 /// write, and `TooManyTurns` where `turns` reads did not find the end of the source; what is

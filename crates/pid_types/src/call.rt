@@ -1,17 +1,19 @@
 //! What may be asked of the table.
 
+use crate::keys::Pid;
+
 /// The children that a [`Call::Wait`] selects, after `waitpid(2)`.
 #[derive(Clone, Copy, Debug, PartialEq, Eq)]
 pub enum Which {
     /// Any child (`pid` -1 of `waitpid`).
     Any,
     /// The child with this number in the caller's namespace. 0 matches no child.
-    Pid(u32),
+    Pid(Pid),
     /// The children in the caller's own process group (`pid` 0 of `waitpid`).
     OwnGroup,
     /// The children in the process group with this number in the caller's namespace. 0 matches no
     /// child.
-    Group(u32),
+    Group(Pid),
 }
 
 /// What a number may be in use as.
@@ -33,25 +35,25 @@ pub enum Kind {
 #[derive(Clone, Copy, Debug, PartialEq, Eq)]
 pub enum Call {
     /// `fork(2)`; with `new_space`, `clone(2)` with `CLONE_NEWPID`.
-    Fork { caller: u32, new_space: bool },
+    Fork { caller: Pid, new_space: bool },
     /// `getpid(2)`.
-    GetPid { caller: u32 },
+    GetPid { caller: Pid },
     /// The target's numbers from the caller's namespace inwards: `NSpid` of `proc_pid_status(5)`.
     /// A `target` of 0 names nobody.
-    NsPid { caller: u32, target: u32 },
+    NsPid { caller: Pid, target: Pid },
     /// `execve(2)`, as far as `setpgid(2)` minds it.
-    Exec { caller: u32 },
+    Exec { caller: Pid },
     /// `_exit(2)`.
-    Exit { caller: u32, status: u8 },
+    Exit { caller: Pid, status: u8 },
     /// `waitpid(2)` with `WNOHANG`.
-    Wait { caller: u32, which: Which },
+    Wait { caller: Pid, which: Which },
     /// `getppid(2)`.
-    GetPpid { caller: u32 },
+    GetPpid { caller: Pid },
     /// `setpgid(2)`. A `pid` of 0 is the caller, a negative one names nobody; a `pgid` of 0 is the
     /// target.
-    SetPgid { caller: u32, pid: i32, pgid: i32 },
+    SetPgid { caller: Pid, pid: i32, pgid: i32 },
     /// `setsid(2)`.
-    SetSid { caller: u32 },
+    SetSid { caller: Pid },
     /// A new control group below `parent`: `mkdir(2)` in a control group file system.
     MakeControl { parent: u64 },
     /// `rmdir(2)` of a control group.
@@ -59,18 +61,18 @@ pub enum Call {
     /// A write to `pids.max`. No limit is `max`.
     SetLimit { id: u64, limit: Option<u32> },
     /// A write of the task to `cgroup.procs`.
-    Move { task: u32, id: u64 },
+    Move { task: Pid, id: u64 },
     /// A read of `pids.current`.
     Count { id: u64 },
     /// `getpgid(2)`. A `pid` of 0 is the caller.
-    GetPgid { caller: u32, pid: u32 },
+    GetPgid { caller: Pid, pid: Pid },
     /// `getsid(2)`. A `pid` of 0 is the caller.
-    GetSid { caller: u32, pid: u32 },
+    GetSid { caller: Pid, pid: Pid },
     /// The least number at or above `from` that is in use as the kind, in the caller's namespace.
-    Next { caller: u32, kind: Kind, from: u32 },
+    Next { caller: Pid, kind: Kind, from: Pid },
     /// `setns(2)` with `CLONE_NEWPID`: later children go into the target's namespace. A `target` of
     /// 0 names nobody.
-    Join { caller: u32, target: u32 },
+    Join { caller: Pid, target: Pid },
     /// `prctl(2)` with `PR_SET_CHILD_SUBREAPER`.
-    SetSubreaper { caller: u32, on: bool },
+    SetSubreaper { caller: Pid, on: bool },
 }

@@ -243,20 +243,23 @@ impl<R: Read + Drop> Source for FromReader<R> {
     }
 }
 
-/// A writer of std as a [`Sink`]. An error of any kind is a fault.
+/// A writer of std that is lent, as a [`Sink`]. An error of any kind is a fault. That it is the same writer all along
+/// is part of what is known of each write, so that its owner learns what it holds.
 #[derive(Drop)]
-pub struct ToWriter<W: Write + Drop> {
-    writer: W,
+pub struct ToWriter<'a, W: Write> {
+    pub writer: &'a mut W,
     failed: bool,
     full: bool,
 }
 
-impl<W: Write + Drop> ToWriter<W> {
+impl<'a, W: Write> ToWriter<'a, W> {
     /// The writer, which has not failed and is not full.
-    pub fn new(writer: W) -> Self
-        ensures bytes { ⟦<ToWriter<W> as Sink>⟧.contents result ≡ W.contents writer }
-        ensures whole { ⟦<ToWriter<W> as Sink>⟧.has_failed result ≡ false }
-        ensures room { ⟦<ToWriter<W> as Sink>⟧.is_full result ≡ false }
+    pub fn new(writer: &'a mut W) -> ToWriter<'a, W>
+        ensures same { result.writer.ghost_name ≡ writer.entry.ghost_name }
+        ensures now { result.writer.now ≡ writer.old }
+        ensures bytes { ⟦<ToWriter<'a, W> as Sink>⟧.contents result ≡ W.contents writer.old }
+        ensures whole { ⟦<ToWriter<'a, W> as Sink>⟧.has_failed result ≡ false }
+        ensures room { ⟦<ToWriter<'a, W> as Sink>⟧.is_full result ≡ false }
     {
         ToWriter {
             writer,
@@ -266,25 +269,27 @@ impl<W: Write + Drop> ToWriter<W> {
     }
 }
 
-impl<W: Write + Drop> Sink for ToWriter<W> {
+impl<W: Write> Sink for ToWriter<'_, W> {
     ghost use Rattle.pid_types.specs.Devices.{Gave};
     ghost use Rattle.pid_types.specs.DeviceLaws.{Gave-nothing, Gave-more};
+    ghost use Rattle.std.proofs.Common.{◌∙◌, refl};
 
-    ghost contents = { λ s. W.contents s.writer };
+    ghost contents = { λ s. W.contents s.writer.now };
 
     ghost has_failed = { λ s. s.failed };
 
     ghost is_full = { λ s. s.full };
 
-    ghost did = { λ a b. Gave (W.contents a.writer) (W.contents b.writer) a.failed b.failed a.full b.full };
+    ghost did = { λ a b es. (b.writer.ghost_name ≡ a.writer.ghost_name)
+        × Gave (W.contents a.writer.now) (W.contents b.writer.now) a.failed b.failed a.full b.full es };
 
-    ghost nothing = { λ a. Gave-nothing _ _ _ };
+    ghost nothing = { λ a. (refl, Gave-nothing _ _ _) };
 
-    ghost more = { λ a b c xs ys. Gave-more _ _ _ _ _ _ _ _ _ xs ys };
+    ghost more = { λ a b c xs ys first second. (second.0 ∙ first.0, Gave-more _ _ _ _ _ _ _ _ _ xs ys first.1 second.1) };
 
-    ghost appended = { λ a b xs gave. gave.appended };
+    ghost appended = { λ a b es did. did.1.appended };
 
-    ghost kept = { λ a b xs gave. gave.kept };
+    ghost kept = { λ a b es did. did.1.kept };
 
     fn write(&mut self, buffer: &[u8]) -> Result<usize, DeviceFault> {
         match self.writer.write(buffer) {
@@ -303,5 +308,37 @@ impl<W: Write + Drop> Sink for ToWriter<W> {
 
     fn failed(&self) -> bool {
         self.failed
+    }
+}
+
+/// A sink that takes all and keeps nothing.
+#[derive(Drop)]
+pub struct Discard;
+
+impl Sink for Discard {
+    ghost use Rattle.std.specs.Prelude.{⊤, None, false, refl};
+
+    ghost contents = { λ _. None };
+
+    ghost has_failed = { λ _. false };
+
+    ghost is_full = { λ _. false };
+
+    ghost did = { λ _ _ _. ⊤ };
+
+    ghost nothing = { λ _. tt };
+
+    ghost more = { λ _ _ _ _ _ _ _. tt };
+
+    ghost appended = { λ _ _ _ _. tt };
+
+    ghost kept = { λ _ _ _ _ _. (refl, refl) };
+
+    fn write(&mut self, buffer: &[u8]) -> Result<usize, DeviceFault> {
+        Ok(buffer.len())
+    }
+
+    fn failed(&self) -> bool {
+        false
     }
 }

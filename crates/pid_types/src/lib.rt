@@ -1,4 +1,4 @@
-//! The words of the process table, and its model.
+//! The data types of the process table, and its model.
 //!
 //! Below `src/` are the data types that every other crate speaks of: calls and replies, the plain
 //! state of the table as rows, namespaces and control groups, the table's configuration, and the
@@ -10,6 +10,7 @@ pub mod call;
 pub mod config;
 pub mod device;
 pub mod entry;
+pub mod keys;
 pub mod plain;
 pub mod refusal;
 pub mod reply;

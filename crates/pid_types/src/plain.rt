@@ -1,16 +1,20 @@
 //! The table as plain lists: what a snapshot shows, and what the model's definitions speak of.
 
+use crate::keys::Pid;
 use arrayvec::ArrayVec;
 
 /// The greatest number of levels that an identifier has: a namespace's level is 0 to 32.
 pub const LEVELS: usize = 33;
+
+/// The level of the deepest namespaces: `pid_namespaces(7)`, "Nesting PID namespaces".
+pub const DEEPEST_SPACE: usize = 32;
 
 /// An identifier: the id of its namespace, and its numbers there and in each namespace around it,
 /// the root's first. The kernel's `struct pid` with a `upid` for each level.
 #[derive(Clone, Debug, Drop, PartialEq, Eq)]
 pub struct Name {
     pub space: u64,
-    pub numbers: ArrayVec<u32, LEVELS>,
+    pub numbers: ArrayVec<Pid, LEVELS>,
 }
 
 /// How a task ended.
@@ -55,7 +59,7 @@ pub struct Space {
     pub parent: Option<u64>,
     /// The number that the next draw begins at: one above the last number drawn, 0 before the
     /// first.
-    pub cursor: u32,
+    pub cursor: Pid,
     /// Whether its init has ended.
     pub fallen: bool,
 }

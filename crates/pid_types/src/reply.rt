@@ -2,6 +2,7 @@
 ghost use Rattle.std.specs.Prelude.{◌≡◌};
 ghost use Rattle.pid_types.specs.Short.{reply_of};
 
+use crate::keys::Pid;
 use crate::plain::{Ended, LEVELS};
 use arrayvec::ArrayVec;
 use std::alloc::AllocError;
@@ -55,15 +56,15 @@ pub enum Refusal {
 #[derive(Clone, Debug, Drop, PartialEq, Eq)]
 pub enum Reply {
     /// The new task's numbers in the caller's namespace and in the root.
-    Forked { child: u32, root: u32 },
+    Forked { child: Pid, root: Pid },
     /// The change was made.
     Done,
     /// A process number, 0 for one that the caller cannot see.
-    Number(u32),
+    Number(Pid),
     /// A task's numbers from the caller's namespace inwards, outermost first.
-    Levels(ArrayVec<u32, LEVELS>),
+    Levels(ArrayVec<Pid, LEVELS>),
     /// The ended child's number in the caller's namespace, and how it ended.
-    Reaped { child: u32, ended: Ended },
+    Reaped { child: Pid, ended: Ended },
     /// Children match, and none has ended.
     NoneYet,
     /// How many tasks the control group and those below it have.
@@ -81,13 +82,13 @@ pub enum Reply {
 #[derive(Clone, Copy, Debug, PartialEq, Eq)]
 pub enum ShortReply {
     /// As [`Reply::Forked`].
-    Forked { child: u32, root: u32 },
+    Forked { child: Pid, root: Pid },
     /// As [`Reply::Done`].
     Done,
     /// As [`Reply::Number`].
-    Number(u32),
+    Number(Pid),
     /// As [`Reply::Reaped`].
-    Reaped { child: u32, ended: Ended },
+    Reaped { child: Pid, ended: Ended },
     /// As [`Reply::NoneYet`].
     NoneYet,
     /// As [`Reply::Counted`].

@@ -1,9 +1,9 @@
 //! The words of the command line: [`read_words`] reads them, and opens and runs nothing.
 use clap::error::ErrorKind;
 use clap::{Arg, ArgAction, ArgMatches, Error};
-use pid_jobs::JobFiles;
 use pid_script::number::read_u32;
 use pid_types::config::Config;
+use pid_workers::JobFiles;
 use std::alloc::{AllocError, Global};
 use std::convert::AsStr;
 

@@ -1,2 +1,5 @@
+pub mod AtSeat
+pub mod Job
+pub mod Receipts
 pub mod Made
 pub mod MadeLaws

@@ -3,7 +3,7 @@ use Rattle.std.specs.Prelude.{◌≡◌, List, ◌++◌, map}
 use Rattle.pid_types.specs.declared.call.Call.{Call}
 use Rattle.pid_types.specs.declared.entry.Entry.{Entry}
 use Rattle.pid_types.specs.declared.reply.Reply.{Reply}
-use Rattle.locked_table.specs.Chronicle.{Chronicle}
+use Rattle.kept_table.specs.Chronicle.{Chronicle}
 
 -- the calls of the kept history, with their replies
 abbrev pub calls_of : Chronicle → List (Call × Reply)

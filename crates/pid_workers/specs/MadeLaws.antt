@@ -3,7 +3,7 @@ use Rattle.std.specs.Prelude.{List, [], ◌++◌, refl}
 use Rattle.std.proofs.Common.{sym, ap, ◌∙◌, append-nil, append_assoc}
 use Rattle.pid_types.specs.declared.call.Call.{Call}
 use Rattle.pid_types.specs.declared.reply.Reply.{Reply}
-use Rattle.locked_table.specs.Chronicle.{Chronicle}
+use Rattle.kept_table.specs.Chronicle.{Chronicle}
 use Rattle.pid_workers.specs.Made.{calls_of, Makes}
 
 -- no call

@@ -1,6 +1,6 @@
 //! A record for one worker, as a [`Table`] that answers one call after another. There is no lock.
 ghost use Rattle.std.specs.Prelude.{◌≡◌, [], IfOk};
-ghost use Rattle.locked_table.specs.Chronicle.{next_stamp};
+ghost use Rattle.kept_table.specs.Chronicle.{next_stamp};
 ghost use Rattle.pid_types.specs.State.{root_state};
 
 use locked_table::{Record, Seat};
@@ -40,7 +40,7 @@ impl<L: Ledger> OneSeat<L> {
 
 impl<L: Ledger> Table for OneSeat<L> {
     ghost use Rattle.std.specs.Prelude.{◌++◌};
-    ghost use Rattle.locked_table.specs.Chronicle.{next_stamp, last_reply};
+    ghost use Rattle.kept_table.specs.Chronicle.{next_stamp, last_reply};
     ghost use Rattle.pid_workers.specs.Made.{Makes};
     ghost use Rattle.pid_workers.specs.MadeLaws.{makes_nothing, makes_more};
 
@@ -64,9 +64,5 @@ impl<L: Ledger> Table for OneSeat<L> {
     #[inline(always)]
     fn reply(&self) -> Option<&Reply> {
         self.record.last_reply()
-    }
-
-    fn make_room(&mut self) -> bool {
-        false
     }
 }

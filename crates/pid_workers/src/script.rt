@@ -1,6 +1,6 @@
 //! Scripts run on a table of their own, for one worker.
 ghost use Rattle.std.specs.Prelude.{◌≡◌, ℕ, List, IfOk, IfErr, OnOk, Err};
-ghost use Rattle.locked_table.specs.Chronicle.{next_stamp};
+ghost use Rattle.kept_table.specs.Chronicle.{next_stamp};
 ghost use Rattle.pid_types.specs.State.{State};
 ghost use Rattle.pid_types.specs.declared.call.Call.{Call};
 ghost use Rattle.pid_types.specs.declared.reply.Reply.{Reply};
@@ -58,11 +58,10 @@ fn run_table<L: Ledger, S: Source, K: Sink>(
 /// the sink, as [`run_script`] says. There are at most `turns` reads.
 ///
 /// `NoMemory` comes where no table could be made, and then nothing is read or written. A call that
-/// finds no memory later is made once more with the history cut, if there is memory for that; else
-/// it is answered `no memory`, and the script goes on.
+/// finds no memory later is answered `no memory`, and the script goes on: only `fork` and `mk` take any.
 ///
-/// The history is cut where it is long beside the table. So a run takes memory as its greatest table
-/// does, and not as its length.
+/// Each call is cut away as soon as it is recorded. So a run takes the memory of its greatest table, whatever its
+/// length, and no line pays for a copy of it.
 pub fn run_limited<L: Ledger, S: Source, K: Sink>(
     alloc: Global,
     blank: Blank,

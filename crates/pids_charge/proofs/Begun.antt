@@ -4,8 +4,8 @@ use Rattle.std.specs.Prelude.{slice_index}
 use Rattle.std.specs.Option.{option_map_or}
 use Rattle.std.proofs.lemmas.Bool.{cases_eq}
 use Rattle.slab.specs.Slab.{Slab, get, ContainsKey, Updates}
-use Rattle.rising_ids.specs.Ids.{key_of}
-use Rattle.owner_lists.specs.Owners.{owner_of}
+use Rattle.id_slab.specs.Ids.{key_of}
+use Rattle.member_lists.specs.Owners.{owner_of}
 use Rattle.pids_charge.specs.declared.node.Node.{Node}
 use Rattle.pids_charge.specs.Nodes.{tree_of, is_under, tasks_in, total_in, all_in}
 use Rattle.pids_charge.specs.Kept.{IsKept}

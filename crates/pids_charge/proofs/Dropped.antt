@@ -4,7 +4,7 @@ use Rattle.std.specs.Option.{option_map_or}
 use Rattle.std.specs.List.{AllByRecursion}
 use Rattle.std.proofs.lemmas.Bool.{cases_eq, eq-eqb}
 use Rattle.slab.specs.Slab.{Slab, ContainsKey}
-use Rattle.rising_ids.specs.Ids.{key_of}
+use Rattle.id_slab.specs.Ids.{key_of}
 use Rattle.pids_charge.specs.declared.node.Node.{Node}
 use Rattle.pids_charge.specs.Nodes.{tree_of, IsTree}
 use Rattle.pids_charge.specs.Charges.{Home, Charges, home_at, moved, ChangesHome}

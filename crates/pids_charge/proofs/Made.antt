@@ -6,8 +6,8 @@ use Rattle.std.specs.List.{AllByRecursion}
 use Rattle.std.proofs.lemmas.Bool.{cases_eq, eq-eqb}
 use Rattle.std.proofs.lemmas.List.{get_or-set_same, get_or-set_other}
 use Rattle.slab.specs.Slab.{Slab, get, ContainsKey, Updates}
-use Rattle.owner_lists.specs.Owners.{owner_of}
-use Rattle.rising_ids.specs.Ids.{key_of, AreBelow}
+use Rattle.member_lists.specs.Owners.{owner_of}
+use Rattle.id_slab.specs.Ids.{key_of, AreBelow}
 use Rattle.pid_types.specs.Chains.{climb}
 use Rattle.pid_types.specs.declared.plain.Control.{Control}
 use Rattle.pid_types.specs.Controls.{parent_control, control_path}

@@ -4,7 +4,7 @@ use Rattle.std.specs.Option.{option_map_or}
 use Rattle.std.specs.List.{AllByRecursion}
 use Rattle.std.proofs.lemmas.Bool.{eqb-true, lt-ltb, cases_lt}
 use Rattle.slab.specs.Slab.{Slab, get, ContainsKey}
-use Rattle.rising_ids.specs.Ids.{key_of}
+use Rattle.id_slab.specs.Ids.{key_of}
 use Rattle.pid_types.specs.declared.plain.Control.{Control}
 use Rattle.pid_types.specs.Controls.{control_at, parent_control}
 use Rattle.pids_charge.specs.declared.node.Node.{Node}

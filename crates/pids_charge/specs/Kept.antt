@@ -3,8 +3,8 @@ use Rattle.std.specs.Prelude.{◌≡◌, ◌≢◌, ℕ, zero, suc, ◌<◌, ◌
 use Rattle.std.specs.Option.{option_map_or}
 use Rattle.std.specs.List.{AllByRecursion}
 use Rattle.slab.specs.Slab.{Slab, get, ContainsKey}
-use Rattle.owner_lists.specs.Owners.{owner_of}
-use Rattle.rising_ids.specs.Ids.{key_of}
+use Rattle.member_lists.specs.Owners.{owner_of}
+use Rattle.id_slab.specs.Ids.{key_of}
 use Rattle.pid_types.specs.declared.plain.Control.{Control}
 use Rattle.pids_charge.specs.declared.node.Node.{Node}
 use Rattle.pids_charge.specs.Nodes.{Tree, tree_of, left, live_in, total_in, all_in, IsTree}

@@ -21,11 +21,12 @@ mod standing;
 mod tasks;
 mod walk;
 
+use id_slab::{Iter, RisingIds};
 use limits::{full_above, is_too_high};
+use member_lists::MemberLists;
 use node::{Node, node_at, set_node};
-use owner_lists::OwnerLists;
+use pid_types::keys::ControlKey;
 use pid_types::reply::Refusal;
-use rising_ids::{Iter, RisingIds};
 use room::make_room;
 use slab::Slab;
 use standing::standing_from;
@@ -35,7 +36,7 @@ use tasks::{drop_empty, end_live, put_live, take_live, take_zombie};
 use thiserror::Error;
 
 /// The level of the deepest control groups.
-const DEEPEST: u32 = 64;
+const DEEPEST_CONTROL: u32 = 64;
 
 /// Why a control group cannot be made.
 #[derive(Clone, Copy, Debug, PartialEq, Eq, Hash, Error)]
@@ -67,7 +68,7 @@ impl From<AllocError> for ControlFault {
 pub struct Controls {
     nodes: Slab<Node>,
     totals: Vec<u64>,
-    children: OwnerLists,
+    children: MemberLists,
     ids: RisingIds,
 }
 
@@ -104,7 +105,7 @@ impl Controls {
     {
         let mut nodes = Slab::new(alloc);
         let mut totals = Vec::new(alloc);
-        let mut children = OwnerLists::new(alloc);
+        let mut children = MemberLists::new(alloc);
         let mut ids = RisingIds::new(alloc);
         totals.push(0)?;
         children.grow()?;
@@ -121,7 +122,7 @@ impl Controls {
     /// A new control group without a limit below another one, whose id is the stamp. `ControlDepth` comes
     /// where the other one has level 64, `NoMemory` where there is no memory or no key is left below 2^30;
     /// then nothing has changed.
-    pub fn make(&mut self, parent: u32, stamp: u64) -> Result<u32, ControlFault>
+    pub fn make(&mut self, parent: ControlKey, stamp: u64) -> Result<ControlKey, ControlFault>
         requires stands { stands self.old parent ≡ true }
         requires above { AllByRecursion (λ g. g.id < stamp) self.old.controls }
         ensures controls { OnOk result (self.new.controls ≡ self.old.controls ++ record { id = stamp; parent = Some (id_at self.old parent); limit = None } ∷ []) }
@@ -133,7 +134,7 @@ impl Controls {
         ensures err { OnErr result (self.new ≡ self.old) }
     {
         let level = node_at(&self.nodes, parent).level + 1;
-        if level > DEEPEST {
+        if level > DEEPEST_CONTROL {
             return Err(ControlFault::ControlDepth);
         }
         let key = make_room(&mut self.nodes, &mut self.totals, &mut self.children)?;
@@ -148,7 +149,7 @@ impl Controls {
     /// Removes a control group: `rmdir(2)`. The refusals are `RootControl`, and then `ControlBusy` where a
     /// control group or a live task is directly in it. Its zombies go to the parent, and none
     /// of them is looked at: the cost is that of the look-up of an id.
-    pub fn remove(&mut self, c: u32) -> Result<(), Refusal>
+    pub fn remove(&mut self, c: ControlKey) -> Result<(), Refusal>
         requires { stands self.old c ≡ true }
         ensures refusal { result_err result ≡ remove_refusal self.old c }
         ensures controls { OnOk result (self.new.controls ≡ filter (λ g. not (g.id == id_at self.old c)) self.old.controls) }
@@ -177,7 +178,7 @@ impl Controls {
 
     /// Sets the limit of a control group, at most 4194304, or takes it away: a write to `pids.max`. The
     /// refusals are `RootControl`, and then `BadLimit`. A limit below the count is no fault.
-    pub fn set_limit(&mut self, c: u32, limit: Option<u32>) -> Result<(), Refusal>
+    pub fn set_limit(&mut self, c: ControlKey, limit: Option<u32>) -> Result<(), Refusal>
         requires { stands self.old c ≡ true }
         ensures refusal { result_err result ≡ limit_refusal self.old c limit }
         ensures controls { OnOk result (self.new.controls ≡ map (limited (id_at self.old c) limit) self.old.controls) }
@@ -198,7 +199,7 @@ impl Controls {
 
     /// Whether one task more may come to a control group: `PidsLimit` with the id of the nearest one, from it
     /// to the root, whose count would be above its limit. A walk of at most 65 steps.
-    pub fn may_charge(&self, home: u32) -> Result<(), Refusal>
+    pub fn may_charge(&self, home: ControlKey) -> Result<(), Refusal>
         requires { stands self.now home ≡ true }
         ensures { result_err result ≡ charge_refusal self.now (id_at self.now home) }
     {
@@ -217,7 +218,7 @@ impl Controls {
     }
 
     /// The key of the control group with an id.
-    pub fn find(&self, id: u64) -> Option<u32>
+    pub fn find(&self, id: u64) -> Option<ControlKey>
         ensures there { MatchOption result (control_at self.now.controls id ≡ None) (λ c. IsSome (control_at self.now.controls id)) }
         ensures stands { IfSome result (λ c. stands self.now c ≡ true) }
         ensures id { IfSome result (λ c. id_at self.now c ≡ id) }
@@ -227,7 +228,7 @@ impl Controls {
     }
 
     /// The id of a control group.
-    pub fn id(&self, c: u32) -> u64
+    pub fn id(&self, c: ControlKey) -> u64
         requires { stands self.now c ≡ true }
         ensures { result ≡ id_at self.now c }
     {
@@ -236,7 +237,7 @@ impl Controls {
 
     /// The id of the control group that the tasks of a key are in: its own, or that of the nearest above that
     /// was not removed. It costs a step for each that was, up to there.
-    pub fn home_id(&self, home: u32) -> u64
+    pub fn home_id(&self, home: ControlKey) -> u64
         requires { IsSome (home_at self.now home) }
         ensures { result ≡ id_at self.now home }
     {
@@ -244,7 +245,7 @@ impl Controls {
     }
 
     /// The key of the control group that a control group is in; none of the root's.
-    pub fn parent(&self, c: u32) -> Option<u32>
+    pub fn parent(&self, c: ControlKey) -> Option<ControlKey>
         requires { stands self.now c ≡ true }
         ensures id { option_map (id_at self.now) result ≡ parent_control self.now.controls (id_at self.now c) }
         ensures stands { IfSome result (λ p. stands self.now p ≡ true) }
@@ -253,7 +254,7 @@ impl Controls {
     }
 
     /// The limit of a control group: `pids.max`.
-    pub fn limit(&self, c: u32) -> Option<u32>
+    pub fn limit(&self, c: ControlKey) -> Option<u32>
         requires { stands self.now c ≡ true }
         ensures { result ≡ limit_of self.now (id_at self.now c) }
     {
@@ -261,7 +262,7 @@ impl Controls {
     }
 
     /// How many tasks a control group and those below it have, zombies among them: `pids.current`. One read.
-    pub fn count(&self, c: u32) -> u64
+    pub fn count(&self, c: ControlKey) -> u64
         requires { stands self.now c ≡ true }
         ensures { result ≡ count_of self.now (id_at self.now c) }
     {
@@ -286,7 +287,7 @@ impl Controls {
     }
 
     /// One live task more: what `fork(2)` charges. No limit is asked; `may_charge` does that.
-    pub fn charge(&mut self, home: u32)
+    pub fn charge(&mut self, home: ControlKey)
         requires stands { stands self.old home ≡ true }
         requires few { all_tasks self.old + 1 < 2 ^ 64 }
         ensures home { ChangesHome self.old self.new home (option_map (λ (h : Home). record h { live = h.live + 1 }) (home_at self.old home)) }
@@ -296,7 +297,7 @@ impl Controls {
     }
 
     /// A live task became a zombie.
-    pub fn died(&mut self, home: u32)
+    pub fn died(&mut self, home: ControlKey)
         requires { 0 < live_at self.old home }
         ensures home { ChangesHome self.old self.new home (option_map (λ (h : Home). record h { live = h.live - 1; zombies = h.zombies + 1 }) (home_at self.old home)) }
         ensures tasks { all_tasks self.new ≡ all_tasks self.old }
@@ -305,7 +306,7 @@ impl Controls {
     }
 
     /// A zombie is gone. With the last task of a removed group its key is gone too.
-    pub fn uncharge(&mut self, home: u32)
+    pub fn uncharge(&mut self, home: ControlKey)
         requires { 0 < zombies_at self.old home }
         ensures home { ChangesHome self.old self.new home (option_and_then (λ (h : Home). kept (record h { zombies = h.zombies - 1 })) (home_at self.old home)) }
         ensures tasks { all_tasks self.new + 1 ≡ all_tasks self.old }
@@ -316,7 +317,7 @@ impl Controls {
 
     /// A live task goes to another control group, or to the one that it is in. No limit blocks it: the
     /// cgroup-v2 document, "Organisational operations are not blocked by cgroup policies".
-    pub fn transfer(&mut self, from: u32, to: u32)
+    pub fn transfer(&mut self, from: ControlKey, to: ControlKey)
         requires some { 0 < live_at self.old from }
         requires stands { stands self.old to ≡ true }
         ensures controls { self.new.controls ≡ self.old.controls }

@@ -8,6 +8,7 @@ ghost use Rattle.pids_charge.specs.Nodes.{tree_of, IsTree};
 ghost use Rattle.pids_charge.specs.Kept.{first_full};
 
 use crate::node::{Node, node_at};
+use pid_types::keys::ControlKey;
 use slab::Slab;
 
 /// The greatest limit: the kernel's `PID_MAX_LIMIT`.
@@ -34,7 +35,7 @@ fn is_at_limit(node: &Node, total: u64) -> bool
 }
 
 /// The nearest node, from one up, whose limit one task more would pass.
-pub(crate) fn full_above(nodes: &Slab<Node>, totals: &[u64], home: u32) -> Option<u32>
+pub(crate) fn full_above(nodes: &Slab<Node>, totals: &[u64], home: ControlKey) -> Option<ControlKey>
     requires tree { IsTree (tree_of nodes.now) }
     requires home { ContainsKey nodes.now home }
     requires room { (k : ℕ) → ContainsKey nodes.now k → k < length totals.now }

@@ -3,6 +3,7 @@
 ghost use Rattle.std.specs.Prelude.{◌≡◌, Some, None, true};
 ghost use Rattle.slab.specs.Slab.{get, ContainsKey, with_value};
 
+use pid_types::keys::ControlKey;
 use slab::Slab;
 
 /// A control group, or what is left of a removed one while it has zombies.
@@ -10,7 +11,7 @@ use slab::Slab;
 pub(crate) struct Node {
     pub(crate) id: u64,
     /// None for the root alone.
-    pub(crate) parent: Option<u32>,
+    pub(crate) parent: Option<ControlKey>,
     pub(crate) limit: Option<u32>,
     /// How many nodes are above it.
     pub(crate) level: u32,
@@ -24,7 +25,7 @@ pub(crate) struct Node {
 
 impl Node {
     /// A control group without limit and tasks.
-    pub(crate) fn new(id: u64, parent: Option<u32>, level: u32) -> Self
+    pub(crate) fn new(id: u64, parent: Option<ControlKey>, level: u32) -> Self
         ensures { result ≡ record { id = id; parent = parent; limit = None; level = level; standing = true; live = 0; zombies = 0 } }
     {
         Node {
@@ -40,7 +41,7 @@ impl Node {
 }
 
 /// The node at a key.
-pub(crate) fn node_at(nodes: &Slab<Node>, key: u32) -> Node
+pub(crate) fn node_at(nodes: &Slab<Node>, key: ControlKey) -> Node
     requires { ContainsKey nodes.now key }
     ensures { get nodes.now key ≡ Some result }
 {
@@ -51,7 +52,7 @@ pub(crate) fn node_at(nodes: &Slab<Node>, key: u32) -> Node
 }
 
 /// Writes the node at a key.
-pub(crate) fn set_node(nodes: &mut Slab<Node>, key: u32, node: Node)
+pub(crate) fn set_node(nodes: &mut Slab<Node>, key: ControlKey, node: Node)
     requires { ContainsKey nodes.old key }
     ensures { nodes.new ≡ with_value nodes.old key node }
 {

@@ -2,15 +2,16 @@
 
 ghost use Rattle.std.specs.Prelude.{◌≡◌, ℕ, ◌<◌, ◌≤◌, ◌^◌, length, IfOk, OnOk, slice_index};
 ghost use Rattle.slab.specs.Slab.{HasRoomFor};
-ghost use Rattle.owner_lists.specs.Owners.{owner_of};
+ghost use Rattle.member_lists.specs.Owners.{owner_of};
 
 use crate::node::Node;
-use owner_lists::OwnerLists;
+use member_lists::MemberLists;
+use pid_types::keys::ControlKey;
 use slab::Slab;
 use std::alloc::AllocError;
 
 /// Totals for all keys up to one.
-fn grow_totals(totals: &mut Vec<u64>, key: u32) -> Result<(), AllocError>
+fn grow_totals(totals: &mut Vec<u64>, key: ControlKey) -> Result<(), AllocError>
     ensures totals { (k : ℕ) → slice_index totals.new.items k ≡ slice_index totals.old.items k }
     ensures longer { length totals.old.items ≤ length totals.new.items }
     ensures room { OnOk result (key < length totals.new.items) }
@@ -22,7 +23,7 @@ fn grow_totals(totals: &mut Vec<u64>, key: u32) -> Result<(), AllocError>
 }
 
 /// Lists of children for all keys up to one.
-fn grow_children(children: &mut OwnerLists, key: u32) -> Result<(), AllocError>
+fn grow_children(children: &mut MemberLists, key: ControlKey) -> Result<(), AllocError>
     requires small { length children.old ≤ 2 ^ 30 }
     requires key { key < 2 ^ 30 }
     ensures children { (k : ℕ) → owner_of children.new k ≡ owner_of children.old k }
@@ -40,8 +41,8 @@ fn grow_children(children: &mut OwnerLists, key: u32) -> Result<(), AllocError>
 pub(crate) fn make_room(
     nodes: &mut Slab<Node>,
     totals: &mut Vec<u64>,
-    children: &mut OwnerLists,
-) -> Result<u32, AllocError>
+    children: &mut MemberLists,
+) -> Result<ControlKey, AllocError>
     requires small { length children.old ≤ 2 ^ 30 }
     ensures nodes { nodes.new ≡ record nodes.old { capacity = nodes.new.capacity } }
     ensures totals { (k : ℕ) → slice_index totals.new.items k ≡ slice_index totals.old.items k }
@@ -54,7 +55,7 @@ pub(crate) fn make_room(
     ensures room { IfOk result (λ key. key < length totals.new.items) }
     ensures lists { IfOk result (λ key. key < length children.new) }
 {
-    let key = slab_room::make_room(nodes)?;
+    let key = id_slab::make_room(nodes)?;
     grow_totals(totals, key)?;
     grow_children(children, key)?;
     Ok(key)

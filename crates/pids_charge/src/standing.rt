@@ -6,10 +6,11 @@ ghost use Rattle.pids_charge.specs.Nodes.{tree_of, IsTree};
 ghost use Rattle.pids_charge.specs.Kept.{standing_key};
 
 use crate::node::{Node, node_at};
+use pid_types::keys::ControlKey;
 use slab::Slab;
 
 /// What a removed node is below; none of one that stands.
-fn above_removed(nodes: &Slab<Node>, key: u32) -> Option<u32>
+fn above_removed(nodes: &Slab<Node>, key: ControlKey) -> Option<ControlKey>
     requires { ContainsKey nodes.now key }
     ensures { result ≡ (if (tree_of nodes.now).stand key then None else (tree_of nodes.now).up key) }
 {
@@ -18,7 +19,7 @@ fn above_removed(nodes: &Slab<Node>, key: u32) -> Option<u32>
 }
 
 /// The nearest node, from one up, that stands.
-pub(crate) fn standing_from(nodes: &Slab<Node>, home: u32) -> u32
+pub(crate) fn standing_from(nodes: &Slab<Node>, home: ControlKey) -> ControlKey
     requires tree { IsTree (tree_of nodes.now) }
     requires home { ContainsKey nodes.now home }
     ensures there { ContainsKey nodes.now result }

@@ -8,10 +8,11 @@ ghost use Rattle.pids_charge.specs.Kept.{IsCounted, ChangesTasks, DropsEmpty};
 
 use crate::node::{Node, node_at, set_node};
 use crate::walk::{lower, raise};
+use pid_types::keys::ControlKey;
 use slab::Slab;
 
 /// A live task comes.
-pub(crate) fn put_live(nodes: &mut Slab<Node>, totals: &mut Vec<u64>, home: u32)
+pub(crate) fn put_live(nodes: &mut Slab<Node>, totals: &mut Vec<u64>, home: ControlKey)
     requires tree { IsTree (tree_of nodes.old) }
     requires counted { IsCounted nodes.old totals.old.items None }
     requires room { (k : ℕ) → ContainsKey nodes.old k → k < length totals.old.items }
@@ -29,7 +30,7 @@ pub(crate) fn put_live(nodes: &mut Slab<Node>, totals: &mut Vec<u64>, home: u32)
 }
 
 /// A live task goes.
-pub(crate) fn take_live(nodes: &mut Slab<Node>, totals: &mut Vec<u64>, home: u32)
+pub(crate) fn take_live(nodes: &mut Slab<Node>, totals: &mut Vec<u64>, home: ControlKey)
     requires tree { IsTree (tree_of nodes.old) }
     requires counted { IsCounted nodes.old totals.old.items None }
     requires room { (k : ℕ) → ContainsKey nodes.old k → k < length totals.old.items }
@@ -46,7 +47,7 @@ pub(crate) fn take_live(nodes: &mut Slab<Node>, totals: &mut Vec<u64>, home: u32
 }
 
 /// A zombie goes. What does not stand may then have no tasks, on the way up from there.
-pub(crate) fn take_zombie(nodes: &mut Slab<Node>, totals: &mut Vec<u64>, home: u32)
+pub(crate) fn take_zombie(nodes: &mut Slab<Node>, totals: &mut Vec<u64>, home: ControlKey)
     requires tree { IsTree (tree_of nodes.old) }
     requires counted { IsCounted nodes.old totals.old.items None }
     requires room { (k : ℕ) → ContainsKey nodes.old k → k < length totals.old.items }
@@ -63,7 +64,7 @@ pub(crate) fn take_zombie(nodes: &mut Slab<Node>, totals: &mut Vec<u64>, home: u
 }
 
 /// A live task becomes a zombie.
-pub(crate) fn end_live(nodes: &mut Slab<Node>, totals: &Vec<u64>, home: u32)
+pub(crate) fn end_live(nodes: &mut Slab<Node>, totals: &Vec<u64>, home: ControlKey)
     requires tree { IsTree (tree_of nodes.old) }
     requires counted { IsCounted nodes.old totals.now.items None }
     requires some { 0 < live_in nodes.old home }
@@ -86,7 +87,7 @@ pub(crate) fn end_live(nodes: &mut Slab<Node>, totals: &Vec<u64>, home: u32)
 }
 
 /// Drops what does not stand and has no tasks left, from a node up.
-pub(crate) fn drop_empty(nodes: &mut Slab<Node>, totals: &Vec<u64>, from: u32)
+pub(crate) fn drop_empty(nodes: &mut Slab<Node>, totals: &Vec<u64>, from: ControlKey)
     requires tree { IsTree (tree_of nodes.old) }
     requires counted { IsCounted nodes.old totals.now.items (Some from) }
     requires room { (k : ℕ) → ContainsKey nodes.old k → k < length totals.now.items }

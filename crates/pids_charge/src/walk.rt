@@ -5,10 +5,11 @@ ghost use Rattle.slab.specs.Slab.{ContainsKey};
 ghost use Rattle.pids_charge.specs.Nodes.{tree_of, is_under, weight, HasLevels};
 
 use crate::node::{Node, node_at};
+use pid_types::keys::ControlKey;
 use slab::Slab;
 
 /// One task more at a node: counts it there and at all above.
-pub(crate) fn raise(nodes: &Slab<Node>, totals: &mut Vec<u64>, home: u32)
+pub(crate) fn raise(nodes: &Slab<Node>, totals: &mut Vec<u64>, home: ControlKey)
     requires levels { HasLevels (tree_of nodes.now) }
     requires home { ContainsKey nodes.now home }
     requires room { (k : ℕ) → ContainsKey nodes.now k → k < length totals.old.items }
@@ -24,7 +25,7 @@ pub(crate) fn raise(nodes: &Slab<Node>, totals: &mut Vec<u64>, home: u32)
 }
 
 /// One task less at a node: counts it off there and at all above.
-pub(crate) fn lower(nodes: &Slab<Node>, totals: &mut Vec<u64>, home: u32)
+pub(crate) fn lower(nodes: &Slab<Node>, totals: &mut Vec<u64>, home: ControlKey)
     requires levels { HasLevels (tree_of nodes.now) }
     requires home { ContainsKey nodes.now home }
     requires room { (k : ℕ) → ContainsKey nodes.now k → k < length totals.old.items }

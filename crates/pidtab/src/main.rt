@@ -1,4 +1,4 @@
-//! `pidtab run` answers a script from standard input on a process table of its own, `pidtab list` lists
+//! The program: `pidtab run` answers a script from standard input on a process table of its own, `pidtab list` lists
 //! the table that the script leaves, and `pidtab work` runs a worker for each of some job files on one
 //! table that they share.
 #![tactic(auto)]

@@ -7,17 +7,17 @@ ghost use Rattle.pidtab_c.specs.Listed.{list_of_state};
 
 use model_laws::soundness::{root_state_is_sound, soundness_is_kept};
 use pid_script::list::list_text;
+use pid_table::PidTable;
 use pid_types::call::Call;
 use pid_types::config::Config;
 use pid_types::reply::{CallFault, Reply};
 use std::alloc::{AllocError, Global};
 use std::marker::Model;
-use task_table::TaskTable;
 
 /// A table and the stamp of its next call. Between two calls its state is sound, and the ids in it are below the stamp.
 #[derive(Drop)]
 pub struct StampedTable {
-    table: TaskTable,
+    table: PidTable,
     stamp: u64,
 }
 
@@ -40,7 +40,7 @@ impl StampedTable {
         prove!(config.first_stamp() > 0);
         prove!(config.pid_max() >= 301 && config.pid_max() <= 4_194_304);
         Ok(StampedTable {
-            table: TaskTable::new(alloc, config)?,
+            table: PidTable::new(alloc, config)?,
             stamp: config.first_stamp(),
         })
     }

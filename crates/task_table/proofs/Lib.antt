@@ -1,2 +1,16 @@
+pub mod Collects
+pub mod Keys
+pub mod LookUps
+pub mod InUse
+pub mod Rows
+pub mod Sweeps
+pub mod Changed
+pub mod Counts
 pub mod Begun
-pub mod Counted
+pub mod Less
+pub mod Changes
+pub mod HomeCounts
+pub mod UseCounts
+pub mod Groups
+pub mod Rest
+pub mod Births

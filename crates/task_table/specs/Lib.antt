@@ -1,1 +1,5 @@
-pub mod Bare
+pub mod Collect
+pub mod View
+pub mod Lawful
+pub mod Whole
+pub mod Store

@@ -1,124 +1,415 @@
-//! The process table: one store of tasks, namespaces, groups, sessions and control groups, told as the model's state.
+//! The tasks of a table and all that belongs to them, by key: identifiers and namespaces, the tree of tasks, process
+//! groups and sessions, and control groups, each part kept in line with the others.
 //!
-//! A store holds what its calls leave in it; the table holds one in which every two calls find a sound state.
+//! A task has the key of its identifier, so that a number leads to its task by one search. The calls here
+//! refuse nothing and decide nothing: each makes one change that a call of the table is made of.
 #![tactic(auto)]
 
-ghost use Rattle.std.specs.Prelude.{◌≡◌, IfOk, IfSome, OnOk, is_some, length};
-ghost use Rattle.pid_types.specs.Controls.{control_at, count as count_of};
-ghost use Rattle.pid_types.specs.Shown.{Shows};
-ghost use Rattle.pid_types.specs.State.{root_state};
-ghost use Rattle.store_view.specs.View.{state_of};
-ghost use Rattle.store_view.specs.Whole.{IsWhole};
-ghost use Rattle.task_table.specs.Bare.{IsBare};
+ghost use Rattle.std.specs.Prelude.{◌≡◌, ◌≢◌, ℕ, ◌+◌, ◌-◌, ◌<◌, ◌≤◌, ◌^◌, length, option_map, option_and_then, Some, None, true, false, IsSome, IfOk, OnOk, OnErr, [], ◌∷◌, slice_set};
+ghost use Rattle.std.specs.Prelude.{◌==◌, ◌↔◌, ◌++◌, not, map, filter, find, is_none, unwrap_or, drop, Err};
+ghost use Rattle.std.specs.List.{AllByRecursion};
+ghost use Rattle.std.specs.Result.{result_err};
+ghost use Rattle.std.specs.Option.{option_map_or};
+ghost use Rattle.id_slab.specs.Ids.{AreBelow};
+ghost use Rattle.pid_types.specs.Bounds.{deepest_space};
+ghost use Rattle.pid_types.specs.Settings.{HasGoodPidMax};
+ghost use Rattle.pid_types.specs.Bounds.{deepest_control};
+ghost use Rattle.pid_types.specs.Chains.{contains};
+ghost use Rattle.pid_types.specs.Controls.{control_path, parent_control};
+ghost use Rattle.pid_types.specs.Changes.{limited};
+ghost use Rattle.pids_charge.specs.declared.ControlFault.{ControlFault};
+ghost use Rattle.pid_types.specs.declared.plain.Life.{Life};
+ghost use Rattle.pid_numbers.specs.Numbering.{namespace_at, identifier_at, number_of, path_at, taken_in, fallen_within, draw_in, moved as cursor_moved, new_namespace, new_identifier, Identifier};
+ghost use Rattle.pids_charge.specs.Charges.{Charges, Home, home_at, id_at, stands, kept, moved, handed_on, remove_refusal, limit_refusal, ChangesHome};
+ghost use Rattle.task_tree.specs.Tree.{task_at, parent_of, rank_of, lives, handed};
+ghost use Rattle.groups_sessions.specs.Membership.{Membership, membership_at, group_of, session_of, AreInSession};
+ghost use Rattle.task_table.specs.Store.{IsStore, IsLess, IsSame, Begins, home_without};
 
-mod step;
+mod homes;
+mod room;
+mod settle;
+mod uses;
+pub mod view;
 
-use model_laws::soundness::root_state_is_sound;
-use pid_types::config::Config;
-use pid_types::plain::{Life, Plain};
+use arrayvec::ArrayVec;
+use groups_sessions::Members;
+use homes::leave_home;
+use pid_numbers::Numbers;
+use pid_types::call::Kind;
+use pid_types::keys::{ControlKey, IdentKey, Pid, SpaceKey, TaskKey};
+use pid_types::plain::{Ended, LEVELS, Life};
+use pid_types::reply::Refusal;
+use pids_charge::{ControlFault, Controls};
+use room::room_for;
+use settle::settle;
 use std::alloc::{AllocError, Global};
 use std::marker::Model;
-use store_view::laws;
-use task_store::TaskStore;
-use task_tree::Task;
-use translate::shown;
+use task_tree::{Task, TaskTree};
+use uses::{add_uses, take_use, take_uses};
 
-/// The process table: what it holds, and that this is sound.
-pub struct TaskTable {
-    store: TaskStore,
+/// What a table of processes holds.
+#[derive(Drop)]
+pub struct Tasks {
+    numbers: Numbers,
+    tree: TaskTree,
+    members: Members,
+    controls: Controls,
 }
 
-// Written out, and not derived: so the crates above cite this drop, and do not prove it anew.
-impl Drop for TaskTable {
-    fn drop(self) {
-        let TaskTable { store: _ } = self;
-    }
+impl Model for Tasks {
+    ghost use Rattle.task_table.specs.Store.{Store, IsStore};
+
+    ghost Value = { Store };
+
+    ghost view = { λ a. record { numbering = a.numbers; tree = a.tree; members = a.members; charges = a.controls } };
+
+    ghost invariant = { λ a. IsStore (record { numbering = a.numbers; tree = a.tree; members = a.members; charges = a.controls }) };
 }
 
-impl Model for TaskTable {
-    ghost use Rattle.pid_types.specs.State.{State};
-    ghost use Rattle.store_view.specs.View.{state_of};
-    ghost use Rattle.store_view.specs.Whole.{IsWhole};
-
-    ghost Value = { State };
-
-    ghost view = { λ t. state_of t.store };
-
-    ghost invariant = { λ t. IsWhole t.store };
-}
-
-/// The root init begins in a bare store. The error is want of memory.
-fn begin_root_init(store: &mut TaskStore) -> Result<(), AllocError>
-    requires { IsBare store.old }
-    ensures state { OnOk result (state_of store.new ≡ root_state store.old.numbering.pid_max) }
-    ensures whole { OnOk result (IsWhole store.new) }
-{
-    laws(store);
-    root_state_is_sound();
-    let Ok(numbers) = store.numbers().plan(0) else {
-        unreachable!()
-    };
-    let Some(home) = store.controls().find(0) else {
-        unreachable!()
-    };
-    let task = Task {
-        children_space: 0,
-        home,
-        executed: false,
-        subreaper: false,
-        life: Life::Live,
-    };
-    store.fork(None, 0, &numbers, task)?;
-    laws(store);
-    Ok(())
-}
-
-impl TaskTable {
-    /// A table with the root init, the root namespace and the root control group alone. The error is want of memory.
-    pub fn new(alloc: Global, config: &Config) -> Result<TaskTable, AllocError>
-        ensures { IfOk result (λ table. table ≡ root_state config.now.pid_max) }
+impl Tasks {
+    /// The root namespace and the root control group, and no task. The error is want of memory.
+    pub fn new(alloc: Global, pid_max: u32) -> Result<Self, AllocError>
+        requires { HasGoodPidMax pid_max }
+        ensures pid_max { IfOk result (λ r. r.numbering.pid_max ≡ pid_max) }
+        ensures root { IfOk result (λ r. namespace_at r.numbering 0 ≡ Some (new_namespace 0 (0 ∷ []))) }
+        ensures others { IfOk result (λ r. (s : ℕ) → s ≢ 0 → namespace_at r.numbering s ≡ None) }
+        ensures order { IfOk result (λ r. r.numbering.order ≡ (0, 0) ∷ []) }
+        ensures names { IfOk result (λ r. (i : ℕ) → identifier_at r.numbering i ≡ None) }
+        ensures tasks { IfOk result (λ r. (k : ℕ) → task_at r.tree k ≡ None) }
+        ensures members { IfOk result (λ r. r.members ≡ []) }
+        ensures controls { IfOk result (λ r. r.charges.controls ≡ record { id = 0; parent = None; limit = None } ∷ []) }
     {
-        let mut store = TaskStore::new(alloc, config.pid_max())?;
-        begin_root_init(&mut store)?;
-        Ok(TaskTable { store })
+        Ok(Tasks {
+            numbers: Numbers::new(alloc, pid_max)?,
+            tree: TaskTree::new(alloc),
+            members: Members::new(alloc),
+            controls: Controls::new(alloc)?,
+        })
     }
 
-    /// How many tasks there are, ended ones too. It costs a logarithm of the control groups.
-    pub fn tasks(&self) -> usize
-        ensures { result ≡ length self.now.rows }
+    /// The identifiers and the namespaces.
+    pub fn numbers(&self) -> &Numbers
+        ensures { result.now ≡ self.now.numbering }
     {
-        laws(&self.store);
-        let Some(root) = self.store.controls().find(0) else {
-            unreachable!()
+        &self.numbers
+    }
+
+    /// The tree of tasks.
+    pub fn tree(&self) -> &TaskTree
+        ensures { result.now ≡ self.now.tree }
+    {
+        &self.tree
+    }
+
+    /// Who is in which group and session.
+    pub fn members(&self) -> &Members
+        ensures { result.now ≡ self.now.members }
+    {
+        &self.members
+    }
+
+    /// The control groups.
+    pub fn controls(&self) -> &Controls
+        ensures { result.now ≡ self.now.charges }
+    {
+        &self.controls
+    }
+
+    /// What is true at any time; the call does nothing. The four parts agree.
+    pub fn laws(&self)
+        ensures { IsStore self.now }
+    {
+        let _ = &self.numbers;
+    }
+
+    /// A task becomes another one in the same place, with the same life and the same home.
+    pub fn update(&mut self, key: TaskKey, task: Task)
+        requires life { option_map (λ (t : Task). t.life) (task_at self.old.tree key) ≡ Some task.life }
+        requires home { option_map (λ (t : Task). t.home) (task_at self.old.tree key) ≡ Some task.home }
+        ensures tasks { self.new.tree.tasks ≡ slice_set self.old.tree.tasks key (Some task) }
+        ensures rest { self.new ≡ record self.old { tree = record self.old.tree { tasks = self.new.tree.tasks } } }
+    {
+        self.tree.update(key, task);
+    }
+
+    /// A live task goes to another control group.
+    pub fn move_home(&mut self, key: TaskKey, task: Task, to: ControlKey)
+        requires there { task_at self.old.tree key ≡ Some task }
+        requires live { lives task ≡ true }
+        requires stands { stands self.old.charges to ≡ true }
+        ensures tasks { self.new.tree.tasks ≡ slice_set self.old.tree.tasks key (Some (record task { home = to })) }
+        ensures controls { self.new.charges.controls ≡ self.old.charges.controls }
+        ensures homes { (k : ℕ) → home_at self.new.charges k ≡ option_map (moved task.home to k) (home_at self.old.charges k) }
+        ensures rest { self.new ≡ record self.old { tree = record self.old.tree { tasks = self.new.tree.tasks }; charges = self.new.charges } }
+    {
+        self.controls.transfer(task.home, to);
+        self.tree.update(key, Task { home: to, ..task });
+    }
+
+    /// A live task ends, and waits for its parent by its number in the parent's namespace.
+    #[inline(always)]
+    pub fn finish(&mut self, key: TaskKey, task: Task, end: Ended)
+        requires there { task_at self.old.tree key ≡ Some task }
+        requires live { lives task ≡ true }
+        requires visible { (p : ℕ) → parent_of self.old.tree key ≡ Some p → (u : Identifier) × (identifier_at self.old.numbering p ≡ Some u) × IsSome (number_of self.old.numbering key u.space) }
+        ensures tasks { self.new.tree.tasks ≡ slice_set self.old.tree.tasks key (Some (record task { life = Life.Zombie end })) }
+        ensures parents { self.new.tree.parents ≡ self.old.tree.parents }
+        ensures home { ChangesHome self.old.charges self.new.charges task.home (option_map (λ (h : Home). record h { live = h.live - 1; zombies = h.zombies + 1 }) (home_at self.old.charges task.home)) }
+        ensures rest { (self.new.numbering ≡ self.old.numbering) × (self.new.members ≡ self.old.members) }
+    {
+        self.numbers.laws();
+        self.tree.laws();
+        let rank = self.rank_for(key);
+        self.tree.finish(key, task, end, rank);
+        self.controls.died(task.home);
+    }
+
+    /// The number of a task in its parent's namespace; 0 where it has no parent.
+    #[inline(always)]
+    fn rank_for(&self, key: TaskKey) -> Pid
+        requires key { key < length self.now.tree.tasks }
+        requires visible { (p : ℕ) → parent_of self.now.tree key ≡ Some p → (u : Identifier) × (identifier_at self.now.numbering p ≡ Some u) × IsSome (number_of self.now.numbering key u.space) }
+        ensures { (p : ℕ) → parent_of self.now.tree key ≡ Some p → (u : Identifier) → identifier_at self.now.numbering p ≡ Some u → number_of self.now.numbering key u.space ≡ Some result }
+    {
+        let Some(parent) = self.tree.parent(key) else {
+            return 0;
         };
-        self.store.controls().count(root) as usize
+        match self.numbers.space_of(parent) {
+            Some(space) => self.numbers.number_in(key, space).unwrap_or(0),
+            None => 0,
+        }
     }
 
-    /// How many tasks the control group with the id and those below it have, ended ones too; none where there is no such
-    /// group. It is the number that the table keeps with the group (`pids.current`): a search for the id and one read, and no
-    /// task is looked at.
-    pub fn count(&self, control: u64) -> Option<u64>
-        ensures there { is_some result ≡ is_some (control_at self.now.controls control) }
-        ensures value { IfSome result (λ n. n ≡ count_of self.now control) }
+    /// All children of the one task become the other's, whose own namespace is the same.
+    pub fn hand_on(&mut self, from: TaskKey, to: TaskKey)
+        requires differ { from ≢ to }
+        requires from { from < length self.old.tree.tasks }
+        requires to { to < length self.old.tree.tasks }
+        requires beside { (u : Identifier) × (v : Identifier) × (identifier_at self.old.numbering from ≡ Some u) × (identifier_at self.old.numbering to ≡ Some v) × (u.space ≡ v.space) }
+        ensures tasks { self.new.tree.tasks ≡ self.old.tree.tasks }
+        ensures parents { (k : ℕ) → parent_of self.new.tree k ≡ option_map (handed from to) (parent_of self.old.tree k) }
+        ensures rest { self.new ≡ record self.old { tree = self.new.tree } }
     {
-        laws(&self.store);
-        let Some(key) = self.store.controls().find(control) else {
-            return None;
-        };
-        Some(self.store.controls().count(key))
+        self.numbers.laws();
+        self.tree.hand_on(from, to);
     }
 
-    /// How many control groups there are, the root group too. It costs one read.
-    pub fn controls(&self) -> usize
-        ensures { result ≡ length self.now.controls }
+    /// A task goes to another group, all of whose members are in its session.
+    pub fn set_group(&mut self, key: TaskKey, group: IdentKey)
+        requires there { IsSome (membership_at self.old.members key) }
+        requires group { IsSome (identifier_at self.old.numbering group) }
+        requires room { group < length self.old.members }
+        requires together { (s : ℕ) → session_of self.old.members key ≡ Some s → AreInSession self.old.members group s }
+        ensures members { self.new.members ≡ slice_set self.old.members key (option_map (λ (m : Membership). record m { group = group }) (membership_at self.old.members key)) }
+        ensures numbers { IsLess self.old.numbering self.new.numbering }
+        ensures rest { (self.new.tree ≡ self.old.tree) × (self.new.charges ≡ self.old.charges) }
     {
-        self.store.controls().len()
+        self.numbers.laws();
+        self.tree.laws();
+        self.members.laws();
+        let old = self.members.group(key);
+        self.numbers.add_use(group, Kind::Group);
+        self.members.join_group(key, group);
+        take_use(&mut self.numbers, old, Kind::Group);
     }
 
-    /// The plain state, with the count of each control group: [`shown::snapshot`]. The error is want of memory.
-    pub fn snapshot(&self) -> Result<Plain, AllocError>
-        ensures { IfOk result (Shows self.now) }
+    /// A task leads a new session and a new group in it, both named after its identifier. Nobody is in that
+    /// group.
+    pub fn start_session(&mut self, key: TaskKey)
+        requires there { IsSome (membership_at self.old.members key) }
+        requires free { (k : ℕ) → group_of self.old.members k ≢ Some key }
+        ensures members { self.new.members ≡ slice_set self.old.members key (Some (record { group = key; session = key })) }
+        ensures numbers { IsLess self.old.numbering self.new.numbering }
+        ensures rest { (self.new.tree ≡ self.old.tree) × (self.new.charges ≡ self.old.charges) }
     {
-        shown::snapshot(&self.store)
+        self.numbers.laws();
+        self.tree.laws();
+        self.members.laws();
+        let group = self.members.group(key);
+        let session = self.members.session(key);
+        add_uses(&mut self.numbers, key, key);
+        self.members.start_session(key, key);
+        take_uses(&mut self.numbers, group, session);
+    }
+
+    /// A task is gone. Its children, if it has any, keep its key as their parent's.
+    #[inline(always)]
+    pub fn remove(&mut self, key: TaskKey, task: Task)
+        requires { task_at self.old.tree key ≡ Some task }
+        ensures tasks { self.new.tree.tasks ≡ slice_set self.old.tree.tasks key None }
+        ensures parent { parent_of self.new.tree key ≡ None }
+        ensures parents { (k : ℕ) → k ≢ key → parent_of self.new.tree k ≡ parent_of self.old.tree k }
+        ensures members { self.new.members ≡ slice_set self.old.members key None }
+        ensures home { ChangesHome self.old.charges self.new.charges task.home (option_and_then (λ (h : Home). kept (home_without task h)) (home_at self.old.charges task.home)) }
+        ensures numbers { IsLess self.old.numbering self.new.numbering }
+    {
+        self.numbers.laws();
+        let group = self.members.group(key);
+        let session = self.members.session(key);
+        self.tree.remove(key);
+        self.tree.laws();
+        self.members.leave(key);
+        leave_home(&mut self.controls, &task);
+        take_uses(&mut self.numbers, group, session);
+        take_use(&mut self.numbers, key, Kind::Task);
+    }
+
+    /// A new control group below another one: [`Controls::make`]. No task is in it yet.
+    pub fn make_control(
+        &mut self,
+        parent: ControlKey,
+        stamp: u64,
+    ) -> Result<ControlKey, ControlFault>
+        requires stands { stands self.old.charges parent ≡ true }
+        requires above { AllByRecursion (λ g. g.id < stamp) self.old.charges.controls }
+        ensures controls { OnOk result (self.new.charges.controls ≡ self.old.charges.controls ++ record { id = stamp; parent = Some (id_at self.old.charges parent); limit = None } ∷ []) }
+        ensures fresh { IfOk result (λ key. home_at self.old.charges key ≡ None) }
+        ensures here { IfOk result (λ key. home_at self.new.charges key ≡ Some (record { id = stamp; stands = true; live = 0; zombies = 0 })) }
+        ensures others { IfOk result (λ key. (k : ℕ) → k ≢ key → home_at self.new.charges k ≡ home_at self.old.charges k) }
+        ensures deep { (result ≡ Err ControlFault.ControlDepth) ↔ (deepest_control < length (control_path self.old.charges.controls (id_at self.old.charges parent))) }
+        ensures err { OnErr result (self.new ≡ self.old) }
+        ensures rest { self.new ≡ record self.old { charges = self.new.charges } }
+    {
+        self.controls.make(parent, stamp)
+    }
+
+    /// Removes a control group: [`Controls::remove`]. Its zombies go to the parent.
+    pub fn remove_control(&mut self, c: ControlKey) -> Result<(), Refusal>
+        requires { stands self.old.charges c ≡ true }
+        ensures refusal { result_err result ≡ remove_refusal self.old.charges c }
+        ensures controls { OnOk result (self.new.charges.controls ≡ filter (λ g. not (g.id == id_at self.old.charges c)) self.old.charges.controls) }
+        ensures homes { OnOk result ((parent : ℕ) → parent_control self.old.charges.controls (id_at self.old.charges c) ≡ Some parent
+            → (k : ℕ) → home_at self.new.charges k ≡ option_and_then (handed_on (id_at self.old.charges c) parent) (home_at self.old.charges k)) }
+        ensures err { OnErr result (self.new ≡ self.old) }
+        ensures rest { self.new ≡ record self.old { charges = self.new.charges } }
+    {
+        self.controls.remove(c)
+    }
+
+    /// Sets the limit of a control group or takes it away: [`Controls::set_limit`].
+    pub fn set_limit(&mut self, c: ControlKey, limit: Option<u32>) -> Result<(), Refusal>
+        requires { stands self.old.charges c ≡ true }
+        ensures refusal { result_err result ≡ limit_refusal self.old.charges c limit }
+        ensures controls { OnOk result (self.new.charges.controls ≡ map (limited (id_at self.old.charges c) limit) self.old.charges.controls) }
+        ensures homes { (k : ℕ) → home_at self.new.charges k ≡ home_at self.old.charges k }
+        ensures err { OnErr result (self.new ≡ self.old) }
+        ensures rest { self.new ≡ record self.old { charges = self.new.charges } }
+    {
+        self.controls.set_limit(c, limit)
+    }
+
+    /// The namespace and all inside it have fallen: [`Numbers::fell`].
+    pub fn fell(&mut self, space: SpaceKey)
+        requires inner { space ≢ 0 }
+        requires used { (s : ℕ) → contains (path_at self.old.numbering s) space ≡ true → 0 < length (taken_in self.old.numbering s) }
+        ensures names { self.new.numbering.names ≡ self.old.numbering.names }
+        ensures order { self.new.numbering.order ≡ self.old.numbering.order }
+        ensures namespaces { (s : ℕ) → namespace_at self.new.numbering s ≡ option_map (fallen_within space) (namespace_at self.old.numbering s) }
+        ensures bound { self.new.numbering.pid_max ≡ self.old.numbering.pid_max }
+        ensures rest { self.new ≡ record self.old { numbering = self.new.numbering } }
+    {
+        self.numbers.fell(space);
+    }
+
+    /// Takes the memory for one task more, and answers its key. The error is want of memory. Nothing changes
+    /// but the room.
+    #[inline(always)]
+    fn make_room(&mut self) -> Result<TaskKey, AllocError>
+        ensures same { IsSame self.old self.new }
+        ensures key { IfOk result (λ key. key ≡ self.new.numbering.next) }
+        ensures tasks { IfOk result (λ key. key < length self.new.tree.tasks) }
+        ensures members { IfOk result (λ key. key < length self.new.members) }
+        ensures kept { length self.old.members ≤ length self.new.members }
+    {
+        let key = self.numbers.reserve()?;
+        room_for(&mut self.tree, key)?;
+        self.members.reserve(key, key)?;
+        Ok(key)
+    }
+
+    /// A live task begins, with the planned numbers in the namespace and those around it: the child of a task,
+    /// whose group and session it has, or else the first of all, which leads its own. Its key is answered. The
+    /// error is want of memory, and then nothing has changed but the room.
+    #[inline(always)]
+    pub fn fork(
+        &mut self,
+        from: Option<TaskKey>,
+        space: SpaceKey,
+        numbers: &ArrayVec<Pid, LEVELS>,
+        task: Task,
+    ) -> Result<TaskKey, AllocError>
+        requires from { (p : ℕ) → from ≡ Some p → IsSome (task_at self.old.tree p) }
+        requires parents { (k p : ℕ) → parent_of self.old.tree k ≡ Some p → IsSome (task_at self.old.tree p) }
+        requires live { lives task ≡ true }
+        requires home { stands self.old.charges task.home ≡ true }
+        requires there { IsSome (namespace_at self.old.numbering space) }
+        requires all { find (λ s. is_none (draw_in self.old.numbering s)) (path_at self.old.numbering space) ≡ None }
+        requires planned { numbers.now.items ≡ map (λ s. unwrap_or (draw_in self.old.numbering s) 0) (path_at self.old.numbering space) }
+        ensures begun { IfOk result (λ key. Begins self.old self.new key from task (new_identifier space numbers.now.items)) }
+        ensures order { self.new.numbering.order ≡ self.old.numbering.order }
+        ensures namespaces { OnOk result ((s : ℕ) → namespace_at self.new.numbering s ≡ option_map (cursor_moved (path_at self.old.numbering space) numbers.now.items s) (namespace_at self.old.numbering s)) }
+        ensures err { OnErr result (IsSame self.old self.new) }
+    {
+        let key = self.make_room()?;
+        self.laws();
+        self.numbers.laws();
+        self.tree.laws();
+        self.members.laws();
+        self.numbers.draw(space, numbers)?;
+        settle(
+            &mut self.numbers,
+            &mut self.tree,
+            &mut self.members,
+            &mut self.controls,
+            key,
+            from,
+            task,
+        );
+        Ok(key)
+    }
+
+    /// The child of a task begins in a new namespace inside another one, with number 1 there and the planned
+    /// numbers around it: [`fork`](Tasks::fork) with `CLONE_NEWPID`. The keys of the task and of the
+    /// namespace are answered.
+    pub fn fork_new(
+        &mut self,
+        from: TaskKey,
+        outer: SpaceKey,
+        id: u64,
+        numbers: &ArrayVec<Pid, LEVELS>,
+        task: Task,
+    ) -> Result<(TaskKey, SpaceKey), AllocError>
+        requires from { IsSome (task_at self.old.tree from) }
+        requires parents { (k p : ℕ) → parent_of self.old.tree k ≡ Some p → IsSome (task_at self.old.tree p) }
+        requires live { lives task ≡ true }
+        requires home { stands self.old.charges task.home ≡ true }
+        requires outer { option_map_or (λ t. t.fallen) (namespace_at self.old.numbering outer) true ≡ false }
+        requires shallow { length (path_at self.old.numbering outer) ≤ deepest_space }
+        requires above { AreBelow self.old.numbering.order id }
+        requires all { find (λ s. is_none (draw_in self.old.numbering s)) (path_at self.old.numbering outer) ≡ None }
+        requires planned { numbers.now.items ≡ 1 ∷ map (λ s. unwrap_or (draw_in self.old.numbering s) 0) (path_at self.old.numbering outer) }
+        ensures begun { IfOk result (λ keys. Begins self.old self.new keys.0 (Some from) task (new_identifier keys.1 numbers.now.items)) }
+        ensures fresh { IfOk result (λ keys. namespace_at self.old.numbering keys.1 ≡ None) }
+        ensures made { IfOk result (λ keys. namespace_at self.new.numbering keys.1 ≡ Some (record (new_namespace id (keys.1 ∷ path_at self.old.numbering outer)) { cursor = 2 })) }
+        ensures namespaces { IfOk result (λ keys. (s : ℕ) → s ≢ keys.1 → namespace_at self.new.numbering s ≡ option_map (cursor_moved (path_at self.old.numbering outer) (drop 1 numbers.now.items) s) (namespace_at self.old.numbering s)) }
+        ensures order { IfOk result (λ keys. self.new.numbering.order ≡ self.old.numbering.order ++ (id, keys.1) ∷ []) }
+        ensures err { OnErr result (IsSame self.old self.new) }
+    {
+        let key = self.make_room()?;
+        self.laws();
+        self.numbers.laws();
+        self.tree.laws();
+        self.members.laws();
+        let (_, space) = self.numbers.draw_new(outer, id, numbers)?;
+        settle(
+            &mut self.numbers,
+            &mut self.tree,
+            &mut self.members,
+            &mut self.controls,
+            key,
+            Some(from),
+            task,
+        );
+        Ok((key, space))
     }
 }

@@ -4,8 +4,8 @@ use Rattle.std.specs.Option.{option_map_or}
 use Rattle.std.specs.Prelude.{not}
 use Rattle.std.proofs.lemmas.List.{get_or_past}
 use Rattle.std.proofs.lemmas.Bool.{cases_eq}
-use Rattle.owner_lists.specs.Owners.{owner_of}
-use Rattle.least_members.specs.Ranks.{ranked}
+use Rattle.member_lists.specs.Owners.{owner_of}
+use Rattle.member_queues.specs.Ranks.{ranked}
 use Rattle.task_tree.specs.declared.Task.{Task}
 use Rattle.task_tree.specs.Tree.{IsTree, lives, is_zombie, waits_for}
 use Rattle.task_tree.specs.Waiting.{IsWaiting}

@@ -5,8 +5,8 @@ use Rattle.std.specs.Prelude.{slice_set, slice_index_or, if◌then◌else◌}
 use Rattle.std.proofs.lemmas.List.{get_or-set_same, length-set, get_or_past}
 use Rattle.std.proofs.lemmas.List.Sums.{sum_by-set}
 use Rattle.std.proofs.lemmas.Bool.{eq-eqb, cases_eq}
-use Rattle.owner_lists.specs.Owners.{owner_of}
-use Rattle.least_members.specs.Ranks.{ranked}
+use Rattle.member_lists.specs.Owners.{owner_of}
+use Rattle.member_queues.specs.Ranks.{ranked}
 use Rattle.task_tree.specs.declared.Task.{Task}
 use Rattle.task_tree.specs.Tree.{IsTree, is_zombie, waits_for, handed}
 use Rattle.task_tree.specs.Waiting.{IsWaiting}

@@ -1,8 +1,8 @@
 -- What a contract sees of `TaskTree`: by key the tasks, their parents, and the ranks of those that have ended.
 use Rattle.std.specs.Prelude.{◌≡◌, ℕ, ◌<◌, ◌≤◌, ◌==◌, Bool, true, false, not, List, length, Option, Some, None, option_map, if◌then◌else◌, slice_index_or}
 use Rattle.std.specs.Option.{option_map_or}
-use Rattle.owner_lists.specs.Owners.{owner_of}
-use Rattle.least_members.specs.Ranks.{ranked}
+use Rattle.member_lists.specs.Owners.{owner_of}
+use Rattle.member_queues.specs.Ranks.{ranked}
 use Rattle.pid_types.specs.declared.plain.Life.TheVariants.{Live, Zombie}
 use Rattle.task_tree.specs.declared.Task.{Task}
 

@@ -1,7 +1,7 @@
 -- Ended children among their parents' children.
 use Rattle.std.specs.Prelude.{◌≡◌, ◌<◌, ℕ, List, length, Option, Some}
-use Rattle.owner_lists.specs.Owners.{owner_of}
-use Rattle.least_members.specs.Ranks.{ranked}
+use Rattle.member_lists.specs.Owners.{owner_of}
+use Rattle.member_queues.specs.Ranks.{ranked}
 
 -- who waits for a parent is its child, and no parent has two with one rank
 pub record IsWaiting (parents : List (Option ℕ)) (ended : List (Option (ℕ × ℕ))) : Type 0 where

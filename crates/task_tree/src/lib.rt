@@ -9,15 +9,16 @@
 
 ghost use Rattle.std.specs.Prelude.{◌≡◌, ◌≢◌, ℕ, ◌+◌, ◌<◌, ◌≤◌, ◌^◌, length, option_map, Some, None, true, false, IsSome, MatchOption, OnOk, OnErr, [], ◌∷◌, ◌++◌, slice_set};
 ghost use Rattle.pid_types.specs.declared.plain.Life.{Life};
-ghost use Rattle.owner_lists.specs.Owners.{AreMembers};
-ghost use Rattle.least_members.specs.Ranks.{IsLeast};
+ghost use Rattle.member_lists.specs.Owners.{AreMembers};
+ghost use Rattle.member_queues.specs.Ranks.{IsLeast};
 ghost use Rattle.task_tree.specs.Tree.{task_at, parent_of, rank_of, lives, is_zombie, waits_for, handed};
 
 mod links;
 
-use least_members::LeastMembers;
 use links::{enter_ended, forget_ended, hand_all, leave_parent, room_for_parent, room_for_rank};
-use owner_lists::{Members, OwnerLists};
+use member_lists::{MemberLists, Members};
+use member_queues::MemberQueues;
+use pid_types::keys::{ControlKey, Pid, TaskKey};
 use pid_types::plain::{Ended, Life};
 use std::alloc::{AllocError, Global};
 use std::marker::Model;
@@ -28,7 +29,7 @@ pub struct Task {
     /// The id of the namespace that its children go into, which may have been dropped since.
     pub children_space: u64,
     /// The key of its control group.
-    pub home: u32,
+    pub home: ControlKey,
     /// Whether it has executed, after which its parent can move it to no other group.
     pub executed: bool,
     /// Whether it takes the children of its descendants that end (`PR_SET_CHILD_SUBREAPER(2const)`).
@@ -41,8 +42,8 @@ pub struct Task {
 /// It takes some 70 bytes for each key.
 pub struct TaskTree {
     tasks: Vec<Option<Task>>,
-    children: OwnerLists,
-    ended: LeastMembers,
+    children: MemberLists,
+    ended: MemberQueues,
 }
 
 // Written out, and not derived: so the crates above cite this drop, and do not prove it anew.
@@ -73,8 +74,8 @@ impl TaskTree {
     {
         TaskTree {
             tasks: Vec::new(alloc),
-            children: OwnerLists::new(alloc),
-            ended: LeastMembers::new(alloc),
+            children: MemberLists::new(alloc),
+            ended: MemberQueues::new(alloc),
         }
     }
 
@@ -103,14 +104,14 @@ impl TaskTree {
     }
 
     /// The task with the key.
-    pub fn task(&self, key: u32) -> Option<Task>
+    pub fn task(&self, key: TaskKey) -> Option<Task>
         ensures { result ≡ task_at self.now key }
     {
         *self.tasks.get(key as usize)?
     }
 
     /// The key of the task's parent; none of a task that began without one.
-    pub fn parent(&self, key: u32) -> Option<u32>
+    pub fn parent(&self, key: TaskKey) -> Option<TaskKey>
         requires { key < length self.now.tasks }
         ensures { result ≡ parent_of self.now key }
     {
@@ -118,7 +119,7 @@ impl TaskTree {
     }
 
     /// Some child of the task, if it has any.
-    pub fn first_child(&self, parent: u32) -> Option<u32>
+    pub fn first_child(&self, parent: TaskKey) -> Option<TaskKey>
         requires { parent < length self.now.tasks }
         ensures { MatchOption result ((k : ℕ) → parent_of self.now k ≢ Some parent) (λ k. parent_of self.now k ≡ Some parent) }
     {
@@ -126,7 +127,7 @@ impl TaskTree {
     }
 
     /// The children of the task, one after the other, each once.
-    pub fn children(&self, parent: u32) -> Members<'_>
+    pub fn children(&self, parent: TaskKey) -> Members<'_>
         requires { parent < length self.now.tasks }
         ensures { AreMembers self.now.parents parent result }
     {
@@ -135,7 +136,7 @@ impl TaskTree {
 
     /// Of the children of the task that have ended, the one with the least rank: whom a wait for any child
     /// reaps.
-    pub fn least_ended(&self, parent: u32) -> Option<u32>
+    pub fn least_ended(&self, parent: TaskKey) -> Option<TaskKey>
         requires { parent < length self.now.tasks }
         ensures least { MatchOption result ((k r : ℕ) → rank_of self.now k ≢ Some (parent, r)) (λ k. IsLeast self.now.ended parent k) }
     {
@@ -143,7 +144,7 @@ impl TaskTree {
     }
 
     /// The rank that the task ended with; none of one that lives or has no parent.
-    pub fn rank(&self, key: u32) -> Option<u32>
+    pub fn rank(&self, key: TaskKey) -> Option<Pid>
         requires { key < length self.now.tasks }
         ensures { result ≡ option_map (λ (m : ℕ × ℕ). m.1) (rank_of self.now key) }
     {
@@ -152,7 +153,7 @@ impl TaskTree {
 
     /// What is true of all tasks at any time; the call does nothing. Those that have ended, and no others, wait
     /// for their parent, and no parent has two with one rank. Who has a parent is a task.
-    pub fn bounds(&self)
+    pub fn laws(&self)
         ensures waiting { (k : ℕ) → option_map (λ (m : ℕ × ℕ). m.0) (rank_of self.now k) ≡ waits_for (task_at self.now k) (parent_of self.now k) }
         ensures apart { (j k p r : ℕ) → rank_of self.now j ≡ Some (p, r) → rank_of self.now k ≡ Some (p, r) → j ≡ k }
         ensures absent { (k : ℕ) → task_at self.now k ≡ None → parent_of self.now k ≡ None }
@@ -163,7 +164,7 @@ impl TaskTree {
     }
 
     /// A live task begins at a key that has none, as a child of the parent.
-    pub fn enter(&mut self, key: u32, parent: Option<u32>, task: Task)
+    pub fn enter(&mut self, key: TaskKey, parent: Option<TaskKey>, task: Task)
         requires key { key < length self.old.tasks }
         requires vacant { task_at self.old key ≡ None }
         requires live { lives task ≡ true }
@@ -180,7 +181,7 @@ impl TaskTree {
     }
 
     /// The task becomes another one in the same place, with the same life.
-    pub fn update(&mut self, key: u32, task: Task)
+    pub fn update(&mut self, key: TaskKey, task: Task)
         requires { option_map (λ (t : Task). t.life) (task_at self.old key) ≡ Some task.life }
         ensures tasks { self.new.tasks ≡ slice_set self.old.tasks key (Some task) }
         ensures parents { self.new.parents ≡ self.old.parents }
@@ -191,7 +192,7 @@ impl TaskTree {
 
     /// The live task ends, and waits for its parent with the rank. It costs a logarithm of the parent's children
     /// that have ended, taken over many calls.
-    pub fn finish(&mut self, key: u32, task: Task, end: Ended, rank: u32)
+    pub fn finish(&mut self, key: TaskKey, task: Task, end: Ended, rank: Pid)
         requires there { task_at self.old key ≡ Some task }
         requires live { lives task ≡ true }
         requires apart { (k p : ℕ) → parent_of self.old key ≡ Some p → rank_of self.old k ≢ Some (p, rank) }
@@ -207,7 +208,7 @@ impl TaskTree {
 
     /// All children of the one task become the other's, and those that have ended keep their ranks. It costs a few
     /// writes for each child, and a logarithm for each that has ended.
-    pub fn hand_on(&mut self, from: u32, to: u32)
+    pub fn hand_on(&mut self, from: TaskKey, to: TaskKey)
         requires differ { from ≢ to }
         requires from { from < length self.old.tasks }
         requires to { to < length self.old.tasks }
@@ -220,7 +221,7 @@ impl TaskTree {
     }
 
     /// The task is gone. Its children, if it has any, keep its key as their parent's.
-    pub fn remove(&mut self, key: u32)
+    pub fn remove(&mut self, key: TaskKey)
         requires { IsSome (task_at self.old key) }
         ensures tasks { self.new.tasks ≡ slice_set self.old.tasks key None }
         ensures parent { parent_of self.new key ≡ None }

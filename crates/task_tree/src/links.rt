@@ -1,18 +1,19 @@
 //! Children and ended children, as links by key.
 
 ghost use Rattle.std.specs.Prelude.{◌≡◌, ◌≢◌, ℕ, ◌<◌, ◌≤◌, ◌^◌, length, option_map, Some, None, OnOk};
-ghost use Rattle.owner_lists.specs.Owners.{owner_of};
-ghost use Rattle.least_members.specs.Ranks.{ranked};
+ghost use Rattle.member_lists.specs.Owners.{owner_of};
+ghost use Rattle.member_queues.specs.Ranks.{ranked};
 ghost use Rattle.task_tree.specs.Tree.{handed};
 ghost use Rattle.task_tree.specs.Waiting.{IsWaiting};
 
-use least_members::LeastMembers;
-use owner_lists::OwnerLists;
+use member_lists::MemberLists;
+use member_queues::MemberQueues;
+use pid_types::keys::{Pid, TaskKey};
 use std::alloc::AllocError;
 
 /// Makes room for a key among the parents, where there is none yet.
 #[inline(always)]
-pub(crate) fn room_for_parent(children: &mut OwnerLists, key: usize) -> Result<(), AllocError>
+pub(crate) fn room_for_parent(children: &mut MemberLists, key: usize) -> Result<(), AllocError>
     requires next { key ≤ length children.old }
     requires few { key < 2 ^ 30 }
     ensures ok { OnOk result (key < length children.new) }
@@ -27,7 +28,7 @@ pub(crate) fn room_for_parent(children: &mut OwnerLists, key: usize) -> Result<(
 
 /// Makes room for a key among the ranks, where there is none yet.
 #[inline(always)]
-pub(crate) fn room_for_rank(ended: &mut LeastMembers, key: usize) -> Result<(), AllocError>
+pub(crate) fn room_for_rank(ended: &mut MemberQueues, key: usize) -> Result<(), AllocError>
     requires next { key ≤ length ended.old }
     requires few { key < 2 ^ 30 }
     ensures ok { OnOk result (key < length ended.new) }
@@ -41,7 +42,7 @@ pub(crate) fn room_for_rank(ended: &mut LeastMembers, key: usize) -> Result<(), 
 }
 
 /// The key enters its parent's ended children, if it has a parent.
-pub(crate) fn enter_ended(ended: &mut LeastMembers, children: &OwnerLists, key: u32, rank: u32)
+pub(crate) fn enter_ended(ended: &mut MemberQueues, children: &MemberLists, key: TaskKey, rank: Pid)
     requires key { key < length ended.old }
     requires parents { key < length children.now }
     requires free { ranked ended.old key ≡ None }
@@ -57,7 +58,7 @@ pub(crate) fn enter_ended(ended: &mut LeastMembers, children: &OwnerLists, key: 
 }
 
 /// The key leaves the ended children that it is among.
-pub(crate) fn forget_ended(ended: &mut LeastMembers, key: u32)
+pub(crate) fn forget_ended(ended: &mut MemberQueues, key: TaskKey)
     requires { key < length ended.old }
     ensures here { ranked ended.new key ≡ None }
     ensures others { (k : ℕ) → k ≢ key → ranked ended.new k ≡ ranked ended.old k }
@@ -69,7 +70,7 @@ pub(crate) fn forget_ended(ended: &mut LeastMembers, key: u32)
 }
 
 /// The key leaves its parent, if it has one.
-pub(crate) fn leave_parent(children: &mut OwnerLists, key: u32)
+pub(crate) fn leave_parent(children: &mut MemberLists, key: TaskKey)
     requires { key < length children.old }
     ensures here { owner_of children.new key ≡ None }
     ensures others { (k : ℕ) → k ≢ key → owner_of children.new k ≡ owner_of children.old k }
@@ -81,7 +82,7 @@ pub(crate) fn leave_parent(children: &mut OwnerLists, key: u32)
 }
 
 /// The ended child goes to the ended children of another task, where it has ended.
-fn hand_ended(ended: &mut LeastMembers, child: u32, to: u32)
+fn hand_ended(ended: &mut MemberQueues, child: TaskKey, to: TaskKey)
     requires key { child < length ended.old }
     requires to { to < length ended.old }
     requires apart { (k p r : ℕ) → ranked ended.old child ≡ Some (p, r) → ranked ended.old k ≢ Some (to, r) }
@@ -96,7 +97,12 @@ fn hand_ended(ended: &mut LeastMembers, child: u32, to: u32)
 }
 
 /// All children of the one become the other's.
-pub(crate) fn hand_all(children: &mut OwnerLists, ended: &mut LeastMembers, from: u32, to: u32)
+pub(crate) fn hand_all(
+    children: &mut MemberLists,
+    ended: &mut MemberQueues,
+    from: TaskKey,
+    to: TaskKey,
+)
     requires differ { from ≢ to }
     requires from { from < length children.old }
     requires to { to < length children.old }

@@ -8,11 +8,11 @@ use Rattle.pid_types.specs.Names.{number}
 use Rattle.pid_types.specs.Queries.{name_by, numbers_by}
 use Rattle.model_laws.proofs.Lists.{IsIn-filter, IsIn-from_filter, IsIn-filter_map, IsIn-from_filter_map}
 use Rattle.pid_numbers.specs.Numbering.{Identifier, id_at, identifier_at, is_used_as, IsNumberUsedAs, IsNextUsed}
-use Rattle.task_store.specs.Store.{Store}
-use Rattle.store_view.specs.View.{state_of}
-use Rattle.store_view.specs.Lawful.{IsLawful}
-use Rattle.store_view.proofs.Keys.{number-is_key}
-use Rattle.store_view.proofs.Uses.{user, used-by}
+use Rattle.task_table.specs.Store.{Store}
+use Rattle.task_table.specs.View.{state_of}
+use Rattle.task_table.specs.Lawful.{IsLawful}
+use Rattle.task_table.proofs.Keys.{number-is_key}
+use Rattle.task_table.proofs.InUse.{user, used-by}
 
 least_bound : (ns : List ℕ) (m : ℕ) → least_of ns ≡ Some m → IsIn m ns × ((k : ℕ) → IsIn k ns → m ≤ k)
 least_bound [] m e = absurd (cc)

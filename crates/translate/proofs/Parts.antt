@@ -17,12 +17,12 @@ use Rattle.model_laws.proofs.Rising.{find-key}
 use Rattle.pid_numbers.specs.Numbering.{Numbering, Identifier, id_at, identifier_at, uses, is_used_as, IsNumberUsedAs}
 use Rattle.task_tree.specs.declared.Task.{Task}
 use Rattle.task_tree.specs.Tree.{task_at}
-use Rattle.task_store.specs.Store.{Store, uses_at, one_if}
-use Rattle.task_store.proofs.Groups.{held}
-use Rattle.store_view.specs.Collect.{collect}
-use Rattle.store_view.specs.View.{name_of, name_at, row_numbered}
-use Rattle.store_view.specs.Lawful.{IsLawful}
-use Rattle.store_view.proofs.LookUps.{row-from}
+use Rattle.task_table.specs.Store.{Store, uses_at, one_if}
+use Rattle.task_table.proofs.Groups.{held}
+use Rattle.task_table.specs.Collect.{collect}
+use Rattle.task_table.specs.View.{name_of, name_at, row_numbered}
+use Rattle.task_table.specs.Lawful.{IsLawful}
+use Rattle.task_table.proofs.LookUps.{row-from}
 use Rattle.translate.specs.ById.{control_row_of}
 
 -- the name that the parts tell

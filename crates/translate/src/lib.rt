@@ -1,4 +1,4 @@
-//! The queries: `getpid(2)`, `getppid(2)`, `getpgid(2)`, `getsid(2)`, `NSpid` of `proc_pid_status(5)`, and the
+//! Queries over the tasks of a table: `getpid(2)`, `getppid(2)`, `getpgid(2)`, `getsid(2)`, `NSpid` of `proc_pid_status(5)`, and the
 //! next number in use. In `shown` is the plain state as a whole.
 //!
 //! Each query costs a search or two in a tree of numbers and a few reads, `NSpid` a read for each level. They take no
@@ -12,19 +12,20 @@ ghost use Rattle.pid_types.specs.Short.{reply_of};
 ghost use Rattle.pid_numbers.specs.Numbering.{id_at, identifier_at};
 ghost use Rattle.task_tree.specs.declared.Task.{Task};
 ghost use Rattle.task_tree.specs.Tree.{task_at};
-ghost use Rattle.store_view.specs.declared.Found.{Found};
-ghost use Rattle.store_view.specs.View.{name_at, row_of, state_of};
-ghost use Rattle.store_view.specs.Whole.{IsWhole};
+ghost use Rattle.task_table.specs.declared.view.Found.{Found};
+ghost use Rattle.task_table.specs.View.{name_at, row_of, state_of};
+ghost use Rattle.task_table.specs.Whole.{IsWhole};
 
 pub mod shown;
 
 use pid_types::call::Kind;
+use pid_types::keys::{IdentKey, Pid, SpaceKey};
 use pid_types::reply::{Refusal, Reply, ShortReply};
-use store_view::{Found, find_live, find_task, laws, own_space};
-use task_store::TaskStore;
+use task_table::Tasks;
+use task_table::view::{Found, find_live, find_task, laws, own_space};
 
 /// The number of an identifier in a namespace, 0 where it is not visible there.
-fn seen(store: &TaskStore, space: u32, key: u32) -> u32
+fn seen(store: &Tasks, space: SpaceKey, key: IdentKey) -> Pid
     requires { IsSome (identifier_at store.now.numbering key) }
     ensures { (i : ℕ) → id_at store.now.numbering space ≡ Some i → result ≡ number_or_zero (state_of store.now).spaces (name_at store.now.numbering key) i }
 {
@@ -33,7 +34,7 @@ fn seen(store: &TaskStore, space: u32, key: u32) -> u32
 }
 
 /// The number of a task in a namespace.
-fn seen_task(store: &TaskStore, space: u32, key: u32) -> u32
+fn seen_task(store: &Tasks, space: SpaceKey, key: IdentKey) -> Pid
     requires { IsSome (task_at store.now.tree key) }
     ensures { (i : ℕ) → id_at store.now.numbering space ≡ Some i → result ≡ number_or_zero (state_of store.now).spaces (name_at store.now.numbering key) i }
 {
@@ -42,7 +43,7 @@ fn seen_task(store: &TaskStore, space: u32, key: u32) -> u32
 }
 
 /// The number of a task's group in a namespace.
-fn seen_group(store: &TaskStore, space: u32, found: &Found) -> u32
+fn seen_group(store: &Tasks, space: SpaceKey, found: &Found) -> Pid
     requires { task_at store.now.tree found.now.key ≡ Some found.now.task }
     ensures { (i : ℕ) → id_at store.now.numbering space ≡ Some i → result ≡ number_or_zero (state_of store.now).spaces (row_of store.now found.now.key found.now.task).group i }
 {
@@ -52,7 +53,7 @@ fn seen_group(store: &TaskStore, space: u32, found: &Found) -> u32
 }
 
 /// The number of a task's session in a namespace.
-fn seen_session(store: &TaskStore, space: u32, found: &Found) -> u32
+fn seen_session(store: &Tasks, space: SpaceKey, found: &Found) -> Pid
     requires { task_at store.now.tree found.now.key ≡ Some found.now.task }
     ensures { (i : ℕ) → id_at store.now.numbering space ≡ Some i → result ≡ number_or_zero (state_of store.now).spaces (row_of store.now found.now.key found.now.task).session i }
 {
@@ -63,7 +64,7 @@ fn seen_session(store: &TaskStore, space: u32, found: &Found) -> u32
 
 /// `getpid(2)`.
 #[tactic(auto, unfolding(pid_types::specs::Queries::get_pid))]
-pub fn get_pid(store: &TaskStore, caller: u32) -> ShortReply
+pub fn get_pid(store: &Tasks, caller: Pid) -> ShortReply
     requires { IsWhole store.now }
     ensures { reply_of result ≡ get_pid_of (state_of store.now) caller }
 {
@@ -76,7 +77,7 @@ pub fn get_pid(store: &TaskStore, caller: u32) -> ShortReply
 
 /// `getppid(2)`: 0 for a parent that the caller cannot see, and for the root init.
 #[tactic(auto, unfolding(pid_types::specs::Queries::get_ppid))]
-pub fn get_ppid(store: &TaskStore, caller: u32) -> ShortReply
+pub fn get_ppid(store: &Tasks, caller: Pid) -> ShortReply
     requires { IsWhole store.now }
     ensures { reply_of result ≡ get_ppid_of (state_of store.now) caller }
 {
@@ -91,7 +92,7 @@ pub fn get_ppid(store: &TaskStore, caller: u32) -> ShortReply
 }
 
 /// The task with the number in the caller's namespace, where 0 is the caller.
-fn self_or_task(store: &TaskStore, caller: &Found, space: u32, pid: u32) -> Option<Found>
+fn self_or_task(store: &Tasks, caller: &Found, space: SpaceKey, pid: Pid) -> Option<Found>
     requires there { task_at store.now.tree caller.now.key ≡ Some caller.now.task }
     requires own { id_at store.now.numbering space ≡ Some (name_at store.now.numbering caller.now.key).space }
     ensures there { IfSome result (λ f. task_at store.now.tree f.key ≡ Some f.task) }
@@ -106,7 +107,7 @@ fn self_or_task(store: &TaskStore, caller: &Found, space: u32, pid: u32) -> Opti
 
 /// `getpgid(2)`: 0 for a group that the caller cannot see.
 #[tactic(auto, unfolding(pid_types::specs::Queries::get_pgid))]
-pub fn get_pgid(store: &TaskStore, caller: u32, pid: u32) -> ShortReply
+pub fn get_pgid(store: &Tasks, caller: Pid, pid: Pid) -> ShortReply
     requires { IsWhole store.now }
     ensures { reply_of result ≡ get_pgid_of (state_of store.now) caller pid }
 {
@@ -122,7 +123,7 @@ pub fn get_pgid(store: &TaskStore, caller: u32, pid: u32) -> ShortReply
 
 /// `getsid(2)`: 0 for a session that the caller cannot see.
 #[tactic(auto, unfolding(pid_types::specs::Queries::get_sid))]
-pub fn get_sid(store: &TaskStore, caller: u32, pid: u32) -> ShortReply
+pub fn get_sid(store: &Tasks, caller: Pid, pid: Pid) -> ShortReply
     requires { IsWhole store.now }
     ensures { reply_of result ≡ get_sid_of (state_of store.now) caller pid }
 {
@@ -139,7 +140,7 @@ pub fn get_sid(store: &TaskStore, caller: u32, pid: u32) -> ShortReply
 /// Writes `NSpid` of `proc_pid_status(5)` over another reply: the target's numbers from the caller's namespace inwards.
 #[tactic(auto, unfolding(pid_types::specs::Queries::ns_pid))]
 #[inline(never)]
-pub fn ns_pid(store: &TaskStore, caller: u32, target: u32, reply: &mut Reply)
+pub fn ns_pid(store: &Tasks, caller: Pid, target: Pid, reply: &mut Reply)
     requires { IsWhole store.now }
     ensures { reply.new ≡ ns_pid_of (state_of store.now) caller target }
 {
@@ -159,7 +160,7 @@ pub fn ns_pid(store: &TaskStore, caller: u32, target: u32, reply: &mut Reply)
 /// The least number from the given one on that is in use as the kind, in the caller's namespace. It costs one
 /// search by marks.
 #[tactic(auto, unfolding(pid_types::specs::Queries::next))]
-pub fn next(store: &TaskStore, caller: u32, kind: Kind, from: u32) -> ShortReply
+pub fn next(store: &Tasks, caller: Pid, kind: Kind, from: Pid) -> ShortReply
     requires { IsWhole store.now }
     ensures { reply_of result ≡ next_of (state_of store.now) caller kind from }
 {

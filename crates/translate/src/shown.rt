@@ -6,20 +6,21 @@ ghost use Rattle.pid_types.specs.Shown.{Shows, with_count};
 ghost use Rattle.pid_numbers.specs.Numbering.{id_at, identifier_at};
 ghost use Rattle.task_tree.specs.Tree.{task_at, parent_of};
 ghost use Rattle.pids_charge.specs.Charges.{stands, id_at as home_id};
-ghost use Rattle.store_view.specs.View.{name_at, row_of, parent_id, space_of, state_of};
-ghost use Rattle.store_view.specs.Whole.{IsWhole, HasParents};
+ghost use Rattle.task_table.specs.View.{name_at, row_of, parent_id, space_of, state_of};
+ghost use Rattle.task_table.specs.Whole.{IsWhole, HasParents};
 ghost use Rattle.translate.specs.ById.{control_row_of};
 
 use arrayvec::ArrayVec;
 use pid_types::call::Kind;
+use pid_types::keys::{ControlKey, IdentKey, SpaceKey, TaskKey};
 use pid_types::plain::{ControlRow, Life, Name, Plain, Row, Space};
 use std::alloc::AllocError;
-use store_view::{Found, find_task, laws};
-use task_store::TaskStore;
+use task_table::Tasks;
+use task_table::view::{Found, find_task, laws};
 
 /// Writes the name of an identifier.
 #[inline(always)]
-fn write_name(store: &TaskStore, key: u32, name: &mut Name)
+fn write_name(store: &Tasks, key: IdentKey, name: &mut Name)
     requires { IsSome (identifier_at store.now.numbering key) }
     ensures { name.new ≡ name_at store.now.numbering key }
 {
@@ -35,7 +36,7 @@ fn no_name() -> Name {
 }
 
 /// Writes the name of a task's parent; none of the root init's.
-fn write_parent(store: &TaskStore, key: u32, name: &mut Option<Name>)
+fn write_parent(store: &Tasks, key: TaskKey, name: &mut Option<Name>)
     requires parents { HasParents store.now }
     requires there { IsSome (task_at store.now.tree key) }
     ensures { name.new ≡ option_map (name_at store.now.numbering) (parent_of store.now.tree key) }
@@ -49,7 +50,7 @@ fn write_parent(store: &TaskStore, key: u32, name: &mut Option<Name>)
 }
 
 /// Writes the row of a task over another.
-fn write_row(store: &TaskStore, found: &Found, row: &mut Row)
+fn write_row(store: &Tasks, found: &Found, row: &mut Row)
     requires parents { HasParents store.now }
     requires there { task_at store.now.tree found.now.key ≡ Some found.now.task }
     ensures { row.new ≡ row_of store.now found.now.key found.now.task }
@@ -85,7 +86,7 @@ fn no_row() -> Row {
 
 /// Adds the row of a task, which is written where it stands: a row has room for four names of 33 numbers. The error is want of
 /// memory.
-fn push_row(store: &TaskStore, found: &Found, rows: &mut Vec<Row>) -> Result<(), AllocError>
+fn push_row(store: &Tasks, found: &Found, rows: &mut Vec<Row>) -> Result<(), AllocError>
     requires parents { HasParents store.now }
     requires there { task_at store.now.tree found.now.key ≡ Some found.now.task }
     ensures { OnOk result (rows.new.items ≡ rows.old.items ++ row_of store.now found.now.key found.now.task ∷ []) }
@@ -97,7 +98,7 @@ fn push_row(store: &TaskStore, found: &Found, rows: &mut Vec<Row>) -> Result<(),
 }
 
 /// The tasks by their numbers in the root namespace.
-fn all_rows(store: &TaskStore) -> Result<Vec<Row>, AllocError>
+fn all_rows(store: &Tasks) -> Result<Vec<Row>, AllocError>
     requires { HasParents store.now }
     ensures { IfOk result (λ rows. rows.items ≡ (state_of store.now).rows) }
 {
@@ -115,7 +116,7 @@ fn all_rows(store: &TaskStore) -> Result<Vec<Row>, AllocError>
 }
 
 /// The id of the namespace that a namespace is in; none of the root's.
-fn outer_id(store: &TaskStore, key: u32) -> Option<u64>
+fn outer_id(store: &Tasks, key: SpaceKey) -> Option<u64>
     ensures { result ≡ parent_id store.now.numbering key }
 {
     match store.numbers().parent(key) {
@@ -125,7 +126,7 @@ fn outer_id(store: &TaskStore, key: u32) -> Option<u64>
 }
 
 /// A namespace.
-fn space_row(store: &TaskStore, id: u64, key: u32) -> Space
+fn space_row(store: &Tasks, id: u64, key: SpaceKey) -> Space
     ensures { result ≡ space_of store.now.numbering (id, key) }
 {
     Space {
@@ -137,7 +138,7 @@ fn space_row(store: &TaskStore, id: u64, key: u32) -> Space
 }
 
 /// The namespaces by their ids.
-fn all_spaces(store: &TaskStore) -> Result<Vec<Space>, AllocError>
+fn all_spaces(store: &Tasks) -> Result<Vec<Space>, AllocError>
     ensures { IfOk result (λ spaces. spaces.items ≡ (state_of store.now).spaces) }
 {
     let mut spaces = Vec::new(store.numbers().allocator());
@@ -148,7 +149,7 @@ fn all_spaces(store: &TaskStore) -> Result<Vec<Space>, AllocError>
 }
 
 /// The id of the control group that a control group is in; none of the root's.
-fn outer_control(store: &TaskStore, key: u32) -> Option<u64>
+fn outer_control(store: &Tasks, key: ControlKey) -> Option<u64>
     requires { stands store.now.charges key ≡ true }
     ensures { result ≡ parent_control store.now.charges.controls (home_id store.now.charges key) }
 {
@@ -159,7 +160,7 @@ fn outer_control(store: &TaskStore, key: u32) -> Option<u64>
 }
 
 /// A control group with its count.
-fn control_row(store: &TaskStore, id: u64, key: u32) -> ControlRow
+fn control_row(store: &Tasks, id: u64, key: ControlKey) -> ControlRow
     requires stands { stands store.now.charges key ≡ true }
     requires id { home_id store.now.charges key ≡ id }
     ensures { result ≡ control_row_of (state_of store.now) id }
@@ -174,7 +175,7 @@ fn control_row(store: &TaskStore, id: u64, key: u32) -> ControlRow
 }
 
 /// The control groups by their ids, each with its count.
-fn all_controls(store: &TaskStore) -> Result<Vec<ControlRow>, AllocError>
+fn all_controls(store: &Tasks) -> Result<Vec<ControlRow>, AllocError>
     requires { IsWhole store.now }
     ensures { IfOk result (λ rows. rows.items ≡ map (with_count (state_of store.now)) (state_of store.now).controls) }
 {
@@ -190,7 +191,7 @@ fn all_controls(store: &TaskStore) -> Result<Vec<ControlRow>, AllocError>
 ///
 /// It costs two searches in the root's tree of numbers and a few reads for each task, and a few reads for each
 /// namespace and each control group; a name has a number for each level, 33 at most. The error is want of memory.
-pub fn snapshot(store: &TaskStore) -> Result<Plain, AllocError>
+pub fn snapshot(store: &Tasks) -> Result<Plain, AllocError>
     requires { IsWhole store.now }
     ensures { IfOk result (Shows (state_of store.now)) }
 {

@@ -12,16 +12,16 @@ use Rattle.model_laws.proofs.Names.{same_name-refl}
 use Rattle.pids_charge.specs.Charges.{Home, home_at, live_at, zombies_at, kept, ChangesHome, id_at as home_id}
 use Rattle.task_tree.specs.declared.Task.{Task}
 use Rattle.task_tree.specs.Tree.{task_at, parent_of, lives}
-use Rattle.task_store.specs.Store.{Store, IsLess, home_without}
-use Rattle.task_store.proofs.Less.{number-less}
-use Rattle.task_store.proofs.Changes.{in_range, live_some, zombie_some}
-use Rattle.store_view.specs.View.{name_at, row_of, row_with, state_of}
-use Rattle.store_view.specs.Lawful.{IsLawful}
-use Rattle.store_view.specs.Whole.{HasParents, IsWhole}
-use Rattle.store_view.proofs.LookUps.{named, same-name, in-rows, rows-in}
-use Rattle.store_view.proofs.Rows.{rows-without}
-use Rattle.store_view.proofs.Sweeps.{name-less}
-use Rattle.store_view.proofs.Changed.{swept, row-left}
+use Rattle.task_table.specs.Store.{Store, IsLess, home_without}
+use Rattle.task_table.proofs.Less.{number-less}
+use Rattle.task_table.proofs.Changes.{in_range, live_some, zombie_some}
+use Rattle.task_table.specs.View.{name_at, row_of, row_with, state_of}
+use Rattle.task_table.specs.Lawful.{IsLawful}
+use Rattle.task_table.specs.Whole.{HasParents, IsWhole}
+use Rattle.task_table.proofs.LookUps.{named, same-name, in-rows, rows-in}
+use Rattle.task_table.proofs.Rows.{rows-without}
+use Rattle.task_table.proofs.Sweeps.{name-less}
+use Rattle.task_table.proofs.Changed.{swept, row-left}
 
 -- where a task is home there is a control group's key
 home-there : (s : Store) → IsLawful s → (k : ℕ) (t : Task) → task_at s.tree k ≡ Some t → (h : Home) × (home_at s.charges t.home ≡ Some h)

@@ -1,3 +1,4 @@
+pub mod Chosen
 pub mod Least
 pub mod Told
 pub mod Gone

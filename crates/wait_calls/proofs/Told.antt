@@ -14,19 +14,19 @@ use Rattle.pid_numbers.specs.Numbering.{Numbering, Namespace, Identifier, identi
 use Rattle.task_tree.specs.declared.Task.{Task}
 use Rattle.task_tree.specs.Tree.{task_at, parent_of, rank_of, lives, is_zombie, waits_for}
 use Rattle.groups_sessions.specs.Membership.{Membership, group_of}
-use Rattle.task_store.specs.Store.{Store}
-use Rattle.task_store.proofs.Groups.{held}
-use Rattle.store_view.specs.View.{name_of, name_at, row_of, state_of}
-use Rattle.store_view.specs.Lawful.{IsLawful}
-use Rattle.store_view.proofs.Keys.{number-is_key}
-use Rattle.store_view.proofs.LookUps.{named, group-named, same-name, in-rows, rows-in}
-use Rattle.store_view.proofs.Uses.{member}
-use Rattle.task_waits.specs.declared.Selected.{Selected}
-use Rattle.task_waits.specs.declared.Selected.TheVariants.{Any, Task as OneTask, Group}
-use Rattle.task_waits.specs.declared.Choice.{Choice}
-use Rattle.task_waits.specs.declared.Choice.TheVariants.{NoChild, NoneEnded, Ended}
-use Rattle.task_waits.specs.Choice.{IsSelected, IsMatch, IsChoice}
-use Rattle.task_waits.proofs.Chosen.{both, same_key}
+use Rattle.task_table.specs.Store.{Store}
+use Rattle.task_table.proofs.Groups.{held}
+use Rattle.task_table.specs.View.{name_of, name_at, row_of, state_of}
+use Rattle.task_table.specs.Lawful.{IsLawful}
+use Rattle.task_table.proofs.Keys.{number-is_key}
+use Rattle.task_table.proofs.LookUps.{named, group-named, same-name, in-rows, rows-in}
+use Rattle.task_table.proofs.InUse.{member}
+use Rattle.wait_calls.specs.declared.selection.Selected.{Selected}
+use Rattle.wait_calls.specs.declared.selection.Selected.TheVariants.{Any, Task as OneTask, Group}
+use Rattle.wait_calls.specs.declared.selection.Choice.{Choice}
+use Rattle.wait_calls.specs.declared.selection.Choice.TheVariants.{NoChild, NoneEnded, Ended}
+use Rattle.wait_calls.specs.Choice.{IsSelected, IsMatch, IsChoice}
+use Rattle.wait_calls.proofs.Chosen.{both, same_key}
 use Rattle.wait_calls.specs.Told.{Means, IsUnknown, IsTold}
 use Rattle.wait_calls.proofs.Least.{filter-none, some-there, least-is}
 

@@ -1,1 +1,3 @@
+pub mod Choice
+pub mod Walk
 pub mod Told

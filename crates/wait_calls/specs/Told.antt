@@ -9,12 +9,12 @@ use Rattle.pid_numbers.specs.Numbering.{number_of}
 use Rattle.task_tree.specs.declared.Task.{Task}
 use Rattle.task_tree.specs.Tree.{task_at, lives}
 use Rattle.groups_sessions.specs.Membership.{group_of}
-use Rattle.task_store.specs.Store.{Store}
-use Rattle.store_view.specs.View.{name_at, row_of, state_of}
-use Rattle.task_waits.specs.declared.Selected.{Selected}
-use Rattle.task_waits.specs.declared.Selected.TheVariants.{Any, Task as OneTask, Group}
-use Rattle.task_waits.specs.declared.Choice.{Choice}
-use Rattle.task_waits.specs.declared.Choice.TheVariants.{NoChild, NoneEnded, Ended}
+use Rattle.task_table.specs.Store.{Store}
+use Rattle.task_table.specs.View.{name_at, row_of, state_of}
+use Rattle.wait_calls.specs.declared.selection.Selected.{Selected}
+use Rattle.wait_calls.specs.declared.selection.Selected.TheVariants.{Any, Task as OneTask, Group}
+use Rattle.wait_calls.specs.declared.selection.Choice.{Choice}
+use Rattle.wait_calls.specs.declared.selection.Choice.TheVariants.{NoChild, NoneEnded, Ended}
 
 -- the key by which the wait of a caller in the namespace selects
 abbrev pub Means : Store → ℕ → ℕ → Which → Selected → Type 0

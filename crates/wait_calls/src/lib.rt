@@ -1,4 +1,4 @@
-//! Waits over a store, told in the model's words: `waitpid(2)` with `WNOHANG`.
+//! Waits over the tasks of a table: `waitpid(2)` with `WNOHANG`.
 #![tactic(auto)]
 
 ghost use Rattle.std.specs.Prelude.{◌≡◌, Some, IsSome, MatchOption, false};
@@ -7,24 +7,28 @@ ghost use Rattle.pid_types.specs.Wait.{end_of, without_row, wait as wait_of};
 ghost use Rattle.pid_types.specs.Short.{reply_of};
 ghost use Rattle.task_tree.specs.declared.Task.{Task};
 ghost use Rattle.task_tree.specs.Tree.{task_at, lives};
-ghost use Rattle.store_view.specs.View.{row_of, state_of};
-ghost use Rattle.store_view.specs.Whole.{HasParents, IsWhole};
+ghost use Rattle.task_table.specs.View.{row_of, state_of};
+ghost use Rattle.task_table.specs.Whole.{HasParents, IsWhole};
 ghost use Rattle.wait_calls.specs.Told.{Means, IsUnknown, IsTold};
 
+mod selection;
+mod walk;
+
 use pid_types::call::Which;
+use pid_types::keys::{Pid, SpaceKey, TaskKey};
 use pid_types::plain::{Ended, Life};
 use pid_types::reply::{Refusal, ShortReply};
-use store_view::{find_live, laws, own_space};
-use task_store::TaskStore;
+use selection::{Choice, Selected, choose};
+use task_table::Tasks;
+use task_table::view::{find_live, laws, own_space};
 use task_tree::Task;
-use task_waits::{Choice, Selected, choose};
 
 /// By which key the wait selects; none where it names a number that nobody has in the caller's namespace.
-fn selected(store: &TaskStore, caller: u32, space: u32, which: Which) -> Option<Selected>
+fn selected(store: &Tasks, caller: TaskKey, space: SpaceKey, which: Which) -> Option<Selected>
     requires { IsSome (task_at store.now.tree caller) }
     ensures { MatchOption result (IsUnknown store.now space which) (λ selected. Means store.now caller space which selected) }
 {
-    store.bounds();
+    store.laws();
     match which {
         Which::Any => Some(Selected::Any),
         Which::Pid(number) => store.numbers().find(space, number).map(Selected::Task),
@@ -34,13 +38,13 @@ fn selected(store: &TaskStore, caller: u32, space: u32, which: Which) -> Option<
 }
 
 /// Whom the caller's wait reaps.
-fn choose_child(store: &TaskStore, caller: u32, which: Which) -> Choice
+fn choose_child(store: &Tasks, caller: TaskKey, which: Which) -> Choice
     requires parents { HasParents store.now }
     requires caller { IsSome (task_at store.now.tree caller) }
     ensures { (t : Task) → task_at store.now.tree caller ≡ Some t → IsTold store.now (row_of store.now caller t) which result }
 {
     laws(store);
-    store.tree().bounds();
+    store.tree().laws();
     let space = own_space(store, caller);
     let Some(selected) = selected(store, caller, space, which) else {
         return Choice::NoChild;
@@ -50,7 +54,7 @@ fn choose_child(store: &TaskStore, caller: u32, which: Which) -> Choice
 
 /// A zombie is gone, and how it ended is answered.
 #[tactic(auto, unfolding(pid_types::specs::Wait::without_row))]
-fn reap(store: &mut TaskStore, child: u32, task: Task) -> Ended
+fn reap(store: &mut Tasks, child: TaskKey, task: Task) -> Ended
     requires whole { IsWhole store.old }
     requires there { task_at store.old.tree child ≡ Some task }
     requires ended { lives task ≡ false }
@@ -71,7 +75,7 @@ fn reap(store: &mut TaskStore, child: u32, task: Task) -> Ended
 /// `waitpid(2)` with `WNOHANG`: reaps the selected child with the least number that has ended.
 #[tactic(auto, unfolding(pid_types::specs::Wait::wait))]
 #[inline(never)]
-pub fn wait(store: &mut TaskStore, caller: u32, which: Which) -> ShortReply
+pub fn wait(store: &mut Tasks, caller: Pid, which: Which) -> ShortReply
     requires { IsWhole store.old }
     ensures state { state_of store.new ≡ (wait_of (state_of store.old) caller which).state }
     ensures reply { reply_of result ≡ (wait_of (state_of store.old) caller which).reply }

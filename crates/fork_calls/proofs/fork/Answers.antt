@@ -3,7 +3,7 @@ use Rattle.std.specs.Option.{option_map_or}
 use Rattle.pid_types.specs.declared.reply.Refusal.TheVariants.{NoCaller}
 use Rattle.pid_types.specs.Outcome.{Outcome, refused, for_found}
 use Rattle.pid_types.specs.Fork.{fork, with_space}
-use Rattle.store_view.specs.View.{row_of, state_of}
+use Rattle.task_table.specs.View.{row_of, state_of}
 use Rattle.fork_calls.specs.Outcomes.{forked_into}
 use Rattle.fork_calls.proofs.Places.{asked, asked-is}
 use Rattle.fork_calls.proofs.fork.Goals as goal

@@ -3,7 +3,7 @@ use Rattle.pid_types.specs.Bounds.{deepest_space}
 use Rattle.pid_types.specs.Outcome.{Outcome, unless_found}
 use Rattle.pid_types.specs.Fork.{forked, with_space}
 use Rattle.pid_numbers.specs.Numbering.{Namespace, IsPlanFault, namespace_at, path_at, draw_in}
-use Rattle.store_view.specs.View.{row_of, state_of}
+use Rattle.task_table.specs.View.{row_of, state_of}
 use Rattle.fork_calls.proofs.Plans.{full-there}
 use Rattle.fork_calls.proofs.Inside as inside
 use Rattle.fork_calls.proofs.fork_inside.Goals as goal

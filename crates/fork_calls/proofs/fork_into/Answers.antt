@@ -2,7 +2,7 @@ use Rattle.std.proofs.Common.{◌≡◌, ◌∙◌, ℕ, find, is_none, is_some,
 use Rattle.pid_types.specs.Outcome.{Outcome, unless_found}
 use Rattle.pid_types.specs.Fork.{forked}
 use Rattle.pid_numbers.specs.Numbering.{namespace_at, path_at, draw_in}
-use Rattle.store_view.specs.View.{row_of, state_of}
+use Rattle.task_table.specs.View.{row_of, state_of}
 use Rattle.fork_calls.proofs.Plans.{room-full, full-there}
 use Rattle.fork_calls.proofs.fork_into.Goals as goal
 

@@ -3,8 +3,8 @@ use Rattle.pid_types.specs.Outcome.{Outcome, unless_found}
 use Rattle.pid_types.specs.Fork.{forked, with_space}
 use Rattle.pids_charge.specs.Charges.{stands}
 use Rattle.task_tree.specs.declared.Task.{Task}
-use Rattle.store_view.specs.View.{name_at, row_of, state_of}
-use Rattle.store_view.proofs.Uses.{live-home}
+use Rattle.task_table.specs.View.{name_at, row_of, state_of}
+use Rattle.task_table.proofs.InUse.{live-home}
 use Rattle.fork_calls.proofs.Inside as inside
 use Rattle.fork_calls.proofs.Inner as inner
 use Rattle.fork_calls.proofs.fork_new_planned.Goals as goal

@@ -1,7 +1,7 @@
 use Rattle.std.proofs.Common.{◌∙◌, refl, sym, ap}
 use Rattle.pid_types.specs.Outcome.{Outcome, unless_found}
 use Rattle.pid_types.specs.Fork.{forked}
-use Rattle.store_view.specs.View.{name_at, row_of, state_of}
+use Rattle.task_table.specs.View.{name_at, row_of, state_of}
 use Rattle.fork_calls.proofs.Plans.{room-ok}
 use Rattle.fork_calls.proofs.Into as into
 use Rattle.fork_calls.proofs.fork_planned.Goals as goal

@@ -6,10 +6,10 @@ use Rattle.pid_types.specs.Names.{root_number}
 use Rattle.pid_types.specs.declared.reply.Reply.TheVariants.{Forked}
 use Rattle.pid_numbers.specs.Numbering.{Identifier, identifier_at}
 use Rattle.task_tree.specs.Tree.{task_at}
-use Rattle.task_store.specs.Store.{Store}
-use Rattle.task_store.proofs.Groups.{held}
-use Rattle.store_view.specs.View.{name_at, name_of}
-use Rattle.store_view.proofs.LookUps.{named, seen, root-number}
+use Rattle.task_table.specs.Store.{Store}
+use Rattle.task_table.proofs.Groups.{held}
+use Rattle.task_table.specs.View.{name_at, name_of}
+use Rattle.task_table.proofs.LookUps.{named, seen, root-number}
 use Rattle.fork_calls.proofs.reply_for.Goals as goal
 
 -- the root number of an identifier is the outermost of its numbers

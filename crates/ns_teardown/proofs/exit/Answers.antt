@@ -1,31 +1,50 @@
-use Rattle.std.proofs.Common.{◌≡◌, None, is_some, false, Some, IsSome, option_map, sym, ap, subst, ◌∙◌}
-use Rattle.std.specs.Option.{option_map_or}
-use Rattle.pid_numbers.specs.Numbering.{Numbering, Identifier, identifier_at, number_of}
-use Rattle.task_tree.specs.Tree.{parent_of, handed, lives}
-use Rattle.pid_types.specs.declared.plain.Life.{Life}
-use Rattle.pid_types.specs.declared.plain.Ended.{Ended}
-use Rattle.std.specs.Prelude.{slice_index_or, slice_set}
-use Rattle.task_tree.specs.declared.Task.{Task}
-use Rattle.task_store.specs.Store.{Store}
-use Rattle.ns_teardown.proofs.NewParents as parents
+use Rattle.std.proofs.Common.{sym, ap, ◌∙◌}
+use Rattle.pid_types.specs.Outcome.{Outcome}
+use Rattle.pid_numbers.specs.Numbering.{number_of}
+use Rattle.task_table.specs.View.{row_of, state_of}
+use Rattle.ns_teardown.proofs.Exits.{is-one, is-not-one, first-in-root, first-in-own, exit-refused, exit-falls, exit-ends}
 use Rattle.ns_teardown.proofs.exit.Goals as goal
 
-pub finish-requires-clause-visible : goal.finish-requires-clause-visible
-finish-requires-clause-visible c p child =
-    let same : c.hand_children.new.store.numbering ≡ c.args.store.now.numbering = ap (λ (s : Store). s.numbering) c.hand_children.ensures.rest in
-    let live = ap (λ o. option_map_or lives o false) c.requires.there ∙ c.requires.live in
-    let h = c.hand_children.ensures.parents in
-    let was : option_map (handed c.args.key h.0) (parent_of c.args.store.now.tree c.args.key) ≡ Some p = sym (h.2 c.args.key) ∙ child in
-    let seen = parents.seen_by_parent c.args.store.now c.laws.ensures c.requires.good c.args.key h.0 p live was in
-    subst (λ (b : Numbering). (v : Identifier) × (identifier_at b p ≡ Some v) × IsSome (number_of b c.args.key v.space)) (sym same) seen
+pub returns-then-is_first : goal.returns-then-is_first
+returns-then-is_first c =
+    let old = c.args.store.now in
+    let found = c.in-Some.found in
+    let top = sym (first-in-root old c.laws.ensures found.key found.task c.in-Some.ensures.there.0) ∙ sym c.is_first.ensures ∙ c.if-is_first.true in
+    let is = exit-refused (state_of old) c.args.caller c.args.status (row_of old found.key found.task) c.in-Some.ensures.row top in
+    record { state = sym (ap (λ (o : Outcome). o.state) is); reply = sym (ap (λ (o : Outcome). o.reply) is); parents = c.requires.parents }
 
-pub returns-clause-tree : goal.returns-clause-tree
-returns-clause-tree c =
-    let live = ap (λ o. option_map_or lives o false) c.requires.there ∙ c.requires.live in
-    let h = c.hand_children.ensures.parents in
-    let heir = (parents.heir-beside c.args.store.now c.laws.ensures c.requires.good c.args.key h.0 live c.requires.inner h.1).1 in
-    let task : Task = record c.args.task { life = Life.Zombie (Ended.Exited c.args.status) } in
-    parents.handed-parents c.args.store.now c.finish.new.self c.requires.good.parents c.args.key h.0 heir
-    (λ k. ap (λ l. slice_index_or l k None) c.finish.ensures.parents ∙ h.2 k)
-    (λ k some. ap is_some (ap (λ l. slice_index_or l k None) (c.finish.ensures.tasks ∙ ap (λ l. slice_set l c.args.key (Some task)) c.hand_children.ensures.tasks))
-    ∙ parents.still-tasks c.args.store.now.tree.tasks c.args.key task k some)
+pub end_init-requires-clause-top : goal.end_init-requires-clause-top
+end_init-requires-clause-top c u at =
+    let b = c.args.store.now.numbering in
+    let key = c.in-Some.found.key in
+    let space = c.own_space-space.ensures.own u at in
+    let first = is-one (number_of b key c.own_space-space.result) (sym c.is_first-2.ensures ∙ c.if-is_first-2.true) in
+    (ap (number_of b key) (sym space) ∙ first, λ root. is-not-one (number_of b key 0) (sym c.is_first.ensures ∙ c.if-is_first.false) (ap (number_of b key) (sym root ∙ sym space) ∙ first))
+
+pub end_task-requires-clause-inner : goal.end_task-requires-clause-inner
+end_task-requires-clause-inner c u at same =
+    let b = c.args.store.now.numbering in
+    let key = c.in-Some.found.key in
+    is-not-one (number_of b key c.own_space-space.result) (sym c.is_first-2.ensures ∙ c.if-is_first-2.false) (ap (number_of b key) (c.own_space-space.ensures.own u at) ∙ same)
+
+pub returns-then-is_first-2 : goal.returns-then-is_first-2
+returns-then-is_first-2 c =
+    let old = c.args.store.now in
+    let found = c.in-Some.found in
+    let row = row_of old found.key found.task in
+    let there = c.in-Some.ensures.there.0 in
+    let top = sym (first-in-root old c.laws.ensures found.key found.task there) ∙ sym c.is_first.ensures ∙ c.if-is_first.false in
+    let own = first-in-own old c.laws.ensures found.key found.task there c.own_space-space.result c.own_space-space.ensures.id ∙ sym c.is_first-2.ensures in
+    let is = exit-falls (state_of old) c.args.caller c.args.status row c.in-Some.ensures.row top (own ∙ c.if-is_first-2.true) in
+    record { state = c.end_init.ensures.state ∙ sym (ap (λ (o : Outcome). o.state) is); reply = sym (ap (λ (o : Outcome). o.reply) is); parents = c.end_init.ensures.parents }
+
+pub returns-else-is_first-2 : goal.returns-else-is_first-2
+returns-else-is_first-2 c =
+    let old = c.args.store.now in
+    let found = c.in-Some.found in
+    let row = row_of old found.key found.task in
+    let there = c.in-Some.ensures.there.0 in
+    let top = sym (first-in-root old c.laws.ensures found.key found.task there) ∙ sym c.is_first.ensures ∙ c.if-is_first.false in
+    let own = first-in-own old c.laws.ensures found.key found.task there c.own_space-space.result c.own_space-space.ensures.id ∙ sym c.is_first-2.ensures in
+    let is = exit-ends (state_of old) c.args.caller c.args.status row c.in-Some.ensures.row top (own ∙ c.if-is_first-2.false) in
+    record { state = c.end_task.ensures.state ∙ sym (ap (λ (o : Outcome). o.state) is); reply = sym (ap (λ (o : Outcome). o.reply) is); parents = c.end_task.ensures.parents }

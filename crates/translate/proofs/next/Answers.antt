@@ -7,7 +7,7 @@ use Rattle.pid_types.specs.Queries.{next, numbers_by}
 use Rattle.pid_types.specs.declared.reply.Reply.TheVariants.{Refused}
 use Rattle.pid_types.specs.declared.reply.Refusal.TheVariants.{NoCaller}
 use Rattle.pid_numbers.specs.Numbering.{IsNextUsed}
-use Rattle.store_view.specs.View.{name_at, state_of}
+use Rattle.task_table.specs.View.{name_at, state_of}
 use Rattle.translate.proofs.Least.{next-is}
 use Rattle.translate.proofs.next.Goals as goal
 

@@ -7,9 +7,9 @@ use Rattle.pid_types.specs.declared.reply.Refusal.TheVariants.{NoCaller, NoTask}
 use Rattle.pid_types.specs.Names.{numbers_from, task_at as task_in}
 use Rattle.pid_types.specs.Queries.{ns_pid}
 use Rattle.pid_numbers.specs.Numbering.{levels_of}
-use Rattle.store_view.specs.View.{name_at, state_of}
-use Rattle.store_view.proofs.Keys.{levels-are}
-use Rattle.store_view.proofs.LookUps.{named}
+use Rattle.task_table.specs.View.{name_at, state_of}
+use Rattle.task_table.proofs.Keys.{levels-are}
+use Rattle.task_table.proofs.LookUps.{named}
 use Rattle.translate.proofs.ns_pid.Goals as goal
 
 pub returns : goal.returns

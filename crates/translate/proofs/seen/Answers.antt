@@ -1,8 +1,8 @@
 use Rattle.std.proofs.Common.{◌∙◌, sym, ap}
 use Rattle.std.specs.Prelude.{unwrap_or}
 use Rattle.pid_numbers.specs.Numbering.{identifier_at, number_of}
-use Rattle.task_store.proofs.Groups.{held}
-use Rattle.store_view.proofs.LookUps as look_ups
+use Rattle.task_table.proofs.Groups.{held}
+use Rattle.task_table.proofs.LookUps as look_ups
 use Rattle.translate.proofs.seen.Goals as goal
 
 pub returns : goal.returns

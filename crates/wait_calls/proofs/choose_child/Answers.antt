@@ -1,6 +1,6 @@
 use Rattle.std.proofs.Common.{ℕ, subst}
 use Rattle.wait_calls.specs.Told.{Means, IsUnknown}
-use Rattle.store_view.proofs.LookUps.{named}
+use Rattle.task_table.proofs.LookUps.{named}
 use Rattle.wait_calls.proofs.Told.{told, told-unknown}
 use Rattle.wait_calls.proofs.choose_child.Goals as goal
 
@@ -17,4 +17,4 @@ returns c = λ t here.
     let u = named s c.laws.ensures c.args.caller t here in
     told s c.laws.ensures c.requires.parents c.args.caller t here u.0 u.1 c.args.which c.in-Some.selected
     (subst (λ (i : ℕ). Means s c.args.caller i c.args.which c.in-Some.selected) (c.own_space-space.ensures.own u.0 u.1) c.in-Some.ensures)
-    (rw c.tree.ensures at c.bounds.ensures.waiting) c.choose.result c.choose.ensures
+    (rw c.tree.ensures at c.laws-2.ensures.waiting) c.choose.result c.choose.ensures

@@ -5,7 +5,7 @@ use Rattle.pid_types.specs.Outcome.{Outcome}
 use Rattle.pid_types.specs.Wait.{end_of}
 use Rattle.task_tree.specs.declared.Task.{Task}
 use Rattle.task_tree.specs.Tree.{Tree, task_at}
-use Rattle.store_view.specs.View.{row_of, state_of}
+use Rattle.task_table.specs.View.{row_of, state_of}
 use Rattle.wait_calls.proofs.Reaped.{wait-reaps}
 use Rattle.wait_calls.proofs.wait.Goals as goal
 

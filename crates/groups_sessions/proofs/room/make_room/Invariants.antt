@@ -1,6 +1,6 @@
 use Rattle.std.proofs.Common.{◌≡◌, ℕ, ◌+◌, ◌-◌, ◌≤◌, length}
 use Rattle.std.specs.Prelude.{slice_index}
-use Rattle.owner_lists.specs.Owners.{owner_of}
+use Rattle.member_lists.specs.Owners.{owner_of}
 use Rattle.groups_sessions.specs.Membership.{IsKept}
 use Rattle.groups_sessions.proofs.room.make_room.Given as goal
 

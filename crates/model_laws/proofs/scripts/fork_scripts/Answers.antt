@@ -1,7 +1,7 @@
 -- Each answer is computed.
-use Rattle.std.proofs.Common.{refl}
+use Rattle.std.proofs.Common.{refl, arith}
 use Rattle.model_laws.proofs.Computed.{computed}
-use Rattle.model_laws.proofs.SoundTest.{IsSound-from_test}
+use Rattle.model_laws.proofs.StepKept.{ends_sound}
 use Rattle.model_laws.proofs.scripts.fork_scripts.Goals as goal
 
 pub returns-clause-fork_and_get_pid : goal.returns-clause-fork_and_get_pid
@@ -18,7 +18,7 @@ returns-clause-fork_into_new_space c = refl
 
 pub returns-clause-fork_into_new_space_end : goal.returns-clause-fork_into_new_space_end
 unfolding computed
-returns-clause-fork_into_new_space_end c = record { ends = refl; sound = IsSound-from_test _ refl }
+returns-clause-fork_into_new_space_end c = ends_sound 32768 (omega arith, omega arith) _ _ refl
 
 pub returns-clause-one_world : goal.returns-clause-one_world
 unfolding computed

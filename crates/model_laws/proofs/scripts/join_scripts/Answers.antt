@@ -1,7 +1,7 @@
 -- Each answer is computed.
-use Rattle.std.proofs.Common.{refl}
+use Rattle.std.proofs.Common.{refl, arith}
 use Rattle.model_laws.proofs.Computed.{computed}
-use Rattle.model_laws.proofs.SoundTest.{IsSound-from_test}
+use Rattle.model_laws.proofs.StepKept.{ends_sound}
 use Rattle.model_laws.proofs.scripts.join_scripts.Goals as goal
 
 pub returns-clause-join_and_fall : goal.returns-clause-join_and_fall
@@ -10,7 +10,7 @@ returns-clause-join_and_fall c = refl
 
 pub returns-clause-join_and_fall_end : goal.returns-clause-join_and_fall_end
 unfolding computed
-returns-clause-join_and_fall_end c = record { ends = refl; sound = IsSound-from_test _ refl }
+returns-clause-join_and_fall_end c = ends_sound 32768 (omega arith, omega arith) _ _ refl
 
 pub returns-clause-no_fork_into_dropped : goal.returns-clause-no_fork_into_dropped
 unfolding computed

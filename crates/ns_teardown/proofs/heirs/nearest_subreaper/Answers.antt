@@ -1,7 +1,7 @@
 use Rattle.std.proofs.Common.{◌≡◌, ◌+◌, ◌-◌, ◌<◌, length, true, false, Some, refl, sym, ◌∙◌, arith}
 use Rattle.task_tree.specs.Tree.{parent_of}
 use Rattle.ns_teardown.specs.Heirs.{is_subreaper_in}
-use Rattle.task_store.proofs.Changes.{in_range}
+use Rattle.task_table.proofs.Changes.{in_range}
 use Rattle.ns_teardown.proofs.Outer as outer
 use Rattle.ns_teardown.proofs.Ancestors as ancestors
 use Rattle.ns_teardown.proofs.heirs.nearest_subreaper.Goals as goal

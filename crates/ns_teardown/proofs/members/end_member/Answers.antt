@@ -1,7 +1,7 @@
 use Rattle.std.proofs.Common.{subst, sym}
 use Rattle.pid_numbers.specs.Numbering.{Numbering}
-use Rattle.task_store.specs.Store.{IsLess}
-use Rattle.store_view.proofs.Changed as changed
+use Rattle.task_table.specs.Store.{IsLess}
+use Rattle.task_table.proofs.Changed as changed
 use Rattle.ns_teardown.proofs.members.end_member.Goals as goal
 
 pub returns-clause-numbers : goal.returns-clause-numbers

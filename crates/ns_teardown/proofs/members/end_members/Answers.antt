@@ -1,7 +1,7 @@
 use Rattle.std.proofs.Common.{◌≡◌, ◌<◌, arith}
-use Rattle.task_store.proofs.Less as less
+use Rattle.task_table.proofs.Less as less
 use Rattle.ns_teardown.proofs.Falling as falling
-use Rattle.store_view.proofs.Changed as changed
+use Rattle.task_table.proofs.Changed as changed
 use Rattle.ns_teardown.proofs.KeptHomes as homes
 use Rattle.ns_teardown.proofs.members.end_members.Goals as goal
 

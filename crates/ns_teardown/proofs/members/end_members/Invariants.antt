@@ -1,5 +1,5 @@
 use Rattle.std.proofs.Common.{◌≡◌, ◌-◌, ◌≤◌, ℕ}
-use Rattle.task_store.specs.Store.{IsLess}
+use Rattle.task_table.specs.Store.{IsLess}
 use Rattle.ns_teardown.specs.Fall.{slot_at, slot_midway, KeepsHomes}
 use Rattle.ns_teardown.proofs.members.end_members.Given as goal
 

@@ -1,6 +1,6 @@
 use Rattle.std.proofs.Common.{inl, refl}
 use Rattle.std.proofs.lemmas.Result.{err_from_is_err_and}
-use Rattle.locked_table.specs.Chronicle.{next_stamp}
+use Rattle.kept_table.specs.Chronicle.{next_stamp}
 use Rattle.pid_workers.specs.Made.{calls_of}
 use Rattle.pid_commands.proofs.serve.list_of_script.Goals as goal
 

@@ -1,5 +1,5 @@
 use Rattle.std.proofs.Common.{sym, subst, arith}
-use Rattle.pid_jobs.specs.Receipts.{IsAudited}
+use Rattle.pid_workers.specs.Receipts.{IsAudited}
 use Rattle.pid_commands.proofs.serve.run_all.Goals as goal
 
 -- what the workers had, and the snapshot that the list shows

@@ -4,7 +4,7 @@ use Rattle.slab.specs.Slab.{get}
 use Rattle.index_array.specs.Place.{entry_at}
 use Rattle.pid_numbers.specs.declared.spaces.Space.{Space}
 use Rattle.pid_numbers.specs.Numbering.{Numbering, namespace_at, identifier_at, path_at, draw_in, moved, new_identifier}
-use Rattle.rising_ids.specs.Ids.{AreBelow}
+use Rattle.id_slab.specs.Ids.{AreBelow}
 use Rattle.pid_numbers.specs.Slabs.{id_on, AreListed, numbering_of, namespace_of, identifier_of, way, entry_on, bound_on, name_at, namespace_on, fell, ArePlanned}
 use Rattle.pid_numbers.proofs.Views as views
 use Rattle.pid_numbers.proofs.Ties as ties

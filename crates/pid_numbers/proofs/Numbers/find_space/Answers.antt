@@ -1,6 +1,6 @@
 use Rattle.std.proofs.Common.{◌≡◌, ◌≢◌, ◌∙◌, sym, ap, ℕ, Option, Some, None, MatchOption}
-use Rattle.rising_ids.specs.Ids.{key_of}
-use Rattle.rising_ids.proofs.Keys.{entry_of}
+use Rattle.id_slab.specs.Ids.{key_of}
+use Rattle.id_slab.proofs.Keys.{entry_of}
 use Rattle.pid_numbers.specs.Numbering.{id_at}
 use Rattle.pid_numbers.specs.Slabs.{id_on}
 use Rattle.pid_numbers.proofs.Orders as orders

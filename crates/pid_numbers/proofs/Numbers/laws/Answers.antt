@@ -1,7 +1,7 @@
 use Rattle.std.proofs.Common.{◌⊎◌, inl, inr, [], ◌∷◌, arith, ◌≡◌, ◌∙◌, refl, sym, ap, subst, ℕ, ◌<◌, ◌≤◌, List, length, get_or, drop, Option, Some, None, false, unwrap_or, option_map}
 use Rattle.std.specs.Option.{option_map_or}
 use Rattle.std.specs.List.{AllByRecursion}
-use Rattle.rising_ids.specs.Ids.{key_of, AreRising}
+use Rattle.id_slab.specs.Ids.{key_of, AreRising}
 use Rattle.pid_numbers.specs.Numbering.{Numbering, id_at, number_of, path_at, has_fallen_at}
 use Rattle.slab.specs.Slab.{Slab, get}
 use Rattle.pid_numbers.specs.declared.spaces.Space.{Space}

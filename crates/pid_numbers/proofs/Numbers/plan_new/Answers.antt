@@ -12,7 +12,7 @@ returns-in-Ok-clause-ok c =
     let path = views.path_is c.self.inside.pid_max c.self.inside.spaces c.self.inside.idents c.self.inside.order c.args.parent in
     let len = ap length path in
     let levels = c.levels.ensures.value in
-    let few = c.if-levels-gt32.false in
+    let few = c.if-levels-gt-DEEPEST_SPACE.false in
     subst (λ b. (length (path_at b c.args.parent) ≤ deepest_space) × (find (λ s. is_none (draw_in b s)) (path_at b c.args.parent) ≡ None) × (c.with_first.result.items ≡ 1 ∷ map (λ s. unwrap_or (draw_in b s) 0) (path_at b c.args.parent))) c.self.view_is (
       omega (arith, len, levels, few),
       ap (λ p. find (λ s. is_none (draw_in now s)) p) path ∙ ap (λ d. find (λ s. is_none (d s)) (way c.self.inside.spaces c.args.parent)) (sym draws) ∙ c.in-Ok.ensures.ok.0,
@@ -26,7 +26,7 @@ returns-in-Err-clause-err c =
     let path = views.path_is c.self.inside.pid_max c.self.inside.spaces c.self.inside.idents c.self.inside.order c.args.parent in
     let len = ap length path in
     let levels = c.levels.ensures.value in
-    let few = c.if-levels-gt32.false in
+    let few = c.if-levels-gt-DEEPEST_SPACE.false in
     subst (λ b. (length (path_at b c.args.parent) ≤ deepest_space) × (find (λ s. is_none (draw_in b s)) (path_at b c.args.parent) ≡ Some c.in-Err.space)) c.self.view_is (
       omega (arith, len, levels, few),
       ap (λ p. find (λ s. is_none (draw_in now s)) p) path ∙ ap (λ d. find (λ s. is_none (d s)) (way c.self.inside.spaces c.args.parent)) (sym draws) ∙ c.in-Err.ensures.err,

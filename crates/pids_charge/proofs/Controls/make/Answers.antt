@@ -16,15 +16,15 @@ use Rattle.pids_charge.proofs.Controls.make.Goals as goal
 pub node_at-level-requires : goal.node_at-level-requires
 node_at-level-requires c = views.there c.self.inside.nodes c.args.parent (views.stand_in c.self.inside.nodes c.self.inside.ids c.args.self.now c.self.view_is c.args.parent c.requires.stands)
 
-pub returns-then-level-gt-DEEPEST-clause-deep : goal.returns-then-level-gt-DEEPEST-clause-deep
-returns-then-level-gt-DEEPEST-clause-deep c =
+pub returns-then-level-gt-DEEPEST_CONTROL-clause-deep : goal.returns-then-level-gt-DEEPEST_CONTROL-clause-deep
+returns-then-level-gt-DEEPEST_CONTROL-clause-deep c =
     let s = views.stand_in c.self.inside.nodes c.self.inside.ids c.args.self.now c.self.view_is c.args.parent c.requires.stands in
     let long : length (control_path c.args.self.now.controls (id_at c.args.self.now c.args.parent)) ≡ suc ((tree_of c.self.inside.nodes).level c.args.parent) =
     ap (λ i. length (control_path c.args.self.now.controls i)) (views.id_in c.self.inside.nodes c.self.inside.ids c.args.self.now c.self.view_is c.args.parent c.requires.stands)
     ∙ sym (ap (λ (v : Charges). length (control_path v.controls ((tree_of c.self.inside.nodes).id c.args.parent))) c.self.view_is)
     ∙ made.length-path c.self.inside.nodes c.self.inside.children c.self.inside.ids c.self.invariant.tree c.self.invariant.listed c.args.parent s in
     let level = views.field-is (λ (n : Node). n.level) 0 c.self.inside.nodes c.args.parent c.node_at-level.result c.node_at-level.ensures in
-    (λ e. omega (arith, long, level, c.if-level-gt-DEEPEST.true), λ h. refl)
+    (λ e. omega (arith, long, level, c.if-level-gt-DEEPEST_CONTROL.true), λ h. refl)
 
 pub invariant_of-self : goal.invariant_of-self
 invariant_of-self c = made.IsKept-room c.self.inside.nodes c.make_room.new.nodes c.make_room.new.nodes.capacity c.in_err-key.ensures.nodes c.self.inside.totals.items c.make_room.new.totals.items c.self.inside.children c.make_room.new.children c.self.inside.ids c.self.invariant c.in_err-key.ensures.totals c.in_err-key.ensures.children c.in_err-key.ensures.longer c.in_err-key.ensures.more c.in_err-key.ensures.small
@@ -43,7 +43,7 @@ returns-in_err-key-clause-deep c =
     ∙ made.length-path c.self.inside.nodes c.self.inside.children c.self.inside.ids c.self.invariant.tree c.self.invariant.listed c.args.parent s in
     let level = views.field-is (λ (n : Node). n.level) 0 c.self.inside.nodes c.args.parent c.node_at-level.result c.node_at-level.ensures in
     let p = err_from_is_err_and c.from_residual.result c.from_residual.ensures.1 in
-    rw (p.1, p.2) (λ e. absurd (cc), λ h. absurd (omega (arith, h, long, level, c.if-level-gt-DEEPEST.false)))
+    rw (p.1, p.2) (λ e. absurd (cc), λ h. absurd (omega (arith, h, long, level, c.if-level-gt-DEEPEST_CONTROL.false)))
 
 pub push-requires : goal.push-requires
 push-requires c = made.below-ids (tree_of c.self.inside.nodes) (limit_in c.self.inside.nodes) c.args.stamp c.self.inside.ids (subst (λ (v : Charges). AllByRecursion (λ (g : Control). g.id < c.args.stamp) v.controls) (sym c.self.view_is) c.requires.above)
@@ -65,7 +65,7 @@ returns-in_err-push-clause-deep c =
     ∙ made.length-path c.self.inside.nodes c.self.inside.children c.self.inside.ids c.self.invariant.tree c.self.invariant.listed c.args.parent s in
     let level = views.field-is (λ (n : Node). n.level) 0 c.self.inside.nodes c.args.parent c.node_at-level.result c.node_at-level.ensures in
     let p = err_from_is_err_and c.from_residual-in_err-push.result c.from_residual-in_err-push.ensures.1 in
-    rw (p.1, p.2) (λ e. absurd (cc), λ h. absurd (omega (arith, h, long, level, c.if-level-gt-DEEPEST.false)))
+    rw (p.1, p.2) (λ e. absurd (cc), λ h. absurd (omega (arith, h, long, level, c.if-level-gt-DEEPEST_CONTROL.false)))
 
 pub add-requires-clause-free : goal.add-requires-clause-free
 add-requires-clause-free c =
@@ -88,7 +88,7 @@ invariant_of-self-2 c =
     (subst (λ n. Updates c.make_room.new.nodes c.insert_reserved.new.self c.insert_reserved.result (Some n)) c.new.ensures c.insert_reserved.ensures.updates)) in
     let old : get c.self.inside.nodes c.in_ok-key.key ≡ None = ap (get c.self.inside.nodes) (sym kv) ∙ sym (ap (λ (s : Slab Node). get s c.insert_reserved.result) c.in_ok-key.ensures.nodes) ∙ c.insert_reserved.ensures.was_vacant in
     let next : c.node_at-level.result.level + 1 ≡ (tree_of c.self.inside.nodes).level c.args.parent + 1 = omega (arith, level) in
-    let low : c.node_at-level.result.level + 1 ≤ 64 = omega (arith, c.if-level-gt-DEEPEST.false) in
+    let low : c.node_at-level.result.level + 1 ≤ 64 = omega (arith, c.if-level-gt-DEEPEST_CONTROL.false) in
     let r = made.IsKept-room c.self.inside.nodes c.make_room.new.nodes c.make_room.new.nodes.capacity c.in_ok-key.ensures.nodes c.self.inside.totals.items c.make_room.new.totals.items c.self.inside.children c.make_room.new.children c.self.inside.ids c.self.invariant c.in_ok-key.ensures.totals c.in_ok-key.ensures.children c.in_ok-key.ensures.longer c.in_ok-key.ensures.more c.in_ok-key.ensures.small in
     subst (λ ids. IsKept c.insert_reserved.new.self (set c.make_room.new.totals.items c.in_ok-key.key 0) c.add.new.self ids) (sym c.in_ok-push.ensures.ok)
     (subst (λ children. IsKept c.insert_reserved.new.self (set c.make_room.new.totals.items c.in_ok-key.key 0) children (c.self.inside.ids ++ (c.args.stamp, c.in_ok-key.key) ∷ [])) (sym c.add.ensures)
@@ -117,7 +117,7 @@ returns-clause-controls c =
     (subst (λ n. Updates c.make_room.new.nodes c.insert_reserved.new.self c.insert_reserved.result (Some n)) c.new.ensures c.insert_reserved.ensures.updates)) in
     let old : get c.self.inside.nodes c.in_ok-key.key ≡ None = ap (get c.self.inside.nodes) (sym kv) ∙ sym (ap (λ (s : Slab Node). get s c.insert_reserved.result) c.in_ok-key.ensures.nodes) ∙ c.insert_reserved.ensures.was_vacant in
     let next : c.node_at-level.result.level + 1 ≡ (tree_of c.self.inside.nodes).level c.args.parent + 1 = omega (arith, level) in
-    let low : c.node_at-level.result.level + 1 ≤ 64 = omega (arith, c.if-level-gt-DEEPEST.false) in
+    let low : c.node_at-level.result.level + 1 ≤ 64 = omega (arith, c.if-level-gt-DEEPEST_CONTROL.false) in
     ap (map (control_in (tree_of c.insert_reserved.new.self) (limit_in c.insert_reserved.new.self))) c.in_ok-push.ensures.ok
     ∙ made.controls-made c.self.inside.nodes c.insert_reserved.new.self c.in_ok-key.key c.args.parent c.args.stamp (c.node_at-level.result.level + 1) old u c.self.invariant.tree s next low c.self.inside.children c.self.inside.ids c.self.invariant.listed
     ∙ ap (λ i. map (control_in (tree_of c.self.inside.nodes) (limit_in c.self.inside.nodes)) c.self.inside.ids ++ (let g : Control = record { id = c.args.stamp; parent = Some i; limit = None } in g) ∷ []) (sym (views.id_in c.self.inside.nodes c.self.inside.ids c.args.self.now c.self.view_is c.args.parent c.requires.stands))
@@ -138,7 +138,7 @@ returns-clause-fresh c =
     (subst (λ n. Updates c.make_room.new.nodes c.insert_reserved.new.self c.insert_reserved.result (Some n)) c.new.ensures c.insert_reserved.ensures.updates)) in
     let old : get c.self.inside.nodes c.in_ok-key.key ≡ None = ap (get c.self.inside.nodes) (sym kv) ∙ sym (ap (λ (s : Slab Node). get s c.insert_reserved.result) c.in_ok-key.ensures.nodes) ∙ c.insert_reserved.ensures.was_vacant in
     let next : c.node_at-level.result.level + 1 ≡ (tree_of c.self.inside.nodes).level c.args.parent + 1 = omega (arith, level) in
-    let low : c.node_at-level.result.level + 1 ≤ 64 = omega (arith, c.if-level-gt-DEEPEST.false) in
+    let low : c.node_at-level.result.level + 1 ≤ 64 = omega (arith, c.if-level-gt-DEEPEST_CONTROL.false) in
     sym (ap (λ (v : Charges). home_at v c.in_ok-key.key) c.self.view_is) ∙ views.home_at-is c.self.inside.nodes c.self.inside.ids c.in_ok-key.key ∙ made.home-none c.self.inside.nodes c.in_ok-key.key old
 
 pub returns-clause-here : goal.returns-clause-here
@@ -156,7 +156,7 @@ returns-clause-here c =
     (subst (λ n. Updates c.make_room.new.nodes c.insert_reserved.new.self c.insert_reserved.result (Some n)) c.new.ensures c.insert_reserved.ensures.updates)) in
     let old : get c.self.inside.nodes c.in_ok-key.key ≡ None = ap (get c.self.inside.nodes) (sym kv) ∙ sym (ap (λ (s : Slab Node). get s c.insert_reserved.result) c.in_ok-key.ensures.nodes) ∙ c.insert_reserved.ensures.was_vacant in
     let next : c.node_at-level.result.level + 1 ≡ (tree_of c.self.inside.nodes).level c.args.parent + 1 = omega (arith, level) in
-    let low : c.node_at-level.result.level + 1 ≤ 64 = omega (arith, c.if-level-gt-DEEPEST.false) in
+    let low : c.node_at-level.result.level + 1 ≤ 64 = omega (arith, c.if-level-gt-DEEPEST_CONTROL.false) in
     views.home_at-is c.insert_reserved.new.self c.push.new.self c.in_ok-key.key ∙ made.home-made c.self.inside.nodes c.insert_reserved.new.self c.in_ok-key.key c.args.parent c.args.stamp (c.node_at-level.result.level + 1) old u c.self.invariant.tree s next low
 
 pub returns-clause-others : goal.returns-clause-others
@@ -174,7 +174,7 @@ returns-clause-others c k d =
     (subst (λ n. Updates c.make_room.new.nodes c.insert_reserved.new.self c.insert_reserved.result (Some n)) c.new.ensures c.insert_reserved.ensures.updates)) in
     let old : get c.self.inside.nodes c.in_ok-key.key ≡ None = ap (get c.self.inside.nodes) (sym kv) ∙ sym (ap (λ (s : Slab Node). get s c.insert_reserved.result) c.in_ok-key.ensures.nodes) ∙ c.insert_reserved.ensures.was_vacant in
     let next : c.node_at-level.result.level + 1 ≡ (tree_of c.self.inside.nodes).level c.args.parent + 1 = omega (arith, level) in
-    let low : c.node_at-level.result.level + 1 ≤ 64 = omega (arith, c.if-level-gt-DEEPEST.false) in
+    let low : c.node_at-level.result.level + 1 ≤ 64 = omega (arith, c.if-level-gt-DEEPEST_CONTROL.false) in
     views.home_at-is c.insert_reserved.new.self c.push.new.self k ∙ made.home-others c.self.inside.nodes c.insert_reserved.new.self c.in_ok-key.key c.args.parent c.args.stamp (c.node_at-level.result.level + 1) old u c.self.invariant.tree s next low k d ∙ sym (views.home_at-is c.self.inside.nodes c.self.inside.ids k) ∙ ap (λ (v : Charges). home_at v k) c.self.view_is
 
 pub returns-clause-deep : goal.returns-clause-deep
@@ -185,7 +185,7 @@ returns-clause-deep c =
     ∙ sym (ap (λ (v : Charges). length (control_path v.controls ((tree_of c.self.inside.nodes).id c.args.parent))) c.self.view_is)
     ∙ made.length-path c.self.inside.nodes c.self.inside.children c.self.inside.ids c.self.invariant.tree c.self.invariant.listed c.args.parent s in
     let level = views.field-is (λ (n : Node). n.level) 0 c.self.inside.nodes c.args.parent c.node_at-level.result c.node_at-level.ensures in
-    (λ e. absurd (cc), λ h. absurd (omega (arith, h, long, level, c.if-level-gt-DEEPEST.false)))
+    (λ e. absurd (cc), λ h. absurd (omega (arith, h, long, level, c.if-level-gt-DEEPEST_CONTROL.false)))
 
 pub returns-clause-tasks : goal.returns-clause-tasks
 returns-clause-tasks c =
@@ -202,7 +202,7 @@ returns-clause-tasks c =
     (subst (λ n. Updates c.make_room.new.nodes c.insert_reserved.new.self c.insert_reserved.result (Some n)) c.new.ensures c.insert_reserved.ensures.updates)) in
     let old : get c.self.inside.nodes c.in_ok-key.key ≡ None = ap (get c.self.inside.nodes) (sym kv) ∙ sym (ap (λ (s : Slab Node). get s c.insert_reserved.result) c.in_ok-key.ensures.nodes) ∙ c.insert_reserved.ensures.was_vacant in
     let next : c.node_at-level.result.level + 1 ≡ (tree_of c.self.inside.nodes).level c.args.parent + 1 = omega (arith, level) in
-    let low : c.node_at-level.result.level + 1 ≤ 64 = omega (arith, c.if-level-gt-DEEPEST.false) in
+    let low : c.node_at-level.result.level + 1 ≤ 64 = omega (arith, c.if-level-gt-DEEPEST_CONTROL.false) in
     let was = sym (views.all-is c.self.inside.nodes c.self.inside.ids) ∙ ap (λ (v : Charges). all_tasks v) c.self.view_is in
     let new = views.all-is c.insert_reserved.new.self c.push.new.self in
     let same = made.all-made c.self.inside.nodes c.insert_reserved.new.self c.in_ok-key.key c.args.parent c.args.stamp (c.node_at-level.result.level + 1) old u c.self.invariant.tree s next low in

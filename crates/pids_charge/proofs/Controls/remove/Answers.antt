@@ -6,7 +6,7 @@ use Rattle.pids_charge.specs.declared.node.Node.{Node}
 use Rattle.pids_charge.specs.Nodes.{tree_of}
 use Rattle.pids_charge.specs.Charges.{Charges, home_at, id_at, is_busy, handed_on, all_tasks}
 use Rattle.pids_charge.specs.Kept.{IsKept, control_in, limit_in}
-use Rattle.rising_ids.specs.Ids.{without}
+use Rattle.id_slab.specs.Ids.{without}
 use Rattle.pids_charge.proofs.Climbs as climbs
 use Rattle.pids_charge.proofs.Views as views
 use Rattle.pids_charge.proofs.Limited as limited

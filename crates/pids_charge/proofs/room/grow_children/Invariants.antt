@@ -1,5 +1,5 @@
 use Rattle.std.proofs.Common.{◌≡◌, ℕ, ◌+◌, ◌-◌, ◌≤◌, ◌^◌, length}
-use Rattle.owner_lists.specs.Owners.{owner_of}
+use Rattle.member_lists.specs.Owners.{owner_of}
 use Rattle.pids_charge.proofs.room.grow_children.Given as goal
 
 abbrev pub invariant-loop-children : goal.invariant-loop-children

@@ -1,6 +1,6 @@
 use Rattle.std.proofs.Common.{None, option_map, slice_set, sym, ap, ◌∙◌}
 use Rattle.std.proofs.lemmas.List.{length-set, get_or-set_same, get_or-set_other}
-use Rattle.owner_lists.specs.Owners.{owner_of}
+use Rattle.member_lists.specs.Owners.{owner_of}
 use Rattle.task_tree.specs.Tree.{waits_for}
 use Rattle.task_tree.proofs.Changes as changes
 use Rattle.task_tree.proofs.TaskTree.remove.Goals as goal

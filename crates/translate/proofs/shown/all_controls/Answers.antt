@@ -2,7 +2,7 @@ use Rattle.std.proofs.Common.{◌≡◌, ◌∙◌, ◌++◌, ◌∷◌, [], ℕ
 use Rattle.std.specs.List.{AllByRecursion}
 use Rattle.pid_types.specs.declared.plain.Control.{Control}
 use Rattle.pids_charge.specs.Charges.{Charges, stands, id_at}
-use Rattle.store_view.specs.View.{state_of}
+use Rattle.task_table.specs.View.{state_of}
 use Rattle.translate.specs.ById.{control_row_of}
 use Rattle.translate.proofs.Parts.{rows-by_id}
 use Rattle.translate.proofs.shown.all_controls.Goals as goal

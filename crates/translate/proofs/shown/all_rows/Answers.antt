@@ -1,7 +1,7 @@
 use Rattle.std.proofs.Common.{◌∙◌, ◌++◌, ◌∷◌, ◌+◌, ◌-◌, ◌<◌, [], sym, ap, arith, append_assoc, append-nil}
-use Rattle.store_view.specs.Collect.{collect}
-use Rattle.store_view.specs.View.{row_of, row_numbered}
-use Rattle.store_view.proofs.LookUps.{row-at}
+use Rattle.task_table.specs.Collect.{collect}
+use Rattle.task_table.specs.View.{row_of, row_numbered}
+use Rattle.task_table.proofs.LookUps.{row-at}
 use Rattle.translate.proofs.Parts.{collect-next, collect-none, row-none}
 use Rattle.translate.proofs.shown.all_rows.Goals as goal
 

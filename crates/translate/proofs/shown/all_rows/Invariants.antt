@@ -1,6 +1,6 @@
 use Rattle.std.proofs.Common.{◌≡◌, ◌++◌, ◌-◌, ◌≤◌}
-use Rattle.store_view.specs.Collect.{collect}
-use Rattle.store_view.specs.View.{row_numbered, state_of}
+use Rattle.task_table.specs.Collect.{collect}
+use Rattle.task_table.specs.View.{row_numbered, state_of}
 use Rattle.translate.proofs.shown.all_rows.Given as goal
 
 abbrev pub invariant-loop-number : goal.invariant-loop-number

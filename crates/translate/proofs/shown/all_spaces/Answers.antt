@@ -1,6 +1,6 @@
 use Rattle.std.proofs.Common.{◌∙◌, ◌++◌, ◌∷◌, [], sym, ap, map, append_assoc, append-nil}
 use Rattle.pid_numbers.specs.Numbering.{Numbering}
-use Rattle.store_view.specs.View.{space_of}
+use Rattle.task_table.specs.View.{space_of}
 use Rattle.translate.proofs.shown.all_spaces.Goals as goal
 
 pub loop-id-init : goal.loop-id-init

@@ -1,5 +1,5 @@
 use Rattle.std.proofs.Common.{◌≡◌, ◌++◌, map}
-use Rattle.store_view.specs.View.{space_of, spaces_of}
+use Rattle.task_table.specs.View.{space_of, spaces_of}
 use Rattle.translate.proofs.shown.all_spaces.Given as goal
 
 abbrev pub invariant-loop-id : goal.invariant-loop-id

@@ -1,7 +1,7 @@
 use Rattle.std.proofs.Common.{◌∙◌, ap}
 use Rattle.pid_types.specs.Controls.{parent_control}
 use Rattle.pids_charge.specs.Charges.{Charges, limit_of, count, id_at}
-use Rattle.store_view.proofs.Counts.{count-is}
+use Rattle.task_table.proofs.Counts.{count-is}
 use Rattle.translate.proofs.shown.control_row.Goals as goal
 
 pub returns : goal.returns

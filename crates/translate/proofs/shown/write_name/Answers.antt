@@ -1,6 +1,6 @@
 use Rattle.std.proofs.Common.{◌∙◌, sym, ap, subst, IsSome}
 use Rattle.pid_numbers.specs.Numbering.{identifier_at}
-use Rattle.store_view.specs.View.{name_at}
+use Rattle.task_table.specs.View.{name_at}
 use Rattle.translate.proofs.Parts.{name-is}
 use Rattle.translate.proofs.shown.write_name.Goals as goal
 

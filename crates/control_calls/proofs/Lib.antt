@@ -1,3 +1,0 @@
-pub mod Rehomed
-pub mod Busy
-pub mod Answered

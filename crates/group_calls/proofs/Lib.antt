@@ -1,5 +1,0 @@
-pub mod Members
-pub mod InSession
-pub mod Asked
-pub mod Regrouped
-pub mod Led

@@ -1,5 +1,0 @@
-//! Tests of `groups_sessions`, over its public calls.
-#![tactic(auto)]
-
-#[cfg(test)]
-mod tests;

@@ -1,5 +1,0 @@
-use Rattle.index_array.proofs.Roots.{none_above}
-use Rattle.index_array.proofs.IndexArray.bounds.Goals as goal
-
-pub returns : goal.returns
-returns g c = rw (← c.self.view_is) (none_above c.self.inside.root c.self.invariant)

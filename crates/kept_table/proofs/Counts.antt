@@ -1,0 +1,127 @@
+-- Counts of workers, of which one rises.
+use Rattle.std.proofs.Common.{◌≡◌, ℕ, ◌+◌, ◌^◌, ◌<◌, ◌≤◌, List, [], ◌∷◌, ◌++◌, length, length-append, length-set, set, replicate, Option, Some, None, sum, cond, Bool, true, false, eqb, refl, sym, ap, ◌∙◌, subst, arith, inl, inr}
+use Rattle.std.proofs.lemmas.Bool.Decides.{eqb_tells}
+use Rattle.std.proofs.lemmas.List.Sums.{sum_by-set, sum_by_push}
+use Rattle.std.proofs.lemmas.List.{get_or-set_same, get_or-set_other}
+use Rattle.std.specs.Prelude.{slice_index, ◌==◌}
+use Rattle.pid_types.specs.declared.entry.Entry.{Entry}
+use Rattle.pid_types.specs.Settings.{Settings, HasGoodPidMax}
+use Rattle.pid_types.specs.State.{State, root_state}
+use Rattle.pid_types.specs.Outcome.{Outcome}
+use Rattle.pid_types.specs.Step.{step}
+use Rattle.model_laws.specs.StepLaws.{BoundStays, RootStateIsSound, RunsKeepSoundness}
+use Rattle.kept_table.specs.Chronicle.{Chronicle, IsKept, by_worker, next_stamp, total, recorded}
+use Rattle.kept_table.specs.Whole.{IsKeptCounted, IsKeptWhole, one_of, room_of, told}
+use Rattle.kept_table.proofs.Invariant.{kept-new, kept-entry, kept-checkpoint}
+use Rattle.kept_table.proofs.Totals.{sum_of_noughts}
+
+one_yes : (i w : ℕ) → eqb i w ≡ true → one_of i w ≡ 1
+one_yes i w h = ap (λ (b : Bool). cond {A = ℕ} b 1 0) h
+
+one_no : (i w : ℕ) → eqb i w ≡ false → one_of i w ≡ 0
+one_no i w h = ap (λ (b : Bool). cond {A = ℕ} b 1 0) h
+
+-- the worker's count rises by one, and no other does
+pub counted_one : (calls new : List ℕ) (i v : ℕ) → i < length calls → v ≡ slice_index calls i → new ≡ set calls i (v + 1) → (w : ℕ) → slice_index new w ≡ slice_index calls w + one_of i w
+counted_one calls new i v lt is are w =
+    let there : slice_index new w ≡ slice_index (set calls i (v + 1)) w = ap (λ xs. slice_index xs w) are in
+    elim (eqb_tells i w) [
+      | inl t ↦
+          let here : slice_index (set calls i (v + 1)) w ≡ v + 1 = subst (λ j. slice_index (set calls i (v + 1)) j ≡ v + 1) t.1 (get_or-set_same calls i (v + 1) 0 lt) in
+          let was : slice_index calls i ≡ slice_index calls w = ap (slice_index calls) t.1 in
+          omega (arith, there, here, was, is, one_yes i w t.0)
+      | inr t ↦
+          let here : slice_index (set calls i (v + 1)) w ≡ slice_index calls w = get_or-set_other calls i w (v + 1) 0 (λ e. t.1 (sym e)) in
+          omega (arith, there, here, one_no i w t.0)
+    ]
+
+pub summed_one : (calls new : List ℕ) (i v : ℕ) → i < length calls → v ≡ slice_index calls i → new ≡ set calls i (v + 1) → sum new ≡ sum calls + 1
+summed_one calls new i v lt is are =
+    let all : sum new ≡ sum (set calls i (v + 1)) = ap sum are in
+    omega (arith, all, is, sum_by-set (λ x. x) calls i (v + 1) 0 lt)
+
+pub length_one : (calls new : List ℕ) (i v : ℕ) → new ≡ set calls i (v + 1) → length new ≡ length calls
+length_one calls new i v are = ap length are ∙ length-set calls i (v + 1)
+
+-- an entry more is counted for its worker
+pub by_worker_push : (w : ℕ) (entries : List Entry) (e : Entry) → by_worker w (entries ++ e ∷ []) ≡ by_worker w entries + one_of e.worker w
+by_worker_push w entries e = sum_by_push (λ (x : Entry). cond (x.worker == w) 1 0) entries e
+
+-- a new record
+pub counted-new : RootStateIsSound → (workers : ℕ) (config : Settings) (opening present : State) (cut calls : List ℕ) (entries : List Entry) (room : ℕ) → HasGoodPidMax config.pid_max → 0 < config.first_stamp → config.first_stamp < 2 ^ 64 → opening ≡ root_state config.pid_max → present ≡ root_state config.pid_max → entries ≡ []
+    → cut ≡ replicate workers 0 → calls ≡ replicate workers 0
+    → IsKeptCounted calls (record { config = config; opening = opening; first_kept = 0; cut = cut; entries = entries; present = present; booked = sum calls; room = room })
+counted-new law workers config opening present cut calls entries room good some fits from is none cuts all =
+    let zero_cut : sum cut ≡ 0 = ap sum cuts ∙ sum_of_noughts workers in
+    let zero_all : sum calls ≡ 0 = ap sum all ∙ sum_of_noughts workers in
+    let same : calls ≡ cut = all ∙ sym cuts in
+    record {
+      kept = kept-new law (length cut) config opening present cut entries (sum calls) room good some fits from is none refl zero_cut zero_all;
+      len = ap length same;
+      each = λ w lt.
+          let none_of : by_worker w entries ≡ 0 = ap (by_worker w) none in
+          let equal : slice_index calls w ≡ slice_index cut w = ap (λ xs. slice_index xs w) same in
+          omega (arith, none_of, equal);
+    }
+
+-- one recorded call more
+pub counted-push : (calls calls' : List ℕ) (c : Chronicle) (e : Entry) (entries : List Entry) (present : State) (room : ℕ) → IsKeptCounted calls c → c.booked ≡ sum calls → entries ≡ c.entries ++ e ∷ [] → e.worker < length c.cut → (next_stamp c + 1) < 2 ^ 64
+    → (let o : Outcome = record { state = present; reply = e.reply } in o) ≡ step c.present (next_stamp c) e.call
+    → ((w : ℕ) → slice_index calls' w ≡ slice_index calls w + one_of e.worker w) → sum calls' ≡ sum calls + 1 → length calls' ≡ length calls
+    → IsKeptCounted calls' (record c { entries = entries; present = present; booked = sum calls'; room = room })
+counted-push calls calls' c e entries present room k books are known fits is each all len = record {
+  kept = kept-entry (length c.cut) c e entries present (sum calls') room k.kept are known fits is (omega (arith, all, books));
+  len = len ∙ k.len;
+  each = λ w lt.
+      let more : by_worker w entries ≡ by_worker w c.entries + one_of e.worker w = ap (by_worker w) are ∙ by_worker_push w c.entries e in
+      omega (arith, each w, k.each w lt, more);
+}
+
+-- the present state becomes the opening
+pub counted-cut : RunsKeepSoundness → BoundStays → (calls cut : List ℕ) (c : Chronicle) (opening : State) (entries : List Entry) (first room : ℕ) → IsKeptCounted calls c → c.booked ≡ sum calls → opening ≡ c.present → entries ≡ [] → first ≡ total c → cut ≡ calls
+    → IsKeptCounted calls (record c { opening = opening; first_kept = first; cut = cut; entries = entries; room = room })
+counted-cut law stays calls cut c opening entries first room k books from none is same =
+    let len : length cut ≡ length c.cut = ap length same ∙ k.len in
+    let all : sum cut ≡ total c = ap sum same ∙ (sym books ∙ k.kept.counted.booked) in
+    record {
+      kept = subst (λ n. IsKept n (record c { opening = opening; first_kept = first; cut = cut; entries = entries; room = room })) (sym len) (kept-checkpoint law stays (length c.cut) c opening entries first cut room k.kept from none is len all);
+      len = ap length (sym same);
+      each = λ w lt.
+          let none_of : by_worker w entries ≡ 0 = ap (by_worker w) none in
+          let equal : slice_index calls w ≡ slice_index cut w = ap (λ xs. slice_index xs w) (sym same) in
+          omega (arith, none_of, equal);
+    }
+
+-- and each worker has as many recorded calls as before
+pub recorded-cut : (calls cut : List ℕ) (c : Chronicle) (opening : State) (first room : ℕ) → IsKeptCounted calls c → cut ≡ calls → (w : ℕ) → w < length c.cut
+    → recorded (record c { opening = opening; first_kept = first; cut = cut; entries = []; room = room }) w ≡ recorded c w
+recorded-cut calls cut c opening first room k same w lt =
+    let none_of : by_worker w [] ≡ 0 = refl in
+    let equal : slice_index cut w ≡ slice_index calls w = ap (λ xs. slice_index xs w) same in
+    omega (arith, none_of, equal, k.each w lt)
+
+-- the same beside a copy, without which there is no room
+pub whole-push : (copy : Option State) (config : Settings) (first : ℕ) (cut calls calls' : List ℕ) (before entries : List Entry) (old present : State) (r room : ℕ) (e : Entry) → 1 ≤ room_of copy r
+    → IsKeptWhole copy calls (told config copy first cut before old calls r) → entries ≡ before ++ e ∷ [] → e.worker < length cut → (next_stamp (told config copy first cut before old calls r) + 1) < 2 ^ 64
+    → (let o : Outcome = record { state = present; reply = e.reply } in o) ≡ step old (next_stamp (told config copy first cut before old calls r)) e.call
+    → ((w : ℕ) → slice_index calls' w ≡ slice_index calls w + one_of e.worker w) → sum calls' ≡ sum calls + 1 → length calls' ≡ length calls
+    → IsKeptWhole copy calls' (told config copy first cut entries present calls' room)
+whole-push None config first cut calls calls' before entries old present r room e some k are known fits is each all len = absurd (omega (arith, some))
+whole-push (Some copy) config first cut calls calls' before entries old present r room e some k are known fits is each all len = record {
+  counted = counted-push calls calls' (told config (Some copy) first cut before old calls r) e entries present room k.counted refl are known fits is each all len;
+  bare = λ none. absurd (cc);
+}
+
+-- one recorded call more, which is cut away at once: the state that it leaves becomes the opening
+pub whole-cut : RunsKeepSoundness → BoundStays → (calls calls' cut : List ℕ) (c : Chronicle) (e : Entry) (entries : List Entry) (present : State) (first room : ℕ) → IsKeptCounted calls c → c.booked ≡ sum calls → e.worker < length c.cut → (next_stamp c + 1) < 2 ^ 64
+    → (let o : Outcome = record { state = present; reply = e.reply } in o) ≡ step c.present (next_stamp c) e.call
+    → ((w : ℕ) → slice_index calls' w ≡ slice_index calls w + one_of e.worker w) → sum calls' ≡ sum calls + 1 → length calls' ≡ length calls
+    → entries ≡ [] → first ≡ total c + 1 → cut ≡ calls'
+    → IsKeptWhole None calls' (record c { opening = present; first_kept = first; cut = cut; entries = entries; present = present; booked = sum calls'; room = room })
+whole-cut law stays calls calls' cut c e entries present first room k books known fits is each all len none at same =
+    let more : length (c.entries ++ e ∷ []) ≡ length c.entries + 1 = length-append c.entries (e ∷ []) in
+    let pushed : IsKeptCounted calls' (record c { entries = c.entries ++ e ∷ []; present = present; booked = sum calls' }) = counted-push calls calls' c e (c.entries ++ e ∷ []) present c.room k books refl known fits is each all len in
+    record {
+      counted = counted-cut law stays calls' cut (record c { entries = c.entries ++ e ∷ []; present = present; booked = sum calls' }) present entries first room pushed refl refl none (omega (arith, at, more)) same;
+      bare = λ _. none;
+    }

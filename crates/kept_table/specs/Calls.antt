@@ -1,0 +1,38 @@
+-- What a record is at first, and what a call makes of it.
+use Rattle.std.specs.Prelude.{ℕ, ◌+◌, [], List, replicate}
+use Rattle.pid_types.specs.declared.call.Call.{Call}
+use Rattle.pid_types.specs.declared.entry.Entry.{Entry}
+use Rattle.pid_types.specs.Outcome.{Outcome}
+use Rattle.pid_types.specs.Settings.{Settings}
+use Rattle.pid_types.specs.State.{State, root_state}
+use Rattle.pid_types.specs.Step.{step}
+use Rattle.kept_table.specs.Chronicle.{Chronicle, next_stamp}
+
+-- a record that was asked nothing: the root state, and no call of any worker
+abbrev pub begun : Settings → ℕ → ℕ → Chronicle
+begun config workers room = record {
+  config = config;
+  opening = root_state config.pid_max;
+  first_kept = 0;
+  cut = replicate workers 0;
+  entries = [];
+  present = root_state config.pid_max;
+  booked = 0;
+  room = room;
+}
+
+-- the model's step for the next call
+abbrev pub outcome : Chronicle → Call → Outcome
+outcome c call = step c.present (next_stamp c) call
+
+-- the entry of the next call
+abbrev pub entry_of : Chronicle → ℕ → Call → Entry
+entry_of c worker call = record { worker = worker; call = call; reply = (outcome c call).reply }
+
+-- the record with these entries and this state, and one call more counted
+abbrev pub counted : Chronicle → List Entry → State → ℕ → Chronicle
+counted c entries present room = record c { entries = entries; present = present; booked = c.booked + 1; room = room }
+
+-- the record with the history cut away, so many calls being counted before it
+abbrev pub cut_at : Chronicle → ℕ → List ℕ → ℕ → Chronicle
+cut_at c first cut room = record c { opening = c.present; first_kept = first; cut = cut; entries = []; room = room }

@@ -1,0 +1,6 @@
+pub mod Calls
+pub mod Chronicle
+pub mod Whole
+pub mod Opening
+pub mod Promise
+pub mod Replicas

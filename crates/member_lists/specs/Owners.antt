@@ -1,0 +1,16 @@
+-- What a contract sees of `MemberLists`: at each key its owner, or none.
+use Rattle.std.specs.Prelude.{◌≡◌, ℕ, ◌==◌, List, Option, Some, None, slice_index_or, count_by}
+use Rattle.std.specs.List.{AllByRecursion}
+
+-- the owner of a key
+abbrev pub owner_of : List (Option ℕ) → ℕ → Option ℕ
+owner_of owners k = slice_index_or owners k None
+
+-- how often a key comes in a list
+abbrev pub times : ℕ → List ℕ → ℕ
+times k keys = count_by (λ j. j == k) keys
+
+-- the list has each member of an owner once, and nobody else
+pub record AreMembers (owners : List (Option ℕ)) (owner : ℕ) (keys : List ℕ) : Type 0 where
+  pub once : (k : ℕ) → owner_of owners k ≡ Some owner → times k keys ≡ 1
+  pub owned : AllByRecursion (λ k. owner_of owners k ≡ Some owner) keys

@@ -1,0 +1,209 @@
+-- A key that comes to an owner, and room for one more.
+use Rattle.std.proofs.Common.{◌≡◌, ◌≢◌, inl, inr, ℕ, zero, suc, ◌<◌, ◌≤◌, List, [], ◌∷◌, ◌++◌, length, get_or, set, map, Option, Some, refl, sym, ap, ◌∙◌, arith}
+use Rattle.std.proofs.lemmas.Bool.{cases_eq}
+use Rattle.std.proofs.lemmas.List.{get_or-set_same, get_or-set_other, length-set, length-append}
+use Rattle.member_queues.specs.declared.Node.{Node}
+use Rattle.member_queues.specs.Ranks.{ranked}
+use Rattle.member_queues.specs.Heap.{nil, blank, node_at, root_at, member_in, IsBelow, IsHeap, IsSinking}
+use Rattle.member_queues.proofs.Trees.{within, is_some, has_room, ranked-nodes, some_member}
+
+get_or-append_default : {X : Type 0} (xs : List X) (d : X) (i : ℕ) → get_or (xs ++ d ∷ []) i d ≡ get_or xs i d
+get_or-append_default [] d zero = refl
+get_or-append_default [] d (suc i) = refl
+get_or-append_default (x ∷ xs) d zero = refl
+get_or-append_default (x ∷ xs) d (suc i) = get_or-append_default xs d i
+
+-- one more key and one more owner
+pub IsHeap-grown : (rs : List ℕ) (ns : List Node) → IsHeap rs ns nil → length ns < nil → IsHeap (rs ++ 4294967295 ∷ []) (ns ++ blank ∷ []) nil
+IsHeap-grown rs ns w few = record {
+  ranked = record {
+    few = simp length-append (omega arith);
+    rooms = simp length-append (omega (arith, w.ranked.rooms));
+    fits = λ k. rw (same k) (w.ranked.fits k);
+    known = λ k. rw (same k) (λ owned. simp length-append (let lt = w.ranked.known k owned in omega (arith, lt)));
+    distinct = λ j k. rw (same j, same k) (w.ranked.distinct j k);
+  };
+  tree = record {
+    above = λ k. rw (same k) (λ owned free more. rw (same (node_at ns k).above) (w.tree.above k owned free more));
+    root = λ k. rw (same k) (λ owned free none. rw (same_root (node_at ns k).owner) (w.tree.root k owned free none));
+    tops = λ p. rw (same_root p) (λ some. rw (same (root_at rs p)) (w.tree.tops p some));
+    down = λ j k. rw (same j, same k) (w.tree.down j k);
+    apart = λ j. rw (same j) (w.tree.apart j);
+  };
+}
+  where
+    same : (k : ℕ) → node_at (ns ++ blank ∷ []) k ≡ node_at ns k
+    same k = get_or-append_default ns blank k
+
+    same_root : (p : ℕ) → root_at (rs ++ 4294967295 ∷ []) p ≡ root_at rs p
+    same_root p = get_or-append_default rs 4294967295 p
+
+-- a key that had no owner is one's member now, and held
+module _ (rs : List ℕ) (ns : List Node) (k p r : ℕ) (w : IsHeap rs ns nil) (key : k < length ns) (free : (node_at ns k).owner ≡ nil) (room : p < length rs) (fits : r ≤ nil)
+    (new : (j : ℕ) → ranked (map member_in ns) j ≢ Some (p, r)) where
+  abbrev node : Node
+  node = record { owner = p; rank = r; above = nil; left = nil; right = nil }
+
+  here : node_at (set ns k node) k ≡ node
+  here = get_or-set_same ns k node blank key
+
+  other : (j : ℕ) → j ≢ k → node_at (set ns k node) j ≡ node_at ns j
+  other j differs = get_or-set_other ns k j node blank differs
+
+  p_some : p ≢ nil
+  p_some = omega (arith, room, w.ranked.few, w.ranked.rooms)
+
+  k_some : k ≢ nil
+  k_some = omega (arith, key, w.ranked.few)
+
+  not_k : (j : ℕ) → (node_at ns j).owner ≢ nil → j ≢ k
+  not_k j owned e = owned (ap (λ i. (node_at ns i).owner) e ∙ free)
+
+  alone : (j : ℕ) → (node_at ns j).owner ≡ p → (node_at ns j).rank ≢ r
+  alone j mine e = new j (ranked-nodes ns j ∙ some_member (node_at ns j) p mine p_some ∙ ap (λ n. some_pair n) e)
+    where
+      some_pair : ℕ → Option (ℕ × ℕ)
+      some_pair n = Some (p, n)
+
+  was : (j : ℕ) → j ≢ k → (node_at (set ns k node) j).owner ≢ nil → (node_at ns j).owner ≢ nil
+  was j differs owned z = owned (ap (λ (x : Node). x.owner) (other j differs) ∙ z)
+
+  some_key : (j : ℕ) → (node_at ns j).owner ≢ nil → j ≢ nil
+  some_key j = is_some ns j w.ranked.few
+
+  above_entered : (j : ℕ) → j ≢ k → (node_at ns j).owner ≢ nil → (node_at ns j).above ≢ nil
+      → ((node_at (set ns k node) (node_at (set ns k node) j).above).owner ≡ (node_at (set ns k node) j).owner)
+      × ((node_at (set ns k node) (node_at (set ns k node) j).above).rank < (node_at (set ns k node) j).rank) × IsBelow (set ns k node) (node_at (set ns k node) j).above j
+  above_entered j differs owned more =
+      let a = w.tree.above j owned (some_key j owned) more in
+      rw (other j differs) (rw (other (node_at ns j).above (not_k (node_at ns j).above (λ z. owned (sym a.0 ∙ z)))) a)
+
+  pub IsHeap-entered : IsHeap rs (set ns k node) k
+  IsHeap-entered = record {
+    ranked = record {
+      few = rw (length-set ns k node) w.ranked.few;
+      rooms = rw (length-set ns k node) w.ranked.rooms;
+      fits = λ j. elim (cases_eq j k) [ inl e ↦ rw (e, here) fits | inr differs ↦ rw (other j differs) (w.ranked.fits j) ];
+      known = λ j. elim (cases_eq j k) [ inl e ↦ rw (e, here) (λ _. room) | inr differs ↦ rw (other j differs) (w.ranked.known j) ];
+      distinct = λ j m. elim (cases_eq j k) [
+        | inl e ↦ elim (cases_eq m k) [
+          | inl e' ↦ λ _ _ _. e ∙ sym e'
+          | inr differs ↦ rw (e, here, other m differs) (λ _ same ranks. absurd (alone m (sym same) (sym ranks)))
+        ]
+        | inr differs ↦ elim (cases_eq m k) [
+          | inl e' ↦ rw (e', here, other j differs) (λ _ same ranks. absurd (alone j same ranks))
+          | inr differs' ↦ rw (other j differs, other m differs') (w.ranked.distinct j m)
+        ]
+      ];
+    };
+    tree = record {
+      above = λ j owned differs more. above_entered j differs (was j differs owned) (λ z. more (ap (λ (x : Node). x.above) (other j differs) ∙ z));
+      root = λ j owned differs none. rw (other j differs) (w.tree.root j (was j differs owned) (some_key j (was j differs owned)) (sym (ap (λ (x : Node). x.above) (other j differs)) ∙ none));
+      tops = λ q some.
+          let t = w.tree.tops q some in
+          let lt = has_room rs q some in
+          let differs = not_k (root_at rs q) (λ z. let e : q ≡ nil = sym t.0 ∙ z in omega (arith, lt, e, w.ranked.few, w.ranked.rooms)) in
+          rw (other (root_at rs q) differs) (t.0, t.1, differs);
+      down = λ j m owned some below. elim (cases_eq j k) [
+        | inl e ↦ elim (rw (e, here) at below) [ inl y ↦ absurd (some (sym y)) | inr y ↦ absurd (some (sym y)) ]
+        | inr differs ↦
+            let d = w.tree.down j m (was j differs owned) some (rw (other j differs) at below) in
+            let differs' = not_k m (λ z. was j differs owned (sym d.0 ∙ z)) in
+            rw (other j differs, other m differs') (d.0, d.1, differs')
+      ];
+      apart = λ j. elim (cases_eq j k) [ inl e ↦ rw (e, here) (λ _ some _. some refl) | inr differs ↦ rw (other j differs) (w.tree.apart j) ];
+    };
+  }
+
+-- the held key becomes its owner's root, and the one that was is held
+pub IsHeap-crowned : (rs : List ℕ) (ns : List Node) (k p : ℕ) → IsHeap rs ns k → k ≢ nil → p < length rs → (node_at ns k).owner ≡ p → (node_at ns k).above ≡ nil
+    → IsHeap (set rs p k) ns (root_at rs p)
+IsHeap-crowned rs ns k p w k_some room mine none = record {
+  ranked = record {
+    few = w.ranked.few;
+    rooms = rw (length-set rs p k) w.ranked.rooms;
+    fits = w.ranked.fits;
+    known = rw (length-set rs p k) w.ranked.known;
+    distinct = w.ranked.distinct;
+  };
+  tree = record {
+    above = λ j owned free more. w.tree.above j owned (λ e. more (ap (λ i. (node_at ns i).above) e ∙ none)) more;
+    root = λ j owned free top. elim (cases_eq j k) [
+      | inl e ↦ rw (e, mine) here
+      | inr differs ↦
+          let old = w.tree.root j owned differs top in
+          other (node_at ns j).owner (λ z. free (sym old ∙ ap (root_at rs) z)) ∙ old
+    ];
+    tops = λ q. elim (cases_eq q p) [
+      | inl e ↦ rw (e, here) (λ _. (mine, none, λ z. (w.tree.tops p (λ y. k_some (z ∙ y))).2 (sym z)))
+      | inr differs ↦ rw (other q differs) (λ some.
+          let t = w.tree.tops q some in
+          (t.0, t.1, λ z. differs (sym t.0 ∙ ap (λ i. (node_at ns i).owner) z ∙ (w.tree.tops p (λ y. some (z ∙ y))).0)))
+    ];
+    down = λ j m owned some below.
+        let d = w.tree.down j m owned some below in
+        (d.0, d.1, λ z. is_some ns j w.ranked.few owned (sym d.1 ∙ ap (λ i. (node_at ns i).above) z ∙ (w.tree.tops p (λ y. some (z ∙ y))).1));
+    apart = w.tree.apart;
+  };
+}
+  where
+    here : root_at (set rs p k) p ≡ k
+    here = get_or-set_same rs p k nil room
+
+    other : (q : ℕ) → q ≢ p → root_at (set rs p k) q ≡ root_at rs q
+    other q differs = get_or-set_other rs p q k nil differs
+
+-- the key that came and its owner's root f
+module _ (rs : List ℕ) (ns xs : List Node) (k p r f : ℕ) (w : IsHeap rs ns nil) (key : k < length ns) (free : (node_at ns k).owner ≡ nil) (room : p < length rs) (fits : r ≤ nil)
+    (new : (j : ℕ) → ranked (map member_in ns) j ≢ Some (p, r)) (was_root : root_at rs p ≡ f) (read : xs ≡ set ns k (record { owner = p; rank = r; above = nil; left = nil; right = nil })) where
+  abbrev ns' : List Node
+  ns' = set ns k (record { owner = p; rank = r; above = nil; left = nil; right = nil })
+
+  entered : IsHeap rs ns' k
+  entered = IsHeap-entered rs ns k p r w key free room fits new
+
+  k_there : k ≢ nil
+  k_there = omega (arith, key, w.ranked.few)
+
+  k_node : node_at ns' k ≡ record { owner = p; rank = r; above = nil; left = nil; right = nil }
+  k_node = get_or-set_same ns k _ blank key
+
+  root_facts : f ≢ nil → ((node_at ns' f).owner ≡ p) × ((node_at ns' f).above ≡ nil) × (f ≢ k)
+  root_facts some = rw was_root at (entered.tree.tops p (λ z. some (sym was_root ∙ z)))
+
+  p_there : p ≢ nil
+  p_there = omega (arith, room, w.ranked.few, w.ranked.rooms)
+
+  pub root_within : f ≢ nil → f < length xs
+  root_within some = rw read (within ns' f (λ z. p_there (sym (root_facts some).0 ∙ z)))
+
+  pub sinks_below_root : (f ≢ nil) × (k ≢ nil → (node_at xs f).rank < (node_at xs k).rank) → IsSinking rs ns' f k
+  sinks_below_root less = record {
+    heap = entered;
+    owned = λ _ z. p_there (sym (root_facts less.0).0 ∙ z);
+    same = λ _. ap (λ (x : Node). x.owner) k_node ∙ sym (root_facts less.0).0;
+    lower = λ _. rw read at (less.1 k_there);
+  }
+
+  pub sinks_as_root : ((f ≢ nil) × (k ≢ nil → (node_at xs f).rank < (node_at xs k).rank) → ⊥) → IsSinking (set rs p k) ns' k f
+  sinks_as_root not = record {
+    heap = rw was_root at (IsHeap-crowned rs ns' k p entered k_there room (ap (λ (x : Node). x.owner) k_node) (ap (λ (x : Node). x.above) k_node));
+    owned = λ _ z. p_there (sym (ap (λ (x : Node). x.owner) k_node) ∙ z);
+    same = λ some. (root_facts some).0 ∙ sym (ap (λ (x : Node). x.owner) k_node);
+    lower = λ some.
+        let differ : (node_at ns' f).rank ≢ (node_at ns' k).rank = λ e.
+        (root_facts some).2 (entered.ranked.distinct f k (λ z. p_there (sym (root_facts some).0 ∙ z)) ((root_facts some).0 ∙ sym (ap (λ (x : Node). x.owner) k_node)) e) in
+        let higher : (node_at ns' f).rank < (node_at ns' k).rank → ⊥ = λ less. not (some, λ _. rw read less) in
+        omega (arith, differ, higher);
+  }
+
+  -- below a member of the same owner and a lesser rank
+  pub sinks_below : (at : ℕ) → ((node_at xs at).owner ≡ (node_at xs k).owner) × ((node_at xs at).rank < (node_at xs k).rank) → IsSinking rs ns' at k
+  sinks_below at elder =
+      let same : (node_at ns' at).owner ≡ (node_at ns' k).owner = rw read at elder.0 in
+      record {
+        heap = entered;
+        owned = λ _ z. p_there (sym (ap (λ (x : Node). x.owner) k_node) ∙ sym same ∙ z);
+        same = λ _. sym same;
+        lower = λ _. rw read at elder.1;
+      }

@@ -1,0 +1,37 @@
+use Rattle.std.proofs.Common.{◌≡◌, ◌≢◌, inl, inr, ℕ, IsSome, sym, ap, List, Option, map, Bool, true, false}
+use Rattle.member_queues.specs.declared.Node.{Node}
+use Rattle.member_queues.specs.Ranks.{ranked}
+use Rattle.member_queues.specs.Heap.{nil, node_at, member_in}
+use Rattle.member_queues.proofs.Trees as trees
+use Rattle.member_queues.proofs.Filling as filling
+use Rattle.member_queues.proofs.MemberQueues.remove.Goals as goal
+
+owned : (ns : List Node) (view : List (Option (ℕ × ℕ))) (k : ℕ) → map member_in ns ≡ view → IsSome (ranked view k) → (node_at ns k).owner ≢ nil
+owned ns view k is some =
+    let some' : IsSome (ranked (map member_in ns) k) = rw is some in
+    trees.member_there (node_at ns k) (rw (trees.ranked-nodes ns k) at some')
+
+pub is_before-requires-clause-a : goal.is_before-requires-clause-a
+is_before-requires-clause-a c =
+    let ns : List Node = c.self.inside.forest.nodes.items in
+    let mine = owned ns c.args.self.now c.args.key c.self.view_is c.requires.owned in
+    let is = trees.node_is ns c.args.key c.index.result.now (trees.within ns c.args.key mine) c.index.ensures in
+    rw c.as_slice.ensures.value (filling.side_within _ ns c.args.key c.index.result.now.left c.self.invariant.heap mine (inl (sym (ap (λ (x : Node). x.left) is))))
+
+pub is_before-requires-clause-b : goal.is_before-requires-clause-b
+is_before-requires-clause-b c =
+    let ns : List Node = c.self.inside.forest.nodes.items in
+    let mine = owned ns c.args.self.now c.args.key c.self.view_is c.requires.owned in
+    let is = trees.node_is ns c.args.key c.index.result.now (trees.within ns c.args.key mine) c.index.ensures in
+    rw c.as_slice.ensures.value (filling.side_within _ ns c.args.key c.index.result.now.right c.self.invariant.heap mine (inr (sym (ap (λ (x : Node). x.right) is))))
+
+pub fill-requires-else-is_before-clause-order : goal.fill-requires-else-is_before-clause-order
+fill-requires-else-is_before-clause-order c =
+    let ns : List Node = c.self.inside.forest.nodes.items in
+    let mine = owned ns c.args.self.now c.args.key c.self.view_is c.requires.owned in
+    let is = trees.node_is ns c.args.key c.index.result.now (trees.within ns c.args.key mine) c.index.ensures in
+    filling.after_right _ ns c.args.key c.index.result.now c.self.invariant.heap mine is
+    (λ facts. not_both c.if-is_before.false (c.is_before.ensures.1 (facts.0, λ more. rw c.as_slice.ensures.value (facts.1 more))))
+  where
+    not_both : {b : Bool} → b ≡ false → b ≡ true → ⊥
+    not_both f t = cc

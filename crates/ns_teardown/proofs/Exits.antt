@@ -1,0 +1,54 @@
+-- What an exit comes to in the model.
+use Rattle.std.proofs.Common.{◌≡◌, ◌≢◌, ℕ, ◌==◌, Bool, true, false, Option, Some, None, if◌then◌else◌, sym, ap, ◌∙◌}
+use Rattle.std.specs.Option.{option_eq}
+use Rattle.std.proofs.lemmas.Bool.{eqb-true}
+use Rattle.pid_types.specs.declared.plain.Row.{Row}
+use Rattle.pid_types.specs.declared.reply.Reply.TheVariants.{Done}
+use Rattle.pid_types.specs.declared.reply.Refusal.TheVariants.{NoCaller, RootInit}
+use Rattle.pid_types.specs.State.{State}
+use Rattle.pid_types.specs.Names.{root_number, live_row}
+use Rattle.pid_types.specs.Outcome.{Outcome, refused, changed, for_found, refuse_if}
+use Rattle.pid_types.specs.Exit.{is_init, rows_after_exit, fall, exit}
+use Rattle.pid_numbers.specs.Numbering.{id_at, number_of}
+use Rattle.task_tree.specs.declared.Task.{Task}
+use Rattle.task_tree.specs.Tree.{task_at}
+use Rattle.task_table.specs.Store.{Store}
+use Rattle.task_table.specs.View.{name_at, row_of, state_of}
+use Rattle.task_table.specs.Lawful.{IsLawful}
+use Rattle.task_table.proofs.Keys.{number-is_key}
+use Rattle.task_table.proofs.LookUps.{named, root-number}
+
+-- where the number is 1, and where it is not
+pub is-one : (o : Option ℕ) → option_eq ◌==◌ o (Some 1) ≡ true → o ≡ Some 1
+is-one None e = absurd (cc)
+is-one (Some n) e = ap Some (eqb-true n 1 e)
+
+pub is-not-one : (o : Option ℕ) → option_eq ◌==◌ o (Some 1) ≡ false → o ≢ Some 1
+is-not-one o e same = absurd (let z : true ≡ false = sym (ap (λ x. option_eq ◌==◌ x (Some 1)) same) ∙ e in cc)
+
+module _ (s : Store) (l : IsLawful s) (k : ℕ) (t : Task) (at : task_at s.tree k ≡ Some t) where
+  -- whether it is number 1 of the root namespace
+  pub first-in-root : option_eq ◌==◌ (number_of s.numbering k 0) (Some 1) ≡ (root_number (name_at s.numbering k) == 1)
+  first-in-root = let u = named s l k t at in ap (λ o. option_eq ◌==◌ o (Some 1)) (root-number s l k u.0 u.1)
+
+  -- whether it is the init of its own namespace
+  pub first-in-own : (space : ℕ) → id_at s.numbering space ≡ Some (name_at s.numbering k).space → is_init (state_of s) (row_of s k t) ≡ option_eq ◌==◌ (number_of s.numbering k space) (Some 1)
+  first-in-own space id = let u = named s l k t at in ap (λ o. option_eq ◌==◌ o (Some 1)) (number-is_key s.numbering l.numbering space (name_at s.numbering k).space k u.0 id u.1)
+
+module _ (state : State) (n : ℕ) (status : ℕ) (row : Row) (found : live_row state.rows n ≡ Some row) where
+  abbrev falls_or_ends : Row → Outcome
+  falls_or_ends r = if is_init state r then changed (fall state r status) Done else changed (record state { rows = rows_after_exit state r status }) Done
+
+  asked : (b : Bool) → (root_number row.name == 1) ≡ b → exit state n status ≡ refuse_if state b RootInit (falls_or_ends row)
+  unfolding exit
+  asked b top =
+      ap (λ o. for_found state o NoCaller (λ r. refuse_if state (root_number r.name == 1) RootInit (falls_or_ends r))) found ∙ ap (λ b. refuse_if state b RootInit (falls_or_ends row)) top
+
+  pub exit-refused : (root_number row.name == 1) ≡ true → exit state n status ≡ refused state RootInit
+  exit-refused top = asked true top
+
+  pub exit-falls : (root_number row.name == 1) ≡ false → is_init state row ≡ true → exit state n status ≡ changed (fall state row status) Done
+  exit-falls top init = asked false top ∙ ap (λ b. if b then changed (fall state row status) Done else changed (record state { rows = rows_after_exit state row status }) Done) init
+
+  pub exit-ends : (root_number row.name == 1) ≡ false → is_init state row ≡ false → exit state n status ≡ changed (record state { rows = rows_after_exit state row status }) Done
+  exit-ends top init = asked false top ∙ ap (λ b. if b then changed (fall state row status) Done else changed (record state { rows = rows_after_exit state row status }) Done) init

@@ -1,0 +1,18 @@
+use Rattle.std.proofs.Common.{sym}
+use Rattle.task_table.proofs.LookUps.{named}
+use Rattle.ns_teardown.proofs.Good.{good-tasks}
+use Rattle.ns_teardown.proofs.Fallen.{HasFallen, fallen}
+use Rattle.ns_teardown.proofs.end_init.Goals as goal
+
+pub fall-requires-clause-good : goal.fall-requires-clause-good
+fall-requires-clause-good c = good-tasks c.args.store.now c.laws.ensures c.requires.whole
+
+pub returns-clause-state : goal.returns-clause-state
+returns-clause-state c =
+    let old = c.args.store.now in
+    let new = c.fall.new.store in
+    let u = named old c.laws.ensures c.args.init c.args.task c.requires.there in
+    let b = c.fall.ensures.numbers u.0 u.1 in
+    let f : HasFallen old new u.0.space c.args.init c.args.status =
+    record { slots = c.fall.ensures.slots u.0 u.1; marked = b.0; falls = b.1; laws = b.2; less = b.3; homes = c.fall.ensures.homes; parents = c.fall.ensures.tree } in
+    sym (fallen old new c.laws.ensures c.laws-2.ensures c.requires.whole c.args.init c.args.task c.args.status c.requires.there u.0 u.1 (c.requires.top u.0 u.1).0 f)

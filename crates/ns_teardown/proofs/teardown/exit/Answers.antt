@@ -1,0 +1,31 @@
+use Rattle.std.proofs.Common.{◌≡◌, None, is_some, false, Some, IsSome, option_map, sym, ap, subst, ◌∙◌}
+use Rattle.std.specs.Option.{option_map_or}
+use Rattle.pid_numbers.specs.Numbering.{Numbering, Identifier, identifier_at, number_of}
+use Rattle.task_tree.specs.Tree.{parent_of, handed, lives}
+use Rattle.pid_types.specs.declared.plain.Life.{Life}
+use Rattle.pid_types.specs.declared.plain.Ended.{Ended}
+use Rattle.std.specs.Prelude.{slice_index_or, slice_set}
+use Rattle.task_tree.specs.declared.Task.{Task}
+use Rattle.task_table.specs.Store.{Store}
+use Rattle.ns_teardown.proofs.NewParents as parents
+use Rattle.ns_teardown.proofs.teardown.exit.Goals as goal
+
+pub finish-requires-clause-visible : goal.finish-requires-clause-visible
+finish-requires-clause-visible c p child =
+    let same : c.hand_children.new.store.numbering ≡ c.args.store.now.numbering = ap (λ (s : Store). s.numbering) c.hand_children.ensures.rest in
+    let live = ap (λ o. option_map_or lives o false) c.requires.there ∙ c.requires.live in
+    let h = c.hand_children.ensures.parents in
+    let was : option_map (handed c.args.key h.0) (parent_of c.args.store.now.tree c.args.key) ≡ Some p = sym (h.2 c.args.key) ∙ child in
+    let seen = parents.seen_by_parent c.args.store.now c.laws.ensures c.requires.good c.args.key h.0 p live was in
+    subst (λ (b : Numbering). (v : Identifier) × (identifier_at b p ≡ Some v) × IsSome (number_of b c.args.key v.space)) (sym same) seen
+
+pub returns-clause-tree : goal.returns-clause-tree
+returns-clause-tree c =
+    let live = ap (λ o. option_map_or lives o false) c.requires.there ∙ c.requires.live in
+    let h = c.hand_children.ensures.parents in
+    let heir = (parents.heir-beside c.args.store.now c.laws.ensures c.requires.good c.args.key h.0 live c.requires.inner h.1).1 in
+    let task : Task = record c.args.task { life = Life.Zombie (Ended.Exited c.args.status) } in
+    parents.handed-parents c.args.store.now c.finish.new.self c.requires.good.parents c.args.key h.0 heir
+    (λ k. ap (λ l. slice_index_or l k None) c.finish.ensures.parents ∙ h.2 k)
+    (λ k some. ap is_some (ap (λ l. slice_index_or l k None) (c.finish.ensures.tasks ∙ ap (λ l. slice_set l c.args.key (Some task)) c.hand_children.ensures.tasks))
+    ∙ parents.still-tasks c.args.store.now.tree.tasks c.args.key task k some)

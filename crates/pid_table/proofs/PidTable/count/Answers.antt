@@ -1,0 +1,16 @@
+use Rattle.std.proofs.Common.{◌∙◌, sym, ap, is_some, is_none}
+use Rattle.pid_types.specs.Controls.{control_at}
+use Rattle.pid_types.specs.State.{State}
+use Rattle.pid_types.specs.Controls.{count as count_of}
+use Rattle.pids_charge.specs.Charges.{Charges, count, id_at}
+use Rattle.task_table.specs.View.{state_of}
+use Rattle.task_table.proofs.Counts.{count-is}
+use Rattle.pid_table.proofs.PidTable.count.Goals as goal
+
+pub returns-clause-value : goal.returns-clause-value
+returns-clause-value c =
+    let s = c.self.inside.store in
+    c.count.ensures
+    ∙ ap (λ (w : Charges). count w (id_at w c.in-Some.key)) (c.controls-2.ensures ∙ sym c.controls.ensures) ∙ ap (count c.controls.result.now) c.in-Some.ensures.id
+    ∙ ap (λ (w : Charges). count w c.args.control) c.controls.ensures
+    ∙ count-is s c.laws.ensures c.args.control ∙ ap (λ (t : State). count_of t c.args.control) c.self.view_is

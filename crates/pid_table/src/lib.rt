@@ -1,0 +1,124 @@
+//! The process table: any call of the model, on tasks whose state is sound before and after it.
+//!
+//! A [`Tasks`] holds what its calls leave in it; the table holds one in which every call finds and leaves a sound state.
+#![tactic(auto)]
+
+ghost use Rattle.std.specs.Prelude.{◌≡◌, IfOk, IfSome, OnOk, is_some, length};
+ghost use Rattle.pid_types.specs.Controls.{control_at, count as count_of};
+ghost use Rattle.pid_types.specs.Shown.{Shows};
+ghost use Rattle.pid_types.specs.State.{root_state};
+ghost use Rattle.task_table.specs.View.{state_of};
+ghost use Rattle.task_table.specs.Whole.{IsWhole};
+ghost use Rattle.pid_table.specs.Bare.{IsBare};
+
+mod step;
+
+use model_laws::soundness::root_state_is_sound;
+use pid_types::config::Config;
+use pid_types::plain::{Life, Plain};
+use std::alloc::{AllocError, Global};
+use std::marker::Model;
+use task_table::Tasks;
+use task_table::view::laws;
+use task_tree::Task;
+use translate::shown;
+
+/// The process table: what it holds, and that this is sound.
+pub struct PidTable {
+    store: Tasks,
+}
+
+// Written out, and not derived: so the crates above cite this drop, and do not prove it anew.
+impl Drop for PidTable {
+    fn drop(self) {
+        let PidTable { store: _ } = self;
+    }
+}
+
+impl Model for PidTable {
+    ghost use Rattle.pid_types.specs.State.{State};
+    ghost use Rattle.task_table.specs.View.{state_of};
+    ghost use Rattle.task_table.specs.Whole.{IsWhole};
+
+    ghost Value = { State };
+
+    ghost view = { λ t. state_of t.store };
+
+    ghost invariant = { λ t. IsWhole t.store };
+}
+
+/// The root init begins in a bare store. The error is want of memory.
+fn begin_root_init(store: &mut Tasks) -> Result<(), AllocError>
+    requires { IsBare store.old }
+    ensures state { OnOk result (state_of store.new ≡ root_state store.old.numbering.pid_max) }
+    ensures whole { OnOk result (IsWhole store.new) }
+{
+    laws(store);
+    root_state_is_sound();
+    let Ok(numbers) = store.numbers().plan(0) else {
+        unreachable!()
+    };
+    let Some(home) = store.controls().find(0) else {
+        unreachable!()
+    };
+    let task = Task {
+        children_space: 0,
+        home,
+        executed: false,
+        subreaper: false,
+        life: Life::Live,
+    };
+    store.fork(None, 0, &numbers, task)?;
+    laws(store);
+    Ok(())
+}
+
+impl PidTable {
+    /// A table with the root init, the root namespace and the root control group alone. The error is want of memory.
+    pub fn new(alloc: Global, config: &Config) -> Result<PidTable, AllocError>
+        ensures { IfOk result (λ table. table ≡ root_state config.now.pid_max) }
+    {
+        let mut store = Tasks::new(alloc, config.pid_max())?;
+        begin_root_init(&mut store)?;
+        Ok(PidTable { store })
+    }
+
+    /// How many tasks there are, ended ones too. It costs a logarithm of the control groups.
+    pub fn tasks(&self) -> usize
+        ensures { result ≡ length self.now.rows }
+    {
+        laws(&self.store);
+        let Some(root) = self.store.controls().find(0) else {
+            unreachable!()
+        };
+        self.store.controls().count(root) as usize
+    }
+
+    /// How many tasks the control group with the id and those below it have, ended ones too; none where there is no such
+    /// group. It is the number that the table keeps with the group (`pids.current`): a search for the id and one read, and no
+    /// task is looked at.
+    pub fn count(&self, control: u64) -> Option<u64>
+        ensures there { is_some result ≡ is_some (control_at self.now.controls control) }
+        ensures value { IfSome result (λ n. n ≡ count_of self.now control) }
+    {
+        laws(&self.store);
+        let Some(key) = self.store.controls().find(control) else {
+            return None;
+        };
+        Some(self.store.controls().count(key))
+    }
+
+    /// How many control groups there are, the root group too. It costs one read.
+    pub fn controls(&self) -> usize
+        ensures { result ≡ length self.now.controls }
+    {
+        self.store.controls().len()
+    }
+
+    /// The plain state, with the count of each control group: [`shown::snapshot`]. The error is want of memory.
+    pub fn snapshot(&self) -> Result<Plain, AllocError>
+        ensures { IfOk result (Shows self.now) }
+    {
+        shown::snapshot(&self.store)
+    }
+}

@@ -1,0 +1,81 @@
+//! Any call: [`PidTable::step`] picks the function that makes it. The record makes all its calls so.
+ghost use Rattle.std.specs.Prelude.{◌≡◌, IsTrue, OnOk, OnErr};
+ghost use Rattle.pid_types.specs.Sound.{IsBelow};
+ghost use Rattle.pid_types.specs.Step.{step, may_grow};
+ghost use Rattle.task_table.specs.View.{state_of};
+ghost use Rattle.task_table.specs.Whole.{HasParents, IsWhole};
+
+use crate::PidTable;
+use fork_calls::fork;
+use model_laws::soundness::soundness_is_kept;
+use ns_teardown::exit;
+use pid_types::call::Call;
+use pid_types::reply::Reply;
+use set_calls::controls::{count, make_control, remove_control, set_limit};
+use set_calls::groups::{set_pgid, set_sid};
+use set_calls::tasks::{exec, join, move_task, set_subreaper};
+use std::alloc::AllocError;
+use task_table::Tasks;
+use translate::{get_pgid, get_pid, get_ppid, get_sid, next, ns_pid};
+use wait_calls::wait;
+
+/// Makes the call on a store, and writes the reply in place. Only the reply to `NSpid` is made as a whole, by a function that
+/// is not inlined, so that no other call has room for it.
+#[tactic(auto, unfolding(pid_types::specs::Step::step))]
+#[inline(always)]
+fn make(store: &mut Tasks, stamp: u64, call: Call, reply: &mut Reply) -> Result<(), AllocError>
+    requires whole { IsWhole store.old }
+    requires below { IsBelow stamp (state_of store.old) }
+    ensures state { OnOk result (state_of store.new ≡ (step (state_of store.old) stamp call).state) }
+    ensures reply { OnOk result (reply.new ≡ (step (state_of store.old) stamp call).reply) }
+    ensures err { OnErr result (state_of store.new ≡ state_of store.old) }
+    ensures grows { OnErr result (IsTrue (may_grow call)) }
+    ensures parents { HasParents store.new }
+{
+    let short = match call {
+        Call::Fork { caller, new_space } => fork(store, caller, new_space, stamp)?,
+        Call::MakeControl { parent } => make_control(store, stamp, parent)?,
+        Call::RemoveControl { id } => remove_control(store, id),
+        Call::SetLimit { id, limit } => set_limit(store, id, limit),
+        Call::Move { task, id } => move_task(store, task, id),
+        Call::Exec { caller } => exec(store, caller),
+        Call::Exit { caller, status } => exit(store, caller, status),
+        Call::Wait { caller, which } => wait(store, caller, which),
+        Call::SetPgid { caller, pid, pgid } => set_pgid(store, caller, pid, pgid),
+        Call::SetSid { caller } => set_sid(store, caller),
+        Call::Join { caller, target } => join(store, caller, target),
+        Call::SetSubreaper { caller, on } => set_subreaper(store, caller, on),
+        Call::GetPid { caller } => get_pid(store, caller),
+        Call::GetPpid { caller } => get_ppid(store, caller),
+        Call::GetPgid { caller, pid } => get_pgid(store, caller, pid),
+        Call::GetSid { caller, pid } => get_sid(store, caller, pid),
+        Call::NsPid { caller, target } => {
+            ns_pid(store, caller, target, reply);
+            return Ok(());
+        }
+        Call::Next { caller, kind, from } => next(store, caller, kind, from),
+        Call::Count { id } => count(store, id),
+    };
+    short.tell(reply);
+    Ok(())
+}
+
+impl PidTable {
+    /// Makes the call, of which the stamp is the id of what it makes; so the stamp is above all ids that
+    /// stand. The reply is written in place. The error is want of memory, and then what the reply holds is of no account.
+    ///
+    /// It costs a search on each level of the namespaces that the call names, a step for each control group around the task,
+    /// and for a fall one for each member and for each namespace that there is. A wait for a group walks the shorter of two
+    /// lists: the caller's children, and the members of the group.
+    #[inline(always)]
+    pub fn step(&mut self, stamp: u64, call: Call, reply: &mut Reply) -> Result<(), AllocError>
+        requires below { IsBelow stamp self.old }
+        ensures state { OnOk result (self.new ≡ (step self.old stamp call).state) }
+        ensures reply { OnOk result (reply.new ≡ (step self.old stamp call).reply) }
+        ensures err { OnErr result (self.new ≡ self.old) }
+        ensures grows { OnErr result (IsTrue (may_grow call)) }
+    {
+        soundness_is_kept();
+        make(&mut self.store, stamp, call, reply)
+    }
+}

@@ -1,0 +1,168 @@
+//! The generated runs.
+
+use crate::draft::Theme;
+use crate::generator::{Aims, Generator};
+use crate::pair::Pair;
+use crate::tally::Tally;
+use crate::worked::{ask_below_deepest, build_controls, build_spaces};
+use anyhow::{Result, bail};
+use pid_types::config::Config;
+use pid_types::reply::Refusal;
+use std::alloc::Global;
+
+/// How many calls a run has.
+const CALLS: u32 = 5000;
+
+/// After so many calls the snapshots are compared, and the generator is shown one.
+const BETWEEN_PICTURES: u32 = 12;
+
+/// What a run begins with.
+#[derive(Clone, Copy)]
+enum Opening {
+    /// The root init alone.
+    Root,
+    /// A chain of namespaces to the deepest level, each with its init alone.
+    Spaces,
+    /// A chain of control groups to the deepest level.
+    Controls,
+}
+
+/// A run's settings.
+#[derive(Clone, Copy)]
+struct Setting {
+    seed: u64,
+    pid_max: u32,
+    opening: Opening,
+    aims: Aims,
+}
+
+/// Makes all runs.
+pub fn run_all(alloc: Global) -> Result<Tally> {
+    let mut tally = Tally::new();
+    for (seed, theme, pid_max, most_tasks) in [
+        (1, Theme::Mixed, 32_768, 120),
+        (2, Theme::Falls, 32_768, 150),
+        (3, Theme::Falls, 4_194_304, 300),
+        (4, Theme::Numbers, 301, 100),
+        (5, Theme::Numbers, 310, 60),
+        (6, Theme::Controls, 32_768, 100),
+        (7, Theme::Groups, 330, 60),
+        (8, Theme::Groups, 32_768, 120),
+    ] {
+        let aims = Aims {
+            theme,
+            most_tasks,
+            kept_tasks: 0,
+            kept_controls: 0,
+        };
+        let setting = Setting {
+            seed,
+            pid_max,
+            opening: Opening::Root,
+            aims,
+        };
+        run(alloc, &setting, &mut tally)?;
+    }
+    run(alloc, &deep_spaces(), &mut tally)?;
+    run(alloc, &deep_controls(), &mut tally)?;
+    Ok(tally)
+}
+
+/// Namespaces at the deepest level, of which the last ones fall and are made again.
+fn deep_spaces() -> Setting {
+    Setting {
+        seed: 9,
+        pid_max: 350,
+        opening: Opening::Spaces,
+        aims: Aims {
+            theme: Theme::Falls,
+            most_tasks: 120,
+            kept_tasks: 32,
+            kept_controls: 0,
+        },
+    }
+}
+
+/// Control groups at the deepest level.
+fn deep_controls() -> Setting {
+    Setting {
+        seed: 10,
+        pid_max: 32_768,
+        opening: Opening::Controls,
+        aims: Aims {
+            theme: Theme::Controls,
+            most_tasks: 100,
+            kept_tasks: 0,
+            kept_controls: 60,
+        },
+    }
+}
+
+/// Makes one run on tables of its own.
+fn run(alloc: Global, setting: &Setting, tally: &mut Tally) -> Result<()> {
+    let config = Config::new(setting.pid_max, 1)?;
+    let mut pair = Pair::new(alloc, &config)?;
+    act(&mut pair, setting, tally)
+}
+
+/// Makes one run on new tables.
+fn act(pair: &mut Pair, setting: &Setting, tally: &mut Tally) -> Result<()> {
+    open(pair, setting.opening, tally)?;
+    play(pair, setting, tally)
+}
+
+/// Makes what a run begins with.
+fn open(pair: &mut Pair, opening: Opening, tally: &mut Tally) -> Result<()> {
+    match opening {
+        Opening::Root => Ok(()),
+        Opening::Spaces => {
+            build_spaces(pair)?;
+            // Random callers seldom stand at the deepest level when they ask for one more.
+            ask_below_deepest(pair)?;
+            tally.meet(Refusal::TooDeep);
+            Ok(())
+        }
+        Opening::Controls => build_controls(pair),
+    }
+}
+
+/// Makes the calls of a run, and compares what they leave.
+fn play(pair: &mut Pair, setting: &Setting, tally: &mut Tally) -> Result<()> {
+    let mut generator = Generator::new(setting.seed, setting.aims, pair.snapshot()?);
+    for ordinal in 0..CALLS {
+        if ordinal % BETWEEN_PICTURES == 0 {
+            look(&mut generator, pair, setting.seed, ordinal)?;
+        }
+        make(&mut generator, pair, tally, setting.seed, ordinal)?;
+    }
+    look(&mut generator, pair, setting.seed, CALLS)
+}
+
+/// Shows the generator the table that both have. The error is that they have two.
+fn look(generator: &mut Generator, pair: &Pair, seed: u64, ordinal: u32) -> Result<()> {
+    match pair.snapshot() {
+        Ok(picture) => {
+            generator.look(picture);
+            Ok(())
+        }
+        Err(fault) => bail!("seed {seed}, before call {ordinal}: {fault}"),
+    }
+}
+
+/// Makes the next call. The error is that the tables answer otherwise than one another.
+fn make(
+    generator: &mut Generator,
+    pair: &mut Pair,
+    tally: &mut Tally,
+    seed: u64,
+    ordinal: u32,
+) -> Result<()> {
+    let call = generator.call();
+    match pair.make(call) {
+        Ok(reply) => {
+            tally.count(&reply);
+            Ok(())
+        }
+        Err(fault) => bail!("seed {seed}, call {ordinal}, {call:?}: {fault}"),
+    }
+}

@@ -1,5 +1,0 @@
-use Rattle.rising_ids.proofs.Lives as lives
-use Rattle.rising_ids.proofs.RisingIds.iter.Goals as goal
-
-pub returns-clause-rising : goal.returns-clause-rising
-returns-clause-rising c = rw (← c.self.view_is) (lives.AreRising-live c.self.inside.entries.items c.self.invariant.0)

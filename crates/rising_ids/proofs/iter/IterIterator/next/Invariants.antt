@@ -1,9 +1,0 @@
-use Rattle.std.proofs.Common.{◌≡◌, length}
-use Rattle.rising_ids.specs.Entries.{live}
-use Rattle.rising_ids.proofs.iter.IterIterator.next.Given as goal
-
-abbrev pub invariant-loop-first : goal.invariant-loop-first
-invariant-loop-first l = live l.self-inside.entries.now ≡ live l.initial.self-inside.entries.now
-
-abbrev pub decreases-loop-first : goal.decreases-loop-first
-decreases-loop-first l = length l.self-inside.entries.now

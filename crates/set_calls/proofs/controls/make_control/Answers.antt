@@ -1,0 +1,20 @@
+use Rattle.std.proofs.Common.{◌∙◌, is_some, sym, ap, ◌<◌}
+use Rattle.pid_types.specs.Controls.{control_at}
+use Rattle.pid_types.specs.Outcome.{Outcome}
+use Rattle.pids_charge.specs.Charges.{Charges, stands, id_at as home_id}
+use Rattle.set_calls.proofs.Answered.{all-of, is-made, after-making}
+use Rattle.set_calls.proofs.controls.make_control.Goals as goal
+
+pub make_control-requires-clause-above : goal.make_control-requires-clause-above
+make_control-requires-clause-above c = all-of (λ g. g.id < c.args.stamp) c.args.store.now.charges.controls c.requires.below.controls
+
+pub returns-in-Ok-clause-state : goal.returns-in-Ok-clause-state
+returns-in-Ok-clause-state c =
+    let old = c.args.store.now in
+    let new = c.make_control.new.self in
+    let above = c.in-Some.above in
+    let there = ap (λ (v : Charges). is_some (control_at v.controls c.args.parent)) (sym c.controls.ensures) ∙ c.in-Some.ensures.there in
+    let standing = ap (λ (v : Charges). stands v c.in-Some.above) (sym c.controls.ensures) ∙ c.in-Some.ensures.stands in
+    let is = ap (λ (v : Charges). home_id v c.in-Some.above) (sym c.controls.ensures) ∙ c.in-Some.ensures.id in
+    sym (ap (λ (o : Outcome). o.state) (is-made old c.laws.ensures above c.args.parent standing is there c.args.stamp (λ deep. let e = c.in-Ok.ensures.deep.1 deep in cc))
+    ∙ after-making old c.laws.ensures above c.args.parent standing is there new c.laws-in-Ok.ensures c.make_control.ensures.rest c.args.stamp c.in-Ok.field-0 c.in-Ok.ensures.controls c.in-Ok.ensures.fresh c.in-Ok.ensures.others)

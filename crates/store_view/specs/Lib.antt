@@ -1,4 +1,0 @@
-pub mod Collect
-pub mod View
-pub mod Lawful
-pub mod Whole

@@ -1,0 +1,171 @@
+-- The counts of a store's control groups are the model's.
+use Rattle.std.proofs.Common.{◌≡◌, ◌≢◌, inl, inr, ℕ, zero, suc, ◌+◌, ◌<◌, Bool, true, false, not, ◌==◌, ◌&&◌, List, ◌∷◌, length, count_by, cond, Option, Some, None, if◌then◌else◌, refl, sym, ap, ◌∙◌, arith, option_map, option_and_then}
+use Rattle.std.specs.Option.{option_map_or, option_eq}
+use Rattle.std.proofs.lemmas.Bool.{cases_eq, cases_lt, eq-eqb, eqb-true}
+use Rattle.std.proofs.lemmas.List.{get_or_past}
+use Rattle.std.proofs.lemmas.List.Sums.{sum_by-cons, length-filter}
+use Rattle.pid_types.specs.declared.plain.Row.{Row}
+use Rattle.pid_types.specs.Controls.{is_below, count as count_in}
+use Rattle.pid_numbers.specs.Numbering.{number_of}
+use Rattle.task_tree.specs.declared.Task.{Task}
+use Rattle.task_tree.specs.Tree.{task_at, lives}
+use Rattle.pids_charge.specs.Sums.{sum_below}
+use Rattle.pids_charge.specs.Charges.{home_at, tasks_of, count, id_at as home_id}
+use Rattle.pids_charge.proofs.Sums.{sum-ext, sum-at, sum-zero, sum_by-places}
+use Rattle.pids_charge.proofs.Listed.{count-listed, tasks_of-both}
+use Rattle.task_table.specs.Store.{Store, lives_in, waits_in}
+use Rattle.task_table.specs.Collect.{collect}
+use Rattle.task_table.specs.View.{key_numbered, row_of, row_with, row_numbered, state_of}
+use Rattle.task_table.specs.Lawful.{IsLawful}
+use Rattle.task_table.proofs.Keys.{key-some, key-none}
+use Rattle.task_table.proofs.LookUps.{named, root-number}
+
+sum-plus : (n : ℕ) (f g : ℕ → ℕ) → sum_below n (λ k. f k + g k) ≡ sum_below n f + sum_below n g
+sum-plus zero f g = refl
+sum-plus (suc n) f g = omega (arith, sum-plus n (λ k. f (suc k)) (λ k. g (suc k)))
+
+-- a table's sum by rows is its sum by columns
+sum-exchange : (m n : ℕ) (a : ℕ → ℕ → ℕ) → sum_below m (λ i. sum_below n (a i)) ≡ sum_below n (λ j. sum_below m (λ i. a i j))
+sum-exchange zero n a = sym (sum-zero n (λ j. 0) (λ j. refl))
+sum-exchange (suc m) n a = omega (arith, sum-exchange m n (λ i. a (suc i)), sum-plus n (a 0) (λ j. sum_below m (λ i. a (suc i) j)))
+
+-- one place alone counts
+sum-one : (n a : ℕ) (f : ℕ → ℕ) → a < n → ((k : ℕ) → k ≢ a → f k ≡ 0) → sum_below n f ≡ f a
+sum-one n a f lt none =
+    let one = sum-at n a f (λ k. 0) lt none in
+    let rest = sum-zero n (λ k. 0) (λ k. refl) in
+    omega (arith, one, rest)
+
+-- what is counted of a list told by look-ups
+count-collect : {X : Type 0} (p : X → Bool) (f : ℕ → Option X) (n len : ℕ) → count_by p (collect f n len) ≡ sum_below len (λ i. option_map_or (λ x. cond {A = ℕ} (p x) 1 0) (f (n + i)) 0)
+count-collect p f n zero = refl
+count-collect {X = X} p f n (suc len) =
+    here (f n) (collect f (n + 1) len) ∙ ap (λ r. option_map_or (λ x. cond {A = ℕ} (p x) 1 0) (f n) 0 + r) (count-collect p f (n + 1) len)
+    ∙ (let e : f (n + 0) ≡ f n = ap f (omega arith) in let z = ap (λ o. option_map_or (λ x. cond {A = ℕ} (p x) 1 0) o 0) e in
+    let r = sum-ext len (λ i. option_map_or (λ x. cond {A = ℕ} (p x) 1 0) (f (n + 1 + i)) 0) (λ i. option_map_or (λ x. cond {A = ℕ} (p x) 1 0) (f (n + suc i)) 0) (λ i. ap (λ j. option_map_or (λ x. cond {A = ℕ} (p x) 1 0) (f j) 0) (omega arith)) in
+    omega (arith, z, r))
+  where
+    here : (o : Option X) (xs : List X) → count_by p (option_map_or (λ x. x ∷ xs) o xs) ≡ option_map_or (λ x. cond {A = ℕ} (p x) 1 0) o 0 + count_by p xs
+    here None xs = omega arith
+    here (Some x) xs = sum_by-cons (λ y. cond {A = ℕ} (p y) 1 0) x xs
+
+count-all : {X : Type 0} (p : X → Bool) (f : ℕ → Option X) (len : ℕ) → count_by p (collect f 0 len) ≡ sum_below len (λ i. option_map_or (λ x. cond {A = ℕ} (p x) 1 0) (f i) 0)
+count-all p f len =
+    count-collect p f 0 len
+    ∙ sum-ext len (λ i. option_map_or (λ x. cond {A = ℕ} (p x) 1 0) (f (0 + i)) 0) (λ i. option_map_or (λ x. cond {A = ℕ} (p x) 1 0) (f i) 0) (λ i. ap (λ j. option_map_or (λ x. cond {A = ℕ} (p x) 1 0) (f j) 0) (omega arith))
+
+same_some : (o : Option ℕ) (n : ℕ) → option_eq ◌==◌ o (Some n) ≡ true → o ≡ Some n
+same_some None n e = absurd (cc)
+same_some (Some m) n e = ap Some (eqb-true m n e)
+
+same_number : (m n : ℕ) → ◌≡◌ {A = Option ℕ} (Some m) (Some n) → m ≡ n
+same_number m n e = ap (λ o. option_map_or (λ x. x) o m) e
+
+module _ (s : Store) (l : IsLawful s) where
+  -- the task with a number in the root namespace
+  abbrev task_numbered : ℕ → Option Task
+  task_numbered n = option_and_then (task_at s.tree) (key_numbered s.numbering 0 n)
+
+  module _ (w : Option Task → ℕ) (nothing : w None ≡ 0) where
+    abbrev at_both : ℕ → ℕ → ℕ
+    at_both n k = if option_eq ◌==◌ (number_of s.numbering k 0) (Some n) then w (task_at s.tree k) else 0
+
+    is_both : (n k : ℕ) → number_of s.numbering k 0 ≡ Some n → at_both n k ≡ w (task_at s.tree k)
+    is_both n k e = ap (λ b. if b then w (task_at s.tree k) else 0) (ap (λ o. option_eq ◌==◌ o (Some n)) e ∙ eq-eqb n n refl)
+
+    not_both : (n k : ℕ) → number_of s.numbering k 0 ≢ Some n → at_both n k ≡ 0
+    not_both n k d = go (option_eq ◌==◌ (number_of s.numbering k 0) (Some n)) refl
+      where
+        go : (b : Bool) → option_eq ◌==◌ (number_of s.numbering k 0) (Some n) ≡ b → (if b then w (task_at s.tree k) else 0) ≡ 0
+        go true e = absurd (d (same_some (number_of s.numbering k 0) n e))
+        go false e = refl
+
+    by_keys : (n : ℕ) → sum_below (length s.tree.tasks) (at_both n) ≡ w (task_numbered n)
+    by_keys n = go (key_numbered s.numbering 0 n) refl
+      where
+        go : (o : Option ℕ) → key_numbered s.numbering 0 n ≡ o → sum_below (length s.tree.tasks) (at_both n) ≡ w (option_and_then (task_at s.tree) o)
+        go None e = sum-zero (length s.tree.tasks) (at_both n) (λ k. not_both n k (key-none s.numbering l.numbering 0 n e k)) ∙ sym nothing
+        go (Some k) e =
+            let at = key-some s.numbering l.numbering 0 n k e in
+            elim (cases_lt k (length s.tree.tasks)) [
+              | inl lt ↦ sum-one (length s.tree.tasks) k (at_both n) lt (λ j d. not_both n j (λ f. d (l.numbering.distinct j k 0 n f at))) ∙ is_both n k at
+              | inr past ↦
+                  let vacant = get_or_past s.tree.tasks k None past in
+                  sum-zero (length s.tree.tasks) (at_both n) (λ j. elim (cases_eq j k) [
+                    | inl same ↦ ap (at_both n) same ∙ is_both n k at ∙ ap w vacant ∙ nothing
+                    | inr d ↦ not_both n j (λ f. d (l.numbering.distinct j k 0 n f at))
+                  ]) ∙ sym (ap w vacant ∙ nothing)
+            ]
+
+    by_numbers : (k : ℕ) → sum_below s.numbering.pid_max (λ n. at_both n k) ≡ w (task_at s.tree k)
+    by_numbers k = go (task_at s.tree k) refl
+      where
+        go : (o : Option Task) → task_at s.tree k ≡ o → sum_below s.numbering.pid_max (λ n. at_both n k) ≡ w (task_at s.tree k)
+        go None e = sum-zero s.numbering.pid_max (λ n. at_both n k) (λ n. none n (option_eq ◌==◌ (number_of s.numbering k 0) (Some n))) ∙ sym (ap w e ∙ nothing)
+          where
+            none : (n : ℕ) (b : Bool) → (if b then w (task_at s.tree k) else 0) ≡ 0
+            none n true = ap w e ∙ nothing
+            none n false = refl
+        go (Some t) e =
+            let u = named s l k t e in
+            let at = root-number s l k u.0 u.1 in
+            let r = l.numbering.range k 0 _ at in
+            sum-one s.numbering.pid_max _ (λ n. at_both n k) r.1 (λ n d. not_both n k (λ f. d (same_number n _ (sym f ∙ at)))) ∙ is_both _ k at
+
+    -- the tasks by number are the tasks by key
+    pub sum-numbered : sum_below s.numbering.pid_max (λ n. w (task_numbered n)) ≡ sum_below (length s.tree.tasks) (λ k. w (task_at s.tree k))
+    sum-numbered =
+        sum-ext s.numbering.pid_max (λ n. w (task_numbered n)) (λ n. sum_below (length s.tree.tasks) (at_both n)) (λ n. sym (by_keys n))
+        ∙ sum-exchange s.numbering.pid_max (length s.tree.tasks) at_both
+        ∙ sum-ext (length s.tree.tasks) (λ k. sum_below s.numbering.pid_max (λ n. at_both n k)) (λ k. w (task_at s.tree k)) by_numbers
+
+  abbrev tasks_in_rows : List Task
+  tasks_in_rows = collect task_numbered 0 s.numbering.pid_max
+
+  count-keys : (p : Task → Bool) (q : Option Task → Bool) → q None ≡ false → ((t : Task) → q (Some t) ≡ p t) → count_by p tasks_in_rows ≡ count_by q s.tree.tasks
+  count-keys p q none same =
+      count-all p task_numbered s.numbering.pid_max
+      ∙ sum-numbered (λ o. option_map_or (λ t. cond {A = ℕ} (p t) 1 0) o 0) refl
+      ∙ sum-ext (length s.tree.tasks) (λ k. option_map_or (λ t. cond {A = ℕ} (p t) 1 0) (task_at s.tree k) 0) (λ k. cond {A = ℕ} (q (task_at s.tree k)) 1 0) (λ k. each (task_at s.tree k))
+      ∙ sym (sum_by-places (λ o. cond {A = ℕ} (q o) 1 0) None s.tree.tasks)
+    where
+      each : (o : Option Task) → option_map_or (λ t. cond {A = ℕ} (p t) 1 0) o 0 ≡ cond {A = ℕ} (q o) 1 0
+      each None = sym (ap (λ b. cond {A = ℕ} b 1 0) none)
+      each (Some t) = sym (ap (λ b. cond {A = ℕ} b 1 0) (same t))
+
+  flip : (a b : Bool) → (a && b) ≡ (b && a)
+  flip true true = refl
+  flip true false = refl
+  flip false true = refl
+  flip false false = refl
+
+  twice : (a : Bool) → not (not a) ≡ a
+  twice true = refl
+  twice false = refl
+
+  homes : (k : ℕ) → count_by (λ t. t.home == k) tasks_in_rows ≡ tasks_of (home_at s.charges k)
+  homes k = tasks_of-both (λ (t : Task). t.home) (λ t. not (lives t)) s.charges k tasks_in_rows
+      (count-keys (λ t. not (not (lives t)) && (t.home == k)) (lives_in k) refl (λ t. flip (t.home == k) (lives t) ∙ ap (λ b. b && (t.home == k)) (sym (twice (lives t)))) ∙ sym (l.agree.live k))
+      (count-keys (λ t. not (lives t) && (t.home == k)) (waits_in k) refl (λ t. flip (t.home == k) (not (lives t))) ∙ sym (l.agree.zombies k))
+
+  -- a count is the model's
+  pub count-is : (id : ℕ) → count s.charges id ≡ count_in (state_of s) id
+  unfolding count_in
+  count-is id =
+      count-listed (λ (t : Task). t.home) s.charges tasks_in_rows homes id
+      ∙ length-filter (λ t. is_below s.charges.controls (home_id s.charges t.home) id) tasks_in_rows
+      ∙ count-all (λ t. is_below s.charges.controls (home_id s.charges t.home) id) task_numbered s.numbering.pid_max
+      ∙ sum-ext s.numbering.pid_max (λ n. option_map_or (λ t. cond {A = ℕ} (is_below s.charges.controls (home_id s.charges t.home) id) 1 0) (task_numbered n) 0)
+      (λ n. option_map_or (λ r. cond {A = ℕ} (is_below s.charges.controls r.home id) 1 0) (row_numbered s 0 n) 0) (λ n. each (key_numbered s.numbering 0 n))
+      ∙ sym (count-all (λ r. is_below s.charges.controls r.home id) (row_numbered s 0) s.numbering.pid_max)
+      ∙ sym (length-filter (λ r. is_below s.charges.controls r.home id) (state_of s).rows)
+    where
+      each : (o : Option ℕ) → option_map_or (λ t. cond {A = ℕ} (is_below s.charges.controls (home_id s.charges t.home) id) 1 0) (option_and_then (task_at s.tree) o) 0
+          ≡ option_map_or (λ r. cond {A = ℕ} (is_below s.charges.controls r.home id) 1 0) (option_and_then (row_with s) o) 0
+      each None = refl
+      each (Some k) = at (task_at s.tree k)
+        where
+          at : (o : Option Task) → option_map_or (λ t. cond {A = ℕ} (is_below s.charges.controls (home_id s.charges t.home) id) 1 0) o 0
+              ≡ option_map_or (λ (r : Row). cond {A = ℕ} (is_below s.charges.controls r.home id) 1 0) (option_map (row_of s k) o) 0
+          at None = refl
+          at (Some t) = refl

@@ -1,0 +1,114 @@
+-- What a contract sees of `Tasks`: four parts by key. A task has the key of its identifier.
+use Rattle.std.specs.Prelude.{◌≡◌, ◌≢◌, ℕ, ◌+◌, ◌-◌, ◌==◌, ◌&&◌, not, Bool, true, false, List, count_by, Option, Some, None, option_map, is_some, if◌then◌else◌}
+use Rattle.std.specs.Option.{option_map_or}
+use Rattle.pid_types.specs.declared.call.Kind.{Kind}
+use Rattle.pid_types.specs.declared.call.Kind.TheVariants.{Task as AsTask, Group, Session}
+use Rattle.pid_numbers.specs.Numbering.{Numbering, Identifier, identifier_at, namespace_at, is_there, number_of, uses, swept_at}
+use Rattle.std.specs.List.{filter}
+use Rattle.task_tree.specs.declared.Task.{Task}
+use Rattle.task_tree.specs.Tree.{Tree, task_at, parent_of, rank_of, lives}
+use Rattle.groups_sessions.specs.Membership.{Membership, membership_at}
+use Rattle.pids_charge.specs.Charges.{Charges, Home, home_at, ChangesHome, live_at, zombies_at, all_tasks}
+
+-- the identifiers and namespaces, the tree of tasks, their groups and sessions, and the control groups
+pub record Store : Type 0 where
+  pub numbering : Numbering
+  pub tree : Tree
+  pub members : List (Option Membership)
+  pub charges : Charges
+
+-- how many uses of the kind the identifier has
+abbrev pub uses_at : Numbering → Kind → ℕ → ℕ
+uses_at b kind i = option_map_or (uses kind) (identifier_at b i) 0
+
+-- whether the two kinds are one
+abbrev pub is_kind : Kind → Kind → Bool
+is_kind AsTask AsTask = true
+is_kind Group Group = true
+is_kind Session Session = true
+is_kind _ _ = false
+
+abbrev pub one_if : Bool → ℕ
+one_if b = if b then 1 else 0
+
+abbrev pub is_in_group : ℕ → Option Membership → Bool
+is_in_group g m = option_map_or (λ m. m.group == g) m false
+
+abbrev pub is_in_session : ℕ → Option Membership → Bool
+is_in_session g m = option_map_or (λ m. m.session == g) m false
+
+-- whether a live task has the control group's key as its home
+abbrev pub lives_in : ℕ → Option Task → Bool
+lives_in c t = option_map_or (λ t. (t.home == c) && lives t) t false
+
+-- the same of a zombie
+abbrev pub waits_in : ℕ → Option Task → Bool
+waits_in c t = option_map_or (λ t. (t.home == c) && not (lives t)) t false
+
+-- the home with one such task less
+abbrev pub home_without : Task → Home → Home
+home_without t h = if lives t then record h { live = h.live - 1 } else record h { zombies = h.zombies - 1 }
+
+-- the four parts agree
+pub record IsStore (s : Store) : Type 0 where
+  -- an identifier's uses are the task at its key, the members of the group and the tasks of the session
+  pub tasks : (i : ℕ) → uses_at s.numbering AsTask i ≡ one_if (is_some (task_at s.tree i))
+  pub groups : (i : ℕ) → uses_at s.numbering Group i ≡ count_by (is_in_group i) s.members
+  pub sessions : (i : ℕ) → uses_at s.numbering Session i ≡ count_by (is_in_session i) s.members
+  pub members : (k : ℕ) → is_some (membership_at s.members k) ≡ is_some (task_at s.tree k)
+  -- a control group's tasks are those whose home it is
+  pub live : (c : ℕ) → live_at s.charges c ≡ count_by (lives_in c) s.tree.tasks
+  pub zombies : (c : ℕ) → zombies_at s.charges c ≡ count_by (waits_in c) s.tree.tasks
+  pub all : all_tasks s.charges ≡ count_by is_some s.tree.tasks
+  -- a child that has ended waits by its number in its parent's namespace
+  pub ranks : (k p r : ℕ) → rank_of s.tree k ≡ Some (p, r) → (u : Identifier) → identifier_at s.numbering p ≡ Some u → number_of s.numbering k u.space ≡ Some r
+
+-- the identifier without its uses
+abbrev pub bare : Identifier → Identifier
+bare u = record u { tasks = 0; groups = 0; sessions = 0 }
+
+-- the identifier with the key, without its uses
+abbrev pub bare_at : Numbering → ℕ → Option Identifier
+bare_at b i = option_map bare (identifier_at b i)
+
+-- the identifiers that are left are what they were, and so are the namespaces but those that have fallen and in which no number is
+-- left in use
+pub record IsLess (old new : Numbering) : Type 0 where
+  pub names : (i : ℕ) (u : Identifier) → bare_at new i ≡ Some u → bare_at old i ≡ Some u
+  pub namespaces : (s : ℕ) → namespace_at new s ≡ swept_at (record old { names = new.names }) s
+  pub order : new.order ≡ filter (λ p. is_there new p.1) old.order
+  pub bound : new.pid_max ≡ old.pid_max
+
+-- nothing is different but how much room there is
+pub record IsSame (old new : Store) : Type 0 where
+  pub numbering : new.numbering ≡ old.numbering
+  pub charges : new.charges ≡ old.charges
+  pub tasks : (k : ℕ) → task_at new.tree k ≡ task_at old.tree k
+  pub parents : (k : ℕ) → parent_of new.tree k ≡ parent_of old.tree k
+  pub ranks : (k : ℕ) → rank_of new.tree k ≡ rank_of old.tree k
+  pub members : (k : ℕ) → membership_at new.members k ≡ membership_at old.members k
+
+-- what a new task with the key is in: what the one that it comes from is in, or else a group and a session of its own
+abbrev pub joins : List (Option Membership) → Option ℕ → ℕ → Option Membership
+joins members from key = option_map_or (membership_at members) from (Some (record { group = key; session = key }))
+
+-- the use that a membership is of an identifier, as a group or as a session
+abbrev pub use_of : Option Membership → Kind → ℕ → ℕ
+use_of m AsTask i = 0
+use_of m Group i = one_if (is_in_group i m)
+use_of m Session i = one_if (is_in_session i m)
+
+-- a new live task has come, with an identifier of its own
+pub record Begins (old new : Store) (key : ℕ) (from : Option ℕ) (task : Task) (identifier : Identifier) : Type 0 where
+  pub fresh : (task_at old.tree key ≡ None) × (identifier_at old.numbering key ≡ None)
+  pub named : bare_at new.numbering key ≡ Some (bare identifier)
+  pub names : (i : ℕ) → i ≢ key → bare_at new.numbering i ≡ bare_at old.numbering i
+  pub bound : new.numbering.pid_max ≡ old.numbering.pid_max
+  pub begun : task_at new.tree key ≡ Some task
+  pub tasks : (k : ℕ) → k ≢ key → task_at new.tree k ≡ task_at old.tree k
+  pub parent : parent_of new.tree key ≡ from
+  pub parents : (k : ℕ) → k ≢ key → parent_of new.tree k ≡ parent_of old.tree k
+  pub ranks : (k : ℕ) → rank_of new.tree k ≡ rank_of old.tree k
+  pub member : membership_at new.members key ≡ joins old.members from key
+  pub members : (k : ℕ) → k ≢ key → membership_at new.members k ≡ membership_at old.members k
+  pub home : ChangesHome old.charges new.charges task.home (option_map (λ (h : Home). record h { live = h.live + 1 }) (home_at old.charges task.home))

@@ -1,0 +1,99 @@
+//! The model's state that a table's store holds.
+//!
+//! A store goes by keys; the model has lists of rows, namespaces and control groups, in which everything
+//! goes by names, numbers and ids. Here is what the one says of the other, for the calls that are written
+//! over the store and told in the model's words.
+
+ghost use Rattle.std.specs.Prelude.{◌≡◌, ◌≢◌, ℕ, Some, None, true, IsSome, IfSome, MatchOption, option_map};
+ghost use Rattle.pid_types.specs.Names.{live_row, task_at as task_in};
+ghost use Rattle.pid_numbers.specs.Numbering.{Identifier, id_at, identifier_at, number_of};
+ghost use Rattle.task_tree.specs.Tree.{task_at, lives};
+ghost use Rattle.task_tree.specs.declared.Task.{Task};
+ghost use Rattle.task_table.specs.declared.view.Found.{Found};
+ghost use Rattle.task_table.specs.View.{name_at, row_of, state_of};
+ghost use Rattle.task_table.specs.Lawful.{HasLaws, IsLawful};
+
+use crate::Tasks;
+use pid_numbers::Numbers;
+use pid_types::keys::{Pid, SpaceKey, TaskKey};
+use pid_types::plain::Life;
+use task_tree::Task;
+
+/// A task that was found: its key, and what it is.
+#[derive(Clone, Copy, Debug)]
+pub struct Found {
+    /// Its key in the store, which is that of its identifier: below the number of keys there is room for.
+    pub key: TaskKey,
+    /// What the store has at the key: its home is a control group's key, and its life says whether it has ended.
+    pub task: Task,
+}
+
+/// What is true of the identifiers and namespaces of a store; the call does nothing.
+fn number_laws(numbers: &Numbers)
+    ensures { HasLaws numbers.now }
+{
+    numbers.laws();
+}
+
+/// What is true of a store at any time; the call does nothing. The parts keep their laws, and agree.
+pub fn laws(store: &Tasks)
+    ensures { IsLawful store.now }
+{
+    number_laws(store.numbers());
+    store.laws();
+    store.tree().laws();
+    store.members().laws();
+    store.controls().laws();
+}
+
+/// Whether a task has not ended.
+pub fn is_live(task: &Task) -> bool
+    ensures { result ≡ lives task.now }
+{
+    match task.life {
+        Life::Live => true,
+        Life::Zombie(_) => false,
+    }
+}
+
+/// The task with the number in the namespace, zombies among them. It costs one search in the namespace's
+/// tree of numbers.
+pub fn find_task(store: &Tasks, space: SpaceKey, number: Pid) -> Option<Found>
+    ensures there { IfSome result (λ f. (task_at store.now.tree f.key ≡ Some f.task) × (number_of store.now.numbering f.key space ≡ Some number)) }
+    ensures nobody { result ≡ None → (k : ℕ) → (t : Task) → task_at store.now.tree k ≡ Some t → number_of store.now.numbering k space ≢ Some number }
+    ensures row { (i : ℕ) → id_at store.now.numbering space ≡ Some i → task_in (state_of store.now) i number ≡ option_map (λ (f : Found). row_of store.now f.key f.task) result }
+{
+    laws(store);
+    let Some(key) = store.numbers().find(space, number) else {
+        return None;
+    };
+    match store.tree().task(key) {
+        Some(task) => Some(Found { key, task }),
+        None => None,
+    }
+}
+
+/// The live task with the number in the root namespace. It costs one search in the root's tree of numbers.
+pub fn find_live(store: &Tasks, number: Pid) -> Option<Found>
+    ensures there { IfSome result (λ f. (task_at store.now.tree f.key ≡ Some f.task) × (lives f.task ≡ true)) }
+    ensures row { live_row (state_of store.now).rows number ≡ option_map (λ (f : Found). row_of store.now f.key f.task) result }
+{
+    laws(store);
+    match find_task(store, 0, number) {
+        Some(found) if is_live(&found.task) => Some(found),
+        _ => None,
+    }
+}
+
+/// The key of a task's own namespace.
+pub fn own_space(store: &Tasks, key: TaskKey) -> SpaceKey
+    requires { IsSome (task_at store.now.tree key) }
+    ensures own { (u : Identifier) → identifier_at store.now.numbering key ≡ Some u → result ≡ u.space }
+    ensures id { id_at store.now.numbering result ≡ Some (name_at store.now.numbering key).space }
+{
+    laws(store);
+    match store.numbers().space_of(key) {
+        Some(space) => space,
+        None => unreachable!(),
+    }
+}

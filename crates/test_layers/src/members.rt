@@ -1,0 +1,119 @@
+//! Worked lists, ranks and ids.
+
+ghost use Rattle.std.specs.Prelude.{◌≡◌, ◌<◌, ℕ, [], ◌∷◌, length, Some, IfOk};
+
+use id_slab::RisingIds;
+use member_lists::MemberLists;
+use member_queues::MemberQueues;
+use std::alloc::Global;
+use std::process::Abort;
+use std::test::Fail;
+
+/// The members of an owner in rising order, at most three; 9 where there are fewer.
+fn three(rt: &impl Abort, lists: &MemberLists, owner: u32) -> [u32; 3] {
+    assert!(rt; (owner as usize) < lists.keys());
+    let mut members = lists.members(owner);
+    let mut found = [9; 3];
+    for place in found.iter_mut() {
+        if let Some(key) = members.next() {
+            *place = key;
+        }
+    }
+    assert_eq!(rt; members.next(), None);
+    found.sort_unstable();
+    found
+}
+
+/// Three keys come to owner 1, one moves on and one goes.
+#[test]
+fn moves_members(rt: HostRuntime) -> Result<(), Fail> {
+    let mut lists = MemberLists::new(rt.alloc());
+    lists.grow()?;
+    lists.grow()?;
+    lists.grow()?;
+    assert_eq!(rt; lists.keys(), 3);
+    assert_eq!(rt; lists.first(1), None);
+    lists.add(0, 1);
+    lists.add(1, 1);
+    lists.add(2, 1);
+    assert_eq!(rt; three(&rt, &lists, 1), [0, 1, 2]);
+    lists.move_to(1, 2);
+    assert_eq!(rt; lists.owner(1), Some(2));
+    assert_eq!(rt; lists.first(2), Some(1));
+    lists.remove(0);
+    assert_eq!(rt; lists.owner(0), None);
+    assert_eq!(rt; three(&rt, &lists, 1), [2, 9, 9]);
+    Ok(())
+}
+
+/// Keys 0 to 2 as members of owner 2, of which key 1 came second and ranks least.
+fn three_members(alloc: Global) -> Result<MemberQueues, Fail>
+    ensures { IfOk result (λ members. members ≡ Some (2, 50) ∷ Some (2, 40) ∷ Some (2, 60) ∷ []) }
+{
+    let mut members = MemberQueues::new(alloc);
+    members.grow()?;
+    members.grow()?;
+    members.grow()?;
+    members.insert(0, 2, 50);
+    members.insert(1, 2, 40);
+    members.insert(2, 2, 60);
+    Ok(members)
+}
+
+fn expect_least(rt: &impl Abort, members: &MemberQueues, least: Option<u32>)
+    requires { 2 < length members.now }
+{
+    assert_eq!(rt; members.least(2), least);
+}
+
+/// The least of an owner, whatever the order in which they came.
+#[test]
+fn answers_least(rt: HostRuntime) -> Result<(), Fail> {
+    let mut members = three_members(rt.alloc())?;
+    assert_eq!(rt; members.keys(), 3);
+    assert_eq!(rt; members.rank(1), Some(40));
+    expect_least(&rt, &members, Some(1));
+    members.remove(1);
+    expect_least(&rt, &members, Some(0));
+    members.remove(2);
+    expect_least(&rt, &members, Some(0));
+    members.remove(0);
+    expect_least(&rt, &members, None);
+    assert_eq!(rt; members.rank(0), None);
+    Ok(())
+}
+
+fn expect_key(rt: &impl Abort, ids: &RisingIds, id: u64, key: Option<u32>) {
+    assert_eq!(rt; ids.find(id), key);
+}
+
+/// The ids with their keys are these three, in this order.
+fn expect_all(rt: &impl Abort, ids: &RisingIds, told: &[(u64, u32); 3]) {
+    let mut all = ids.iter();
+    for entry in told {
+        assert_eq!(rt; all.next(), Some(*entry));
+    }
+    assert_eq!(rt; all.next(), None);
+}
+
+/// Three ids, of which one goes and another comes.
+fn change_ids(rt: &impl Abort, ids: &mut RisingIds) -> Result<(), Fail>
+    requires { ids.old ≡ [] }
+{
+    ids.push(3, 7)?;
+    ids.push(5, 8)?;
+    ids.push(9, 6)?;
+    expect_key(rt, ids, 5, Some(8));
+    expect_key(rt, ids, 4, None);
+    assert_eq!(rt; ids.remove(9), Some(6));
+    assert_eq!(rt; ids.remove(9), None);
+    ids.push(6, 6)?;
+    expect_all(rt, ids, &[(3, 7), (5, 8), (6, 6)]);
+    Ok(())
+}
+
+/// Ids in their order, one of them removed.
+#[test]
+fn keeps_rising_ids(rt: HostRuntime) -> Result<(), Fail> {
+    change_ids(&rt, &mut RisingIds::new(rt.alloc()))
+}

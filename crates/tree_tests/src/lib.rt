@@ -1,5 +1,0 @@
-//! Tests of `task_tree`, over its public calls.
-#![tactic(auto)]
-
-#[cfg(test)]
-mod tests;

@@ -1,0 +1,156 @@
+-- A walk over a list with all who match ends with the choice among them.
+use Rattle.std.proofs.Common.{◌≡◌, ℕ, ◌+◌, ◌<◌, ◌≤◌, ◌==◌, ◌&&◌, Bool, true, false, List, [], ◌∷◌, Option, Some, None, option_map, cond, refl, sym, ap, ◌∙◌, arith}
+use Rattle.std.specs.Option.{option_eq}
+use Rattle.std.specs.Prelude.{nat_lt, if◌then◌else◌}
+use Rattle.std.proofs.lemmas.Bool.{eq-eqb, eqb-true}
+use Rattle.std.proofs.lemmas.List.Sums.{sum_by-cons}
+use Rattle.member_lists.specs.Owners.{times}
+use Rattle.task_table.specs.Store.{Store}
+use Rattle.task_tree.specs.Tree.{task_at, parent_of, rank_of, is_zombie, waits_for}
+use Rattle.groups_sessions.specs.Membership.{group_of}
+use Rattle.wait_calls.specs.declared.selection.Selected.TheVariants.{Group}
+use Rattle.wait_calls.specs.declared.selection.Choice.{Choice}
+use Rattle.wait_calls.specs.declared.selection.Choice.TheVariants.{NoChild, NoneEnded, Ended}
+use Rattle.wait_calls.specs.Choice.{IsMatch, IsChoice}
+use Rattle.wait_calls.specs.Walk.{is_group_match, rank_alone, counted, looked_at, walked}
+
+-- two tests that hold, and a key that is the one asked for
+pub both : (a b : Bool) → (a && b) ≡ true → (a ≡ true) × (b ≡ true)
+both true true e = (refl, refl)
+both true false e = absurd (cc)
+both false b e = absurd (cc)
+
+pub same_key : (o : Option ℕ) (n : ℕ) → option_eq ◌==◌ o (Some n) ≡ true → o ≡ Some n
+same_key None n e = absurd (cc)
+same_key (Some m) n e = ap Some (eqb-true m n e)
+
+module _ (s : Store) (caller group : ℕ) where
+  -- the test is true of who matches, and of nobody else
+  of_match : (k : ℕ) → IsMatch s caller (Group group) k → is_group_match s caller group k ≡ true
+  of_match k (child, member) =
+      let one : option_eq ◌==◌ (parent_of s.tree k) (Some caller) ≡ true = ap (λ o. option_eq ◌==◌ o (Some caller)) child ∙ eq-eqb caller caller refl in
+      let two : option_eq ◌==◌ (group_of s.members k) (Some group) ≡ true = ap (λ o. option_eq ◌==◌ o (Some group)) member ∙ eq-eqb group group refl in
+      rw (one, two) refl
+
+  is_match : (k : ℕ) → is_group_match s caller group k ≡ true → IsMatch s caller (Group group) k
+  is_match k e =
+      let tests = both (option_eq ◌==◌ (parent_of s.tree k) (Some caller)) (option_eq ◌==◌ (group_of s.members k) (Some group)) e in
+      (same_key (parent_of s.tree k) caller tests.0, same_key (group_of s.members k) group tests.1)
+
+  -- what the choice names matches
+  abbrev Names : Choice → Type 0
+  Names NoChild = Unit {0}
+  Names NoneEnded = (k : ℕ) × (is_group_match s caller group k ≡ true)
+  Names (Ended child rank) = (is_group_match s caller group child ≡ true) × (rank_alone s child ≡ Some rank)
+
+  -- the choice took the task into account
+  abbrev Covers : ℕ → Choice → Type 0
+  Covers k NoChild = ⊥
+  Covers k NoneEnded = rank_alone s k ≡ None
+  Covers k (Ended child rank) = (q : ℕ) → rank_alone s k ≡ Some q → rank ≤ q
+
+  names_counted : (choice : Choice) (k : ℕ) (o : Option ℕ) → rank_alone s k ≡ o → is_group_match s caller group k ≡ true → Names choice → Names (counted choice k o)
+  names_counted NoChild k None e m h = (k, m)
+  names_counted NoChild k (Some r) e m h = (m, e)
+  names_counted NoneEnded k None e m h = h
+  names_counted NoneEnded k (Some r) e m h = (m, e)
+  names_counted (Ended j q) k None e m h = h
+  names_counted (Ended j q) k (Some r) e m h = go (nat_lt r q)
+    where
+      go : (b : Bool) → Names (if b then Ended k r else Ended j q)
+      go true = (m, e)
+      go false = h
+
+  names_looked : (choice : Choice) (k : ℕ) → Names choice → Names (looked_at s caller group choice k)
+  names_looked choice k h = go (is_group_match s caller group k) refl
+    where
+      go : (b : Bool) → is_group_match s caller group k ≡ b → Names (if b then counted choice k (rank_alone s k) else choice)
+      go true e = names_counted choice k (rank_alone s k) refl e h
+      go false e = h
+
+  names_walked : (keys : List ℕ) (choice : Choice) → Names choice → Names (walked s caller group choice keys)
+  names_walked [] choice h = h
+  names_walked (k ∷ keys) choice h = names_walked keys (looked_at s caller group choice k) (names_looked choice k h)
+
+  covers_new : (choice : Choice) (k : ℕ) (o : Option ℕ) → rank_alone s k ≡ o → Covers k (counted choice k o)
+  covers_new NoChild k None e = e
+  covers_new NoChild k (Some r) e = λ q f. let same : Some r ≡ Some q = sym e ∙ f in let at : r ≡ q = cc in omega (arith, at)
+  covers_new NoneEnded k None e = e
+  covers_new NoneEnded k (Some r) e = λ q f. let same : Some r ≡ Some q = sym e ∙ f in let at : r ≡ q = cc in omega (arith, at)
+  covers_new (Ended j p) k None e = λ q f. absurd (let same : None ≡ Some q = sym e ∙ f in cc)
+  covers_new (Ended j p) k (Some r) e = go (nat_lt r p) refl
+    where
+      go : (b : Bool) → nat_lt r p ≡ b → Covers k (if b then Ended k r else Ended j p)
+      go true t = λ q f. let same : Some r ≡ Some q = sym e ∙ f in let at : r ≡ q = cc in omega (arith, at)
+      go false t = λ q f. let same : Some r ≡ Some q = sym e ∙ f in let at : r ≡ q = cc in let below : p ≤ r = grind (arith, t) in omega (arith, at, below)
+
+  covers_counted : (choice : Choice) (i k : ℕ) (o : Option ℕ) → Covers i choice → Covers i (counted choice k o)
+  covers_counted NoChild i k o h = absurd h
+  covers_counted NoneEnded i k None h = h
+  covers_counted NoneEnded i k (Some r) h = λ q f. absurd (let same : None ≡ Some q = sym h ∙ f in cc)
+  covers_counted (Ended j p) i k None h = h
+  covers_counted (Ended j p) i k (Some r) h = go (nat_lt r p) refl
+    where
+      go : (b : Bool) → nat_lt r p ≡ b → Covers i (if b then Ended k r else Ended j p)
+      go true t = λ q f. let at = h q f in let below : r < p = grind (arith, t) in omega (arith, at, below)
+      go false t = h
+
+  covers_looked : (choice : Choice) (i k : ℕ) → Covers i choice → Covers i (looked_at s caller group choice k)
+  covers_looked choice i k h = go (is_group_match s caller group k)
+    where
+      go : (b : Bool) → Covers i (if b then counted choice k (rank_alone s k) else choice)
+      go true = covers_counted choice i k (rank_alone s k) h
+      go false = h
+
+  covers_kept : (keys : List ℕ) (choice : Choice) (i : ℕ) → Covers i choice → Covers i (walked s caller group choice keys)
+  covers_kept [] choice i h = h
+  covers_kept (k ∷ keys) choice i h = covers_kept keys (looked_at s caller group choice k) i (covers_looked choice i k h)
+
+  covers_here : (choice : Choice) (k : ℕ) → is_group_match s caller group k ≡ true → Covers k (looked_at s caller group choice k)
+  covers_here choice k e = rw e (covers_new choice k (rank_alone s k) refl)
+
+  covers_walked : (keys : List ℕ) (choice : Choice) (i : ℕ) → is_group_match s caller group i ≡ true → 0 < times i keys → Covers i (walked s caller group choice keys)
+  covers_walked [] choice i m some = absurd (omega (arith, some))
+  covers_walked (k ∷ keys) choice i m some = go (covers_walked keys (looked_at s caller group choice k) i m) (k == i) refl (rw (sum_by-cons (λ j. cond (j == i) 1 0) k keys) at some)
+    where
+      go : (0 < times i keys → Covers i (walked s caller group (looked_at s caller group choice k) keys)) → (b : Bool) → (k == i) ≡ b
+          → 0 < cond b 1 0 + times i keys → Covers i (walked s caller group (looked_at s caller group choice k) keys)
+      go later true e some = covers_kept keys (looked_at s caller group choice k) i (rw (eqb-true k i e) (covers_here choice i m))
+      go later false e some = later (omega (arith, some))
+
+  module _ (waiting : (k : ℕ) → option_map (λ (m : ℕ × ℕ). m.0) (rank_of s.tree k) ≡ waits_for (task_at s.tree k) (parent_of s.tree k)) where
+    -- a child that has no rank lives
+    no_zombie : (k : ℕ) → parent_of s.tree k ≡ Some caller → rank_alone s k ≡ None → is_zombie (task_at s.tree k) ≡ false
+    no_zombie k child none = go (is_zombie (task_at s.tree k)) refl (rank_of s.tree k) refl
+      where
+        go : (b : Bool) → is_zombie (task_at s.tree k) ≡ b → (o : Option (ℕ × ℕ)) → rank_of s.tree k ≡ o → is_zombie (task_at s.tree k) ≡ false
+        go false e o at = e
+        go true e (Some m) at = absurd (let h = ap (option_map (λ (m : ℕ × ℕ). m.1)) at in cc)
+        go true e None at = absurd (let h = waiting k in let l = rw (e, child, at) at h in cc)
+
+    -- a child that has one has ended, and waits for the caller
+    zombie : (k r : ℕ) → parent_of s.tree k ≡ Some caller → rank_alone s k ≡ Some r → (is_zombie (task_at s.tree k) ≡ true) × (rank_of s.tree k ≡ Some (caller, r))
+    zombie k r child some = go (is_zombie (task_at s.tree k)) refl (rank_of s.tree k) refl
+      where
+        go : (b : Bool) → is_zombie (task_at s.tree k) ≡ b → (o : Option (ℕ × ℕ)) → rank_of s.tree k ≡ o → (is_zombie (task_at s.tree k) ≡ true) × (rank_of s.tree k ≡ Some (caller, r))
+        go b e None at = absurd (let h = sym (ap (option_map (λ (m : ℕ × ℕ). m.1)) at) ∙ some in cc)
+        go false e (Some m) at = absurd (let h = waiting k in let l = rw (e, at) at h in cc)
+        go true e (Some m) at =
+            let h = waiting k in
+            let l : Some m.0 ≡ Some caller = rw (e, child, at) at h in
+            let owner : m.0 ≡ caller = cc in
+            let own : Some m.1 ≡ Some r = sym (ap (option_map (λ (m : ℕ × ℕ). m.1)) at) ∙ some in
+            let rank : m.1 ≡ r = cc in
+            (e, rw (at, owner, rank) refl)
+
+    -- a list that has all who match leads to the choice
+    pub chosen : (keys : List ℕ) → ((k : ℕ) → IsMatch s caller (Group group) k → times k keys ≡ 1) → IsChoice s caller (Group group) (walked s caller group NoChild keys)
+    chosen keys all = go (walked s caller group NoChild keys) (names_walked keys NoChild tt) (λ i m. covers_walked keys NoChild i (of_match i m) (let h = all i m in omega (arith, h)))
+      where
+        go : (choice : Choice) → Names choice → ((i : ℕ) → IsMatch s caller (Group group) i → Covers i choice) → IsChoice s caller (Group group) choice
+        go NoChild names covers = λ k m. covers k m
+        go NoneEnded (k, e) covers = ((k, is_match k e), λ j m. no_zombie j m.0 (covers j m))
+        go (Ended child rank) (e, own) covers =
+            let m = is_match child e in
+            let z = zombie child rank m.0 own in
+            (m, z.0, z.1, λ k r match at. covers k match r (ap (option_map (λ (p : ℕ × ℕ). p.1)) at))
