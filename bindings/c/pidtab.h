@@ -1,11 +1,15 @@
 /* pidtab.h - Linux process identifiers as one table, in this process.
  *
  * The functions of the library are proved. This header is not: it is written by hand to fit crates/pidtab_c, and
- * bindings/c/test.c compares the two. Nobody checks that a caller keeps these rules:
+ * bindings/c/test.c compares the two.
+ *
+ * One function at a time works on a table: while one does, each other that another thread calls is PIDTAB_BUSY, and does nothing.
+ * Threads that take turns under a lock never see it. Two tables share nothing.
+ *
+ * Nobody checks that a caller keeps these rules:
  *
  * - A struct pidtab begins as PIDTAB_INIT, or as zeroes. While it is open it is never copied: a copy is a second owner,
  *   and closing both frees twice. Its fields are not read or written.
- * - One function at a time works on a table. Several threads may take turns under a lock; two tables share nothing.
  * - No pointer is null, not even to 0 bytes, and no two of those passed overlap.
  * - malloc, realloc and free are one allocator's. No function is called from a signal handler, nor in the forked child of a
  *   process with threads.
@@ -25,8 +29,9 @@ extern "C" {
 struct pidtab {
 	void *at;
 	bool is_open;
+	bool in_call; /* while a function works on the table */
 };
-#define PIDTAB_INIT { 0, false }
+#define PIDTAB_INIT { 0, false, false }
 
 /* What a function answers: 0, or a number of Linux's errno. Any status but PIDTAB_DONE says that the table is as it was.
  * A call that the table refuses, as ESRCH no-caller, is PIDTAB_DONE: its answer or reply says so. */
@@ -34,7 +39,7 @@ enum pidtab_status {
 	PIDTAB_DONE = 0,
 	PIDTAB_CLOSED = 9,        /* EBADF: there is no open table */
 	PIDTAB_NO_MEMORY = 12,    /* ENOMEM */
-	PIDTAB_BUSY = 16,         /* EBUSY: the table is open already */
+	PIDTAB_BUSY = 16,         /* EBUSY: another thread's call works on the table; or an open finds it open */
 	PIDTAB_OUT_OF_RANGE = 22, /* EINVAL: pid_max, or what a call takes */
 	PIDTAB_NO_ROOM = 34,      /* ERANGE: size says what is needed */
 	PIDTAB_EMPTY_LINE = 61,   /* ENODATA: a line of 0 bytes has no answer */
@@ -42,15 +47,42 @@ enum pidtab_status {
 	PIDTAB_SPENT = 75         /* EOVERFLOW: after 2^64 - 2 calls */
 };
 
+/* What a status says, as a sentence. */
+static inline const char *pidtab_text(uint32_t status)
+{
+	switch (status) {
+	case PIDTAB_DONE:
+		return "done";
+	case PIDTAB_CLOSED:
+		return "the table is not open";
+	case PIDTAB_NO_MEMORY:
+		return "there is no memory";
+	case PIDTAB_BUSY:
+		return "the table is open already, or in use by another thread";
+	case PIDTAB_OUT_OF_RANGE:
+		return "pid_max, or what a call takes, is out of range";
+	case PIDTAB_NO_ROOM:
+		return "there is not enough room for the text";
+	case PIDTAB_EMPTY_LINE:
+		return "an empty line has no answer";
+	case PIDTAB_BAD_LINE:
+		return "the line is none of the script language";
+	case PIDTAB_SPENT:
+		return "the table has made 2^64 - 2 calls, and makes no more";
+	}
+	return "no such status";
+}
+
 /* The number of this interface. */
 #define PIDTAB_VERSION 1
 uint32_t pidtab_version(void);
 
-/* Opens a table with process 1 alone; pid_max is 301 to 4194304. DONE, BUSY, OUT_OF_RANGE, NO_MEMORY. */
+/* Opens a table with process 1 alone; pid_max is 301 to 4194304. DONE, BUSY, OUT_OF_RANGE, NO_MEMORY. Each of the functions below may be
+ * BUSY too. */
 uint32_t pidtab_open(struct pidtab *table, uint32_t pid_max);
 
-/* Frees the table. A table that is not open stays so. */
-void pidtab_close(struct pidtab *table);
+/* Frees the table. A table that is not open stays so. DONE; one that is BUSY is not closed. */
+uint32_t pidtab_close(struct pidtab *table);
 
 /* No answer is longer. */
 #define PIDTAB_LONGEST_ANSWER 362
@@ -58,11 +90,11 @@ void pidtab_close(struct pidtab *table);
 /* Makes the call on a line of the script language (docs/SCRIPT.md), which has no newline. The answer has size bytes, no newline
  * and no zero byte behind it; its room is at least PIDTAB_LONGEST_ANSWER. DONE, CLOSED, EMPTY_LINE, BAD_LINE, NO_ROOM, SPENT, and
  * NO_MEMORY for fork and mk alone. */
-uint32_t pidtab_line(struct pidtab *table, const uint8_t *line, size_t length, uint8_t *answer, size_t room, size_t *size);
+uint32_t pidtab_line(struct pidtab *table, const void *line, size_t length, void *answer, size_t room, size_t *size);
 
 /* Writes the list of the table, as `pidtab list` does. DONE, CLOSED, NO_MEMORY, and NO_ROOM where it is longer than the room; then
  * too size is its length. */
-uint32_t pidtab_list(struct pidtab *table, uint8_t *bytes, size_t room, size_t *size);
+uint32_t pidtab_list(struct pidtab *table, void *bytes, size_t room, size_t *size);
 
 /* A call as numbers. What an operation does not take is not looked at. */
 enum pidtab_operation {
@@ -112,8 +144,44 @@ enum pidtab_kind {
 	PIDTAB_COUNTED,  /* first */
 	PIDTAB_CONTROL,  /* first: the id */
 	PIDTAB_END,
-	PIDTAB_REFUSED   /* error, refusal: 1 to 19, first: the id of what refused, if it has one */
+	PIDTAB_REFUSED   /* error, refusal: enum pidtab_refusal, first: the id of what refused, if it has one */
 };
+
+/* Why the table refuses a call. The numbers stay as they are. */
+enum pidtab_refusal {
+	PIDTAB_NO_CALLER = 1,  /* ESRCH: no live task has the caller's number */
+	PIDTAB_NO_TASK,        /* ESRCH: no task is there, or none that the call may be made on */
+	PIDTAB_NO_CHILD,       /* ECHILD: no child matches */
+	PIDTAB_NO_NUMBER,      /* EAGAIN: the namespace with the id has no free number */
+	PIDTAB_PIDS_LIMIT,     /* EAGAIN: the control group with the id has as many tasks as its limit allows */
+	PIDTAB_SPACE_FALLEN,   /* ENOMEM: the namespace for the caller's children has fallen */
+	PIDTAB_TOO_DEEP,       /* ENOSPC: a namespace below one of level 32 */
+	PIDTAB_ELSEWHERE,      /* EINVAL: a new namespace from a caller whose children go into another */
+	PIDTAB_BAD_GROUP,      /* EINVAL: a negative process group */
+	PIDTAB_OTHER_SESSION,  /* EPERM: a child in another session */
+	PIDTAB_IS_LEADER,      /* EPERM: a session leader, or a process group leader */
+	PIDTAB_NO_GROUP,       /* EPERM: no such group in the caller's session */
+	PIDTAB_EXECUTED,       /* EACCES: a child that has executed */
+	PIDTAB_ROOT_INIT,      /* EBUSY: the exit of the root init */
+	PIDTAB_NO_CONTROL,     /* ENOENT: no control group has the id */
+	PIDTAB_CONTROL_BUSY,   /* EBUSY: a control group with live tasks or children */
+	PIDTAB_ROOT_CONTROL,   /* EINVAL: the root control group, which has no limit and stays */
+	PIDTAB_BAD_LIMIT,      /* EINVAL: a limit above 4194304 */
+	PIDTAB_CONTROL_DEPTH   /* EAGAIN: a control group below one of level 64 */
+};
+
+/* The word of a refusal in the answers of the script language, as no-caller. */
+static inline const char *pidtab_word(uint32_t refusal)
+{
+	static const char *const words[] = {
+		"no-such-refusal",
+		"no-caller", "no-task", "no-child", "no-number", "pids-limit", "space-fallen",
+		"too-deep", "elsewhere", "bad-group", "other-session", "is-leader", "no-group",
+		"executed", "root-init", "no-control", "control-busy", "root-control",
+		"bad-limit", "control-depth"
+	};
+	return words[refusal < sizeof words / sizeof words[0] ? refusal : 0];
+}
 
 #define PIDTAB_KILLED 256
 #define PIDTAB_LEVELS_MAX 33

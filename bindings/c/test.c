@@ -1,15 +1,12 @@
 /* Tests of the library from C: each function once, want of memory at each allocation in turn, and threads under a lock. */
-#include "pidtab.h"
+#include "test.h"
 
 #include <errno.h>
 #include <pthread.h>
-#include <stdio.h>
-#include <stdlib.h>
-#include <string.h>
 
 /* The header against the archive, as far as a compiler can see it. */
 _Static_assert(sizeof(struct pidtab) == 16, "pidtab");
-_Static_assert(offsetof(struct pidtab, is_open) == 8, "is_open");
+_Static_assert(offsetof(struct pidtab, is_open) == 8 && offsetof(struct pidtab, in_call) == 9, "is_open");
 _Static_assert(sizeof(struct pidtab_call) == 32, "pidtab_call");
 _Static_assert(offsetof(struct pidtab_call, id) == 8 && offsetof(struct pidtab_call, pgid) == 28, "pidtab_call");
 _Static_assert(sizeof(struct pidtab_reply) == 168, "pidtab_reply");
@@ -17,16 +14,6 @@ _Static_assert(offsetof(struct pidtab_reply, first) == 16 && offsetof(struct pid
 _Static_assert(PIDTAB_CLOSED == EBADF && PIDTAB_NO_MEMORY == ENOMEM && PIDTAB_BUSY == EBUSY && PIDTAB_OUT_OF_RANGE == EINVAL, "status");
 _Static_assert(PIDTAB_NO_ROOM == ERANGE && PIDTAB_EMPTY_LINE == ENODATA && PIDTAB_BAD_LINE == EPROTO && PIDTAB_SPENT == EOVERFLOW, "status");
 _Static_assert(PIDTAB_SUBREAPER == 18 && PIDTAB_REFUSED == 9, "operations and kinds");
-
-#define CHECK(what) check((what), #what, __LINE__)
-
-static void check(bool holds, const char *what, int line)
-{
-	if (holds)
-		return;
-	fprintf(stderr, "test.c:%d: not so: %s\n", line, what);
-	exit(1);
-}
 
 /* The heap that heap.c is built with here: it refuses the allocation that the counter falls on. 0: none. */
 static int refuse_at;
@@ -46,28 +33,14 @@ void *test_realloc(void *at, size_t size)
 	return refused() ? NULL : realloc(at, size);
 }
 
-static uint32_t ask(struct pidtab *table, const char *line, char answer[PIDTAB_LONGEST_ANSWER + 1])
-{
-	size_t size = 0;
-	uint32_t status = pidtab_line(table, (const uint8_t *)line, strlen(line), (uint8_t *)answer, PIDTAB_LONGEST_ANSWER, &size);
-	answer[size] = 0;
-	return status;
-}
-
-static bool answers(struct pidtab *table, const char *line, const char *wanted)
-{
-	char answer[PIDTAB_LONGEST_ANSWER + 1];
-	return ask(table, line, answer) == PIDTAB_DONE && strcmp(answer, wanted) == 0;
-}
-
 /* The list, to be freed. */
 static char *listed(struct pidtab *table)
 {
 	size_t size = 0;
-	uint8_t none[1];
+	char none[1];
 	CHECK(pidtab_list(table, none, 0, &size) == PIDTAB_NO_ROOM);
 	char *text = malloc(size + 1);
-	CHECK(pidtab_list(table, (uint8_t *)text, size, &size) == PIDTAB_DONE);
+	CHECK(pidtab_list(table, text, size, &size) == PIDTAB_DONE);
 	text[size] = 0;
 	return text;
 }
@@ -75,7 +48,7 @@ static char *listed(struct pidtab *table)
 static void each_function(void)
 {
 	struct pidtab table = PIDTAB_INIT;
-	uint8_t room[PIDTAB_LONGEST_ANSWER];
+	char room[PIDTAB_LONGEST_ANSWER];
 	char answer[PIDTAB_LONGEST_ANSWER + 1];
 	size_t size = 7;
 
@@ -92,15 +65,14 @@ static void each_function(void)
 	CHECK(answers(&table, "getpid 9", "ESRCH no-caller"));
 	CHECK(ask(&table, "", answer) == PIDTAB_EMPTY_LINE);
 	CHECK(ask(&table, "getpid 1\n", answer) == PIDTAB_BAD_LINE && ask(&table, "getpid 01", answer) == PIDTAB_BAD_LINE);
-	CHECK(pidtab_line(&table, (const uint8_t *)"getpid 1", 8, room, sizeof room - 1, &size) == PIDTAB_NO_ROOM);
+	CHECK(pidtab_line(&table, "getpid 1", 8, room, sizeof room - 1, &size) == PIDTAB_NO_ROOM);
 	CHECK(size == PIDTAB_LONGEST_ANSWER);
 
 	char *text = listed(&table);
 	CHECK(strncmp(text, "task 1 space 0 parent 0 ", 24) == 0 && text[strlen(text) - 1] == '\n');
 	free(text);
-	pidtab_close(&table);
-	CHECK(table.at == NULL && !table.is_open);
-	pidtab_close(&table);
+	CHECK(pidtab_close(&table) == PIDTAB_DONE && table.at == NULL && !table.is_open && !table.in_call);
+	CHECK(pidtab_close(&table) == PIDTAB_DONE);
 	CHECK(ask(&table, "getpid 1", answer) == PIDTAB_CLOSED);
 }
 
@@ -184,7 +156,7 @@ static void want_of_memory(void)
 	CHECK(strcmp(one, other) == 0);
 	refuse_at = 1;
 	size = 7;
-	CHECK(pidtab_list(&table, (uint8_t *)one, strlen(one), &size) == PIDTAB_NO_MEMORY && size == 7 && strcmp(one, other) == 0);
+	CHECK(pidtab_list(&table, one, strlen(one), &size) == PIDTAB_NO_MEMORY && size == 7 && strcmp(one, other) == 0);
 	refuse_at = 0;
 	free(one);
 	free(other);

@@ -43,7 +43,13 @@ const (
 	Sessions Kind = C.PIDTAB_SESSIONS
 )
 
-// Fork is fork(2), or clone(2) with CLONE_NEWPID: a child in the namespace for the caller's children, or in a new one. Refused as
+// What Fork takes: a new namespace for the child, or none.
+const (
+	NewNamespace   = true
+	NoNewNamespace = false
+)
+
+// Fork is fork(2), or clone(2) with CLONE_NEWPID, for NewNamespace: a child in the namespace for the caller's children, or in a new one. Refused as
 // no-caller, too-deep, elsewhere, space-fallen, no-number, pids-limit; ErrNoMemory.
 func (table *Table) Fork(caller uint32, newSpace bool) (Child, error) {
 	reply, err := table.do(C.struct_pidtab_call{operation: C.PIDTAB_FORK, caller: C.uint32_t(caller), choice: number(newSpace)})

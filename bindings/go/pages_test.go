@@ -2,6 +2,8 @@ package pidtab
 
 import (
 	"os"
+	"reflect"
+	"regexp"
 	"strconv"
 	"strings"
 	"testing"
@@ -59,8 +61,8 @@ func played(t *testing.T, script string) string {
 }
 
 func TestTheStoredScripts(t *testing.T) {
-	scripts := strings.Split(read(t, "crates/worked_scripts/stdin"), "# ")[1:]
-	answers := strings.Split(read(t, "crates/worked_scripts/stdout"), "# ")[1:]
+	scripts := strings.Split(read(t, "crates/demo_scripts/stdin"), "# ")[1:]
+	answers := strings.Split(read(t, "crates/demo_scripts/stdout"), "# ")[1:]
 	if len(scripts) < 30 || len(scripts) != len(answers) {
 		t.Fatal(len(scripts), len(answers))
 	}
@@ -68,5 +70,31 @@ func TestTheStoredScripts(t *testing.T) {
 		if told := played(t, script); told != "# "+answers[i] {
 			t.Errorf("%s: %s", strings.SplitN(script, "\n", 2)[0], told)
 		}
+	}
+}
+
+// between is what stands behind the one word, up to the other.
+func between(t *testing.T, text, word, end string) string {
+	t.Helper()
+	_, behind, found := strings.Cut(text, word)
+	before, _, ended := strings.Cut(behind, end)
+	if !found || !ended {
+		t.Fatal("no " + word)
+	}
+	return before
+}
+
+// A refusal's name in the header is its word in capital letters, with _ for -.
+func TestTheRefusalsAreThoseOfTheHeader(t *testing.T) {
+	header := read(t, "bindings/c/pidtab.h")
+	var names, told []string
+	for _, found := range regexp.MustCompile(`PIDTAB_([A-Z_]+)`).FindAllStringSubmatch(between(t, header, "enum pidtab_refusal {", "};"), -1) {
+		names = append(names, strings.ToLower(strings.ReplaceAll(found[1], "_", "-")))
+	}
+	for _, found := range regexp.MustCompile(`"([a-z-]+)"`).FindAllStringSubmatch(between(t, header, "words[] = {", "};"), -1) {
+		told = append(told, found[1])
+	}
+	if !reflect.DeepEqual(names, words[1:]) || !reflect.DeepEqual(told[1:], words[1:]) {
+		t.Error(words, names, told)
 	}
 }

@@ -17,6 +17,7 @@ var (
 	ErrOutOfRange = errors.New("pidtab: out of range")
 	ErrEmptyLine  = errors.New("pidtab: an empty line has no answer")
 	ErrBadLine    = errors.New("pidtab: bad line")
+	ErrBusy       = errors.New("pidtab: busy: a thread that is not here is in a call, as in the forked child of a process with threads")
 )
 
 // Refusal is an error of a call that the table refuses, which changes nothing but that the call is counted. Its errno is wrapped:
@@ -74,6 +75,8 @@ func faultOf(status uint32) error {
 		return ErrEmptyLine
 	case C.PIDTAB_BAD_LINE:
 		return ErrBadLine
+	case C.PIDTAB_BUSY:
+		return ErrBusy
 	}
 	return fmt.Errorf("pidtab: the library answers with the status %d", status)
 }

@@ -13,6 +13,7 @@ import (
 	"fmt"
 	"runtime"
 	"sync"
+	"unsafe"
 )
 
 // Table is a table of processes. Goroutines may share it: one call is made at a time. It is never copied, which go vet sees by its lock.
@@ -53,7 +54,7 @@ func (table *Table) Line(line string) (string, error) {
 	var size C.size_t
 	table.lock.Lock()
 	defer table.lock.Unlock()
-	status := C.pidtab_line(&table.raw, (*C.uint8_t)(&bytes[0]), C.size_t(len(line)), &answer[0], C.PIDTAB_LONGEST_ANSWER, &size)
+	status := C.pidtab_line(&table.raw, unsafe.Pointer(&bytes[0]), C.size_t(len(line)), unsafe.Pointer(&answer[0]), C.PIDTAB_LONGEST_ANSWER, &size)
 	if err := faultOf(uint32(status)); err != nil {
 		return "", err
 	}
@@ -71,7 +72,7 @@ func (table *Table) List() (string, error) {
 	size := C.size_t(shortList)
 	for {
 		room := make([]C.uint8_t, size)
-		status := C.pidtab_list(&table.raw, &room[0], C.size_t(len(room)), &size)
+		status := C.pidtab_list(&table.raw, unsafe.Pointer(&room[0]), C.size_t(len(room)), &size)
 		if status == C.PIDTAB_NO_ROOM {
 			continue
 		}
@@ -80,6 +81,15 @@ func (table *Table) List() (string, error) {
 		}
 		return text(room[:size]), nil
 	}
+}
+
+// Listing is the same list, read: the tasks, the namespaces and the control groups. ErrClosed, ErrNoMemory.
+func (table *Table) Listing() (Listing, error) {
+	list, err := table.List()
+	if err != nil {
+		return Listing{}, err
+	}
+	return ReadList(list)
 }
 
 // text is what the bytes say.

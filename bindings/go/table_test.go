@@ -58,6 +58,8 @@ var calls = []struct {
 }{
 	{"fork", nil, func(it *Table) told { return of(it.Fork(1, false)) }, Child{2, 2}},
 	{"fork new", nil, func(it *Table) told { return of(it.Fork(1, true)) }, Child{2, 2}},
+	{"fork of a new namespace", []string{"fork 1 new"}, func(it *Table) told { return of(it.Fork(2, NewNamespace)) }, Child{2, 3}},
+	{"fork of none", []string{"fork 1 new"}, func(it *Table) told { return of(it.Fork(2, NoNewNamespace)) }, Child{2, 3}},
 	{"fork inside", []string{"fork 1 new"}, func(it *Table) told { return of(it.Fork(2, false)) }, Child{2, 3}},
 	{"getpid", []string{"fork 1 new", "fork 2"}, func(it *Table) told { return of(it.Getpid(3)) }, uint32(2)},
 	{"nspid", []string{"fork 1 new", "fork 2"}, func(it *Table) told { return of(it.Nspid(1, 3)) }, []uint32{3, 2}},
@@ -115,6 +117,8 @@ var changes = []struct {
 	{"limit", []string{"mk 0"}, func(it *Table) error { return it.Limit(1, 0) }, "control 1 parent 0 limit 0 count 0"},
 	{"limit max", []string{"mk 0", "limit 1 5"}, func(it *Table) error { return it.LimitMax(1) }, "control 1 parent 0 limit max count 0"},
 	{"move", []string{"mk 0"}, func(it *Table) error { return it.Move(1, 1) }, "task 1 space 0 parent 0 group 1 session 1 control 1 live"},
+	{"fork of a new namespace", nil, func(it *Table) error { return of(it.Fork(1, NewNamespace)).err },
+		"task 2,1 space 1 parent 1 group 1 session 1 control 0 live"},
 	{"join", []string{"fork 1 new"}, func(it *Table) error { return it.Join(1, 2) },
 		"task 1 space 0 parent 0 group 1 session 1 control 0 live children 1"},
 	{"subreaper", nil, func(it *Table) error { return it.Subreaper(1, true) }, "task 1 space 0 parent 0 group 1 session 1 control 0 live subreaper"},
@@ -226,7 +230,7 @@ func TestWhatErrorsSay(t *testing.T) {
 }
 
 func TestStatuses(t *testing.T) {
-	faults := map[uint32]error{0: nil, 9: ErrClosed, 12: ErrNoMemory, 22: ErrOutOfRange, 61: ErrEmptyLine, 71: ErrBadLine, 75: ErrSpent}
+	faults := map[uint32]error{0: nil, 9: ErrClosed, 12: ErrNoMemory, 22: ErrOutOfRange, 61: ErrEmptyLine, 71: ErrBadLine, 16: ErrBusy, 75: ErrSpent}
 	for status, wanted := range faults {
 		if err := faultOf(status); err != wanted {
 			t.Errorf("%d: %v", status, err)
@@ -298,6 +302,17 @@ func TestAClosedTable(t *testing.T) {
 	want(t, "empty line", of(table.Line("")), "", ErrClosed)
 	want(t, "list", of(table.List()), "", ErrClosed)
 	want(t, "no table", of(new(Table).Getpid(1)), uint32(0), ErrClosed)
+}
+
+// As in a forked child, where the thread whose call was under way is not.
+func TestACallThatDoesNotEnd(t *testing.T) {
+	table := open(t, 32768)
+	table.raw.in_call = true
+	want(t, "getpid", of(table.Getpid(1)), uint32(0), ErrBusy)
+	want(t, "line", of(table.Line("getpid 1")), "", ErrBusy)
+	want(t, "list", of(table.List()), "", ErrBusy)
+	table.raw.in_call = false
+	want(t, "getpid", of(table.Getpid(1)), uint32(1), nil)
 }
 
 // forks puts the root numbers of children of the root init where there is room for them.

@@ -1,9 +1,10 @@
 //! Why a call has no other answer.
 use crate::raw;
-use std::fmt;
+use std::{fmt, io};
 
-/// Why the table refuses a call. Nothing has changed then, but that the call is counted.
+/// Why the table refuses a call. Nothing has changed then, but that the call is counted. More refusals may come.
 #[derive(Clone, Copy, Debug, PartialEq, Eq, Hash)]
+#[non_exhaustive]
 pub enum Refusal {
     /// No live task has the caller's root number.
     NoCaller,
@@ -117,8 +118,26 @@ impl fmt::Display for Refusal {
     }
 }
 
-/// Why a call has no answer. The table is as it was.
+/// Why a call has no answer. The table is as it was. More reasons may come.
+///
+/// As an [`io::Error`] it has the kind that the kernel's error has, and holds this one:
+///
+/// ```
+/// use pidtab::Table;
+/// use std::io;
+///
+/// fn remove(table: &mut Table) -> io::Result<()> {
+///     table.rm(7)?;
+///     Ok(())
+/// }
+///
+/// let fault = remove(&mut Table::open(32768)?).unwrap_err();
+/// assert_eq!(fault.kind(), io::ErrorKind::NotFound);
+/// assert_eq!(fault.to_string(), "no-control (errno 2)");
+/// # Ok::<(), io::Error>(())
+/// ```
 #[derive(Clone, Copy, Debug, PartialEq, Eq, Hash)]
+#[non_exhaustive]
 pub enum Error {
     /// The table refuses the call.
     Refused {
@@ -133,6 +152,9 @@ pub enum Error {
     Spent,
     /// `pid_max` is outside 301 to 4194304.
     OutOfRange,
+    /// A call that another thread began is under way. A table has one owner, so this comes in the forked child of a process with threads alone,
+    /// where that thread is not.
+    Busy,
 }
 
 impl Error {
@@ -142,6 +164,7 @@ impl Error {
             raw::NO_MEMORY => Error::NoMemory,
             raw::SPENT => Error::Spent,
             raw::OUT_OF_RANGE => Error::OutOfRange,
+            raw::BUSY => Error::Busy,
             _ => unreachable!("the library answers the status {status}"),
         }
     }
@@ -154,14 +177,31 @@ impl fmt::Display for Error {
             Error::NoMemory => to.write_str("no memory"),
             Error::Spent => to.write_str("spent"),
             Error::OutOfRange => to.write_str("pid_max is 301 to 4194304"),
+            Error::Busy => to.write_str("busy"),
         }
     }
 }
 
 impl std::error::Error for Error {}
 
-/// Why a line has no answer. The table is as it was.
+impl From<Error> for io::Error {
+    /// With the kind that the kernel's error has; the error itself is within.
+    fn from(error: Error) -> io::Error {
+        let kind_of = |errno| io::Error::from_raw_os_error(errno).kind();
+        let kind = match error {
+            Error::Refused { errno, .. } => kind_of(errno),
+            Error::NoMemory => io::ErrorKind::OutOfMemory,
+            Error::OutOfRange => io::ErrorKind::InvalidInput,
+            Error::Busy => kind_of(raw::BUSY as i32),
+            Error::Spent => io::ErrorKind::Other,
+        };
+        io::Error::new(kind, error)
+    }
+}
+
+/// Why a line has no answer. The table is as it was. More reasons may come.
 #[derive(Clone, Copy, Debug, PartialEq, Eq, Hash)]
+#[non_exhaustive]
 pub enum LineError {
     /// The line has no bytes, and so no answer.
     Empty,
@@ -171,6 +211,8 @@ pub enum LineError {
     NoMemory,
     /// The table has made 2^64 - 2 calls.
     Spent,
+    /// As [`Error::Busy`].
+    Busy,
 }
 
 impl LineError {
@@ -181,6 +223,7 @@ impl LineError {
             raw::BAD_LINE => LineError::Bad,
             raw::NO_MEMORY => LineError::NoMemory,
             raw::SPENT => LineError::Spent,
+            raw::BUSY => LineError::Busy,
             _ => unreachable!("the library answers the status {status}"),
         }
     }
@@ -193,11 +236,25 @@ impl fmt::Display for LineError {
             LineError::Bad => "bad line",
             LineError::NoMemory => "no memory",
             LineError::Spent => "spent",
+            LineError::Busy => "busy",
         })
     }
 }
 
 impl std::error::Error for LineError {}
+
+impl From<LineError> for io::Error {
+    /// With the kind of the error within.
+    fn from(error: LineError) -> io::Error {
+        let kind = match error {
+            LineError::Empty | LineError::Bad => io::ErrorKind::InvalidInput,
+            LineError::NoMemory => io::ErrorKind::OutOfMemory,
+            LineError::Spent => io::ErrorKind::Other,
+            LineError::Busy => io::Error::from(Error::Busy).kind(),
+        };
+        io::Error::new(kind, error)
+    }
+}
 
 #[cfg(test)]
 mod tests {
@@ -220,5 +277,33 @@ mod tests {
         assert_eq!(LineError::of(71), LineError::Bad);
         assert_eq!(LineError::of(12), LineError::NoMemory);
         assert_eq!(LineError::of(75), LineError::Spent);
+    }
+
+    /// The kind that the kernel's error has, and the error within.
+    fn as_io(error: Error, errno: i32) {
+        let fault = io::Error::from(error);
+        assert_eq!(fault.kind(), io::Error::from_raw_os_error(errno).kind());
+        let within = fault.get_ref().expect("an error within");
+        assert_eq!(within.downcast_ref(), Some(&error));
+    }
+
+    #[test]
+    fn each_error_is_one_of_io() {
+        let refused = |errno, refusal| Error::Refused { errno, refusal };
+        as_io(refused(2, Refusal::NoControl), 2);
+        as_io(refused(13, Refusal::Executed), 13);
+        as_io(refused(11, Refusal::PidsLimit(4)), 11);
+        as_io(Error::NoMemory, 12);
+        as_io(Error::OutOfRange, 22);
+        as_io(Error::Busy, 16);
+        let kind = |error: LineError| io::Error::from(error).kind();
+        assert_eq!(kind(LineError::Bad), io::ErrorKind::InvalidInput);
+        assert_eq!(kind(LineError::NoMemory), io::ErrorKind::OutOfMemory);
+        assert_eq!(kind(LineError::Spent), io::ErrorKind::Other);
+        let told = io::Error::from(Error::Spent);
+        assert_eq!(
+            (told.kind(), told.to_string()),
+            (io::ErrorKind::Other, "spent".to_owned())
+        );
     }
 }

@@ -20,9 +20,11 @@
 #![deny(missing_docs, unsafe_op_in_unsafe_fn)]
 
 mod fault;
+mod listing;
 mod raw;
 
 pub use fault::{Error, LineError, Refusal};
+pub use listing::{BadList, Control, Listing, Space, Task};
 
 use std::fmt;
 use std::ptr;
@@ -54,8 +56,9 @@ pub struct Reaped {
     pub ended: Ended,
 }
 
-/// The children that a wait selects.
+/// The children that a wait selects. More ways may come.
 #[derive(Clone, Copy, Debug, PartialEq, Eq, Hash)]
+#[non_exhaustive]
 pub enum Which {
     /// Any child.
     Any,
@@ -67,8 +70,9 @@ pub enum Which {
     Group(u32),
 }
 
-/// What a number is in use as.
+/// What a number is in use as. More kinds may come.
 #[derive(Clone, Copy, Debug, PartialEq, Eq, Hash)]
+#[non_exhaustive]
 pub enum Kind {
     /// As a task, live or ended.
     Task,
@@ -77,6 +81,40 @@ pub enum Kind {
     /// As a session.
     Session,
 }
+
+/// More may come of each of these, so a match has an arm for the others:
+///
+/// ```compile_fail,E0004
+/// use pidtab::Error::*;
+/// fn all(it: pidtab::Error) { match it { Refused { .. } | NoMemory | Spent | OutOfRange | Busy => {} } }
+/// ```
+///
+/// ```compile_fail,E0004
+/// use pidtab::LineError::*;
+/// fn all(it: pidtab::LineError) { match it { Empty | Bad | NoMemory | Spent | Busy => {} } }
+/// ```
+///
+/// ```compile_fail,E0004
+/// use pidtab::Which::*;
+/// fn all(it: pidtab::Which) { match it { Any | Pid(_) | OwnGroup | Group(_) => {} } }
+/// ```
+///
+/// ```compile_fail,E0004
+/// use pidtab::Kind::*;
+/// fn all(it: pidtab::Kind) { match it { Task | Group | Session => {} } }
+/// ```
+///
+/// ```compile_fail,E0004
+/// use pidtab::Refusal::*;
+/// fn all(it: pidtab::Refusal) {
+///     match it {
+///         NoCaller | NoTask | NoChild | NoNumber(_) | PidsLimit(_) | SpaceFallen | TooDeep | Elsewhere | BadGroup | OtherSession => {}
+///         IsLeader | NoGroup | Executed | RootInit | NoControl | ControlBusy | RootControl | BadLimit | ControlDepth => {}
+///     }
+/// }
+/// ```
+#[cfg(doctest)]
+struct MoreMayCome;
 
 /// A table of processes. It is closed when it is dropped.
 ///
@@ -124,6 +162,7 @@ impl Table {
             raw: Box::new(raw::Pidtab {
                 at: ptr::null_mut(),
                 is_open: false,
+                in_call: false,
             }),
         };
         // SAFETY: the pointer is to a struct of zeroes that is this call's alone.
@@ -348,19 +387,20 @@ impl Table {
         self.ask(raw::SUBREAPER, caller, 0, u32::from(on)).map(drop)
     }
 
-    /// Makes the call on a line of the script language, without its newline. A refusal is an answer, as `ESRCH no-caller`.
+    /// Makes the call on a line of the script language, without its newline: a text or bytes. A refusal is an answer, as `ESRCH no-caller`.
     ///
     /// # Errors
     /// `Empty`, `Bad`; `NoMemory` for `fork` and `mk`, `Spent`.
-    pub fn line(&mut self, line: &[u8]) -> Result<String, LineError> {
-        let mut answer = [0; raw::LONGEST_ANSWER];
-        let (room, mut size) = (answer.as_mut_ptr(), 0);
+    pub fn line(&mut self, line: impl AsRef<[u8]>) -> Result<String, LineError> {
+        let line = line.as_ref();
+        let mut answer = [0u8; raw::LONGEST_ANSWER];
+        let (room, mut size) = (answer.as_mut_ptr().cast(), 0);
         // SAFETY: the table is open and lent to this call alone; the line and the answer are slices with these lengths, whose pointers are
         // not null even where they are empty; no two of the four overlap.
         let status = unsafe {
             raw::pidtab_line(
                 &mut *self.raw,
-                line.as_ptr(),
+                line.as_ptr().cast(),
                 line.len(),
                 room,
                 raw::LONGEST_ANSWER,
@@ -378,13 +418,14 @@ impl Table {
     /// # Errors
     /// `NoMemory`.
     pub fn list(&mut self) -> Result<String, Error> {
-        let (mut text, mut size) = (Vec::new(), 4096);
+        let (mut text, mut size) = (Vec::<u8>::new(), 4096);
         loop {
             text.try_reserve_exact(size).map_err(|_| Error::NoMemory)?;
             text.resize(size, 0);
             // SAFETY: the table is open and lent to this call alone; the room is a slice with this length; no two of the three overlap.
             let status = unsafe {
-                raw::pidtab_list(&mut *self.raw, text.as_mut_ptr(), text.len(), &mut size)
+                let room = text.as_mut_ptr().cast();
+                raw::pidtab_list(&mut *self.raw, room, text.len(), &mut size)
             };
             match status {
                 raw::DONE => {
@@ -395,6 +436,15 @@ impl Table {
                 status => return Err(Error::of(status)),
             }
         }
+    }
+
+    /// The same list, read: the tasks, the namespaces and the control groups.
+    ///
+    /// # Errors
+    /// `NoMemory`.
+    pub fn listing(&mut self) -> Result<Listing, Error> {
+        let text = self.list()?;
+        Ok(text.parse().expect("what the library lists is a list"))
     }
 
     /// A call that takes a caller and perhaps a number and a choice, and tells one number or none.
@@ -440,13 +490,30 @@ impl Table {
 
 impl Drop for Table {
     fn drop(&mut self) {
-        // SAFETY: the table is lent to this call alone; one that is not open stays so.
-        unsafe { raw::pidtab_close(&mut *self.raw) }
+        // SAFETY: the table is lent to this call alone; one that is not open stays so. No other thread is in it, so it is closed.
+        unsafe { raw::pidtab_close(&mut *self.raw) };
     }
 }
 
 impl fmt::Debug for Table {
     fn fmt(&self, to: &mut fmt::Formatter<'_>) -> fmt::Result {
         to.debug_struct("Table").finish_non_exhaustive()
+    }
+}
+
+#[cfg(test)]
+mod tests {
+    use super::*;
+
+    /// As in a forked child, where the thread whose call was under way is not.
+    #[test]
+    fn a_call_that_does_not_end() {
+        let mut table = Table::open(32768).expect("a table");
+        table.raw.in_call = true;
+        assert_eq!(table.getpid(1), Err(Error::Busy));
+        assert_eq!(table.line("getpid 1"), Err(LineError::Busy));
+        assert_eq!(table.list(), Err(Error::Busy));
+        table.raw.in_call = false;
+        assert_eq!(table.getpid(1), Ok(1));
     }
 }

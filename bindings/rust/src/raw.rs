@@ -6,6 +6,7 @@ pub(crate) const VERSION: u32 = 1;
 
 pub(crate) const DONE: u32 = 0;
 pub(crate) const NO_MEMORY: u32 = 12;
+pub(crate) const BUSY: u32 = 16;
 pub(crate) const OUT_OF_RANGE: u32 = 22;
 pub(crate) const NO_ROOM: u32 = 34;
 pub(crate) const EMPTY_LINE: u32 = 61;
@@ -54,6 +55,7 @@ pub(crate) const LONGEST_ANSWER: usize = 362;
 pub(crate) struct Pidtab {
     pub(crate) at: *mut c_void,
     pub(crate) is_open: bool,
+    pub(crate) in_call: bool,
 }
 
 /// A call as numbers.
@@ -98,6 +100,7 @@ impl Reply {
 const _: () = {
     assert!(size_of::<Pidtab>() == 16);
     assert!(offset_of!(Pidtab, at) == 0 && offset_of!(Pidtab, is_open) == 8);
+    assert!(offset_of!(Pidtab, in_call) == 9);
     assert!(size_of::<Call>() == 32);
     assert!(offset_of!(Call, operation) == 0 && offset_of!(Call, caller) == 4);
     assert!(offset_of!(Call, id) == 8 && offset_of!(Call, number) == 16);
@@ -113,18 +116,18 @@ const _: () = {
 extern "C" {
     pub(crate) fn pidtab_version() -> u32;
     pub(crate) fn pidtab_open(table: *mut Pidtab, pid_max: u32) -> u32;
-    pub(crate) fn pidtab_close(table: *mut Pidtab);
+    pub(crate) fn pidtab_close(table: *mut Pidtab) -> u32;
     pub(crate) fn pidtab_line(
         table: *mut Pidtab,
-        line: *const u8,
+        line: *const c_void,
         length: usize,
-        answer: *mut u8,
+        answer: *mut c_void,
         room: usize,
         size: *mut usize,
     ) -> u32;
     pub(crate) fn pidtab_list(
         table: *mut Pidtab,
-        bytes: *mut u8,
+        bytes: *mut c_void,
         room: usize,
         size: *mut usize,
     ) -> u32;
@@ -134,6 +137,7 @@ extern "C" {
 #[cfg(test)]
 mod tests {
     use super::*;
+    use crate::Refusal;
     use std::fs;
 
     /// The header without its comments, each run of white space one space.
@@ -177,7 +181,7 @@ mod tests {
                 ("DONE", DONE),
                 ("CLOSED", 9),
                 ("NO_MEMORY", NO_MEMORY),
-                ("BUSY", 16),
+                ("BUSY", BUSY),
                 ("OUT_OF_RANGE", OUT_OF_RANGE),
                 ("NO_ROOM", NO_ROOM),
                 ("EMPTY_LINE", EMPTY_LINE),
@@ -243,6 +247,22 @@ mod tests {
         );
     }
 
+    /// A refusal's name in the header is its word in capital letters, with `_` for `-`.
+    #[test]
+    fn the_refusals_are_those_of_the_header() {
+        let refusals = (1..=19).map(|it| (it, Refusal::of(it, 0).name()));
+        let names: Vec<_> = refusals
+            .clone()
+            .map(|(number, word)| (word.to_uppercase().replace('-', "_"), number))
+            .collect();
+        let names: Vec<_> = names.iter().map(|it| (it.0.as_str(), it.1)).collect();
+        same_enum("pidtab_refusal", &names);
+        let header = header();
+        let told = body(&header, "words[] =").split(',').skip(1);
+        let told: Vec<_> = told.map(|it| it.trim().trim_matches('"')).collect();
+        assert_eq!(told, refusals.map(|it| it.1).collect::<Vec<_>>());
+    }
+
     #[test]
     fn the_bounds_are_those_of_the_header() {
         let header = header();
@@ -262,7 +282,10 @@ mod tests {
     #[test]
     fn the_structs_and_functions_are_those_of_the_header() {
         let header = header();
-        assert_eq!(body(&header, "struct pidtab"), "void *at; bool is_open;");
+        assert_eq!(
+            body(&header, "struct pidtab"),
+            "void *at; bool is_open; bool in_call;"
+        );
         assert_eq!(
             body(&header, "struct pidtab_call"),
             "uint32_t operation; uint32_t caller; uint64_t id; uint32_t number; uint32_t choice; int32_t pid; int32_t pgid;"
@@ -274,9 +297,9 @@ mod tests {
         for declared in [
             "uint32_t pidtab_version(void);",
             "uint32_t pidtab_open(struct pidtab *table, uint32_t pid_max);",
-            "void pidtab_close(struct pidtab *table);",
-            "uint32_t pidtab_line(struct pidtab *table, const uint8_t *line, size_t length, uint8_t *answer, size_t room, size_t *size);",
-            "uint32_t pidtab_list(struct pidtab *table, uint8_t *bytes, size_t room, size_t *size);",
+            "uint32_t pidtab_close(struct pidtab *table);",
+            "uint32_t pidtab_line(struct pidtab *table, const void *line, size_t length, void *answer, size_t room, size_t *size);",
+            "uint32_t pidtab_list(struct pidtab *table, void *bytes, size_t room, size_t *size);",
             "uint32_t pidtab_call(struct pidtab *table, const struct pidtab_call *call, struct pidtab_reply *reply);",
         ] {
             assert!(header.contains(declared), "{declared}");

@@ -20,7 +20,7 @@ fn play(scripts: &str) -> String {
         let mut table = Table::open(words[1].parse().expect("pid_max")).expect("a table");
         told += &format!("# {head}\n");
         for line in lines.lines() {
-            match table.line(line.as_bytes()) {
+            match table.line(line) {
                 Ok(answer) => told += &format!("{answer}\n"),
                 Err(LineError::Empty) => {}
                 Err(fault) => told += &format!("{fault}\n"),
@@ -35,14 +35,11 @@ fn play(scripts: &str) -> String {
 
 #[test]
 fn the_stored_scripts() {
-    let told = play(&read("crates/worked_scripts/stdin"));
-    for (line, wanted) in told
-        .lines()
-        .zip(read("crates/worked_scripts/stdout").lines())
-    {
+    let told = play(&read("crates/demo_scripts/stdin"));
+    for (line, wanted) in told.lines().zip(read("crates/demo_scripts/stdout").lines()) {
         assert_eq!(line, wanted);
     }
-    assert_eq!(told.len(), read("crates/worked_scripts/stdout").len());
+    assert_eq!(told.len(), read("crates/demo_scripts/stdout").len());
 }
 
 /// The block of the kind in a section of docs/LIBRARY.md.

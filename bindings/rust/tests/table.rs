@@ -198,9 +198,11 @@ fn the_range_of_pid_max() {
 #[test]
 fn lines() {
     let mut table = open();
-    assert_eq!(table.line(b"fork 1 new"), Ok("child 2 root 2".to_owned()));
+    assert_eq!(table.line("fork 1 new"), Ok("child 2 root 2".to_owned()));
     assert_eq!(table.line(b"getpid 9"), Ok("ESRCH no-caller".to_owned()));
-    assert_eq!(table.line(b""), Err(LineError::Empty));
+    let line = format!("getpid {}", 9);
+    assert_eq!(table.line(&line), table.line(line.into_bytes()));
+    assert_eq!(table.line(""), Err(LineError::Empty));
     let long = [b'a'; 201];
     let bad: [&[u8]; 8] = [
         b"fork",
@@ -215,8 +217,8 @@ fn lines() {
     for line in bad {
         assert_eq!(table.line(line), Err(LineError::Bad));
     }
-    // Bad lines are no calls: the fork, the refused query, this.
-    assert_eq!(table.line(b"mk 0"), Ok("control 3".to_owned()));
+    // Bad lines are no calls: the fork, the three refused queries, this.
+    assert_eq!(table.line(b"mk 0"), Ok("control 5".to_owned()));
 }
 
 #[test]

@@ -1,0 +1,157 @@
+package pidtab
+
+import (
+	"fmt"
+	"regexp"
+	"strconv"
+	"strings"
+)
+
+// Task is a task of a list.
+type Task struct {
+	Numbers   []uint32 // that of the root namespace first
+	Space     uint64   // the id of its namespace
+	Parent    uint32   // the root number of its parent, 0 for none
+	Group     uint32   // the root number of its process group
+	Session   uint32   // the root number of its session
+	Control   uint64   // the id of its control group
+	Live      bool     // a task that is not has ended, and was not yet waited for
+	Killed    bool     // it ended by the fall of its namespace
+	Status    uint8    // of its exit, where it ended by one
+	Executed  bool     // it has executed
+	Children  *uint64  // the id of the namespace that its children go into, nil where that is its own
+	Subreaper bool     // it takes orphans of its namespace
+}
+
+// Root is the task's number in the root namespace, by which it is named as a caller.
+func (task Task) Root() uint32 { return task.Numbers[0] }
+
+// Space is a namespace of a list.
+type Space struct {
+	ID     uint64  // 0 for the root, or the number of the call that made it
+	Parent *uint64 // the id of the namespace around it, nil for the root
+	Cursor uint32  // where the search for its next number begins
+	Fallen bool    // its init has ended
+}
+
+// Control is a control group of a list.
+type Control struct {
+	ID     uint64  // 0 for the root, or the number of the call that made it
+	Parent *uint64 // the id of the control group above it, nil for the root
+	Limit  *uint32 // how many tasks it may have, nil for no limit
+	Count  uint64  // how many tasks it and those below it have
+}
+
+// Listing is all that stands in a table: tasks by root number, namespaces and control groups by id.
+type Listing struct {
+	Tasks    []Task
+	Spaces   []Space
+	Controls []Control
+}
+
+// BadList is the error of a text that `pidtab list` does not write.
+type BadList struct {
+	Line int    // the first that is at fault, from 1 on
+	Why  string // what is the matter with it
+}
+
+// Error tells the line and what is the matter with it.
+func (bad BadList) Error() string {
+	return fmt.Sprintf("pidtab: line %d: %s", bad.Line, bad.Why)
+}
+
+var (
+	taskLine = regexp.MustCompile(`^task (\d+(?:,\d+)*) space (\d+) parent (\d+) group (\d+) session (\d+) control (\d+)` +
+		` (live|killed|exit (\d+))( executed)?(?: children (\d+))?( subreaper)?$`)
+	spaceLine   = regexp.MustCompile(`^space (\d+) parent (-|\d+) cursor (\d+)( fallen)?$`)
+	controlLine = regexp.MustCompile(`^control (\d+) parent (-|\d+) limit (max|\d+) count (\d+)$`)
+)
+
+// ReadList is what the text of a list says, as Table.List or `pidtab list` writes it; a BadList where it is none.
+func ReadList(text string) (Listing, error) {
+	var listing Listing
+	if text == "" {
+		return Listing{}, BadList{1, "no list"}
+	}
+	lines := strings.Split(text, "\n")
+	last := len(lines) - 1
+	for i, line := range lines[:last] {
+		if !listing.add(line) {
+			return Listing{}, BadList{i + 1, "not a line of `pidtab list`"}
+		}
+	}
+	if lines[last] != "" {
+		return Listing{}, BadList{last + 1, "cut off, without a newline"}
+	}
+	return listing, nil
+}
+
+// add puts in what a line says, if it is one of a list.
+func (listing *Listing) add(line string) bool {
+	var read reader
+	if found := taskLine.FindStringSubmatch(line); found != nil {
+		listing.Tasks = append(listing.Tasks, read.task(found))
+		return !read.failed
+	}
+	if found := spaceLine.FindStringSubmatch(line); found != nil {
+		space := Space{ID: read.number(found[1], 64), Parent: read.id(found[2], "-"), Cursor: uint32(read.number(found[3], 32)), Fallen: found[4] != ""}
+		listing.Spaces = append(listing.Spaces, space)
+		return !read.failed
+	}
+	if found := controlLine.FindStringSubmatch(line); found != nil {
+		control := Control{ID: read.number(found[1], 64), Parent: read.id(found[2], "-"), Limit: read.limit(found[3]), Count: read.number(found[4], 64)}
+		listing.Controls = append(listing.Controls, control)
+		return !read.failed
+	}
+	return false
+}
+
+// A reader reads the numbers of a line. It has failed where one is too great.
+type reader struct{ failed bool }
+
+func (read *reader) number(word string, bits int) uint64 {
+	number, err := strconv.ParseUint(word, 10, bits)
+	read.failed = read.failed || err != nil
+	return number
+}
+
+// id is the number that a word is, nil for the word that stands for none.
+func (read *reader) id(word, none string) *uint64 {
+	if word == none {
+		return nil
+	}
+	number := read.number(word, 64)
+	return &number
+}
+
+func (read *reader) limit(word string) *uint32 {
+	if word == "max" {
+		return nil
+	}
+	number := uint32(read.number(word, 32))
+	return &number
+}
+
+func (read *reader) task(found []string) Task {
+	var numbers []uint32
+	for _, word := range strings.Split(found[1], ",") {
+		numbers = append(numbers, uint32(read.number(word, 32)))
+	}
+	task := Task{
+		Numbers:   numbers,
+		Space:     read.number(found[2], 64),
+		Parent:    uint32(read.number(found[3], 32)),
+		Group:     uint32(read.number(found[4], 32)),
+		Session:   uint32(read.number(found[5], 32)),
+		Control:   read.number(found[6], 64),
+		Live:      found[7] == "live",
+		Killed:    found[7] == "killed",
+		Executed:  found[9] != "",
+		Children:  read.id(found[10], ""),
+		Subreaper: found[11] != "",
+	}
+	if found[8] != "" {
+		task.Status = uint8(read.number(found[8], 8))
+	}
+	return task
+}
