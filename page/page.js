@@ -2,22 +2,30 @@
 
 import { changesBetween, sayChanges } from "./changes.js";
 import { drawControls, drawSpaces, make } from "./draw.js";
+import { whyBad } from "./language.js";
+import { hashOf, scriptOf } from "./link.js";
 import { readList } from "./list.js";
-import { answersTo, kindOf, lineAt, linesOf, listsAround, MOST_LINES } from "./play.js";
+import { kindOf, lineAt, linesOf, MOST_LINES, Player } from "./play.js";
 import { newTable } from "./table.js";
 
 const LEAST_PID_MAX = 301;
 const GREATEST_PID_MAX = 4194304;
 const LEAST_ROWS = 8;
+// A script of more lines is played once nobody has typed for so many milliseconds.
+const SHORT_SCRIPT = 500;
+const PAUSE = 150;
 
 const find = (id) => document.getElementById(id);
-const IDS = "example about pid-max editor gutter script answers back place on now spaces controls list fault";
+const IDS = "example about pid-max editor gutter script answers back place on now spaces controls list fault link";
 const fields = Object.fromEntries(IDS.split(" ").map((id) => [id, find(id)]));
 const examples = JSON.parse(find("examples").textContent);
 // What is shown: the lines with their answers, and after which line, counted from 1; 0 is before the first.
 const shown = { lines: [], answers: [], place: 0 };
+// A script of one's own, which stays while an example is shown.
+const own = { script: "", pidMax: "32768" };
 let module;
-let table;
+let player;
+let waiting;
 
 function compileModule() {
   const text = atob(find("module").textContent.trim());
@@ -40,11 +48,13 @@ function sayFault(words) {
 function guarded(work) {
   const bound = pidMax();
   fields["pid-max"].setAttribute("aria-invalid", String(bound === null));
+  // What is shown then is of an earlier bound.
+  document.body.classList.toggle("refused", bound === null);
   if (bound === null) return sayFault(`pid_max is ${LEAST_PID_MAX} to ${GREATEST_PID_MAX}.`);
   try {
     work(bound);
   } catch (fault) {
-    table = newTable(module);
+    player = new Player(newTable(module));
     sayFault(`The table stopped: ${fault.message}.`);
   }
 }
@@ -60,7 +70,7 @@ function answerRow(answer, place) {
 function playScript(bound) {
   const lines = linesOf(fields.script.value);
   shown.lines = lines.slice(0, MOST_LINES);
-  shown.answers = answersTo(table, bound, shown.lines);
+  shown.answers = player.play(bound, shown.lines);
   fields.answers.replaceChildren(...shown.answers.map(answerRow));
   // One more, as the text may go on behind its last newline.
   fields.script.rows = Math.max(lines.length + 1, LEAST_ROWS);
@@ -74,7 +84,8 @@ function sayPlace() {
   const { lines, answers, place } = shown;
   if (place === 0) return "Before the first line: the root init alone.";
   const line = lines[place - 1];
-  return `After line ${place} of ${lines.length}: ${line ? `${line} \u2192 ${answers[place - 1]}` : "an empty line"}`;
+  const why = answers[place - 1] === "bad line" ? `: ${whyBad(line)}` : "";
+  return `After line ${place} of ${lines.length}: ${line ? `${line} \u2192 ${answers[place - 1]}${why}` : "an empty line"}`;
 }
 
 /** Scrolls the script so that the line can be seen. */
@@ -103,7 +114,7 @@ function markPlace() {
 function showPlace(place) {
   shown.place = Math.min(place, shown.lines.length);
   guarded((bound) => {
-    const { before, after } = listsAround(table, bound, shown.lines, shown.place);
+    const { before, after } = player.listsAround(shown.place);
     const listing = readList(after);
     const changes = changesBetween(before && readList(before), listing);
     fields.spaces.replaceChildren(drawSpaces(listing, changes));
@@ -124,21 +135,81 @@ function caretLine() {
   return lineAt(fields.script.value, fields.script.selectionStart);
 }
 
-function chooseExample() {
-  const example = examples.find(({ name }) => name === fields.example.value);
-  if (!example) return;
-  fields.about.textContent = example.about;
-  fields.script.value = example.script;
-  fields["pid-max"].value = "32768";
-  playAt(linesOf(example.script).length);
+/** Shows a script with what is said of it, after its last line. */
+function showScript(script, pidMax, about) {
+  clearTimeout(waiting);
+  waiting = undefined;
+  fields.about.textContent = about;
+  fields.script.value = script;
+  fields["pid-max"].value = pidMax;
+  playAt(linesOf(fields.script.value).length);
   fields.editor.scrollTop = 0;
 }
 
-/** Who edits has a script of their own. */
-function edit() {
+function chooseExample() {
+  const example = examples.find(({ name }) => name === fields.example.value);
+  if (example) showScript(example.script, "32768", example.about);
+  else showScript(own.script, own.pidMax, "");
+}
+
+/** Keeps what the fields have as one's own. */
+function keepOwn() {
   fields.example.value = "";
   fields.about.textContent = "";
-  playAt(caretLine());
+  Object.assign(own, { script: fields.script.value, pidMax: fields["pid-max"].value });
+}
+
+/** Who edits has a script of their own. A long one is played at a pause. */
+function edit() {
+  keepOwn();
+  clearTimeout(waiting);
+  waiting = undefined;
+  const play = () => {
+    waiting = undefined;
+    playAt(caretLine());
+  };
+  if (linesOf(own.script).length <= SHORT_SCRIPT) play();
+  else waiting = setTimeout(play, PAUSE);
+}
+
+/** Plays the script with another bound. */
+function bind() {
+  if (fields.example.value === "") own.pidMax = fields["pid-max"].value;
+  playAt(shown.place);
+}
+
+/** Puts the script into the address. */
+function makeLink() {
+  location.hash = hashOf(fields.script.value);
+  fields.about.textContent = "The address of the page has this script.";
+}
+
+/** Shows the script of the address, if it has one; whether it has. */
+function openLink() {
+  try {
+    const script = scriptOf(location.hash);
+    if (script === null) return false;
+    if (script === fields.script.value) return true;
+    fields.script.value = script;
+    fields["pid-max"].value = "32768";
+    keepOwn();
+    chooseExample();
+    return true;
+  } catch (fault) {
+    sayFault(fault.message);
+    return true;
+  }
+}
+
+/** The table after the line of the cursor, where that has moved. */
+function follow() {
+  if (waiting === undefined && caretLine() !== shown.place) showPlace(caretLine());
+}
+
+/** Has an answer tell why its line is bad. */
+function explain(event) {
+  const row = event.target.closest?.("li.bad");
+  if (row) row.title = whyBad(shown.lines[row.dataset.place - 1]);
 }
 
 function stepBy(step) {
@@ -163,13 +234,16 @@ function relate(event) {
 
 function listen() {
   fields.example.addEventListener("change", chooseExample);
-  fields["pid-max"].addEventListener("input", () => playAt(shown.place));
+  fields["pid-max"].addEventListener("input", bind);
   fields.script.addEventListener("input", edit);
-  for (const kind of ["keyup", "click"]) fields.script.addEventListener(kind, () => caretLine() !== shown.place && showPlace(caretLine()));
+  for (const kind of ["keyup", "click"]) fields.script.addEventListener(kind, follow);
+  fields.link.addEventListener("click", makeLink);
+  addEventListener("hashchange", openLink);
   fields.place.addEventListener("input", () => stepBy(Number(fields.place.value) - shown.place));
   fields.back.addEventListener("click", () => stepBy(-1));
   fields.on.addEventListener("click", () => stepBy(1));
   fields.answers.addEventListener("click", pressed);
+  fields.answers.addEventListener("pointerover", explain);
   fields.gutter.addEventListener("click", pressed);
   fields.spaces.addEventListener("pointerover", relate);
   fields.spaces.addEventListener("pointerleave", relate);
@@ -179,14 +253,14 @@ async function begin() {
   fields.example.append(...examples.map(({ name }) => make("option", { value: name }, name)));
   try {
     module = await compileModule();
-    table = newTable(module);
+    player = new Player(newTable(module));
   } catch (fault) {
     return sayFault(`This browser does not run the table (${fault.message}). It needs WebAssembly.`);
   }
   listen();
-  // The last example has the most to show.
-  fields.example.value = examples.at(-1).name;
+  fields.example.value = examples[0].name;
   chooseExample();
+  openLink();
   document.body.dataset.ready = "yes";
 }
 

@@ -1,7 +1,13 @@
 // A script, line by line: what each line is answered, and the list that stands after it.
 
-/** The most lines that the page plays: every step of the slider plays the lines before it anew. */
+/** The most lines that the page plays. */
 export const MOST_LINES = 5000;
+
+/** After so many lines the state of the table is kept, so that a step need not play all lines before it. */
+export const KEPT_EVERY = 100;
+
+/** Kept states have no more bytes than this together. */
+const MOST_KEPT = 2 ** 28;
 
 /** The lines of a script: each ends at a newline, and what stands behind the last newline is a line too. */
 export function linesOf(text) {
@@ -10,29 +16,87 @@ export function linesOf(text) {
   return lines;
 }
 
-/** Runs something over an open table, and closes it whatever comes. */
-function withTable(table, pidMax, use) {
-  table.open(pidMax);
-  try {
-    return use();
-  } finally {
-    table.close();
+/** How many lines two scripts have in common at their beginnings. */
+function commonLines(one, other) {
+  const most = Math.min(one.length, other.length);
+  let count = 0;
+  while (count < most && one[count] === other[count]) count++;
+  return count;
+}
+
+/** Plays a script over a table, and shows the table around any of its lines. What was played before is not played again. */
+export class Player {
+  constructor(table) {
+    this.table = table;
+    this.blank = table.save();
+    this.forget(null);
   }
-}
 
-/** What `pidtab run` answers to each line; an empty line has no answer. */
-export function answersTo(table, pidMax, lines) {
-  return withTable(table, pidMax, () => lines.map((line) => table.line(line)));
-}
+  /** Forgets all that was played, and begins with a table of the bound. */
+  forget(pidMax) {
+    this.lines = [];
+    this.answers = [];
+    this.pidMax = pidMax;
+    this.states = new Map();
+    // Of which line the table is; -1 where there is none.
+    this.place = -1;
+  }
 
-/** The list before and after one of the lines, which are counted from 1; the list after line 0 is that of a new table. */
-export function listsAround(table, pidMax, lines, place) {
-  return withTable(table, pidMax, () => {
-    lines.slice(0, Math.max(place - 1, 0)).forEach((line) => table.line(line));
-    const before = place > 0 ? table.list() : null;
-    if (place > 0) table.line(lines[place - 1]);
-    return { before, after: table.list() };
-  });
+  /** A new table, which is the state before the first line. */
+  begin(pidMax) {
+    this.forget(null);
+    this.table.restore(this.blank);
+    this.table.open(pidMax);
+    this.forget(pidMax);
+    this.place = 0;
+    this.keep();
+  }
+
+  /** What `pidtab run` answers to each line; an empty line has no answer. */
+  play(pidMax, lines) {
+    if (pidMax !== this.pidMax) this.begin(pidMax);
+    const same = commonLines(this.lines, lines);
+    for (const place of this.states.keys()) if (place > same) this.states.delete(place);
+    this.lines = lines;
+    this.answers.length = same;
+    if (this.place > same) this.place = -1;
+    this.goTo(lines.length);
+    return this.answers;
+  }
+
+  /** The list before and after one of the lines, which are counted from 1; the list after line 0 is that of a new table. */
+  listsAround(place) {
+    this.goTo(Math.max(place - 1, 0));
+    const before = place > 0 ? this.table.list() : null;
+    this.goTo(place);
+    return { before, after: this.table.list() };
+  }
+
+  /** Has the table be that after the line, from the nearest state before it. */
+  goTo(place) {
+    const kept = Math.max(...[...this.states.keys()].filter((it) => it <= place));
+    if (this.place < kept || this.place > place) {
+      this.table.restore(this.states.get(kept));
+      this.place = kept;
+    }
+    while (this.place < place) this.step();
+  }
+
+  /** Plays the next line. */
+  step() {
+    const at = this.place;
+    // Where the table stops, it is that of no line.
+    this.place = -1;
+    this.answers[at] = this.table.line(this.lines[at]);
+    this.place = at + 1;
+    if (this.place % KEPT_EVERY === 0 && !this.states.has(this.place)) this.keep();
+  }
+
+  keep() {
+    const state = this.table.save();
+    if ((this.states.size + 1) * state.size > MOST_KEPT) return;
+    this.states.set(this.place, state);
+  }
 }
 
 /** Which line the byte of a text is in, counted from 1. */

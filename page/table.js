@@ -69,6 +69,20 @@ export class Table {
     return answer;
   }
 
+  /** All that the table is, to be restored later: the memory of the module, and where in it the room for lists is. */
+  save() {
+    const bytes = this.exports.memory.buffer.slice(0);
+    return { bytes, size: bytes.byteLength, listRoom: this.listRoom, listSize: this.listSize };
+  }
+
+  /** Has the table be as it was. The memory may have grown since: what it has more is free. */
+  restore({ bytes, size, listRoom, listSize }) {
+    const memory = new Uint8Array(this.exports.memory.buffer);
+    memory.set(new Uint8Array(bytes));
+    memory.fill(0, size);
+    Object.assign(this, { listRoom, listSize });
+  }
+
   /** The list of the table, in more room if it needs that. */
   list() {
     let status = this.tryList();

@@ -133,6 +133,29 @@ describe("the page", { skip: missing() }, () => {
     assert.equal(await browser.value(`document.getElementById("example").value`), "");
   });
 
+  test("a bad line says why, where it is shown and under the pointer", async () => {
+    await write("fork 1\nFORK 1");
+    const why = "column 1: expected a command: the nearest is `fork`";
+    assert.ok((await browser.value(NOW)).startsWith(`After line 2 of 2: FORK 1 \u2192 bad line: ${why}`));
+    const title = `(() => { const it = document.querySelector("#answers .bad span:last-child");
+      it.dispatchEvent(new PointerEvent("pointerover", { bubbles: true })); return it.parentElement.title; })()`;
+    assert.equal(await browser.value(title), why);
+  });
+
+  test("a script of one's own stays, and goes into the address", async () => {
+    await write("getpid 1");
+    await choose("fall");
+    await choose("");
+    assert.deepEqual(await browser.value(ANSWERS), ["1"]);
+    await browser.value(`document.getElementById("link").click()`);
+    assert.equal(await browser.value("location.hash"), "#script=getpid%201");
+    await browser.value(`location.hash = "#script=mk%200"`);
+    await browser.until(`document.getElementById("script").value === "mk 0"`);
+    await browser.value(`location.hash = "#script=%"`);
+    await browser.until(`(${FAULT}).startsWith("The script in the address cannot be read")`);
+    await browser.value(`location.hash = ""`);
+  });
+
   test("keys write a script", async () => {
     await write("");
     await focus("script");
@@ -153,8 +176,11 @@ describe("the page", { skip: missing() }, () => {
     await bound(301);
     assert.equal(await browser.value(FAULT), "");
     assert.deepEqual((await browser.value(ANSWERS)).slice(-3), ["child 300 root 300", "EAGAIN no-number 0", "300"]);
+    const opacity = `getComputedStyle(document.getElementById("spaces")).opacity`;
+    assert.equal(await browser.value(opacity), "1");
     for (const value of [300, 4194305, "", 301.5]) {
       await bound(value);
+      assert.ok((await browser.value(opacity)) < 1);
       assert.equal(await browser.value(FAULT), "pid_max is 301 to 4194304.");
     }
     await bound(32768);
@@ -183,8 +209,10 @@ describe("the page", { skip: missing() }, () => {
 
   test("a long script is cut, and says so", async () => {
     await write("getpid 1\n".repeat(5000));
+    await browser.until(`${ANSWERS}.length === 5000`);
     assert.equal(await browser.value(FAULT), "");
     await write(`${"getpid 1\n".repeat(5000)}getpid 1`);
+    await browser.until(`(${FAULT}) !== ""`);
     assert.equal((await browser.value(ANSWERS)).length, 5000);
     assert.equal(await browser.value(FAULT), "Only the first 5000 lines are played.");
   });

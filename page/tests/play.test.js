@@ -3,23 +3,29 @@
 import assert from "node:assert/strict";
 import { test } from "node:test";
 
-import { answersTo, kindOf, lineAt, linesOf, listsAround } from "../play.js";
+import { KEPT_EVERY, kindOf, lineAt, linesOf, MOST_LINES, Player } from "../play.js";
 
-/** A table that answers each line by its place among the lines since the open. */
+/** A table whose answers and lists tell of all lines since it was opened; it notes what it is asked. */
 function noting() {
   const asked = [];
-  let made = 0;
+  let made = [];
   const note = (word, answer) => {
     asked.push(word);
     return answer;
   };
   return {
     asked,
-    open: (pidMax) => note(`open ${pidMax}`, (made = 0)),
-    close: () => note("close"),
-    line: (text) => note(text, `answer ${++made}`),
-    list: () => note("list", `list after ${made}`),
+    save: () => ({ made: [...made], size: 1 }),
+    restore: (state) => note("restore", void (made = [...state.made])),
+    open: (pidMax) => note(`open ${pidMax}`, void (made = [pidMax])),
+    line: (text) => note(text, `answer ${made.push(text) - 1}`),
+    list: () => note("list", `list of ${made.join(" ")}`),
   };
+}
+
+/** As many lines, which all differ. */
+function manyLines(count) {
+  return Array.from({ length: count }, (_, at) => `line ${at}`);
 }
 
 test("lines end at newlines", () => {
@@ -29,31 +35,70 @@ test("lines end at newlines", () => {
   assert.deepEqual(linesOf("\n"), [""]);
 });
 
-test("each line is asked once, on a table of its own", () => {
+test("each line is asked once, of a table with the bound", () => {
   const table = noting();
-  assert.deepEqual(answersTo(table, 301, ["fork 1", "exit 2 0"]), ["answer 1", "answer 2"]);
-  assert.deepEqual(table.asked, ["open 301", "fork 1", "exit 2 0", "close"]);
+  assert.deepEqual(new Player(table).play(301, ["fork 1", "exit 2 0"]), ["answer 1", "answer 2"]);
+  assert.deepEqual(table.asked, ["restore", "open 301", "fork 1", "exit 2 0"]);
 });
 
 test("the list before a line and after it", () => {
-  const table = noting();
-  assert.deepEqual(listsAround(table, 400, ["a", "b", "c"], 2), { before: "list after 1", after: "list after 2" });
-  assert.deepEqual(table.asked, ["open 400", "a", "list", "b", "list", "close"]);
+  const player = new Player(noting());
+  player.play(400, ["a", "b", "c"]);
+  assert.deepEqual(player.listsAround(2), { before: "list of 400 a", after: "list of 400 a b" });
+  assert.deepEqual(player.listsAround(3), { before: "list of 400 a b", after: "list of 400 a b c" });
 });
 
 test("before the first line there is one list, and no earlier one", () => {
-  const table = noting();
-  assert.deepEqual(listsAround(table, 400, ["a"], 0), { before: null, after: "list after 0" });
-  assert.deepEqual(table.asked, ["open 400", "list", "close"]);
+  const player = new Player(noting());
+  player.play(400, ["a"]);
+  assert.deepEqual(player.listsAround(0), { before: null, after: "list of 400" });
 });
 
-test("a table is closed where something fails", () => {
+test("another bound is another table", () => {
+  const player = new Player(noting());
+  player.play(400, ["a"]);
+  player.play(500, ["a"]);
+  assert.equal(player.listsAround(1).after, "list of 500 a");
+});
+
+test("a script that was changed is played from the change on", () => {
+  const player = new Player(noting());
+  for (const lines of [["a", "b", "c"], ["a", "x", "c"], ["a", "x"], [], ["b"], manyLines(350), [...manyLines(210), "y"], manyLines(300)]) {
+    assert.deepEqual(player.play(400, lines), lines.map((_, at) => `answer ${at + 1}`));
+    for (const place of [lines.length, 0, Math.floor(lines.length / 2)]) {
+      assert.equal(player.listsAround(place).after, ["list of 400", ...lines.slice(0, place)].join(" "));
+    }
+  }
+});
+
+test("no step of a long script plays more than the lines behind a kept state, nor does a key at its end", () => {
   const table = noting();
-  table.list = () => {
-    throw new Error("no list");
+  const player = new Player(table);
+  const lines = manyLines(MOST_LINES);
+  player.play(400, lines);
+  const asks = (work) => {
+    table.asked.length = 0;
+    work();
+    return table.asked.filter((word) => word.startsWith("line ")).length;
   };
-  assert.throws(() => listsAround(table, 400, ["a"], 1), { message: "no list" });
-  assert.equal(table.asked.at(-1), "close");
+  for (const place of [MOST_LINES, MOST_LINES - 1, MOST_LINES - 2, 2550, 2549, 100, 99, 4999]) {
+    assert.ok(asks(() => player.listsAround(place)) <= KEPT_EVERY, String(place));
+  }
+  assert.ok(asks(() => player.play(400, [...lines.slice(0, -1), "line x"])) <= KEPT_EVERY);
+});
+
+test("where the table stops, the next look begins at a kept state", () => {
+  const table = noting();
+  const player = new Player(table);
+  player.play(400, ["a", "b"]);
+  const { line } = table;
+  table.line = () => {
+    line("half");
+    throw new Error("stopped");
+  };
+  assert.throws(() => player.play(400, ["a", "b", "c"]), { message: "stopped" });
+  table.line = line;
+  assert.equal(player.listsAround(2).after, "list of 400 a b");
 });
 
 test("the line of a place in a text", () => {

@@ -30,8 +30,8 @@ function parts(name) {
 
 /** The scripts of the stored run that the gate plays; a list is null where none is stored. */
 export function storedScripts() {
-  const told = parts("crates/worked_scripts/stdout");
-  return parts("crates/worked_scripts/stdin").map(({ head, words, lines }, at) => {
+  const told = parts("crates/demo_scripts/stdout");
+  return parts("crates/demo_scripts/stdin").map(({ head, words, lines }, at) => {
     if (told[at].head !== head) throw new Error(`no answers to ${head}`);
     const asked = lines.filter((line) => line !== "").length;
     const list = told[at].lines.slice(asked).map((line) => `${line}\n`).join("");

@@ -4,7 +4,7 @@ import assert from "node:assert/strict";
 import { existsSync, readFileSync } from "node:fs";
 import { test } from "node:test";
 
-import { answersTo, listsAround } from "../play.js";
+import { KEPT_EVERY, Player } from "../play.js";
 import { newTable, Table } from "../table.js";
 import { examples, REPOSITORY, storedScripts } from "./stored.js";
 
@@ -65,6 +65,25 @@ test("a list has the room that it needs", () => {
   assert.deepEqual(exports.asked, [65536, "free", 140000, 140000]);
 });
 
+test("a state that was kept is had again, with the room for lists as it was then", () => {
+  const exports = standIn({ listSize: 70000 });
+  const table = new Table(exports);
+  table.bytesAt(table.answerRoom, 3).set([1, 2, 3]);
+  const state = table.save();
+  assert.equal(state.size, exports.memory.buffer.byteLength);
+  table.list();
+  table.bytesAt(table.answerRoom, 3).fill(9);
+  exports.memory.grow(2);
+  new Uint8Array(exports.memory.buffer).fill(7, state.size);
+  table.restore(state);
+  assert.deepEqual([...table.bytesAt(table.answerRoom, 3)], [1, 2, 3]);
+  assert.equal(table.listSize, 65536);
+  const behind = new Uint8Array(exports.memory.buffer, state.size);
+  assert.ok(behind.length === 2 * 65536 && behind.every((byte) => byte === 0));
+});
+
+const answersTo = (table, pidMax, lines) => new Player(table).play(pidMax, lines);
+
 /** Why the built module cannot be tried, or false. */
 function missing() {
   if (!existsSync(MODULE)) return "no module out/page/pidtab.wasm: `make page` builds it";
@@ -72,14 +91,29 @@ function missing() {
 }
 
 test("the stored scripts by the built module", { skip: missing() }, () => {
-  const table = newTable(new WebAssembly.Module(readFileSync(MODULE)));
+  const player = new Player(newTable(new WebAssembly.Module(readFileSync(MODULE))));
   const scripts = [...examples(), ...storedScripts()];
   assert.ok(scripts.length > 40);
   for (const { name, pidMax, lines, answers, list } of scripts) {
-    const told = answersTo(table, pidMax, lines).filter((answer) => answer !== "");
+    const told = player.play(pidMax, lines).filter((answer) => answer !== "");
     assert.deepEqual(told, answers, name);
-    if (list !== null) assert.equal(listsAround(table, pidMax, lines, lines.length).after, list, name);
+    if (list !== null) assert.equal(player.listsAround(lines.length).after, list, name);
   }
+});
+
+test("a step back is the table that it was, by the built module", { skip: missing() }, () => {
+  const module = new WebAssembly.Module(readFileSync(MODULE));
+  const lines = Array.from({ length: 3 * KEPT_EVERY }, () => "fork 1");
+  const player = new Player(newTable(module));
+  player.play(32768, lines);
+  const places = [3 * KEPT_EVERY, 250, 100, 99, 1, 0, 201, 200, 300];
+  const stepped = places.map((place) => player.listsAround(place).after);
+  const alone = places.map((place) => {
+    const other = new Player(newTable(module));
+    other.play(32768, lines.slice(0, place));
+    return other.listsAround(place).after;
+  });
+  assert.deepEqual(stepped, alone);
 });
 
 test("lines that are none, by the built module", { skip: missing() }, () => {

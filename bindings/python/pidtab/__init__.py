@@ -1,7 +1,13 @@
 """Linux process identifiers as one table: by the program `pidtab` or in this process, and readers of its language and its list."""
 
+import sys
+
+# Without words that an earlier Python cannot read.
+if sys.version_info < (3, 10):
+    raise ImportError("pidtab needs Python 3.10 or later, and this is Python %d.%d" % sys.version_info[:2])
+
 from pidtab.answers import Forked, Reaped
-from pidtab.calls import Calls
+from pidtab.calls import DEFAULT_PID_MAX, GREATEST_PID_MAX, LEAST_PID_MAX, Calls, Kind
 from pidtab.faults import LibraryFault, LibraryMissing, ProgramEnded, ProgramFault, ProgramMissing, Refusal, TableClosed
 from pidtab.library import find_library
 from pidtab.listing import BadList, Control, Listing, Space, Task, read_list
@@ -11,10 +17,14 @@ from pidtab.table import Table
 from pidtab.tree import draw_list
 
 __all__ = [
+    "DEFAULT_PID_MAX",
+    "GREATEST_PID_MAX",
+    "LEAST_PID_MAX",
     "BadList",
     "Calls",
     "Control",
     "Forked",
+    "Kind",
     "LibraryFault",
     "LibraryMissing",
     "Listing",

@@ -5,7 +5,7 @@ from collections.abc import Callable
 from dataclasses import dataclass
 from typing import Generic, TypeVar
 
-from pidtab.faults import ProgramFault
+from pidtab.faults import ProgramFault, shorten
 from pidtab.raw import END, KILLED, NONE_YET, PidtabReply
 
 T = TypeVar("T")
@@ -36,7 +36,7 @@ def match(pattern: str, answer: str) -> "re.Match[str]":
     """The parts of an answer that has the form."""
     found = re.fullmatch(pattern, answer, re.ASCII)
     if found is None:
-        raise ProgramFault(f"the program answered `{answer}`")
+        raise ProgramFault(f"the program answered `{shorten(answer)}`")
     return found
 
 

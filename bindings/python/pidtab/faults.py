@@ -3,8 +3,12 @@
 import errno
 
 
+# More of a line is not told.
+MOST_TOLD = 200
+
+
 class TableClosed(RuntimeError):
-    """The table was closed."""
+    """The table was closed, or is that of the process of which this one is a fork."""
 
 
 class ProgramFault(RuntimeError):
@@ -74,6 +78,11 @@ WORDS = (
 WORDS_WITH_ID = ("no-number", "pids-limit")
 
 
+def shorten(text: str) -> str:
+    """The text, or its first 200 characters where it has more."""
+    return text if len(text) <= MOST_TOLD else f"{text[:MOST_TOLD]}.."
+
+
 def say_why(number: int, id: int) -> str:
     """What a refusal says: the word of its number, and the id where it has one."""
     word = WORDS[number - 1]
@@ -97,6 +106,7 @@ def read_refusal(line: str, answer: str) -> Refusal | None:
 
 def read_fault(line: str, answer: str) -> Exception | None:
     """What an answer raises; None for one that only answers."""
+    line = shorten(line)
     if answer == "bad line":
         return ValueError(f"bad line: {line}")
     if answer == "no memory":

@@ -32,7 +32,7 @@ FORKED, OK, NUMBER, LEVELS, REAPED, NONE_YET, COUNTED, CONTROL, END, REFUSED = r
 class Pidtab(ctypes.Structure):
     """A table, or none: it begins as zeroes. While it is open it is never copied."""
 
-    _fields_ = [("at", ctypes.c_void_p), ("is_open", ctypes.c_bool)]
+    _fields_ = [("at", ctypes.c_void_p), ("is_open", ctypes.c_bool), ("in_call", ctypes.c_bool)]
 
 
 class PidtabCall(ctypes.Structure):
@@ -86,7 +86,7 @@ SIZE = ctypes.POINTER(ctypes.c_size_t)
 FUNCTIONS: dict[str, tuple[type[ctypes.c_uint32] | None, list[type]]] = {
     "pidtab_version": (ctypes.c_uint32, []),
     "pidtab_open": (ctypes.c_uint32, [TABLE, ctypes.c_uint32]),
-    "pidtab_close": (None, [TABLE]),
+    "pidtab_close": (ctypes.c_uint32, [TABLE]),
     "pidtab_line": (ctypes.c_uint32, [TABLE, ctypes.c_char_p, ctypes.c_size_t, BYTES, ctypes.c_size_t, SIZE]),
     "pidtab_list": (ctypes.c_uint32, [TABLE, BYTES, ctypes.c_size_t, SIZE]),
     "pidtab_call": (ctypes.c_uint32, [TABLE, ctypes.POINTER(PidtabCall), ctypes.POINTER(PidtabReply)]),

@@ -3,7 +3,6 @@
 import ctypes
 import os
 import struct
-import weakref
 from collections.abc import Sequence
 from typing import TypeVar
 
@@ -71,16 +70,18 @@ class Table(Calls):
         self.library = find_library(library)
         self._functions = load_library(self.library)
         self._table = Pidtab()
-        status = self._functions.pidtab_open(self._table, pid_max)
+        status = self._functions.pidtab_open(self._table, self.pid_max)
         if status != DONE:
             raise fault_of(status, "open")
-        self._finish = weakref.finalize(self, self._functions.pidtab_close, self._table)
+        self._keep(self._functions.pidtab_close, self._table)
 
     def close(self) -> None:
         """Frees the table. A second time nothing is done."""
-        self._finish()
+        if self._finish is not None:
+            self._finish()
 
     def _make(self, call: Call, form: Form[T]) -> T:
+        self._check_owner()
         reply = PidtabReply()
         status = self._functions.pidtab_call(self._table, pack(call), reply)
         if status != DONE:
@@ -90,6 +91,7 @@ class Table(Calls):
         return form.tell(reply)
 
     def _answers(self, lines: Sequence[bytes]) -> tuple[str, ...]:
+        self._check_owner()
         # Calls of other threads may come between two lines.
         return tuple([self._answer(line) for line in lines])
 
@@ -99,6 +101,7 @@ class Table(Calls):
         return ctypes.string_at(room, size.value).decode("ascii") if status == DONE else answer_of(status)
 
     def _list_text(self) -> str:
+        self._check_owner()
         size = ctypes.c_size_t(SHORT_LIST)
         while True:
             room = ctypes.create_string_buffer(size.value)

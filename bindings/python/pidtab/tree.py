@@ -1,91 +1,295 @@
 """`pidtab-tree`: draws the text of `pidtab list` as trees."""
 
+import argparse
+import gc
+import re
 import sys
-from collections.abc import Sequence
-from dataclasses import dataclass
+from collections import Counter
+from collections.abc import Mapping, Sequence
+from dataclasses import dataclass, field
 
-from pidtab.command import STATUS_DONE, STATUS_FAULT, complain, finish, parser_of
+from pidtab.command import STATUS_DONE, STATUS_FAULT, STATUS_USAGE, complain, finish, parser_of
 from pidtab.listing import BadList, Control, Listing, Space, Task, read_list
 
-INDENT = "  "
 ABOUT = "Reads on standard input what `pidtab list` writes, and draws its processes, namespaces and control groups as trees."
+COMMENT = "#"
+
+# A line of a tree, in text alone, as a table may have many: a number, the further numbers of a task, its namespace, the number of what it
+# stands below, and what else is said. A plain tuple, as a pattern finds it.
+Node = tuple[str, str, str, str, str]
+
+# What stands below nothing, as a list has it.
+TASK_TOP, OTHER_TOP = "0", "-"
+
+N = "(?:0|[1-9][0-9]*)"
+TASKS = re.compile(
+    rf"^task ({N})((?:,{N})*) space ({N}) parent ({N}) (group {N} session {N} control {N} (?:live|killed|exit {N})"
+    rf"(?: executed)?(?: children {N})?(?: subreaper)?)$",
+    re.MULTILINE,
+)
+SPACES = re.compile(rf"^space ({N})()() parent (-|{N}) (cursor {N}(?: fallen)?)$", re.MULTILINE)
+CONTROLS = re.compile(rf"^control ({N})()() parent (-|{N}) limit (max count {N}|{N} count {N})$", re.MULTILINE)
 
 
 @dataclass(frozen=True)
-class Node:
-    """A line of a tree: what it is called, what it stands below, its text, and the namespace of a task."""
+class Style:
+    """What stands before the lines of a tree: before one that others follow and before the last, and for either before what is below it."""
 
-    id: int
-    parent: int | None
-    text: str
-    space: int | None = None
+    branch: str
+    last: str
+    beside: str
+    behind: str
+
+
+INDENTED = Style("  ", "  ", "  ", "  ")
+ASCII = Style("|-", "`-", "| ", "  ")
+
+
+@dataclass(frozen=True)
+class Wishes:
+    """What of a table is drawn, and how."""
+
+    style: Style = INDENTED
+    depth: int | None = None
+    root: int | None = None
+    counts: bool = False
+    labels: Mapping[str, str] = field(default_factory=dict)
+
+
+@dataclass(frozen=True)
+class Trees:
+    """The lines of the three trees."""
+
+    tasks: Sequence[Node]
+    spaces: Sequence[Node]
+    controls: Sequence[Node]
 
 
 def task_node(task: Task) -> Node:
     """A task with its numbers, group, session, control group, end and marks."""
-    numbers = ",".join(str(number) for number in task.numbers)
+    more = "".join(f",{number}" for number in task.numbers[1:])
     life = "live" if task.live else "killed" if task.killed else f"exit {task.status}"
     marks = " executed" if task.executed else ""
     marks += "" if task.children is None else f" children {task.children}"
     marks += " subreaper" if task.subreaper else ""
-    text = f"{numbers} group {task.group} session {task.session} control {task.control} {life}{marks}"
-    return Node(task.root, task.parent or None, text, task.space)
+    text = f"group {task.group} session {task.session} control {task.control} {life}{marks}"
+    return str(task.root), more, str(task.space), str(task.parent), text
 
 
 def space_node(space: Space) -> Node:
     """A namespace with its cursor."""
-    return Node(space.id, space.parent, f"{space.id} cursor {space.cursor}{' fallen' if space.fallen else ''}")
+    parent = OTHER_TOP if space.parent is None else str(space.parent)
+    return str(space.id), "", "", parent, f"cursor {space.cursor}{' fallen' if space.fallen else ''}"
 
 
 def control_node(control: Control) -> Node:
     """A control group with the count of its subtree and its limit."""
+    parent = OTHER_TOP if control.parent is None else str(control.parent)
     limit = "max" if control.limit is None else control.limit
-    return Node(control.id, control.parent, f"{control.id} count {control.count} limit {limit}")
+    return str(control.id), "", "", parent, f"count {control.count} limit {limit}"
 
 
-def draw_nodes(nodes: Sequence[Node]) -> list[str]:
-    """Each node below its parent, and below a line of its namespace where that is not its parent's."""
-    # With an id given twice, the drawing below might have no end.
-    if len({node.id for node in nodes}) != len(nodes):
-        raise BadList("one id is given twice")
-    below: dict[int | None, list[Node]] = {}
-    for node in reversed(nodes):
-        below.setdefault(node.parent, []).append(node)
-    # A list of what is still to be drawn and no recursion, as a chain of parents may be long.
-    waiting: list[tuple[int, int | None, Node]] = [(1, None, node) for node in below.get(None, [])]
-    lines: list[str] = []
-    drawn = 0
-    while waiting:
-        depth, outer, node = waiting.pop()
-        drawn += 1
-        if node.space != outer:
-            lines.append(f"{INDENT * depth}space {node.space}")
-            depth += 1
-        lines.append(INDENT * depth + node.text)
-        waiting.extend((depth + 1, node.space, child) for child in below.get(node.id, []))
-    if drawn != len(nodes):
-        raise BadList("a parent is missing")
-    return lines
+def turn(node: Node) -> Node:
+    """A control group of a list: there the count stands behind the limit."""
+    limit, _, count = node[4].split(" ")
+    return *node[:4], f"count {count} limit {limit}"
+
+
+def trees_of(listing: Listing) -> Trees:
+    """The trees of a list that was read."""
+    return Trees(
+        [task_node(task) for task in listing.tasks],
+        [space_node(space) for space in listing.spaces],
+        [control_node(control) for control in listing.controls],
+    )
+
+
+def read_trees(text: str) -> Trees:
+    """The trees of the text of a list: many lines at once, as long as they are in the program's order and none is bad."""
+    spaces = text.find("\nspace ") + 1
+    controls = text.find("\ncontrol ", spaces) + 1
+    parts = (text[:spaces], text[spaces:controls], text[controls:])
+    found = [pattern.findall(part) for pattern, part in zip((TASKS, SPACES, CONTROLS), parts)]
+    if any(len(nodes) != part.count("\n") for nodes, part in zip(found, parts)) or not text.endswith("\n"):
+        return trees_of(read_list(text))
+    return Trees(found[0], found[1], [turn(node) for node in found[2]])
+
+
+def count_all(nodes: Sequence[Node], below: Mapping[str, Sequence[Node]]) -> int:
+    """How many these are, with all that stand below them."""
+    found = list(nodes)
+    for node in found:
+        found += below.get(node[0], ())
+    return len(found)
+
+
+class Forest:
+    """Nodes of one kind by what they stand below."""
+
+    def __init__(self, nodes: Sequence[Node], top: str) -> None:
+        # With an id given twice, a walk might have no end.
+        if len({node[0] for node in nodes}) != len(nodes):
+            raise BadList("one id is given twice")
+        below: dict[str, list[Node]] = {}
+        for node in nodes:
+            siblings = below.get(node[3])
+            if siblings is None:
+                below[node[3]] = [node]
+            else:
+                siblings.append(node)
+        self.nodes = nodes
+        # Taken out, so that nothing stands below a task 0, which no list should have.
+        self.tops = below.pop(top, [])
+        self.below = below
+
+    def check(self, reached: int) -> None:
+        """Sees to it that so many are all, as one that is in a ring, or below none, is not reached from the tops."""
+        if reached != len(self.nodes):
+            raise BadList("a parent is missing")
+
+    def draw_all(self, wishes: Wishes) -> list[str]:
+        """The lines of all nodes."""
+        lines, reached = self.draw(self.tops, wishes)
+        self.check(reached)
+        return lines
+
+    def draw_root(self, wishes: Wishes) -> list[str]:
+        """The lines of the node that is wished for and of what is below it."""
+        self.check(count_all(self.tops, self.below))
+        tops = [node for node in self.nodes if node[0] == str(wishes.root)]
+        if not tops:
+            raise BadList(f"no task has the root number {wishes.root}")
+        return self.draw(tops, wishes)[0]
+
+    def draw(self, tops: Sequence[Node], wishes: Wishes) -> tuple[list[str], int]:
+        """Each node below its parent, and below a line of its namespace where that is not its parent's; and how many there are."""
+        below, style, deepest = self.below, wishes.style, wishes.depth or sys.maxsize
+        lines: list[str] = []
+        reached = len(tops)
+        # Siblings that are still to be drawn, the outermost first, and no recursion, as a chain of parents may be long.
+        open_ones = [(iter(tops), tops[-1:], "", "")]
+        while open_ones:
+            siblings, last, prefix, outer = open_ones[-1]
+            for node in siblings:
+                id, more, space, _, text = node
+                branch, inner = (style.last, style.behind) if node is last[0] else (style.branch, style.beside)
+                before = prefix
+                if space != outer:
+                    lines.append(f"{before}{branch}space {space}\n")
+                    before, branch, inner = before + inner, style.last, style.behind
+                lines.append(f"{before}{branch}{id}{more} {text}\n")
+                children = below.get(id)
+                if children is None:
+                    continue
+                if len(open_ones) == deepest:
+                    hidden = count_all(children, below)
+                    reached += hidden
+                    lines[-1] = f"{lines[-1][:-1]} [{hidden} below]\n"
+                    continue
+                reached += len(children)
+                open_ones.append((iter(children), children[-1:], before + inner, space))
+                break
+            else:
+                open_ones.pop()
+        return lines, reached
+
+
+def is_live(task: Node) -> bool:
+    """Whether a task has not ended."""
+    return " live" in task[4]
+
+
+def count_spaces(trees: Trees) -> list[Node]:
+    """The namespaces with their tasks, and how many of these have ended."""
+    tasks = Counter(node[2] for node in trees.tasks)
+    ended = Counter(node[2] for node in trees.tasks if not is_live(node))
+    return [(*it[:4], f"{it[4]} tasks {tasks[it[0]]} zombies {ended[it[0]]}") for it in trees.spaces]
+
+
+def label_tasks(nodes: Sequence[Node], labels: Mapping[str, str]) -> Sequence[Node]:
+    """Tasks with their labels behind their numbers."""
+    if not labels:
+        return nodes
+    return [(it[0], f"{it[1]} ({labels[it[0]]})", *it[2:]) if it[0] in labels else it for it in nodes]
+
+
+def draw_tasks(nodes: Sequence[Node], wishes: Wishes) -> list[str]:
+    """The lines of the processes, or of the one that is wished for with what is below it."""
+    forest = Forest(label_tasks(nodes, wishes.labels), TASK_TOP)
+    return forest.draw_all(wishes) if wishes.root is None else forest.draw_root(wishes)
+
+
+def draw_trees(trees: Trees, wishes: Wishes) -> list[str]:
+    """The lines of the trees that are wished for."""
+    lines = ["processes\n", *draw_tasks(trees.tasks, wishes)]
+    if wishes.root is not None:
+        return lines
+    spaces = count_spaces(trees) if wishes.counts else trees.spaces
+    lines += ["namespaces\n", *Forest(spaces, OTHER_TOP).draw_all(wishes)]
+    return [*lines, "control groups\n", *Forest(trees.controls, OTHER_TOP).draw_all(wishes)]
 
 
 def draw_list(listing: Listing) -> str:
     """The three trees of a table."""
-    lines = ["processes", *draw_nodes([task_node(task) for task in listing.tasks])]
-    lines += ["namespaces", *draw_nodes([space_node(space) for space in listing.spaces])]
-    lines += ["control groups", *draw_nodes([control_node(control) for control in listing.controls])]
-    return "".join(line + "\n" for line in lines)
+    return "".join(draw_trees(trees_of(listing), Wishes()))
+
+
+class BadLabels(ValueError):
+    """A file of labels with a line that is none."""
+
+
+def read_labels(name: str) -> dict[str, str]:
+    """The labels of a file by root numbers; the last one holds."""
+    labels = {}
+    with open(name, encoding="utf-8", errors="surrogateescape") as file:
+        for place, line in enumerate(file, start=1):
+            number, _, label = line.strip().partition(" ")
+            if not number or number.startswith(COMMENT):
+                continue
+            if not re.fullmatch("[1-9][0-9]*", number) or not label:
+                raise BadLabels(f"{name}:{place}: expected a root number and its label")
+            labels[number] = " ".join(label.split())
+    return labels
+
+
+def at_least_one(word: str) -> int:
+    """A number of the command line."""
+    if not re.fullmatch("[1-9][0-9]{0,9}", word):
+        raise argparse.ArgumentTypeError(f"a number from 1 on, not {word}")
+    return int(word)
+
+
+def read_command_line() -> argparse.Namespace:
+    """The words of the command line."""
+    parser = parser_of("pidtab-tree", ABOUT)
+    parser.add_argument("--root", type=at_least_one, metavar="NUMBER", help="only the task with this root number, and what is below it")
+    parser.add_argument("--depth", type=at_least_one, metavar="N", help="only so many levels of each tree, and how many are below")
+    parser.add_argument("--ascii", action="store_true", help="with lines of ASCII characters for branches")
+    parser.add_argument("--counts", action="store_true", help="with the tasks and the zombies of each namespace")
+    parser.add_argument("--labels", metavar="FILE", help="with labels of tasks, from lines NUMBER WORD ..")
+    given = parser.parse_args()
+    if given.counts and given.root is not None:
+        parser.error("--counts is of namespaces, which --root leaves out")
+    return given
 
 
 def run() -> int:
     """Draws standard input."""
-    parser_of("pidtab-tree", ABOUT).parse_args()
-    text = sys.stdin.buffer.read().decode("latin-1")
+    given = read_command_line()
+    # All that is made here is kept to the end.
+    gc.disable()
     try:
-        drawing = draw_list(read_list(text))
+        labels = read_labels(given.labels) if given.labels else {}
+        wishes = Wishes(ASCII if given.ascii else INDENTED, given.depth, given.root, given.counts, labels)
+        lines = draw_trees(read_trees(sys.stdin.buffer.read().decode("latin-1")), wishes)
+    except OSError as fault:
+        return complain(f"pidtab-tree: cannot read {given.labels}: {fault.strerror}", STATUS_USAGE)
+    except BadLabels as fault:
+        return complain(f"pidtab-tree: {fault}", STATUS_USAGE)
     except BadList as fault:
         return complain(f"pidtab-tree: {fault}", STATUS_FAULT)
     # By lines, as Python without buffers loses what one long write leaves over.
-    sys.stdout.writelines(drawing.splitlines(keepends=True))
+    sys.stdout.writelines(lines)
     return STATUS_DONE
 
 

@@ -5,7 +5,7 @@ from pathlib import Path
 
 REPOSITORY = Path(__file__).resolve().parents[3]
 EXAMPLES = REPOSITORY / "examples"
-STORED = REPOSITORY / "crates" / "worked_scripts"
+STORED = REPOSITORY / "crates" / "demo_scripts"
 
 
 def read_page(name: str) -> str:

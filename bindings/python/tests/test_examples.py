@@ -6,6 +6,7 @@ from pathlib import Path
 
 from pidtab import Process, find_program
 from tests.pages import EXAMPLES, quoted, rows, script_lines
+from tests.ways import need_program
 
 # Two jobs for `pidtab work`, whose answers depend on the schedule.
 JOBS = {"worker0", "worker1"}
@@ -36,6 +37,7 @@ class Examples(unittest.TestCase):
             self.assertEqual({file.stem for file in EXAMPLES.glob(f"*.{kind}")}, names)
 
     def test_lists(self) -> None:
+        need_program()
         for file in sorted(EXAMPLES.glob("*.list")):
             with self.subTest(file.name):
                 self.assertEqual(write_list(file.with_suffix(".script")), file.read_text(encoding="utf-8"))
@@ -65,6 +67,10 @@ def rows_of_all(text: str) -> list[list[str]]:
 
 class Recovery(unittest.TestCase):
     """A table that is lost at any line is had again by the same lines."""
+
+    @classmethod
+    def setUpClass(cls) -> None:
+        need_program()
 
     def test_a_crash_after_each_line(self) -> None:
         lines = script_lines(EXAMPLES / "recovery.script")

@@ -56,7 +56,7 @@ class Faults(unittest.TestCase):
             for built, installed, wanted in found:
                 self.assertEqual(self.find(built, installed), wanted)
             path.unlink()
-            with self.assertRaisesRegex(ProgramMissing, "make run"):
+            with self.assertRaisesRegex(ProgramMissing, "make build"):
                 self.find(nowhere, nowhere)
 
     def find(self, built: Path, installed: Path) -> Path:
@@ -138,12 +138,9 @@ class Faults(unittest.TestCase):
         words = (Path(self.folder.name) / "pidtab.words").read_text().splitlines()
         self.assertEqual(sorted(words), ["list --pid-max 301", "run --pid-max 301"])
 
-    def test_a_call_that_was_broken_off(self) -> None:
-        # The next line must not get the answer that was not read.
-        process = self.start("while read line; do echo 1; done")
-        with mock.patch.object(process, "_receive", side_effect=KeyboardInterrupt), self.assertRaises(KeyboardInterrupt):
-            process.getpid(1)
-        with self.assertRaisesRegex(ProgramEnded, "broken off"):
+    def test_a_program_that_answers_more_than_it_is_asked(self) -> None:
+        process = self.start("read line", "printf '1\\n2\\n'", "read line")
+        with self.assertRaisesRegex(ProgramFault, "answered more than it was asked"):
             process.getpid(1)
 
     def test_a_process_that_was_closed(self) -> None:

@@ -1,6 +1,7 @@
 """`make install` and `make uninstall`, in a folder of their own; and what `make bindings` says where it has nothing to test."""
 
 import os
+import re
 import shlex
 import subprocess
 import sys
@@ -16,9 +17,12 @@ from tests.ways import need_library, need_program
 # A folder whose name has a space.
 PREFIX = "/opt/pid tab"
 
-PROGRAM = ["bin/pidtab", "bin/pidtab-check", "bin/pidtab-tree", "share/man/man1/pidtab-check.1", "share/man/man1/pidtab-tree.1",
-           "share/man/man1/pidtab.1", "share/man/man5/pidtab.5", "share/pidtab/LICENSE"]  # fmt: skip
-LIBRARY = ["include/pidtab.h", "lib/libpidtab.a", "lib/libpidtab.so", "lib/libpidtab.so.1", "lib/pkgconfig/pidtab.pc", "share/man/man3/pidtab.3"]
+PROGRAM = ["bin/pidtab", "bin/pidtab-check", "bin/pidtab-play", "bin/pidtab-tree", "share/man/man1/pidtab-check.1",
+           "share/man/man1/pidtab-play.1", "share/man/man1/pidtab-tree.1", "share/man/man1/pidtab.1", "share/man/man5/pidtab.5", "share/pidtab/LICENSE"]  # fmt: skip
+# The library has a manual page for each function, by its name.
+FUNCTIONS = re.findall(r"^(?:static inline )?[a-z].*[ *](pidtab_[a-z]+)\(", read_page("bindings/c/pidtab.h"), re.MULTILINE)
+PAGES = sorted(f"share/man/man3/{name}.3" for name in ["pidtab", *FUNCTIONS] if name not in ("pidtab_value", "pidtab_ask"))
+LIBRARY = ["include/pidtab.h", "lib/libpidtab.a", "lib/libpidtab.so", "lib/libpidtab.so.1", "lib/pkgconfig/pidtab.pc", *PAGES]
 
 # Both ways to a table, from the package that was installed.
 BOTH = """\
@@ -71,15 +75,33 @@ class Programs(Installs):
         self.assertEqual(self.all_files(), [kept])
 
     def run_installed(self) -> None:
-        """The three programs, from another folder and without the variables of this one."""
+        """The programs, from another folder and without the variables of this one."""
         binaries = self.prefix / "bin"
-        command = "printf 'fork 1\\n' | ./pidtab list | ./pidtab-tree && echo frok | ./pidtab-check"
+        command = "printf 'a = fork 1\\nlist\\n' | ./pidtab-play | sed 1d | ./pidtab-tree && echo frok | ./pidtab-check"
         # Python may keep its compiled modules beside the package, and these have to go too.
         clean = {"PATH": os.environ["PATH"]}
         done = subprocess.run(["sh", "-c", command], cwd=binaries, env=clean, capture_output=True, text=True, check=False)
         self.assertEqual((done.returncode, done.stderr), (1, ""))
         self.assertIn("    1 group 1 session 1 control 0 live\n      2 group 1", done.stdout)
         self.assertIn("-:1:1: expected a command: the nearest is `fork`", done.stdout)
+
+    def test_folders_of_their_own(self) -> None:
+        folders = {"MANDIR": "/usr/man", "PYTHONDIR": "/usr/lib/python"}
+        words = [f"{name}={folder}" for name, folder in folders.items()]
+        self.assertEqual(self.stage("install", f"PIDTAB={find_program()}", "BUILT_LIBRARY=", *words).stderr, "")
+        placed = sorted(str(path.relative_to(self.folder)) for path in self.all_files())
+        self.assertIn("usr/man/man1/pidtab-play.1", placed)
+        self.assertIn("usr/lib/python/pidtab/play.py", placed)
+        self.assertEqual([it for it in placed if "opt/pid tab/share" in it], ["opt/pid tab/share/pidtab/LICENSE"])
+        self.assertEqual(self.stage("uninstall", *words).returncode, 0)
+        self.assertEqual(self.all_files(), [])
+
+    def test_a_package_elsewhere_is_found(self) -> None:
+        package = self.folder / "python"
+        words = ["BUILT_LIBRARY=", f"PREFIX={self.prefix}", f"PYTHONDIR={package}", f"PIDTAB={find_program()}"]
+        self.assertEqual(run_make("install", *words).stderr, "")
+        self.assertTrue((package / "pidtab" / "tree.py").is_file())
+        self.assertIn("usage: pidtab-tree", run([self.prefix / "bin" / "pidtab-tree", "--help"], self.folder, PYTHONPATH=""))
 
 
 class Missing(Installs):

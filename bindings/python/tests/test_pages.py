@@ -51,13 +51,13 @@ class Examples(unittest.TestCase):
     def test_rattle(self) -> None:
         # The gate proves the crate, and compares what it prints with its stored run.
         text = section(read_page("docs/LIBRARY.md"), "## From Rattle")
-        folder = REPOSITORY / "crates" / "first_table"
+        folder = REPOSITORY / "crates" / "demo_first"
         (code,), (printed,) = fenced(text, "rattle"), fenced(text, "text")
         self.assertEqual(code, (folder / "src" / "main.rt").read_text(encoding="utf-8"))
         self.assertEqual(printed, (folder / "stdout").read_text(encoding="utf-8"))
         proof = (folder / "proofs" / "main" / "Invariants.antt").read_text(encoding="utf-8")
         self.assertIn(indent("```antt\n" + proof + "```\n", "  "), text)
-        self.assertIn(f"`{next(line for line in read_page('crates.txt').splitlines() if line.startswith('first_table:'))}`", text)
+        self.assertIn(f"`{next(line for line in read_page('crates.txt').splitlines() if line.startswith('demo_first:'))}`", text)
 
     def test_the_shell(self) -> None:
         need_program()
@@ -99,7 +99,7 @@ class Manuals(unittest.TestCase):
         self.assertEqual(said, [])
         # 1 is a matter of style, as those pages are; 2 and more are faults.
         self.assertIn(done.returncode, (0, 1))
-        self.assertEqual(len(pages), 5)
+        self.assertEqual(len(pages), 6)
 
     def test_the_language(self) -> None:
         need_program()
@@ -110,7 +110,7 @@ class Manuals(unittest.TestCase):
     def test_the_programs(self) -> None:
         need_program()
         shown = 0
-        for name in ("pidtab.1", "pidtab-tree.1", "pidtab-check.1"):
+        for name in ("pidtab.1", "pidtab-tree.1", "pidtab-check.1", "pidtab-play.1"):
             for display in displays((MANUAL / name).read_text()):
                 command, *printed = display.splitlines()
                 shown += 1
@@ -118,11 +118,11 @@ class Manuals(unittest.TestCase):
                     said = self.run_command(command.removeprefix("$ "))
                     # One display only shows how programs are put together.
                     self.assertEqual(said.splitlines() if printed else bool(said), printed or True)
-        self.assertEqual(shown, 4)
+        self.assertEqual(shown, 6)
 
     def run_command(self, command: str) -> str:
         """What a command of the shell writes, with the programs of this repository."""
-        words = {"pidtab": find_program(), **{name: PACKAGES / "bin" / name for name in ("pidtab-tree", "pidtab-check")}}
+        words = {"pidtab": find_program(), **{name: PACKAGES / "bin" / name for name in ("pidtab-tree", "pidtab-check", "pidtab-play")}}
         found = re.sub(r"(?<=\| )pidtab[-a-z]*", lambda it: f"'{words[it[0]]}'", command)
         return subprocess.run(["sh", "-c", found], capture_output=True, text=True, check=False).stdout
 

@@ -5,6 +5,7 @@ import pickle
 import unittest
 
 from pidtab import Refusal
+from pidtab.faults import read_refusal
 from tests.pages import quoted, read_page, rows, section
 from tests.ways import DEFAULT_PID_MAX, ByLibrary, ByProgram, Cases, make_call
 
@@ -41,6 +42,27 @@ class Page(unittest.TestCase):
     def test_all_of_the_page_are_here(self) -> None:
         table = rows(section(read_page("docs/SCRIPT.md"), "## Refusals"))
         self.assertEqual([quoted(row[0])[0] for row in table], [case[2] for case in CASES])
+
+
+class Classes(unittest.TestCase):
+    """The table of docs/LIBRARY.md: which words have which class."""
+
+    def test_each_word_has_its_errno_and_its_class(self) -> None:
+        told = {word: (quoted(row[1])[0], quoted(row[2])[0])
+                for row in rows(section(read_page("docs/LIBRARY.md"), "## Refusals in Python")) for word in quoted(row[0])}  # fmt: skip
+        wanted: dict[str, tuple[str, str]] = {}
+        for _, _, answer, _, kind in CASES:
+            name, word = answer.split(" ")[:2]
+            # Of a bare refusal OSError is all that Python has.
+            wanted[word] = (name, "Refusal" if kind is OSError else kind.__name__)
+        self.assertEqual(told, wanted)
+
+    def test_what_has_no_class_is_a_bare_refusal(self) -> None:
+        for _, line, answer, why, kind in CASES:
+            name = answer.split(" ")[0]
+            refusal = read_refusal(line, f"{name} {why}")
+            self.assertEqual(type(refusal) is Refusal, kind is OSError, why)
+            self.assertIsInstance(refusal, kind)
 
 
 class RefusalCases(Cases):

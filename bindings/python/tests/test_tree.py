@@ -1,11 +1,17 @@
 """The list as the stored run and docs/SCRIPT.md have it, and its drawing."""
 
+import os
 import subprocess
 import sys
+import tempfile
 import unittest
 
 from pidtab import BadList, Control, Listing, Space, Task, draw_list, read_list
 from tests.pages import REPOSITORY, blocks, read_page, section, stored_scripts
+
+# So many tasks are drawn in so many seconds, with room for a slow machine.
+MANY = 200_000
+SECONDS = 5
 
 LAUNCHER = REPOSITORY / "bindings" / "python" / "bin" / "pidtab-tree"
 
@@ -47,6 +53,58 @@ control groups
     7 count 2 limit 0
       8 count 1 limit 4194304
     20 count 0 limit max
+"""
+
+WIDE_ASCII = """\
+processes
+`-space 0
+  `-1 (init of all) group 1 session 1 control 0 live subreaper
+    |-space 4
+    | `-2,1 group 1 session 1 control 7 exit 255
+    |-space 4
+    | `-3,2 group 0 session 0 control 0 killed executed
+    `-5 group 5 session 5 control 0 live executed children 4 subreaper
+      `-6 (web) group 5 session 5 control 8 live
+        `-space 9
+          `-9,1 group 5 session 5 control 0 live
+namespaces
+`-0 cursor 10 tasks 3 zombies 0
+  |-4 cursor 3 fallen tasks 2 zombies 2
+  `-9 cursor 2 tasks 1 zombies 0
+control groups
+`-0 count 6 limit max
+  |-7 count 2 limit 0
+  | `-8 count 1 limit 4194304
+  `-20 count 0 limit max
+"""
+
+# The same, two levels of each tree.
+WIDE_DEPTH = """\
+processes
+  space 0
+    1 group 1 session 1 control 0 live subreaper
+      space 4
+        2,1 group 1 session 1 control 7 exit 255
+      space 4
+        3,2 group 0 session 0 control 0 killed executed
+      5 group 5 session 5 control 0 live executed children 4 subreaper [2 below]
+namespaces
+  0 cursor 10
+    4 cursor 3 fallen
+    9 cursor 2
+control groups
+  0 count 6 limit max
+    7 count 2 limit 0 [1 below]
+    20 count 0 limit max
+"""
+
+LABELS = """\
+# Who is who.
+6 mail
+
+1  init   of all
+99 nobody
+6 web
 """
 
 BAD_LISTS = [
@@ -143,6 +201,70 @@ class Trees(unittest.TestCase):
         done = launch("".join(line + "\n" for line in lines))
         self.assertEqual((done.returncode, done.stderr), (0, ""))
         self.assertEqual(done.stdout.splitlines()[-3:], ["    1 cursor 3", "control groups", "  0 count 3 limit max"])
+
+    def test_branches_counts_and_labels(self) -> None:
+        with tempfile.NamedTemporaryFile("w", suffix=".labels") as file:
+            file.write(LABELS)
+            file.flush()
+            done = launch(WIDE_LIST, "--ascii", "--counts", "--labels", file.name)
+        self.assertEqual((done.returncode, done.stdout, done.stderr), (0, WIDE_ASCII, ""))
+
+    def test_a_depth(self) -> None:
+        self.assertEqual(launch(WIDE_LIST, "--depth", "2").stdout, WIDE_DEPTH)
+        self.assertEqual(launch(WIDE_LIST, "--depth", "4").stdout, WIDE_TREE)
+
+    def test_one_task_and_what_is_below_it(self) -> None:
+        below = ["processes", "  space 0", "    5 group 5 session 5 control 0 live executed children 4 subreaper"]
+        below += ["      6 group 5 session 5 control 8 live", "        space 9", "          9,1 group 5 session 5 control 0 live"]
+        self.assertEqual(launch(WIDE_LIST, "--root", "5").stdout.splitlines(), below)
+        self.assertEqual(launch(WIDE_LIST, "--root", "5", "--depth", "1").stdout.splitlines(), [*below[:2], f"{below[2]} [2 below]"])
+        done = launch(WIDE_LIST, "--root", "4")
+        self.assertEqual((done.returncode, done.stdout, done.stderr), (1, "", "pidtab-tree: no task has the root number 4\n"))
+
+    def test_a_ring_has_no_end_but_a_sentence(self) -> None:
+        task = "task {} space 0 parent {} group 1 session 1 control 0 live\n"
+        ring = task.format(1, 0) + task.format(2, 3) + task.format(3, 2)
+        for words in ((), ("--root", "2"), ("--depth", "1")):
+            self.assertEqual(launch(ring, *words).stderr, "pidtab-tree: a parent is missing\n")
+        self.assertEqual(len(launch(task.format(0, 0)).stdout.splitlines()), 5)
+
+    def test_lines_in_any_order(self) -> None:
+        lines = WIDE_LIST.splitlines(keepends=True)
+        for text in (WIDE_LIST, "".join(lines[6:] + lines[:6]), "".join(lines[:6] + lines[9:] + lines[6:9])):
+            self.assertEqual(launch(text).stdout, WIDE_TREE)
+
+    def test_wrong_words(self) -> None:
+        told = {("--root", "0"): "--root: a number from 1 on, not 0", ("--root", "x"): "--root: a number from 1 on, not x",
+                ("--depth", "0"): "--depth: a number from 1 on, not 0", ("--root", "1", "--counts"): "--counts is of namespaces, which --root leaves out"}  # fmt: skip
+        for words, fault in told.items():
+            with self.subTest(words):
+                done = launch(WIDE_LIST, *words)
+                self.assertEqual((done.returncode, done.stdout), (2, ""))
+                self.assertIn(fault, done.stderr)
+
+    def test_bad_labels(self) -> None:
+        with tempfile.NamedTemporaryFile("w") as file:
+            for line in ("web 1", "1", "01 web", "-1 web"):
+                file.seek(0)
+                file.write(f"2 mail\n{line}\n")
+                file.truncate()
+                file.flush()
+                done = launch(WIDE_LIST, "--labels", file.name)
+                self.assertEqual((done.returncode, done.stdout), (2, ""))
+                self.assertEqual(done.stderr, f"pidtab-tree: {file.name}:2: expected a root number and its label\n")
+        done = launch(WIDE_LIST, "--labels", "/no/such/labels")
+        self.assertEqual((done.returncode, done.stderr), (2, "pidtab-tree: cannot read /no/such/labels: No such file or directory\n"))
+
+    def test_a_large_list_in_time(self) -> None:
+        # A tree of 18 levels, in which task K stands below task K / 2.
+        lines = [f"task {it} space 0 parent {it // 2} group {it} session 1 control 0 live\n" for it in range(1, MANY + 1)]
+        text = "".join([*lines, f"space 0 parent - cursor {MANY + 1}\n", f"control 0 parent - limit max count {MANY}\n"])
+        before = os.times()
+        done = launch(text, "--counts")
+        after = os.times()
+        self.assertEqual(len(done.stdout.splitlines()), MANY + 6)
+        # Of the processor, as a busy machine may take any time.
+        self.assertLess(after.children_user + after.children_system - before.children_user - before.children_system, SECONDS)
 
     def test_the_faults_of_the_program(self) -> None:
         done = launch("task 1\n")

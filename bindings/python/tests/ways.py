@@ -3,7 +3,9 @@
 import errno
 import unittest
 from collections.abc import Callable
+from types import SimpleNamespace
 from typing import TYPE_CHECKING
+from unittest import mock
 
 from pidtab import Calls, Forked, LibraryFault, Process, ProgramMissing, Reaped, Refusal, Table, find_library, find_program
 from pidtab.library import load_library
@@ -53,6 +55,12 @@ class ByProgram(Way):
         process = Process(pid_max)
         self.addCleanup(process.close)
         return process
+
+
+def open_stand_in(functions: SimpleNamespace, pid_max: int = DEFAULT_PID_MAX) -> Table:
+    """A table of functions in the place of the library's."""
+    with mock.patch("pidtab.table.find_library", return_value="stand-in"), mock.patch("pidtab.table.load_library", return_value=functions):
+        return Table(pid_max)
 
 
 class ByLibrary(Way):

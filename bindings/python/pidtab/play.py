@@ -1,0 +1,227 @@
+"""`pidtab-play`: plays scripts with comments and names, from files or at a prompt."""
+
+import argparse
+import signal
+import sys
+from collections.abc import Callable, Iterable, Iterator
+from contextlib import contextmanager
+
+from pidtab.calls import DEFAULT_PID_MAX, Calls
+from pidtab.check import STANDARD_INPUT, open_script
+from pidtab.command import STATUS_DONE, STATUS_FAULT, STATUS_USAGE, complain, finish, parser_of
+from pidtab.faults import LibraryFault, ProgramFault
+from pidtab.language import FORMS, KINDS
+from pidtab.listing import Listing, Task
+from pidtab.process import Process
+from pidtab.prompt import COMMANDS, begin
+from pidtab.session import Mistake, Session, read_words
+from pidtab.table import Table
+
+PROMPT = "pidtab> "
+STATUS_INTERRUPTED = 130
+ABOUT = "Plays scripts, which may have comments, blank lines and names for numbers. Without a file, standard input; at a terminal with a prompt."
+
+HELP = f"""\
+Calls: {", ".join(FORMS)}.
+{"; ".join(f"{letter} is {kind}" for letter, kind in KINDS.items())}.
+Callers and tasks are root numbers, and other process numbers those of the caller's namespace.
+`web = fork 1 new` gives a name: `$web` is the number that its place wants, and `$web.root` the root number. # begins a comment.
+""" + "".join(f"{name}  {about}\n" for name, about in COMMANDS.items())
+
+
+class Quit(Exception):
+    """The line `quit`."""
+
+
+def say_task(task: Task) -> str:
+    """The line of a task in a list."""
+    numbers = ",".join(str(number) for number in task.numbers)
+    life = "live" if task.live else "killed" if task.killed else f"exit {task.status}"
+    marks = " executed" * task.executed + ("" if task.children is None else f" children {task.children}") + " subreaper" * task.subreaper
+    places = f"space {task.space} parent {task.parent} group {task.group} session {task.session} control {task.control}"
+    return f"task {numbers} {places} {life}{marks}"
+
+
+def say_list(listing: Listing) -> str:
+    """The list of a table, as `pidtab list` writes it."""
+    lines = [say_task(task) for task in listing.tasks]
+    for space in listing.spaces:
+        parent = "-" if space.parent is None else space.parent
+        lines.append(f"space {space.id} parent {parent} cursor {space.cursor}{' fallen' * space.fallen}")
+    for control in listing.controls:
+        parent, limit = ("-" if control.parent is None else control.parent), ("max" if control.limit is None else control.limit)
+        lines.append(f"control {control.id} parent {parent} limit {limit} count {control.count}")
+    return "".join(f"{line}\n" for line in lines)
+
+
+def undo(session: Session) -> str:
+    """Takes the last call back, and says which."""
+    line = session.undo()
+    return "no call to take back\n" if line is None else f"taken back: {line}\n"
+
+
+def command_of(text: str) -> str | None:
+    """The command of a line that makes no call."""
+    words = read_words(text)
+    if not words or words[0].text not in COMMANDS:
+        return None
+    if len(words) > 1:
+        raise Mistake(words[1].column, "the end of the line")
+    return words[0].text
+
+
+def play_line(session: Session, text: str) -> str:
+    """What a line writes. A bad line raises a Mistake, and `quit` a Quit."""
+    command = command_of(text)
+    if command == "quit":
+        raise Quit
+    if command == "help":
+        return HELP
+    if command == "undo":
+        return undo(session)
+    if command is not None:
+        return session.table.tree() if command == "tree" else say_list(session.table.list())
+    reply = session.ask(text)
+    if reply is None:
+        return ""
+    if reply.unset is not None:
+        complain(f"no number for the name {reply.unset}: {reply.answer}", STATUS_DONE)
+    return f"{reply.answer}\n"
+
+
+def write(text: str) -> None:
+    """Writes at once, as who drives this by a pipe waits for it."""
+    sys.stdout.write(text)
+    sys.stdout.flush()
+
+
+def play_script(session: Session, name: str, lines: Iterable[bytes], given: argparse.Namespace) -> int:
+    """Plays the lines of a script: the exit status."""
+    status = STATUS_DONE
+    for place, line in enumerate(lines, start=1):
+        text = line.removesuffix(b"\n").decode("latin-1")
+        if given.echo and text.strip():
+            write(f"> {text.strip()}\n")
+        try:
+            write(play_line(session, text))
+        except Mistake as mistake:
+            write("bad line\n")
+            status = complain(f"{name}:{place}:{mistake.column}: expected {mistake.expected}", STATUS_FAULT)
+        if given.strict and status != STATUS_DONE:
+            break
+    return status
+
+
+def play_files(session: Session, given: argparse.Namespace) -> int:
+    """Plays the files one after the other on one table: the exit status."""
+    status = STATUS_DONE
+    for name in given.file or [STANDARD_INPUT]:
+        try:
+            with open_script(name) as script:
+                status = max(status, play_script(session, name, script, given))
+        except OSError as fault:
+            if isinstance(fault, BrokenPipeError):
+                raise
+            return complain(f"pidtab-play: cannot read {name}: {fault.strerror}", STATUS_USAGE)
+        except Quit:
+            break
+        if given.strict and status != STATUS_DONE:
+            break
+    return status
+
+
+def play_prompt(session: Session) -> int:
+    """Asks for lines until their end. An interrupt drops the line that is being written, and nothing else."""
+    begin(session)
+    while True:
+        try:
+            text = input(PROMPT if sys.stdout.isatty() else "")
+            write(play_line(session, text.encode("utf-8", "surrogateescape").decode("latin-1")))
+        except Mistake as mistake:
+            write(f"bad line: {mistake}\n")
+        except KeyboardInterrupt:
+            session.lose()
+            write("\n")
+        except (ProgramFault, LibraryFault, MemoryError) as fault:
+            session.lose()
+            write(f"{fault}\n")
+        except EOFError:
+            write("\n")
+            return STATUS_DONE
+        except Quit:
+            return STATUS_DONE
+
+
+@contextmanager
+def spared() -> Iterator[None]:
+    """What is started here does not get the interrupts of the terminal, which are for the prompt."""
+    before = signal.signal(signal.SIGINT, signal.SIG_IGN)
+    try:
+        yield
+    finally:
+        signal.signal(signal.SIGINT, before)
+
+
+def opener(kind: type[Process] | type[Table], pid_max: int, place: str | None) -> Callable[[], Calls]:
+    """Opens tables of a kind."""
+
+    def open_table() -> Calls:
+        with spared():
+            return kind(pid_max, place)
+
+    return open_table
+
+
+def open_session(given: argparse.Namespace) -> Session:
+    """A table by what was named, or else by the library, or else by the program."""
+    if given.program is not None:
+        return Session(opener(Process, given.pid_max, given.program))
+    try:
+        return Session(opener(Table, given.pid_max, given.library))
+    except LibraryFault:
+        if given.library is not None:
+            raise
+    return Session(opener(Process, given.pid_max, None))
+
+
+def read_command_line() -> argparse.Namespace:
+    """The words of the command line."""
+    parser = parser_of("pidtab-play", ABOUT)
+    parser.add_argument("--strict", action="store_true", help="end at the first bad line of a script")
+    parser.add_argument("--echo", action="store_true", help="write each line of a script before what it is answered")
+    parser.add_argument("--pid-max", type=int, default=DEFAULT_PID_MAX, metavar="N", help="301 to 4194304, 32768 by default")
+    ways = parser.add_mutually_exclusive_group()
+    ways.add_argument("--program", metavar="PATH", help="have the table by this program")
+    ways.add_argument("--library", metavar="PATH", help="have the table by this library")
+    parser.add_argument("file", nargs="*", help="a script; - is standard input")
+    return parser.parse_args()
+
+
+def run() -> int:
+    """Plays what the command line names."""
+    given = read_command_line()
+    try:
+        session = open_session(given)
+    except ValueError as fault:
+        return complain(f"pidtab-play: {fault}", STATUS_USAGE)
+    except (ProgramFault, LibraryFault, MemoryError) as fault:
+        return complain(f"pidtab-play: no table: {fault}", STATUS_USAGE)
+    try:
+        if not given.file and sys.stdin.isatty():
+            return play_prompt(session)
+        return play_files(session, given)
+    except KeyboardInterrupt:
+        return STATUS_INTERRUPTED
+    except (ProgramFault, LibraryFault, MemoryError) as fault:
+        return complain(f"pidtab-play: {fault}", STATUS_FAULT)
+    finally:
+        session.close()
+
+
+def main() -> None:
+    """The program `pidtab-play`."""
+    finish(run)
+
+
+if __name__ == "__main__":
+    main()

@@ -1,0 +1,64 @@
+"""The numbers of docs/STABLE.md: the version of a release, and that of the interface, wherever they are written."""
+
+import re
+import unittest
+
+from tests.pages import read_page, section
+
+VERSION = r"(\d+\.\d+\.\d+)"
+
+# Where the version is written beside the file VERSION.
+VERSIONS = {
+    "bindings/python/pyproject.toml": rf'^version = "{VERSION}"$',
+    "bindings/rust/Cargo.toml": rf'^version = "{VERSION}"$',
+    "README.md": rf"\bversion {VERSION}\b",
+}
+
+# Where the number of the interface is written.
+INTERFACES = {
+    "docs/STABLE.md": r"^- The \*interface\* is (\d+)\.",
+    "bindings/c/pidtab.h": r"^#define PIDTAB_VERSION (\d+)$",
+    "bindings/c/pidtab.pc.in": r"^Version: (\d+)$",
+    "bindings/c/pidtab.map": r"^PIDTAB_(\d+) \{$",
+    "bindings/python/pidtab/raw.py": r"^VERSION = (\d+)$",
+    "bindings/rust/src/raw.rs": r"^pub\(crate\) const VERSION: u32 = (\d+);$",
+    "Makefile": r"-soname,libpidtab\.so\.(\d+)",
+}
+
+
+def found(page: str, pattern: str) -> list[str]:
+    """The numbers that a page has where the pattern says."""
+    return re.findall(pattern, read_page(page), re.MULTILINE)
+
+
+class Versions(unittest.TestCase):
+    """Each number is the same wherever it is written."""
+
+    def test_the_version(self) -> None:
+        version = read_page("VERSION")
+        self.assertRegex(version, rf"\A{VERSION}\n\Z")
+        for page, pattern in VERSIONS.items():
+            with self.subTest(page):
+                self.assertEqual(found(page, pattern), [version.strip()])
+
+    def test_the_changes(self) -> None:
+        heads = re.findall(r"^## (.*)$", read_page("CHANGELOG.md"), re.MULTILINE)
+        self.assertEqual(heads[0], "[Unreleased]")
+        self.assertRegex(heads[1], r"\A\[\d+\.\d+\.\d+\] - \d{4}-\d\d-\d\d\Z")
+        self.assertEqual(heads[1].split("]")[0], f"[{read_page('VERSION').strip()}")
+
+    def test_the_interface(self) -> None:
+        (interface,) = found("docs/STABLE.md", INTERFACES["docs/STABLE.md"])
+        for page, pattern in INTERFACES.items():
+            with self.subTest(page):
+                self.assertEqual(set(found(page, pattern)), {interface})
+
+    def test_the_functions_that_stay(self) -> None:
+        # Those that the header declares and does not define are exported.
+        exported = re.findall(r"^(?:uint32_t|void) (pidtab_\w+)\(", read_page("bindings/c/pidtab.h"), re.MULTILINE)
+        self.assertEqual(len(exported), 6)
+        self.assertIn("- The six exported functions", section(read_page("docs/STABLE.md"), "## What stays while the interface is 1"))
+
+
+if __name__ == "__main__":
+    unittest.main()
