@@ -1,118 +1,173 @@
-# What a person does with this repository. It needs the Rattle toolchain, whose command is `rt`.
+# What a person does with this repository. `make` alone shows the targets with a line `target: ## what it does`.
 
-.PHONY: run build list work try test hostile linux clean
+.PHONY: help run build list work try check test hostile linux loads clean
 
-# Answers the first script. The first time it proves and builds what the program stands on.
-run:
-	@cd crates/pidtab && rt run -- run < ../../examples/first.script
+# Shows what there is to make.
+help: ## shows this
+	@echo 'Targets. Those with a star need the Rattle toolchain, whose command is `rt`. Times are for four idle cores.'
+	@sed -n 's/^\([a-z-]*\):[^#]*## \(.*\)/  \1|\2/p' Makefile | awk -F'|' '{ printf "%-18s %s\n", $$1, $$2 }'
 
-# Proves and builds the program, and says where it is.
-build:
-	@cd crates/pidtab && rt run -- run < /dev/null
+# A script, by its path from here.
+SCRIPT ?= examples/first.script
+
+# The built program: where `make build` leaves it, or what the variable PIDTAB names.
+PIDTAB ?= crates/pidtab/out/pidtab
+
+# What cannot go on without the toolchain says so.
+define need_rt
+@command -v rt > /dev/null || { echo 'The Rattle toolchain (its command is `rt`) is not on the PATH: it proves and compiles this repository.' \
+	'It comes as the kit rattle-kit-13f: add the folder bin of that kit to the PATH.' >&2; exit 1; }
+endef
+
+define need_script
+@test -f '$(SCRIPT)' && test -r '$(SCRIPT)' || { echo 'no script $(SCRIPT): name one by SCRIPT=FILE' >&2; exit 1; }
+endef
+
+# A command of the program on the script: by the program that was built, or else by a build that is not proved.
+define played
+$(need_script)
+@if test -x '$(PIDTAB)'; then '$(PIDTAB)' $(1) < '$(SCRIPT)'; else $(MAKE) -s try COMMAND=$(1); fi
+endef
+
+run: ## answers SCRIPT (examples/first.script): by the proved program where it is built, else as `make try`
+	$(call played,run)
+
+list: ## shows the table that SCRIPT leaves, as `make run` does
+	$(call played,list)
+
+COMMAND = run
+try: ## * answers SCRIPT by a build that is not proved: do not rely on it (some 2 minutes)
+	$(need_script)
+	$(need_rt)
+	@echo 'this build is not proved, `make build` proves it: compiling takes some two minutes' >&2
+	@exec < '$(SCRIPT)' && cd crates/pidtab && rt try -- $(COMMAND)
+
+# What the tools say is in out/build.log.
+build: ## * proves and builds the program, crates/pidtab/out/pidtab (some 40 minutes from nothing)
+	$(need_rt)
+	@mkdir -p out
+	@tools/prove pidtab out/build.log rt run -- run < /dev/null || { echo 'make build failed: see out/build.log' >&2; exit 1; }
 	@echo crates/pidtab/out/pidtab
 
-# Shows the table that the first script leaves.
-list:
-	@cd crates/pidtab && rt run -- list < ../../examples/first.script
+# Who comes first is the machine's choice.
+work: built ## runs two workers on one table, each with a script of its own
+	@'$(PIDTAB)' work examples/worker0.script examples/worker1.script
 
-# Runs two workers on one table, each with a script of its own. Who comes first is the machine's choice.
-work:
-	@cd crates/pidtab && rt run -- work ../../examples/worker0.script ../../examples/worker1.script
+# CHECK may name crates, and --jobs N.
+check: ## * runs all tests and worked scripts on builds that are not proved (up to 10 minutes)
+	$(need_rt)
+	@tools/check $(CHECK)
 
-# Answers the first script within a minute, unproved. Do not rely on the result: nothing is checked.
-try:
-	@cd crates/pidtab && rt try -- run < ../../examples/first.script
-
-# The gate: proves every crate from nothing, tries the edits that must be refused, and runs the tests; then it is hostile to
-# the programs that were built.
-test:
+# The gate. The last part is hostile to the programs that were built.
+test: ## * the gate: proves every crate from nothing, tries the edits that must be refused, runs the tests (about an hour)
+	$(need_rt)
+	@tools/architecture --check
+	@tools/pages --check
 	rt ci
 	@$(MAKE) -s hostile
 
-# Refuses the built programs memory at each growth in turn, and has their devices fail. It proves and builds none of them: `make
-# test` does, and `make run` the one, and `rt run < stdin` in crates/refused_growths the other.
-hostile:
-	@for it in pidtab refused_growths; do test -x crates/$$it/out/$$it || { echo "no program crates/$$it/out/$$it: make test builds it" >&2; exit 1; }; done
+# It proves and builds nothing: `make test` builds both programs; `make build` builds the one, and `rt run < stdin` in crates/demo_no_memory the other.
+hostile: ## refuses the built programs memory at each growth in turn, and has their devices fail (a minute)
+	@for it in pidtab demo_no_memory; do test -x crates/$$it/out/$$it || { echo "no program crates/$$it/out/$$it: make test builds it" >&2; exit 1; }; done
 	@$(MAKE) -s -C hostile check
 
-# Compares the table with real processes: each row of docs/LINUX.md, and 200 random scripts. It needs root or user namespaces.
-linux: run
+# Each row of docs/LINUX.md, and 200 random scripts. It needs root or user namespaces.
+linux: built ## compares the table with real processes; as root, or with user namespaces
 	@$(MAKE) -s -C linux check
 	@linux/page --check
 	@linux/compare --rows
 	@linux/compare --seeds 1..200
 
-# What a call costs, by instructions: each load of loads/loads.py at its sizes, beside the figures of a peer. It needs valgrind and some ten minutes.
-.PHONY: loads
-loads: built
+# Each load of loads/loads.py at its sizes, beside the figures of a peer.
+loads: built ## what a call costs, by instructions; with valgrind (some 10 minutes)
 	@loads/loads.py measure '$(PIDTAB)' $(LOADS)
 
-clean:
+clean: ## removes all that was built, and what the checker has kept
 	rm -rf crates/*/out out
 	@$(MAKE) -s -C linux clean
 	@$(MAKE) -s -C hostile clean
 
 .PHONY: built install install-library uninstall
 
-# The built program: where `make run` leaves it, or what the variable PIDTAB names.
-PIDTAB ?= crates/pidtab/out/pidtab
 PREFIX ?= /usr/local
+LIBDIR ?= $(PREFIX)/lib
+INCLUDEDIR ?= $(PREFIX)/include
+MANDIR ?= $(PREFIX)/share/man
+PYTHONDIR ?= $(PREFIX)/share/pidtab/python
 INSTALL ?= install
-PROGRAMS = pidtab-tree pidtab-check
-FOLDER = $(DESTDIR)$(PREFIX)
-MANUALS = $(foreach page,$(wildcard man/*.$(1)),'$(FOLDER)/share/man/man$(1)/$(notdir $(page))')
+PROGRAMS = pidtab-tree pidtab-check pidtab-play
+# The functions of the library, each of which has a manual page by its name.
+FUNCTIONS = $(shell sed -n 's/^\.Nm \(pidtab_[a-z]*\).*/\1/p' man/pidtab.3)
+MANUALS = $(foreach page,$(wildcard man/*.$(1)),'$(DESTDIR)$(MANDIR)/man$(1)/$(notdir $(page))')
+BINARIES = $(DESTDIR)$(PREFIX)/bin
+SHARED_FILES = $(DESTDIR)$(PREFIX)/share/pidtab
 
 # The built library, if there is one.
 BUILT_LIBRARY = $(wildcard out/libpidtab.so.1)
 
+# The description for pkg-config, in which folders below the prefix stay so.
+in_prefix = $(subst $(PREFIX)/,$${prefix}/,$(1))
+describe = sed 's|^prefix=.*|prefix=$(PREFIX)|; s|^libdir=.*|libdir=$(call in_prefix,$(LIBDIR))|; s|^includedir=.*|includedir=$(call in_prefix,$(INCLUDEDIR))|' \
+	bindings/c/pidtab.pc.in
+
 built:
-	@test -x '$(PIDTAB)' || { echo 'no program $(PIDTAB): build it with `make run`' >&2; exit 1; }
+	@test -x '$(PIDTAB)' || { echo 'no program $(PIDTAB): build it with `make build`' >&2; exit 1; }
 
 # The program, the programs beside it with their package, and the manual pages; and the library, where `make lib` has built it. It builds nothing.
-install: built $(if $(BUILT_LIBRARY),install-library)
-	$(INSTALL) -d '$(FOLDER)/bin' '$(FOLDER)/share/pidtab/python/pidtab' '$(FOLDER)/share/man/man1' '$(FOLDER)/share/man/man5'
-	$(INSTALL) -m 755 '$(PIDTAB)' '$(FOLDER)/bin/pidtab'
-	$(INSTALL) -m 755 $(PROGRAMS:%=bindings/python/bin/%) '$(FOLDER)/bin'
-	$(INSTALL) -m 644 bindings/python/pidtab/*.py bindings/python/pidtab/py.typed '$(FOLDER)/share/pidtab/python/pidtab'
-	$(INSTALL) -m 644 LICENSE '$(FOLDER)/share/pidtab'
-	$(INSTALL) -m 644 man/*.1 '$(FOLDER)/share/man/man1'
-	$(INSTALL) -m 644 man/*.5 '$(FOLDER)/share/man/man5'
+install: built $(if $(BUILT_LIBRARY),install-library) ## installs what is built below PREFIX (/usr/local)
+	$(INSTALL) -d '$(BINARIES)' '$(DESTDIR)$(PYTHONDIR)/pidtab' '$(SHARED_FILES)' '$(DESTDIR)$(MANDIR)/man1' '$(DESTDIR)$(MANDIR)/man5'
+	$(INSTALL) -m 755 '$(PIDTAB)' '$(BINARIES)/pidtab'
+	$(INSTALL) -m 755 $(PROGRAMS:%=bindings/python/bin/%) '$(BINARIES)'
+	sed -i 's|^FOLDERS = (\(.*\))$$|FOLDERS = (\1, Path("$(PYTHONDIR)"))|' $(PROGRAMS:%='$(BINARIES)/%')
+	$(INSTALL) -m 644 bindings/python/pidtab/*.py bindings/python/pidtab/py.typed '$(DESTDIR)$(PYTHONDIR)/pidtab'
+	$(INSTALL) -m 644 LICENSE '$(SHARED_FILES)'
+	$(INSTALL) -m 644 man/*.1 '$(DESTDIR)$(MANDIR)/man1'
+	$(INSTALL) -m 644 man/*.5 '$(DESTDIR)$(MANDIR)/man5'
 
-# The library alone, with its header and its manual page.
-install-library:
+install-library: ## installs the library alone, with its header and its manual page
 	@test -n '$(BUILT_LIBRARY)' || { echo 'no library out/libpidtab.so.1: build it with `make lib`' >&2; exit 1; }
-	$(INSTALL) -d '$(FOLDER)/lib/pkgconfig' '$(FOLDER)/include' '$(FOLDER)/share/man/man3'
-	$(INSTALL) -m 644 out/libpidtab.a out/libpidtab.so.1 '$(FOLDER)/lib'
-	ln -sf libpidtab.so.1 '$(FOLDER)/lib/libpidtab.so'
-	$(INSTALL) -m 644 out/pidtab.h '$(FOLDER)/include'
-	sed 's|@PREFIX@|$(PREFIX)|' bindings/c/pidtab.pc.in > '$(FOLDER)/lib/pkgconfig/pidtab.pc'
-	$(INSTALL) -m 644 man/*.3 '$(FOLDER)/share/man/man3'
+	$(INSTALL) -d '$(DESTDIR)$(LIBDIR)/pkgconfig' '$(DESTDIR)$(INCLUDEDIR)' '$(DESTDIR)$(MANDIR)/man3'
+	$(INSTALL) -m 644 out/libpidtab.a out/libpidtab.so.1 '$(DESTDIR)$(LIBDIR)'
+	ln -sf libpidtab.so.1 '$(DESTDIR)$(LIBDIR)/libpidtab.so'
+	$(INSTALL) -m 644 out/pidtab.h '$(DESTDIR)$(INCLUDEDIR)'
+	$(describe) > '$(DESTDIR)$(LIBDIR)/pkgconfig/pidtab.pc'
+	$(INSTALL) -m 644 man/*.3 '$(DESTDIR)$(MANDIR)/man3'
+	for it in $(FUNCTIONS); do echo '.so man3/pidtab.3' > '$(DESTDIR)$(MANDIR)/man3/'$$it.3 || exit 1; done
 
-uninstall:
-	rm -f '$(FOLDER)/bin/pidtab' $(PROGRAMS:%='$(FOLDER)/bin/%')
-	rm -f '$(FOLDER)/lib/libpidtab.a' '$(FOLDER)/lib/libpidtab.so' '$(FOLDER)/lib/libpidtab.so.1'
-	rm -f '$(FOLDER)/lib/pkgconfig/pidtab.pc' '$(FOLDER)/include/pidtab.h'
-	rm -f $(call MANUALS,1) $(call MANUALS,3) $(call MANUALS,5)
-	rm -rf '$(FOLDER)/share/pidtab'
+uninstall: ## removes what both have installed, with the same variables
+	rm -f '$(BINARIES)/pidtab' $(PROGRAMS:%='$(BINARIES)/%')
+	rm -f '$(DESTDIR)$(LIBDIR)/libpidtab.a' '$(DESTDIR)$(LIBDIR)/libpidtab.so' '$(DESTDIR)$(LIBDIR)/libpidtab.so.1'
+	rm -f '$(DESTDIR)$(LIBDIR)/pkgconfig/pidtab.pc' '$(DESTDIR)$(INCLUDEDIR)/pidtab.h'
+	rm -f $(call MANUALS,1) $(call MANUALS,3) $(call MANUALS,5) $(FUNCTIONS:%='$(DESTDIR)$(MANDIR)/man3/%.3')
+	rm -rf '$(DESTDIR)$(PYTHONDIR)/pidtab' '$(SHARED_FILES)'
 
 .PHONY: lib
 
-# The library for C in out/, from the archive that the checker proves and builds; its parts are in bindings/c. What the tools say is in out/lib.log.
+# The library is made of the archive that the checker proves and builds; its parts are in bindings/c. What the tools say is in out/lib.log and out/link.log.
 LIBRARY = crates/pidtab_c/out/libpidtab_c.a
 OBJCOPY ?= objcopy
-CHECKED = -std=c11 -D_GNU_SOURCE -O1 -g -Wall -Wextra -Werror -fsanitize=address,undefined -fno-sanitize-recover=all
+TESTED = -std=c11 -D_GNU_SOURCE -O1 -g -Wall -Wextra -Werror -pthread
+CHECKED = $(TESTED) -fsanitize=address,undefined -fno-sanitize-recover=all
+THREADED = $(TESTED) -fsanitize=thread
 
-lib:
+lib: ## * proves and builds the library for C, with its header, in out/ (some 40 minutes from nothing, a few behind `make build`)
+	$(need_rt)
 	@mkdir -p out
-	@{ (cd crates/pidtab_c && rt lib) && $(MAKE) -s out/libpidtab.a out/libpidtab.so.1; } > out/lib.log 2>&1 || { echo 'make lib failed: see out/lib.log' >&2; exit 1; }
+	@tools/prove pidtab_c out/lib.log rt lib || { echo 'make lib failed: see out/lib.log' >&2; exit 1; }
+	@$(MAKE) -s out/libpidtab.a out/libpidtab.so.1 > out/link.log 2>&1 || { echo 'make lib failed: see out/link.log' >&2; exit 1; }
 	@ln -sf libpidtab.so.1 out/libpidtab.so
 	@cp bindings/c/pidtab.h out
-	@sed 's|@PREFIX@|$(PREFIX)|' bindings/c/pidtab.pc.in > out/pidtab.pc
+	@$(describe) > out/pidtab.pc
+
+# The proved functions by other names, under which guard.c calls them.
+out/proved.a: $(LIBRARY) bindings/c/renamed.syms
+	$(OBJCOPY) --redefine-syms=bindings/c/renamed.syms $(LIBRARY) $@
 
 # One object, of whose symbols only pidtab_.. are seen.
-out/pidtab.o: $(LIBRARY) bindings/c/heap.c
+out/pidtab.o: out/proved.a bindings/c/heap.c bindings/c/guard.c bindings/c/pidtab.h
 	$(CC) -std=c11 -O2 -Wall -Wextra -Werror -fPIC -c -o out/heap.o bindings/c/heap.c
-	$(LD) -r -o $@ --whole-archive $(LIBRARY) --no-whole-archive out/heap.o
+	$(CC) -std=c11 -O2 -Wall -Wextra -Werror -fPIC -c -o out/guard.o bindings/c/guard.c
+	$(LD) -r -o $@ --whole-archive out/proved.a --no-whole-archive out/heap.o out/guard.o
 	$(OBJCOPY) -w --keep-global-symbol='pidtab_*' $@
 
 out/libpidtab.a: out/pidtab.o
@@ -124,8 +179,8 @@ out/libpidtab.so.1: out/pidtab.o bindings/c/pidtab.map
 
 .PHONY: bindings bindings-python bindings-c bindings-rust bindings-go
 
-# The tests of all bindings, over what `make run` and `make lib` have built. What has no compiler here, or was not built, is skipped with a word.
-bindings: bindings-python bindings-c bindings-rust bindings-go
+# Over what `make build` and `make lib` have built.
+bindings: bindings-python bindings-c bindings-rust bindings-go ## tests the ways in for Python, C, Rust and Go; what is not there is skipped with a word
 
 # A command's tests, if the command and the file that they need are there. What they say is in a log, which is named where they fail.
 define tested
@@ -143,11 +198,16 @@ bindings-python:
 	$(call tested,python3,bindings/python/tests,PIDTAB='$(PIDTAB)' PIDTAB_LIBRARY='$(SHARED)' \
 		python3 -B -m unittest discover -v -s bindings/python/tests -t bindings/python)
 
-# From C, under the sanitizers for addresses and undefined behaviour.
+# From C, under the sanitizers for addresses and undefined behaviour, and under that for threads.
+HELD = -Dmalloc=test_malloc -Drealloc=test_realloc
 bindings-c:
 	$(call tested,$(firstword $(CC)),$(LIBRARY),\
-		$(CC) $(CHECKED) -Dmalloc=test_malloc -Drealloc=test_realloc -c -o out/test_heap.o bindings/c/heap.c && \
-		$(CC) $(CHECKED) -pthread -o out/test bindings/c/test.c out/test_heap.o $(LIBRARY) && out/test)
+		bindings/c/test_names && $(MAKE) -s out/proved.a && \
+		$(CC) $(CHECKED) $(HELD) -c -o out/test_heap.o bindings/c/heap.c && \
+		$(CC) $(CHECKED) -o out/test bindings/c/test.c bindings/c/guard.c out/test_heap.o out/proved.a && out/test && \
+		$(CC) $(CHECKED) -o out/test_words bindings/c/test_words.c bindings/c/guard.c bindings/c/heap.c out/proved.a && out/test_words && \
+		$(CC) $(THREADED) $(HELD) -Dfree=test_free -c -o out/held_heap.o bindings/c/heap.c && \
+		$(CC) $(THREADED) -o out/test_threads bindings/c/test_threads.c bindings/c/guard.c out/held_heap.o out/proved.a && out/test_threads)
 
 bindings-rust:
 	$(call tested,cargo,out/libpidtab.a,cd bindings/rust && cargo test --offline --quiet)
@@ -159,16 +219,13 @@ bindings-go:
 
 .PHONY: page page-test
 
-# The page in the browser, out/page/pidtab.html: the proved table as WebAssembly, and what is around it. It needs the crates below the
-# library for C, which `make lib` proves and builds. What the tools say is in out/page.log.
-page:
-	@command -v rt > /dev/null || { echo 'no page without the compiler, whose command is rt' >&2; exit 1; }
-	@mkdir -p out
+# The proved table as WebAssembly, and what is around it, over the crates below the library for C. What the tools say is in out/page.log.
+page: lib ## * builds the page in the browser, out/page/pidtab.html, and first what `make lib` does
 	@{ page/wasm/build && page/build; } > out/page.log 2>&1 || { echo 'make page failed: see out/page.log' >&2; exit 1; }
 	@echo out/page/pidtab.html
 
-# The tests of the page: its script, the built module, and the page in a headless Chromium. What is missing is told, and skipped.
-page-test:
+# Its script, the built module, and the page in a headless Chromium. What is missing is told, and skipped.
+page-test: ## tests the page; what is not there is skipped with a word
 	@command -v node > /dev/null || { echo 'skipped: no node'; exit 0; }; \
 	mkdir -p out; node --test --test-reporter=tap page/tests/*.test.js > out/page-test.log 2>&1 \
 		|| { echo 'make page-test failed: see out/page-test.log' >&2; exit 1; }; \

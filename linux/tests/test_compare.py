@@ -88,7 +88,7 @@ class Compare(unittest.TestCase):
         command = [sys.executable, str(LINUX / "compare"), "--pidtab", "/nowhere/pidtab", os.devnull]
         done = subprocess.run(command, stdout=subprocess.PIPE, stderr=subprocess.PIPE, text=True, check=False)
         self.assertEqual(done.returncode, 2)
-        self.assertIn("make run", done.stderr)
+        self.assertIn("make build", done.stderr)
 
     def test_bad_words(self) -> None:
         for words in ([], ["--seeds", "3..1"], ["--seeds", "x"], ["--pid-max", "300", os.devnull]):
