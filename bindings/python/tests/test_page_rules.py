@@ -30,7 +30,7 @@ FAULTS = [
     ("docs/SECOND.md", "\n# Third\n", "docs/SECOND.md:14: a second title: Third"),
     ("docs/SECOND.md", "\n#### Deep\n", "docs/SECOND.md:14: a level of headings is left out above: Deep"),
     ("docs/THIRD.md", "\n# Third\n", "docs/THIRD.md:1: the first line is not the title"),
-    ("docs/SECOND.md", "\nSee D12.\n", "docs/SECOND.md:14: a number of a paper: D12"),
+    ("docs/SECOND.md", "\nSee D12.\n", "docs/SECOND.md:14: a number that no page explains: D12"),
     ("docs/SECOND.md", "\n    cd /home/me/pidtab\n", "docs/SECOND.md:14: a path of one machine: /home/m"),
     ("README.md", "\nSay `make run` or `make walk`.\n", "README.md:7: no target of make: walk"),
     ("README.md", "\n```sh\nmake run\nmake walk  # slowly\n```\n", "README.md:9: no target of make: walk"),
