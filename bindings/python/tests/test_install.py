@@ -166,7 +166,7 @@ class Libraries(Installs):
         # Go 1.19 takes what pkg-config says apart at each space.
         prefix = self.folder / "prefix"
         self.place(prefix)
-        text = section(read_page("docs/LIBRARY.md"), "## From Go")
+        text = section(read_page("bindings/go/README.md"), "## Example")
         (code,), (printed,) = fenced(text, "go"), fenced(text, "text")
         (self.folder / "go").mkdir()
         # Go keeps what pkg-config has said, as long as its own flags are the same.

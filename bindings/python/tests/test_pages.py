@@ -21,11 +21,11 @@ EXAMPLES = [
     ("README.md", "### By a pipe", "sh"),
     ("README.md", "### From C", "c"),
     ("README.md", "### From Python", "python"),
-    ("docs/LIBRARY.md", "## From Python, by the program", "python"),
-    ("docs/LIBRARY.md", "## From Python, in its own process", "python"),
-    ("docs/LIBRARY.md", "## From C", "c"),
-    ("docs/LIBRARY.md", "## From Rust", "rust"),
-    ("docs/LIBRARY.md", "## From Go", "go"),
+    ("bindings/python/README.md", "## By the program", "python"),
+    ("bindings/python/README.md", "## In its own process", "python"),
+    ("bindings/c/README.md", "## Example", "c"),
+    ("bindings/rust/README.md", "## Example", "rust"),
+    ("bindings/go/README.md", "## Example", "go"),
 ]
 
 
@@ -43,14 +43,14 @@ class Examples(unittest.TestCase):
                 self.assertEqual(run_example(code, Path(folder)), printed)
 
     def test_all_of_the_pages_are_here(self) -> None:
-        for page in ("README.md", "docs/LIBRARY.md"):
+        for page in ("README.md", "docs/LIBRARY.md", *(f"bindings/{it}/README.md" for it in ("c", "go", "python", "rattle", "rust"))):
             for kind in ("sh", "c", "python", "rust", "go"):
                 here = [it for it in EXAMPLES if (it[0], it[2]) == (page, kind)]
                 self.assertEqual(len(fenced(read_page(page), kind)), len(here), (page, kind))
 
     def test_rattle(self) -> None:
         # The gate proves the crate, and compares what it prints with its stored run.
-        text = section(read_page("docs/LIBRARY.md"), "## From Rattle")
+        text = section(read_page("bindings/rattle/README.md"), "## Example")
         folder = REPOSITORY / "crates" / "demo_first"
         (code,), (printed,) = fenced(text, "rattle"), fenced(text, "text")
         self.assertEqual(code, (folder / "src" / "main.rt").read_text(encoding="utf-8"))
@@ -65,13 +65,13 @@ class Examples(unittest.TestCase):
 
     def test_python_by_the_program(self) -> None:
         need_program()
-        self.check("python", run_python, "by the program")
+        self.check("python", run_python, "## By the program")
         # The first page says that the other way answers the same.
         self.check("python", lambda code, folder: run_python(code.replace("pidtab.Table()", "pidtab.Process()"), folder), "### From Python")
 
     def test_python_in_its_own_process(self) -> None:
         need_library()
-        self.check("python", run_python, "in its own process")
+        self.check("python", run_python, "## In its own process")
         self.check("python", run_python, "### From Python")
 
     def test_c(self) -> None:

@@ -167,7 +167,7 @@ class Scripts(unittest.TestCase):
                 self.assertEqual(done.returncode, 0)
 
     def test_the_script_of_the_page(self) -> None:
-        (script,) = blocks(section(read_page("docs/LIBRARY.md"), "## At a prompt, and scripts for people"))
+        (script,) = blocks(section(read_page("bindings/python/README.md"), "## At a prompt, and scripts for people"))
         told = [line.partition("# ")[2] for line in script.splitlines()]
         answers = launch(script).stdout.splitlines()
         self.assertEqual(answers, ["child 2 root 2", "child 2 root 3", "3 2", "ok", "reaped 2 exit 7"])

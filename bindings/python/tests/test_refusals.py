@@ -45,11 +45,11 @@ class Page(unittest.TestCase):
 
 
 class Classes(unittest.TestCase):
-    """The table of docs/LIBRARY.md: which words have which class."""
+    """The table of bindings/python/README.md: which words have which class."""
 
     def test_each_word_has_its_errno_and_its_class(self) -> None:
         told = {word: (quoted(row[1])[0], quoted(row[2])[0])
-                for row in rows(section(read_page("docs/LIBRARY.md"), "## Refusals in Python")) for word in quoted(row[0])}  # fmt: skip
+                for row in rows(section(read_page("bindings/python/README.md"), "## Refusals")) for word in quoted(row[0])}  # fmt: skip
         wanted: dict[str, tuple[str, str]] = {}
         for _, _, answer, _, kind in CASES:
             name, word = answer.split(" ")[:2]

@@ -1,4 +1,4 @@
-//! The example of docs/LIBRARY.md.
+//! The example of README.md.
 use pidtab::{Error, Kind, Table, Which};
 
 fn main() -> Result<(), Error> {

@@ -1,4 +1,4 @@
-//! What the repository has in writing: the stored scripts with their answers, and the example of docs/LIBRARY.md.
+//! What the repository has in writing: the stored scripts with their answers, and the example of README.md.
 use pidtab::{LineError, Table};
 use std::path::{Path, PathBuf};
 use std::process::Command;
@@ -42,9 +42,9 @@ fn the_stored_scripts() {
     assert_eq!(told.len(), read("crates/demo_scripts/stdout").len());
 }
 
-/// The block of the kind in a section of docs/LIBRARY.md.
+/// The block of the kind in a section of README.md.
 fn block(title: &str, kind: &str) -> String {
-    let page = read("docs/LIBRARY.md");
+    let page = read("bindings/rust/README.md");
     let (_, section) = page.split_once(&format!("\n## {title}\n")).expect(title);
     let (_, behind) = section.split_once(&format!("```{kind}\n")).expect(kind);
     behind.split_once("```\n").expect("its end").0.to_owned()
@@ -61,11 +61,11 @@ fn example() -> PathBuf {
 fn the_example_of_the_page() {
     let code = read("bindings/rust/examples/containers.rs");
     let (_, code) = code.split_once('\n').expect("a head");
-    assert_eq!(code, block("From Rust", "rust"));
+    assert_eq!(code, block("Example", "rust"));
     let done = Command::new(example()).output().expect("the example");
     let said = String::from_utf8(done.stdout).expect("text");
     assert_eq!(
         (done.status.success(), said),
-        (true, block("From Rust", "text"))
+        (true, block("Example", "text"))
     );
 }
