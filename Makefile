@@ -63,6 +63,7 @@ test: ## * the gate: proves every crate from nothing, tries the edits that must 
 	$(need_rt)
 	@tools/architecture --check
 	@tools/pages --check
+	@tools/gate --check
 	rt ci
 	@$(MAKE) -s hostile
 

@@ -1,0 +1,161 @@
+"""What tools/gate measures and writes: the processes of a toolchain that proves nothing, and the table of a page."""
+
+import importlib.machinery
+import importlib.util
+import os
+import shutil
+import subprocess
+import sys
+import tempfile
+import unittest
+from pathlib import Path
+from types import ModuleType
+
+from tests.pages import REPOSITORY
+
+# It takes two processor seconds in the folder of a crate, and one in a folder as of an edit, and is looked at once more behind each.
+TOOLCHAIN = f"""\
+#!{sys.executable}
+import os, subprocess, sys
+BUSY = "import sys, time\\nwhile time.process_time() < float(sys.argv[1]): pass\\ntime.sleep(1.5)"
+os.makedirs("rt-edit-1-x", exist_ok=True)
+for folder, seconds in () if "STATUS" in os.environ else (("crates/low", "2"), ("rt-edit-1-x", "1")):
+    subprocess.run([sys.executable, "-c", BUSY, seconds, "--crate-name", "low"], cwd=folder, check=True)
+print(" ".join(sys.argv[1:]))
+print("3 passed, 0 failed")
+sys.exit(int(os.environ.get("STATUS", "0")))
+"""
+
+TABLE = "# cores: 2\n# wall: 120\n# processor: 180\n# closing: 3 passed, 0 failed\ncrate\tproofs\ttests\tedits\tnumber\nlow\t5\t1\t7\t1\ntop\t60\t\t\t0\n"
+
+PAGE = "# Gate\n\n<!-- This table is written by tools/gate. -->\n<!-- The end of the table. -->\n\nMore.\n"
+
+WRITTEN = """\
+# Gate
+
+<!-- This table is written by tools/gate. -->
+
+The whole took 2 minutes on 2 cores.
+It took 3 minutes of processor time.
+Its last line was `3 passed, 0 failed`.
+
+| Crate | Proofs | Tests | Edits | Number of edits |
+|---|---|---|---|---|
+| `top` | 60 |  |  |  |
+| `low` | 5 | 1 | 7 | 1 |
+| all 2 | 65 | 1 | 7 | 1 |
+
+<!-- The end of the table. -->
+
+More.
+"""
+
+# The words of a command, its folder, and what it is about.
+COMMANDS = [
+    (["rattle", "build", "--crate-name", "low", "src/lib.rt", "-o", "/top/crates/low/out/rlib/low.rlib"], "/top/crates/low", "low", "proofs"),
+    (["rattle", "build", "--crate-name", "low", "src/lib.rt", "--test", "-o", "out/low_tests.o"], "/top/crates/low", "low", "tests"),
+    (["rattle", "check", "--crate-name", "low", "--incremental", "/tmp/rt-edits-12-ab/seed"], "/tmp/rt-edit-12-cd", "low", "edits"),
+    (["rattle", "check", "--crate-name", "low", "src/lib.rt"], "/tmp/rt-edit-12-cd", "low", "edits"),
+    (["clang", "-o", "out/low"], "/top/crates/low", "low", "proofs"),
+    (["/tmp/rt-run-12-ef/bin/low"], "/tmp/rt-run-12-ef/data", "low", "proofs"),
+    (["/tmp/rt-run-12-ef/bin/low_tests"], "/tmp/rt-run-12-ef/data", "low", "tests"),
+    (["python3", "/usr/bin/rt", "ci"], "/top", "", "proofs"),
+]
+
+
+def load_gate() -> ModuleType:
+    """The script as a module."""
+    loader = importlib.machinery.SourceFileLoader("gate", str(REPOSITORY / "tools" / "gate"))
+    spec = importlib.util.spec_from_loader("gate", loader)
+    assert spec is not None
+    module = importlib.util.module_from_spec(spec)
+    writes, sys.dont_write_bytecode = sys.dont_write_bytecode, True
+    loader.exec_module(module)
+    sys.dont_write_bytecode = writes
+    return module
+
+
+class Commands(unittest.TestCase):
+    """What a process of the gate is about."""
+
+    def test_each(self) -> None:
+        gate = load_gate()
+        for words, folder, crate, kind in COMMANDS:
+            with self.subTest(words):
+                self.assertEqual((gate.crate_of(words, folder), gate.kind_of(words, folder)), (crate, kind))
+
+    def test_the_line_of_a_process(self) -> None:
+        # proc_pid_stat(5): fields 4, 22, and 14 with 15, behind a name that has spaces and parentheses.
+        line = "7 (a b) c) S 3 1 1 0 -1 0 0 0 0 0 200 100 9 9 20 0 1 0 4242 0"
+        self.assertEqual(load_gate().parse_stat(line), (3, 4242, 300 / os.sysconf("SC_CLK_TCK")))
+
+
+class Checkout(unittest.TestCase):
+    """A checkout with two crates, of which one has an edit."""
+
+    def setUp(self) -> None:
+        folder = tempfile.TemporaryDirectory()
+        self.addCleanup(folder.cleanup)
+        self.top = Path(folder.name)
+        for name in ("tools", "docs", "bin", "crates/low/src", "crates/low/must-fail", "crates/top/src"):
+            (self.top / name).mkdir(parents=True)
+        (self.top / "crates/low/must-fail/one.edit").touch()
+        shutil.copy(REPOSITORY / "tools" / "gate", self.top / "tools")
+        tool = self.top / "bin" / "rt"
+        tool.write_text(TOOLCHAIN)
+        tool.chmod(0o755)
+        self.page, self.table = self.top / "docs" / "GATE.md", self.top / "docs" / "gate.tsv"
+        self.page.write_text(PAGE)
+        self.table.write_text(TABLE)
+
+    def run_gate(self, *words: str, **variables: str) -> tuple[int, str, str]:
+        """The status of the script, and what it writes."""
+        known = {**os.environ, "PATH": f"{self.top / 'bin'}:{os.environ['PATH']}", **variables}
+        done = subprocess.run([sys.executable, "-B", self.top / "tools" / "gate", *words], env=known, capture_output=True, text=True, check=False)
+        return done.returncode, done.stdout, done.stderr
+
+    def test_the_page_of_the_repository(self) -> None:
+        done = subprocess.run([sys.executable, "-B", REPOSITORY / "tools" / "gate", "--check"], capture_output=True, text=True, check=False)
+        self.assertEqual((done.returncode, done.stderr), (0, ""))
+
+    def test_write_and_check(self) -> None:
+        self.assertEqual(self.run_gate("--check")[0], 1)
+        self.assertEqual(self.run_gate("write"), (0, "", ""))
+        self.assertEqual(self.page.read_text(), WRITTEN)
+        self.assertEqual(self.run_gate("--check"), (0, "", ""))
+
+    def test_one_edit_more(self) -> None:
+        self.run_gate("write")
+        (self.top / "crates/low/must-fail/two.edit").touch()
+        status, _, said = self.run_gate("--check")
+        self.assertEqual((status, said.count("\n")), (1, 1))
+        self.run_gate("write")
+        self.assertIn("| `low` | 5\\* | 1\\* | 7\\* | 2 |\n", self.page.read_text())
+
+    def test_measure(self) -> None:
+        self.assertEqual(self.run_gate("measure"), (0, "3 passed, 0 failed\n", ""))
+        facts = self.table.read_text().splitlines()
+        self.assertEqual(facts[0], f"# cores: {os.cpu_count()}")
+        self.assertGreaterEqual(int(facts[2].removeprefix("# processor: ")), 3)
+        self.assertEqual(facts[3:], ["# closing: 3 passed, 0 failed", "crate\tproofs\ttests\tedits\tnumber", "low\t2\t\t1\t1"])
+        self.assertEqual((self.top / "out/gate.log").read_text().splitlines()[0], "ci --anew")
+
+    def test_measure_one(self) -> None:
+        self.assertEqual(self.run_gate("measure", "low")[0], 0)
+        self.assertEqual(self.table.read_text(), TABLE.replace("low\t5\t1\t7\t1", "low\t2\t\t1\t1"))
+        self.assertEqual((self.top / "out/gate.log").read_text().splitlines()[0], "ci --anew low")
+
+    def test_a_gate_that_fails(self) -> None:
+        status, _, said = self.run_gate("measure", STATUS="1")
+        self.assertEqual((status, self.table.read_text()), (1, TABLE))
+        self.assertIn("rt ci ended with status 1", said)
+
+    def test_the_words_of_the_command_line(self) -> None:
+        self.assertEqual(self.run_gate("measure", "none"), (2, "", "tools/gate: no crate none\n"))
+        for words in ((), ("check",), ("write", "low")):
+            status, _, said = self.run_gate(*words)
+            self.assertEqual((status, said.splitlines()[0]), (2, "What the gate costs, by crate: measures it, and writes the table of docs/GATE.md."))
+
+
+if __name__ == "__main__":
+    unittest.main()
