@@ -38,6 +38,10 @@ FAULTS = [
     ("README.md", f"\n- An item,\n  {LONG}\n- Another.\n", f"README.md:7: a sentence of 33 words, above 30: An item, {LONG[:51]}"),
     ("README.md", f"\n| a | b |\n|---|---|\n| c | {LONG}|\n", "README.md:9: a sentence of 31 words, above 30: " + LONG[:60]),
     ("README.md", "\nA page tells it.\n", "README.md:7: not a plain word: tells"),
+    ("docs/MODEL.md", f"# Model\n\n{LONG}\n", "docs/MODEL.md:3: a sentence of 31 words, above 30: " + LONG[:60]),
+    ("docs/MODEL.md", f"# Model\n\n- An item,\n  {LONG}\n", f"docs/MODEL.md:3: a sentence of 33 words, above 30: An item, {LONG[:51]}"),
+    ("docs/MODEL.md", "# Model\n\nIt stands here.\n", "docs/MODEL.md:3: not a plain word: stands"),
+    ("docs/SECOND.md", "\nMeasured on 2026-11-24.\n", "docs/SECOND.md:14: a date: 2026-11-24"),
     ("README.md", "\n" * 126, "README.md:131: 131 lines, above 130"),
     ("README.md", "\n    " + "x" * 7000 + "\n", f"README.md:7: {len(PAGES['README.md']) + 7006} bytes, above 7000"),
 ]
@@ -49,6 +53,9 @@ GOOD = [
     ("README.md", "\nIt writes `pidtab tells`, and " + "`two words` " * 20 + "\n"),
     ("README.md", f"\n| a | b |\n|---|---|\n| {LONG[:75]} | {LONG[:75]} |\n"),
     ("docs/SECOND.md", f"\n{LONG} tells\n"),
+    ("docs/MODEL.md", f"# Model\n\n<!-- {LONG} -->\n\n| a | b |\n|---|---|\n| c | {LONG} tells |\n\nShort.\n"),
+    ("docs/SECOND.md", "\n    touch -d 2026-11-24 file\n"),
+    ("README.md", "\nSince 2026-11-24.\n"),
     ("docs/SECOND.md", "\n    make run\n\nThe commands `make -C low all` and `make PREFIX=/opt run`\nmake much.\n"),
     ("docs/SECOND.md", "\nSee /usr/local/bin, /proc and 2D12.\n"),
 ]
