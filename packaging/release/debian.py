@@ -78,7 +78,7 @@ def copyright_of(maker):
 
 def changelog_of(maker):
     """The changes of this version in the form of Debian."""
-    wrapped = [textwrap.fill(it, 78, initial_indent="  * ", subsequent_indent="    ") for it in maker.source.changes()]
+    wrapped = [textwrap.fill(it, 78, initial_indent="  * ", subsequent_indent="    ") for it in maker.source.changes(maker.source.version)]
     head = f"pidtab ({maker.source.version}) unstable; urgency=medium"
     foot = f" -- {MAINTAINER}  {formatdate(maker.source.time, localtime=False).replace('-0000', '+0000')}"
     return "\n\n".join([head, "\n".join(wrapped), foot]) + "\n"

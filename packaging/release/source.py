@@ -38,10 +38,10 @@ class Source:
         """The names of what users read: the pages with their pictures, and the examples."""
         return [it for it in self.names if it.startswith(("docs/", "examples/")) or re.fullmatch(r"[A-Z]+\.md|(?!\.).*/README\.md", it)]
 
-    def changes(self):
-        """What the change log says of this version, an entry each."""
-        found = re.search(rf"^## \[{re.escape(self.version)}\].*\n((?:(?!## ).*\n?)*)", self.read("CHANGELOG.md"), re.MULTILINE)
+    def changes(self, version):
+        """What the change log says of a version, an entry each."""
+        found = re.search(rf"^## \[{re.escape(version)}\].*\n((?:(?!## ).*\n?)*)", self.read("CHANGELOG.md"), re.MULTILINE)
         if not found:
-            raise Fault(f"CHANGELOG.md has no version {self.version}")
+            raise Fault(f"CHANGELOG.md has no version {version}")
         entries = re.findall(r"^- (.*(?:\n  .*)*)", found[1], re.MULTILINE)
         return [re.sub(r"\[([^\]]*)\]\([^)]*\)", r"\1", " ".join(it.split())).replace("`", "") for it in entries]
