@@ -1,6 +1,6 @@
 # What a person does with this repository. `make` alone shows the targets with a line `target: ## what it does`.
 
-.PHONY: help run build list work try check test hostile linux loads clean
+.PHONY: help run build list work try check test gate hostile linux loads clean
 
 # Shows what there is to make.
 help: ## shows this
@@ -58,9 +58,13 @@ check: ## * runs all tests and worked scripts on builds that are not proved (up 
 	$(need_rt)
 	@tools/check $(CHECK)
 
-# The gate. The last part is hostile to the programs that were built.
+# What it says at its end is in out/gate.txt, with the commit and the sum of the program.
 test: ## * the gate: proves every crate from nothing, tries the edits that must be refused, runs the tests (about an hour)
 	$(need_rt)
+	@tools/report out/gate.txt crates/pidtab/out/pidtab -- $(MAKE) --no-print-directory gate
+
+# The steps of the gate. The last part is hostile to the programs that were built.
+gate:
 	@tools/architecture --check
 	@tools/pages --check
 	@tools/gate --check
@@ -142,6 +146,16 @@ uninstall: ## removes what both have installed, with the same variables
 	rm -f $(call MANUALS,1) $(call MANUALS,3) $(call MANUALS,5) $(FUNCTIONS:%='$(DESTDIR)$(MANDIR)/man3/%.3')
 	rm -rf '$(DESTDIR)$(PYTHONDIR)/pidtab' '$(SHARED_FILES)'
 
+.PHONY: dist dist-test
+
+# FORCE=1 makes a release of what is not proved, which says so.
+DIST = --program '$(PIDTAB)' $(if $(FORCE),--force)
+dist: ## makes a release in out/dist of what `make test` and `make lib` have proved: a tarball, packages, a wheel, a crate and a module
+	@packaging/dist $(DIST)
+
+dist-test: ## installs each part of out/dist without a network, and uses it; what the machine lacks is skipped with a word
+	@packaging/dist-test $(DIST)
+
 .PHONY: lib
 
 # The library is made of the archive that the checker proves and builds; its parts are in bindings/c. What the tools say is in out/lib.log and out/link.log.
@@ -159,6 +173,7 @@ lib: ## * proves and builds the library for C, with its header, in out/ (some 40
 	@ln -sf libpidtab.so.1 out/libpidtab.so
 	@cp bindings/c/pidtab.h out
 	@$(describe) > out/pidtab.pc
+	@tools/report out/library.txt out/libpidtab.a out/libpidtab.so.1
 
 # The proved functions by other names, under which guard.c calls them.
 out/proved.a: $(LIBRARY) bindings/c/renamed.syms
@@ -223,6 +238,7 @@ bindings-go:
 # The proved table as WebAssembly, and what is around it, over the crates below the library for C. What the tools say is in out/page.log.
 page: lib ## * builds the page in the browser, out/page/pidtab.html, and first what `make lib` does
 	@{ page/wasm/build && page/build; } > out/page.log 2>&1 || { echo 'make page failed: see out/page.log' >&2; exit 1; }
+	@tools/report out/page.txt out/page/pidtab.html
 	@echo out/page/pidtab.html
 
 # Its script, the built module, and the page in a headless Chromium. What is missing is told, and skipped.

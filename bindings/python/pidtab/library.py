@@ -6,12 +6,14 @@ import os
 import sys
 
 from pidtab.faults import LibraryFault, LibraryMissing
-from pidtab.places import PREFIX, REPOSITORY
+from pidtab.places import HERE, PREFIX, REPOSITORY
 from pidtab.raw import FUNCTIONS, VERSION
 
 # Interfaces that would not fit together have other names.
 SONAME = "libpidtab.so.1"
 
+# In a wheel the library is in the package.
+PACKED_LIBRARY = HERE / SONAME
 BUILT_LIBRARY = REPOSITORY / "out" / "libpidtab.so"
 INSTALLED_LIBRARY = PREFIX / "lib" / SONAME
 
@@ -19,11 +21,11 @@ ADVICE = "build it with `make lib`, or name it by the variable PIDTAB_LIBRARY"
 
 
 def find_library(named: str | os.PathLike[str] | None = None) -> str:
-    """The library that is named, or that of the variable PIDTAB_LIBRARY; else what `make lib` builds, what is installed, or what the loader finds."""
+    """The library that is named, or that of the variable PIDTAB_LIBRARY; else that of a wheel, what `make lib` builds, what is installed, or what the loader finds."""
     wanted = os.fspath(named or os.environ.get("PIDTAB_LIBRARY") or "")
     if wanted and not os.path.isfile(wanted):
         raise LibraryMissing(f"no library {wanted}: {ADVICE}")
-    places = [wanted, str(BUILT_LIBRARY), str(INSTALLED_LIBRARY)]
+    places = [wanted, str(PACKED_LIBRARY), str(BUILT_LIBRARY), str(INSTALLED_LIBRARY)]
     found = next(filter(os.path.isfile, places), None)
     return SONAME if found is None else os.path.abspath(found)
 

@@ -30,6 +30,7 @@ FAULTS = [
     ("docs/SECOND.md", "\n# Third\n", "docs/SECOND.md:14: a second title: Third"),
     ("docs/SECOND.md", "\n#### Deep\n", "docs/SECOND.md:14: a level of headings is left out above: Deep"),
     ("docs/THIRD.md", "\n# Third\n", "docs/THIRD.md:1: the first line is not the title"),
+    (".github/FAULT.md", "---\nname: A fault\n---\n\nSay `make walk`.\n", ".github/FAULT.md:5: no target of make: walk"),
     ("docs/SECOND.md", "\nSee D12.\n", "docs/SECOND.md:14: a number that no page explains: D12"),
     ("docs/SECOND.md", "\n    cd /home/me/pidtab\n", "docs/SECOND.md:14: a path of one machine: /home/m"),
     ("README.md", "\nSay `make run` or `make walk`.\n", "README.md:7: no target of make: walk"),
@@ -58,6 +59,7 @@ GOOD = [
     ("README.md", "\nSince 2026-11-24.\n"),
     ("docs/SECOND.md", "\n    make run\n\nThe commands `make -C low all` and `make PREFIX=/opt run`\nmake much.\n"),
     ("docs/SECOND.md", "\nSee /usr/local/bin, /proc and 2D12.\n"),
+    (".github/FAULT.md", "---\nname: A fault\n---\n\nSay `make run`.\n"),
 ]
 
 

@@ -1,0 +1,106 @@
+"""What was built, and what shows that it was proved."""
+
+import dataclasses
+import os
+import pathlib
+import re
+
+from release import elf
+from release.faults import Fault, run
+from release.files import sha256
+
+ARCHIVE, SHARED = "libpidtab.a", "libpidtab.so.1"
+
+
+def read_report(file, target):
+    """A report of tools/report: its commit, whether all was committed, and the sums of files by their names."""
+    if not file.is_file():
+        raise Fault(f"no {file}: `make {target}` writes it")
+    # Behind an empty line is what the proof said.
+    text = file.read_text(encoding="utf-8").split("\n\n")[0]
+    commit, tree = (re.search(rf"^{it} (\S+)$", text, re.MULTILINE) for it in ("commit", "tree"))
+    if not commit or not tree:
+        raise Fault(f"{file} is no report of tools/report")
+    sums = dict((pathlib.Path(name).name, found) for found, name in re.findall(r"^sha256 (\S+) (\S+)$", text, re.MULTILINE))
+    return commit[1], tree[1], sums
+
+
+def check_report(file, target, commit, wanted):
+    """Finds that a report is of this commit, and that the built files are those of the report."""
+    proved, tree, sums = read_report(file, target)
+    if proved != commit:
+        raise Fault(f"{file} is of the commit {proved}, and this is {commit}: run `make {target}`")
+    if tree != "clean":
+        raise Fault(f"{file} is of a tree with changes that are not committed: commit them and run `make {target}`")
+    for path in wanted:
+        if sums.get(path.name) != sha256(path.read_bytes()):
+            raise Fault(f"{path} is not the file of {file}: run `make {target}`")
+
+
+def check_headers(source, library):
+    """Finds that the headers beside the library are those of this commit."""
+    for header in sorted(library.glob("*.h")):
+        wanted = source.folder / "bindings/c" / header.name
+        if not wanted.is_file() or wanted.read_bytes() != header.read_bytes():
+            raise Fault(f"{header} is not that of this commit: run `make lib`")
+
+
+@dataclasses.dataclass
+class Built:
+    """The program, the folder of the library, the page if there is one, and the text of GATE.txt."""
+
+    program: pathlib.Path
+    library: pathlib.Path
+    page: pathlib.Path | None
+    gate: str
+
+    @classmethod
+    def find(cls, source, given):
+        """What was built of a source, or a fault."""
+        program, library = given.program.resolve(), given.library.resolve()
+        libraries = [library / ARCHIVE, library / SHARED]
+        for path, target in ((program, "test"), (libraries[0], "lib"), (libraries[1], "lib")):
+            if not path.is_file():
+                raise Fault(f"no {path}: `make {target}` builds it")
+        check_headers(source, library)
+        page = given.page.resolve() if given.page.is_file() else None
+        reports = [("gate.txt", "test", [program]), ("library.txt", "lib", libraries)]
+        reports += [("page.txt", "page", [page])] if page else []
+        return cls(program, library, page, gate_text(source, given, reports))
+
+    @property
+    def shared(self):
+        return self.library / SHARED
+
+    def glibc(self):
+        """The least version of the C library that program and library need."""
+        return max(elf.glibc_needed(self.program), elf.glibc_needed(self.shared))
+
+    def packages(self):
+        """The packages of Debian that program and library need."""
+        others = elf.packages_needed(self.program) | elf.packages_needed(self.shared)
+        return ", ".join([f"libc6 (>= {'.'.join(map(str, self.glibc()))})", *sorted(others)])
+
+
+def gate_text(source, given, reports):
+    """The text of GATE.txt: the reports, or that nothing is proved."""
+    try:
+        for name, target, wanted in reports:
+            check_report(given.reports / name, target, source.commit, wanted)
+    except Fault as fault:
+        if not given.force:
+            raise Fault(f"{fault}; with FORCE=1 the release is made and says that it is not proved") from None
+        return f"not proved\n\ncommit {source.commit}\n"
+    texts = [(given.reports / name).read_text(encoding="utf-8") for name, _, _ in reports]
+    return "What was proved and built.\n\n" + "\n".join(texts)
+
+
+def install(source, built, folder, **variables):
+    """Does what `make install` does, below a folder."""
+    link = source.folder / "out"
+    link.unlink(missing_ok=True)
+    link.symlink_to(built.library)
+    # Without the flags of a make that runs this.
+    clean = {name: value for name, value in os.environ.items() if not name.startswith(("MAKE", "MFLAGS"))}
+    words = [f"{name}={value}" for name, value in {"DESTDIR": folder, "PIDTAB": built.program, **variables}.items()]
+    run(["make", "-s", "-C", source.folder, "install", *words], env=clean)

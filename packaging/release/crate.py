@@ -1,0 +1,25 @@
+"""The crate for Rust, as `cargo package` would lay it out: what needs nothing else of the repository."""
+
+import shutil
+
+from release.files import settle, write_tarball, write_text
+
+# Its tests compare it with the rest of the repository.
+LEFT_OUT = ("tests/",)
+
+
+def copy(source, folder, names, where):
+    """Copies files of a folder of the sources."""
+    for name in names:
+        (where / name).parent.mkdir(parents=True, exist_ok=True)
+        shutil.copyfile(source.folder / folder / name, where / name)
+
+
+def make(source, built, parts):
+    """Packs pidtab-VERSION.crate."""
+    name = f"pidtab-{source.version}"
+    stage = parts.parent / "crate"
+    copy(source, "bindings/rust", [it for it in source.below("bindings/rust") if not it.startswith(LEFT_OUT)], stage)
+    write_text(stage / "LICENSE", source.read("LICENSE"))
+    settle(stage, source.time)
+    write_tarball(parts / f"{name}.crate", stage, name, source.time)

@@ -1,0 +1,151 @@
+"""The Debian packages: what `make install` installs below /usr, in four parts. Their words are in packaging/debian."""
+
+import fnmatch
+import os
+import re
+import shutil
+import textwrap
+from email.utils import formatdate
+
+from release import elf
+from release.built import SHARED, install
+from release.faults import Fault, run
+from release.files import compress, files_below, settle, write_text
+from release.tarball import add_pages
+
+PACKAGES = ("pidtab", "libpidtab1", "libpidtab-dev", "python3-pidtab")
+# Whose documents are those for users.
+MAIN = "pidtab"
+MAINTAINER = "The pidtab authors <pidtab@example.org>"
+INTERPRETER = "#!/usr/bin/python3"
+FOLDERS = {"PREFIX": "/usr", "LIBDIR": "/usr/lib/x86_64-linux-gnu", "PYTHONDIR": "/usr/lib/python3/dist-packages"}
+# What `make install` installs and each package has in a place of its own.
+ELSEWHERE = ("usr/share/pidtab/LICENSE",)
+SCRIPTS = ("postinst", "prerm")
+
+
+class Maker:
+    """One release as packages."""
+
+    def __init__(self, source, built, work):
+        self.source, self.built, self.work = source, built, work
+        self.words = source.folder / "packaging/debian"
+        self.values = {"VERSION": source.version, "MAINTAINER": MAINTAINER, "NEEDED": built.packages()}
+
+    def filled(self, name, **more):
+        """The text of a file of packaging/debian with its values, and nothing where there is no such file."""
+        file = self.words / name
+        if not file.is_file():
+            return ""
+        return re.sub(r"@([A-Z]+)@", lambda it: {**self.values, **more}[it[1]], file.read_text(encoding="utf-8"))
+
+    def split(self):
+        """Installs, and gives each file to the one package whose patterns it has."""
+        stage = self.work / "all"
+        install(self.source, self.built, stage, **FOLDERS)
+        patterns = {name: self.filled(f"{name}.files").split() for name in PACKAGES}
+        for file in files_below(stage):
+            place = file.relative_to(stage)
+            owners = [name for name in PACKAGES if any(fnmatch.fnmatch(str(place), it) for it in patterns[name])]
+            if len(owners) != 1 and str(place) not in ELSEWHERE:
+                raise Fault(f"packaging/debian: {place} is in {' and '.join(owners) or 'no package'}")
+            for owner in owners:
+                target = self.work / owner / place
+                target.parent.mkdir(parents=True, exist_ok=True)
+                shutil.move(file, target)
+
+    def make_package(self, name, parts):
+        """Builds one package of its files."""
+        tree = self.work / name
+        for program in tree.glob("usr/bin/pidtab-*"):
+            program.write_text(re.sub(r"\A#!.*", INTERPRETER, program.read_text()))
+        add_documents(self, name, tree)
+        compress_manuals(tree)
+        add_control(self, name, tree)
+        settle(tree, self.source.time)
+        architecture = re.search(r"^Architecture: (.*)$", self.filled(f"{name}.control", SIZE=""), re.MULTILINE)[1]
+        file = parts / f"{name}_{self.source.version}_{architecture}.deb"
+        times = {**os.environ, "SOURCE_DATE_EPOCH": str(self.source.time)}
+        run(["dpkg-deb", "--root-owner-group", "-Zxz", "--threads-max=1", "--build", tree, file], env=times)
+
+
+def copyright_of(maker):
+    """The licence in the form of Debian."""
+    _, owner, text = maker.source.read("LICENSE").split("\n\n", 2)
+    licence = "\n".join(f" {it}" if it else " ." for it in text.strip().splitlines())
+    return maker.filled("copyright", COPYRIGHT=owner.strip().removeprefix("Copyright (c) "), LICENSE=licence)
+
+
+def changelog_of(maker):
+    """The changes of this version in the form of Debian."""
+    wrapped = [textwrap.fill(it, 78, initial_indent="  * ", subsequent_indent="    ") for it in maker.source.changes(maker.source.version)]
+    head = f"pidtab ({maker.source.version}) unstable; urgency=medium"
+    foot = f" -- {MAINTAINER}  {formatdate(maker.source.time, localtime=False).replace('-0000', '+0000')}"
+    return "\n\n".join([head, "\n".join(wrapped), foot]) + "\n"
+
+
+def overrides_of(name, tree):
+    """What lintian need not say: program and library are as the gate has built them, so that their sums are those of GATE.txt."""
+    lines = []
+    for file in files_below(tree):
+        kind = "" if file.is_symlink() else elf.kind_of(file)
+        if kind == "archive":
+            lines.append(f"{name}: static-library-has-unneeded-sections *")
+        if kind == "archive" and elf.has_section(file, ".debug_info"):
+            lines.append(f"{name}: unstripped-static-library *")
+        if kind == "object" and elf.has_section(file, ".symtab"):
+            lines.append(f"{name}: unstripped-binary-or-object [{file.relative_to(tree)}]")
+    return "".join(f"{it}\n" for it in lines)
+
+
+def add_documents(maker, name, tree):
+    """The licence, the changes and what shows the proof; with the main package, the pages for users."""
+    folder = tree / "usr/share/doc" / name
+    if name == MAIN:
+        add_pages(maker.source, maker.built, folder)
+    write_text(folder / "copyright", copyright_of(maker))
+    (folder / "changelog.gz").write_bytes(compress(changelog_of(maker).encode()))
+    write_text(folder / "GATE.txt", maker.built.gate)
+    overrides = overrides_of(name, tree)
+    if overrides:
+        write_text(tree / "usr/share/lintian/overrides" / name, overrides)
+
+
+def compress_manuals(tree):
+    """Packs the manual pages, as Debian has them."""
+    for page in tree.glob("usr/share/man/man*/*.[0-9]"):
+        (page.parent / f"{page.name}.gz").write_bytes(compress(page.read_bytes()))
+        page.unlink()
+
+
+def symbols_of(maker):
+    """Which version of the package has each symbol: this one at least."""
+    head = f"{SHARED} libpidtab1 #MINVER#\n* Build-Depends-Package: libpidtab-dev\n"
+    return head + "".join(f" {it} {maker.source.version}\n" for it in elf.exported(maker.built.shared))
+
+
+def add_control(maker, name, tree):
+    """The description of the package, its sums, its scripts, and what dpkg does with a library."""
+    folder = tree / "DEBIAN"
+    files = [it for it in files_below(tree) if not it.is_symlink()]
+    sums = [run(["md5sum", it]).decode().split()[0] for it in files]
+    write_text(folder / "md5sums", "".join(f"{found}  {it.relative_to(tree)}\n" for found, it in zip(sums, files)))
+    size = sum(-(-it.stat().st_size // 1024) for it in files)
+    write_text(folder / "control", maker.filled(f"{name}.control", SIZE=str(size)))
+    for it in ("triggers", "shlibs", *SCRIPTS):
+        text = maker.filled(f"{name}.{it}")
+        if text:
+            write_text(folder / it, text)
+            (folder / it).chmod(0o755 if it in SCRIPTS else 0o644)
+    if name == "libpidtab1":
+        write_text(folder / "symbols", symbols_of(maker))
+
+
+def make(source, built, parts):
+    """Builds the packages."""
+    work = parts.parent / "debian"
+    work.mkdir()
+    maker = Maker(source, built, work)
+    maker.split()
+    for name in PACKAGES:
+        maker.make_package(name, parts)
