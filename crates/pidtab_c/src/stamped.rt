@@ -2,6 +2,7 @@
 ghost use Rattle.std.specs.Prelude.{◌≡◌, ◌+◌, ◌↔◌, IfOk, OnOk, OnErr, Err, IsTrue};
 ghost use Rattle.pid_types.specs.State.{root_state};
 ghost use Rattle.pid_types.specs.Step.{may_grow};
+ghost use Rattle.kept_table.specs.Queries.{is_query};
 ghost use Rattle.pidtab_c.specs.Stamped.{IsInOrder, after_call, reply_to};
 ghost use Rattle.pidtab_c.specs.Listed.{list_of_state};
 
@@ -62,6 +63,19 @@ impl StampedTable {
         self.table.step(self.stamp, call, &mut reply)?;
         self.stamp += 1;
         Ok(reply)
+    }
+
+    /// Answers a query. It uses no stamp, and changes nothing.
+    pub(crate) fn ask(&mut self, call: Call) -> Reply
+        requires { IsTrue (is_query call) }
+        ensures same { self.new ≡ self.old }
+        ensures reply { result ≡ reply_to self.old call }
+    {
+        let mut reply = Reply::Done;
+        if self.table.step(self.stamp, call, &mut reply).is_err() {
+            unreachable!()
+        }
+        reply
     }
 
     /// The text of the list. The error is want of memory. Its contract tells what is true of a table between any two calls.

@@ -7,8 +7,14 @@ use pid_types::reply::CallFault;
 /// It was done.
 pub const DONE: u32 = 0;
 
+/// `ENOENT`: no entry with the ordinal is kept.
+pub const NOT_KEPT: u32 = 2;
+
 /// `EBADF`: there is no open table.
 pub const CLOSED: u32 = 9;
+
+/// `EAGAIN`: another number of calls was recorded by now.
+pub const AGAIN: u32 = 11;
 
 /// `ENOMEM`: there was no memory.
 pub const NO_MEMORY: u32 = 12;
