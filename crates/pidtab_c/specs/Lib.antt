@@ -7,3 +7,4 @@ pub mod Lines
 pub mod Records
 pub mod Entries
 pub mod Asked
+pub mod Replays

@@ -6,7 +6,7 @@ ghost use Rattle.kept_table.specs.Chronicle.{total, recorded, recorded_by_all, k
 ghost use Rattle.kept_table.specs.Promise.{KeepsPromise};
 ghost use Rattle.pidtab_c.specs.Entries.{IsEntry};
 ghost use Rattle.pidtab_c.specs.Listed.{list_of_state};
-ghost use Rattle.pidtab_c.specs.Records.{Has, Cuts};
+ghost use Rattle.pidtab_c.specs.Records.{Has, IsCut, Cuts};
 
 use crate::call_numbers::tell_call;
 use crate::numbers::{CallNumbers, ReplyNumbers, tell_reply};
@@ -133,6 +133,18 @@ pub extern "C" fn pidtab_record_entry(
     status
 }
 
+/// Cuts the record's history. The result is the status.
+fn cut_on(held: &mut Kept) -> u32
+    ensures done { result ≡ DONE → IsCut held.old held.new }
+    ensures not_done { result ≢ DONE → held.new ≡ held.old }
+    ensures statuses { (result ≡ DONE) ⊎ (result ≡ NO_MEMORY) }
+{
+    match held.checkpoint() {
+        Ok(()) => DONE,
+        Err(_) => NO_MEMORY,
+    }
+}
+
 /// Cuts the history: the present state becomes the opening, and no entry is kept. Stamps and ordinals go on.
 ///
 /// `CLOSED` where there is no open record; `NO_MEMORY`. It costs a copy of the whole table, or nothing where the history
@@ -147,12 +159,9 @@ pub extern "C" fn pidtab_record_checkpoint(alloc: Global, table: &mut PidtabReco
     let Some(mut held) = table.take(alloc) else {
         return CLOSED;
     };
-    let cut = held.checkpoint();
+    let status = cut_on(&mut held);
     table.put(held);
-    match cut {
-        Ok(()) => DONE,
-        Err(_) => NO_MEMORY,
-    }
+    status
 }
 
 /// Cuts the history as [`pidtab_record_checkpoint`] does, but only where exactly so many calls were recorded: so no
@@ -179,12 +188,9 @@ pub extern "C" fn pidtab_record_checkpoint_at(
         table.put(held);
         return AGAIN;
     }
-    let cut = held.checkpoint();
+    let status = cut_on(&mut held);
     table.put(held);
-    match cut {
-        Ok(()) => DONE,
-        Err(_) => NO_MEMORY,
-    }
+    status
 }
 
 /// The text of the present state's list. The error is want of memory.

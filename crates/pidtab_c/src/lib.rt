@@ -36,6 +36,7 @@ mod read;
 pub mod record;
 mod record_calls;
 mod record_handle;
+mod replay;
 pub mod stamped;
 pub mod status;
 mod texts;

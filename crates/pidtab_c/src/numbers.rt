@@ -57,7 +57,7 @@ pub struct CallNumbers {
 /// | 8 | `End` | |
 /// | 9 | `Refused` | `errno`, `refusal` its number, `first` the id of what refused |
 #[repr(C)]
-#[derive(Clone, Copy)]
+#[derive(Clone, Copy, PartialEq)]
 pub struct ReplyNumbers {
     pub kind: u32,
     pub errno: u32,

@@ -24,7 +24,7 @@ use pid_types::call::Call;
 use std::alloc::Global;
 
 /// Makes the worker's call on the record, and tells its place in the history. The result is the status.
-pub(crate) fn make_on(held: &mut Kept, worker: u32, made: Call, ordinal: &mut u64) -> u32
+pub(crate) fn make_on(held: &mut Kept, worker: usize, made: Call, ordinal: &mut u64) -> u32
     ensures done { result ≡ DONE → IsRecorded held.old worker made ordinal.new (Some held.new) }
     ensures reply { result ≡ DONE → last_reply held.new ≡ Some (outcome held.old made).reply }
     ensures not_done { result ≢ DONE → (roomless held.new ≡ roomless held.old) × (ordinal.new ≡ ordinal.old) }
@@ -33,7 +33,6 @@ pub(crate) fn make_on(held: &mut Kept, worker: u32, made: Call, ordinal: &mut u6
     ensures no_memory { result ≡ NO_MEMORY → 0 < held.old.room → IsTrue (may_grow made) }
     ensures statuses { (result ≡ DONE) ⊎ ((result ≡ OUT_OF_RANGE) ⊎ ((result ≡ SPENT) ⊎ (result ≡ NO_MEMORY))) }
 {
-    let worker = worker as usize;
     if worker >= held.workers() {
         return OUT_OF_RANGE;
     }
@@ -62,7 +61,7 @@ fn call_on(
     ensures no_memory { result ≡ NO_MEMORY → 0 < held.old.room → IsTrue (may_grow made) }
     ensures statuses { (result ≡ DONE) ⊎ ((result ≡ OUT_OF_RANGE) ⊎ ((result ≡ SPENT) ⊎ (result ≡ NO_MEMORY))) }
 {
-    let status = make_on(held, worker, made, ordinal);
+    let status = make_on(held, worker as usize, made, ordinal);
     if status != DONE {
         return status;
     }
@@ -141,7 +140,7 @@ fn line_on(
     ensures no_memory { result ≡ NO_MEMORY → 0 < held.old.room → IsTrue (may_grow made) }
     ensures statuses { (result ≡ DONE) ⊎ ((result ≡ OUT_OF_RANGE) ⊎ ((result ≡ SPENT) ⊎ (result ≡ NO_MEMORY))) }
 {
-    let status = make_on(held, worker, made, ordinal);
+    let status = make_on(held, worker as usize, made, ordinal);
     if status != DONE {
         return status;
     }

@@ -34,6 +34,9 @@ pub const EMPTY_LINE: u32 = 61;
 /// `EPROTO`: the line is no line of the table of calls.
 pub const BAD_LINE: u32 = 71;
 
+/// `EBADMSG`: a reply is not the saved one.
+pub const DIFFERS: u32 = 74;
+
 /// `EOVERFLOW`: the stamps are used up.
 pub const SPENT: u32 = 75;
 
