@@ -40,4 +40,5 @@ StopsBefore c saved place d = (place < length saved) × Replays (roomless c) (ta
 -- so had they, and the one at the place was made, had another reply, and is the last one made
 abbrev pub StopsAt : Chronicle → List EntryNumbers → ℕ → Chronicle → Type 0
 StopsAt c saved place d =
-    (m : Chronicle) × Replays (roomless c) (take place saved) m × Has (slice_get saved place) (λ n. IsOtherNow m n (roomless d))
+    (m : Chronicle) × Replays (roomless c) (take place saved) m
+    × Has (slice_get saved place) (λ n. IsOtherNow m n (roomless d))

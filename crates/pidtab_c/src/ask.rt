@@ -50,9 +50,9 @@ fn read_query(n: &CallNumbers) -> Option<Call>
 /// Answers the query that the numbers say, as the table's next call would be answered. It is no call: it uses no stamp,
 /// and changes nothing.
 ///
-/// `CLOSED` where there is no open table; then `OUT_OF_RANGE` where the numbers say no query, or what it takes is outside
-/// its range. It needs no memory, and is answered when the stamps are used up, too. A query that the table refuses is
-/// `DONE`: its reply says so.
+/// `CLOSED` where there is no open table; then `OUT_OF_RANGE` where the numbers say no query, or what it takes is
+/// outside its range. It needs no memory, and is answered when the stamps are used up, too. A query that the table
+/// refuses is `DONE`: its reply says so.
 #[unsafe(no_mangle)]
 pub extern "C" fn pidtab_ask(
     alloc: Global,

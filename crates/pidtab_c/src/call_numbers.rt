@@ -1,6 +1,7 @@
 //! A call as numbers, from which the call can be read again.
 ghost use Rattle.std.specs.Prelude.{◌≡◌, Some};
-ghost use Rattle.pidtab_c.specs.CallNumbers.{call_blank, call_numbers};
+ghost use Rattle.pid_types.specs.declared.call.Call.TheVariants as says;
+ghost use Rattle.pidtab_c.specs.CallNumbers.{call_blank, call_numbers, wait_numbers, limit_numbers};
 ghost use Rattle.pidtab_c.specs.Numbers.{call_of};
 
 use crate::numbers::CallNumbers;
@@ -42,6 +43,35 @@ fn identified(operation: u32, caller: u32, id: u64) -> CallNumbers
     }
 }
 
+/// A wait as numbers.
+#[tactic(auto, unfolding(crate::specs::Numbers::call_of))]
+fn tell_wait(caller: u32, which: Which) -> CallNumbers
+    ensures told { result ≡ wait_numbers caller which }
+    ensures back { call_of result ≡ Some (says.Wait caller which) }
+{
+    match which {
+        Which::Any => blank_call(5, caller),
+        Which::Pid(number) => numbered(5, caller, 1, number),
+        Which::OwnGroup => numbered(5, caller, 2, 0),
+        Which::Group(number) => numbered(5, caller, 3, number),
+    }
+}
+
+/// A limit, or none, as numbers.
+#[tactic(auto, unfolding(crate::specs::Numbers::call_of, crate::specs::Numbers::control_call_of))]
+fn tell_limit(id: u64, limit: Option<u32>) -> CallNumbers
+    ensures told { result ≡ limit_numbers id limit }
+    ensures back { call_of result ≡ Some (says.SetLimit id limit) }
+{
+    match limit {
+        None => identified(11, 0, id),
+        Some(number) => CallNumbers {
+            id,
+            ..numbered(11, 0, 1, number)
+        },
+    }
+}
+
 /// The call as numbers, which say that call.
 #[tactic(
     auto,
@@ -62,12 +92,7 @@ pub(crate) fn tell_call(call: &Call) -> CallNumbers
         Call::NsPid { caller, target } => numbered(2, caller, 0, target),
         Call::Exec { caller } => blank_call(3, caller),
         Call::Exit { caller, status } => numbered(4, caller, 0, u32::from(status)),
-        Call::Wait { caller, which } => match which {
-            Which::Any => blank_call(5, caller),
-            Which::Pid(number) => numbered(5, caller, 1, number),
-            Which::OwnGroup => numbered(5, caller, 2, 0),
-            Which::Group(number) => numbered(5, caller, 3, number),
-        },
+        Call::Wait { caller, which } => tell_wait(caller, which),
         Call::GetPpid { caller } => blank_call(6, caller),
         Call::SetPgid { caller, pid, pgid } => CallNumbers {
             pid,
@@ -77,13 +102,7 @@ pub(crate) fn tell_call(call: &Call) -> CallNumbers
         Call::SetSid { caller } => blank_call(8, caller),
         Call::MakeControl { parent } => identified(9, 0, parent),
         Call::RemoveControl { id } => identified(10, 0, id),
-        Call::SetLimit { id, limit } => match limit {
-            None => identified(11, 0, id),
-            Some(number) => CallNumbers {
-                id,
-                ..numbered(11, 0, 1, number)
-            },
-        },
+        Call::SetLimit { id, limit } => tell_limit(id, limit),
         Call::Move { task, id } => identified(12, task, id),
         Call::Count { id } => identified(13, 0, id),
         Call::GetPgid { caller, pid } => numbered(14, caller, 0, pid),

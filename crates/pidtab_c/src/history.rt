@@ -104,8 +104,8 @@ fn tell_entry(
 /// Tells the kept entry with the ordinal: whose call it was, the call and its reply, as numbers. What the call does not
 /// take is 0.
 ///
-/// `CLOSED` where there is no open record; then `NOT_KEPT` where the entry was cut away, or is not reached yet. It costs
-/// the same for each ordinal.
+/// `CLOSED` where there is no open record; then `NOT_KEPT` where the entry was cut away, or is not reached yet. It
+/// costs the same for each ordinal.
 #[unsafe(no_mangle)]
 pub extern "C" fn pidtab_record_entry(
     alloc: Global,
@@ -147,8 +147,8 @@ fn cut_on(held: &mut Kept) -> u32
 
 /// Cuts the history: the present state becomes the opening, and no entry is kept. Stamps and ordinals go on.
 ///
-/// `CLOSED` where there is no open record; `NO_MEMORY`. It costs a copy of the whole table, or nothing where the history
-/// is empty and no room is kept for entries.
+/// `CLOSED` where there is no open record; `NO_MEMORY`. It costs a copy of the whole table, or nothing where the
+/// history is empty and no room is kept for entries.
 #[unsafe(no_mangle)]
 pub extern "C" fn pidtab_record_checkpoint(alloc: Global, table: &mut PidtabRecord) -> u32
     ensures done { result ≡ DONE → Cuts table.old.handle.held table.new.handle.held }

@@ -1,12 +1,12 @@
 //! The table for C, in the user's own process: calls as lines of the script language, and their answers as text.
 //!
-//! A table has no history, so a long-lived process does not grow with its calls. C holds a [`Pidtab`], which is two words and
-//! begins as zeroes. A [`record::PidtabRecord`] is a table with its history, of as many words. No exported function asks anything
-//! of its caller but that the pointers are good, that no two of them overlap, and that one function at a time works on a table or
-//! a record.
+//! A table has no history, so a long-lived process does not grow with its calls. C holds a [`Pidtab`], which is two
+//! words and begins as zeroes. A [`record::PidtabRecord`] is a table with its history, of as many words. No exported
+//! function asks anything of its caller but that the pointers are good, that no two of them overlap, and that one
+//! function at a time works on a table or a record.
 //!
-//! Each function answers with a status, `DONE` or a number of Linux's errno. Any status but `DONE` says that the table is as it
-//! was. A function tests for its statuses in the order in which its comment names them.
+//! Each function answers with a status, `DONE` or a number of Linux's errno. Any status but `DONE` says that the table
+//! is as it was. A function tests for its statuses in the order in which its comment names them.
 #![tactic(auto)]
 
 ghost use Rattle.std.specs.Prelude.{◌≡◌, ◌≢◌, ◌<◌, ◌≤◌, ◌↔◌, ◌⊎◌, ℕ, IsSome, IsTrue, Option, Some, None, Err};
@@ -134,7 +134,8 @@ impl Pidtab {
 
 /// A new table on the heap. The error is want of memory.
 fn boxed_table(alloc: Global, config: &Config) -> Result<Box<StampedTable>, AllocError>
-    ensures { IfOk result (λ held. held.value ≡ record { state = root_state config.now.pid_max; stamp = config.now.first_stamp }) }
+    ensures { IfOk result (λ held.
+        held.value ≡ record { state = root_state config.now.pid_max; stamp = config.now.first_stamp }) }
 {
     let held = StampedTable::new(alloc, config)?;
     match Box::new(alloc, held) {
@@ -184,13 +185,13 @@ pub extern "C" fn pidtab_close(alloc: Global, table: &mut Pidtab)
     let _held = table.take(alloc);
 }
 
-/// Makes the call that is written on the line, and puts its answer at the front of the room, without a newline; `size` is the
-/// answer's length. The line is one of the script language, without its newline.
+/// Makes the call that is written on the line, and puts its answer at the front of the room, without a newline; `size`
+/// is the answer's length. The line is one of the script language, without its newline.
 ///
 /// `CLOSED` where there is no open table; then `EMPTY_LINE` for a line without bytes, which has no answer in a script
-/// either, and `BAD_LINE` for what is no line of the table of calls; then `NO_ROOM` where the room is shorter than the longest answer,
-/// 362 bytes, which `size` then is; then `SPENT` where the stamp of the call would be `u64::MAX`; `NO_MEMORY` for a `fork` or a
-/// `mk` that finds none. A call that the table refuses is `DONE`: its answer says so.
+/// either, and `BAD_LINE` for what is no line of the table of calls; then `NO_ROOM` where the room is shorter than the
+/// longest answer, 362 bytes, which `size` then is; then `SPENT` where the stamp of the call would be `u64::MAX`;
+/// `NO_MEMORY` for a `fork` or a `mk` that finds none. A call that the table refuses is `DONE`: its answer says so.
 #[unsafe(no_mangle)]
 pub extern "C" fn pidtab_line(
     alloc: Global,
@@ -213,7 +214,8 @@ pub extern "C" fn pidtab_line(
     ensures longest { result ≡ NO_ROOM → size.new ≡ LONGEST_ANSWER }
     ensures spent { (result ≡ SPENT) ↔ Has table.old.handle.held (λ s. s.stamp ≡ u64.MAX)
         × IsCall (parsed line.now) × (LONGEST_ANSWER ≤ length answer.old) }
-    ensures no_memory { result ≡ NO_MEMORY → (call : Call) × (parsed line.now ≡ says.Call call) × IsTrue (may_grow call) }
+    ensures no_memory { result ≡ NO_MEMORY
+        → (call : Call) × (parsed line.now ≡ says.Call call) × IsTrue (may_grow call) }
     ensures statuses { (result ≡ DONE) ⊎ ((result ≡ CLOSED) ⊎ ((result ≡ EMPTY_LINE) ⊎ ((result ≡ BAD_LINE)
         ⊎ ((result ≡ NO_ROOM) ⊎ ((result ≡ SPENT) ⊎ (result ≡ NO_MEMORY)))))) }
 {
@@ -241,8 +243,8 @@ pub extern "C" fn pidtab_line(
 /// Puts the list of the table at the front of the room, each line with its newline; `size` is the list's length.
 ///
 /// `CLOSED` where there is no open table; `NO_MEMORY`; `NO_ROOM` where the list is longer than the room, and then too
-/// `size` is the list's length. It costs a copy of the whole table, and the text. Its contract tells too what is true of a table
-/// between any two calls: its state is sound, and the ids in it are below the stamp of the next call.
+/// `size` is the list's length. It costs a copy of the whole table, and the text. Its contract tells too what is true
+/// of a table between any two calls: its state is sound, and the ids in it are below the stamp of the next call.
 #[unsafe(no_mangle)]
 pub extern "C" fn pidtab_list(
     alloc: Global,
@@ -256,7 +258,8 @@ pub extern "C" fn pidtab_list(
     ensures fits { result ≡ DONE → size.new ≤ length room.new }
     ensures behind { result ≡ DONE → drop size.new room.new ≡ drop size.new room.old }
     ensures not_done { result ≢ DONE → room.new ≡ room.old }
-    ensures size { (result ≡ DONE) ⊎ (result ≡ NO_ROOM) → IfSome table.old.handle.held (λ s. size.new ≡ length (list_of_state s.state)) }
+    ensures size { (result ≡ DONE) ⊎ (result ≡ NO_ROOM)
+        → IfSome table.old.handle.held (λ s. size.new ≡ length (list_of_state s.state)) }
     ensures same_size { (result ≡ CLOSED) ⊎ (result ≡ NO_MEMORY) → size.new ≡ size.old }
     ensures closed { (result ≡ CLOSED) ↔ (table.old.handle.held ≡ None) }
     ensures no_room { result ≡ NO_ROOM → length room.old < size.new }
@@ -273,9 +276,9 @@ pub extern "C" fn pidtab_list(
 
 /// Makes the call that the numbers say, and tells its reply as numbers.
 ///
-/// `CLOSED` where there is no open table; then `OUT_OF_RANGE` where the operation, or what it takes, is outside its range; then
-/// `SPENT` where the stamp of the call would be `u64::MAX`; `NO_MEMORY` for a fork or a new control group that finds none. A call
-/// that the table refuses is `DONE`: its reply says so.
+/// `CLOSED` where there is no open table; then `OUT_OF_RANGE` where the operation, or what it takes, is outside its
+/// range; then `SPENT` where the stamp of the call would be `u64::MAX`; `NO_MEMORY` for a fork or a new control group
+/// that finds none. A call that the table refuses is `DONE`: its reply says so.
 #[unsafe(no_mangle)]
 pub extern "C" fn pidtab_call(
     alloc: Global,
@@ -283,14 +286,16 @@ pub extern "C" fn pidtab_call(
     call: &CallNumbers,
     reply: &mut ReplyNumbers,
 ) -> u32
-    ensures done { result ≡ DONE → (made : Call) × (told : Reply) × (call_of call.now ≡ Some made) × Makes table.old.handle.held made told table.new.handle.held × (reply.new ≡ numbers_of told) }
+    ensures done { result ≡ DONE → (made : Call) × (told : Reply) × (call_of call.now ≡ Some made)
+        × Makes table.old.handle.held made told table.new.handle.held × (reply.new ≡ numbers_of told) }
     ensures not_done { result ≢ DONE → (table.new.handle.held ≡ table.old.handle.held) × (reply.new ≡ reply.old) }
     ensures closed { (result ≡ CLOSED) ↔ (table.old.handle.held ≡ None) }
     ensures out_of_range { (result ≡ OUT_OF_RANGE) ↔ IsSome table.old.handle.held × (call_of call.now ≡ None) }
     ensures spent { (result ≡ SPENT)
         ↔ Has table.old.handle.held (λ s. s.stamp ≡ u64.MAX) × IsSome (call_of call.now) }
     ensures no_memory { result ≡ NO_MEMORY → (made : Call) × (call_of call.now ≡ Some made) × IsTrue (may_grow made) }
-    ensures statuses { (result ≡ DONE) ⊎ ((result ≡ CLOSED) ⊎ ((result ≡ OUT_OF_RANGE) ⊎ ((result ≡ SPENT) ⊎ (result ≡ NO_MEMORY)))) }
+    ensures statuses { (result ≡ DONE) ⊎ ((result ≡ CLOSED) ⊎ ((result ≡ OUT_OF_RANGE)
+        ⊎ ((result ≡ SPENT) ⊎ (result ≡ NO_MEMORY)))) }
 {
     if !table.is_open {
         return CLOSED;

@@ -57,8 +57,9 @@ fn read_on(held: &Kept, from: u64, entries: &mut [EntryNumbers]) -> usize
 /// Writes the kept entries from the ordinal `from` on at the front of the room, in order: as many as there are, and as
 /// there is room for. `count` is how many. Entries of the room behind them stay as they are.
 ///
-/// `CLOSED` where there is no open record; then `NOT_KEPT` where the entry `from` was cut away, or more than the next one
-/// is not reached yet: `from` may be the ordinal of the next call, and then `count` is 0. It costs a copy of each entry.
+/// `CLOSED` where there is no open record; then `NOT_KEPT` where the entry `from` was cut away, or more than the next
+/// one is not reached yet: `from` may be the ordinal of the next call, and then `count` is 0. It costs a copy of each
+/// entry.
 #[unsafe(no_mangle)]
 pub extern "C" fn pidtab_record_read(
     alloc: Global,

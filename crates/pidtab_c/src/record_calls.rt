@@ -156,10 +156,10 @@ fn line_on(
 /// history. Bytes of the room behind the answer stay as they are. The line is one of the script language, without its
 /// newline.
 ///
-/// `CLOSED` where there is no open record; then `EMPTY_LINE` for a line without bytes, and `BAD_LINE` for what is no line
-/// of the table of calls; then `NO_ROOM` where the room is shorter than the longest answer, 362 bytes, which `size` then
-/// is; then `OUT_OF_RANGE` where there is no such worker; then `SPENT` and `NO_MEMORY` as [`pidtab_record_call`] has
-/// them. A call that the table refuses is `DONE`, and recorded.
+/// `CLOSED` where there is no open record; then `EMPTY_LINE` for a line without bytes, and `BAD_LINE` for what is no
+/// line of the table of calls; then `NO_ROOM` where the room is shorter than the longest answer, 362 bytes, which
+/// `size` then is; then `OUT_OF_RANGE` where there is no such worker; then `SPENT` and `NO_MEMORY` as
+/// [`pidtab_record_call`] has them. A call that the table refuses is `DONE`, and recorded.
 #[unsafe(no_mangle)]
 pub extern "C" fn pidtab_record_line(
     alloc: Global,

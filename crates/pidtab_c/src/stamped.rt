@@ -35,7 +35,8 @@ impl Model for StampedTable {
 impl StampedTable {
     /// A table with the root init alone. The error is want of memory.
     pub(crate) fn new(alloc: Global, config: &Config) -> Result<StampedTable, AllocError>
-        ensures { IfOk result (λ s. s ≡ record { state = root_state config.now.pid_max; stamp = config.now.first_stamp }) }
+        ensures { IfOk result (λ s.
+            s ≡ record { state = root_state config.now.pid_max; stamp = config.now.first_stamp }) }
     {
         root_state_is_sound();
         prove!(config.first_stamp() > 0);
@@ -46,8 +47,8 @@ impl StampedTable {
         })
     }
 
-    /// Makes the call. An error says that the table is as it was: the stamps are used up, or there was no memory for a call
-    /// that makes something.
+    /// Makes the call. An error says that the table is as it was: the stamps are used up, or there was no memory for a
+    /// call that makes something.
     pub(crate) fn make(&mut self, call: Call) -> Result<Reply, CallFault>
         ensures state { OnOk result (self.new ≡ after_call self.old call) }
         ensures reply { IfOk result (λ reply. reply ≡ reply_to self.old call) }
@@ -78,7 +79,8 @@ impl StampedTable {
         reply
     }
 
-    /// The text of the list. The error is want of memory. Its contract tells what is true of a table between any two calls.
+    /// The text of the list. The error is want of memory. Its contract tells what is true of a table between any two
+    /// calls.
     pub(crate) fn list(&self, alloc: Global) -> Result<Vec<u8>, AllocError>
         ensures text { IfOk result (λ text. text.items ≡ list_of_state self.now.state) }
         ensures sound { IsInOrder self.now }
