@@ -134,7 +134,7 @@ install-library: ## installs the library alone, with its header and its manual p
 	$(INSTALL) -d '$(DESTDIR)$(LIBDIR)/pkgconfig' '$(DESTDIR)$(INCLUDEDIR)' '$(DESTDIR)$(MANDIR)/man3'
 	$(INSTALL) -m 644 out/libpidtab.a out/libpidtab.so.1 '$(DESTDIR)$(LIBDIR)'
 	ln -sf libpidtab.so.1 '$(DESTDIR)$(LIBDIR)/libpidtab.so'
-	$(INSTALL) -m 644 out/pidtab.h '$(DESTDIR)$(INCLUDEDIR)'
+	$(INSTALL) -m 644 out/pidtab.h out/pidtab_shared.h '$(DESTDIR)$(INCLUDEDIR)'
 	$(describe) > '$(DESTDIR)$(LIBDIR)/pkgconfig/pidtab.pc'
 	$(INSTALL) -m 644 man/*.3 '$(DESTDIR)$(MANDIR)/man3'
 	for it in $(FUNCTIONS); do echo '.so man3/pidtab.3' > '$(DESTDIR)$(MANDIR)/man3/'$$it.3 || exit 1; done
@@ -142,7 +142,7 @@ install-library: ## installs the library alone, with its header and its manual p
 uninstall: ## removes what both have installed, with the same variables
 	rm -f '$(BINARIES)/pidtab' $(PROGRAMS:%='$(BINARIES)/%')
 	rm -f '$(DESTDIR)$(LIBDIR)/libpidtab.a' '$(DESTDIR)$(LIBDIR)/libpidtab.so' '$(DESTDIR)$(LIBDIR)/libpidtab.so.1'
-	rm -f '$(DESTDIR)$(LIBDIR)/pkgconfig/pidtab.pc' '$(DESTDIR)$(INCLUDEDIR)/pidtab.h'
+	rm -f '$(DESTDIR)$(LIBDIR)/pkgconfig/pidtab.pc' '$(DESTDIR)$(INCLUDEDIR)/pidtab.h' '$(DESTDIR)$(INCLUDEDIR)/pidtab_shared.h'
 	rm -f $(call MANUALS,1) $(call MANUALS,3) $(call MANUALS,5) $(FUNCTIONS:%='$(DESTDIR)$(MANDIR)/man3/%.3')
 	rm -rf '$(DESTDIR)$(PYTHONDIR)/pidtab' '$(SHARED_FILES)'
 
@@ -171,19 +171,19 @@ lib: ## * proves and builds the library for C, with its header, in out/ (some 40
 	@tools/prove pidtab_c out/lib.log rt lib || { echo 'make lib failed: see out/lib.log' >&2; exit 1; }
 	@$(MAKE) -s out/libpidtab.a out/libpidtab.so.1 > out/link.log 2>&1 || { echo 'make lib failed: see out/link.log' >&2; exit 1; }
 	@ln -sf libpidtab.so.1 out/libpidtab.so
-	@cp bindings/c/pidtab.h out
+	@cp bindings/c/pidtab.h bindings/c/pidtab_shared.h out
 	@$(describe) > out/pidtab.pc
 	@tools/report out/library.txt out/libpidtab.a out/libpidtab.so.1
 
-# The proved functions by other names, under which guard.c calls them.
+# The proved functions by other names, under which guard.c and guard_record.c call them.
 out/proved.a: $(LIBRARY) bindings/c/renamed.syms
 	$(OBJCOPY) --redefine-syms=bindings/c/renamed.syms $(LIBRARY) $@
 
 # One object, of whose symbols only pidtab_.. are seen.
-out/pidtab.o: out/proved.a bindings/c/heap.c bindings/c/guard.c bindings/c/pidtab.h
-	$(CC) -std=c11 -O2 -Wall -Wextra -Werror -fPIC -c -o out/heap.o bindings/c/heap.c
-	$(CC) -std=c11 -O2 -Wall -Wextra -Werror -fPIC -c -o out/guard.o bindings/c/guard.c
-	$(LD) -r -o $@ --whole-archive out/proved.a --no-whole-archive out/heap.o out/guard.o
+AROUND = heap guard guard_record shared
+out/pidtab.o: out/proved.a $(AROUND:%=bindings/c/%.c) bindings/c/pidtab.h bindings/c/pidtab_shared.h
+	for it in $(AROUND); do $(CC) -std=c11 -O2 -Wall -Wextra -Werror -fPIC -pthread -c -o out/$$it.o bindings/c/$$it.c || exit 1; done
+	$(LD) -r -o $@ --whole-archive out/proved.a --no-whole-archive $(AROUND:%=out/%.o)
 	$(OBJCOPY) -w --keep-global-symbol='pidtab_*' $@
 
 out/libpidtab.a: out/pidtab.o
@@ -191,7 +191,7 @@ out/libpidtab.a: out/pidtab.o
 	$(AR) rcs $@ out/pidtab.o
 
 out/libpidtab.so.1: out/pidtab.o bindings/c/pidtab.map
-	$(CC) -shared -Wl,-soname,libpidtab.so.1 -Wl,--version-script=bindings/c/pidtab.map -Wl,-z,noexecstack -o $@ out/pidtab.o
+	$(CC) -shared -pthread -Wl,-soname,libpidtab.so.1 -Wl,--version-script=bindings/c/pidtab.map -Wl,-z,noexecstack -o $@ out/pidtab.o
 
 .PHONY: bindings bindings-python bindings-c bindings-rust bindings-go
 
@@ -216,14 +216,19 @@ bindings-python:
 
 # From C, under the sanitizers for addresses and undefined behaviour, and under that for threads.
 HELD = -Dmalloc=test_malloc -Drealloc=test_realloc
+RECORD_TEST = test_record guard guard_record
+SHARED_TEST = test_shared shared guard guard_record heap
 bindings-c:
 	$(call tested,$(firstword $(CC)),$(LIBRARY),\
 		bindings/c/test_names && $(MAKE) -s out/proved.a && \
 		$(CC) $(CHECKED) $(HELD) -c -o out/test_heap.o bindings/c/heap.c && \
 		$(CC) $(CHECKED) -o out/test bindings/c/test.c bindings/c/guard.c out/test_heap.o out/proved.a && out/test && \
 		$(CC) $(CHECKED) -o out/test_words bindings/c/test_words.c bindings/c/guard.c bindings/c/heap.c out/proved.a && out/test_words && \
+		$(CC) $(CHECKED) -o out/test_record $(RECORD_TEST:%=bindings/c/%.c) out/test_heap.o out/proved.a && out/test_record && \
 		$(CC) $(THREADED) $(HELD) -Dfree=test_free -c -o out/held_heap.o bindings/c/heap.c && \
-		$(CC) $(THREADED) -o out/test_threads bindings/c/test_threads.c bindings/c/guard.c out/held_heap.o out/proved.a && out/test_threads)
+		$(CC) $(THREADED) -o out/test_threads bindings/c/test_threads.c bindings/c/guard.c out/held_heap.o out/proved.a && out/test_threads && \
+		for sanitizer in '$(CHECKED)' '$(THREADED)'; do \
+			$(CC) $$sanitizer -o out/test_shared $(SHARED_TEST:%=bindings/c/%.c) out/proved.a && out/test_shared || exit 1; done)
 
 bindings-rust:
 	$(call tested,cargo,out/libpidtab.a,cd bindings/rust && cargo test --offline --quiet)

@@ -7,6 +7,7 @@ void proved_close(struct pidtab *table);
 uint32_t proved_line(struct pidtab *table, const void *line, size_t length, void *answer, size_t room, size_t *size);
 uint32_t proved_list(struct pidtab *table, void *bytes, size_t room, size_t *size);
 uint32_t proved_call(struct pidtab *table, const struct pidtab_call *call, struct pidtab_reply *reply);
+uint32_t proved_ask(struct pidtab *table, const struct pidtab_call *call, struct pidtab_reply *reply);
 
 static bool enter(struct pidtab *table)
 {
@@ -53,4 +54,11 @@ uint32_t pidtab_call(struct pidtab *table, const struct pidtab_call *call, struc
 	if (!enter(table))
 		return PIDTAB_BUSY;
 	return leave(table, proved_call(table, call, reply));
+}
+
+uint32_t pidtab_ask(struct pidtab *table, const struct pidtab_call *call, struct pidtab_reply *reply)
+{
+	if (!enter(table))
+		return PIDTAB_BUSY;
+	return leave(table, proved_ask(table, call, reply));
 }

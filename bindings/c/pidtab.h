@@ -47,6 +47,14 @@ enum pidtab_status {
 	PIDTAB_SPENT = 75         /* EOVERFLOW: after 2^64 - 2 calls */
 };
 
+/* What the functions of a record answer besides. Any status but PIDTAB_DONE says that the record is as it was, but of
+ * pidtab_record_replay. */
+enum pidtab_record_status {
+	PIDTAB_NOT_KEPT = 2, /* ENOENT: the entry was cut away, or is not reached yet */
+	PIDTAB_AGAIN = 11,   /* EAGAIN: another number of calls was recorded by now */
+	PIDTAB_DIFFERS = 74  /* EBADMSG: a reply is not the saved one */
+};
+
 /* What a status says, as a sentence. */
 static inline const char *pidtab_text(uint32_t status)
 {
@@ -69,6 +77,12 @@ static inline const char *pidtab_text(uint32_t status)
 		return "the line is none of the script language";
 	case PIDTAB_SPENT:
 		return "the table has made 2^64 - 2 calls, and makes no more";
+	case PIDTAB_NOT_KEPT:
+		return "no entry with the ordinal is kept";
+	case PIDTAB_AGAIN:
+		return "another number of calls was recorded by now";
+	case PIDTAB_DIFFERS:
+		return "a reply is not the saved one";
 	}
 	return "no such status";
 }
@@ -199,6 +213,10 @@ struct pidtab_reply {
 /* Makes a call. DONE, CLOSED, OUT_OF_RANGE, SPENT, and NO_MEMORY for FORK and MK alone. */
 uint32_t pidtab_call(struct pidtab *table, const struct pidtab_call *call, struct pidtab_reply *reply);
 
+/* Answers a getpid, getppid, getpgid, getsid, nspid, next or count as a call would be answered, and is none: it uses no stamp, and
+ * nothing changes. DONE, CLOSED, and OUT_OF_RANGE for each other operation too. */
+uint32_t pidtab_ask(struct pidtab *table, const struct pidtab_call *call, struct pidtab_reply *reply);
+
 /* Each call as a function: a number, or minus an errno, which is the status or that of the refusal. What tells no number
  * is 0. pidtab_call tells a status from a refusal, and one refusal from another. */
 
@@ -212,7 +230,7 @@ static inline int64_t pidtab_value(struct pidtab *table, const struct pidtab_cal
 	return reply->kind == PIDTAB_LEVELS ? (int64_t)reply->count : (int64_t)reply->first;
 }
 
-static inline int64_t pidtab_ask(struct pidtab *table, uint32_t operation, uint32_t caller, uint64_t id, uint32_t number, uint32_t choice)
+static inline int64_t pidtab_do(struct pidtab *table, uint32_t operation, uint32_t caller, uint64_t id, uint32_t number, uint32_t choice)
 {
 	struct pidtab_call call = { operation, caller, id, number, choice, 0, 0 };
 	struct pidtab_reply reply;
@@ -232,7 +250,7 @@ static inline int64_t pidtab_fork(struct pidtab *table, uint32_t caller, bool ne
 
 static inline int64_t pidtab_getpid(struct pidtab *table, uint32_t caller)
 {
-	return pidtab_ask(table, PIDTAB_GETPID, caller, 0, 0, 0);
+	return pidtab_do(table, PIDTAB_GETPID, caller, 0, 0, 0);
 }
 
 /* How many numbers the target has from the caller's namespace inwards; levels has them, outermost first. */
@@ -248,12 +266,12 @@ static inline int64_t pidtab_nspid(struct pidtab *table, uint32_t caller, uint32
 
 static inline int64_t pidtab_exec(struct pidtab *table, uint32_t caller)
 {
-	return pidtab_ask(table, PIDTAB_EXEC, caller, 0, 0, 0);
+	return pidtab_do(table, PIDTAB_EXEC, caller, 0, 0, 0);
 }
 
 static inline int64_t pidtab_exit(struct pidtab *table, uint32_t caller, uint8_t status)
 {
-	return pidtab_ask(table, PIDTAB_EXIT, caller, 0, status, 0);
+	return pidtab_do(table, PIDTAB_EXIT, caller, 0, status, 0);
 }
 
 /* waitpid(2) with WNOHANG: the child that was reaped, or 0 where none of those that match has ended. *status is 0 to 255 or
@@ -270,7 +288,7 @@ static inline int64_t pidtab_wait(struct pidtab *table, uint32_t caller, enum pi
 
 static inline int64_t pidtab_getppid(struct pidtab *table, uint32_t caller)
 {
-	return pidtab_ask(table, PIDTAB_GETPPID, caller, 0, 0, 0);
+	return pidtab_do(table, PIDTAB_GETPPID, caller, 0, 0, 0);
 }
 
 static inline int64_t pidtab_setpgid(struct pidtab *table, uint32_t caller, int32_t pid, int32_t pgid)
@@ -282,61 +300,125 @@ static inline int64_t pidtab_setpgid(struct pidtab *table, uint32_t caller, int3
 
 static inline int64_t pidtab_setsid(struct pidtab *table, uint32_t caller)
 {
-	return pidtab_ask(table, PIDTAB_SETSID, caller, 0, 0, 0);
+	return pidtab_do(table, PIDTAB_SETSID, caller, 0, 0, 0);
 }
 
 /* The id of the new control group. */
 static inline int64_t pidtab_mk(struct pidtab *table, uint64_t parent)
 {
-	return pidtab_ask(table, PIDTAB_MK, 0, parent, 0, 0);
+	return pidtab_do(table, PIDTAB_MK, 0, parent, 0, 0);
 }
 
 static inline int64_t pidtab_rm(struct pidtab *table, uint64_t id)
 {
-	return pidtab_ask(table, PIDTAB_RM, 0, id, 0, 0);
+	return pidtab_do(table, PIDTAB_RM, 0, id, 0, 0);
 }
 
 /* Where limited is false there is no limit from now on. */
 static inline int64_t pidtab_limit(struct pidtab *table, uint64_t id, bool limited, uint32_t limit)
 {
-	return pidtab_ask(table, PIDTAB_LIMIT, 0, id, limit, limited);
+	return pidtab_do(table, PIDTAB_LIMIT, 0, id, limit, limited);
 }
 
 static inline int64_t pidtab_move(struct pidtab *table, uint32_t task, uint64_t id)
 {
-	return pidtab_ask(table, PIDTAB_MOVE, task, id, 0, 0);
+	return pidtab_do(table, PIDTAB_MOVE, task, id, 0, 0);
 }
 
 static inline int64_t pidtab_count(struct pidtab *table, uint64_t id)
 {
-	return pidtab_ask(table, PIDTAB_COUNT, 0, id, 0, 0);
+	return pidtab_do(table, PIDTAB_COUNT, 0, id, 0, 0);
 }
 
 static inline int64_t pidtab_getpgid(struct pidtab *table, uint32_t caller, uint32_t pid)
 {
-	return pidtab_ask(table, PIDTAB_GETPGID, caller, 0, pid, 0);
+	return pidtab_do(table, PIDTAB_GETPGID, caller, 0, pid, 0);
 }
 
 static inline int64_t pidtab_getsid(struct pidtab *table, uint32_t caller, uint32_t pid)
 {
-	return pidtab_ask(table, PIDTAB_GETSID, caller, 0, pid, 0);
+	return pidtab_do(table, PIDTAB_GETSID, caller, 0, pid, 0);
 }
 
 /* The least number at or above `from` that is in use so, or 0 where none follows. */
 static inline int64_t pidtab_next(struct pidtab *table, uint32_t caller, enum pidtab_use use, uint32_t from)
 {
-	return pidtab_ask(table, PIDTAB_NEXT, caller, 0, from, (uint32_t)use);
+	return pidtab_do(table, PIDTAB_NEXT, caller, 0, from, (uint32_t)use);
 }
 
 static inline int64_t pidtab_join(struct pidtab *table, uint32_t caller, uint32_t target)
 {
-	return pidtab_ask(table, PIDTAB_JOIN, caller, 0, target, 0);
+	return pidtab_do(table, PIDTAB_JOIN, caller, 0, target, 0);
 }
 
 static inline int64_t pidtab_subreaper(struct pidtab *table, uint32_t caller, bool on)
 {
-	return pidtab_ask(table, PIDTAB_SUBREAPER, caller, 0, 0, on);
+	return pidtab_do(table, PIDTAB_SUBREAPER, caller, 0, 0, on);
 }
+
+/* A table with its history, or none. Its rules are those of a table.
+ *
+ * Each call is made for a worker, a number below those of pidtab_record_open, and recorded with its reply. A call's ordinal is its
+ * place among all recorded calls, from 0 on. Between any two functions: the kept history replays, reply for reply, as one thread's,
+ * from the opening to the present state; and the calls of all workers add up to the number of recorded calls. That is proved of
+ * pidtab_record_counts. The history has 184 bytes a call, until a checkpoint cuts it. */
+struct pidtab_record {
+	void *at;
+	bool is_open;
+	bool in_call; /* while a function works on the record */
+};
+#define PIDTAB_RECORD_INIT { 0, false, false }
+
+#define PIDTAB_MOST_WORKERS 16
+
+/* Opens a record with process 1 alone, for 1 to 16 workers; first_stamp is at least 1. DONE, BUSY, OUT_OF_RANGE, NO_MEMORY. Each of
+ * the functions below may be BUSY too. */
+uint32_t pidtab_record_open(struct pidtab_record *record, uint32_t pid_max, uint64_t first_stamp, uint32_t workers);
+
+/* Frees the record, as pidtab_close does a table. */
+uint32_t pidtab_record_close(struct pidtab_record *record);
+
+/* Makes a call of the worker, and records it. DONE, CLOSED, OUT_OF_RANGE, SPENT, and NO_MEMORY for any call. */
+uint32_t pidtab_record_call(struct pidtab_record *record, uint32_t worker, const struct pidtab_call *call, struct pidtab_reply *reply, uint64_t *ordinal);
+
+/* The same of a line, as pidtab_line has it. DONE, CLOSED, EMPTY_LINE, BAD_LINE, NO_ROOM, OUT_OF_RANGE, SPENT, NO_MEMORY. */
+uint32_t pidtab_record_line(struct pidtab_record *record, uint32_t worker, const void *line, size_t length, void *answer, size_t room, size_t *size, uint64_t *ordinal);
+
+/* Answers a query, as pidtab_ask does; it is not recorded. DONE, CLOSED, OUT_OF_RANGE. */
+uint32_t pidtab_record_ask(struct pidtab_record *record, const struct pidtab_call *call, struct pidtab_reply *reply);
+
+/* The ordinal of the first kept entry, and how many calls were recorded, the cut ones too. DONE, CLOSED. */
+uint32_t pidtab_record_counts(struct pidtab_record *record, uint64_t *first_kept, uint64_t *recorded);
+
+/* How many calls of the worker were recorded, the cut ones too. DONE, CLOSED, OUT_OF_RANGE. */
+uint32_t pidtab_record_worker(struct pidtab_record *record, uint32_t worker, uint64_t *calls);
+
+/* The kept entry with the ordinal. What its call does not take is 0. DONE, CLOSED, NOT_KEPT. */
+uint32_t pidtab_record_entry(struct pidtab_record *record, uint64_t ordinal, uint64_t *worker, struct pidtab_call *call, struct pidtab_reply *reply);
+
+struct pidtab_entry {
+	uint64_t worker;
+	struct pidtab_call call;
+	struct pidtab_reply reply;
+};
+
+/* The kept entries from the ordinal on, as many as there are and as there is room for; count is how many. DONE, CLOSED, NOT_KEPT,
+ * which says that `from` is neither a kept entry nor the next call. */
+uint32_t pidtab_record_read(struct pidtab_record *record, uint64_t from, struct pidtab_entry *entries, size_t room, size_t *count);
+
+/* Makes the calls of saved entries, and compares their replies. It stops at the first that cannot be made, which is OUT_OF_RANGE, SPENT
+ * or NO_MEMORY, or has another reply, which is DIFFERS and was made; place is then its place among them. DONE, CLOSED. */
+uint32_t pidtab_record_replay(struct pidtab_record *record, const struct pidtab_entry *saved, size_t count, size_t *place);
+
+/* Cuts the history: the present state is the opening, and ordinals go on. DONE, CLOSED, NO_MEMORY. */
+uint32_t pidtab_record_checkpoint(struct pidtab_record *record);
+
+/* The same where exactly so many calls were recorded, so that none is cut unseen. DONE, CLOSED, AGAIN, NO_MEMORY. */
+uint32_t pidtab_record_checkpoint_at(struct pidtab_record *record, uint64_t seen);
+
+/* The list of the present state, and of the state that the kept history begins in, as pidtab_list writes it. */
+uint32_t pidtab_record_list(struct pidtab_record *record, void *bytes, size_t room, size_t *size);
+uint32_t pidtab_record_opening(struct pidtab_record *record, void *bytes, size_t room, size_t *size);
 
 #ifdef __cplusplus
 }

@@ -88,7 +88,8 @@ class Header(unittest.TestCase):
             self.assertEqual(raw.CALL_FIELDS.unpack(packed), tuple(getattr(fields, name) for name, *_ in fields._fields_))
 
     def test_the_functions(self) -> None:
-        declared = re.findall(r"(?<!inline )(?:uint32_t|void) (pidtab_\w+)\(([^)]*)\);", header())
+        # The package has no records, and its queries are calls.
+        declared = re.findall(r"(?<!inline )(?:uint32_t|void) (pidtab_(?!record_|ask\b)\w+)\(([^)]*)\);", header())
         self.assertEqual(sorted(name for name, _ in declared), sorted(raw.FUNCTIONS))
         for name, taken in declared:
             self.assertEqual(len(raw.FUNCTIONS[name][1]), 0 if taken == "void" else len(taken.split(",")), name)

@@ -1,4 +1,5 @@
 pub mod Calls
+pub mod Queries
 pub mod Chronicle
 pub mod Whole
 pub mod Opening

@@ -15,6 +15,7 @@ ghost use Rattle.kept_table.specs.Calls.{begun, outcome, entry_of, counted, cut_
 ghost use Rattle.kept_table.specs.Chronicle.{Chronicle, total, next_stamp, recorded, recorded_by_all, kept_entry};
 ghost use Rattle.kept_table.specs.Chronicle.{last_reply, by_worker};
 ghost use Rattle.kept_table.specs.Promise.{IsSubtreeCount, KeepsPromise};
+ghost use Rattle.kept_table.specs.Queries.{is_query};
 ghost use Rattle.kept_table.specs.Whole.{opening_of, one_of};
 
 use crate::opening::Opening;
@@ -222,6 +223,20 @@ impl Kept {
         match &self.copy {
             Some(opening) => opening.snapshot(),
             None => self.table.snapshot(),
+        }
+    }
+
+    /// Answers a query by the model's step at the next call's stamp. It uses no stamp and is not recorded, and nothing
+    /// that is held changes. It costs what the query costs, and no memory.
+    pub fn ask(&mut self, call: Call, reply: &mut Reply)
+        requires { IsTrue (is_query call) }
+        ensures same { self.new ≡ self.old }
+        ensures reply { reply.new ≡ (outcome self.old call).reply }
+    {
+        let stamp = self.config.first_stamp() + self.first_kept + self.history.len() as u64;
+        soundness_is_kept();
+        if self.table.step(stamp, call, reply).is_err() {
+            unreachable!()
         }
     }
 

@@ -2,3 +2,9 @@ pub mod Stamped
 pub mod Owned
 pub mod Listed
 pub mod Numbers
+pub mod CallNumbers
+pub mod Lines
+pub mod Records
+pub mod Entries
+pub mod Asked
+pub mod Replays

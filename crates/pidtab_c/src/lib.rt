@@ -1,13 +1,16 @@
 //! The table for C, in the user's own process: calls as lines of the script language, and their answers as text.
 //!
-//! A table has no history, so a long-lived process does not grow with its calls. C holds a [`Pidtab`], which is two words and
-//! begins as zeroes. No exported function asks anything of its caller but that the pointers are good, that no two of them overlap,
-//! and that one function at a time works on a table.
+//! A table has no history, so a long-lived process does not grow with its calls. C holds a [`Pidtab`], which is two
+//! words and begins as zeroes. A [`record::PidtabRecord`] is a table with its history, of as many words. No exported
+//! function asks anything of its caller but that the pointers are good, that no two of them overlap, and that one
+//! function at a time works on a table or a record.
 //!
-//! Each function answers with a status, `DONE` or a number of Linux's errno. Any status but `DONE` says that the table is as it was.
+//! Each function answers with a status, `DONE` or a number of Linux's errno. Any status but `DONE` says that the table
+//! is as it was. A function tests for its statuses in the order in which its comment names them.
 #![tactic(auto)]
 
-ghost use Rattle.std.specs.Prelude.{◌≡◌, ◌≢◌, ◌<◌, ◌≤◌, ◌↔◌, ◌⊎◌, ℕ, IsSome, IsTrue, Option, Some, None, IfOk, IfSome, OnOk, OnErr, is_some, length, take};
+ghost use Rattle.std.specs.Prelude.{◌≡◌, ◌≢◌, ◌<◌, ◌≤◌, ◌↔◌, ◌⊎◌, ℕ, IsSome, IsTrue, Option, Some, None, Err};
+ghost use Rattle.std.specs.Prelude.{IfOk, IfSome, OnOk, OnErr, is_some, length, take, drop};
 ghost use Rattle.pid_types.specs.Settings.{HasGoodPidMax};
 ghost use Rattle.pid_types.specs.State.{root_state};
 ghost use Rattle.pid_types.specs.Step.{may_grow};
@@ -19,22 +22,32 @@ ghost use Rattle.pid_script.specs.Reading.{parsed};
 ghost use Rattle.pid_script.specs.declared.line.Line.TheVariants as says;
 ghost use Rattle.pidtab_c.specs.Listed.{list_of_state};
 ghost use Rattle.pidtab_c.specs.Numbers.{call_of, numbers_of};
+ghost use Rattle.pidtab_c.specs.Lines.{IsCall};
+ghost use Rattle.pidtab_c.specs.Records.{Has};
 ghost use Rattle.pidtab_c.specs.Stamped.{IsInOrder, Makes};
 
+mod ask;
+mod call_numbers;
 mod handle;
+mod history;
 mod loose;
 pub mod numbers;
+mod read;
+pub mod record;
+mod record_calls;
+mod record_handle;
+mod replay;
 pub mod stamped;
 pub mod status;
+mod texts;
 
 use handle::{Handle, null};
 use loose::Loose;
 use numbers::{CallNumbers, ReplyNumbers, read_call, tell_reply};
-use pid_script::answer::{LONGEST_ANSWER, answer_text};
+use pid_script::answer::LONGEST_ANSWER;
 use pid_script::line::{Line, parse_line};
 use pid_types::call::Call;
 use pid_types::config::Config;
-use pid_types::entry::Receipt;
 use pid_types::reply::{CallFault, Reply};
 use stamped::StampedTable;
 use status::{
@@ -42,6 +55,7 @@ use status::{
 };
 use std::alloc::{AllocError, Global};
 use std::mem;
+use texts::{write_reply, write_text};
 
 /// The number of this interface. It changes where a program that was compiled for another one would go wrong.
 pub const VERSION: u32 = 1;
@@ -91,7 +105,7 @@ impl Pidtab {
         requires { IsSome self.old.handle.held }
         ensures made { IfOk result (λ reply. Makes self.old.handle.held call reply self.new.handle.held) }
         ensures err { OnErr result (self.new.handle.held ≡ self.old.handle.held) }
-        ensures spent { result ≡ Err fault.Spent → IfSome self.old.handle.held (λ s. s.stamp ≡ u64.MAX) }
+        ensures spent { (result ≡ Err fault.Spent) ↔ Has self.old.handle.held (λ s. s.stamp ≡ u64.MAX) }
         ensures no_memory { result ≡ Err fault.NoMemory → IsTrue (may_grow call) }
     {
         let Some(mut held) = self.take(alloc) else {
@@ -120,7 +134,8 @@ impl Pidtab {
 
 /// A new table on the heap. The error is want of memory.
 fn boxed_table(alloc: Global, config: &Config) -> Result<Box<StampedTable>, AllocError>
-    ensures { IfOk result (λ held. held.value ≡ record { state = root_state config.now.pid_max; stamp = config.now.first_stamp }) }
+    ensures { IfOk result (λ held.
+        held.value ≡ record { state = root_state config.now.pid_max; stamp = config.now.first_stamp }) }
 {
     let held = StampedTable::new(alloc, config)?;
     match Box::new(alloc, held) {
@@ -146,7 +161,7 @@ pub extern "C" fn pidtab_open(alloc: Global, table: &mut Pidtab, pid_max: u32) -
     ensures good { result ≡ DONE → HasGoodPidMax pid_max }
     ensures not_done { result ≢ DONE → table.new.handle.held ≡ table.old.handle.held }
     ensures busy { (result ≡ BUSY) ↔ IsSome table.old.handle.held }
-    ensures out_of_range { result ≡ OUT_OF_RANGE → HasGoodPidMax pid_max → ⊥ }
+    ensures out_of_range { (result ≡ OUT_OF_RANGE) ↔ (table.old.handle.held ≡ None) × (HasGoodPidMax pid_max → ⊥) }
     ensures statuses { (result ≡ DONE) ⊎ ((result ≡ BUSY) ⊎ ((result ≡ OUT_OF_RANGE) ⊎ (result ≡ NO_MEMORY))) }
 {
     if table.is_open {
@@ -170,31 +185,13 @@ pub extern "C" fn pidtab_close(alloc: Global, table: &mut Pidtab)
     let _held = table.take(alloc);
 }
 
-/// Puts the text of the reply at the front of the room for it, and tells its length.
-fn write_reply(answer: &mut [u8], call: Call, reply: Reply) -> usize
-    requires { LONGEST_ANSWER ≤ length answer.old }
-    ensures text { take result answer.new ≡ reply_text reply }
-    ensures fits { result ≤ length answer.new }
-{
-    // The text of an answer is that of a receipt, and does not depend on whose receipt it is.
-    let receipt = Receipt {
-        ordinal: 0,
-        worker: 0,
-        call,
-        reply,
-    };
-    let text = answer_text(&Ok(receipt));
-    answer[..text.len()].copy_from_slice(text.as_slice());
-    text.len()
-}
-
-/// Makes the call that is written on the line, and puts its answer at the front of the room, without a newline; `size` is the
-/// answer's length. The line is one of the script language, without its newline.
+/// Makes the call that is written on the line, and puts its answer at the front of the room, without a newline; `size`
+/// is the answer's length. The line is one of the script language, without its newline.
 ///
 /// `CLOSED` where there is no open table; then `EMPTY_LINE` for a line without bytes, which has no answer in a script
-/// either, and `BAD_LINE` for what is no line of the table of calls; then `NO_ROOM` where the room is shorter than the longest answer,
-/// 362 bytes, which `size` then is; then `SPENT` where the stamp of the call would be `u64::MAX`; `NO_MEMORY` for a `fork` or a
-/// `mk` that finds none. A call that the table refuses is `DONE`: its answer says so.
+/// either, and `BAD_LINE` for what is no line of the table of calls; then `NO_ROOM` where the room is shorter than the
+/// longest answer, 362 bytes, which `size` then is; then `SPENT` where the stamp of the call would be `u64::MAX`;
+/// `NO_MEMORY` for a `fork` or a `mk` that finds none. A call that the table refuses is `DONE`: its answer says so.
 #[unsafe(no_mangle)]
 pub extern "C" fn pidtab_line(
     alloc: Global,
@@ -203,17 +200,24 @@ pub extern "C" fn pidtab_line(
     answer: &mut [u8],
     size: &mut usize,
 ) -> u32
-    ensures done { result ≡ DONE → (call : Call) × (reply : Reply) × (parsed line.now ≡ says.Call call) × Makes table.old.handle.held call reply table.new.handle.held × (take size.new answer.new ≡ reply_text reply) }
+    ensures done { result ≡ DONE → (call : Call) × (reply : Reply) × (parsed line.now ≡ says.Call call)
+        × Makes table.old.handle.held call reply table.new.handle.held × (take size.new answer.new ≡ reply_text reply) }
     ensures fits { result ≡ DONE → size.new ≤ length answer.new }
+    ensures behind { result ≡ DONE → drop size.new answer.new ≡ drop size.new answer.old }
     ensures not_done { result ≢ DONE → (table.new.handle.held ≡ table.old.handle.held) × (answer.new ≡ answer.old) }
     ensures size { result ≢ DONE → result ≢ NO_ROOM → size.new ≡ size.old }
     ensures closed { (result ≡ CLOSED) ↔ (table.old.handle.held ≡ None) }
-    ensures empty { result ≡ EMPTY_LINE → parsed line.now ≡ says.Empty }
-    ensures bad { result ≡ BAD_LINE → parsed line.now ≡ says.Bad }
-    ensures no_room { result ≡ NO_ROOM → (length answer.old < LONGEST_ANSWER) × (size.new ≡ LONGEST_ANSWER) }
-    ensures spent { result ≡ SPENT → IfSome table.old.handle.held (λ s. s.stamp ≡ u64.MAX) }
-    ensures no_memory { result ≡ NO_MEMORY → (call : Call) × (parsed line.now ≡ says.Call call) × IsTrue (may_grow call) }
-    ensures statuses { (result ≡ DONE) ⊎ ((result ≡ CLOSED) ⊎ ((result ≡ EMPTY_LINE) ⊎ ((result ≡ BAD_LINE) ⊎ ((result ≡ NO_ROOM) ⊎ ((result ≡ SPENT) ⊎ (result ≡ NO_MEMORY)))))) }
+    ensures empty { (result ≡ EMPTY_LINE) ↔ IsSome table.old.handle.held × (parsed line.now ≡ says.Empty) }
+    ensures bad { (result ≡ BAD_LINE) ↔ IsSome table.old.handle.held × (parsed line.now ≡ says.Bad) }
+    ensures no_room { (result ≡ NO_ROOM)
+        ↔ IsSome table.old.handle.held × IsCall (parsed line.now) × (length answer.old < LONGEST_ANSWER) }
+    ensures longest { result ≡ NO_ROOM → size.new ≡ LONGEST_ANSWER }
+    ensures spent { (result ≡ SPENT) ↔ Has table.old.handle.held (λ s. s.stamp ≡ u64.MAX)
+        × IsCall (parsed line.now) × (LONGEST_ANSWER ≤ length answer.old) }
+    ensures no_memory { result ≡ NO_MEMORY
+        → (call : Call) × (parsed line.now ≡ says.Call call) × IsTrue (may_grow call) }
+    ensures statuses { (result ≡ DONE) ⊎ ((result ≡ CLOSED) ⊎ ((result ≡ EMPTY_LINE) ⊎ ((result ≡ BAD_LINE)
+        ⊎ ((result ≡ NO_ROOM) ⊎ ((result ≡ SPENT) ⊎ (result ≡ NO_MEMORY)))))) }
 {
     if !table.is_open {
         return CLOSED;
@@ -239,8 +243,8 @@ pub extern "C" fn pidtab_line(
 /// Puts the list of the table at the front of the room, each line with its newline; `size` is the list's length.
 ///
 /// `CLOSED` where there is no open table; `NO_MEMORY`; `NO_ROOM` where the list is longer than the room, and then too
-/// `size` is the list's length. It costs a copy of the whole table, and the text. Its contract tells too what is true of a table
-/// between any two calls: its state is sound, and the ids in it are below the stamp of the next call.
+/// `size` is the list's length. It costs a copy of the whole table, and the text. Its contract tells too what is true
+/// of a table between any two calls: its state is sound, and the ids in it are below the stamp of the next call.
 #[unsafe(no_mangle)]
 pub extern "C" fn pidtab_list(
     alloc: Global,
@@ -251,8 +255,11 @@ pub extern "C" fn pidtab_list(
     ensures same { table.new.handle.held ≡ table.old.handle.held }
     ensures sound { IfSome table.old.handle.held (λ s. IsInOrder s) }
     ensures done { result ≡ DONE → IfSome table.old.handle.held (λ s. take size.new room.new ≡ list_of_state s.state) }
+    ensures fits { result ≡ DONE → size.new ≤ length room.new }
+    ensures behind { result ≡ DONE → drop size.new room.new ≡ drop size.new room.old }
     ensures not_done { result ≢ DONE → room.new ≡ room.old }
-    ensures size { (result ≡ DONE) ⊎ (result ≡ NO_ROOM) → IfSome table.old.handle.held (λ s. size.new ≡ length (list_of_state s.state)) }
+    ensures size { (result ≡ DONE) ⊎ (result ≡ NO_ROOM)
+        → IfSome table.old.handle.held (λ s. size.new ≡ length (list_of_state s.state)) }
     ensures same_size { (result ≡ CLOSED) ⊎ (result ≡ NO_MEMORY) → size.new ≡ size.old }
     ensures closed { (result ≡ CLOSED) ↔ (table.old.handle.held ≡ None) }
     ensures no_room { result ≡ NO_ROOM → length room.old < size.new }
@@ -264,19 +271,14 @@ pub extern "C" fn pidtab_list(
     let Ok(text) = table.list(alloc) else {
         return NO_MEMORY;
     };
-    *size = text.len();
-    if room.len() < text.len() {
-        return NO_ROOM;
-    }
-    room[..text.len()].copy_from_slice(text.as_slice());
-    DONE
+    write_text(text.as_slice(), room, size)
 }
 
 /// Makes the call that the numbers say, and tells its reply as numbers.
 ///
-/// `CLOSED` where there is no open table; then `OUT_OF_RANGE` where the operation, or what it takes, is outside its range; then
-/// `SPENT` where the stamp of the call would be `u64::MAX`; `NO_MEMORY` for a fork or a new control group that finds none. A call
-/// that the table refuses is `DONE`: its reply says so.
+/// `CLOSED` where there is no open table; then `OUT_OF_RANGE` where the operation, or what it takes, is outside its
+/// range; then `SPENT` where the stamp of the call would be `u64::MAX`; `NO_MEMORY` for a fork or a new control group
+/// that finds none. A call that the table refuses is `DONE`: its reply says so.
 #[unsafe(no_mangle)]
 pub extern "C" fn pidtab_call(
     alloc: Global,
@@ -284,13 +286,16 @@ pub extern "C" fn pidtab_call(
     call: &CallNumbers,
     reply: &mut ReplyNumbers,
 ) -> u32
-    ensures done { result ≡ DONE → (made : Call) × (told : Reply) × (call_of call.now ≡ Some made) × Makes table.old.handle.held made told table.new.handle.held × (reply.new ≡ numbers_of told) }
+    ensures done { result ≡ DONE → (made : Call) × (told : Reply) × (call_of call.now ≡ Some made)
+        × Makes table.old.handle.held made told table.new.handle.held × (reply.new ≡ numbers_of told) }
     ensures not_done { result ≢ DONE → (table.new.handle.held ≡ table.old.handle.held) × (reply.new ≡ reply.old) }
     ensures closed { (result ≡ CLOSED) ↔ (table.old.handle.held ≡ None) }
-    ensures out_of_range { result ≡ OUT_OF_RANGE → call_of call.now ≡ None }
-    ensures spent { result ≡ SPENT → IfSome table.old.handle.held (λ s. s.stamp ≡ u64.MAX) }
+    ensures out_of_range { (result ≡ OUT_OF_RANGE) ↔ IsSome table.old.handle.held × (call_of call.now ≡ None) }
+    ensures spent { (result ≡ SPENT)
+        ↔ Has table.old.handle.held (λ s. s.stamp ≡ u64.MAX) × IsSome (call_of call.now) }
     ensures no_memory { result ≡ NO_MEMORY → (made : Call) × (call_of call.now ≡ Some made) × IsTrue (may_grow made) }
-    ensures statuses { (result ≡ DONE) ⊎ ((result ≡ CLOSED) ⊎ ((result ≡ OUT_OF_RANGE) ⊎ ((result ≡ SPENT) ⊎ (result ≡ NO_MEMORY)))) }
+    ensures statuses { (result ≡ DONE) ⊎ ((result ≡ CLOSED) ⊎ ((result ≡ OUT_OF_RANGE)
+        ⊎ ((result ≡ SPENT) ⊎ (result ≡ NO_MEMORY)))) }
 {
     if !table.is_open {
         return CLOSED;

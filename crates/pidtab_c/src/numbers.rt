@@ -1,14 +1,16 @@
-//! Calls and replies as numbers, for callers who would rather not read text. The numbers stay the same from release to release.
+//! Calls and replies as numbers, for callers who would rather not read text. The numbers stay the same from release to
+//! release.
 ghost use Rattle.std.specs.Prelude.{◌≡◌};
-ghost use Rattle.pidtab_c.specs.Numbers.{switch_of, which_of, kind_of, limit_of, status_of, call_of, control_call_of, later_call_of, blank, levels_numbers, refusal_numbers, numbers_of};
+ghost use Rattle.pidtab_c.specs.Numbers.{switch_of, which_of, kind_of, limit_of, status_of, call_of, control_call_of};
+ghost use Rattle.pidtab_c.specs.Numbers.{later_call_of, blank, levels_numbers, refusal_numbers, numbers_of};
 
 use arrayvec::ArrayVec;
 use pid_types::call::{Call, Kind, Which};
 use pid_types::plain::{Ended, LEVELS};
 use pid_types::reply::{Refusal, Reply};
 
-/// A call: its operation, which is its place in [`Call`] from 0 on, who makes it, and what else it takes. What a call does not
-/// take is not looked at.
+/// A call: its operation, which is its place in [`Call`] from 0 on, who makes it, and what else it takes. What a call
+/// does not take is not looked at.
 ///
 /// | Operation | Call | Takes |
 /// |---|---|---|
@@ -57,7 +59,7 @@ pub struct CallNumbers {
 /// | 8 | `End` | |
 /// | 9 | `Refused` | `errno`, `refusal` its number, `first` the id of what refused |
 #[repr(C)]
-#[derive(Clone, Copy)]
+#[derive(Clone, Copy, PartialEq)]
 pub struct ReplyNumbers {
     pub kind: u32,
     pub errno: u32,

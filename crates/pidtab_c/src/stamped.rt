@@ -2,6 +2,7 @@
 ghost use Rattle.std.specs.Prelude.{◌≡◌, ◌+◌, ◌↔◌, IfOk, OnOk, OnErr, Err, IsTrue};
 ghost use Rattle.pid_types.specs.State.{root_state};
 ghost use Rattle.pid_types.specs.Step.{may_grow};
+ghost use Rattle.kept_table.specs.Queries.{is_query};
 ghost use Rattle.pidtab_c.specs.Stamped.{IsInOrder, after_call, reply_to};
 ghost use Rattle.pidtab_c.specs.Listed.{list_of_state};
 
@@ -34,7 +35,8 @@ impl Model for StampedTable {
 impl StampedTable {
     /// A table with the root init alone. The error is want of memory.
     pub(crate) fn new(alloc: Global, config: &Config) -> Result<StampedTable, AllocError>
-        ensures { IfOk result (λ s. s ≡ record { state = root_state config.now.pid_max; stamp = config.now.first_stamp }) }
+        ensures { IfOk result (λ s.
+            s ≡ record { state = root_state config.now.pid_max; stamp = config.now.first_stamp }) }
     {
         root_state_is_sound();
         prove!(config.first_stamp() > 0);
@@ -45,8 +47,8 @@ impl StampedTable {
         })
     }
 
-    /// Makes the call. An error says that the table is as it was: the stamps are used up, or there was no memory for a call
-    /// that makes something.
+    /// Makes the call. An error says that the table is as it was: the stamps are used up, or there was no memory for a
+    /// call that makes something.
     pub(crate) fn make(&mut self, call: Call) -> Result<Reply, CallFault>
         ensures state { OnOk result (self.new ≡ after_call self.old call) }
         ensures reply { IfOk result (λ reply. reply ≡ reply_to self.old call) }
@@ -64,7 +66,21 @@ impl StampedTable {
         Ok(reply)
     }
 
-    /// The text of the list. The error is want of memory. Its contract tells what is true of a table between any two calls.
+    /// Answers a query. It uses no stamp, and changes nothing.
+    pub(crate) fn ask(&mut self, call: Call) -> Reply
+        requires { IsTrue (is_query call) }
+        ensures same { self.new ≡ self.old }
+        ensures reply { result ≡ reply_to self.old call }
+    {
+        let mut reply = Reply::Done;
+        if self.table.step(self.stamp, call, &mut reply).is_err() {
+            unreachable!()
+        }
+        reply
+    }
+
+    /// The text of the list. The error is want of memory. Its contract tells what is true of a table between any two
+    /// calls.
     pub(crate) fn list(&self, alloc: Global) -> Result<Vec<u8>, AllocError>
         ensures text { IfOk result (λ text. text.items ≡ list_of_state self.now.state) }
         ensures sound { IsInOrder self.now }

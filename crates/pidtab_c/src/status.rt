@@ -7,8 +7,14 @@ use pid_types::reply::CallFault;
 /// It was done.
 pub const DONE: u32 = 0;
 
+/// `ENOENT`: no entry with the ordinal is kept.
+pub const NOT_KEPT: u32 = 2;
+
 /// `EBADF`: there is no open table.
 pub const CLOSED: u32 = 9;
+
+/// `EAGAIN`: another number of calls was recorded by now.
+pub const AGAIN: u32 = 11;
 
 /// `ENOMEM`: there was no memory.
 pub const NO_MEMORY: u32 = 12;
@@ -27,6 +33,9 @@ pub const EMPTY_LINE: u32 = 61;
 
 /// `EPROTO`: the line is no line of the table of calls.
 pub const BAD_LINE: u32 = 71;
+
+/// `EBADMSG`: a reply is not the saved one.
+pub const DIFFERS: u32 = 74;
 
 /// `EOVERFLOW`: the stamps are used up.
 pub const SPENT: u32 = 75;

@@ -1,0 +1,62 @@
+/* pidtab_shared.h - a record of pidtab.h behind a lock, for any number of threads at once.
+ *
+ * Each function is one of pidtab_record_.., alone on its record: a thread that finds the lock taken waits for it. So each thread
+ * has the answer that one sequential table would give, and a call's ordinal is its place. The functions on the record are proved.
+ * The lock is pthread's, and shared.c, which takes it, is trusted.
+ *
+ * No function is called from a signal handler, nor in the forked child of a process with threads, and no thread is cancelled in
+ * one. The rules of pidtab.h hold too. A struct pidtab_shared is never copied.
+ */
+#ifndef PIDTAB_SHARED_H
+#define PIDTAB_SHARED_H
+
+#include "pidtab.h"
+
+#include <pthread.h>
+
+#ifdef __cplusplus
+extern "C" {
+#endif
+
+/* Its fields are not read or written. */
+struct pidtab_shared {
+	pthread_mutex_t lock;
+	struct pidtab_record record;
+	uint64_t keep; /* as many entries are kept, and then cut; 0: never cut */
+	uint32_t workers;
+	uint32_t seated;
+};
+
+/* Opens a record, as pidtab_record_open does. Where keep is not 0, the call that makes the kept entries as many cuts the history; it
+ * pays for the copy of the table. Where there is no memory for that, the history grows on. DONE, OUT_OF_RANGE, NO_MEMORY: any other
+ * than DONE says that nothing is to be closed. */
+uint32_t pidtab_shared_open(struct pidtab_shared *shared, uint32_t pid_max, uint64_t first_stamp, uint32_t workers, uint64_t keep);
+
+/* Closes it. No other thread is in a function of it, or calls one afterwards. */
+void pidtab_shared_close(struct pidtab_shared *shared);
+
+/* Hands out each worker's number once, from 0 on. DONE, and OUT_OF_RANGE where all are taken. */
+uint32_t pidtab_shared_seat(struct pidtab_shared *shared, uint32_t *worker);
+
+/* The record itself, for several functions in one go. This thread has the lock until pidtab_shared_unlock; in between it calls
+ * pidtab_record_.. alone, and does not close the record. */
+struct pidtab_record *pidtab_shared_lock(struct pidtab_shared *shared);
+void pidtab_shared_unlock(struct pidtab_shared *shared);
+
+/* What the functions of pidtab.h with these names do. */
+uint32_t pidtab_shared_call(struct pidtab_shared *shared, uint32_t worker, const struct pidtab_call *call, struct pidtab_reply *reply, uint64_t *ordinal);
+uint32_t pidtab_shared_line(struct pidtab_shared *shared, uint32_t worker, const void *line, size_t length, void *answer, size_t room, size_t *size, uint64_t *ordinal);
+uint32_t pidtab_shared_ask(struct pidtab_shared *shared, const struct pidtab_call *call, struct pidtab_reply *reply);
+uint32_t pidtab_shared_counts(struct pidtab_shared *shared, uint64_t *first_kept, uint64_t *recorded);
+uint32_t pidtab_shared_worker(struct pidtab_shared *shared, uint32_t worker, uint64_t *calls);
+uint32_t pidtab_shared_entry(struct pidtab_shared *shared, uint64_t ordinal, uint64_t *worker, struct pidtab_call *call, struct pidtab_reply *reply);
+uint32_t pidtab_shared_read(struct pidtab_shared *shared, uint64_t from, struct pidtab_entry *entries, size_t room, size_t *count);
+uint32_t pidtab_shared_checkpoint(struct pidtab_shared *shared);
+uint32_t pidtab_shared_checkpoint_at(struct pidtab_shared *shared, uint64_t seen);
+uint32_t pidtab_shared_list(struct pidtab_shared *shared, void *bytes, size_t room, size_t *size);
+
+#ifdef __cplusplus
+}
+#endif
+
+#endif

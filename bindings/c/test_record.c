@@ -1,0 +1,210 @@
+/* Tests of a record from C: each status of each function, and want of memory at each allocation in turn. */
+#include "test.h"
+
+#include <errno.h>
+
+_Static_assert(PIDTAB_NOT_KEPT == ENOENT && PIDTAB_AGAIN == EAGAIN && PIDTAB_DIFFERS == EBADMSG, "status");
+_Static_assert(sizeof(struct pidtab_record) == 16 && offsetof(struct pidtab_record, is_open) == 8, "pidtab_record");
+_Static_assert(offsetof(struct pidtab_record, in_call) == 9, "pidtab_record");
+
+/* The heap that heap.c is built with here: it refuses the allocation that the counter falls on. 0: none. */
+static int refuse_at;
+
+static bool refused(void)
+{
+	return refuse_at > 0 && --refuse_at == 0;
+}
+
+void *test_malloc(size_t size)
+{
+	return refused() ? NULL : malloc(size);
+}
+
+void *test_realloc(void *at, size_t size)
+{
+	return refused() ? NULL : realloc(at, size);
+}
+
+static const struct pidtab_call getpid_1 = { .operation = PIDTAB_GETPID, .caller = 1 };
+static const struct pidtab_call fork_1 = { .operation = PIDTAB_FORK, .caller = 1 };
+
+static void counts_are(struct pidtab_record *record, uint64_t first_kept, uint64_t recorded)
+{
+	uint64_t first = first_kept + 1, all = recorded + 1;
+	CHECK(pidtab_record_counts(record, &first, &all) == PIDTAB_DONE && first == first_kept && all == recorded);
+}
+
+/* The list, or that of the opening, with a zero byte behind it. */
+static const char *listed(struct pidtab_record *record, bool opening)
+{
+	static char texts[2][1 << 16];
+	size_t size = 0;
+	char *text = texts[opening];
+	uint32_t status = opening ? pidtab_record_opening(record, text, sizeof texts[0] - 1, &size)
+		: pidtab_record_list(record, text, sizeof texts[0] - 1, &size);
+
+	CHECK(status == PIDTAB_DONE && size > 24);
+	text[size] = 0;
+	return text;
+}
+
+static void closed(void)
+{
+	struct pidtab_record record = PIDTAB_RECORD_INIT;
+	struct pidtab_reply reply = { .kind = 77 };
+	struct pidtab_call call = getpid_1;
+	struct pidtab_entry entry = { .worker = 77 };
+	char room[PIDTAB_LONGEST_ANSWER] = "kept";
+	uint64_t one = 7, other = 7;
+	size_t size = 7;
+
+	CHECK(pidtab_record_call(&record, 0, &call, &reply, &one) == PIDTAB_CLOSED);
+	CHECK(pidtab_record_line(&record, 0, "", 0, room, sizeof room, &size, &one) == PIDTAB_CLOSED);
+	CHECK(pidtab_record_ask(&record, &call, &reply) == PIDTAB_CLOSED);
+	CHECK(pidtab_record_counts(&record, &one, &other) == PIDTAB_CLOSED);
+	CHECK(pidtab_record_worker(&record, 0, &one) == PIDTAB_CLOSED);
+	CHECK(pidtab_record_entry(&record, 0, &one, &call, &reply) == PIDTAB_CLOSED);
+	CHECK(pidtab_record_read(&record, 0, &entry, 1, &size) == PIDTAB_CLOSED);
+	CHECK(pidtab_record_replay(&record, &entry, 1, &size) == PIDTAB_CLOSED);
+	CHECK(pidtab_record_checkpoint(&record) == PIDTAB_CLOSED && pidtab_record_checkpoint_at(&record, 0) == PIDTAB_CLOSED);
+	CHECK(pidtab_record_list(&record, room, sizeof room, &size) == PIDTAB_CLOSED);
+	CHECK(pidtab_record_opening(&record, room, sizeof room, &size) == PIDTAB_CLOSED);
+	CHECK(one == 7 && other == 7 && size == 7 && strcmp(room, "kept") == 0 && reply.kind == 77 && entry.worker == 77);
+	CHECK(pidtab_record_close(&record) == PIDTAB_DONE);
+}
+
+static void out_of_range(void)
+{
+	struct pidtab_record record = PIDTAB_RECORD_INIT;
+	struct pidtab_reply reply = { .kind = 77 };
+	struct pidtab_call bad = { .operation = 19, .caller = 1 };
+	char room[PIDTAB_LONGEST_ANSWER] = "kept";
+	uint64_t one = 7;
+	size_t size = 7;
+
+	CHECK(pidtab_record_open(&record, 300, 1, 1) == PIDTAB_OUT_OF_RANGE && pidtab_record_open(&record, 4194305, 1, 1) == PIDTAB_OUT_OF_RANGE);
+	CHECK(pidtab_record_open(&record, 32768, 0, 1) == PIDTAB_OUT_OF_RANGE && pidtab_record_open(&record, 32768, 1, 0) == PIDTAB_OUT_OF_RANGE);
+	CHECK(pidtab_record_open(&record, 32768, 1, PIDTAB_MOST_WORKERS + 1) == PIDTAB_OUT_OF_RANGE && !record.is_open);
+	CHECK(pidtab_record_open(&record, 32768, 1, 2) == PIDTAB_DONE && pidtab_record_open(&record, 0, 0, 0) == PIDTAB_BUSY);
+	CHECK(pidtab_record_call(&record, 2, &getpid_1, &reply, &one) == PIDTAB_OUT_OF_RANGE);
+	CHECK(pidtab_record_call(&record, 0, &bad, &reply, &one) == PIDTAB_OUT_OF_RANGE);
+	CHECK(pidtab_record_ask(&record, &bad, &reply) == PIDTAB_OUT_OF_RANGE && pidtab_record_ask(&record, &fork_1, &reply) == PIDTAB_OUT_OF_RANGE);
+	CHECK(pidtab_record_worker(&record, 2, &one) == PIDTAB_OUT_OF_RANGE);
+	CHECK(pidtab_record_line(&record, 2, "", 0, room, 0, &size, &one) == PIDTAB_EMPTY_LINE);
+	CHECK(pidtab_record_line(&record, 2, "getpid", 6, room, 0, &size, &one) == PIDTAB_BAD_LINE && size == 7);
+	CHECK(pidtab_record_line(&record, 2, "getpid 1", 8, room, sizeof room - 1, &size, &one) == PIDTAB_NO_ROOM && size == PIDTAB_LONGEST_ANSWER);
+	CHECK(pidtab_record_line(&record, 2, "getpid 1", 8, room, sizeof room, &size, &one) == PIDTAB_OUT_OF_RANGE);
+	CHECK(one == 7 && reply.kind == 77 && strcmp(room, "kept") == 0);
+	counts_are(&record, 0, 0);
+	CHECK(pidtab_record_close(&record) == PIDTAB_DONE && record.at == NULL && !record.is_open && !record.in_call);
+}
+
+static void each_function(void)
+{
+	struct pidtab_record record = PIDTAB_RECORD_INIT;
+	struct pidtab_reply reply;
+	struct pidtab_call call;
+	struct pidtab_entry entries[3] = { { .worker = 77 }, { .worker = 77 }, { .worker = 77 } };
+	char room[PIDTAB_LONGEST_ANSWER];
+	uint64_t one, other;
+	size_t size;
+
+	CHECK(pidtab_record_open(&record, 32768, 1, 2) == PIDTAB_DONE);
+	CHECK(pidtab_record_call(&record, 1, &fork_1, &reply, &one) == PIDTAB_DONE && one == 0);
+	CHECK(reply.kind == PIDTAB_FORKED && reply.first == 2 && reply.second == 2);
+	memset(room, 'x', sizeof room);
+	CHECK(pidtab_record_line(&record, 0, "getpid 9", 8, room, sizeof room, &size, &one) == PIDTAB_DONE && one == 1);
+	CHECK(size == 15 && strncmp(room, "ESRCH no-callerx", 16) == 0 && room[sizeof room - 1] == 'x');
+	CHECK(pidtab_record_ask(&record, &getpid_1, &reply) == PIDTAB_DONE && reply.kind == PIDTAB_NUMBER && reply.first == 1);
+	counts_are(&record, 0, 2);
+	CHECK(pidtab_record_worker(&record, 0, &one) == PIDTAB_DONE && one == 1 && pidtab_record_worker(&record, 1, &one) == PIDTAB_DONE && one == 1);
+	CHECK(pidtab_record_entry(&record, 0, &one, &call, &reply) == PIDTAB_DONE && one == 1 && call.operation == PIDTAB_FORK && reply.second == 2);
+	CHECK(pidtab_record_entry(&record, 2, &one, &call, &reply) == PIDTAB_NOT_KEPT && one == 1);
+	CHECK(pidtab_record_read(&record, 0, entries, 1, &size) == PIDTAB_DONE && size == 1 && entries[0].worker == 1 && entries[1].worker == 77);
+	CHECK(pidtab_record_read(&record, 1, entries + 1, 2, &size) == PIDTAB_DONE && size == 1 && entries[1].worker == 0 && entries[2].worker == 77);
+	CHECK(entries[1].call.caller == 9 && entries[1].reply.kind == PIDTAB_REFUSED && entries[1].reply.error == ESRCH);
+	CHECK(strstr(listed(&record, false), "\ntask 2 ") && !strstr(listed(&record, true), "\ntask 2 "));
+
+	CHECK(pidtab_record_checkpoint_at(&record, 1) == PIDTAB_AGAIN && pidtab_record_checkpoint_at(&record, 3) == PIDTAB_AGAIN);
+	counts_are(&record, 0, 2);
+	CHECK(pidtab_record_checkpoint(&record) == PIDTAB_DONE && strcmp(listed(&record, false), listed(&record, true)) == 0);
+	counts_are(&record, 2, 2);
+	CHECK(pidtab_record_entry(&record, 1, &one, &call, &reply) == PIDTAB_NOT_KEPT && pidtab_record_read(&record, 1, entries, 1, &size) == PIDTAB_NOT_KEPT);
+	CHECK(pidtab_record_read(&record, 2, entries, 1, &size) == PIDTAB_DONE && size == 0);
+	CHECK(pidtab_record_call(&record, 1, &getpid_1, &reply, &other) == PIDTAB_DONE && other == 2);
+	CHECK(pidtab_record_worker(&record, 1, &one) == PIDTAB_DONE && one == 2 && pidtab_record_checkpoint_at(&record, 3) == PIDTAB_DONE);
+	pidtab_record_close(&record);
+}
+
+static void stamps_are_used_up(void)
+{
+	struct pidtab_record record = PIDTAB_RECORD_INIT;
+	struct pidtab_entry saved = { .call = getpid_1 };
+	struct pidtab_reply reply;
+	uint64_t ordinal = 7;
+	size_t place = 7;
+
+	CHECK(pidtab_record_open(&record, 32768, UINT64_MAX - 1, 1) == PIDTAB_DONE);
+	CHECK(pidtab_record_call(&record, 0, &fork_1, &reply, &ordinal) == PIDTAB_DONE && ordinal == 0);
+	CHECK(pidtab_record_call(&record, 0, &getpid_1, &reply, &ordinal) == PIDTAB_SPENT && ordinal == 0);
+	CHECK(pidtab_record_replay(&record, &saved, 1, &place) == PIDTAB_SPENT && place == 0);
+	CHECK(pidtab_record_ask(&record, &getpid_1, &reply) == PIDTAB_DONE && reply.first == 1);
+	counts_are(&record, 0, 1);
+	pidtab_record_close(&record);
+}
+
+/* A query on a table without a history. */
+static void asked(void)
+{
+	struct pidtab table = PIDTAB_INIT;
+	struct pidtab_reply reply = { .kind = 77 };
+
+	CHECK(pidtab_ask(&table, &getpid_1, &reply) == PIDTAB_CLOSED && pidtab_open(&table, 32768) == PIDTAB_DONE);
+	CHECK(pidtab_ask(&table, &fork_1, &reply) == PIDTAB_OUT_OF_RANGE && reply.kind == 77);
+	CHECK(pidtab_ask(&table, &getpid_1, &reply) == PIDTAB_DONE && reply.kind == PIDTAB_NUMBER && reply.first == 1);
+	CHECK(pidtab_count(&table, 0) == 1);
+	pidtab_close(&table);
+}
+
+/* Each allocation is refused in turn, of each call and of a cut: nothing changes until it is done. */
+static void want_of_memory(void)
+{
+	struct pidtab_record record = PIDTAB_RECORD_INIT;
+	struct pidtab_reply reply;
+	uint64_t ordinal;
+	int refusals = 0, at = 0;
+
+	do
+		refuse_at = ++at;
+	while (pidtab_record_open(&record, 32768, 1, 3) == PIDTAB_NO_MEMORY && !record.is_open);
+	refuse_at = 0;
+	CHECK(at > 1 && record.is_open);
+	for (uint64_t i = 0; i < 40; i++) {
+		for (at = 1; refuse_at = at, pidtab_record_call(&record, i % 3, &fork_1, &reply, &ordinal) == PIDTAB_NO_MEMORY; at++, refusals++) {
+			refuse_at = 0;
+			counts_are(&record, 0, i);
+		}
+		refuse_at = 0;
+		CHECK(ordinal == i && reply.kind == PIDTAB_FORKED && reply.second == i + 2);
+	}
+	CHECK(refusals > 5);
+	for (at = 1; refuse_at = at, pidtab_record_checkpoint(&record) == PIDTAB_NO_MEMORY; at++) {
+		refuse_at = 0;
+		counts_are(&record, 0, 40);
+	}
+	refuse_at = 0;
+	CHECK(at > 1);
+	counts_are(&record, 40, 40);
+	pidtab_record_close(&record);
+}
+
+int main(void)
+{
+	closed();
+	out_of_range();
+	each_function();
+	stamps_are_used_up();
+	asked();
+	want_of_memory();
+	return 0;
+}

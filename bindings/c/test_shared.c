@@ -1,0 +1,194 @@
+/* A record that sixteen threads share: each worker's receipts are the entries of its calls, in order; the counts add up; and the
+ * history, replayed on a second record, has the same replies and leaves the same list. */
+#include "test.h"
+#include "pidtab_shared.h"
+
+#define WORKERS 16
+#define EACH 20000
+
+static struct pidtab_shared shared;
+
+/* The layout that the proved functions have. */
+_Static_assert(sizeof(struct pidtab_entry) == 208 && offsetof(struct pidtab_entry, call) == 8 && offsetof(struct pidtab_entry, reply) == 40, "an entry");
+_Static_assert(offsetof(struct pidtab_record, at) == 0 && offsetof(struct pidtab_record, is_open) == sizeof(void *), "a record");
+
+struct receipt {
+	uint64_t ordinal;
+	struct pidtab_call call;
+	struct pidtab_reply reply;
+};
+
+struct work {
+	uint32_t worker;
+	uint64_t count;
+	struct receipt receipts[EACH];
+};
+
+static struct work *works;
+static struct pidtab_entry *entries;
+
+static struct pidtab_reply *makes(struct work *work, struct pidtab_call call)
+{
+	struct receipt *receipt = &work->receipts[work->count++];
+
+	receipt->call = call;
+	CHECK(pidtab_shared_call(&shared, work->worker, &call, &receipt->reply, &receipt->ordinal) == PIDTAB_DONE);
+	return &receipt->reply;
+}
+
+/* A namespace of the worker's own, and in it a child after the other, which ends with the worker's number. */
+static void *serves(void *at)
+{
+	struct work *work = at;
+
+	CHECK(pidtab_shared_seat(&shared, &work->worker) == PIDTAB_DONE && work->worker < WORKERS);
+	uint32_t own = (uint32_t)makes(work, (struct pidtab_call){ .operation = PIDTAB_FORK, .caller = 1, .choice = 1 })->second;
+	while (work->count + 4 < EACH) {
+		struct pidtab_reply *forked = makes(work, (struct pidtab_call){ .operation = PIDTAB_FORK, .caller = own });
+		uint32_t child = (uint32_t)forked->first, root = (uint32_t)forked->second;
+		CHECK(makes(work, (struct pidtab_call){ .operation = PIDTAB_GETPID, .caller = root })->first == child);
+		makes(work, (struct pidtab_call){ .operation = PIDTAB_EXIT, .caller = root, .number = work->worker });
+		struct pidtab_reply *reaped = makes(work, (struct pidtab_call){ .operation = PIDTAB_WAIT, .caller = own, .choice = PIDTAB_CHILD, .number = child });
+		CHECK(reaped->kind == PIDTAB_REAPED && reaped->first == child && reaped->second == work->worker);
+	}
+	while (work->count < EACH)
+		CHECK(makes(work, (struct pidtab_call){ .operation = PIDTAB_GETPID, .caller = own })->first == 1);
+	return NULL;
+}
+
+static void sixteen_at_once(void)
+{
+	pthread_t threads[WORKERS];
+	uint32_t worker;
+
+	for (int i = 0; i < WORKERS; i++)
+		CHECK(pthread_create(&threads[i], NULL, serves, &works[i]) == 0);
+	for (int i = 0; i < WORKERS; i++)
+		CHECK(pthread_join(threads[i], NULL) == 0);
+	CHECK(pidtab_shared_seat(&shared, &worker) == PIDTAB_OUT_OF_RANGE);
+}
+
+static void the_counts_add_up(void)
+{
+	uint64_t first_kept = 7, recorded = 7, calls = 7, sum = 0;
+
+	CHECK(pidtab_shared_counts(&shared, &first_kept, &recorded) == PIDTAB_DONE);
+	CHECK(first_kept == 0 && recorded == (uint64_t)WORKERS * EACH);
+	for (uint32_t i = 0; i < WORKERS; i++) {
+		CHECK(pidtab_shared_worker(&shared, i, &calls) == PIDTAB_DONE && calls == EACH);
+		sum += calls;
+	}
+	CHECK(sum == recorded && pidtab_shared_worker(&shared, WORKERS, &calls) == PIDTAB_OUT_OF_RANGE && calls == EACH);
+}
+
+static bool same_call(const struct pidtab_call *a, const struct pidtab_call *b)
+{
+	return a->operation == b->operation && a->caller == b->caller && a->id == b->id && a->number == b->number && a->choice == b->choice
+		&& a->pid == b->pid && a->pgid == b->pgid;
+}
+
+static bool same_reply(const struct pidtab_reply *a, const struct pidtab_reply *b)
+{
+	return a->kind == b->kind && a->error == b->error && a->refusal == b->refusal && a->count == b->count && a->first == b->first
+		&& a->second == b->second && memcmp(a->levels, b->levels, sizeof a->levels) == 0;
+}
+
+static void the_receipts_are_the_entries(void)
+{
+	struct work *of[WORKERS];
+	uint64_t next[WORKERS] = { 0 }, worker;
+	struct pidtab_call call;
+	struct pidtab_reply reply;
+	size_t count = 7;
+
+	for (int i = 0; i < WORKERS; i++)
+		of[works[i].worker] = &works[i];
+	CHECK(pidtab_shared_read(&shared, 0, entries, WORKERS * EACH, &count) == PIDTAB_DONE && count == WORKERS * EACH);
+	for (uint64_t i = 0; i < count; i++) {
+		const struct receipt *receipt = &of[entries[i].worker]->receipts[next[entries[i].worker]++];
+		CHECK(receipt->ordinal == i && same_call(&receipt->call, &entries[i].call) && same_reply(&receipt->reply, &entries[i].reply));
+		CHECK(pidtab_shared_entry(&shared, i, &worker, &call, &reply) == PIDTAB_DONE && worker == entries[i].worker);
+		CHECK(same_call(&call, &entries[i].call) && same_reply(&reply, &entries[i].reply));
+	}
+	CHECK(pidtab_shared_entry(&shared, count, &worker, &call, &reply) == PIDTAB_NOT_KEPT);
+	CHECK(pidtab_shared_read(&shared, count, entries, 1, &count) == PIDTAB_DONE && count == 0);
+	CHECK(pidtab_shared_read(&shared, (uint64_t)WORKERS * EACH + 1, entries, 1, &count) == PIDTAB_NOT_KEPT);
+}
+
+static void same_lists(struct pidtab_record *one, struct pidtab_record *other)
+{
+	static char texts[2][1 << 20];
+	size_t sizes[2] = { 0, 1 };
+
+	CHECK(pidtab_record_list(one, texts[0], sizeof texts[0], &sizes[0]) == PIDTAB_DONE);
+	CHECK(pidtab_record_list(other, texts[1], sizeof texts[1], &sizes[1]) == PIDTAB_DONE);
+	CHECK(sizes[0] > 100 && sizes[0] == sizes[1] && memcmp(texts[0], texts[1], sizes[0]) == 0);
+}
+
+/* On a second record: the whole history, and then one with a reply that is not that of its call. */
+static void the_history_replays(void)
+{
+	struct pidtab_record again = PIDTAB_RECORD_INIT;
+	uint64_t first_kept, recorded;
+	size_t place = 7;
+
+	CHECK(pidtab_record_open(&again, 32768, 1, WORKERS) == PIDTAB_DONE);
+	CHECK(pidtab_record_replay(&again, entries, WORKERS * EACH, &place) == PIDTAB_DONE && place == WORKERS * EACH);
+	same_lists(pidtab_shared_lock(&shared), &again);
+	pidtab_shared_unlock(&shared);
+	CHECK(pidtab_record_close(&again) == PIDTAB_DONE && pidtab_record_open(&again, 32768, 1, WORKERS) == PIDTAB_DONE);
+	entries[5].reply.first++;
+	CHECK(pidtab_record_replay(&again, entries, 9, &place) == PIDTAB_DIFFERS && place == 5);
+	CHECK(pidtab_record_counts(&again, &first_kept, &recorded) == PIDTAB_DONE && first_kept == 0 && recorded == 6);
+	CHECK(pidtab_record_replay(&again, &(struct pidtab_entry){ .worker = WORKERS }, 1, &place) == PIDTAB_OUT_OF_RANGE && place == 0);
+	CHECK(pidtab_record_close(&again) == PIDTAB_DONE);
+}
+
+/* A cut says how many calls the caller has seen; a query is no call. */
+static void a_cut(void)
+{
+	struct pidtab_call call = { .operation = PIDTAB_GETPID, .caller = 1 };
+	struct pidtab_reply reply = { .kind = 77 };
+	const uint64_t all = (uint64_t)WORKERS * EACH;
+	uint64_t first_kept, recorded, ordinal;
+
+	CHECK(pidtab_shared_ask(&shared, &call, &reply) == PIDTAB_DONE && reply.kind == PIDTAB_NUMBER && reply.first == 1);
+	CHECK(pidtab_shared_checkpoint_at(&shared, all - 1) == PIDTAB_AGAIN);
+	CHECK(pidtab_shared_checkpoint_at(&shared, all) == PIDTAB_DONE);
+	CHECK(pidtab_shared_counts(&shared, &first_kept, &recorded) == PIDTAB_DONE && first_kept == all && recorded == all);
+	CHECK(pidtab_shared_call(&shared, 3, &call, &reply, &ordinal) == PIDTAB_DONE && ordinal == all);
+}
+
+/* With `keep` the history is never longer. */
+static void cuts_of_its_own(void)
+{
+	char answer[PIDTAB_LONGEST_ANSWER];
+	uint64_t first_kept, recorded, ordinal;
+	size_t size;
+
+	CHECK(pidtab_shared_open(&shared, 32768, 1, 0, 10) == PIDTAB_OUT_OF_RANGE);
+	CHECK(pidtab_shared_open(&shared, 32768, 1, 1, 10) == PIDTAB_DONE);
+	for (uint64_t i = 0; i < 25; i++)
+		CHECK(pidtab_shared_line(&shared, 0, "fork 1", 6, answer, sizeof answer, &size, &ordinal) == PIDTAB_DONE && ordinal == i);
+	CHECK(pidtab_shared_counts(&shared, &first_kept, &recorded) == PIDTAB_DONE && first_kept == 20 && recorded == 25);
+	CHECK(pidtab_shared_checkpoint(&shared) == PIDTAB_DONE);
+	CHECK(pidtab_shared_counts(&shared, &first_kept, &recorded) == PIDTAB_DONE && first_kept == 25 && recorded == 25);
+	pidtab_shared_close(&shared);
+}
+
+int main(void)
+{
+	works = calloc(WORKERS, sizeof *works);
+	entries = calloc((size_t)WORKERS * EACH, sizeof *entries);
+	CHECK(works && entries && pidtab_shared_open(&shared, 32768, 1, WORKERS, 0) == PIDTAB_DONE);
+	sixteen_at_once();
+	the_counts_add_up();
+	the_receipts_are_the_entries();
+	the_history_replays();
+	a_cut();
+	pidtab_shared_close(&shared);
+	cuts_of_its_own();
+	free(works);
+	free(entries);
+	return 0;
+}

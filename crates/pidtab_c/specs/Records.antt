@@ -1,0 +1,49 @@
+-- What C's functions find and leave of a record.
+use Rattle.std.specs.Prelude.{◌≡◌, ◌<◌, ◌≤◌, ◌++◌, ℕ, [], ◌∷◌, length, Option, Some, None, option_map}
+use Rattle.pid_types.specs.declared.call.Call.{Call}
+use Rattle.pid_types.specs.Settings.{HasGoodPidMax}
+use Rattle.kept_table.specs.Calls.{begun, outcome, entry_of, counted, cut_at}
+use Rattle.kept_table.specs.Chronicle.{Chronicle, total, recorded}
+
+-- there is a value, and this is true of it
+abbrev pub Has : {X : Type 0} → Option X → (X → Type 0) → Type 0
+Has None P = ⊥
+Has (Some x) P = P x
+
+-- the record without the number of entries that it has room for
+abbrev pub roomless : Chronicle → Chronicle
+roomless c = record c { room = 0 }
+
+-- what is held, without that number
+abbrev pub without_room : Option Chronicle → Option Chronicle
+without_room held = option_map roomless held
+
+-- what a record can be opened with
+pub record CanOpen (pid_max first_stamp workers : ℕ) : Type 0 where
+  pub bound : HasGoodPidMax pid_max
+  pub stamp : 0 < first_stamp
+  pub some : 0 < workers
+  pub few : workers ≤ 16
+
+-- a record with the root init alone, and no call of any worker
+abbrev pub opened : ℕ → ℕ → ℕ → Chronicle
+opened pid_max first_stamp workers = begun (record { pid_max = pid_max; first_stamp = first_stamp }) workers 0
+
+-- what a recorded call leaves: the state after the model's step, and one entry more, with the model's reply
+abbrev pub after_call : Chronicle → ℕ → Call → Chronicle
+after_call c worker call = counted c (c.entries ++ entry_of c worker call ∷ []) (outcome c call).state 0
+
+-- the worker's call was made and recorded, once, at this place of the history
+pub record IsRecorded (c : Chronicle) (worker : ℕ) (call : Call) (ordinal : ℕ) (new : Option Chronicle) : Type 0 where
+  pub left : without_room new ≡ Some (after_call c worker call)
+  pub place : ordinal ≡ total c
+
+-- the history was cut away: the present state is the opening, ordinals go on, and each worker's calls stay counted
+pub record IsCut (c d : Chronicle) : Type 0 where
+  pub left : d ≡ cut_at c (total c) d.cut d.room
+  pub workers : length d.cut ≡ length c.cut
+  pub counts : (worker : ℕ) → worker < length c.cut → recorded d worker ≡ recorded c worker
+
+-- the same of what is held
+abbrev pub Cuts : Option Chronicle → Option Chronicle → Type 0
+Cuts old new = Has old (λ c. Has new (λ d. IsCut c d))

@@ -1,0 +1,279 @@
+//! The history of a record, for C: how many calls were recorded, the kept entries, and cutting them away.
+ghost use Rattle.std.specs.Prelude.{◌≡◌, ◌≢◌, ◌<◌, ◌≤◌, ◌↔◌, ◌⊎◌, ℕ, Option, Some, None};
+ghost use Rattle.std.specs.Prelude.{IfOk, IfSome, length, take, drop};
+ghost use Rattle.std.specs.Option.{option_copied};
+ghost use Rattle.kept_table.specs.Chronicle.{total, recorded, recorded_by_all, kept_entry};
+ghost use Rattle.kept_table.specs.Promise.{KeepsPromise};
+ghost use Rattle.pidtab_c.specs.Entries.{IsEntry};
+ghost use Rattle.pidtab_c.specs.Listed.{list_of_state};
+ghost use Rattle.pidtab_c.specs.Records.{Has, IsCut, Cuts};
+
+use crate::call_numbers::tell_call;
+use crate::numbers::{CallNumbers, ReplyNumbers, tell_reply};
+use crate::record::PidtabRecord;
+use crate::status::{AGAIN, CLOSED, DONE, NO_MEMORY, NO_ROOM, NOT_KEPT, OUT_OF_RANGE};
+use crate::texts::write_text;
+use kept_table::Kept;
+use pid_script::list::list_text;
+use std::alloc::{AllocError, Global};
+
+/// Tells the ordinal of the first kept entry, and how many calls were recorded, the cut ones among them: so the kept
+/// entries have the ordinals from the first number up to below the second.
+///
+/// `CLOSED` where there is no open record. It costs nothing. Its contract is the headline: what is true of an open
+/// record between any two functions, whatever they were.
+#[unsafe(no_mangle)]
+pub extern "C" fn pidtab_record_counts(
+    alloc: Global,
+    table: &mut PidtabRecord,
+    first_kept: &mut u64,
+    recorded: &mut u64,
+) -> u32
+    ensures same { table.new.handle.held ≡ table.old.handle.held }
+    ensures promise { IfSome table.old.handle.held (λ c. KeepsPromise c) }
+    ensures workers { IfSome table.old.handle.held (λ c. total c ≡ recorded_by_all (length c.cut) c) }
+    ensures done { result ≡ DONE
+        → Has table.old.handle.held (λ c. (recorded.new ≡ total c) × (first_kept.new ≡ c.first_kept)) }
+    ensures not_done { result ≢ DONE → (recorded.new ≡ recorded.old) × (first_kept.new ≡ first_kept.old) }
+    ensures closed { (result ≡ CLOSED) ↔ (table.old.handle.held ≡ None) }
+    ensures statuses { (result ≡ DONE) ⊎ (result ≡ CLOSED) }
+{
+    let Some(held) = table.take(alloc) else {
+        return CLOSED;
+    };
+    *recorded = held.total();
+    *first_kept = held.first_kept();
+    table.put(held);
+    DONE
+}
+
+/// Tells how many calls of the worker were recorded, the cut ones among them.
+///
+/// `CLOSED` where there is no open record; then `OUT_OF_RANGE` where there is no such worker. It costs nothing.
+#[unsafe(no_mangle)]
+pub extern "C" fn pidtab_record_worker(
+    alloc: Global,
+    table: &mut PidtabRecord,
+    worker: u32,
+    calls: &mut u64,
+) -> u32
+    ensures same { table.new.handle.held ≡ table.old.handle.held }
+    ensures done { result ≡ DONE → Has table.old.handle.held (λ c. calls.new ≡ recorded c worker) }
+    ensures not_done { result ≢ DONE → calls.new ≡ calls.old }
+    ensures closed { (result ≡ CLOSED) ↔ (table.old.handle.held ≡ None) }
+    ensures out_of_range { (result ≡ OUT_OF_RANGE)
+        ↔ Has table.old.handle.held (λ c. length c.cut ≤ worker) }
+    ensures statuses { (result ≡ DONE) ⊎ ((result ≡ CLOSED) ⊎ (result ≡ OUT_OF_RANGE)) }
+{
+    let Some(held) = table.take(alloc) else {
+        return CLOSED;
+    };
+    let worker = worker as usize;
+    if worker >= held.workers() {
+        table.put(held);
+        return OUT_OF_RANGE;
+    }
+    *calls = held.recorded(worker);
+    table.put(held);
+    DONE
+}
+
+/// Tells the kept entry with the ordinal. The result is the status.
+fn tell_entry(
+    held: &Kept,
+    ordinal: u64,
+    worker: &mut u64,
+    call: &mut CallNumbers,
+    reply: &mut ReplyNumbers,
+) -> u32
+    ensures done { result ≡ DONE → IsEntry held.now ordinal worker.new call.new reply.new }
+    ensures not_done { result ≢ DONE
+        → (worker.new ≡ worker.old) × (call.new ≡ call.old) × (reply.new ≡ reply.old) }
+    ensures not_kept { (result ≡ NOT_KEPT) ↔ (kept_entry held.now ordinal ≡ None) }
+    ensures statuses { (result ≡ DONE) ⊎ (result ≡ NOT_KEPT) }
+{
+    let Some(entry) = held.entry(ordinal) else {
+        return NOT_KEPT;
+    };
+    *worker = entry.worker as u64;
+    *call = tell_call(&entry.call);
+    *reply = tell_reply(&entry.reply);
+    DONE
+}
+
+/// Tells the kept entry with the ordinal: whose call it was, the call and its reply, as numbers. What the call does not
+/// take is 0.
+///
+/// `CLOSED` where there is no open record; then `NOT_KEPT` where the entry was cut away, or is not reached yet. It
+/// costs the same for each ordinal.
+#[unsafe(no_mangle)]
+pub extern "C" fn pidtab_record_entry(
+    alloc: Global,
+    table: &mut PidtabRecord,
+    ordinal: u64,
+    worker: &mut u64,
+    call: &mut CallNumbers,
+    reply: &mut ReplyNumbers,
+) -> u32
+    ensures same { table.new.handle.held ≡ table.old.handle.held }
+    ensures done { result ≡ DONE
+        → Has table.old.handle.held (λ c. IsEntry c ordinal worker.new call.new reply.new) }
+    ensures not_done { result ≢ DONE
+        → (worker.new ≡ worker.old) × (call.new ≡ call.old) × (reply.new ≡ reply.old) }
+    ensures closed { (result ≡ CLOSED) ↔ (table.old.handle.held ≡ None) }
+    ensures not_kept { (result ≡ NOT_KEPT)
+        ↔ Has table.old.handle.held (λ c. kept_entry c ordinal ≡ None) }
+    ensures statuses { (result ≡ DONE) ⊎ ((result ≡ CLOSED) ⊎ (result ≡ NOT_KEPT)) }
+{
+    let Some(held) = table.take(alloc) else {
+        return CLOSED;
+    };
+    let status = tell_entry(&held, ordinal, worker, call, reply);
+    table.put(held);
+    status
+}
+
+/// Cuts the record's history. The result is the status.
+fn cut_on(held: &mut Kept) -> u32
+    ensures done { result ≡ DONE → IsCut held.old held.new }
+    ensures not_done { result ≢ DONE → held.new ≡ held.old }
+    ensures statuses { (result ≡ DONE) ⊎ (result ≡ NO_MEMORY) }
+{
+    match held.checkpoint() {
+        Ok(()) => DONE,
+        Err(_) => NO_MEMORY,
+    }
+}
+
+/// Cuts the history: the present state becomes the opening, and no entry is kept. Stamps and ordinals go on.
+///
+/// `CLOSED` where there is no open record; `NO_MEMORY`. It costs a copy of the whole table, or nothing where the
+/// history is empty and no room is kept for entries.
+#[unsafe(no_mangle)]
+pub extern "C" fn pidtab_record_checkpoint(alloc: Global, table: &mut PidtabRecord) -> u32
+    ensures done { result ≡ DONE → Cuts table.old.handle.held table.new.handle.held }
+    ensures not_done { result ≢ DONE → table.new.handle.held ≡ table.old.handle.held }
+    ensures closed { (result ≡ CLOSED) ↔ (table.old.handle.held ≡ None) }
+    ensures statuses { (result ≡ DONE) ⊎ ((result ≡ CLOSED) ⊎ (result ≡ NO_MEMORY)) }
+{
+    let Some(mut held) = table.take(alloc) else {
+        return CLOSED;
+    };
+    let status = cut_on(&mut held);
+    table.put(held);
+    status
+}
+
+/// Cuts the history as [`pidtab_record_checkpoint`] does, but only where exactly so many calls were recorded: so no
+/// entry is cut that the caller has not seen.
+///
+/// `CLOSED` where there is no open record; then `AGAIN` where more calls, or fewer, were recorded by now; `NO_MEMORY`.
+#[unsafe(no_mangle)]
+pub extern "C" fn pidtab_record_checkpoint_at(
+    alloc: Global,
+    table: &mut PidtabRecord,
+    seen: u64,
+) -> u32
+    ensures done { result ≡ DONE → Cuts table.old.handle.held table.new.handle.held }
+    ensures seen { result ≡ DONE → Has table.old.handle.held (λ c. total c ≡ seen) }
+    ensures not_done { result ≢ DONE → table.new.handle.held ≡ table.old.handle.held }
+    ensures closed { (result ≡ CLOSED) ↔ (table.old.handle.held ≡ None) }
+    ensures again { (result ≡ AGAIN) ↔ Has table.old.handle.held (λ c. total c ≢ seen) }
+    ensures statuses { (result ≡ DONE) ⊎ ((result ≡ CLOSED) ⊎ ((result ≡ AGAIN) ⊎ (result ≡ NO_MEMORY))) }
+{
+    let Some(mut held) = table.take(alloc) else {
+        return CLOSED;
+    };
+    if held.total() != seen {
+        table.put(held);
+        return AGAIN;
+    }
+    let status = cut_on(&mut held);
+    table.put(held);
+    status
+}
+
+/// The text of the present state's list. The error is want of memory.
+fn present_text(alloc: Global, held: &Kept) -> Result<Vec<u8>, AllocError>
+    ensures { IfOk result (λ text. text.items ≡ list_of_state held.now.present) }
+{
+    let plain = held.snapshot()?;
+    list_text(alloc, &plain)
+}
+
+/// The text of the list of the state that the kept history begins in. The error is want of memory.
+fn opening_text(alloc: Global, held: &Kept) -> Result<Vec<u8>, AllocError>
+    ensures { IfOk result (λ text. text.items ≡ list_of_state held.now.opening) }
+{
+    let plain = held.opening()?;
+    list_text(alloc, &plain)
+}
+
+/// Puts the list of the present state at the front of the room, each line with its newline; `size` is the list's length
+/// in bytes. Bytes of the room behind it stay as they are.
+///
+/// `CLOSED` where there is no open record; `NO_MEMORY`; `NO_ROOM` where the list is longer than the room, and then too
+/// `size` is the list's length. It costs a copy of the whole table, and the text.
+#[unsafe(no_mangle)]
+pub extern "C" fn pidtab_record_list(
+    alloc: Global,
+    table: &mut PidtabRecord,
+    room: &mut [u8],
+    size: &mut usize,
+) -> u32
+    ensures same { table.new.handle.held ≡ table.old.handle.held }
+    ensures done { result ≡ DONE
+        → Has table.old.handle.held (λ c. take size.new room.new ≡ list_of_state c.present) }
+    ensures fits { result ≡ DONE → size.new ≤ length room.new }
+    ensures behind { result ≡ DONE → drop size.new room.new ≡ drop size.new room.old }
+    ensures not_done { result ≢ DONE → room.new ≡ room.old }
+    ensures size { (result ≡ DONE) ⊎ (result ≡ NO_ROOM)
+        → Has table.old.handle.held (λ c. size.new ≡ length (list_of_state c.present)) }
+    ensures same_size { (result ≡ CLOSED) ⊎ (result ≡ NO_MEMORY) → size.new ≡ size.old }
+    ensures closed { (result ≡ CLOSED) ↔ (table.old.handle.held ≡ None) }
+    ensures no_room { result ≡ NO_ROOM → length room.old < size.new }
+    ensures statuses { (result ≡ DONE) ⊎ ((result ≡ CLOSED) ⊎ ((result ≡ NO_ROOM) ⊎ (result ≡ NO_MEMORY))) }
+{
+    let Some(held) = table.take(alloc) else {
+        return CLOSED;
+    };
+    let text = present_text(alloc, &held);
+    table.put(held);
+    match text {
+        Ok(text) => write_text(text.as_slice(), room, size),
+        Err(_) => NO_MEMORY,
+    }
+}
+
+/// Puts the list of the state that the kept history begins in at the front of the room, as [`pidtab_record_list`] does
+/// with the present state, with the same statuses and at the same cost.
+#[unsafe(no_mangle)]
+pub extern "C" fn pidtab_record_opening(
+    alloc: Global,
+    table: &mut PidtabRecord,
+    room: &mut [u8],
+    size: &mut usize,
+) -> u32
+    ensures same { table.new.handle.held ≡ table.old.handle.held }
+    ensures done { result ≡ DONE
+        → Has table.old.handle.held (λ c. take size.new room.new ≡ list_of_state c.opening) }
+    ensures fits { result ≡ DONE → size.new ≤ length room.new }
+    ensures behind { result ≡ DONE → drop size.new room.new ≡ drop size.new room.old }
+    ensures not_done { result ≢ DONE → room.new ≡ room.old }
+    ensures size { (result ≡ DONE) ⊎ (result ≡ NO_ROOM)
+        → Has table.old.handle.held (λ c. size.new ≡ length (list_of_state c.opening)) }
+    ensures same_size { (result ≡ CLOSED) ⊎ (result ≡ NO_MEMORY) → size.new ≡ size.old }
+    ensures closed { (result ≡ CLOSED) ↔ (table.old.handle.held ≡ None) }
+    ensures no_room { result ≡ NO_ROOM → length room.old < size.new }
+    ensures statuses { (result ≡ DONE) ⊎ ((result ≡ CLOSED) ⊎ ((result ≡ NO_ROOM) ⊎ (result ≡ NO_MEMORY))) }
+{
+    let Some(held) = table.take(alloc) else {
+        return CLOSED;
+    };
+    let text = opening_text(alloc, &held);
+    table.put(held);
+    match text {
+        Ok(text) => write_text(text.as_slice(), room, size),
+        Err(_) => NO_MEMORY,
+    }
+}

@@ -1,0 +1,121 @@
+//! A table with its history, for C.
+//!
+//! Calls of 1 to 16 workers are recorded with their replies. A worker is a number below the number of workers; who uses
+//! which is the caller's affair, and two threads with one number are counted as one worker. C keeps the lock: one
+//! function at a time works on a record.
+//!
+//! The history grows by 184 bytes with each recorded call, until a checkpoint cuts it. Any status but `DONE` says that
+//! the record is as it was, but for the room that it keeps for entries, which nothing shows.
+ghost use Rattle.std.specs.Prelude.{◌≡◌, ◌≢◌, ◌↔◌, ◌⊎◌, IsSome, Some, None, IfOk, IfSome, is_some};
+ghost use Rattle.pidtab_c.specs.Records.{roomless, without_room, CanOpen, opened};
+
+use crate::handle::null;
+use crate::loose::Loose;
+use crate::record_handle::RecordHandle;
+use crate::status::{BUSY, DONE, NO_MEMORY, OUT_OF_RANGE};
+use kept_table::Kept;
+use pid_types::config::Config;
+use std::alloc::{AllocError, Global};
+use std::mem;
+
+/// The most workers that a record has.
+pub const MOST_WORKERS: u32 = 16;
+
+/// A record for C, or none: zeroes are none.
+#[repr(C)]
+#[derive(Drop)]
+pub struct PidtabRecord {
+    pub(crate) handle: RecordHandle,
+    pub(crate) is_open: bool,
+    ghost linked: { is_some handle.held ≡ is_open },
+}
+
+impl PidtabRecord {
+    /// What is held, which the handle has no more.
+    pub(crate) fn take(&mut self, alloc: Global) -> Option<Box<Kept>>
+        ensures held { IfSome result (λ held. self.old.handle.held ≡ Some held.value) }
+        ensures none { result ≡ None → self.old.handle.held ≡ None }
+        ensures new { self.new.handle.held ≡ None }
+    {
+        let PidtabRecord { handle, is_open } = mem::replace(
+            self,
+            PidtabRecord {
+                handle: RecordHandle::empty(alloc, null()),
+                is_open: false,
+            },
+        );
+        if is_open {
+            Some(handle.into_loose(alloc).into_box())
+        } else {
+            None
+        }
+    }
+
+    /// Holds the record.
+    pub(crate) fn put(&mut self, held: Box<Kept>)
+        ensures { self.new.handle.held ≡ Some held.value }
+    {
+        *self = PidtabRecord {
+            handle: RecordHandle::of(Loose::of(held)),
+            is_open: true,
+        };
+    }
+}
+
+/// A new record on the heap. The error is want of memory.
+fn boxed_record(alloc: Global, config: &Config, workers: usize) -> Result<Box<Kept>, AllocError>
+    ensures { IfOk result (λ held.
+        roomless held.value ≡ opened config.now.pid_max config.now.first_stamp workers) }
+{
+    let held = Kept::new(alloc, config, workers)?;
+    match Box::new(alloc, held) {
+        Ok(held) => Ok(held),
+        Err(_) => Err(AllocError),
+    }
+}
+
+/// Opens a record with the root init alone, whose numbers are below `pid_max`, for so many workers. The first recorded
+/// call has `first_stamp`, and each one the next.
+///
+/// `BUSY` where it is open already; then `OUT_OF_RANGE` for no worker or more than 16, for a `pid_max` outside 301 to
+/// 4194304, or for a first stamp of 0; `NO_MEMORY`. Whoever opens a record closes it.
+#[unsafe(no_mangle)]
+pub extern "C" fn pidtab_record_open(
+    alloc: Global,
+    table: &mut PidtabRecord,
+    pid_max: u32,
+    first_stamp: u64,
+    workers: u32,
+) -> u32
+    ensures done { result ≡ DONE
+        → without_room table.new.handle.held ≡ Some (opened pid_max first_stamp workers) }
+    ensures good { result ≡ DONE → CanOpen pid_max first_stamp workers }
+    ensures not_done { result ≢ DONE → table.new.handle.held ≡ table.old.handle.held }
+    ensures busy { (result ≡ BUSY) ↔ IsSome table.old.handle.held }
+    ensures out_of_range { (result ≡ OUT_OF_RANGE)
+        ↔ (table.old.handle.held ≡ None) × (CanOpen pid_max first_stamp workers → ⊥) }
+    ensures statuses { (result ≡ DONE) ⊎ ((result ≡ BUSY) ⊎ ((result ≡ OUT_OF_RANGE) ⊎ (result ≡ NO_MEMORY))) }
+{
+    if table.is_open {
+        return BUSY;
+    }
+    if workers == 0 || workers > MOST_WORKERS {
+        return OUT_OF_RANGE;
+    }
+    let Ok(config) = Config::new(pid_max, first_stamp) else {
+        return OUT_OF_RANGE;
+    };
+    let Ok(held) = boxed_record(alloc, &config, workers as usize) else {
+        return NO_MEMORY;
+    };
+    table.put(held);
+    DONE
+}
+
+/// Frees the record, if there is one, and leaves zeroes.
+#[unsafe(no_mangle)]
+pub extern "C" fn pidtab_record_close(alloc: Global, table: &mut PidtabRecord)
+    ensures { table.new.handle.held ≡ None }
+{
+    let _held = table.take(alloc);
+}

@@ -1,0 +1,217 @@
+//! Calls on a record, for C: as numbers and as lines.
+ghost use Rattle.std.specs.Prelude.{◌≡◌, ◌≢◌, ◌<◌, ◌≤◌, ◌↔◌, ◌⊎◌, IsSome, IsTrue, Some, None, length, take, drop};
+ghost use Rattle.pid_types.specs.Step.{may_grow};
+ghost use Rattle.pid_types.specs.declared.call.Call.{Call};
+ghost use Rattle.pid_script.specs.Answers.{reply_text};
+ghost use Rattle.pid_script.specs.Reading.{parsed};
+ghost use Rattle.pid_script.specs.declared.line.Line.TheVariants as says;
+ghost use Rattle.kept_table.specs.Calls.{outcome};
+ghost use Rattle.kept_table.specs.Chronicle.{total, next_stamp, last_reply};
+ghost use Rattle.pidtab_c.specs.Lines.{IsCall};
+ghost use Rattle.pidtab_c.specs.Numbers.{call_of, numbers_of};
+ghost use Rattle.pidtab_c.specs.Records.{Has, roomless, without_room, IsRecorded};
+
+use crate::numbers::{CallNumbers, ReplyNumbers, read_call, tell_reply};
+use crate::record::PidtabRecord;
+use crate::status::{
+    BAD_LINE, CLOSED, DONE, EMPTY_LINE, NO_MEMORY, NO_ROOM, OUT_OF_RANGE, SPENT, status_of,
+};
+use crate::texts::{copy_reply, write_reply};
+use kept_table::Kept;
+use pid_script::answer::LONGEST_ANSWER;
+use pid_script::line::{Line, parse_line};
+use pid_types::call::Call;
+use std::alloc::Global;
+
+/// Makes the worker's call on the record, and tells its place in the history. The result is the status.
+pub(crate) fn make_on(held: &mut Kept, worker: usize, made: Call, ordinal: &mut u64) -> u32
+    ensures done { result ≡ DONE → IsRecorded held.old worker made ordinal.new (Some held.new) }
+    ensures reply { result ≡ DONE → last_reply held.new ≡ Some (outcome held.old made).reply }
+    ensures not_done { result ≢ DONE → (roomless held.new ≡ roomless held.old) × (ordinal.new ≡ ordinal.old) }
+    ensures out_of_range { (result ≡ OUT_OF_RANGE) ↔ (length held.old.cut ≤ worker) }
+    ensures spent { (result ≡ SPENT) ↔ (worker < length held.old.cut) × (next_stamp held.old ≡ u64.MAX) }
+    ensures no_memory { result ≡ NO_MEMORY → 0 < held.old.room → IsTrue (may_grow made) }
+    ensures statuses { (result ≡ DONE) ⊎ ((result ≡ OUT_OF_RANGE) ⊎ ((result ≡ SPENT) ⊎ (result ≡ NO_MEMORY))) }
+{
+    if worker >= held.workers() {
+        return OUT_OF_RANGE;
+    }
+    let place = held.total();
+    if let Err(fault) = held.make_call(worker, made) {
+        return status_of(fault);
+    }
+    *ordinal = place;
+    DONE
+}
+
+/// Makes the call as [`make_on`] does, and tells its reply as numbers.
+fn call_on(
+    held: &mut Kept,
+    worker: u32,
+    made: Call,
+    reply: &mut ReplyNumbers,
+    ordinal: &mut u64,
+) -> u32
+    ensures done { result ≡ DONE → IsRecorded held.old worker made ordinal.new (Some held.new) }
+    ensures reply { result ≡ DONE → reply.new ≡ numbers_of (outcome held.old made).reply }
+    ensures not_done { result ≢ DONE
+        → (roomless held.new ≡ roomless held.old) × (reply.new ≡ reply.old) × (ordinal.new ≡ ordinal.old) }
+    ensures out_of_range { (result ≡ OUT_OF_RANGE) ↔ (length held.old.cut ≤ worker) }
+    ensures spent { (result ≡ SPENT) ↔ (worker < length held.old.cut) × (next_stamp held.old ≡ u64.MAX) }
+    ensures no_memory { result ≡ NO_MEMORY → 0 < held.old.room → IsTrue (may_grow made) }
+    ensures statuses { (result ≡ DONE) ⊎ ((result ≡ OUT_OF_RANGE) ⊎ ((result ≡ SPENT) ⊎ (result ≡ NO_MEMORY))) }
+{
+    let status = make_on(held, worker as usize, made, ordinal);
+    if status != DONE {
+        return status;
+    }
+    let Some(told) = held.last_reply() else {
+        unreachable!()
+    };
+    *reply = tell_reply(told);
+    DONE
+}
+
+/// Makes the call that the numbers say for the worker, records it with its reply, and tells the reply as numbers, and
+/// the call's place in the history, counted from 0.
+///
+/// `CLOSED` where there is no open record; then `OUT_OF_RANGE` where the operation, or what it takes, is outside its
+/// range, or there is no such worker; then `SPENT` where the stamp of the call would be `u64::MAX`; `NO_MEMORY` where
+/// there is none for what the call makes or for its entry. A call that the table refuses is `DONE`, and recorded: its
+/// reply says so.
+///
+/// It costs what the call costs, and an entry of 184 bytes; where the history is empty and has no room, a copy of the
+/// whole table too, which becomes the opening.
+#[unsafe(no_mangle)]
+pub extern "C" fn pidtab_record_call(
+    alloc: Global,
+    table: &mut PidtabRecord,
+    worker: u32,
+    call: &CallNumbers,
+    reply: &mut ReplyNumbers,
+    ordinal: &mut u64,
+) -> u32
+    ensures done { result ≡ DONE → (made : Call) × (call_of call.now ≡ Some made)
+        × Has table.old.handle.held (λ c. IsRecorded c worker made ordinal.new table.new.handle.held
+        × (reply.new ≡ numbers_of (outcome c made).reply)) }
+    ensures not_done { result ≢ DONE
+        → (without_room table.new.handle.held ≡ without_room table.old.handle.held)
+        × (reply.new ≡ reply.old) × (ordinal.new ≡ ordinal.old) }
+    ensures closed { (result ≡ CLOSED) ↔ (table.old.handle.held ≡ None) }
+    ensures out_of_range { (result ≡ OUT_OF_RANGE)
+        ↔ Has table.old.handle.held (λ c. (call_of call.now ≡ None) ⊎ (length c.cut ≤ worker)) }
+    ensures spent { (result ≡ SPENT) ↔ IsSome (call_of call.now)
+        × Has table.old.handle.held (λ c. (worker < length c.cut) × (next_stamp c ≡ u64.MAX)) }
+    ensures no_memory { result ≡ NO_MEMORY → (made : Call) × (call_of call.now ≡ Some made)
+        × Has table.old.handle.held (λ c. 0 < c.room → IsTrue (may_grow made)) }
+    ensures statuses { (result ≡ DONE) ⊎ ((result ≡ CLOSED) ⊎ ((result ≡ OUT_OF_RANGE)
+        ⊎ ((result ≡ SPENT) ⊎ (result ≡ NO_MEMORY)))) }
+{
+    let Some(mut held) = table.take(alloc) else {
+        return CLOSED;
+    };
+    let Some(made) = read_call(call) else {
+        table.put(held);
+        return OUT_OF_RANGE;
+    };
+    let status = call_on(&mut held, worker, made, reply, ordinal);
+    table.put(held);
+    status
+}
+
+/// Makes the call as [`make_on`] does, and puts the text of its reply at the front of the room.
+fn line_on(
+    held: &mut Kept,
+    worker: u32,
+    made: Call,
+    answer: &mut [u8],
+    size: &mut usize,
+    ordinal: &mut u64,
+) -> u32
+    requires { LONGEST_ANSWER ≤ length answer.old }
+    ensures done { result ≡ DONE → IsRecorded held.old worker made ordinal.new (Some held.new) }
+    ensures reply { result ≡ DONE → take size.new answer.new ≡ reply_text (outcome held.old made).reply }
+    ensures fits { result ≡ DONE → size.new ≤ length answer.new }
+    ensures behind { result ≡ DONE → drop size.new answer.new ≡ drop size.new answer.old }
+    ensures not_done { result ≢ DONE → (roomless held.new ≡ roomless held.old)
+        × (answer.new ≡ answer.old) × (size.new ≡ size.old) × (ordinal.new ≡ ordinal.old) }
+    ensures out_of_range { (result ≡ OUT_OF_RANGE) ↔ (length held.old.cut ≤ worker) }
+    ensures spent { (result ≡ SPENT) ↔ (worker < length held.old.cut) × (next_stamp held.old ≡ u64.MAX) }
+    ensures no_memory { result ≡ NO_MEMORY → 0 < held.old.room → IsTrue (may_grow made) }
+    ensures statuses { (result ≡ DONE) ⊎ ((result ≡ OUT_OF_RANGE) ⊎ ((result ≡ SPENT) ⊎ (result ≡ NO_MEMORY))) }
+{
+    let status = make_on(held, worker as usize, made, ordinal);
+    if status != DONE {
+        return status;
+    }
+    let Some(told) = held.last_reply() else {
+        unreachable!()
+    };
+    *size = write_reply(answer, made, copy_reply(told));
+    DONE
+}
+
+/// Makes the call that is written on the line for the worker, records it with its reply, and puts its answer at the
+/// front of the room, without a newline; `size` is the answer's length in bytes, and `ordinal` the call's place in the
+/// history. Bytes of the room behind the answer stay as they are. The line is one of the script language, without its
+/// newline.
+///
+/// `CLOSED` where there is no open record; then `EMPTY_LINE` for a line without bytes, and `BAD_LINE` for what is no
+/// line of the table of calls; then `NO_ROOM` where the room is shorter than the longest answer, 362 bytes, which
+/// `size` then is; then `OUT_OF_RANGE` where there is no such worker; then `SPENT` and `NO_MEMORY` as
+/// [`pidtab_record_call`] has them. A call that the table refuses is `DONE`, and recorded.
+#[unsafe(no_mangle)]
+pub extern "C" fn pidtab_record_line(
+    alloc: Global,
+    table: &mut PidtabRecord,
+    worker: u32,
+    line: &[u8],
+    answer: &mut [u8],
+    size: &mut usize,
+    ordinal: &mut u64,
+) -> u32
+    ensures done { result ≡ DONE → (made : Call) × (parsed line.now ≡ says.Call made)
+        × Has table.old.handle.held (λ c. IsRecorded c worker made ordinal.new table.new.handle.held
+        × (take size.new answer.new ≡ reply_text (outcome c made).reply)) }
+    ensures fits { result ≡ DONE → size.new ≤ length answer.new }
+    ensures behind { result ≡ DONE → drop size.new answer.new ≡ drop size.new answer.old }
+    ensures not_done { result ≢ DONE
+        → (without_room table.new.handle.held ≡ without_room table.old.handle.held)
+        × (answer.new ≡ answer.old) × (ordinal.new ≡ ordinal.old) }
+    ensures size { result ≢ DONE → result ≢ NO_ROOM → size.new ≡ size.old }
+    ensures closed { (result ≡ CLOSED) ↔ (table.old.handle.held ≡ None) }
+    ensures empty { (result ≡ EMPTY_LINE) ↔ IsSome table.old.handle.held × (parsed line.now ≡ says.Empty) }
+    ensures bad { (result ≡ BAD_LINE) ↔ IsSome table.old.handle.held × (parsed line.now ≡ says.Bad) }
+    ensures no_room { (result ≡ NO_ROOM)
+        ↔ IsSome table.old.handle.held × IsCall (parsed line.now) × (length answer.old < LONGEST_ANSWER) }
+    ensures longest { result ≡ NO_ROOM → size.new ≡ LONGEST_ANSWER }
+    ensures out_of_range { (result ≡ OUT_OF_RANGE)
+        ↔ IsCall (parsed line.now) × (LONGEST_ANSWER ≤ length answer.old)
+        × Has table.old.handle.held (λ c. length c.cut ≤ worker) }
+    ensures spent { (result ≡ SPENT)
+        ↔ IsCall (parsed line.now) × (LONGEST_ANSWER ≤ length answer.old)
+        × Has table.old.handle.held (λ c. (worker < length c.cut) × (next_stamp c ≡ u64.MAX)) }
+    ensures no_memory { result ≡ NO_MEMORY → (made : Call) × (parsed line.now ≡ says.Call made)
+        × Has table.old.handle.held (λ c. 0 < c.room → IsTrue (may_grow made)) }
+    ensures statuses { (result ≡ DONE) ⊎ ((result ≡ CLOSED) ⊎ ((result ≡ EMPTY_LINE) ⊎ ((result ≡ BAD_LINE)
+        ⊎ ((result ≡ NO_ROOM) ⊎ ((result ≡ OUT_OF_RANGE) ⊎ ((result ≡ SPENT) ⊎ (result ≡ NO_MEMORY))))))) }
+{
+    if !table.is_open {
+        return CLOSED;
+    }
+    let made = match parse_line(line) {
+        Line::Call(call) => call,
+        Line::Empty => return EMPTY_LINE,
+        Line::Bad => return BAD_LINE,
+    };
+    if answer.len() < LONGEST_ANSWER {
+        *size = LONGEST_ANSWER;
+        return NO_ROOM;
+    }
+    let Some(mut held) = table.take(alloc) else {
+        unreachable!()
+    };
+    let status = line_on(&mut held, worker, made, answer, size, ordinal);
+    table.put(held);
+    status
+}
