@@ -1,7 +1,7 @@
 //! The wait for a process group: a walk over the caller's ended children, and then, where none of them is in the
 //! group, one over its children and over the group's members in step.
 
-ghost use Rattle.std.specs.Prelude.{◌≡◌, ℕ, IsSome, true, false};
+ghost use Rattle.std.specs.Prelude.{◌≡◌, ◌<◌, ℕ, IsSome, length, true, false};
 ghost use Rattle.task_tree.specs.Tree.{task_at};
 ghost use Rattle.wait_calls.specs.Choice.{IsMatch, IsChoice, IsEndedChoice};
 ghost use Rattle.wait_calls.specs.declared.selection.Selected.TheVariants.{Group};
@@ -50,7 +50,8 @@ fn choose_ended(store: &Tasks, caller: TaskKey, group: IdentKey) -> Choice
 /// Whether some child is in the group. Each of the two lists alone has all such children, so the walk ends with the
 /// first one that is found, or else with the shorter list.
 fn has_match(store: &Tasks, caller: TaskKey, group: IdentKey) -> bool
-    requires { IsSome (task_at store.now.tree caller) }
+    requires caller { IsSome (task_at store.now.tree caller) }
+    requires group { group < length store.now.members }
     ensures some { result ≡ true → (k : ℕ) × IsMatch store.now caller (Group group) k }
     ensures none { result ≡ false → (k : ℕ) → IsMatch store.now caller (Group group) k → ⊥ }
 {
@@ -63,7 +64,10 @@ fn has_match(store: &Tasks, caller: TaskKey, group: IdentKey) -> bool
         let Some(member) = members.next() else {
             return false;
         };
-        if is_group_match(store, caller, group, child) || is_group_match(store, caller, group, member) {
+        if is_group_match(store, caller, group, child) {
+            return true;
+        }
+        if is_group_match(store, caller, group, member) {
             return true;
         }
     }

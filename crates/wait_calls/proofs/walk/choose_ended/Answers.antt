@@ -12,6 +12,6 @@ returns c =
     let is : c.loop-child.choice ≡ walked s c.args.caller c.args.group NoChild all =
     ap (walked s c.args.caller c.args.group c.loop-child.choice) (sym c.in-None.ensures.steps.0) ∙ c.loop-child.invariant.walk
     ∙ ap (walked s c.args.caller c.args.group NoChild) c.into_iter-child-iterator.ensures.into_iter_gives in
-    let ended = rw c.tree.ensures at c.ended_children-child-items.ensures in
+    let ended = rw c.tree-tree.ensures at c.ended_children-child-items.ensures in
     subst (IsEndedChoice s c.args.caller c.args.group) (sym is)
-    (chosen-ended s c.args.caller c.args.group (rw c.tree.ensures at c.laws.ensures.waiting) all ended.once ended.owned)
+    (chosen-ended s c.args.caller c.args.group (rw c.tree-tree.ensures at c.laws.ensures.waiting) all ended.once ended.owned)
