@@ -315,6 +315,79 @@ def exit_parent(s, n):
         s.add(f"exit {p} 0")
 
 
+def exit_parent_of_zombies(s, n):
+    """Exits of parents, each with so many children that have ended, who go to the init."""
+    parents = []
+    for _ in range(EVENTS):
+        p = s.fork(1)
+        parents.append(p)
+        for c in [s.fork(p) for _ in range(n)]:
+            s.add(f"exit {c} 1")
+    s.body()
+    for p in parents:
+        s.add(f"exit {p} 0")
+
+
+def wait_own(s, n):
+    """Waits for the caller's own group, in which so many children live and none has ended."""
+    for _ in range(n):
+        s.fork(1)
+    s.body()
+    for _ in range(2000):
+        s.add("wait 1 own")
+
+
+def wait_own_ended(s, n):
+    """The same where one of them has ended: a fork, an exit and a wait, each."""
+    for _ in range(n):
+        s.fork(1)
+    s.body()
+    for _ in range(1000):
+        c = s.fork(1)
+        s.add(f"exit {c} 1")
+        s.add("wait 1 own")
+        s.num.release(c)
+
+
+def wait_group_miss(s, n):
+    """Waits for a group of so many who are nobody's children here, beside as many children elsewhere."""
+    for _ in range(n):
+        s.fork(1)
+    leader = s.fork(s.fork(1))
+    s.add(f"setpgid {leader} 0 0")
+    for _ in range(n - 1):
+        s.fork(leader)
+    s.body()
+    for _ in range(200):
+        s.add(f"wait 1 group {leader}")
+
+
+def containers(s, n):
+    """A container comes and goes beside so many: a fork of a new namespace, an exit and a wait, each."""
+    for _ in range(n):
+        s.fork(1, True)
+    s.body()
+    for _ in range(2000):
+        init = s.fork(1, True)
+        s.add(f"exit {init} 0")
+        s.add(f"wait 1 pid {init}")
+        s.num.release(init)
+
+
+def chain(s, n):
+    """A task with a child ends at the end of a chain of so many ancestors: two forks, an exit and a wait, each."""
+    parent = 1
+    for _ in range(n):
+        parent = s.fork(parent)
+    s.body()
+    for _ in range(2000):
+        child = s.fork(parent)
+        s.fork(child)
+        s.add(f"exit {child} 0")
+        s.add(f"wait {parent} pid {child}")
+        s.num.release(child)
+
+
 def wait_group(s, n):
     """Waits for a group of two among so many children."""
     for _ in range(n):
@@ -369,6 +442,12 @@ LOADS = {
     "nearly_full": (nearly_full, 32768, (30000,), 1119),
     "refused": (refused, 32768, (20000,), 1108),
     "exit_parent": (exit_parent, 4194304, (300, 3000), 63),
+    "exit_parent_of_zombies": (exit_parent_of_zombies, 4194304, (300, 3000, 30000), 18),
+    "wait_own": (wait_own, 4194304, (300, 3000, 30000), 493),
+    "wait_own_ended": (wait_own_ended, 4194304, (300, 3000, 30000), None),
+    "wait_group_miss": (wait_group_miss, 4194304, (300, 3000, 30000), 330575),
+    "containers": (containers, 4194304, (300, 3000, 30000), 1600),
+    "chain": (chain, 4194304, (300, 3000, 30000), 1107),
     "wait_group": (wait_group, 4194304, (300, 30000), None),
     "remove_control": (remove_control, 4194304, (100, 10000), None),
     "getpid": (one_line("getpid 1"), 32768, (20000,), 492),
@@ -382,7 +461,7 @@ LOADS = {
 }
 
 # Those whose cost is told for each task that they concern.
-BY_TASK = {"fall", "exit_parent"}
+BY_TASK = {"fall", "exit_parent", "exit_parent_of_zombies"}
 # Those that `measure` leaves out unless they are named, since they take minutes.
 LONG = {"fork_storm_million"}
 

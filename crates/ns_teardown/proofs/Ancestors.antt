@@ -42,6 +42,11 @@ module _ (f : ℕ → Option ℕ) (test : ℕ → Bool) where
       go None e = e
       go (Some up) e = e
 
+  -- where none passes none is found
+  pub found-none : ((a : ℕ) → test a ≡ false) → (xs : List ℕ) → find test xs ≡ None
+  found-none off [] = refl
+  found-none off (x ∷ xs) = ap (λ b. cond b (Some x) (find test xs)) (off x) ∙ found-none off xs
+
   -- what is found passes, and is in the list
   pub found-is : (xs : List ℕ) (a : ℕ) → find test xs ≡ Some a → (test a ≡ true) × (contains xs a ≡ true)
   found-is [] a e = absurd (cc)

@@ -1,16 +1,17 @@
--- A namespace falls with all inside it: each has a number in use, and no number changes.
-use Rattle.std.proofs.Common.{◌≡◌, ℕ, ◌<◌, ◌==◌, Bool, true, false, [], length, Option, Some, None, option_map, is_some, IsSome, if◌then◌else◌, refl, sym, ap, ◌∙◌}
+-- A namespace falls with all inside it: each is some task's own or has fallen already, and no number changes.
+use Rattle.std.proofs.Common.{◌≡◌, ℕ, ◌<◌, ◌==◌, Bool, true, false, List, [], ◌∷◌, length, Option, Some, None, option_map, is_some, IsSome, if◌then◌else◌, refl, sym, ap, ◌∙◌, arith}
 use Rattle.std.specs.Prelude.{slice_index_or}
 use Rattle.std.specs.Option.{option_map_or}
 use Rattle.std.proofs.lemmas.Bool.{eq-eqb}
 use Rattle.pid_types.specs.Chains.{contains}
 use Rattle.pid_types.specs.Names.{beside}
-use Rattle.pid_numbers.specs.Numbering.{Numbering, Namespace, Identifier, namespace_at, identifier_at, path_at, number_in, number_of, taken_in, fallen_within}
+use Rattle.pid_numbers.specs.Numbering.{Numbering, Namespace, Identifier, namespace_at, identifier_at, path_at, number_in, number_of, is_used_as, has_fallen_at, HasOwnTask, fallen_within}
 use Rattle.pid_numbers.proofs.Ties.{beside-some}
 use Rattle.pid_numbers.proofs.Sweeps.{contains_at}
 use Rattle.task_tree.specs.declared.Task.{Task}
 use Rattle.task_tree.specs.Tree.{task_at, parent_of}
-use Rattle.task_table.specs.Store.{Store}
+use Rattle.pid_types.specs.declared.call.Kind.TheVariants.{Task as AsTask}
+use Rattle.task_table.specs.Store.{Store, IsStore}
 use Rattle.task_table.proofs.Less as less
 use Rattle.task_table.specs.Lawful.{HasLaws, IsLawful}
 use Rattle.task_table.specs.Whole.{HasParents}
@@ -18,21 +19,28 @@ use Rattle.ns_teardown.specs.GoodTasks.{HasGoodTasks}
 use Rattle.ns_teardown.specs.Fall.{Slot, FallsWithin, slot_at, is_member, member_after_fall, has_parent_within, slot_after_fall}
 use Rattle.ns_teardown.proofs.Outer as outer
 use Rattle.ns_teardown.proofs.Visible as visible
+use Rattle.ns_teardown.proofs.Falling as falling
 
--- each namespace has a number in use
-pub all-used : (s : Store) → HasLaws s.numbering → HasGoodTasks s → (space n : ℕ) → contains (path_at s.numbering n) space ≡ true → 0 < length (taken_in s.numbering n)
-unfolding taken_in
-all-used s laws good space n inside = go (namespace_at s.numbering n) refl
+-- a namespace that has not fallen is some task's own
+pub all-homes : (s : Store) → IsStore s → HasGoodTasks s → (n : ℕ) → 0 < length (path_at s.numbering n) → has_fallen_at s.numbering n ≡ false → HasOwnTask (identifier_at s.numbering) n
+all-homes s w good n there stands = go (namespace_at s.numbering n) refl
   where
-    stands : (t : Namespace) → namespace_at s.numbering n ≡ Some t → (b : Bool) → t.fallen ≡ b → 0 < length (taken_in s.numbering n)
-    stands t at true fell = laws.held n (ap (λ o. option_map_or (λ t. t.fallen) o false) at ∙ fell)
-    stands t at false fell =
-        let init = good.inits n t at fell in
-        less.some_taken (number_in (path_at s.numbering) n) None refl s.numbering.names init.key 1 init.first
+    go : (o : Option Namespace) → namespace_at s.numbering n ≡ o → HasOwnTask (identifier_at s.numbering) n
+    go None at = absurd (let none : length (path_at s.numbering n) ≡ 0 = ap (λ o. length (option_map_or (λ t. t.path) o [])) at in omega (arith, there, none))
+    go (Some t) at =
+        let init = good.inits n t at (ap (λ o. option_map_or (λ t. t.fallen) o false) (sym at) ∙ stands) in
+        record {
+          key = init.key;
+          identifier = init.identifier;
+          named = init.named;
+          own = init.own;
+          used = ap (is_used_as AsTask) (sym init.named) ∙ falling.task-used s w init.key init.task;
+        }
 
-    go : (o : Option Namespace) → namespace_at s.numbering n ≡ o → 0 < length (taken_in s.numbering n)
-    go None at = absurd (let z = sym (ap (λ o. contains (option_map_or (λ t. t.path) o []) space) at) ∙ inside in cc)
-    go (Some t) at = stands t at t.fallen refl
+-- a path that holds a namespace is not empty
+pub some_path : (p : List ℕ) (space : ℕ) → contains p space ≡ true → 0 < length p
+some_path [] space inside = absurd (cc)
+some_path (n ∷ ns) space inside = omega arith
 
 module _ (space : ℕ) (a b : Numbering) (f : FallsWithin space a b) where
   -- no path changes

@@ -3,7 +3,7 @@ use Rattle.std.specs.Prelude.{◌≡◌, ℕ, ◌+◌, ◌==◌, ◌&&◌, Bool,
 use Rattle.std.specs.Option.{option_map_or}
 use Rattle.pid_types.specs.Chains.{climb}
 use Rattle.pid_numbers.specs.Numbering.{Identifier, identifier_at, number_of}
-use Rattle.task_tree.specs.Tree.{task_at, parent_of}
+use Rattle.task_tree.specs.Tree.{task_at, parent_of, is_subreaper}
 use Rattle.task_table.specs.Store.{Store}
 
 -- the parent, its parent and so on, nearest first
@@ -12,7 +12,7 @@ ancestors s k = drop 1 (climb (parent_of s.tree) (length s.tree.tasks + 1) k)
 
 -- whether the task is a subreaper whose own namespace this is
 abbrev pub is_subreaper_in : Store → ℕ → ℕ → Bool
-is_subreaper_in s space k = option_map_or (λ t. t.subreaper) (task_at s.tree k) false && option_map_or (λ u. u.space == space) (identifier_at s.numbering k) false
+is_subreaper_in s space k = is_subreaper (task_at s.tree k) && option_map_or (λ u. u.space == space) (identifier_at s.numbering k) false
 
 -- the task's nearest ancestor in the namespace that is a subreaper: PR_SET_CHILD_SUBREAPER(2const), "the nearest still living
 -- ancestor subreaper"

@@ -1,8 +1,7 @@
 //! Ancestors that are subreapers (`PR_SET_CHILD_SUBREAPER(2const)`).
-ghost use Rattle.std.specs.Prelude.{◌≡◌, false, Some, IsSome, option_map};
-ghost use Rattle.std.specs.Option.{option_map_or};
+ghost use Rattle.std.specs.Prelude.{◌≡◌, Some, IsSome, option_map};
 ghost use Rattle.pid_numbers.specs.Numbering.{identifier_at};
-ghost use Rattle.task_tree.specs.Tree.{task_at};
+ghost use Rattle.task_tree.specs.Tree.{task_at, is_subreaper as is_subreaper_of};
 ghost use Rattle.ns_teardown.specs.GoodTasks.{HasGoodTasks};
 ghost use Rattle.ns_teardown.specs.Heirs.{nearest_subreaper as nearest_subreaper_of};
 
@@ -12,7 +11,7 @@ use task_table::view::laws;
 
 /// Whether the task is a subreaper.
 fn is_subreaper(store: &Tasks, key: TaskKey) -> bool
-    ensures { result ≡ option_map_or (λ t. t.subreaper) (task_at store.now.tree key) false }
+    ensures { result ≡ is_subreaper_of (task_at store.now.tree key) }
 {
     match store.tree().task(key) {
         Some(task) => task.subreaper,
@@ -22,7 +21,7 @@ fn is_subreaper(store: &Tasks, key: TaskKey) -> bool
 
 /// The nearest ancestor of a task of the namespace that is a subreaper there. It costs a step for each
 /// ancestor up to that one, or else up to the first in another namespace, above which none is in this one.
-pub fn nearest_subreaper(store: &Tasks, space: SpaceKey, key: TaskKey) -> Option<TaskKey>
+fn climb_to_subreaper(store: &Tasks, space: SpaceKey, key: TaskKey) -> Option<TaskKey>
     requires good { HasGoodTasks store.now }
     requires there { IsSome (task_at store.now.tree key) }
     requires own { option_map (λ u. u.space) (identifier_at store.now.numbering key) ≡ Some space }
@@ -40,4 +39,18 @@ pub fn nearest_subreaper(store: &Tasks, space: SpaceKey, key: TaskKey) -> Option
         }
     }
     None
+}
+
+/// The nearest ancestor of a task of the namespace that is a subreaper there. It costs one read where no task of the table
+/// is a subreaper, and else the climb.
+pub fn nearest_subreaper(store: &Tasks, space: SpaceKey, key: TaskKey) -> Option<TaskKey>
+    requires good { HasGoodTasks store.now }
+    requires there { IsSome (task_at store.now.tree key) }
+    requires own { option_map (λ u. u.space) (identifier_at store.now.numbering key) ≡ Some space }
+    ensures { result ≡ nearest_subreaper_of store.now space key }
+{
+    if !store.tree().any_subreaper() {
+        return None;
+    }
+    climb_to_subreaper(store, space, key)
 }

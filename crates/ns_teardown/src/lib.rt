@@ -66,9 +66,9 @@ fn end_init(store: &mut Tasks, init: TaskKey, task: Task, status: u8)
 /// It is refused where no live task has the caller's number, and to the init of the root namespace. It takes
 /// no memory.
 ///
-/// It costs one search for the caller, and a few writes for each child. If there is a child, it also costs a
-/// step for each ancestor up to that subreaper, or else up to the first in another namespace. A fall costs a
-/// step for each namespace that is there, and a search for each member and each level of its identifier.
+/// It costs one search for the caller, and a few writes for each child. If there is a child and some task is a subreaper,
+/// it also costs a step for each ancestor up to the nearest one, or else up to the first in another namespace. A teardown
+/// costs a search for each member and each level of its identifier.
 #[tactic(auto, unfolding(pid_types::specs::Exit::exit))]
 #[inline(never)]
 pub fn exit(store: &mut Tasks, caller: Pid, status: u8) -> ShortReply

@@ -34,8 +34,8 @@ use task_tree::Task;
 
 /// Who takes the children of a live task when it ends: the nearest subreaper of its own namespace among its
 /// ancestors (`PR_SET_CHILD_SUBREAPER(2const)`), or else the init there. Ancestors in other namespaces take
-/// no children. It costs a step for each ancestor up to the first such subreaper, or else up to the first in
-/// another namespace.
+/// no children. It costs a few reads where no task is a subreaper, or else a step for each ancestor up to the first such
+/// subreaper, or up to the first in another namespace.
 pub fn new_parent(store: &Tasks, key: TaskKey) -> TaskKey
     requires good { HasGoodTasks store.now }
     requires live { option_map_or lives (task_at store.now.tree key) false ≡ true }
@@ -55,7 +55,7 @@ pub fn new_parent(store: &Tasks, key: TaskKey) -> TaskKey
 }
 
 /// The children of a live task that is no init get their new parent. It costs a few writes for each child,
-/// and one walk up the ancestors if there is a child.
+/// and, if there is one, what [`new_parent`] costs.
 fn hand_children(store: &mut Tasks, key: TaskKey)
     requires good { HasGoodTasks store.old }
     requires live { option_map_or lives (task_at store.old.tree key) false ≡ true }
@@ -73,7 +73,7 @@ fn hand_children(store: &mut Tasks, key: TaskKey)
 }
 
 /// A live task that is no init of its own namespace ends (`_exit(2)`): its children get their new parent,
-/// and it waits for its own as a zombie. A task without children costs no walk up its ancestors.
+/// and it waits for its own as a zombie. A task without children needs no new parent.
 pub fn exit(store: &mut Tasks, key: TaskKey, task: Task, status: u8)
     requires good { HasGoodTasks store.old }
     requires there { task_at store.old.tree key ≡ Some task }
@@ -95,8 +95,8 @@ pub fn exit(store: &mut Tasks, key: TaskKey, task: Task, status: u8)
 /// and who is the child of a member is gone, zombies too. A namespace that has fallen is dropped when no
 /// identifier with a number in it is left.
 ///
-/// It costs a step for each namespace that is there, and a search for each member and each level of its
-/// identifier.
+/// It costs a search for each member and each level of its identifier, and looks at no namespace but those inside, where
+/// there are more than a few.
 pub fn fall(store: &mut Tasks, init: TaskKey, status: u8)
     requires good { HasGoodTasks store.old }
     requires bound { HasGoodPidMax store.old.numbering.pid_max }

@@ -7,3 +7,4 @@ pub mod Begins
 pub mod Inwards
 pub mod Orders
 pub mod Model
+pub mod Falling

@@ -54,7 +54,7 @@ place_of (m ∷ ms) n e = go (λ h. place_of ms n h) (cases_eq m n) e
         (suc r.0, omega (arith, r.1), r.2)
 
 -- a number stands beside each key of the path
-beside-at : (s : ℕ) (path numbers : List ℕ) → length numbers ≡ length path → contains path s ≡ true → (n : ℕ) × (beside s path numbers ≡ Some n)
+pub beside-at : (s : ℕ) (path numbers : List ℕ) → length numbers ≡ length path → contains path s ≡ true → (n : ℕ) × (beside s path numbers ≡ Some n)
 beside-at s [] numbers len e = absurd (cc)
 beside-at s (t ∷ ts) [] len e = absurd (omega (arith, len))
 beside-at s (t ∷ ts) (n ∷ ns) len e = go (λ h. beside-at s ts ns (omega (arith, len)) h) (cases_eq t s) e

@@ -89,6 +89,10 @@ swept_at b s = option_and_then (λ t. if is_dead b s t then None else Some t) (n
 abbrev pub fallen_within : ℕ → Namespace → Namespace
 fallen_within outer t = record t { fallen = t.fallen || contains t.path outer }
 
+-- the namespace, fallen
+abbrev pub felled : Namespace → Namespace
+felled t = record t { fallen = true }
+
 -- a new namespace with this path
 abbrev pub new_namespace : ℕ → List ℕ → Namespace
 new_namespace id path = record { id = id; fallen = false; path = path; cursor = 0 }
@@ -125,6 +129,14 @@ less kind u = with_uses kind (uses kind u - 1) u
 abbrev pub is_used_as : Kind → Option Identifier → Bool
 is_used_as kind None = false
 is_used_as kind (Some u) = not (uses kind u == 0)
+
+-- some task's own namespace this is
+pub record HasOwnTask (names : ℕ → Option Identifier) (s : ℕ) : Type 0 where
+  pub key : ℕ
+  pub identifier : Identifier
+  pub named : names key ≡ Some identifier
+  pub own : identifier.space ≡ s
+  pub used : is_used_as Task (Some identifier) ≡ true
 
 -- whether a use is left
 abbrev pub is_used : Identifier → Bool

@@ -4,7 +4,7 @@ use Rattle.std.specs.Option.{option_map_or, option_eq}
 use Rattle.std.specs.List.{AllByRecursion}
 use Rattle.slab.specs.Slab.{Slab, get}
 use Rattle.id_slab.specs.Ids.{key_of}
-use Rattle.index_array.specs.Place.{Entry, entry_at, is_prepared, indexes}
+use Rattle.index_array.specs.Place.{Entry, entry_at, index_count, is_prepared, indexes}
 use Rattle.cyclic_ids.specs.Ids.{planned}
 use Rattle.pid_types.specs.Chains.{contains}
 use Rattle.pid_types.specs.Names.{beside}
@@ -13,7 +13,7 @@ use Rattle.pid_types.specs.declared.call.Kind.{Kind}
 use Rattle.pid_types.specs.declared.call.Kind.TheVariants.{Task, Group, Session}
 use Rattle.pid_numbers.specs.declared.spaces.Space.{Space}
 use Rattle.pid_numbers.specs.declared.names.Ident.{Ident}
-use Rattle.pid_numbers.specs.Numbering.{Namespace, Identifier, Numbering, number_in, is_used_as, is_used}
+use Rattle.pid_numbers.specs.Numbering.{Namespace, Identifier, Numbering, number_in, is_used_as, is_used, HasOwnTask}
 
 abbrev pub namespace_of : Space → Namespace
 namespace_of s = record { id = s.id; fallen = s.fallen; path = s.path.items; cursor = s.ids.cursor }
@@ -131,6 +131,17 @@ pub record AreListed (id : ℕ → Option ℕ) (order : List (ℕ × ℕ)) : Typ
 pub record IsKept (pid_max : ℕ) (spaces : Slab Space) (idents : Slab Ident) (order : List (ℕ × ℕ)) : Type 0 where
   pub whole : IsWhole pid_max (way spaces) (entry_on spaces) (bound_on spaces) (name_at idents) (fell spaces)
   pub listed : AreListed (id_on spaces) order
+
+-- the own namespace of an identifier
+abbrev pub home_at : Slab Ident → ℕ → Option ℕ
+home_at idents i = option_map (λ u. u.space) (name_at idents i)
+
+-- the numbers that tasks have in the namespace lead to each namespace inside that has not fallen
+pub record LeadsInside (spaces : Slab Space) (idents : Slab Ident) (outer : ℕ) : Type 0 where
+  pub tied : IsTied (way spaces) (name_at idents) (leads (entry_on spaces))
+  pub marks : AreMarked (entry_on spaces) (name_at idents)
+  pub range : (n i : ℕ) → leads (entry_on spaces) outer n ≡ Some i → n < index_count
+  pub homes : (s : ℕ) → contains (way spaces s) outer ≡ true → fell spaces s ≡ false → HasOwnTask (name_at idents) s
 
 -- whether it has fallen and no number in it is in use
 abbrev pub dead_on : Slab Space → ℕ → Bool

@@ -11,12 +11,13 @@
 ghost use Rattle.std.specs.Prelude.{◌≡◌, ◌≢◌, ℕ, ◌+◌, ◌<◌, ◌≤◌, ◌^◌, length, map, Some, None, IsSome, IsTrue, IfOk, IfErr, IfSome, OnOk, OnErr, MatchOption, option_map, find, is_none, unwrap_or, slice_index_or, is_some, reverse, true, false, [], ◌∷◌, ◌++◌, drop, nat_lt, if◌then◌else◌};
 ghost use Rattle.std.specs.List.{AllByRecursion, filter};
 ghost use Rattle.id_slab.specs.Ids.{key_of, AreBelow, AreRising};
-ghost use Rattle.pid_numbers.specs.Numbering.{Identifier, is_there, id_at, namespace_at, identifier_at, number_of, path_at, draw_in, moved, more, less, left_of, uses, is_used, is_used_as, swept_at, new_namespace, new_identifier, levels_of, fallen_within, taken_in, has_fallen_at, IsNextUsed, IsPlanFault};
+ghost use Rattle.pid_numbers.specs.Numbering.{Identifier, is_there, id_at, namespace_at, identifier_at, number_of, path_at, draw_in, moved, more, less, left_of, uses, is_used, is_used_as, swept_at, new_namespace, new_identifier, levels_of, fallen_within, taken_in, has_fallen_at, HasOwnTask, IsNextUsed, IsPlanFault};
 ghost use Rattle.pid_types.specs.Bounds.{deepest_space};
 ghost use Rattle.pid_types.specs.Chains.{contains};
 ghost use Rattle.std.specs.Option.{option_map_or};
 ghost use Rattle.pid_types.specs.Settings.{HasGoodPidMax};
 
+mod fall;
 mod levels;
 mod names;
 mod plan;
@@ -24,6 +25,7 @@ mod spaces;
 
 use arrayvec::ArrayVec;
 use cyclic_ids::CyclicIds;
+use fall::fall_all;
 use id_slab::{Iter, RisingIds, make_room};
 use levels::LevelNumbers;
 use names::{
@@ -37,7 +39,7 @@ pub use plan::PlanFault;
 use plan::with_first;
 use slab::Slab;
 use spaces::{
-    Space, add_space, cursor_at, fall_all, first_ids, give_path, has_fallen, id_at, is_inside,
+    Space, add_space, cursor_at, first_ids, give_path, has_fallen, id_at, is_inside,
     key_at, levels, look, next_at, path_below, plan_path, prepare_path, release_path, sweep_fallen,
 };
 use std::alloc::{AllocError, Global};
@@ -438,16 +440,18 @@ impl Numbers {
         Ok((ident, key))
     }
 
-    /// The namespace and all inside it have fallen. It costs a step for each namespace that is there.
+    /// The namespace and all inside it have fallen. It costs a step for each namespace that is there, if they are few,
+    /// or else a search for each task that has a number in the one that falls.
     pub fn fell(&mut self, space: SpaceKey)
         requires inner { space ≢ 0 }
-        requires used { (s : ℕ) → contains (path_at self.old s) space ≡ true → 0 < length (taken_in self.old s) }
+        requires homes { (s : ℕ) → contains (path_at self.old s) space ≡ true → has_fallen_at self.old s ≡ false
+            → HasOwnTask (identifier_at self.old) s }
         ensures names { self.new.names ≡ self.old.names }
         ensures namespaces { (s : ℕ) → namespace_at self.new s ≡ option_map (fallen_within space) (namespace_at self.old s) }
         ensures order { self.new.order ≡ self.old.order }
         ensures pid_max { self.new.pid_max ≡ self.old.pid_max }
     {
-        fall_all(&mut self.spaces, &self.order, space);
+        fall_all(&mut self.spaces, &self.idents, &self.order, space);
     }
 
     /// One use more. The first of its kind costs a step for each level.

@@ -442,35 +442,3 @@ pub(crate) fn is_inside(spaces: &Slab<Space>, key: SpaceKey, outer: SpaceKey) ->
     }
     space.path[end - from] == outer
 }
-
-/// The namespace has fallen, if it is the other one or inside it.
-fn fall_at(spaces: &mut Slab<Space>, key: SpaceKey, outer: SpaceKey)
-    requires { IsTree (way spaces.old) }
-    ensures here { namespace_on spaces.new key ≡ option_map (fallen_within outer) (namespace_on spaces.old key) }
-    ensures others { (s : ℕ) → s ≢ key → get spaces.new s ≡ get spaces.old s }
-    ensures entries { (s n : ℕ) → entry_on spaces.new s n ≡ entry_on spaces.old s n }
-    ensures bound { (s : ℕ) → bound_on spaces.new s ≡ bound_on spaces.old s }
-    ensures way { (s : ℕ) → way spaces.new s ≡ way spaces.old s }
-{
-    if !is_inside(spaces, key, outer) {
-        return;
-    }
-    let Some(space) = spaces.get_mut(key as usize) else {
-        return;
-    };
-    space.fallen = true;
-}
-
-/// The namespace and all inside it have fallen.
-pub(crate) fn fall_all(spaces: &mut Slab<Space>, order: &RisingIds, outer: SpaceKey)
-    requires tree { IsTree (way spaces.old) }
-    requires listed { AreListed (id_on spaces.old) order.now }
-    ensures namespaces { (s : ℕ) → namespace_on spaces.new s ≡ option_map (fallen_within outer) (namespace_on spaces.old s) }
-    ensures entries { (s n : ℕ) → entry_on spaces.new s n ≡ entry_on spaces.old s n }
-    ensures bound { (s : ℕ) → bound_on spaces.new s ≡ bound_on spaces.old s }
-    ensures way { (s : ℕ) → way spaces.new s ≡ way spaces.old s }
-{
-    for (_, key) in order.iter() {
-        fall_at(spaces, key, outer);
-    }
-}

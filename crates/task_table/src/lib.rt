@@ -19,7 +19,7 @@ ghost use Rattle.pid_types.specs.Controls.{control_path, parent_control};
 ghost use Rattle.pid_types.specs.Changes.{limited};
 ghost use Rattle.pids_charge.specs.declared.ControlFault.{ControlFault};
 ghost use Rattle.pid_types.specs.declared.plain.Life.{Life};
-ghost use Rattle.pid_numbers.specs.Numbering.{namespace_at, identifier_at, number_of, path_at, taken_in, fallen_within, draw_in, moved as cursor_moved, new_namespace, new_identifier, Identifier};
+ghost use Rattle.pid_numbers.specs.Numbering.{namespace_at, identifier_at, number_of, path_at, has_fallen_at, HasOwnTask, fallen_within, draw_in, moved as cursor_moved, new_namespace, new_identifier, Identifier};
 ghost use Rattle.pids_charge.specs.Charges.{Charges, Home, home_at, id_at, stands, kept, moved, handed_on, remove_refusal, limit_refusal, ChangesHome};
 ghost use Rattle.task_tree.specs.Tree.{task_at, parent_of, rank_of, lives, handed};
 ghost use Rattle.groups_sessions.specs.Membership.{Membership, membership_at, group_of, session_of, AreInSession};
@@ -301,7 +301,8 @@ impl Tasks {
     /// The namespace and all inside it have fallen: [`Numbers::fell`].
     pub fn fell(&mut self, space: SpaceKey)
         requires inner { space ≢ 0 }
-        requires used { (s : ℕ) → contains (path_at self.old.numbering s) space ≡ true → 0 < length (taken_in self.old.numbering s) }
+        requires homes { (s : ℕ) → contains (path_at self.old.numbering s) space ≡ true → has_fallen_at self.old.numbering s ≡ false
+            → HasOwnTask (identifier_at self.old.numbering) s }
         ensures names { self.new.numbering.names ≡ self.old.numbering.names }
         ensures order { self.new.numbering.order ≡ self.old.numbering.order }
         ensures namespaces { (s : ℕ) → namespace_at self.new.numbering s ≡ option_map (fallen_within space) (namespace_at self.old.numbering s) }

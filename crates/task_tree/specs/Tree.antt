@@ -33,6 +33,10 @@ lives task = elim task.life [ Live ↦ true | Zombie ended ↦ false ]
 abbrev pub is_zombie : Option Task → Bool
 is_zombie task = option_map_or (λ t. not (lives t)) task false
 
+-- whether there is a task that is a subreaper
+abbrev pub is_subreaper : Option Task → Bool
+is_subreaper task = option_map_or (λ t. t.subreaper) task false
+
 -- the parent that an ended task waits for
 abbrev pub waits_for : Option Task → Option ℕ → Option ℕ
 waits_for task parent = if is_zombie task then parent else None

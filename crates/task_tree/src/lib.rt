@@ -1,8 +1,8 @@
 //! Tasks, their parents, and the children that have ended and wait to be reaped.
 //!
 //! Tasks stand at keys, numbers below 2^30 that the caller picks. Each task has its children in a list and
-//! those of them that have ended in a heap by rank, so that the one that `waitpid(2)` reaps is found by one
-//! read and no live child is touched. Each call but `grow` takes no memory.
+//! those of them that have ended in a list and in a heap by rank, so that the one that `waitpid(2)` reaps is found by
+//! one read and no live child is touched. Each call but `grow` takes no memory.
 //!
 //! A task may be removed while it has children; they keep its key as their parent's.
 #![tactic(auto)]
@@ -11,13 +11,17 @@ ghost use Rattle.std.specs.Prelude.{◌≡◌, ◌≢◌, ℕ, ◌+◌, ◌<◌,
 ghost use Rattle.pid_types.specs.declared.plain.Life.{Life};
 ghost use Rattle.member_lists.specs.Owners.{AreMembers};
 ghost use Rattle.member_queues.specs.Ranks.{IsLeast};
-ghost use Rattle.task_tree.specs.Tree.{task_at, parent_of, rank_of, lives, is_zombie, waits_for, handed};
+ghost use Rattle.task_tree.specs.Ended.{AreEnded};
+ghost use Rattle.task_tree.specs.Tree.{task_at, parent_of, rank_of, lives, is_zombie, is_subreaper, waits_for, handed};
 
+mod cells;
+mod ended;
 mod links;
 
+use cells::Cells;
+use ended::EndedChildren;
 use links::{enter_ended, forget_ended, hand_all, leave_parent, room_for_parent, room_for_rank};
 use member_lists::{MemberLists, Members};
-use member_queues::MemberQueues;
 use pid_types::keys::{ControlKey, Pid, TaskKey};
 use pid_types::plain::{Ended, Life};
 use std::alloc::{AllocError, Global};
@@ -39,11 +43,11 @@ pub struct Task {
 
 /// Tasks by key, in a tree.
 ///
-/// It takes some 70 bytes for each key.
+/// It takes some 90 bytes for each key.
 pub struct TaskTree {
-    tasks: Vec<Option<Task>>,
+    tasks: Cells,
     children: MemberLists,
-    ended: MemberQueues,
+    ended: EndedChildren,
 }
 
 // Written out, and not derived: so the crates above cite this drop, and do not prove it anew.
@@ -62,9 +66,9 @@ impl Model for TaskTree {
 
     ghost Value = { Tree };
 
-    ghost view = { λ a. record { tasks = a.tasks.items; parents = a.children; ended = a.ended } };
+    ghost view = { λ a. record { tasks = a.tasks; parents = a.children; ended = a.ended } };
 
-    ghost invariant = { λ a. IsTree a.tasks.items a.children a.ended };
+    ghost invariant = { λ a. IsTree a.tasks a.children a.ended };
 }
 
 impl TaskTree {
@@ -73,9 +77,9 @@ impl TaskTree {
         ensures { length result.tasks ≡ 0 }
     {
         TaskTree {
-            tasks: Vec::new(alloc),
+            tasks: Cells::new(alloc),
             children: MemberLists::new(alloc),
-            ended: MemberQueues::new(alloc),
+            ended: EndedChildren::new(alloc),
         }
     }
 
@@ -89,10 +93,10 @@ impl TaskTree {
         ensures parents { (k : ℕ) → parent_of self.new k ≡ parent_of self.old k }
         ensures ranks { (k : ℕ) → rank_of self.new k ≡ rank_of self.old k }
     {
-        let keys = self.tasks.len();
+        let keys = self.tasks.keys();
         room_for_parent(&mut self.children, keys)?;
         room_for_rank(&mut self.ended, keys)?;
-        self.tasks.push(None)?;
+        self.tasks.grow()?;
         Ok(())
     }
 
@@ -100,14 +104,14 @@ impl TaskTree {
     pub fn keys(&self) -> usize
         ensures { result ≡ length self.now.tasks }
     {
-        self.tasks.len()
+        self.tasks.keys()
     }
 
     /// The task with the key.
     pub fn task(&self, key: TaskKey) -> Option<Task>
         ensures { result ≡ task_at self.now key }
     {
-        *self.tasks.get(key as usize)?
+        self.tasks.task(key)
     }
 
     /// The key of the task's parent; none of a task that began without one.
@@ -116,6 +120,14 @@ impl TaskTree {
         ensures { result ≡ parent_of self.now key }
     {
         self.children.owner(key)
+    }
+
+    /// Whether some task is a subreaper, one that has ended and waits to be reaped too. It costs one read.
+    pub fn any_subreaper(&self) -> bool
+        ensures none { result ≡ false → (k : ℕ) → is_subreaper (task_at self.now k) ≡ false }
+        ensures some { result ≡ true → (k : ℕ) × (is_subreaper (task_at self.now k) ≡ true) }
+    {
+        self.tasks.any_subreaper()
     }
 
     /// Some child of the task, if it has any.
@@ -132,6 +144,14 @@ impl TaskTree {
         ensures { AreMembers self.now.parents parent result }
     {
         self.children.members(parent)
+    }
+
+    /// The children of the task that have ended, one after the other, each once.
+    pub fn ended_children(&self, parent: TaskKey) -> Members<'_>
+        requires { parent < length self.now.tasks }
+        ensures { AreEnded self.now.ended parent result }
+    {
+        self.ended.children(parent)
     }
 
     /// Of the children of the task that have ended, the one with the least rank: whom a wait for any child
@@ -174,7 +194,7 @@ impl TaskTree {
         ensures others { (k : ℕ) → k ≢ key → parent_of self.new k ≡ parent_of self.old k }
         ensures ranks { self.new.ended ≡ self.old.ended }
     {
-        self.tasks[key as usize] = Some(task);
+        self.tasks.set(key, Some(task));
         if let Some(parent) = parent {
             self.children.add(key, parent);
         }
@@ -187,7 +207,7 @@ impl TaskTree {
         ensures parents { self.new.parents ≡ self.old.parents }
         ensures ranks { self.new.ended ≡ self.old.ended }
     {
-        self.tasks[key as usize] = Some(task);
+        self.tasks.set(key, Some(task));
     }
 
     /// The live task ends, and waits for its parent with the rank. It costs a logarithm of the parent's children
@@ -202,7 +222,7 @@ impl TaskTree {
         ensures others { (k : ℕ) → k ≢ key → rank_of self.new k ≡ rank_of self.old k }
     {
         let life = Life::Zombie(end);
-        self.tasks[key as usize] = Some(Task { life, ..task });
+        self.tasks.set(key, Some(Task { life, ..task }));
         enter_ended(&mut self.ended, &self.children, key, rank);
     }
 
@@ -229,7 +249,7 @@ impl TaskTree {
         ensures parents { (k : ℕ) → k ≢ key → parent_of self.new k ≡ parent_of self.old k }
         ensures ranks { (k : ℕ) → k ≢ key → rank_of self.new k ≡ rank_of self.old k }
     {
-        self.tasks[key as usize] = None;
+        self.tasks.set(key, None);
         leave_parent(&mut self.children, key);
         forget_ended(&mut self.ended, key);
     }

@@ -6,8 +6,8 @@ ghost use Rattle.member_queues.specs.Ranks.{ranked};
 ghost use Rattle.task_tree.specs.Tree.{handed};
 ghost use Rattle.task_tree.specs.Waiting.{IsWaiting};
 
+use crate::ended::EndedChildren;
 use member_lists::MemberLists;
-use member_queues::MemberQueues;
 use pid_types::keys::{Pid, TaskKey};
 use std::alloc::AllocError;
 
@@ -28,7 +28,7 @@ pub(crate) fn room_for_parent(children: &mut MemberLists, key: usize) -> Result<
 
 /// Makes room for a key among the ranks, where there is none yet.
 #[inline(always)]
-pub(crate) fn room_for_rank(ended: &mut MemberQueues, key: usize) -> Result<(), AllocError>
+pub(crate) fn room_for_rank(ended: &mut EndedChildren, key: usize) -> Result<(), AllocError>
     requires next { key ≤ length ended.old }
     requires few { key < 2 ^ 30 }
     ensures ok { OnOk result (key < length ended.new) }
@@ -42,7 +42,7 @@ pub(crate) fn room_for_rank(ended: &mut MemberQueues, key: usize) -> Result<(), 
 }
 
 /// The key enters its parent's ended children, if it has a parent.
-pub(crate) fn enter_ended(ended: &mut MemberQueues, children: &MemberLists, key: TaskKey, rank: Pid)
+pub(crate) fn enter_ended(ended: &mut EndedChildren, children: &MemberLists, key: TaskKey, rank: Pid)
     requires key { key < length ended.old }
     requires parents { key < length children.now }
     requires free { ranked ended.old key ≡ None }
@@ -58,7 +58,7 @@ pub(crate) fn enter_ended(ended: &mut MemberQueues, children: &MemberLists, key:
 }
 
 /// The key leaves the ended children that it is among.
-pub(crate) fn forget_ended(ended: &mut MemberQueues, key: TaskKey)
+pub(crate) fn forget_ended(ended: &mut EndedChildren, key: TaskKey)
     requires { key < length ended.old }
     ensures here { ranked ended.new key ≡ None }
     ensures others { (k : ℕ) → k ≢ key → ranked ended.new k ≡ ranked ended.old k }
@@ -82,7 +82,7 @@ pub(crate) fn leave_parent(children: &mut MemberLists, key: TaskKey)
 }
 
 /// The ended child goes to the ended children of another task, where it has ended.
-fn hand_ended(ended: &mut MemberQueues, child: TaskKey, to: TaskKey)
+fn hand_ended(ended: &mut EndedChildren, child: TaskKey, to: TaskKey)
     requires key { child < length ended.old }
     requires to { to < length ended.old }
     requires apart { (k p r : ℕ) → ranked ended.old child ≡ Some (p, r) → ranked ended.old k ≢ Some (to, r) }
@@ -99,7 +99,7 @@ fn hand_ended(ended: &mut MemberQueues, child: TaskKey, to: TaskKey)
 /// All children of the one become the other's.
 pub(crate) fn hand_all(
     children: &mut MemberLists,
-    ended: &mut MemberQueues,
+    ended: &mut EndedChildren,
     from: TaskKey,
     to: TaskKey,
 )

@@ -1,17 +1,19 @@
 -- A walk over a list with all who match ends with the choice among them.
-use Rattle.std.proofs.Common.{◌≡◌, ℕ, ◌+◌, ◌<◌, ◌≤◌, ◌==◌, ◌&&◌, Bool, true, false, List, [], ◌∷◌, Option, Some, None, option_map, cond, refl, sym, ap, ◌∙◌, arith}
+use Rattle.std.proofs.Common.{◌≡◌, ◌≢◌, ℕ, ◌+◌, ◌<◌, ◌≤◌, ◌==◌, ◌&&◌, Bool, true, false, List, [], ◌∷◌, Option, Some, None, option_map, cond, refl, sym, ap, ◌∙◌, arith}
 use Rattle.std.specs.Option.{option_eq}
 use Rattle.std.specs.Prelude.{nat_lt, if◌then◌else◌}
 use Rattle.std.proofs.lemmas.Bool.{eq-eqb, eqb-true}
 use Rattle.std.proofs.lemmas.List.Sums.{sum_by-cons}
 use Rattle.member_lists.specs.Owners.{times}
+use Rattle.std.specs.List.{AllByRecursion}
 use Rattle.task_table.specs.Store.{Store}
+use Rattle.task_tree.specs.Ended.{waiting_at}
 use Rattle.task_tree.specs.Tree.{task_at, parent_of, rank_of, is_zombie, waits_for}
 use Rattle.groups_sessions.specs.Membership.{group_of}
 use Rattle.wait_calls.specs.declared.selection.Selected.TheVariants.{Group}
 use Rattle.wait_calls.specs.declared.selection.Choice.{Choice}
 use Rattle.wait_calls.specs.declared.selection.Choice.TheVariants.{NoChild, NoneEnded, Ended}
-use Rattle.wait_calls.specs.Choice.{IsMatch, IsChoice}
+use Rattle.wait_calls.specs.Choice.{IsMatch, IsChoice, IsEndedChoice}
 use Rattle.wait_calls.specs.Walk.{is_group_match, rank_alone, counted, looked_at, walked}
 
 -- two tests that hold, and a key that is the one asked for
@@ -32,7 +34,7 @@ module _ (s : Store) (caller group : ℕ) where
       let two : option_eq ◌==◌ (group_of s.members k) (Some group) ≡ true = ap (λ o. option_eq ◌==◌ o (Some group)) member ∙ eq-eqb group group refl in
       rw (one, two) refl
 
-  is_match : (k : ℕ) → is_group_match s caller group k ≡ true → IsMatch s caller (Group group) k
+  pub is_match : (k : ℕ) → is_group_match s caller group k ≡ true → IsMatch s caller (Group group) k
   is_match k e =
       let tests = both (option_eq ◌==◌ (parent_of s.tree k) (Some caller)) (option_eq ◌==◌ (group_of s.members k) (Some group)) e in
       (same_key (parent_of s.tree k) caller tests.0, same_key (group_of s.members k) group tests.1)
@@ -118,6 +120,29 @@ module _ (s : Store) (caller group : ℕ) where
       go later true e some = covers_kept keys (looked_at s caller group choice k) i (rw (eqb-true k i e) (covers_here choice i m))
       go later false e some = later (omega (arith, some))
 
+  -- a list of tasks with ranks leads to no choice that says that none has ended
+  never_counted : (choice : Choice) (k r : ℕ) → choice ≢ NoneEnded → counted choice k (Some r) ≢ NoneEnded
+  never_counted NoChild k r off = λ e. (cc)
+  never_counted NoneEnded k r off = absurd (off refl)
+  never_counted (Ended j q) k r off = go (nat_lt r q)
+    where
+      go : (b : Bool) → (if b then Ended k r else Ended j q) ≢ NoneEnded
+      go true = λ e. (cc)
+      go false = λ e. (cc)
+
+  never_looked : (choice : Choice) (k : ℕ) → waiting_at s.tree.ended k ≡ Some caller → choice ≢ NoneEnded → looked_at s caller group choice k ≢ NoneEnded
+  never_looked choice k waits off = go (is_group_match s caller group k) (rank_of s.tree k) refl waits
+    where
+      go : (b : Bool) (o : Option (ℕ × ℕ)) → rank_of s.tree k ≡ o → option_map (λ (m : ℕ × ℕ). m.0) o ≡ Some caller
+          → (if b then counted choice k (rank_alone s k) else choice) ≢ NoneEnded
+      go false o at w = off
+      go true None at w = absurd (cc)
+      go true (Some m) at w = λ e. never_counted choice k m.1 off (sym (ap (counted choice k) (ap (option_map (λ (m : ℕ × ℕ). m.1)) at)) ∙ e)
+
+  never : (keys : List ℕ) (choice : Choice) → AllByRecursion (λ k. waiting_at s.tree.ended k ≡ Some caller) keys → choice ≢ NoneEnded → walked s caller group choice keys ≢ NoneEnded
+  never [] choice all off = off
+  never (k ∷ keys) choice all off = never keys (looked_at s caller group choice k) all.1 (never_looked choice k all.0 off)
+
   module _ (waiting : (k : ℕ) → option_map (λ (m : ℕ × ℕ). m.0) (rank_of s.tree k) ≡ waits_for (task_at s.tree k) (parent_of s.tree k)) where
     -- a child that has no rank lives
     no_zombie : (k : ℕ) → parent_of s.tree k ≡ Some caller → rank_alone s k ≡ None → is_zombie (task_at s.tree k) ≡ false
@@ -154,3 +179,26 @@ module _ (s : Store) (caller group : ℕ) where
             let m = is_match child e in
             let z = zombie child rank m.0 own in
             (m, z.0, z.1, λ k r match at. covers k match r (ap (option_map (λ (p : ℕ × ℕ). p.1)) at))
+
+    -- a list of all ended children leads to the choice among those that have ended
+    pub chosen-ended : (keys : List ℕ) → ((k : ℕ) → waiting_at s.tree.ended k ≡ Some caller → times k keys ≡ 1) → AllByRecursion (λ k. waiting_at s.tree.ended k ≡ Some caller) keys
+        → IsEndedChoice s caller group (walked s caller group NoChild keys)
+    chosen-ended keys once owned = go (walked s caller group NoChild keys) (names_walked keys NoChild tt) covered (never keys NoChild owned (λ e. (cc)))
+      where
+        covered : (i r : ℕ) → IsMatch s caller (Group group) i → rank_alone s i ≡ Some r → Covers i (walked s caller group NoChild keys)
+        covered i r m own =
+            let z = zombie i r m.0 own in
+            let h = once i (ap (option_map (λ (m : ℕ × ℕ). m.0)) z.1) in
+            covers_walked keys NoChild i (of_match i m) (omega (arith, h))
+
+        go : (choice : Choice) → Names choice → ((i r : ℕ) → IsMatch s caller (Group group) i → rank_alone s i ≡ Some r → Covers i choice) → choice ≢ NoneEnded → IsEndedChoice s caller group choice
+        go NoChild names covers off = λ k m. lives k m (rank_alone s k) refl
+          where
+            lives : (k : ℕ) → IsMatch s caller (Group group) k → (o : Option ℕ) → rank_alone s k ≡ o → is_zombie (task_at s.tree k) ≡ false
+            lives k m None e = no_zombie k m.0 e
+            lives k m (Some r) e = absurd (covers k r m e)
+        go NoneEnded names covers off = absurd (off refl)
+        go (Ended child rank) (e, own) covers off =
+            let m = is_match child e in
+            let z = zombie child rank m.0 own in
+            (m, z.0, z.1, λ k r match at. covers k r match (ap (option_map (λ (p : ℕ × ℕ). p.1)) at) r (ap (option_map (λ (p : ℕ × ℕ). p.1)) at))

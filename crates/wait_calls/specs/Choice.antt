@@ -25,3 +25,9 @@ IsChoice s caller which NoneEnded = ((k : ℕ) × IsMatch s caller which k) × (
 IsChoice s caller which (Ended child rank) =
     IsMatch s caller which child × (is_zombie (task_at s.tree child) ≡ true) × (rank_of s.tree child ≡ Some (caller, rank))
     × ((k r : ℕ) → IsMatch s caller which k → rank_of s.tree k ≡ Some (caller, r) → rank ≤ r)
+
+-- of the children in the group that have ended, the one with the least rank; no child where none of them has
+abbrev pub IsEndedChoice : Store → ℕ → ℕ → Choice → Type 0
+IsEndedChoice s caller group NoChild = (k : ℕ) → IsMatch s caller (Group group) k → is_zombie (task_at s.tree k) ≡ false
+IsEndedChoice s caller group NoneEnded = ⊥
+IsEndedChoice s caller group (Ended child rank) = IsChoice s caller (Group group) (Ended child rank)

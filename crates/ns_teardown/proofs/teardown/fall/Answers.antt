@@ -1,6 +1,6 @@
 use Rattle.std.proofs.Common.{◌≡◌, ℕ, Some, option_map, is_some, sym, ap, ◌∙◌}
 use Rattle.std.specs.Option.{option_map_or}
-use Rattle.pid_numbers.specs.Numbering.{Numbering, Identifier, identifier_at}
+use Rattle.pid_numbers.specs.Numbering.{Numbering, Identifier, identifier_at, path_at}
 use Rattle.ns_teardown.specs.Fall.{FallsWithin, slot_at, slot_after_fall}
 use Rattle.ns_teardown.proofs.Visible as visible
 use Rattle.ns_teardown.proofs.Marked as marked
@@ -17,9 +17,9 @@ fell-requires-clause-inner c root =
     let u = visible.named c.args.store.now c.laws.ensures.agree c.args.init (ap is_some x.1) in
     (c.requires.top u.0 u.1).1 (sym (own_space c.args.store.now.numbering c.args.init c.in-Some.space (sym c.in-Some.is ∙ found) u.0 u.1) ∙ root)
 
-pub fell-requires-clause-used : goal.fell-requires-clause-used
-fell-requires-clause-used c n inside =
-    marked.all-used c.args.store.now c.laws.ensures.numbering c.requires.good c.in-Some.space n inside
+pub fell-requires-clause-homes : goal.fell-requires-clause-homes
+fell-requires-clause-homes c n inside stands =
+    marked.all-homes c.args.store.now c.laws.ensures.agree c.requires.good n (marked.some_path (path_at c.args.store.now.numbering n) c.in-Some.space inside) stands
 
 pub end_members-requires-clause-visible : goal.end_members-requires-clause-visible
 end_members-requires-clause-visible c =

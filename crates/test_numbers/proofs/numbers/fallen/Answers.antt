@@ -1,23 +1,16 @@
-use Rattle.std.proofs.Common.{◌≡◌, ◌≢◌, inl, inr, ℕ, ◌<◌, ◌==◌, ◌||◌, true, false, List, [], ◌∷◌, length, Option, Some, None, option_map, option_and_then, if◌then◌else◌, sym, ap, ◌∙◌, arith}
+use Rattle.std.proofs.Common.{◌≡◌, ◌≢◌, inl, inr, ℕ, ◌==◌, ◌||◌, true, false, List, [], ◌∷◌, Option, Some, None, option_map, refl, sym, ap, ◌∙◌, arith}
 use Rattle.std.specs.Option.{option_map_or}
-use Rattle.std.proofs.lemmas.Bool.{cases_eq, eq-eqb}
+use Rattle.std.proofs.lemmas.Bool.{cases_eq}
 use Rattle.pid_types.specs.Chains.{contains}
-use Rattle.pid_types.specs.Names.{beside}
-use Rattle.pid_numbers.specs.Numbering.{Numbering, Namespace, namespace_at, identifier_at, path_at, taken_in, moved, new_namespace, new_identifier}
-use Rattle.pid_numbers.proofs.Drops.{taken-some}
+use Rattle.pid_numbers.specs.Numbering.{Numbering, Namespace, HasOwnTask, namespace_at, identifier_at, path_at, moved, new_namespace, new_identifier}
 use Rattle.test_numbers.proofs.numbers.fallen.Goals as goal
 
--- beside the root there is one namespace alone, in which its first identifier has number 1
-only_used : (old new : Numbering) (i space : ℕ) (around path items : List ℕ) → namespace_at old 0 ≡ Some (new_namespace 0 (0 ∷ [])) → ((s : ℕ) → s ≢ 0 → namespace_at old s ≡ None) → namespace_at old space ≡ None
-    → identifier_at new i ≡ Some (new_identifier space items) → items ≡ 1 ∷ around → namespace_at new space ≡ Some (record (new_namespace 7 (space ∷ path)) { cursor = 2 })
-    → (p ns : List ℕ) → ((s : ℕ) → s ≢ space → namespace_at new s ≡ option_map (moved p ns s) (namespace_at old s)) → (s : ℕ) → contains (path_at new s) space ≡ true → 0 < length (taken_in new s)
-only_used old new i space around path items root others fresh named first made p ns rest s within = elim (cases_eq s space) [
-  | inl same ↦ taken-some new i s 1 (
-      ap (option_and_then (λ u. beside s (path_at new u.space) u.numbers)) named
-      ∙ ap (λ l. beside s (path_at new space) l) first
-      ∙ ap (λ (o : Option Namespace). beside s (option_map_or (λ t. t.path) o []) (1 ∷ around)) made
-      ∙ ap (λ b. if b then Some 1 else beside s path around) (eq-eqb space s (sym same))
-      )
+-- beside the root there is one namespace alone, which is the own one of its first identifier
+only_home : (old new : Numbering) (i space : ℕ) (items : List ℕ) → namespace_at old 0 ≡ Some (new_namespace 0 (0 ∷ [])) → ((s : ℕ) → s ≢ 0 → namespace_at old s ≡ None) → namespace_at old space ≡ None
+    → identifier_at new i ≡ Some (new_identifier space items)
+    → (p ns : List ℕ) → ((s : ℕ) → s ≢ space → namespace_at new s ≡ option_map (moved p ns s) (namespace_at old s)) → (s : ℕ) → contains (path_at new s) space ≡ true → HasOwnTask (identifier_at new) s
+only_home old new i space items root others fresh named p ns rest s within = elim (cases_eq s space) [
+  | inl same ↦ record { key = i; identifier = new_identifier space items; named = named; own = sym same; used = refl }
   | inr d ↦ elim (cases_eq s 0) [
     | inl zero ↦
         let differs : 0 ≢ space = λ e. (let bad : Some (new_namespace 0 (0 ∷ [])) ≡ None = sym root ∙ ap (namespace_at old) e ∙ fresh in cc) in
@@ -30,7 +23,7 @@ only_used old new i space around path items root others fresh named first made p
   ]
 ]
 
-pub fell-requires-clause-used : goal.fell-requires-clause-used
-fell-requires-clause-used c =
+pub fell-requires-clause-homes : goal.fell-requires-clause-homes
+fell-requires-clause-homes c s within stands =
     let made = c.in-Ok-draw_new.ensures in
-    only_used c.in-Ok.numbers c.draw_new.new.self c.in-Ok-draw_new.first c.in-Ok-draw_new.space _ _ c.in-Ok-plan_new.planned.items c.in-Ok.ensures.root c.in-Ok.ensures.others made.fresh.1 made.named c.in-Ok-plan_new.ensures.ok.2 made.made _ _ made.namespaces
+    only_home c.in-Ok.numbers c.draw_new.new.self c.in-Ok-draw_new.first c.in-Ok-draw_new.space c.in-Ok-plan_new.planned.items c.in-Ok.ensures.root c.in-Ok.ensures.others made.fresh.1 made.named _ _ made.namespaces s within

@@ -1,7 +1,7 @@
 use Rattle.std.proofs.Common.{◌≡◌, ◌∙◌, ◌++◌, ◌∷◌, [], sym, ap, subst, append_assoc, append-nil, option_map}
 use Rattle.pid_numbers.specs.Slabs.{namespace_of, namespace_on, IsTree}
 use Rattle.pid_numbers.proofs.Orders as orders
-use Rattle.pid_numbers.proofs.spaces.fall_all.Goals as goal
+use Rattle.pid_numbers.proofs.fall.fall_among.Goals as goal
 
 pub fall_at-requires : goal.fall_at-requires
 fall_at-requires c = subst IsTree (λ i s. sym (c.loop-key.invariant.way s) i) c.requires.tree

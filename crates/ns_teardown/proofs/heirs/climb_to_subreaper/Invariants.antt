@@ -3,7 +3,7 @@ use Rattle.pid_numbers.specs.Numbering.{Identifier, identifier_at}
 use Rattle.task_tree.specs.Tree.{parent_of}
 use Rattle.ns_teardown.specs.Heirs.{is_subreaper_in, nearest_subreaper}
 use Rattle.ns_teardown.proofs.Ancestors.{found_above}
-use Rattle.ns_teardown.proofs.heirs.nearest_subreaper.Given as goal
+use Rattle.ns_teardown.proofs.heirs.climb_to_subreaper.Given as goal
 
 abbrev pub invariant-loop : goal.invariant-loop
 invariant-loop l = record {

@@ -1,7 +1,7 @@
 use Rattle.std.proofs.Common.{◌≡◌, ◌++◌, ℕ}
 use Rattle.pid_numbers.specs.Slabs.{way, entry_on, bound_on, namespace_on}
 use Rattle.pid_numbers.proofs.Orders.{fallen_among}
-use Rattle.pid_numbers.proofs.spaces.fall_all.Given as goal
+use Rattle.pid_numbers.proofs.fall.fall_among.Given as goal
 
 abbrev pub invariant-loop-key : goal.invariant-loop-key
 invariant-loop-key l = record {

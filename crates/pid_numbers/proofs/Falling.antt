@@ -1,0 +1,188 @@
+-- The tasks of a namespace lead to all namespaces inside it.
+use Rattle.std.proofs.Common.{◌≡◌, ◌≢◌, ◌⊎◌, inl, inr, ℕ, ◌+◌, ◌<◌, ◌≤◌, ◌||◌, Bool, true, false, List, [], ◌∷◌, get_or, length, Option, Some, None, option_map, refl, sym, ap, subst, ◌∙◌, arith}
+use Rattle.std.specs.Option.{option_map_or}
+use Rattle.std.proofs.lemmas.Bool.{cases_eq, cases_lt, eq-eqb}
+use Rattle.pid_types.specs.Chains.{contains}
+use Rattle.pid_types.specs.Names.{beside}
+use Rattle.pid_types.specs.declared.call.Kind.TheVariants.{Task}
+use Rattle.index_array.specs.Place.{Entry, index_count, is_marked}
+use Rattle.pid_numbers.specs.Numbering.{Namespace, Identifier, number_in, is_used_as, felled, fallen_within, HasOwnTask}
+use Rattle.pid_numbers.specs.Slabs.{leads, marks_of, IsTree, IsTied, AreMarked}
+use Rattle.pid_numbers.proofs.Ties as ties
+use Rattle.pid_numbers.proofs.Sweeps as sweeps
+
+abbrev pub has_fallen : Option Namespace → Bool
+has_fallen o = option_map_or (λ t. t.fallen) o false
+
+-- the identifier's own namespace is inside the one in which it has a number
+pub inside-of : (ways : ℕ → List ℕ) (outer n : ℕ) (u : Identifier) → number_in ways outer (Some u) ≡ Some n → contains (ways u.space) outer ≡ true
+inside-of ways outer n u has =
+    let at = ties.beside-some outer n (ways u.space) u.numbers has in
+    ap (contains (ways u.space)) (sym at.2) ∙ sweeps.contains_at (ways u.space) at.0 at.1
+
+-- a task's number leads to an identifier whose own namespace is inside
+pub record IsLed (ways : ℕ → List ℕ) (names : ℕ → Option Identifier) (at : ℕ → ℕ → Option (Entry ℕ)) (outer n : ℕ) : Type 0 where
+  pub key : ℕ
+  pub identifier : Identifier
+  pub leads : leads at outer n ≡ Some key
+  pub named : names key ≡ Some identifier
+  pub has : number_in ways outer (Some identifier) ≡ Some n
+
+-- what the walk over the tasks' numbers below one has come to
+pub record IsFalling (ways : ℕ → List ℕ) (names : ℕ → Option Identifier) (outer : ℕ) (old now : ℕ → Option Namespace) (from : ℕ) : Type 0 where
+  pub so_far : (s : ℕ) → (now s ≡ old s) ⊎ ((contains (ways s) outer ≡ true) × (now s ≡ option_map felled (old s)))
+  pub met : (i n : ℕ) (u : Identifier) → names i ≡ Some u → number_in ways outer (Some u) ≡ Some n → n < from → is_used_as Task (Some u) ≡ true → has_fallen (now u.space) ≡ true
+
+-- a namespace is on its own path
+pub own-in : (ways : ℕ → List ℕ) → IsTree ways → (s : ℕ) → 0 < length (ways s) → contains (ways s) s ≡ true
+own-in ways tree s there = go (tree.head s)
+  where
+    go : (ways s ≡ []) ⊎ ((rest : List ℕ) × (ways s ≡ s ∷ rest)) → contains (ways s) s ≡ true
+    go (inl none) = absurd (let z : length (ways s) ≡ 0 = ap length none in omega (arith, there, z))
+    go (inr w) = ap (λ p. contains p s) w.1 ∙ ap (λ b. b || contains w.0 s) (eq-eqb s s refl)
+
+-- some task's own namespace has a number in use
+pub own-number : (ways : ℕ → List ℕ) (names : ℕ → Option Identifier) (at : ℕ → ℕ → Option (Entry ℕ)) → IsTied ways names (leads at) → (s : ℕ) → contains (ways s) s ≡ true → HasOwnTask names s
+    → (n : ℕ) × (i : ℕ) × (leads at s n ≡ Some i)
+own-number ways names at tied s inside t =
+    let some = sweeps.beside-at s (ways t.identifier.space) t.identifier.numbers (tied.full t.key t.identifier t.named) (ap (λ z. contains (ways z) s) t.own ∙ inside) in
+    (some.0, t.key, tied.kept s some.0 t.key (ap (number_in ways s) t.named ∙ some.1))
+
+module _ (ways : ℕ → List ℕ) (names : ℕ → Option Identifier) (at : ℕ → ℕ → Option (Entry ℕ)) (tied : IsTied ways names (leads at)) (marks : AreMarked at names) (outer : ℕ) where
+  pub led : (n : ℕ) → is_marked 0 (at outer n) ≡ true → IsLed ways names at outer n
+  led n marked = go (at outer n) refl marked
+    where
+      named : (e : Entry ℕ) → at outer n ≡ Some e → (o : Option Identifier) → names e.value ≡ o → IsLed ways names at outer n
+      named e is None none =
+          let bad = tied.found outer n e.value (ap (option_map (λ (e : Entry ℕ). e.value)) is) in
+          absurd (let z : None ≡ Some n = ap (number_in ways outer) (sym none) ∙ bad in cc)
+      named e is (Some u) some = record {
+        key = e.value;
+        identifier = u;
+        leads = ap (option_map (λ (e : Entry ℕ). e.value)) is;
+        named = some;
+        has = ap (number_in ways outer) (sym some) ∙ tied.found outer n e.value (ap (option_map (λ (e : Entry ℕ). e.value)) is);
+      }
+
+      go : (o : Option (Entry ℕ)) → at outer n ≡ o → is_marked 0 o ≡ true → IsLed ways names at outer n
+      go None is m = absurd (cc)
+      go (Some e) is m = named e is (names e.value) refl
+
+  -- and a task's number is marked
+  pub marked : (n i : ℕ) (u : Identifier) → names i ≡ Some u → number_in ways outer (Some u) ≡ Some n → is_used_as Task (Some u) ≡ true → is_marked 0 (at outer n) ≡ true
+  marked n i u named has used = go (at outer n) refl (tied.kept outer n i (ap (number_in ways outer) named ∙ has))
+    where
+      go : (o : Option (Entry ℕ)) → at outer n ≡ o → option_map (λ (e : Entry ℕ). e.value) o ≡ Some i → is_marked 0 o ≡ true
+      go None is led = absurd (cc)
+      go (Some e) is led =
+          let value : e.value ≡ i = ap (λ o. option_map_or (λ n. n) o e.value) led in
+          ap (λ ms. get_or ms 0 false) (marks outer n e is) ∙ ap (λ o. is_used_as Task o) (ap names value ∙ named) ∙ used
+
+  module _ (old : ℕ → Option Namespace) (path : (s : ℕ) → option_map_or (λ t. t.path) (old s) [] ≡ ways s) where
+    pub falling-first : IsFalling ways names outer old old 0
+    falling-first = record { so_far = λ s. inl refl; met = λ i n u named has below used. absurd (omega (arith, below)) }
+
+    twice : (o : Option Namespace) → option_map felled (option_map felled o) ≡ option_map felled o
+    twice None = refl
+    twice (Some t) = refl
+
+    -- a namespace inside is there, and has fallen once it is marked
+    there : (s : ℕ) → contains (ways s) outer ≡ true → has_fallen (option_map felled (old s)) ≡ true
+    there s inside = go (old s) (path s)
+      where
+        go : (o : Option Namespace) → option_map_or (λ t. t.path) o [] ≡ ways s → has_fallen (option_map felled o) ≡ true
+        go None is = absurd (let z : false ≡ true = ap (λ p. contains p outer) is ∙ inside in cc)
+        go (Some t) is = refl
+
+    -- one number more
+    pub falling-more : (now now' : ℕ → Option Namespace) (from n : ℕ) → IsFalling ways names outer old now from → (l : IsLed ways names at outer n)
+        → ((k : ℕ) → from ≤ k → k < n → is_marked 0 (at outer k) ≡ false)
+        → now' l.identifier.space ≡ option_map felled (now l.identifier.space) → ((s : ℕ) → s ≢ l.identifier.space → now' s ≡ now s)
+        → IsFalling ways names outer old now' (n + 1)
+    falling-more now now' from n f l between here others = record {
+      so_far = λ s. so_far s (cases_eq s l.identifier.space);
+      met = met;
+    }
+      where
+        home : ℕ
+        home = l.identifier.space
+
+        inside : contains (ways home) outer ≡ true
+        inside = inside-of ways outer n l.identifier l.has
+
+        marked_now : now' home ≡ option_map felled (old home)
+        marked_now = elim (f.so_far home) [
+          | inl same ↦ here ∙ ap (option_map felled) same
+          | inr w ↦ here ∙ ap (option_map felled) w.1 ∙ twice (old home)
+        ]
+
+        so_far : (s : ℕ) → (s ≡ home) ⊎ (s ≢ home) → (now' s ≡ old s) ⊎ ((contains (ways s) outer ≡ true) × (now' s ≡ option_map felled (old s)))
+        so_far s (inl same) = inr (subst (λ (z : ℕ). (contains (ways z) outer ≡ true) × (now' z ≡ option_map felled (old z))) (sym same) (inside, marked_now))
+        so_far s (inr differs) = elim (f.so_far s) [
+          | inl same ↦ inl (others s differs ∙ same)
+          | inr w ↦ inr (w.0, others s differs ∙ w.1)
+        ]
+
+        fallen_home : (s : ℕ) → s ≡ home → has_fallen (now' s) ≡ true
+        fallen_home s same = ap (λ z. has_fallen (now' z)) same ∙ ap has_fallen marked_now ∙ there home inside
+
+        stays : (s : ℕ) → has_fallen (now s) ≡ true → (s ≡ home) ⊎ (s ≢ home) → has_fallen (now' s) ≡ true
+        stays s fallen (inl same) = fallen_home s same
+        stays s fallen (inr differs) = ap has_fallen (others s differs) ∙ fallen
+
+        met : (i m : ℕ) (u : Identifier) → names i ≡ Some u → number_in ways outer (Some u) ≡ Some m → m < n + 1 → is_used_as Task (Some u) ≡ true → has_fallen (now' u.space) ≡ true
+        met i m u named has below used = elim (cases_eq m n) [
+          | inl same ↦ fallen_home u.space (ap (λ (v : Identifier). v.space) (one same))
+          | inr differs ↦ before differs (cases_lt m from)
+        ]
+          where
+            one : m ≡ n → u ≡ l.identifier
+            one same =
+                let key : Some i ≡ Some l.key = sym (tied.kept outer m i (ap (number_in ways outer) named ∙ has)) ∙ ap (leads at outer) same ∙ l.leads in
+                let is : i ≡ l.key = ap (λ o. option_map_or (λ k. k) o i) key in
+                ap (λ (o : Option Identifier). option_map_or (λ v. v) o u) (sym named ∙ ap names is ∙ l.named)
+
+            before : m ≢ n → (m < from) ⊎ (from ≤ m) → has_fallen (now' u.space) ≡ true
+            before differs (inl less) = stays u.space (f.met i m u named has less used) (cases_eq u.space home)
+            before differs (inr more) =
+                absurd (let z : false ≡ true = sym (between m more (omega (arith, below, differs))) ∙ marked m i u named has used in cc)
+
+    -- when no number is left, all inside have fallen
+    pub falling-all : (now : ℕ → Option Namespace) (from : ℕ) → IsFalling ways names outer old now from
+        → ((k : ℕ) → from ≤ k → k < index_count → is_marked 0 (at outer k) ≡ false)
+        → ((n i : ℕ) → leads at outer n ≡ Some i → n < index_count)
+        → ((s : ℕ) → contains (ways s) outer ≡ true → has_fallen (old s) ≡ false → HasOwnTask names s)
+        → (s : ℕ) → now s ≡ option_map (fallen_within outer) (old s)
+    falling-all now from f none range homes s = by (old s) refl (path s) (f.so_far s)
+      where
+        in_range : (t : HasOwnTask names s) → contains (ways s) outer ≡ true → has_fallen (now s) ≡ true
+        in_range t inside =
+            let some = sweeps.beside-at outer (ways t.identifier.space) t.identifier.numbers (tied.full t.key t.identifier t.named) (ap (λ z. contains (ways z) outer) t.own ∙ inside) in
+            let below = range some.0 t.key (tied.kept outer some.0 t.key (ap (number_in ways outer) t.named ∙ some.1)) in
+            elim (cases_lt some.0 from) [
+              | inl less ↦ ap (λ z. has_fallen (now z)) (sym t.own) ∙ f.met t.key some.0 t.identifier t.named some.1 less t.used
+              | inr more ↦ absurd (let z : false ≡ true = sym (none some.0 more below) ∙ marked some.0 t.key t.identifier t.named some.1 t.used in cc)
+            ]
+
+        stands : (t : Namespace) → old s ≡ Some t → t.path ≡ ways s → now s ≡ old s → (b : Bool) → contains (ways s) outer ≡ b → (c : Bool) → t.fallen ≡ c
+            → Some t ≡ Some (record t { fallen = c || b })
+        stands t is p same false off false stood = ap (λ z. Some (record t { fallen = z })) stood
+        stands t is p same b off true fell = ap (λ z. Some (record t { fallen = z })) fell
+        stands t is p same true inside false stood =
+            let fell = in_range (homes s inside (ap has_fallen is ∙ stood)) inside in
+            absurd (let z : false ≡ true = sym (ap has_fallen (same ∙ is) ∙ stood) ∙ fell in cc)
+
+        or_true : (b : Bool) → (b || true) ≡ true
+        or_true true = refl
+        or_true false = refl
+
+        by : (o : Option Namespace) → old s ≡ o → option_map_or (λ t. t.path) o [] ≡ ways s
+            → (now s ≡ old s) ⊎ ((contains (ways s) outer ≡ true) × (now s ≡ option_map felled (old s))) → now s ≡ option_map (fallen_within outer) o
+        by None is p (inl same) = same ∙ is
+        by None is p (inr w) = w.1 ∙ ap (option_map felled) is
+        by (Some t) is p (inl same) =
+            same ∙ is ∙ stands t is p same (contains (ways s) outer) refl t.fallen refl
+            ∙ ap (λ q. Some (record t { fallen = t.fallen || contains q outer })) (sym p)
+        by (Some t) is p (inr w) =
+            w.1 ∙ ap (option_map felled) is
+            ∙ ap (λ z. Some (record t { fallen = z })) (sym (ap (λ q. t.fallen || contains q outer) p ∙ ap (λ b. t.fallen || b) w.0 ∙ or_true t.fallen))

@@ -1,0 +1,97 @@
+//! Tasks by key, and how many of them are subreapers.
+ghost use Rattle.std.specs.Prelude.{◌≡◌, ℕ, ◌<◌, ◌≤◌, ◌^◌, length, None, true, false, OnOk, OnErr, [], ◌∷◌, ◌++◌, slice_set, slice_index_or};
+ghost use Rattle.task_tree.specs.Tree.{is_subreaper};
+
+use crate::Task;
+use pid_types::keys::TaskKey;
+use std::alloc::{AllocError, Global};
+use std::marker::Model;
+
+/// At each key a task or none. Between two calls the count is that of the subreapers.
+#[derive(Drop)]
+pub(crate) struct Cells {
+    cells: Vec<Option<Task>>,
+    subreapers: usize,
+}
+
+impl Model for Cells {
+    ghost use Rattle.std.specs.Prelude.{◌≡◌, List, Option, count_by};
+    ghost use Rattle.task_tree.specs.declared.Task.{Task};
+    ghost use Rattle.task_tree.specs.Tree.{is_subreaper};
+
+    ghost Value = { List (Option Task) };
+
+    ghost view = { λ a. a.cells.items };
+
+    ghost invariant = { λ a. a.subreapers ≡ count_by is_subreaper a.cells.items };
+}
+
+/// Whether there is a task, and it is a subreaper.
+fn is_marked(task: Option<Task>) -> bool
+    ensures { result ≡ is_subreaper task }
+{
+    match task {
+        Some(task) => task.subreaper,
+        None => false,
+    }
+}
+
+impl Cells {
+    /// No keys.
+    pub(crate) fn new(alloc: Global) -> Cells
+        ensures { result ≡ [] }
+    {
+        Cells {
+            cells: Vec::new(alloc),
+            subreapers: 0,
+        }
+    }
+
+    /// One key more, without a task. The error is want of memory.
+    #[inline(always)]
+    pub(crate) fn grow(&mut self) -> Result<(), AllocError>
+        ensures ok { OnOk result (self.new ≡ self.old ++ None ∷ []) }
+        ensures err { OnErr result (self.new ≡ self.old) }
+    {
+        self.cells.push(None)?;
+        Ok(())
+    }
+
+    /// How many keys there are.
+    pub(crate) fn keys(&self) -> usize
+        ensures { result ≡ length self.now }
+    {
+        self.cells.len()
+    }
+
+    /// The task with the key.
+    pub(crate) fn task(&self, key: TaskKey) -> Option<Task>
+        ensures { result ≡ slice_index_or self.now key None }
+    {
+        *self.cells.get(key as usize)?
+    }
+
+    /// A task, or none, comes in the place of what the key had.
+    #[inline(always)]
+    pub(crate) fn set(&mut self, key: TaskKey, task: Option<Task>)
+        requires key { key < length self.old }
+        requires few { length self.old ≤ 2 ^ 30 }
+        ensures { self.new ≡ slice_set self.old key task }
+    {
+        if is_marked(self.cells[key as usize]) {
+            self.subreapers -= 1;
+        }
+        if is_marked(task) {
+            self.subreapers += 1;
+        }
+        self.cells[key as usize] = task;
+    }
+
+    /// Whether some task is a subreaper. It costs one read.
+    pub(crate) fn any_subreaper(&self) -> bool
+        ensures none { result ≡ false → (k : ℕ) → is_subreaper (slice_index_or self.now k None) ≡ false }
+        ensures some { result ≡ true → (k : ℕ) × (is_subreaper (slice_index_or self.now k None) ≡ true) }
+    {
+        self.subreapers > 0
+    }
+}

@@ -1,0 +1,9 @@
+use Rattle.std.proofs.Common.{◌≡◌}
+use Rattle.wait_calls.specs.declared.selection.Choice.TheVariants.{NoChild}
+use Rattle.wait_calls.specs.Walk.{walked}
+use Rattle.wait_calls.proofs.walk.choose_ended.Given as goal
+
+abbrev pub invariant-loop-child : goal.invariant-loop-child
+invariant-loop-child l = record {
+  walk : walked l.store l.caller l.group l.choice l.child-iterator ≡ walked l.store l.caller l.group NoChild l.initial.child-iterator;
+}
