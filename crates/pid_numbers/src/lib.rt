@@ -39,8 +39,8 @@ pub use plan::PlanFault;
 use plan::with_first;
 use slab::Slab;
 use spaces::{
-    Space, add_space, cursor_at, first_ids, give_path, has_fallen, id_at, is_inside,
-    key_at, levels, look, next_at, path_below, plan_path, prepare_path, release_path, sweep_fallen,
+    Space, add_space, cursor_at, first_ids, give_path, has_fallen, id_at, is_inside, key_at,
+    levels, look, next_at, path_below, plan_path, prepare_path, release_path, sweep_fallen,
 };
 use std::alloc::{AllocError, Global};
 use std::marker::Model;

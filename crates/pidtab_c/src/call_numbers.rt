@@ -73,15 +73,7 @@ fn tell_limit(id: u64, limit: Option<u32>) -> CallNumbers
 }
 
 /// The call as numbers, which say that call.
-#[tactic(
-    auto,
-    unfolding(
-        crate::specs::CallNumbers::call_numbers,
-        crate::specs::Numbers::call_of,
-        crate::specs::Numbers::control_call_of,
-        crate::specs::Numbers::later_call_of
-    )
-)]
+#[tactic(auto, unfolding(crate::specs::CallNumbers::call_numbers, crate::specs::Numbers::call_of, crate::specs::Numbers::control_call_of, crate::specs::Numbers::later_call_of))]
 pub(crate) fn tell_call(call: &Call) -> CallNumbers
     ensures told { result ≡ call_numbers call.now }
     ensures back { call_of result ≡ Some call.now }

@@ -47,7 +47,11 @@ fn read_on(held: &Kept, from: u64, entries: &mut [EntryNumbers]) -> usize
 {
     let left = held.total() - from;
     let room = entries.len();
-    let count = if left < room as u64 { left as usize } else { room };
+    let count = if left < room as u64 {
+        left as usize
+    } else {
+        room
+    };
     for i in 0..count {
         entries[i] = entry_at(held, from + i as u64);
     }

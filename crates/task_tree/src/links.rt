@@ -42,7 +42,12 @@ pub(crate) fn room_for_rank(ended: &mut EndedChildren, key: usize) -> Result<(),
 }
 
 /// The key enters its parent's ended children, if it has a parent.
-pub(crate) fn enter_ended(ended: &mut EndedChildren, children: &MemberLists, key: TaskKey, rank: Pid)
+pub(crate) fn enter_ended(
+    ended: &mut EndedChildren,
+    children: &MemberLists,
+    key: TaskKey,
+    rank: Pid,
+)
     requires key { key < length ended.old }
     requires parents { key < length children.now }
     requires free { ranked ended.old key ≡ None }

@@ -16,7 +16,6 @@ path spaces s = go (get spaces s)
     go None = refl
     go (Some z) = refl
 
-
 pub unreachable-requires : goal.unreachable-requires
 unreachable-requires c =
     let at = entry_on c.args.spaces.now in
