@@ -6,7 +6,7 @@
 #![tactic(auto)]
 
 use anyhow::{Context, Result};
-use pid_commands::run_words;
+use pid_commands::{read_words, run_answer};
 use std::io::Write;
 use std::rt::Files;
 use std::sync::Wait;
@@ -40,9 +40,9 @@ fn play<R: Files + Print + Threads + Wait + Clock + Sync + AllocGlobal>(
         .try_collect(rt.alloc())?;
     let mut output = Vec::new(rt.alloc());
     let mut errors = Vec::new(rt.alloc());
-    let status = run_words(
+    let status = run_answer(
         rt,
-        words.as_slice(),
+        read_words(rt.alloc(), words.as_slice()),
         input.as_slice(),
         &mut output,
         &mut errors,

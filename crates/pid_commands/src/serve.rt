@@ -1,4 +1,4 @@
-//! The commands `run`, `list` and `work`, over a reader and writers of the caller's. [`run_words`]
+//! The commands `run`, `list` and `work`, over a reader and writers of the caller's. [`run_answer`]
 //! is the one door; a fault of any command is one line on `errors` and the status 1.
 ghost use Rattle.std.specs.Prelude.{◌≡◌, ◌<◌, ◌≤◌, ⊤, Option, List, ℕ, None, false, length, OnOk, IfOk, IfErr, Result, refl};
 ghost use Rattle.std.specs.Io.KnownBytes.{Appends};
@@ -17,7 +17,7 @@ use crate::status::{Status, write_usage_line};
 use pid_types::call::Call;
 use pid_types::config::Config;
 use pid_types::device::{Discard, FromReader, Source, ToWriter};
-use pid_words::{Command, WordsFault, read_words};
+use pid_words::{Command, WordsFault};
 use pid_workers::{
     Finished, JobFiles, MOST_READS, OpenGate, list_record, run, run_state, run_workers,
 };
@@ -31,16 +31,17 @@ use std::sync::ledger::{Blank, Ledger};
 use std::thread::Threads;
 use std::time::Clock;
 
-/// Runs the words after the program's name as the program does: reads the script from the input,
-/// writes the output, flushes it, and writes the line of a fault or the usage line to `errors`.
+/// Runs the command that the words after the program's name were read as, by [`read_words`]: reads the
+/// script from the input, writes the output, flushes it, and writes the line of a fault or the usage
+/// line to `errors`.
 ///
 /// It may wait, for the workers of `work`. After a fault of `run` the output has the answers that
 /// were written before it; after one of `list` or `work` it has nothing, but where a write failed
-/// midway. The contract is over the answer that [`read_words`] gave. It says of `errors` that a
-/// command that is done writes nothing there; where the line cannot be written nothing more is done.
-pub fn run_words<R, I, O, E>(
+/// midway. The contract says of `errors` that a command that is done writes nothing there; where the
+/// line cannot be written nothing more is done.
+pub fn run_answer<R, I, O, E>(
     rt: &R,
-    words: &[String],
+    answer: Result<Command, WordsFault>,
     input: I,
     output: &mut O,
     errors: &mut E,
@@ -50,17 +51,16 @@ where
     I: Read + Drop,
     O: Write,
     E: Write,
-    ensures { (answer : Result Command WordsFault) × Ends MOST_READS (λ _. IsSomeFile R.File.remaining) answer (I.remaining input) (O.contents output.old) (O.contents output.new)
+    ensures { Ends MOST_READS (λ _. IsSomeFile R.File.remaining) answer (I.remaining input) (O.contents output.old) (O.contents output.new)
         (E.contents errors.new ≡ E.contents errors.old) (λ _. ⊤) result }
 {
-    let answer = read_words(rt.alloc(), words);
-    let (status, _) = run_answer(rt, rt, answer, input, output, errors);
+    let (status, _) = run_over(rt, rt, answer, input, output, errors);
     status
 }
 
-/// Runs the command that the words were read as. It gives the status too, and whether the line that
-/// the status asks for could be written to `errors`.
-fn run_answer<R, D, I, O, E>(
+/// Runs it over what opens the job files. It gives the status too, and whether the line that the
+/// status asks for could be written to `errors`.
+fn run_over<R, D, I, O, E>(
     rt: &R,
     disk: &D,
     answer: Result<Command, WordsFault>,

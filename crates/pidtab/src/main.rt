@@ -3,7 +3,7 @@
 //! table that they share.
 #![tactic(auto)]
 
-use pid_commands::{Fault, Status, WordsFault, run_words, say_fault, say_usage};
+use pid_commands::{Fault, Status, WordsFault, read_words, run_answer, say_fault, say_usage};
 use std::io::ErrorKind;
 use std::process::ExitCode;
 use std::rt::Env;
@@ -12,9 +12,9 @@ use std::{env, io};
 fn main(rt: HostRuntime) -> ExitCode {
     let mut errors = rt.stderr();
     let status = match given_words(&rt) {
-        Ok(words) => run_words(
+        Ok(words) => run_answer(
             &rt,
-            words.as_slice(),
+            read_words(rt.alloc(), words.as_slice()),
             rt.reader(),
             &mut io::writer(&rt),
             &mut errors,

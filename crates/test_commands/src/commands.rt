@@ -1,7 +1,7 @@
 //! What the commands write, and what they say of a device that fails.
 
 use crate::words::owned;
-use pid_commands::{Fault, Status, run_words, write_fault_line};
+use pid_commands::{Fault, Status, read_words, run_answer, write_fault_line};
 use std::io::{ErrorKind, Read, Write};
 use std::process::Abort;
 use std::rt::Files;
@@ -78,7 +78,8 @@ fn status_of<R: Files + Threads + Wait + Clock + Sync + AllocGlobal, I: Read + D
     writer: &mut W,
 ) -> (Status, Vec<u8>) {
     let mut errors = Vec::new(rt.alloc());
-    let status = run_words(rt, words, input, writer, &mut errors);
+    let answer = read_words(rt.alloc(), words);
+    let status = run_answer(rt, answer, input, writer, &mut errors);
     (status, errors)
 }
 

@@ -1,6 +1,6 @@
 use Rattle.std.proofs.Common.{inl, refl, rules}
 use Rattle.pid_commands.specs.declared.fault.Fault.TheVariants.{NoMemory}
-use Rattle.pid_commands.proofs.serve.run_answer.Goals as goal
+use Rattle.pid_commands.proofs.serve.run_over.Goals as goal
 
 -- there was no memory to read the words
 pub returns : goal.returns
