@@ -18,10 +18,10 @@ UNDISTURBED = (CRATE / "stdout").read_text()
 COUNTS = (1, 2, ALL)
 
 # What is to be refused at some growth or other, by the first word of its step; `getpid` grows the history alone.
-TAKE_MEMORY = set("new fork mk reserve checkpoint snapshot list split job run limited state work workers".split())
+TAKE_MEMORY = set("new open opening fork mk reserve checkpoint snapshot list split job run limited state work workers".split())
 
 # The layers make a call once more on the spot, so it takes two refusals to have one filled from the start.
-LAYERS = set("numbers controls groups tree".split())
+LAYERS = set("numbers controls groups tree array ids".split())
 
 SCRIPT = "fork 1;fork 1 new;mk 0;limit 3 2;move 2 3;fork 2;fork 2;fork 3;exit 2 0;wait 1 any;count 3;nspid 1 3;getpid 9"
 

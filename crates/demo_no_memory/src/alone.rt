@@ -50,6 +50,7 @@ fn play_once<R: Print + Threads + Wait + Clock + Sync + AllocGlobal>(
     step: &AloneStep,
 ) -> Result<bool> {
     match step {
+        AloneStep::Open => open::<Brand, R>(rt, Blank::new(1), heading, config),
         AloneStep::Job(script) => read(rt, heading, script.as_bytes()),
         AloneStep::Run(script) => answer_all(rt, heading, config, script.as_bytes()),
         AloneStep::Limited(script) => answer_few(rt, heading, config, script.as_bytes()),
@@ -71,6 +72,25 @@ fn play_once<R: Print + Threads + Wait + Clock + Sync + AllocGlobal>(
 /// The calls of a job.
 fn parse_job(alloc: Global, script: &[u8]) -> Result<Vec<Call>> {
     read_job(alloc, &mut FromReader::new(script)).context("no job")
+}
+
+/// Opens a table behind its lock, and tells how many seats it has and how many calls were recorded.
+fn open<L: Ledger, R: Print + Wait + Clock + AllocGlobal>(
+    rt: &R,
+    blank: Blank,
+    heading: &[u8],
+    config: &Config,
+) -> Result<bool>
+    requires name { blank.name ≡ L.name }
+    requires parts { (blank.parts ≡ L.parts) × (L.parts ≡ 1) }
+{
+    tell(rt, &[heading])?;
+    let Ok((shared, seats)) = Shared::<L, 1>::open(rt.alloc(), blank, config) else {
+        tell(rt, &[b"- no memory\n"])?;
+        return Ok(false);
+    };
+    println!(rt; "= seats {} calls {}", seats.len(), shared.lock(rt).total())?;
+    Ok(true)
 }
 
 /// Reads a job, and tells how many calls it has.

@@ -1,6 +1,7 @@
 //! Steps on the layers of a table, each alone: a layer is filled, call by call. A call that finds no memory is made
 //! again on the spot, once what can be read of the layer was compared.
 
+use crate::arrays::{fill_array, fill_ids};
 use crate::parts::{fill_controls, fill_groups, fill_tree};
 use crate::step::Layer;
 use crate::tell::{MOST_TRIES, tell};
@@ -42,6 +43,8 @@ fn fill(alloc: Global, layer: Layer) -> Result<Option<u64>> {
         Layer::Controls => fill_controls(alloc),
         Layer::Groups => fill_groups(alloc),
         Layer::Tree => fill_tree(alloc),
+        Layer::Array => fill_array(alloc),
+        Layer::Ids => fill_ids(alloc),
     }
 }
 

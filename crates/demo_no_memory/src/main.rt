@@ -8,6 +8,7 @@
 #![tactic(auto)]
 
 mod alone;
+mod arrays;
 mod layers;
 mod parts;
 mod script;

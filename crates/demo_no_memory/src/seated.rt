@@ -110,6 +110,7 @@ impl<L: Ledger> Seated<L> {
                 self.record.checkpoint()?;
                 Ok(Made::Nothing)
             }
+            SeatedStep::Opening => Ok(Made::Snapshot(self.record.opening()?)),
             SeatedStep::Look => Ok(Made::Counts(self.counts())),
             SeatedStep::Snapshot => Ok(Made::Snapshot(self.record.snapshot()?)),
             SeatedStep::List => Ok(Made::Text(list_text(rt.alloc(), plain)?)),

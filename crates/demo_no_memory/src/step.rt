@@ -10,7 +10,7 @@ use std::alloc::Global;
 pub enum Step {
     Seated(SeatedStep),
     Alone(AloneStep),
-    /// `numbers`, `controls`, `groups`, `tree`: a layer is filled.
+    /// `numbers`, `controls`, `groups`, `tree`, `array`, `ids`: a layer is filled.
     Layer(Layer),
 }
 
@@ -21,6 +21,8 @@ pub enum Layer {
     Controls,
     Groups,
     Tree,
+    Array,
+    Ids,
 }
 
 /// A step on the script's table.
@@ -32,6 +34,8 @@ pub enum SeatedStep {
     Reserve(usize),
     /// `checkpoint`.
     Checkpoint,
+    /// `opening`: the state that the kept history begins in.
+    Opening,
     /// `look`: what the reading calls answer that take no memory.
     Look,
     /// `snapshot`.
@@ -45,6 +49,8 @@ pub enum SeatedStep {
 /// A step on a table of its own. Scripts have `;` in the place of a newline.
 #[derive(Drop)]
 pub enum AloneStep {
+    /// `open`: a table behind its lock.
+    Open,
     /// `job SCRIPT`: the calls of a job.
     Job(String),
     /// `run SCRIPT`.
@@ -71,6 +77,7 @@ pub fn parse_step(alloc: Global, line: &str) -> Result<Step> {
     let kind = match word {
         "reserve" => SeatedStep::Reserve(rest.parse::<usize>()?),
         "checkpoint" => SeatedStep::Checkpoint,
+        "opening" => SeatedStep::Opening,
         "look" => SeatedStep::Look,
         "snapshot" => SeatedStep::Snapshot,
         "list" => SeatedStep::List,
@@ -90,6 +97,8 @@ fn parse_layer(word: &str) -> Option<Layer> {
         "controls" => Layer::Controls,
         "groups" => Layer::Groups,
         "tree" => Layer::Tree,
+        "array" => Layer::Array,
+        "ids" => Layer::Ids,
         _ => return None,
     })
 }
@@ -97,6 +106,7 @@ fn parse_layer(word: &str) -> Option<Layer> {
 /// The step on a table of its own, if the word names one.
 fn parse_alone(alloc: Global, word: &str, rest: &str) -> Result<Option<AloneStep>> {
     Ok(Some(match word {
+        "open" => AloneStep::Open,
         "job" => AloneStep::Job(script(alloc, rest)?),
         "run" => AloneStep::Run(script(alloc, rest)?),
         "limited" => AloneStep::Limited(script(alloc, rest)?),

@@ -13,7 +13,7 @@ use pid_types::reply::{CallFault, Refusal, Reply};
 /// The length of the longest answer: 33 numbers of ten digits, and a space between.
 pub const LONGEST_ANSWER: usize = 362;
 
-fn push_bytes<const N: usize>(text: &mut ArrayVec<u8, N>, bytes: &[u8])
+pub(crate) fn push_bytes<const N: usize>(text: &mut ArrayVec<u8, N>, bytes: &[u8])
     requires { length text.old.items + length bytes.now ≤ N }
     ensures items { text.new.items ≡ text.old.items ++ bytes.now }
     ensures len { length text.new.items ≡ length text.old.items + length bytes.now }
@@ -118,7 +118,7 @@ fn push_number<const N: usize>(text: &mut ArrayVec<u8, N>, number: u64)
 
 /// The label, and the number behind it.
 #[tactic(auto, using(crate::proofs::Room::room))]
-fn push_labelled<const N: usize>(text: &mut ArrayVec<u8, N>, label: &[u8], number: u64)
+pub(crate) fn push_labelled<const N: usize>(text: &mut ArrayVec<u8, N>, label: &[u8], number: u64)
     requires { length text.old.items + length label.now + 20 ≤ N }
     ensures items { text.new.items ≡ text.old.items ++ label.now ++ decimal number }
     ensures len { length text.new.items ≤ length text.old.items + length label.now + 20 }
@@ -175,7 +175,7 @@ fn push_reaped<const N: usize>(text: &mut ArrayVec<u8, N>, child: u32, ended: En
 
 /// The byte, and the number behind it.
 #[tactic(auto, using(crate::proofs::Room::room))]
-fn push_behind<const N: usize>(text: &mut ArrayVec<u8, N>, separator: u8, number: u32)
+pub(crate) fn push_behind<const N: usize>(text: &mut ArrayVec<u8, N>, separator: u8, number: u32)
     requires { length text.old.items + 11 ≤ N }
     ensures items { text.new.items ≡ text.old.items ++ separator ∷ decimal number }
     ensures len { length text.new.items ≤ length text.old.items + 11 }

@@ -1,4 +1,4 @@
-//! The language of scripts: lines to calls, replies to answers, snapshots to lists.
+//! The language of scripts: lines to calls and back, replies to answers, snapshots to lists.
 //! `docs/SCRIPT.md` says it for users.
 //!
 //! [`line::parse_line`], [`answer::answer_text`] and [`list::list_text`] are its three tables.
@@ -9,6 +9,7 @@
 
 pub mod answer;
 mod bytes;
+pub mod call;
 pub mod job;
 pub mod laws;
 pub mod line;
