@@ -5,172 +5,81 @@
 //! memory and change nothing.
 #![tactic(auto)]
 
-ghost use Rattle.std.specs.Prelude.{◌≡◌, ℕ, Some, IsSome, IfSome, option_map};
-ghost use Rattle.pid_types.specs.Names.{number_or_zero};
-ghost use Rattle.pid_types.specs.Queries.{get_pid as get_pid_of, get_ppid as get_ppid_of, get_pgid as get_pgid_of, get_sid as get_sid_of, ns_pid as ns_pid_of, next as next_of, self_or_task};
+ghost use Rattle.std.specs.Prelude.{◌≡◌};
+ghost use Rattle.pid_types.specs.Queries.{get_pid as get_pid_of, get_ppid as get_ppid_of, get_pgid as get_pgid_of, get_sid as get_sid_of, ns_pid as ns_pid_of, next as next_of};
 ghost use Rattle.pid_types.specs.Short.{reply_of};
-ghost use Rattle.pid_numbers.specs.Numbering.{id_at, identifier_at};
-ghost use Rattle.task_tree.specs.declared.Task.{Task};
-ghost use Rattle.task_tree.specs.Tree.{task_at};
-ghost use Rattle.task_table.specs.declared.view.Found.{Found};
-ghost use Rattle.task_table.specs.View.{name_at, row_of, state_of};
+ghost use Rattle.pid_types.specs.declared.call.Call.TheVariants as calls;
+ghost use Rattle.task_table.specs.View.{state_of};
 ghost use Rattle.task_table.specs.Whole.{IsWhole};
+ghost use Rattle.translate.specs.Seen.{IsSeen};
 
+mod queries;
 pub mod shown;
 
+use model_laws::sights::queries_answer_seen;
 use pid_types::call::Kind;
-use pid_types::keys::{IdentKey, Pid, SpaceKey};
-use pid_types::reply::{Refusal, Reply, ShortReply};
+use pid_types::keys::Pid;
+use pid_types::reply::{Reply, ShortReply};
 use task_table::Tasks;
-use task_table::view::{Found, find_live, find_task, laws, own_space};
-
-/// The number of an identifier in a namespace, 0 where it is not visible there.
-fn seen(store: &Tasks, space: SpaceKey, key: IdentKey) -> Pid
-    requires { IsSome (identifier_at store.now.numbering key) }
-    ensures { (i : ℕ) → id_at store.now.numbering space ≡ Some i → result ≡ number_or_zero (state_of store.now).spaces (name_at store.now.numbering key) i }
-{
-    laws(store);
-    store.numbers().number_in(key, space).unwrap_or(0)
-}
-
-/// The number of a task in a namespace.
-fn seen_task(store: &Tasks, space: SpaceKey, key: IdentKey) -> Pid
-    requires { IsSome (task_at store.now.tree key) }
-    ensures { (i : ℕ) → id_at store.now.numbering space ≡ Some i → result ≡ number_or_zero (state_of store.now).spaces (name_at store.now.numbering key) i }
-{
-    laws(store);
-    seen(store, space, key)
-}
-
-/// The number of a task's group in a namespace.
-fn seen_group(store: &Tasks, space: SpaceKey, found: &Found) -> Pid
-    requires { task_at store.now.tree found.now.key ≡ Some found.now.task }
-    ensures { (i : ℕ) → id_at store.now.numbering space ≡ Some i → result ≡ number_or_zero (state_of store.now).spaces (row_of store.now found.now.key found.now.task).group i }
-{
-    laws(store);
-    let group = store.members().group(found.key);
-    seen(store, space, group)
-}
-
-/// The number of a task's session in a namespace.
-fn seen_session(store: &Tasks, space: SpaceKey, found: &Found) -> Pid
-    requires { task_at store.now.tree found.now.key ≡ Some found.now.task }
-    ensures { (i : ℕ) → id_at store.now.numbering space ≡ Some i → result ≡ number_or_zero (state_of store.now).spaces (row_of store.now found.now.key found.now.task).session i }
-{
-    laws(store);
-    let session = store.members().session(found.key);
-    seen(store, space, session)
-}
 
 /// `getpid(2)`.
-#[tactic(auto, unfolding(pid_types::specs::Queries::get_pid))]
 pub fn get_pid(store: &Tasks, caller: Pid) -> ShortReply
     requires { IsWhole store.now }
-    ensures { reply_of result ≡ get_pid_of (state_of store.now) caller }
+    ensures value { reply_of result ≡ get_pid_of (state_of store.now) caller }
+    ensures seen { IsSeen (state_of store.now) caller calls.GetPid (reply_of result) }
 {
-    let Some(found) = find_live(store, caller) else {
-        return ShortReply::Refused(Refusal::NoCaller);
-    };
-    let space = own_space(store, found.key);
-    ShortReply::Number(seen_task(store, space, found.key))
+    queries_answer_seen();
+    queries::get_pid(store, caller)
 }
 
 /// `getppid(2)`: 0 for a parent that the caller cannot see, and for the root init.
-#[tactic(auto, unfolding(pid_types::specs::Queries::get_ppid))]
 pub fn get_ppid(store: &Tasks, caller: Pid) -> ShortReply
     requires { IsWhole store.now }
-    ensures { reply_of result ≡ get_ppid_of (state_of store.now) caller }
+    ensures value { reply_of result ≡ get_ppid_of (state_of store.now) caller }
+    ensures seen { IsSeen (state_of store.now) caller calls.GetPpid (reply_of result) }
 {
-    let Some(found) = find_live(store, caller) else {
-        return ShortReply::Refused(Refusal::NoCaller);
-    };
-    let space = own_space(store, found.key);
-    match store.tree().parent(found.key) {
-        Some(parent) => ShortReply::Number(seen_task(store, space, parent)),
-        None => ShortReply::Number(0),
-    }
-}
-
-/// The task with the number in the caller's namespace, where 0 is the caller.
-fn self_or_task(store: &Tasks, caller: &Found, space: SpaceKey, pid: Pid) -> Option<Found>
-    requires there { task_at store.now.tree caller.now.key ≡ Some caller.now.task }
-    requires own { id_at store.now.numbering space ≡ Some (name_at store.now.numbering caller.now.key).space }
-    ensures there { IfSome result (λ f. task_at store.now.tree f.key ≡ Some f.task) }
-    ensures row { option_map (λ (f : Found). row_of store.now f.key f.task) result ≡ self_or_task (state_of store.now) (row_of store.now caller.now.key caller.now.task) pid }
-{
-    if pid == 0 {
-        Some(*caller)
-    } else {
-        find_task(store, space, pid)
-    }
+    queries_answer_seen();
+    queries::get_ppid(store, caller)
 }
 
 /// `getpgid(2)`: 0 for a group that the caller cannot see.
-#[tactic(auto, unfolding(pid_types::specs::Queries::get_pgid))]
 pub fn get_pgid(store: &Tasks, caller: Pid, pid: Pid) -> ShortReply
     requires { IsWhole store.now }
-    ensures { reply_of result ≡ get_pgid_of (state_of store.now) caller pid }
+    ensures value { reply_of result ≡ get_pgid_of (state_of store.now) caller pid }
+    ensures seen { IsSeen (state_of store.now) caller (λ n. calls.GetPgid n pid) (reply_of result) }
 {
-    let Some(found) = find_live(store, caller) else {
-        return ShortReply::Refused(Refusal::NoCaller);
-    };
-    let space = own_space(store, found.key);
-    let Some(task) = self_or_task(store, &found, space, pid) else {
-        return ShortReply::Refused(Refusal::NoTask);
-    };
-    ShortReply::Number(seen_group(store, space, &task))
+    queries_answer_seen();
+    queries::get_pgid(store, caller, pid)
 }
 
 /// `getsid(2)`: 0 for a session that the caller cannot see.
-#[tactic(auto, unfolding(pid_types::specs::Queries::get_sid))]
 pub fn get_sid(store: &Tasks, caller: Pid, pid: Pid) -> ShortReply
     requires { IsWhole store.now }
-    ensures { reply_of result ≡ get_sid_of (state_of store.now) caller pid }
+    ensures value { reply_of result ≡ get_sid_of (state_of store.now) caller pid }
+    ensures seen { IsSeen (state_of store.now) caller (λ n. calls.GetSid n pid) (reply_of result) }
 {
-    let Some(found) = find_live(store, caller) else {
-        return ShortReply::Refused(Refusal::NoCaller);
-    };
-    let space = own_space(store, found.key);
-    let Some(task) = self_or_task(store, &found, space, pid) else {
-        return ShortReply::Refused(Refusal::NoTask);
-    };
-    ShortReply::Number(seen_session(store, space, &task))
+    queries_answer_seen();
+    queries::get_sid(store, caller, pid)
 }
 
 /// Writes `NSpid` of `proc_pid_status(5)` over another reply: the target's numbers from the caller's namespace inwards.
-#[tactic(auto, unfolding(pid_types::specs::Queries::ns_pid))]
 #[inline(never)]
 pub fn ns_pid(store: &Tasks, caller: Pid, target: Pid, reply: &mut Reply)
     requires { IsWhole store.now }
-    ensures { reply.new ≡ ns_pid_of (state_of store.now) caller target }
+    ensures value { reply.new ≡ ns_pid_of (state_of store.now) caller target }
+    ensures seen { IsSeen (state_of store.now) caller (λ n. calls.NsPid n target) reply.new }
 {
-    laws(store);
-    let Some(found) = find_live(store, caller) else {
-        *reply = Reply::Refused(Refusal::NoCaller);
-        return;
-    };
-    let space = own_space(store, found.key);
-    let Some(task) = find_task(store, space, target) else {
-        *reply = Reply::Refused(Refusal::NoTask);
-        return;
-    };
-    *reply = Reply::Levels(store.numbers().levels_from(task.key, space));
+    queries_answer_seen();
+    queries::ns_pid(store, caller, target, reply);
 }
 
 /// The least number from the given one on that is in use as the kind, in the caller's namespace. It costs one
 /// search by marks.
-#[tactic(auto, unfolding(pid_types::specs::Queries::next))]
 pub fn next(store: &Tasks, caller: Pid, kind: Kind, from: Pid) -> ShortReply
     requires { IsWhole store.now }
-    ensures { reply_of result ≡ next_of (state_of store.now) caller kind from }
+    ensures value { reply_of result ≡ next_of (state_of store.now) caller kind from }
+    ensures seen { IsSeen (state_of store.now) caller (λ n. calls.Next n kind from) (reply_of result) }
 {
-    laws(store);
-    let Some(found) = find_live(store, caller) else {
-        return ShortReply::Refused(Refusal::NoCaller);
-    };
-    let space = own_space(store, found.key);
-    match store.numbers().next_used(space, kind, from) {
-        Some(number) => ShortReply::Number(number),
-        None => ShortReply::End,
-    }
+    queries_answer_seen();
+    queries::next(store, caller, kind, from)
 }

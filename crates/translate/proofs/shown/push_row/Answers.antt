@@ -1,4 +1,4 @@
-use Rattle.std.proofs.Common.{◌≡◌, ◌∙◌, sym, ap, arith, ◌++◌, ◌∷◌, ◌-◌, [], length, slice_set}
+use Rattle.std.proofs.Common.{◌≡◌, ◌∙◌, ap, arith, ◌++◌, ◌∷◌, ◌-◌, [], length, slice_set}
 use Rattle.std.proofs.lemmas.List.{set_at, length-append}
 use Rattle.translate.proofs.shown.push_row.Goals as goal
 

@@ -3,7 +3,7 @@ use Rattle.std.specs.Prelude.{unwrap_or}
 use Rattle.pid_numbers.specs.Numbering.{identifier_at, number_of}
 use Rattle.task_table.proofs.Groups.{held}
 use Rattle.task_table.proofs.LookUps as look_ups
-use Rattle.translate.proofs.seen.Goals as goal
+use Rattle.translate.proofs.queries.seen.Goals as goal
 
 pub returns : goal.returns
 returns c i at =

@@ -1,0 +1,28 @@
+use Rattle.std.proofs.Common.{◌∙◌, List, ℕ, sym, ap}
+use Rattle.std.specs.Option.{option_map_or}
+use Rattle.pid_types.specs.declared.plain.Row.{Row}
+use Rattle.pid_types.specs.declared.reply.Reply.{Reply}
+use Rattle.pid_types.specs.declared.reply.Reply.TheVariants.{Levels, Refused}
+use Rattle.pid_types.specs.declared.reply.Refusal.TheVariants.{NoCaller, NoTask}
+use Rattle.pid_types.specs.Names.{numbers_from, task_at as task_in}
+use Rattle.pid_types.specs.Queries.{ns_pid}
+use Rattle.pid_numbers.specs.Numbering.{levels_of}
+use Rattle.task_table.specs.View.{name_at, state_of}
+use Rattle.task_table.proofs.Keys.{levels-are}
+use Rattle.task_table.proofs.LookUps.{named}
+use Rattle.translate.proofs.queries.ns_pid.Goals as goal
+
+pub returns : goal.returns
+unfolding ns_pid
+returns c =
+    let s = c.args.store.now in
+    let space = (name_at s.numbering c.in-Some.found.key).space in
+    let task = c.in-Some-find_task.task in
+    let u = named s c.laws.ensures task.key task.task c.in-Some-find_task.ensures.there.0 in
+    let levels : Row → Reply = λ row. Levels (record { items = numbers_from (state_of s).spaces row.name space }) in
+    let told : List ℕ → Reply = λ ns. Levels (record { items = ns }) in
+    sym (ap (λ o. option_map_or (λ (caller : Row). option_map_or (λ (row : Row). Levels (record { items = numbers_from (state_of s).spaces row.name caller.name.space })) (task_in (state_of s) caller.name.space c.args.target) (Refused NoTask)) o (Refused NoCaller))
+    c.in-Some.ensures.row
+    ∙ ap (λ o. option_map_or levels o (Refused NoTask)) (c.in-Some-find_task.ensures.row space c.own_space-space.ensures.id)
+    ∙ ap told (levels-are s.numbering c.laws.ensures.numbering c.own_space-space.result space task.key u.0 c.own_space-space.ensures.id u.1
+    ∙ ap (λ b. levels_of b task.key c.own_space-space.result) (sym c.numbers.ensures) ∙ sym c.levels_from.ensures))

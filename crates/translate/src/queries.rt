@@ -1,0 +1,168 @@
+//! The queries, each as the model answers it.
+ghost use Rattle.std.specs.Prelude.{◌≡◌, ℕ, Some, IsSome, IfSome, option_map};
+ghost use Rattle.pid_types.specs.Names.{number_or_zero};
+ghost use Rattle.pid_types.specs.Queries.{get_pid as get_pid_of, get_ppid as get_ppid_of, get_pgid as get_pgid_of, get_sid as get_sid_of, ns_pid as ns_pid_of, next as next_of, self_or_task};
+ghost use Rattle.pid_types.specs.Short.{reply_of};
+ghost use Rattle.pid_numbers.specs.Numbering.{id_at, identifier_at};
+ghost use Rattle.task_tree.specs.declared.Task.{Task};
+ghost use Rattle.task_tree.specs.Tree.{task_at};
+ghost use Rattle.task_table.specs.declared.view.Found.{Found};
+ghost use Rattle.task_table.specs.View.{name_at, row_of, state_of};
+ghost use Rattle.task_table.specs.Whole.{IsWhole};
+
+use pid_types::call::Kind;
+use pid_types::keys::{IdentKey, Pid, SpaceKey};
+use pid_types::reply::{Refusal, Reply, ShortReply};
+use task_table::Tasks;
+use task_table::view::{Found, find_live, find_task, laws, own_space};
+
+/// The number of an identifier in a namespace, 0 where it is not visible there.
+fn seen(store: &Tasks, space: SpaceKey, key: IdentKey) -> Pid
+    requires { IsSome (identifier_at store.now.numbering key) }
+    ensures { (i : ℕ) → id_at store.now.numbering space ≡ Some i → result ≡ number_or_zero (state_of store.now).spaces (name_at store.now.numbering key) i }
+{
+    laws(store);
+    store.numbers().number_in(key, space).unwrap_or(0)
+}
+
+/// The number of a task in a namespace.
+fn seen_task(store: &Tasks, space: SpaceKey, key: IdentKey) -> Pid
+    requires { IsSome (task_at store.now.tree key) }
+    ensures { (i : ℕ) → id_at store.now.numbering space ≡ Some i → result ≡ number_or_zero (state_of store.now).spaces (name_at store.now.numbering key) i }
+{
+    laws(store);
+    seen(store, space, key)
+}
+
+/// The number of a task's group in a namespace.
+fn seen_group(store: &Tasks, space: SpaceKey, found: &Found) -> Pid
+    requires { task_at store.now.tree found.now.key ≡ Some found.now.task }
+    ensures { (i : ℕ) → id_at store.now.numbering space ≡ Some i → result ≡ number_or_zero (state_of store.now).spaces (row_of store.now found.now.key found.now.task).group i }
+{
+    laws(store);
+    let group = store.members().group(found.key);
+    seen(store, space, group)
+}
+
+/// The number of a task's session in a namespace.
+fn seen_session(store: &Tasks, space: SpaceKey, found: &Found) -> Pid
+    requires { task_at store.now.tree found.now.key ≡ Some found.now.task }
+    ensures { (i : ℕ) → id_at store.now.numbering space ≡ Some i → result ≡ number_or_zero (state_of store.now).spaces (row_of store.now found.now.key found.now.task).session i }
+{
+    laws(store);
+    let session = store.members().session(found.key);
+    seen(store, space, session)
+}
+
+/// `getpid(2)`.
+#[tactic(auto, unfolding(pid_types::specs::Queries::get_pid))]
+pub(crate) fn get_pid(store: &Tasks, caller: Pid) -> ShortReply
+    requires { IsWhole store.now }
+    ensures { reply_of result ≡ get_pid_of (state_of store.now) caller }
+{
+    let Some(found) = find_live(store, caller) else {
+        return ShortReply::Refused(Refusal::NoCaller);
+    };
+    let space = own_space(store, found.key);
+    ShortReply::Number(seen_task(store, space, found.key))
+}
+
+/// `getppid(2)`: 0 for a parent that the caller cannot see, and for the root init.
+#[tactic(auto, unfolding(pid_types::specs::Queries::get_ppid))]
+pub(crate) fn get_ppid(store: &Tasks, caller: Pid) -> ShortReply
+    requires { IsWhole store.now }
+    ensures { reply_of result ≡ get_ppid_of (state_of store.now) caller }
+{
+    let Some(found) = find_live(store, caller) else {
+        return ShortReply::Refused(Refusal::NoCaller);
+    };
+    let space = own_space(store, found.key);
+    match store.tree().parent(found.key) {
+        Some(parent) => ShortReply::Number(seen_task(store, space, parent)),
+        None => ShortReply::Number(0),
+    }
+}
+
+/// The task with the number in the caller's namespace, where 0 is the caller.
+fn self_or_task(store: &Tasks, caller: &Found, space: SpaceKey, pid: Pid) -> Option<Found>
+    requires there { task_at store.now.tree caller.now.key ≡ Some caller.now.task }
+    requires own { id_at store.now.numbering space ≡ Some (name_at store.now.numbering caller.now.key).space }
+    ensures there { IfSome result (λ f. task_at store.now.tree f.key ≡ Some f.task) }
+    ensures row { option_map (λ (f : Found). row_of store.now f.key f.task) result ≡ self_or_task (state_of store.now) (row_of store.now caller.now.key caller.now.task) pid }
+{
+    if pid == 0 {
+        Some(*caller)
+    } else {
+        find_task(store, space, pid)
+    }
+}
+
+/// `getpgid(2)`: 0 for a group that the caller cannot see.
+#[tactic(auto, unfolding(pid_types::specs::Queries::get_pgid))]
+pub(crate) fn get_pgid(store: &Tasks, caller: Pid, pid: Pid) -> ShortReply
+    requires { IsWhole store.now }
+    ensures { reply_of result ≡ get_pgid_of (state_of store.now) caller pid }
+{
+    let Some(found) = find_live(store, caller) else {
+        return ShortReply::Refused(Refusal::NoCaller);
+    };
+    let space = own_space(store, found.key);
+    let Some(task) = self_or_task(store, &found, space, pid) else {
+        return ShortReply::Refused(Refusal::NoTask);
+    };
+    ShortReply::Number(seen_group(store, space, &task))
+}
+
+/// `getsid(2)`: 0 for a session that the caller cannot see.
+#[tactic(auto, unfolding(pid_types::specs::Queries::get_sid))]
+pub(crate) fn get_sid(store: &Tasks, caller: Pid, pid: Pid) -> ShortReply
+    requires { IsWhole store.now }
+    ensures { reply_of result ≡ get_sid_of (state_of store.now) caller pid }
+{
+    let Some(found) = find_live(store, caller) else {
+        return ShortReply::Refused(Refusal::NoCaller);
+    };
+    let space = own_space(store, found.key);
+    let Some(task) = self_or_task(store, &found, space, pid) else {
+        return ShortReply::Refused(Refusal::NoTask);
+    };
+    ShortReply::Number(seen_session(store, space, &task))
+}
+
+/// Writes `NSpid` of `proc_pid_status(5)` over another reply: the target's numbers from the caller's namespace inwards.
+#[tactic(auto, unfolding(pid_types::specs::Queries::ns_pid))]
+#[inline(never)]
+pub(crate) fn ns_pid(store: &Tasks, caller: Pid, target: Pid, reply: &mut Reply)
+    requires { IsWhole store.now }
+    ensures { reply.new ≡ ns_pid_of (state_of store.now) caller target }
+{
+    laws(store);
+    let Some(found) = find_live(store, caller) else {
+        *reply = Reply::Refused(Refusal::NoCaller);
+        return;
+    };
+    let space = own_space(store, found.key);
+    let Some(task) = find_task(store, space, target) else {
+        *reply = Reply::Refused(Refusal::NoTask);
+        return;
+    };
+    *reply = Reply::Levels(store.numbers().levels_from(task.key, space));
+}
+
+/// The least number from the given one on that is in use as the kind, in the caller's namespace. It costs one
+/// search by marks.
+#[tactic(auto, unfolding(pid_types::specs::Queries::next))]
+pub(crate) fn next(store: &Tasks, caller: Pid, kind: Kind, from: Pid) -> ShortReply
+    requires { IsWhole store.now }
+    ensures { reply_of result ≡ next_of (state_of store.now) caller kind from }
+{
+    laws(store);
+    let Some(found) = find_live(store, caller) else {
+        return ShortReply::Refused(Refusal::NoCaller);
+    };
+    let space = own_space(store, found.key);
+    match store.numbers().next_used(space, kind, from) {
+        Some(number) => ShortReply::Number(number),
+        None => ShortReply::End,
+    }
+}
