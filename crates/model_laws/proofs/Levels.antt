@@ -1,5 +1,5 @@
 -- A name's number in a namespace is the entry at the namespace's level.
-use Rattle.std.proofs.Common.{◌≡◌, ◌≤◌, ◌↔◌, ℕ, zero, suc, ◌+◌, ◌-◌, Bool, true, false, not, ◌==◌, List, [], ◌∷◌, ◌++◌, reverse, length, Option, Some, None, refl, sym, ap, ◌∙◌, inl, inr, arith, length-append}
+use Rattle.std.proofs.Common.{◌≡◌, ◌≤◌, ◌↔◌, ℕ, zero, suc, ◌+◌, ◌-◌, Bool, true, false, not, ◌==◌, List, [], ◌∷◌, ◌++◌, reverse, length, drop, Option, Some, None, refl, sym, ap, ◌∙◌, inl, inr, arith, length-append}
 use Rattle.std.specs.Prelude.{slice_get, is_some}
 use Rattle.std.proofs.lemmas.List.{reverse-append, length-reverse, append_assoc}
 use Rattle.std.proofs.lemmas.Bool.{eq-eqb, ne_eqb, and_left, not_from_false}
@@ -8,7 +8,7 @@ use Rattle.pid_types.specs.declared.plain.Space.{Space}
 use Rattle.pid_types.specs.declared.plain.Control.{Control}
 use Rattle.pid_types.specs.State.{State}
 use Rattle.pid_types.specs.Chains.{climb}
-use Rattle.pid_types.specs.Names.{parent_space, path_up, level, beside, number, names_in_use, taken}
+use Rattle.pid_types.specs.Names.{parent_space, path_up, level, beside, beside_from, number, numbers_from, names_in_use, taken}
 use Rattle.pid_types.specs.Controls.{parent_control, control_path}
 use Rattle.pid_types.specs.Outcome.{is_dead, sweep}
 use Rattle.pid_types.specs.Membership.{IsIn}
@@ -40,22 +40,58 @@ climb_once f (suc k) id (inr r) = (
       omega arith,
 )
 
--- a name's number in a namespace on its path is the entry at the level of that namespace
-pub number-level : (spaces : List Space) (name : Name) (s : ℕ) → parent_space spaces 0 ≡ None → IsIn 0 (path_up spaces name.space)
-    → IsIn s (path_up spaces name.space)
-    → number spaces name s ≡ slice_get name.numbers.items (level spaces s)
-unfolding number level path_up
-number-level spaces name s root on i =
+-- from an id on stand the numbers behind as many as are before it
+beside_from-place : (s : ℕ) (ts us ns : List ℕ) → (IsIn s ts → ⊥) → beside_from s (ts ++ s ∷ us) ns ≡ drop (length ts) ns
+beside_from-place s [] us [] off = refl
+beside_from-place s [] us (n ∷ ns) off = rw (eq-eqb s s refl) refl
+beside_from-place s (t ∷ ts) us [] off = refl
+beside_from-place s (t ∷ ts) us (n ∷ ns) off = rw (ne_eqb t s (λ e. off (inl (sym e)))) (beside_from-place s ts us ns (λ i. off (inr i)))
+
+-- a namespace stands once on a path from the root, behind as many as its level
+record IsPlaced (path : List ℕ) (s depth : ℕ) : Type 0 where
+  outer : List ℕ
+  inner : List ℕ
+  cut : path ≡ outer ++ s ∷ inner
+  once : IsIn s outer → ⊥
+  deep : length outer ≡ depth
+
+on_path : (spaces : List Space) (name : Name) (s : ℕ) → parent_space spaces 0 ≡ None → IsIn 0 (path_up spaces name.space)
+    → IsIn s (path_up spaces name.space) → IsPlaced (reverse (path_up spaces name.space)) s (level spaces s)
+unfolding level path_up
+on_path spaces name s root on i =
     let f : ℕ → Option ℕ = parent_space spaces in
     let t = climb_suffix f 33 name.space s (Stops-at_root f 33 name.space root on) i in
     let o = climb_once f 33 s t.2 in
     let path : climb f 33 name.space ≡ t.0 ++ s ∷ o.0 = t.1 ∙ ap (λ xs. t.0 ++ xs) o.1 in
-    let back : reverse (climb f 33 name.space) ≡ reverse o.0 ++ s ∷ reverse t.0 =
-    ap reverse path ∙ reverse-append t.0 (s ∷ o.0) ∙ ap (λ xs. xs ++ reverse t.0) (reverse-append (s ∷ []) o.0) ∙ append_assoc (reverse o.0) (s ∷ []) (reverse t.0) in
-    let depth : length (reverse o.0) ≡ length (climb f 33 s) - 1 = let a : length (climb f 33 s) ≡ suc (length o.0) = ap length o.1 in let b : length (reverse o.0) ≡ length o.0 = length-reverse o.0 in omega arith in
-    ap (λ xs. beside s xs name.numbers.items) back
-    ∙ beside-place s (reverse o.0) (reverse t.0) name.numbers.items (λ j. o.2 (IsIn-reverse s o.0 j))
-    ∙ ap (slice_get name.numbers.items) depth
+    record {
+      outer = reverse o.0;
+      inner = reverse t.0;
+      cut = ap reverse path ∙ reverse-append t.0 (s ∷ o.0) ∙ ap (λ xs. xs ++ reverse t.0) (reverse-append (s ∷ []) o.0) ∙ append_assoc (reverse o.0) (s ∷ []) (reverse t.0);
+      once = λ j. o.2 (IsIn-reverse s o.0 j);
+      deep = let a : length (climb f 33 s) ≡ suc (length o.0) = ap length o.1 in let b : length (reverse o.0) ≡ length o.0 = length-reverse o.0 in omega arith;
+    }
+
+-- a name's number in a namespace on its path is the entry at the level of that namespace
+pub number-level : (spaces : List Space) (name : Name) (s : ℕ) → parent_space spaces 0 ≡ None → IsIn 0 (path_up spaces name.space)
+    → IsIn s (path_up spaces name.space)
+    → number spaces name s ≡ slice_get name.numbers.items (level spaces s)
+unfolding number
+number-level spaces name s root on i =
+    let p = on_path spaces name s root on i in
+    ap (λ xs. beside s xs name.numbers.items) p.cut
+    ∙ beside-place s p.outer p.inner name.numbers.items p.once
+    ∙ ap (slice_get name.numbers.items) p.deep
+
+-- its numbers from that namespace inwards are those from that level on
+pub numbers_from-level : (spaces : List Space) (name : Name) (s : ℕ) → parent_space spaces 0 ≡ None → IsIn 0 (path_up spaces name.space)
+    → IsIn s (path_up spaces name.space)
+    → numbers_from spaces name s ≡ drop (level spaces s) name.numbers.items
+unfolding numbers_from
+numbers_from-level spaces name s root on i =
+    let p = on_path spaces name s root on i in
+    ap (λ xs. beside_from s xs name.numbers.items) p.cut
+    ∙ beside_from-place s p.outer p.inner name.numbers.items p.once
+    ∙ ap (λ k. drop k name.numbers.items) p.deep
 
 -- the sweep takes no namespace in which a name in use has a number
 pub sweep-numbered : (state : State) (s : Space) (name : Name) (n : ℕ) → IsIn s state.spaces → IsIn name (names_in_use state.rows)

@@ -1,10 +1,10 @@
 -- Where a name's numbers stand, that no number names two, and that the sweep leaves them.
-use Rattle.std.specs.Prelude.{◌≡◌, ◌↔◌, ℕ, true, List, length, None, Some, slice_get, is_some, ◌≤◌}
+use Rattle.std.specs.Prelude.{◌≡◌, ◌↔◌, ℕ, true, List, length, drop, None, Some, slice_get, is_some, ◌≤◌}
 use Rattle.pid_types.specs.declared.plain.Name.{Name}
 use Rattle.pid_types.specs.declared.plain.Space.{Space}
 use Rattle.pid_types.specs.declared.plain.Control.{Control}
 use Rattle.pid_types.specs.State.{State}
-use Rattle.pid_types.specs.Names.{parent_space, path_up, level, number, names_in_use}
+use Rattle.pid_types.specs.Names.{parent_space, path_up, level, number, numbers_from, names_in_use}
 use Rattle.pid_types.specs.Controls.{control_path}
 use Rattle.pid_types.specs.Outcome.{sweep}
 use Rattle.pid_types.specs.Sound.{IsSound, HasDistinctNumbers}
@@ -16,6 +16,13 @@ NumberIsAtLevel =
     (spaces : List Space) (name : Name) (s : ℕ)
     → parent_space spaces 0 ≡ None → IsIn 0 (path_up spaces name.space) → length name.numbers.items ≡ length (path_up spaces name.space)
     → IsIn s (path_up spaces name.space) → number spaces name s ≡ slice_get name.numbers.items (level spaces s)
+
+-- and its numbers from that namespace inwards, which NSpid shows, are those at that level and behind it
+abbrev pub NumbersFromLevel : Type 0
+NumbersFromLevel =
+    (spaces : List Space) (name : Name) (s : ℕ)
+    → parent_space spaces 0 ≡ None → IsIn 0 (path_up spaces name.space) → length name.numbers.items ≡ length (path_up spaces name.space)
+    → IsIn s (path_up spaces name.space) → numbers_from spaces name s ≡ drop (level spaces s) name.numbers.items
 
 -- in a sound state a name in use has a number in each namespace from its own to the root, and in no other
 abbrev pub NamesHaveNumbers : Type 0

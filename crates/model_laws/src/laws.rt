@@ -1,7 +1,7 @@
 //! Laws of single calls: numbers, refusals, limits, and that no number is handed out twice.
 ghost use Rattle.model_laws.specs.Draws.{DrawIsLeast};
 ghost use Rattle.model_laws.specs.LimitLaws.{ForkKeepsLimits, RunsKeepLimits};
-ghost use Rattle.model_laws.specs.NumberLaws.{LevelsAreBounded, NamesHaveNumbers, NoNumberNamesTwo, NumberIsAtLevel, SoundNeedsNoSweep, SweepKeepsNumbered};
+ghost use Rattle.model_laws.specs.NumberLaws.{LevelsAreBounded, NamesHaveNumbers, NoNumberNamesTwo, NumberIsAtLevel, NumbersFromLevel, SoundNeedsNoSweep, SweepKeepsNumbered};
 ghost use Rattle.model_laws.specs.Refusals.{FirstRefusalAnswers, NoneYetChangesNothing, QueryChangesNothing, RefusalChangesNothing};
 ghost use Rattle.model_laws.specs.ReuseLaws.{NoReuse};
 
@@ -13,6 +13,11 @@ pub fn draw_is_least()
 /// A name's number in a namespace on its path is its entry at the level of that namespace.
 pub fn number_is_at_level()
     ensures { NumberIsAtLevel }
+{}
+
+/// A name's numbers from a namespace on its path inwards are its entries from the level of that namespace on.
+pub fn numbers_are_from_level()
+    ensures { NumbersFromLevel }
 {}
 
 /// In a sound state each name in use has one number in each namespace from its own to the root, and
