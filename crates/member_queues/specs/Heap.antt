@@ -1,5 +1,5 @@
 -- For each owner a tree of its members, in which each key's rank is above that of the key over it.
-use Rattle.std.specs.Prelude.{◌≡◌, ◌≢◌, ◌⊎◌, ℕ, ◌<◌, ◌≤◌, ◌==◌, List, length, Option, Some, None, if◌then◌else◌, slice_index_or}
+use Rattle.std.specs.Prelude.{◌≡◌, ◌≢◌, ◌⊎◌, ℕ, ◌<◌, ◌≤◌, ◌==◌, List, [], ◌∷◌, length, Option, Some, None, if◌then◌else◌, slice_index_or, slice_set}
 use Rattle.member_queues.specs.declared.Node.{Node}
 
 -- no key and no owner
@@ -21,6 +21,11 @@ root_at roots p = slice_index_or roots p 4294967295
 -- the owner and the rank that a node tells
 abbrev pub member_in : Node → Option (ℕ × ℕ)
 member_in node = if node.owner == 4294967295 then None else Some (node.owner, node.rank)
+
+-- the nodes after keys were told another owner, one after the other
+abbrev pub told : ℕ → List Node → List ℕ → List Node
+told to nodes [] = nodes
+told to nodes (k ∷ keys) = told to (slice_set nodes k (record (node_at nodes k) { owner = to })) keys
 
 -- one key is on a side of another
 abbrev pub IsBelow : List Node → ℕ → ℕ → Type 0

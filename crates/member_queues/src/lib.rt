@@ -7,9 +7,11 @@
 #![tactic(auto)]
 
 ghost use Rattle.std.specs.Prelude.{◌≡◌, ◌≢◌, ◌⊎◌, ℕ, ◌+◌, ◌<◌, ◌^◌, length, map, Some, None, MatchOption, OnOk, OnErr, [], ◌∷◌, ◌++◌, IsSome, IsTrue, ◌↔◌, slice_set, option_map};
-ghost use Rattle.member_queues.specs.Ranks.{ranked, IsLeast};
-ghost use Rattle.member_queues.specs.Heap.{nil, node_at, root_at, member_in, AreSides, IsHeap, IsSinking};
+ghost use Rattle.std.specs.List.{AllByRecursion};
+ghost use Rattle.member_queues.specs.Ranks.{ranked, IsLeast, AreRankedMembers, taken};
+ghost use Rattle.member_queues.specs.Heap.{nil, node_at, root_at, member_in, told, AreSides, IsHeap, IsSinking};
 
+use member_lists::Members;
 use std::alloc::{AllocError, Global};
 use std::marker::Model;
 
@@ -194,6 +196,57 @@ fn enter(forest: &mut Forest, key: u32, owner: u32, rank: u32, latest: u32)
     }
 }
 
+/// Tells keys another owner, one after the other.
+fn tell_owner(nodes: &mut Vec<Node>, keys: Members<'_>, owner: u32)
+    requires { AllByRecursion (λ k. k < length nodes.old.items) keys }
+    ensures { nodes.new.items ≡ told owner nodes.old.items keys.entry }
+{
+    for key in keys {
+        nodes[key as usize].owner = owner;
+    }
+}
+
+/// Takes the tree of one owner out of the roots, as a tree of the other's that is to be joined with it. It
+/// answers the key over all others of it, if there is one.
+fn detach(forest: &mut Forest, from: u32, to: u32, members: Members<'_>) -> u32
+    requires heap { IsHeap forest.old.roots.items forest.old.nodes.items nil }
+    requires differ { from ≢ to }
+    requires from { from < length forest.old.roots.items }
+    requires to { to < length forest.old.roots.items }
+    requires all { AreRankedMembers (map member_in forest.old.nodes.items) from members }
+    requires apart { (j k r : ℕ) → ranked (map member_in forest.old.nodes.items) j ≡ Some (from, r)
+        → ranked (map member_in forest.old.nodes.items) k ≢ Some (to, r) }
+    ensures heap { IsHeap forest.new.roots.items forest.new.nodes.items result }
+    ensures top { result ≢ nil → ((node_at forest.new.nodes.items result).owner ≡ to) × ((node_at forest.new.nodes.items result).above ≡ nil) }
+    ensures members { (k : ℕ) → ranked (map member_in forest.new.nodes.items) k
+        ≡ option_map (λ (m : ℕ × ℕ). (taken from to m.0, m.1)) (ranked (map member_in forest.old.nodes.items) k) }
+    ensures len { length forest.new.nodes.items ≡ length forest.old.nodes.items }
+    ensures rooms { length forest.new.roots.items ≡ length forest.old.roots.items }
+{
+    let root = forest.roots[from as usize];
+    tell_owner(&mut forest.nodes, members, to);
+    forest.roots[from as usize] = NIL;
+    root
+}
+
+/// Joins a tree, if there is one, with its owner's other keys: below their root or over it.
+fn meld(forest: &mut Forest, owner: u32, held: u32)
+    requires heap { IsHeap forest.old.roots.items forest.old.nodes.items held }
+    requires owner { owner < length forest.old.roots.items }
+    requires top { held ≢ nil → ((node_at forest.old.nodes.items held).owner ≡ owner) × ((node_at forest.old.nodes.items held).above ≡ nil) }
+    ensures heap { IsHeap forest.new.roots.items forest.new.nodes.items nil }
+    ensures members { map member_in forest.new.nodes.items ≡ map member_in forest.old.nodes.items }
+    ensures len { length forest.new.nodes.items ≡ length forest.old.nodes.items }
+{
+    let root = forest.roots[owner as usize];
+    if is_before(forest.nodes.as_slice(), root, held) {
+        sink(forest, root, held);
+    } else if held != NIL {
+        forest.roots[owner as usize] = held;
+        sink(forest, held, root);
+    }
+}
+
 impl MemberQueues {
     /// No keys and no owners.
     pub fn new(alloc: Global) -> Self
@@ -269,6 +322,24 @@ impl MemberQueues {
         let latest = self.latest[owner as usize];
         self.latest[owner as usize] = key;
         enter(&mut self.forest, key, owner, rank, latest);
+    }
+
+    /// All members of the one owner become the other's, with their ranks. They are given one after the other, each
+    /// once.
+    ///
+    /// It costs one read and one write for each of them, and then the trees are joined as they are: a logarithm of
+    /// the members, taken over many calls.
+    pub fn move_all(&mut self, from: u32, to: u32, members: Members<'_>)
+        requires differ { from ≢ to }
+        requires from { from < length self.old }
+        requires to { to < length self.old }
+        requires all { AreRankedMembers self.old from members }
+        requires apart { (j k r : ℕ) → ranked self.old j ≡ Some (from, r) → ranked self.old k ≢ Some (to, r) }
+        ensures members { (k : ℕ) → ranked self.new k ≡ option_map (λ (m : ℕ × ℕ). (taken from to m.0, m.1)) (ranked self.old k) }
+        ensures keys { length self.new ≡ length self.old }
+    {
+        let held = detach(&mut self.forest, from, to, members);
+        meld(&mut self.forest, to, held);
     }
 
     /// Takes a key from its owner. A key with none below it costs a few reads and writes.
