@@ -1,1 +1,2 @@
 pub mod ById
+pub mod Stat

@@ -11,15 +11,17 @@ ghost use Rattle.pid_types.specs.Queries.{get_pid as get_pid_of, get_ppid as get
 ghost use Rattle.pid_types.specs.Short.{reply_of};
 ghost use Rattle.pid_numbers.specs.Numbering.{id_at, identifier_at};
 ghost use Rattle.task_tree.specs.declared.Task.{Task};
-ghost use Rattle.task_tree.specs.Tree.{task_at};
+ghost use Rattle.std.specs.Option.{option_map_or};
+ghost use Rattle.task_tree.specs.Tree.{task_at, parent_of};
 ghost use Rattle.task_table.specs.declared.view.Found.{Found};
 ghost use Rattle.task_table.specs.View.{name_at, row_of, state_of};
-ghost use Rattle.task_table.specs.Whole.{IsWhole};
+ghost use Rattle.task_table.specs.Whole.{HasParents, IsWhole};
 
 pub mod shown;
+pub mod stat;
 
 use pid_types::call::Kind;
-use pid_types::keys::{IdentKey, Pid, SpaceKey};
+use pid_types::keys::{IdentKey, Pid, SpaceKey, TaskKey};
 use pid_types::reply::{Refusal, Reply, ShortReply};
 use task_table::Tasks;
 use task_table::view::{Found, find_live, find_task, laws, own_space};
@@ -62,6 +64,21 @@ fn seen_session(store: &Tasks, space: SpaceKey, found: &Found) -> Pid
     seen(store, space, session)
 }
 
+/// The number of a task's parent in a namespace; 0 for the root init, which has none.
+fn seen_parent(store: &Tasks, space: SpaceKey, key: TaskKey) -> Pid
+    requires parents { HasParents store.now }
+    requires there { IsSome (task_at store.now.tree key) }
+    ensures { (i : ℕ) → id_at store.now.numbering space ≡ Some i
+        → result ≡ option_map_or (λ parent. number_or_zero (state_of store.now).spaces parent i)
+        (option_map (name_at store.now.numbering) (parent_of store.now.tree key)) 0 }
+{
+    laws(store);
+    match store.tree().parent(key) {
+        Some(parent) => seen_task(store, space, parent),
+        None => 0,
+    }
+}
+
 /// `getpid(2)`.
 #[tactic(auto, unfolding(pid_types::specs::Queries::get_pid))]
 pub fn get_pid(store: &Tasks, caller: Pid) -> ShortReply
@@ -85,10 +102,7 @@ pub fn get_ppid(store: &Tasks, caller: Pid) -> ShortReply
         return ShortReply::Refused(Refusal::NoCaller);
     };
     let space = own_space(store, found.key);
-    match store.tree().parent(found.key) {
-        Some(parent) => ShortReply::Number(seen_task(store, space, parent)),
-        None => ShortReply::Number(0),
-    }
+    ShortReply::Number(seen_parent(store, space, found.key))
 }
 
 /// The task with the number in the caller's namespace, where 0 is the caller.
