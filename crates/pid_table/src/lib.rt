@@ -9,19 +9,23 @@ ghost use Rattle.pid_types.specs.Shown.{Shows};
 ghost use Rattle.pid_types.specs.State.{root_state};
 ghost use Rattle.task_table.specs.View.{state_of};
 ghost use Rattle.task_table.specs.Whole.{IsWhole};
+ghost use Rattle.translate.specs.Stat.{stat_at, glimpse_in, IsSeen};
 ghost use Rattle.pid_table.specs.Bare.{IsBare};
 
 mod step;
 
 use model_laws::soundness::root_state_is_sound;
 use pid_types::config::Config;
+use pid_types::keys::Pid;
 use pid_types::plain::{Life, Plain};
+use pid_types::reply::Refusal;
 use std::alloc::{AllocError, Global};
 use std::marker::Model;
 use task_table::Tasks;
 use task_table::view::laws;
 use task_tree::Task;
 use translate::shown;
+use translate::stat::{Stat, read_stat};
 
 /// The process table: what it holds, and that this is sound.
 pub struct PidTable {
@@ -113,6 +117,14 @@ impl PidTable {
         ensures { result ≡ length self.now.controls }
     {
         self.store.controls().len()
+    }
+
+    /// One read of the task with the number in the caller's namespace, where 0 is the caller: [`read_stat`].
+    pub fn stat(&self, caller: Pid, pid: Pid) -> Result<Stat, Refusal>
+        ensures told { result ≡ stat_at self.now caller pid }
+        ensures seen { IfOk result (λ stat. IsSeen self.now caller pid (glimpse_in stat)) }
+    {
+        read_stat(&self.store, caller, pid)
     }
 
     /// The plain state, with the count of each control group: [`shown::snapshot`]. The error is want of memory.

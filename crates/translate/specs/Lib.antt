@@ -1,2 +1,3 @@
 pub mod ById
 pub mod Seen
+pub mod Stat

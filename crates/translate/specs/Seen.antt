@@ -7,6 +7,6 @@ use Rattle.pid_types.specs.Sight.{sight, seen}
 use Rattle.model_laws.specs.SightLaws.{Query, IsCaller}
 
 -- a live caller has the reply that is read off what its namespace sees and its own number there, and nothing else
-abbrev pub IsSeen : State → ℕ → Query → Reply → Type 0
-IsSeen state root query reply =
+abbrev pub IsSeenReply : State → ℕ → Query → Reply → Type 0
+IsSeenReply state root query reply =
     (caller : Row) (n : ℕ) → IsCaller state root caller n → reply ≡ seen (sight state caller.name.space) n (query root)

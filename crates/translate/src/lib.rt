@@ -11,10 +11,11 @@ ghost use Rattle.pid_types.specs.Short.{reply_of};
 ghost use Rattle.pid_types.specs.declared.call.Call.TheVariants as calls;
 ghost use Rattle.task_table.specs.View.{state_of};
 ghost use Rattle.task_table.specs.Whole.{IsWhole};
-ghost use Rattle.translate.specs.Seen.{IsSeen};
+ghost use Rattle.translate.specs.Seen.{IsSeenReply};
 
 mod queries;
 pub mod shown;
+pub mod stat;
 
 use model_laws::sights::queries_answer_seen;
 use pid_types::call::Kind;
@@ -22,11 +23,26 @@ use pid_types::keys::Pid;
 use pid_types::reply::{Reply, ShortReply};
 use task_table::Tasks;
 
+/// The number of a task's parent in a namespace; 0 for the root init, which has none.
+fn seen_parent(store: &Tasks, space: SpaceKey, key: TaskKey) -> Pid
+    requires parents { HasParents store.now }
+    requires there { IsSome (task_at store.now.tree key) }
+    ensures { (i : ℕ) → id_at store.now.numbering space ≡ Some i
+        → result ≡ option_map_or (λ parent. number_or_zero (state_of store.now).spaces parent i)
+        (option_map (name_at store.now.numbering) (parent_of store.now.tree key)) 0 }
+{
+    laws(store);
+    match store.tree().parent(key) {
+        Some(parent) => seen_task(store, space, parent),
+        None => 0,
+    }
+}
+
 /// `getpid(2)`.
 pub fn get_pid(store: &Tasks, caller: Pid) -> ShortReply
     requires { IsWhole store.now }
     ensures value { reply_of result ≡ get_pid_of (state_of store.now) caller }
-    ensures seen { IsSeen (state_of store.now) caller calls.GetPid (reply_of result) }
+    ensures seen { IsSeenReply (state_of store.now) caller calls.GetPid (reply_of result) }
 {
     queries_answer_seen();
     queries::get_pid(store, caller)
@@ -36,7 +52,7 @@ pub fn get_pid(store: &Tasks, caller: Pid) -> ShortReply
 pub fn get_ppid(store: &Tasks, caller: Pid) -> ShortReply
     requires { IsWhole store.now }
     ensures value { reply_of result ≡ get_ppid_of (state_of store.now) caller }
-    ensures seen { IsSeen (state_of store.now) caller calls.GetPpid (reply_of result) }
+    ensures seen { IsSeenReply (state_of store.now) caller calls.GetPpid (reply_of result) }
 {
     queries_answer_seen();
     queries::get_ppid(store, caller)
@@ -46,7 +62,7 @@ pub fn get_ppid(store: &Tasks, caller: Pid) -> ShortReply
 pub fn get_pgid(store: &Tasks, caller: Pid, pid: Pid) -> ShortReply
     requires { IsWhole store.now }
     ensures value { reply_of result ≡ get_pgid_of (state_of store.now) caller pid }
-    ensures seen { IsSeen (state_of store.now) caller (λ n. calls.GetPgid n pid) (reply_of result) }
+    ensures seen { IsSeenReply (state_of store.now) caller (λ n. calls.GetPgid n pid) (reply_of result) }
 {
     queries_answer_seen();
     queries::get_pgid(store, caller, pid)
@@ -56,7 +72,7 @@ pub fn get_pgid(store: &Tasks, caller: Pid, pid: Pid) -> ShortReply
 pub fn get_sid(store: &Tasks, caller: Pid, pid: Pid) -> ShortReply
     requires { IsWhole store.now }
     ensures value { reply_of result ≡ get_sid_of (state_of store.now) caller pid }
-    ensures seen { IsSeen (state_of store.now) caller (λ n. calls.GetSid n pid) (reply_of result) }
+    ensures seen { IsSeenReply (state_of store.now) caller (λ n. calls.GetSid n pid) (reply_of result) }
 {
     queries_answer_seen();
     queries::get_sid(store, caller, pid)
@@ -67,7 +83,7 @@ pub fn get_sid(store: &Tasks, caller: Pid, pid: Pid) -> ShortReply
 pub fn ns_pid(store: &Tasks, caller: Pid, target: Pid, reply: &mut Reply)
     requires { IsWhole store.now }
     ensures value { reply.new ≡ ns_pid_of (state_of store.now) caller target }
-    ensures seen { IsSeen (state_of store.now) caller (λ n. calls.NsPid n target) reply.new }
+    ensures seen { IsSeenReply (state_of store.now) caller (λ n. calls.NsPid n target) reply.new }
 {
     queries_answer_seen();
     queries::ns_pid(store, caller, target, reply);
@@ -78,7 +94,7 @@ pub fn ns_pid(store: &Tasks, caller: Pid, target: Pid, reply: &mut Reply)
 pub fn next(store: &Tasks, caller: Pid, kind: Kind, from: Pid) -> ShortReply
     requires { IsWhole store.now }
     ensures value { reply_of result ≡ next_of (state_of store.now) caller kind from }
-    ensures seen { IsSeen (state_of store.now) caller (λ n. calls.Next n kind from) (reply_of result) }
+    ensures seen { IsSeenReply (state_of store.now) caller (λ n. calls.Next n kind from) (reply_of result) }
 {
     queries_answer_seen();
     queries::next(store, caller, kind, from)

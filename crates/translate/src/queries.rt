@@ -5,13 +5,14 @@ ghost use Rattle.pid_types.specs.Queries.{get_pid as get_pid_of, get_ppid as get
 ghost use Rattle.pid_types.specs.Short.{reply_of};
 ghost use Rattle.pid_numbers.specs.Numbering.{id_at, identifier_at};
 ghost use Rattle.task_tree.specs.declared.Task.{Task};
-ghost use Rattle.task_tree.specs.Tree.{task_at};
+ghost use Rattle.std.specs.Option.{option_map_or};
+ghost use Rattle.task_tree.specs.Tree.{task_at, parent_of};
 ghost use Rattle.task_table.specs.declared.view.Found.{Found};
 ghost use Rattle.task_table.specs.View.{name_at, row_of, state_of};
-ghost use Rattle.task_table.specs.Whole.{IsWhole};
+ghost use Rattle.task_table.specs.Whole.{HasParents, IsWhole};
 
 use pid_types::call::Kind;
-use pid_types::keys::{IdentKey, Pid, SpaceKey};
+use pid_types::keys::{IdentKey, Pid, SpaceKey, TaskKey};
 use pid_types::reply::{Refusal, Reply, ShortReply};
 use task_table::Tasks;
 use task_table::view::{Found, find_live, find_task, laws, own_space};
@@ -35,7 +36,7 @@ fn seen_task(store: &Tasks, space: SpaceKey, key: IdentKey) -> Pid
 }
 
 /// The number of a task's group in a namespace.
-fn seen_group(store: &Tasks, space: SpaceKey, found: &Found) -> Pid
+pub(crate) fn seen_group(store: &Tasks, space: SpaceKey, found: &Found) -> Pid
     requires { task_at store.now.tree found.now.key ≡ Some found.now.task }
     ensures { (i : ℕ) → id_at store.now.numbering space ≡ Some i → result ≡ number_or_zero (state_of store.now).spaces (row_of store.now found.now.key found.now.task).group i }
 {
@@ -45,13 +46,28 @@ fn seen_group(store: &Tasks, space: SpaceKey, found: &Found) -> Pid
 }
 
 /// The number of a task's session in a namespace.
-fn seen_session(store: &Tasks, space: SpaceKey, found: &Found) -> Pid
+pub(crate) fn seen_session(store: &Tasks, space: SpaceKey, found: &Found) -> Pid
     requires { task_at store.now.tree found.now.key ≡ Some found.now.task }
     ensures { (i : ℕ) → id_at store.now.numbering space ≡ Some i → result ≡ number_or_zero (state_of store.now).spaces (row_of store.now found.now.key found.now.task).session i }
 {
     laws(store);
     let session = store.members().session(found.key);
     seen(store, space, session)
+}
+
+/// The number of a task's parent in a namespace; 0 for the root init, which has none.
+pub(crate) fn seen_parent(store: &Tasks, space: SpaceKey, key: TaskKey) -> Pid
+    requires parents { HasParents store.now }
+    requires there { IsSome (task_at store.now.tree key) }
+    ensures { (i : ℕ) → id_at store.now.numbering space ≡ Some i
+        → result ≡ option_map_or (λ parent. number_or_zero (state_of store.now).spaces parent i)
+        (option_map (name_at store.now.numbering) (parent_of store.now.tree key)) 0 }
+{
+    laws(store);
+    match store.tree().parent(key) {
+        Some(parent) => seen_task(store, space, parent),
+        None => 0,
+    }
 }
 
 /// `getpid(2)`.
@@ -77,14 +93,11 @@ pub(crate) fn get_ppid(store: &Tasks, caller: Pid) -> ShortReply
         return ShortReply::Refused(Refusal::NoCaller);
     };
     let space = own_space(store, found.key);
-    match store.tree().parent(found.key) {
-        Some(parent) => ShortReply::Number(seen_task(store, space, parent)),
-        None => ShortReply::Number(0),
-    }
+    ShortReply::Number(seen_parent(store, space, found.key))
 }
 
 /// The task with the number in the caller's namespace, where 0 is the caller.
-fn self_or_task(store: &Tasks, caller: &Found, space: SpaceKey, pid: Pid) -> Option<Found>
+pub(crate) fn self_or_task(store: &Tasks, caller: &Found, space: SpaceKey, pid: Pid) -> Option<Found>
     requires there { task_at store.now.tree caller.now.key ≡ Some caller.now.task }
     requires own { id_at store.now.numbering space ≡ Some (name_at store.now.numbering caller.now.key).space }
     ensures there { IfSome result (λ f. task_at store.now.tree f.key ≡ Some f.task) }

@@ -1,0 +1,90 @@
+//! One read of a task: what `/proc/PID/status` and `/proc/PID/stat` of `proc(5)` tell of it, as the caller's namespace sees it.
+
+ghost use Rattle.std.specs.Prelude.{◌≡◌, ℕ, Some, IsSome, IfOk};
+ghost use Rattle.pid_numbers.specs.Numbering.{id_at};
+ghost use Rattle.task_tree.specs.Tree.{task_at};
+ghost use Rattle.task_table.specs.View.{name_at, row_of, state_of};
+ghost use Rattle.task_table.specs.Whole.{HasParents, IsWhole};
+ghost use Rattle.translate.specs.Stat.{stat_of, stat_at, glimpse_in, IsSeen};
+
+use crate::queries::{seen_group, seen_parent, seen_session, self_or_task};
+use arrayvec::ArrayVec;
+use pid_types::keys::{Pid, SpaceKey, TaskKey};
+use pid_types::plain::{LEVELS, Life};
+use pid_types::reply::Refusal;
+use task_table::Tasks;
+use task_table::view::{Found, find_live, laws, own_space};
+
+/// What is read of a task. The numbers are those in the caller's namespace, 0 where there is none.
+#[derive(Clone, Debug, Drop, PartialEq, Eq)]
+pub struct Stat {
+    /// Its numbers from the caller's namespace inwards, outermost first, as `NSpid` has them.
+    pub numbers: ArrayVec<Pid, LEVELS>,
+    /// The id of its own namespace.
+    pub space: u64,
+    /// Its parent's number: 0 for the root init too, which has no parent.
+    pub parent: Pid,
+    /// Its process group.
+    pub group: Pid,
+    /// Its session.
+    pub session: Pid,
+    /// The id of the control group that it is in.
+    pub home: u64,
+    pub life: Life,
+    /// Whether it has executed.
+    pub executed: bool,
+    pub subreaper: bool,
+}
+
+/// The id of a task's own namespace.
+fn own_id(store: &Tasks, key: TaskKey) -> u64
+    requires { IsSome (task_at store.now.tree key) }
+    ensures { result ≡ (name_at store.now.numbering key).space }
+{
+    let space = own_space(store, key);
+    match store.numbers().id(space) {
+        Some(id) => id,
+        None => unreachable!(),
+    }
+}
+
+/// Reads a task as the namespace sees it.
+fn read_task(store: &Tasks, space: SpaceKey, found: &Found) -> Stat
+    requires parents { HasParents store.now }
+    requires there { task_at store.now.tree found.now.key ≡ Some found.now.task }
+    ensures { (i : ℕ) → id_at store.now.numbering space ≡ Some i
+        → result ≡ stat_of (state_of store.now) i (row_of store.now found.now.key found.now.task) }
+{
+    laws(store);
+    Stat {
+        numbers: store.numbers().levels_from(found.key, space),
+        space: own_id(store, found.key),
+        parent: seen_parent(store, space, found.key),
+        group: seen_group(store, space, found),
+        session: seen_session(store, space, found),
+        home: store.controls().home_id(found.task.home),
+        life: found.task.life,
+        executed: found.task.executed,
+        subreaper: found.task.subreaper,
+    }
+}
+
+/// Reads the task with the number in the caller's namespace, where 0 is the caller: a zombie too, as `getpgid(2)` finds it.
+///
+/// The refusal is `NoCaller` where no live task has the caller's root number, then `NoTask` where no task is there with
+/// the number. It costs two searches in trees of numbers, a few reads, and a read for each level. It takes no memory.
+#[tactic(auto, unfolding(crate::specs::Stat::stat_at))]
+pub fn read_stat(store: &Tasks, caller: Pid, pid: Pid) -> Result<Stat, Refusal>
+    requires { IsWhole store.now }
+    ensures told { result ≡ stat_at (state_of store.now) caller pid }
+    ensures seen { IfOk result (λ stat. IsSeen (state_of store.now) caller pid (glimpse_in stat)) }
+{
+    let Some(found) = find_live(store, caller) else {
+        return Err(Refusal::NoCaller);
+    };
+    let space = own_space(store, found.key);
+    let Some(task) = self_or_task(store, &found, space, pid) else {
+        return Err(Refusal::NoTask);
+    };
+    Ok(read_task(store, space, &task))
+}
