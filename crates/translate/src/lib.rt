@@ -23,21 +23,6 @@ use pid_types::keys::Pid;
 use pid_types::reply::{Reply, ShortReply};
 use task_table::Tasks;
 
-/// The number of a task's parent in a namespace; 0 for the root init, which has none.
-fn seen_parent(store: &Tasks, space: SpaceKey, key: TaskKey) -> Pid
-    requires parents { HasParents store.now }
-    requires there { IsSome (task_at store.now.tree key) }
-    ensures { (i : ℕ) → id_at store.now.numbering space ≡ Some i
-        → result ≡ option_map_or (λ parent. number_or_zero (state_of store.now).spaces parent i)
-        (option_map (name_at store.now.numbering) (parent_of store.now.tree key)) 0 }
-{
-    laws(store);
-    match store.tree().parent(key) {
-        Some(parent) => seen_task(store, space, parent),
-        None => 0,
-    }
-}
-
 /// `getpid(2)`.
 pub fn get_pid(store: &Tasks, caller: Pid) -> ShortReply
     requires { IsWhole store.now }

@@ -97,7 +97,12 @@ pub(crate) fn get_ppid(store: &Tasks, caller: Pid) -> ShortReply
 }
 
 /// The task with the number in the caller's namespace, where 0 is the caller.
-pub(crate) fn self_or_task(store: &Tasks, caller: &Found, space: SpaceKey, pid: Pid) -> Option<Found>
+pub(crate) fn self_or_task(
+    store: &Tasks,
+    caller: &Found,
+    space: SpaceKey,
+    pid: Pid,
+) -> Option<Found>
     requires there { task_at store.now.tree caller.now.key ≡ Some caller.now.task }
     requires own { id_at store.now.numbering space ≡ Some (name_at store.now.numbering caller.now.key).space }
     ensures there { IfSome result (λ f. task_at store.now.tree f.key ≡ Some f.task) }
