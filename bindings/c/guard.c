@@ -8,6 +8,7 @@ uint32_t proved_line(struct pidtab *table, const void *line, size_t length, void
 uint32_t proved_list(struct pidtab *table, void *bytes, size_t room, size_t *size);
 uint32_t proved_call(struct pidtab *table, const struct pidtab_call *call, struct pidtab_reply *reply);
 uint32_t proved_ask(struct pidtab *table, const struct pidtab_call *call, struct pidtab_reply *reply);
+uint32_t proved_stat(struct pidtab *table, uint32_t caller, uint32_t number, struct pidtab_task *task);
 
 static bool enter(struct pidtab *table)
 {
@@ -61,4 +62,11 @@ uint32_t pidtab_ask(struct pidtab *table, const struct pidtab_call *call, struct
 	if (!enter(table))
 		return PIDTAB_BUSY;
 	return leave(table, proved_ask(table, call, reply));
+}
+
+uint32_t pidtab_stat(struct pidtab *table, uint32_t caller, uint32_t number, struct pidtab_task *task)
+{
+	if (!enter(table))
+		return PIDTAB_BUSY;
+	return leave(table, proved_stat(table, caller, number, task));
 }

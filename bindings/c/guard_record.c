@@ -6,6 +6,7 @@ void proved_record_close(struct pidtab_record *record);
 uint32_t proved_record_call(struct pidtab_record *record, uint32_t worker, const struct pidtab_call *call, struct pidtab_reply *reply, uint64_t *ordinal);
 uint32_t proved_record_line(struct pidtab_record *record, uint32_t worker, const void *line, size_t length, void *answer, size_t room, size_t *size, uint64_t *ordinal);
 uint32_t proved_record_ask(struct pidtab_record *record, const struct pidtab_call *call, struct pidtab_reply *reply);
+uint32_t proved_record_stat(struct pidtab_record *record, uint32_t caller, uint32_t number, struct pidtab_task *task);
 uint32_t proved_record_counts(struct pidtab_record *record, uint64_t *first_kept, uint64_t *recorded);
 uint32_t proved_record_worker(struct pidtab_record *record, uint32_t worker, uint64_t *calls);
 uint32_t proved_record_entry(struct pidtab_record *record, uint64_t ordinal, uint64_t *worker, struct pidtab_call *call, struct pidtab_reply *reply);
@@ -61,6 +62,13 @@ uint32_t pidtab_record_ask(struct pidtab_record *record, const struct pidtab_cal
 	if (!enter(record))
 		return PIDTAB_BUSY;
 	return leave(record, proved_record_ask(record, call, reply));
+}
+
+uint32_t pidtab_record_stat(struct pidtab_record *record, uint32_t caller, uint32_t number, struct pidtab_task *task)
+{
+	if (!enter(record))
+		return PIDTAB_BUSY;
+	return leave(record, proved_record_stat(record, caller, number, task));
 }
 
 uint32_t pidtab_record_counts(struct pidtab_record *record, uint64_t *first_kept, uint64_t *recorded)

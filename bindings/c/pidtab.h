@@ -217,6 +217,27 @@ uint32_t pidtab_call(struct pidtab *table, const struct pidtab_call *call, struc
  * nothing changes. DONE, CLOSED, and OUT_OF_RANGE for each other operation too. */
 uint32_t pidtab_ask(struct pidtab *table, const struct pidtab_call *call, struct pidtab_reply *reply);
 
+/* A task as the caller's namespace sees it. The numbers of processes are those there, 0 where there is none. */
+struct pidtab_task {
+	uint32_t error;     /* 0; or ESRCH, and then all but error and refusal is 0 */
+	uint32_t refusal;   /* 0, PIDTAB_NO_CALLER or PIDTAB_NO_TASK */
+	uint32_t count;     /* of levels */
+	uint32_t parent;
+	uint32_t group;
+	uint32_t session;
+	uint32_t ended;     /* 0, or 1 for a zombie */
+	uint32_t status;    /* a zombie's, 0 to 255 or PIDTAB_KILLED; else 0 */
+	uint32_t executed;  /* 0 or 1 */
+	uint32_t subreaper; /* 0 or 1 */
+	uint64_t space;     /* the id of its own namespace */
+	uint64_t control;   /* the id of its control group */
+	uint32_t levels[PIDTAB_LEVELS_MAX]; /* its numbers from the caller's namespace inwards */
+};
+
+/* Reads the task with the number in the caller's namespace, where 0 is the caller, and a zombie too: as getpgid finds it. It is no
+ * call, as pidtab_ask is none. What the table refuses is PIDTAB_DONE: the task says so. DONE, CLOSED. */
+uint32_t pidtab_stat(struct pidtab *table, uint32_t caller, uint32_t number, struct pidtab_task *task);
+
 /* Each call as a function: a number, or minus an errno, which is the status or that of the refusal. What tells no number
  * is 0. pidtab_call tells a status from a refusal, and one refusal from another. */
 
@@ -386,6 +407,9 @@ uint32_t pidtab_record_line(struct pidtab_record *record, uint32_t worker, const
 
 /* Answers a query, as pidtab_ask does; it is not recorded. DONE, CLOSED, OUT_OF_RANGE. */
 uint32_t pidtab_record_ask(struct pidtab_record *record, const struct pidtab_call *call, struct pidtab_reply *reply);
+
+/* Reads a task, as pidtab_stat does; it is not recorded. DONE, CLOSED. */
+uint32_t pidtab_record_stat(struct pidtab_record *record, uint32_t caller, uint32_t number, struct pidtab_task *task);
 
 /* The ordinal of the first kept entry, and how many calls were recorded, the cut ones too. DONE, CLOSED. */
 uint32_t pidtab_record_counts(struct pidtab_record *record, uint64_t *first_kept, uint64_t *recorded);

@@ -11,6 +11,8 @@ _Static_assert(sizeof(struct pidtab_call) == 32, "pidtab_call");
 _Static_assert(offsetof(struct pidtab_call, id) == 8 && offsetof(struct pidtab_call, pgid) == 28, "pidtab_call");
 _Static_assert(sizeof(struct pidtab_reply) == 168, "pidtab_reply");
 _Static_assert(offsetof(struct pidtab_reply, first) == 16 && offsetof(struct pidtab_reply, levels) == 32, "pidtab_reply");
+_Static_assert(sizeof(struct pidtab_task) == 192, "pidtab_task");
+_Static_assert(offsetof(struct pidtab_task, space) == 40 && offsetof(struct pidtab_task, levels) == 56, "pidtab_task");
 _Static_assert(PIDTAB_CLOSED == EBADF && PIDTAB_NO_MEMORY == ENOMEM && PIDTAB_BUSY == EBUSY && PIDTAB_OUT_OF_RANGE == EINVAL, "status");
 _Static_assert(PIDTAB_NO_ROOM == ERANGE && PIDTAB_EMPTY_LINE == ENODATA && PIDTAB_BAD_LINE == EPROTO && PIDTAB_SPENT == EOVERFLOW, "status");
 _Static_assert(PIDTAB_SUBREAPER == 18 && PIDTAB_REFUSED == 9, "operations and kinds");
@@ -107,6 +109,57 @@ static void each_call(void)
 	pidtab_close(&table);
 }
 
+/* The numbers of processes that were read of the task. */
+static bool task_is(struct pidtab *table, uint32_t caller, uint32_t number, uint32_t parent, uint32_t group, uint32_t session, struct pidtab_task *task)
+{
+	memset(task, 0xff, sizeof *task);
+	return pidtab_stat(table, caller, number, task) == PIDTAB_DONE && task->error == 0 && task->refusal == 0
+		&& task->parent == parent && task->group == group && task->session == session;
+}
+
+static bool no_task_is(struct pidtab *table, uint32_t caller, uint32_t number, uint32_t refusal)
+{
+	struct pidtab_task task, none = { .error = ESRCH, .refusal = refusal };
+	memset(&task, 0, sizeof task);
+	return pidtab_stat(table, caller, number, &task) == PIDTAB_DONE && memcmp(&task, &none, offsetof(struct pidtab_task, levels)) == 0
+		&& memcmp(task.levels, none.levels, sizeof none.levels) == 0;
+}
+
+/* The tasks of the list in docs/SCRIPT.md, as the root namespace and the one with id 1 see them. */
+static void each_task(void)
+{
+	struct pidtab table = PIDTAB_INIT;
+	struct pidtab_task task = { .count = 77 };
+
+	CHECK(pidtab_stat(&table, 1, 0, &task) == PIDTAB_CLOSED && task.count == 77);
+	CHECK(pidtab_open(&table, 32768) == PIDTAB_DONE);
+	CHECK(answers(&table, "fork 1 new", "child 2 root 2") && answers(&table, "fork 2", "child 2 root 3"));
+	CHECK(task_is(&table, 1, 3, 2, 1, 1, &task) && task.count == 2 && task.levels[0] == 3 && task.levels[1] == 2 && task.levels[2] == 0);
+	CHECK(task.space == 1 && task.control == 0 && task.ended == 0 && task.status == 0 && task.executed == 0 && task.subreaper == 0);
+	CHECK(task_is(&table, 1, 0, 0, 1, 1, &task) && task.count == 1 && task.levels[0] == 1 && task.space == 0);
+	/* The group and the session are those of the root init, which the inner namespace does not see. */
+	CHECK(task_is(&table, 3, 0, 1, 0, 0, &task) && task.count == 1 && task.levels[0] == 2 && task.space == 1);
+	CHECK(task_is(&table, 3, 1, 0, 0, 0, &task) && task.count == 1 && task.levels[0] == 1);
+	CHECK(no_task_is(&table, 99, 0, PIDTAB_NO_CALLER) && no_task_is(&table, 3, 3, PIDTAB_NO_TASK));
+
+	CHECK(answers(&table, "mk 0", "control 3") && answers(&table, "move 3 3", "ok") && answers(&table, "setsid 3", "2"));
+	CHECK(answers(&table, "exec 3", "ok") && answers(&table, "subreaper 2 on", "ok"));
+	CHECK(task_is(&table, 1, 3, 2, 3, 3, &task) && task.control == 3 && task.executed == 1 && task.subreaper == 0);
+	CHECK(task_is(&table, 3, 1, 0, 0, 0, &task) && task.control == 0 && task.executed == 0 && task.subreaper == 1);
+
+	/* A zombie is there until it is reaped, and calls nobody. */
+	CHECK(answers(&table, "exit 3 9", "ok") && task_is(&table, 2, 2, 1, 2, 2, &task) && task.ended == 1 && task.status == 9);
+	CHECK(no_task_is(&table, 3, 0, PIDTAB_NO_CALLER));
+	CHECK(answers(&table, "wait 2 any", "reaped 2 exit 9") && no_task_is(&table, 2, 2, PIDTAB_NO_TASK));
+	/* The root init's child in the inner namespace is killed with it. */
+	CHECK(answers(&table, "join 1 2", "ok") && answers(&table, "fork 1", "child 4 root 4") && answers(&table, "exit 2 7", "ok"));
+	CHECK(task_is(&table, 1, 2, 1, 1, 1, &task) && task.ended == 1 && task.status == 7);
+	CHECK(task_is(&table, 1, 4, 1, 1, 1, &task) && task.ended == 1 && task.status == PIDTAB_KILLED && task.space == 1);
+	/* None of the reads was a call. */
+	CHECK(answers(&table, "mk 0", "control 13"));
+	pidtab_close(&table);
+}
+
 /* Makes the call on the line with each of its allocations refused in turn; then it is made, and answered as on the twin. */
 static int refused_in_turn(struct pidtab *table, struct pidtab *twin, const char *line)
 {
@@ -199,6 +252,7 @@ int main(void)
 {
 	each_function();
 	each_call();
+	each_task();
 	want_of_memory();
 	threads();
 	return 0;

@@ -54,6 +54,7 @@ static void closed(void)
 	struct pidtab_reply reply = { .kind = 77 };
 	struct pidtab_call call = getpid_1;
 	struct pidtab_entry entry = { .worker = 77 };
+	struct pidtab_task task = { .count = 77 };
 	char room[PIDTAB_LONGEST_ANSWER] = "kept";
 	uint64_t one = 7, other = 7;
 	size_t size = 7;
@@ -61,6 +62,7 @@ static void closed(void)
 	CHECK(pidtab_record_call(&record, 0, &call, &reply, &one) == PIDTAB_CLOSED);
 	CHECK(pidtab_record_line(&record, 0, "", 0, room, sizeof room, &size, &one) == PIDTAB_CLOSED);
 	CHECK(pidtab_record_ask(&record, &call, &reply) == PIDTAB_CLOSED);
+	CHECK(pidtab_record_stat(&record, 1, 0, &task) == PIDTAB_CLOSED && task.count == 77);
 	CHECK(pidtab_record_counts(&record, &one, &other) == PIDTAB_CLOSED);
 	CHECK(pidtab_record_worker(&record, 0, &one) == PIDTAB_CLOSED);
 	CHECK(pidtab_record_entry(&record, 0, &one, &call, &reply) == PIDTAB_CLOSED);
@@ -141,6 +143,7 @@ static void stamps_are_used_up(void)
 	struct pidtab_record record = PIDTAB_RECORD_INIT;
 	struct pidtab_entry saved = { .call = getpid_1 };
 	struct pidtab_reply reply;
+	struct pidtab_task task;
 	uint64_t ordinal = 7;
 	size_t place = 7;
 
@@ -149,6 +152,8 @@ static void stamps_are_used_up(void)
 	CHECK(pidtab_record_call(&record, 0, &getpid_1, &reply, &ordinal) == PIDTAB_SPENT && ordinal == 0);
 	CHECK(pidtab_record_replay(&record, &saved, 1, &place) == PIDTAB_SPENT && place == 0);
 	CHECK(pidtab_record_ask(&record, &getpid_1, &reply) == PIDTAB_DONE && reply.first == 1);
+	CHECK(pidtab_record_stat(&record, 1, 2, &task) == PIDTAB_DONE && task.error == 0 && task.count == 1 && task.levels[0] == 2 && task.parent == 1);
+	CHECK(pidtab_record_stat(&record, 2, 9, &task) == PIDTAB_DONE && task.error == ESRCH && task.refusal == PIDTAB_NO_TASK && task.count == 0);
 	counts_are(&record, 0, 1);
 	pidtab_record_close(&record);
 }

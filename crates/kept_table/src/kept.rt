@@ -11,6 +11,7 @@ ghost use Rattle.pid_types.specs.declared.entry.Entry.{Entry};
 ghost use Rattle.pid_types.specs.Shown.{Shows};
 ghost use Rattle.pid_types.specs.Sound.{IsBelow};
 ghost use Rattle.pid_types.specs.Step.{step, may_grow};
+ghost use Rattle.translate.specs.Stat.{stat_at, glimpse_in, IsSeen};
 ghost use Rattle.kept_table.specs.Calls.{begun, outcome, entry_of, counted, cut_at};
 ghost use Rattle.kept_table.specs.Chronicle.{Chronicle, total, next_stamp, recorded, recorded_by_all, kept_entry};
 ghost use Rattle.kept_table.specs.Chronicle.{last_reply, by_worker};
@@ -26,10 +27,12 @@ use pid_table::PidTable;
 use pid_types::call::Call;
 use pid_types::config::Config;
 use pid_types::entry::Entry;
+use pid_types::keys::Pid;
 use pid_types::plain::Plain;
-use pid_types::reply::{CallFault, Reply};
+use pid_types::reply::{CallFault, Refusal, Reply};
 use std::alloc::{AllocError, Global};
 use std::marker::Model;
+use translate::stat::Stat;
 
 /// A process table with its history. Contracts see its configuration, the opening and the present state, the kept
 /// history, what was cut away before it, and the room for more entries.
@@ -204,6 +207,15 @@ impl Kept {
         self.table.controls()
     }
 
+    /// One read of the task with the number in the caller's namespace, where 0 is the caller: [`PidTable::stat`]. It is
+    /// neither a call nor recorded, and takes no memory.
+    pub fn stat(&self, caller: Pid, pid: Pid) -> Result<Stat, Refusal>
+        ensures told { result ≡ stat_at self.now.present caller pid }
+        ensures seen { IfOk result (λ stat. IsSeen self.now.present caller pid (glimpse_in stat)) }
+    {
+        self.table.stat(caller, pid)
+    }
+
     /// The present state. It costs a copy of the whole table.
     pub fn snapshot(&self) -> Result<Plain, AllocError>
         ensures { IfOk result (Shows self.now.present) }
@@ -233,9 +245,9 @@ impl Kept {
         ensures same { self.new ≡ self.old }
         ensures reply { reply.new ≡ (outcome self.old call).reply }
     {
-        let stamp = self.config.first_stamp() + self.first_kept + self.history.len() as u64;
+        let next = self.config.first_stamp() + self.first_kept + self.history.len() as u64;
         soundness_is_kept();
-        if self.table.step(stamp, call, reply).is_err() {
+        if self.table.step(next, call, reply).is_err() {
             unreachable!()
         }
     }

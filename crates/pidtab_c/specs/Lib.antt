@@ -8,3 +8,4 @@ pub mod Records
 pub mod Entries
 pub mod Asked
 pub mod Replays
+pub mod Tasks

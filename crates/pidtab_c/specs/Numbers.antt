@@ -81,8 +81,12 @@ abbrev pub blank : ℕ → ReplyNumbers
 blank kind = record { kind = kind; errno = 0; refusal = 0; count = 0; first = 0; second = 0; levels = replicate 33 0 }
 
 -- the numbers, and zeroes behind them
+abbrev pub with_zeroes : List ℕ → List ℕ
+with_zeroes numbers = numbers ++ drop (length numbers) (replicate 33 0)
+
+-- the reply with a task's numbers
 abbrev pub levels_numbers : List ℕ → ReplyNumbers
-levels_numbers numbers = record (blank 3) { count = length numbers; levels = numbers ++ drop (length numbers) (replicate 33 0) }
+levels_numbers numbers = record (blank 3) { count = length numbers; levels = with_zeroes numbers }
 
 -- the id of what refused the call
 abbrev pub refused_by : Refusal → ℕ

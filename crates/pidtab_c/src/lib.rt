@@ -39,6 +39,7 @@ mod record_handle;
 mod replay;
 pub mod stamped;
 pub mod status;
+pub mod task;
 mod texts;
 
 use handle::{Handle, null};

@@ -2,7 +2,7 @@
 //! release.
 ghost use Rattle.std.specs.Prelude.{◌≡◌};
 ghost use Rattle.pidtab_c.specs.Numbers.{switch_of, which_of, kind_of, limit_of, status_of, call_of, control_call_of};
-ghost use Rattle.pidtab_c.specs.Numbers.{later_call_of, blank, levels_numbers, refusal_numbers, numbers_of};
+ghost use Rattle.pidtab_c.specs.Numbers.{later_call_of, blank, with_zeroes, levels_numbers, refusal_numbers, numbers_of};
 
 use arrayvec::ArrayVec;
 use pid_types::call::{Call, Kind, Which};
@@ -226,15 +226,22 @@ fn valued(kind: u32, first: u64, second: u64) -> ReplyNumbers
     }
 }
 
+/// The numbers, and zeroes behind them.
+pub(crate) fn padded(numbers: &ArrayVec<u32, LEVELS>) -> [u32; LEVELS]
+    ensures { result ≡ with_zeroes numbers.now.items }
+{
+    let mut levels = [0u32; LEVELS];
+    levels[..numbers.len()].copy_from_slice(numbers.as_slice());
+    levels
+}
+
 /// The reply with a task's numbers.
 fn levels_told(numbers: &ArrayVec<u32, LEVELS>) -> ReplyNumbers
     ensures { result ≡ levels_numbers numbers.now.items }
 {
-    let mut levels = [0u32; LEVELS];
-    levels[..numbers.len()].copy_from_slice(numbers.as_slice());
     ReplyNumbers {
         count: numbers.len() as u32,
-        levels,
+        levels: padded(numbers),
         ..blank_of(3)
     }
 }

@@ -2,6 +2,7 @@
 ghost use Rattle.std.specs.Prelude.{◌≡◌, ◌+◌, ◌↔◌, IfOk, OnOk, OnErr, Err, IsTrue};
 ghost use Rattle.pid_types.specs.State.{root_state};
 ghost use Rattle.pid_types.specs.Step.{may_grow};
+ghost use Rattle.translate.specs.Stat.{stat_at};
 ghost use Rattle.kept_table.specs.Queries.{is_query};
 ghost use Rattle.pidtab_c.specs.Stamped.{IsInOrder, after_call, reply_to};
 ghost use Rattle.pidtab_c.specs.Listed.{list_of_state};
@@ -11,9 +12,10 @@ use pid_script::list::list_text;
 use pid_table::PidTable;
 use pid_types::call::Call;
 use pid_types::config::Config;
-use pid_types::reply::{CallFault, Reply};
+use pid_types::reply::{CallFault, Refusal, Reply};
 use std::alloc::{AllocError, Global};
 use std::marker::Model;
+use translate::stat::Stat;
 
 /// A table and the stamp of its next call. Between two calls its state is sound, and the ids in it are below the stamp.
 #[derive(Drop)]
@@ -77,6 +79,13 @@ impl StampedTable {
             unreachable!()
         }
         reply
+    }
+
+    /// One read of a task. It is no call, and uses no stamp.
+    pub(crate) fn stat(&self, caller: u32, pid: u32) -> Result<Stat, Refusal>
+        ensures { result ≡ stat_at self.now.state caller pid }
+    {
+        self.table.stat(caller, pid)
     }
 
     /// The text of the list. The error is want of memory. Its contract tells what is true of a table between any two
