@@ -1,9 +1,15 @@
 //! Text in the room that C gives for it.
 ghost use Rattle.std.specs.Prelude.{◌≡◌, ◌≢◌, ◌<◌, ◌≤◌, ◌↔◌, ◌⊎◌, length, take, drop};
+ghost use Rattle.std.specs.Prelude.{Some, None};
+ghost use Rattle.pid_types.specs.declared.call.Call.{Call};
 ghost use Rattle.pid_script.specs.Answers.{reply_text};
+ghost use Rattle.pid_script.specs.Lines.{line_of};
+ghost use Rattle.pidtab_c.specs.Numbers.{call_of};
 
-use crate::status::{DONE, NO_ROOM};
+use crate::numbers::{CallNumbers, read_call};
+use crate::status::{DONE, NO_ROOM, OUT_OF_RANGE};
 use pid_script::answer::{LONGEST_ANSWER, answer_text};
+use pid_script::call::line_text;
 use pid_types::call::Call;
 use pid_types::entry::Receipt;
 use pid_types::reply::Reply;
@@ -54,4 +60,28 @@ pub(crate) fn write_text(text: &[u8], room: &mut [u8], size: &mut usize) -> u32
     }
     room[..text.len()].copy_from_slice(text);
     DONE
+}
+
+/// Puts the line of the script language that says the call at the front of the room, without a newline; `size` is the line's
+/// length.
+///
+/// `OUT_OF_RANGE` where the numbers say no call; then `NO_ROOM` where the room is shorter than the line, and then too `size`
+/// is the line's length. The longest line has 42 bytes. It needs no table and no memory.
+#[unsafe(no_mangle)]
+pub extern "C" fn pidtab_call_line(call: &CallNumbers, room: &mut [u8], size: &mut usize) -> u32
+    ensures done { result ≡ DONE
+        → (said : Call) × (call_of call.now ≡ Some said) × (take size.new room.new ≡ line_of said) }
+    ensures fits { result ≡ DONE → size.new ≤ length room.new }
+    ensures behind { result ≡ DONE → drop size.new room.new ≡ drop size.new room.old }
+    ensures not_done { result ≢ DONE → room.new ≡ room.old }
+    ensures out_of_range { (result ≡ OUT_OF_RANGE) ↔ (call_of call.now ≡ None) }
+    ensures no_room { result ≡ NO_ROOM
+        → (said : Call) × (call_of call.now ≡ Some said) × (size.new ≡ length (line_of said)) × (length room.old < size.new) }
+    ensures same_size { result ≡ OUT_OF_RANGE → size.new ≡ size.old }
+    ensures statuses { (result ≡ DONE) ⊎ ((result ≡ OUT_OF_RANGE) ⊎ (result ≡ NO_ROOM)) }
+{
+    let Some(said) = read_call(call) else {
+        return OUT_OF_RANGE;
+    };
+    write_text(line_text(&said).as_slice(), room, size)
 }
