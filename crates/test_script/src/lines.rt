@@ -1,11 +1,18 @@
-//! Which lines are calls, and which calls.
+//! Which lines are calls, and which calls; and what the line of a call is.
 
+use pid_script::call::{LONGEST_LINE, line_text};
 use pid_script::line::{Line, parse_line};
 use pid_types::call::{Call, Kind, Which};
 use std::process::Abort;
 
 fn expect_line(rt: &impl Abort, text: &[u8], line: Line) {
     assert_eq!(rt; parse_line(text), line, "{text:?}");
+}
+
+/// The line says the call, and is the call's line.
+fn expect_call(rt: &impl Abort, line: &[u8], call: Call) {
+    expect_line(rt, line, Line::Call(call));
+    assert_eq!(rt; line_text(&call).as_slice(), line);
 }
 
 fn fork(caller: u32, new_space: bool) -> Call {
@@ -58,7 +65,7 @@ fn reads_calls_of_processes(rt: HostRuntime) {
         ),
     ];
     for (line, call) in lines {
-        expect_line(&rt, line, Line::Call(call));
+        expect_call(&rt, line, call);
     }
     expect_line(&rt, b"", Line::Empty);
 }
@@ -99,8 +106,16 @@ fn reads_queries_and_control_calls(rt: HostRuntime) {
         (b"count 1", Call::Count { id: 1 }),
     ];
     for (line, call) in lines {
-        expect_line(&rt, line, Line::Call(call));
+        expect_call(&rt, line, call);
     }
+}
+
+#[test]
+fn writes_the_longest_line(rt: HostRuntime) {
+    let call = set_pgid(4_294_967_295, -2_147_483_648, -2_147_483_648);
+    let line = b"setpgid 4294967295 -2147483648 -2147483648";
+    assert_eq!(rt; line.len(), LONGEST_LINE);
+    expect_call(&rt, line, call);
 }
 
 #[test]
