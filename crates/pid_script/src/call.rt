@@ -12,14 +12,14 @@ use pid_types::call::{Call, Kind, Which};
 
 /// The length of the longest line of a call: `setpgid`, a number of ten digits, and two of ten digits
 /// and a minus sign.
-pub const LONGEST_LINE: usize = 42;
+pub const LONGEST_CALL: usize = 42;
 
 /// The line of a call that is being written.
-type Text = ArrayVec<u8, LONGEST_LINE>;
+type Text = ArrayVec<u8, LONGEST_CALL>;
 
 /// A command and a number of 32 bits.
 fn push_one(text: &mut Text, command: &[u8], number: u32)
-    requires { length text.old.items + length command.now + 11 ≤ LONGEST_LINE }
+    requires { length text.old.items + length command.now + 11 ≤ LONGEST_CALL }
     ensures items { text.new.items ≡ text.old.items ++ command.now ++ 32 ∷ decimal number }
     ensures len { length text.new.items ≤ length text.old.items + length command.now + 11 }
 {
@@ -29,7 +29,7 @@ fn push_one(text: &mut Text, command: &[u8], number: u32)
 
 /// A command and two numbers of 32 bits.
 fn push_two(text: &mut Text, command: &[u8], first: u32, second: u32)
-    requires { length text.old.items + length command.now + 22 ≤ LONGEST_LINE }
+    requires { length text.old.items + length command.now + 22 ≤ LONGEST_CALL }
     ensures { text.new.items ≡ text.old.items ++ command.now ++ 32 ∷ decimal first ++ 32 ∷ decimal second }
 {
     push_one(text, command, first);
@@ -38,7 +38,7 @@ fn push_two(text: &mut Text, command: &[u8], first: u32, second: u32)
 
 /// A command, a number of 32 bits and a word.
 fn push_one_and(text: &mut Text, command: &[u8], number: u32, word: &[u8])
-    requires { length text.old.items + length command.now + length word.now + 12 ≤ LONGEST_LINE }
+    requires { length text.old.items + length command.now + length word.now + 12 ≤ LONGEST_CALL }
     ensures items { text.new.items ≡ text.old.items ++ command.now ++ 32 ∷ decimal number ++ 32 ∷ word.now }
     ensures len { length text.new.items ≤ length text.old.items + length command.now + length word.now + 12 }
 {
@@ -49,7 +49,7 @@ fn push_one_and(text: &mut Text, command: &[u8], number: u32, word: &[u8])
 
 /// A command and the id of a control group.
 fn push_control(text: &mut Text, command: &[u8], id: u64)
-    requires { length text.old.items + length command.now + 21 ≤ LONGEST_LINE }
+    requires { length text.old.items + length command.now + 21 ≤ LONGEST_CALL }
     ensures items { text.new.items ≡ text.old.items ++ command.now ++ 32 ∷ decimal id }
     ensures len { length text.new.items ≤ length text.old.items + length command.now + 21 }
 {
@@ -59,7 +59,7 @@ fn push_control(text: &mut Text, command: &[u8], id: u64)
 
 /// A space, and a number with its sign.
 fn push_signed(text: &mut Text, number: i32)
-    requires { length text.old.items + 12 ≤ LONGEST_LINE }
+    requires { length text.old.items + 12 ≤ LONGEST_CALL }
     ensures items { text.new.items ≡ text.old.items ++ 32 ∷ signed_decimal number }
     ensures len { length text.new.items ≤ length text.old.items + 12 }
 {
@@ -175,7 +175,7 @@ fn push_subreaper(text: &mut Text, caller: u32, on: bool)
 ///
 /// It takes no memory. The cost is linear in the line.
 #[tactic(auto, unfolding(crate::specs::Lines::line_of))]
-pub fn line_text(call: &Call) -> ArrayVec<u8, LONGEST_LINE>
+pub fn line_text(call: &Call) -> ArrayVec<u8, LONGEST_CALL>
     ensures { result.items ≡ line_of call.now }
 {
     let mut text = ArrayVec::new();

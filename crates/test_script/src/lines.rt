@@ -1,6 +1,6 @@
 //! Which lines are calls, and which calls; and what the line of a call is.
 
-use pid_script::call::{LONGEST_LINE, line_text};
+use pid_script::call::{LONGEST_CALL, line_text};
 use pid_script::line::{Line, parse_line};
 use pid_types::call::{Call, Kind, Which};
 use std::process::Abort;
@@ -114,7 +114,7 @@ fn reads_queries_and_control_calls(rt: HostRuntime) {
 fn writes_the_longest_line(rt: HostRuntime) {
     let call = set_pgid(4_294_967_295, -2_147_483_648, -2_147_483_648);
     let line = b"setpgid 4294967295 -2147483648 -2147483648";
-    assert_eq!(rt; line.len(), LONGEST_LINE);
+    assert_eq!(rt; line.len(), LONGEST_CALL);
     expect_call(&rt, line, call);
 }
 
