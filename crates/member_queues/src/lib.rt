@@ -8,7 +8,8 @@
 
 ghost use Rattle.std.specs.Prelude.{◌≡◌, ◌≢◌, ◌⊎◌, ℕ, ◌+◌, ◌<◌, ◌^◌, length, map, Some, None, MatchOption, OnOk, OnErr, [], ◌∷◌, ◌++◌, IsSome, IsTrue, ◌↔◌, slice_set, option_map};
 ghost use Rattle.std.specs.List.{AllByRecursion};
-ghost use Rattle.member_queues.specs.Ranks.{ranked, IsLeast, AreRankedMembers, taken};
+ghost use Rattle.member_lists.specs.Owners.{handed};
+ghost use Rattle.member_queues.specs.Ranks.{ranked, IsLeast, AreRankedMembers};
 ghost use Rattle.member_queues.specs.Heap.{nil, node_at, root_at, member_in, told, AreSides, IsHeap, IsSinking};
 
 use member_lists::Members;
@@ -219,7 +220,7 @@ fn detach(forest: &mut Forest, from: u32, to: u32, members: Members<'_>) -> u32
     ensures heap { IsHeap forest.new.roots.items forest.new.nodes.items result }
     ensures top { result ≢ nil → ((node_at forest.new.nodes.items result).owner ≡ to) × ((node_at forest.new.nodes.items result).above ≡ nil) }
     ensures members { (k : ℕ) → ranked (map member_in forest.new.nodes.items) k
-        ≡ option_map (λ (m : ℕ × ℕ). (taken from to m.0, m.1)) (ranked (map member_in forest.old.nodes.items) k) }
+        ≡ option_map (λ (m : ℕ × ℕ). (handed from to m.0, m.1)) (ranked (map member_in forest.old.nodes.items) k) }
     ensures len { length forest.new.nodes.items ≡ length forest.old.nodes.items }
     ensures rooms { length forest.new.roots.items ≡ length forest.old.roots.items }
 {
@@ -299,6 +300,13 @@ impl MemberQueues {
         if owner == NIL { None } else { Some(rank) }
     }
 
+    /// What is true at any time; the call does nothing. The owner of each member has a number below that of the keys.
+    pub fn laws(&self)
+        ensures { (k p r : ℕ) → ranked self.now k ≡ Some (p, r) → p < length self.now }
+    {
+        let _ = &self.forest;
+    }
+
     /// The member of an owner that has the least rank. It costs one read, whatever the members are.
     pub fn least(&self, owner: u32) -> Option<u32>
         requires { owner < length self.now }
@@ -335,7 +343,7 @@ impl MemberQueues {
         requires to { to < length self.old }
         requires all { AreRankedMembers self.old from members }
         requires apart { (j k r : ℕ) → ranked self.old j ≡ Some (from, r) → ranked self.old k ≢ Some (to, r) }
-        ensures members { (k : ℕ) → ranked self.new k ≡ option_map (λ (m : ℕ × ℕ). (taken from to m.0, m.1)) (ranked self.old k) }
+        ensures members { (k : ℕ) → ranked self.new k ≡ option_map (λ (m : ℕ × ℕ). (handed from to m.0, m.1)) (ranked self.old k) }
         ensures keys { length self.new ≡ length self.old }
     {
         let held = detach(&mut self.forest, from, to, members);

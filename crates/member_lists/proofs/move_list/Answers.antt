@@ -1,6 +1,6 @@
-use Rattle.std.proofs.Common.{◌≡◌, ◌≢◌, ℕ, ◌<◌, List, length, map, ◌∙◌, arith}
+use Rattle.std.proofs.Common.{◌≡◌, ◌≢◌, ℕ, List, ◌∙◌, arith}
 use Rattle.member_lists.specs.declared.Link.{Link}
-use Rattle.member_lists.specs.Links.{nil, link_at, head_at, owner_in, AreTold, IsLinked}
+use Rattle.member_lists.specs.Links.{nil, link_at, head_at, AreTold, IsLinked}
 use Rattle.member_lists.proofs.Linked as linked
 use Rattle.member_lists.proofs.Walks as walks
 use Rattle.member_lists.proofs.Joining as joining

@@ -1,4 +1,4 @@
-use Rattle.std.proofs.Common.{◌≡◌, ◌≢◌, ℕ, ◌<◌, length, ◌∙◌, arith, map}
+use Rattle.std.proofs.Common.{◌≢◌, ◌<◌, length, ◌∙◌, arith, map}
 use Rattle.std.proofs.lemmas.List.{length-map}
 use Rattle.member_lists.specs.Links.{nil, owner_in}
 use Rattle.member_lists.proofs.Linked as linked
