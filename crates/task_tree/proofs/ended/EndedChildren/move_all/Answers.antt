@@ -3,7 +3,7 @@ use Rattle.task_tree.proofs.ended.EndedChildren.move_all.Goals as goal
 
 pub move_all-requires-clause-all : goal.move_all-requires-clause-all
 move_all-requires-clause-all c =
-    handing.AreRankedMembers-listed c.self.inside.queues c.self.inside.lists c.args.from c.members.result c.self.invariant c.members.ensures
+    handing.AreRankedMembers-listed c.self.inside.queues c.self.inside.lists c.args.from c.members-members.result c.self.invariant c.members-members.ensures
 
 pub invariant_of-self : goal.invariant_of-self
 invariant_of-self c =
