@@ -113,9 +113,11 @@ fn put_first(heads: &mut Vec<u32>, links: &mut Vec<Link>, key: u32, owner: u32)
 fn tell_owner(links: &mut Vec<Link>, first: u32, owner: u32) -> u32
     requires some { first ≢ nil }
     requires ends { Ends links.old.items first (length links.old.items) }
-    requires members { AreMembers (map owner_in links.old.items) (link_at links.old.items first).owner (chain links.old.items first (length links.old.items)) }
+    requires members { AreMembers (map owner_in links.old.items) (link_at links.old.items first).owner
+        (chain links.old.items first (length links.old.items)) }
     ensures told { AreTold links.old.items links.new.items (link_at links.old.items first).owner owner }
-    ensures last { ((link_at links.old.items result).owner ≡ (link_at links.old.items first).owner) × ((link_at links.old.items result).next ≡ nil) }
+    ensures last { ((link_at links.old.items result).owner ≡ (link_at links.old.items first).owner)
+        × ((link_at links.old.items result).next ≡ nil) }
 {
     let mut last = first;
     let mut at = first;
@@ -136,7 +138,8 @@ fn move_list(heads: &mut Vec<u32>, links: &mut Vec<Link>, from: u32, to: u32)
     requires linked { IsLinked heads.old.items links.old.items }
     requires some { head_at heads.old.items from ≢ nil }
     ensures linked { IsLinked heads.new.items links.new.items }
-    ensures owners { (k : ℕ) → owner_of (map owner_in links.new.items) k ≡ option_map (handed from to) (owner_of (map owner_in links.old.items) k) }
+    ensures owners { (k : ℕ) → owner_of (map owner_in links.new.items) k
+        ≡ option_map (handed from to) (owner_of (map owner_in links.old.items) k) }
     ensures len { length links.new.items ≡ length links.old.items }
 {
     let first = heads[from as usize];

@@ -1,5 +1,5 @@
 -- Members that go to another owner all at once, and keep their tree.
-use Rattle.std.proofs.Common.{◌≡◌, ◌≢◌, ◌⊎◌, inl, inr, ℕ, zero, suc, ◌+◌, ◌<◌, ◌≤◌, ◌==◌, Bool, true, false, List, [], ◌∷◌, length, set, map, if◌then◌else◌, Option, Some, None, option_map, refl, sym, ap, ◌∙◌, arith}
+use Rattle.std.proofs.Common.{◌≡◌, ◌≢◌, ◌⊎◌, inl, inr, ℕ, ◌+◌, ◌<◌, ◌==◌, Bool, true, false, List, [], ◌∷◌, length, set, map, if◌then◌else◌, Option, Some, None, option_map, refl, sym, ap, ◌∙◌, arith}
 use Rattle.std.specs.List.{AllByRecursion}
 use Rattle.std.specs.Option.{option_map_or}
 use Rattle.std.proofs.lemmas.Bool.{cases_eq, eq-eqb}
@@ -9,7 +9,7 @@ use Rattle.member_lists.specs.Owners.{times, handed}
 use Rattle.member_queues.specs.declared.Node.{Node}
 use Rattle.member_queues.specs.Ranks.{ranked, holder, AreRankedMembers}
 use Rattle.member_queues.specs.Heap.{nil, blank, node_at, root_at, member_in, told, IsBelow, IsHeap}
-use Rattle.member_queues.proofs.Trees.{within, is_some, has_room, ranked-nodes, member_some, some_member, none_member}
+use Rattle.member_queues.proofs.Trees.{within, is_some, ranked-nodes, member_some, some_member, none_member}
 
 handed-from : (from to : ℕ) → handed from to from ≡ to
 handed-from from to = rw (eq-eqb from from refl) refl

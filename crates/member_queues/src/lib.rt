@@ -167,6 +167,25 @@ fn fill(forest: &mut Forest, key: u32, by: u32, other: u32)
     sink(forest, by, other);
 }
 
+/// Joins a tree, if there is one, with its owner's other keys: below their root or over it.
+fn meld(forest: &mut Forest, owner: u32, held: u32)
+    requires heap { IsHeap forest.old.roots.items forest.old.nodes.items held }
+    requires owner { owner < length forest.old.roots.items }
+    requires top { held ≢ nil → ((node_at forest.old.nodes.items held).owner ≡ owner)
+        × ((node_at forest.old.nodes.items held).above ≡ nil) }
+    ensures heap { IsHeap forest.new.roots.items forest.new.nodes.items nil }
+    ensures members { map member_in forest.new.nodes.items ≡ map member_in forest.old.nodes.items }
+    ensures len { length forest.new.nodes.items ≡ length forest.old.nodes.items }
+{
+    let root = forest.roots[owner as usize];
+    if is_before(forest.nodes.as_slice(), root, held) {
+        sink(forest, root, held);
+    } else if held != NIL {
+        forest.roots[owner as usize] = held;
+        sink(forest, held, root);
+    }
+}
+
 /// Puts a key into its owner's tree: below the one that came last, where that ranks lower, and else below
 /// the root or over it.
 fn enter(forest: &mut Forest, key: u32, owner: u32, rank: u32, latest: u32)
@@ -186,14 +205,10 @@ fn enter(forest: &mut Forest, key: u32, owner: u32, rank: u32, latest: u32)
         left: NIL,
         right: NIL,
     };
-    let root = forest.roots[owner as usize];
     if is_elder(forest.nodes.as_slice(), latest, key) {
         sink(forest, latest, key);
-    } else if is_before(forest.nodes.as_slice(), root, key) {
-        sink(forest, root, key);
     } else {
-        forest.roots[owner as usize] = key;
-        sink(forest, key, root);
+        meld(forest, owner, key);
     }
 }
 
@@ -218,7 +233,8 @@ fn detach(forest: &mut Forest, from: u32, to: u32, members: Members<'_>) -> u32
     requires apart { (j k r : ℕ) → ranked (map member_in forest.old.nodes.items) j ≡ Some (from, r)
         → ranked (map member_in forest.old.nodes.items) k ≢ Some (to, r) }
     ensures heap { IsHeap forest.new.roots.items forest.new.nodes.items result }
-    ensures top { result ≢ nil → ((node_at forest.new.nodes.items result).owner ≡ to) × ((node_at forest.new.nodes.items result).above ≡ nil) }
+    ensures top { result ≢ nil → ((node_at forest.new.nodes.items result).owner ≡ to)
+        × ((node_at forest.new.nodes.items result).above ≡ nil) }
     ensures members { (k : ℕ) → ranked (map member_in forest.new.nodes.items) k
         ≡ option_map (λ (m : ℕ × ℕ). (handed from to m.0, m.1)) (ranked (map member_in forest.old.nodes.items) k) }
     ensures len { length forest.new.nodes.items ≡ length forest.old.nodes.items }
@@ -228,24 +244,6 @@ fn detach(forest: &mut Forest, from: u32, to: u32, members: Members<'_>) -> u32
     tell_owner(&mut forest.nodes, members, to);
     forest.roots[from as usize] = NIL;
     root
-}
-
-/// Joins a tree, if there is one, with its owner's other keys: below their root or over it.
-fn meld(forest: &mut Forest, owner: u32, held: u32)
-    requires heap { IsHeap forest.old.roots.items forest.old.nodes.items held }
-    requires owner { owner < length forest.old.roots.items }
-    requires top { held ≢ nil → ((node_at forest.old.nodes.items held).owner ≡ owner) × ((node_at forest.old.nodes.items held).above ≡ nil) }
-    ensures heap { IsHeap forest.new.roots.items forest.new.nodes.items nil }
-    ensures members { map member_in forest.new.nodes.items ≡ map member_in forest.old.nodes.items }
-    ensures len { length forest.new.nodes.items ≡ length forest.old.nodes.items }
-{
-    let root = forest.roots[owner as usize];
-    if is_before(forest.nodes.as_slice(), root, held) {
-        sink(forest, root, held);
-    } else if held != NIL {
-        forest.roots[owner as usize] = held;
-        sink(forest, held, root);
-    }
 }
 
 impl MemberQueues {
@@ -343,7 +341,8 @@ impl MemberQueues {
         requires to { to < length self.old }
         requires all { AreRankedMembers self.old from members }
         requires apart { (j k r : ℕ) → ranked self.old j ≡ Some (from, r) → ranked self.old k ≢ Some (to, r) }
-        ensures members { (k : ℕ) → ranked self.new k ≡ option_map (λ (m : ℕ × ℕ). (handed from to m.0, m.1)) (ranked self.old k) }
+        ensures members { (k : ℕ) → ranked self.new k
+            ≡ option_map (λ (m : ℕ × ℕ). (handed from to m.0, m.1)) (ranked self.old k) }
         ensures keys { length self.new ≡ length self.old }
     {
         let held = detach(&mut self.forest, from, to, members);

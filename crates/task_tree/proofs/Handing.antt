@@ -1,5 +1,5 @@
 -- All children of one task go to another.
-use Rattle.std.proofs.Common.{◌≡◌, ◌≢◌, ◌⊎◌, inl, inr, ℕ, ◌<◌, ◌≤◌, ◌==◌, Bool, true, false, List, [], ◌∷◌, length, Option, Some, None, option_map, refl, sym, ap, ◌∙◌, arith}
+use Rattle.std.proofs.Common.{◌≡◌, ◌≢◌, ◌⊎◌, inl, inr, ℕ, ◌<◌, ◌==◌, Bool, true, false, List, [], ◌∷◌, length, Option, Some, None, option_map, refl, sym, ap, ◌∙◌, arith}
 use Rattle.std.specs.List.{AllByRecursion}
 use Rattle.std.specs.Option.{option_map_or}
 use Rattle.std.specs.Prelude.{slice_index_or, if◌then◌else◌}
@@ -56,18 +56,6 @@ module _ (from to : ℕ) (es : List (Option (ℕ × ℕ)))
 through : (from to : ℕ) (o : Option (ℕ × ℕ)) → option_map of_parent (option_map (rank_handed from to) o) ≡ option_map (handed from to) (option_map of_parent o)
 through from to None = refl
 through from to (Some m) = refl
-
--- a task past the room for ranks has no ended children
-pub none_ended : (es : List (Option (ℕ × ℕ))) (from to : ℕ) → ((k p r : ℕ) → ranked es k ≡ Some (p, r) → p < length es) → length es ≤ from
-    → (k : ℕ) → ranked es k ≡ option_map (rank_handed from to) (ranked es k)
-none_ended es from to known past k = go (ranked es k) refl
-  where
-    go : (o : Option (ℕ × ℕ)) → ranked es k ≡ o → o ≡ option_map (rank_handed from to) o
-    go None e = refl
-    go (Some m) e =
-        let lt = known k m.0 m.1 e in
-        let differs : m.0 ≢ from = λ z. omega (arith, z, lt, past) in
-        ap (λ (p : ℕ). Some (p, m.1)) (sym (handed-other from to m.0 differs))
 
 -- the ended children that a list has are those whom the queue has
 pub AreRankedMembers-listed : (es : List (Option (ℕ × ℕ))) (lists : List (Option ℕ)) (parent : ℕ) (keys : List ℕ) → AreListed es lists → AreMembers lists parent keys → AreRankedMembers es parent keys
