@@ -1,2 +1,4 @@
 pub mod Linked
 pub mod Walks
+pub mod Telling
+pub mod Joining

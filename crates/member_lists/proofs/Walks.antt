@@ -58,7 +58,7 @@ times-cons k j xs = sum_by-cons (λ i. if i == k then 1 else 0) j xs
 times-here : (k : ℕ) (xs : List ℕ) → times k (k ∷ xs) ≡ 1 + times k xs
 times-here k xs = times-cons k k xs ∙ ap (λ (b : Bool). (if b then 1 else 0) + times k xs) (eq-eqb k k refl)
 
-times-later : (k j : ℕ) (xs : List ℕ) → k ≢ j → times j (k ∷ xs) ≡ times j xs
+pub times-later : (k j : ℕ) (xs : List ℕ) → k ≢ j → times j (k ∷ xs) ≡ times j xs
 times-later k j xs differs = times-cons j k xs ∙ go (k == j) refl
   where
     go : (b : Bool) → (k == j) ≡ b → (if b then 1 else 0) + times j xs ≡ times j xs

@@ -46,3 +46,9 @@ chain links k (suc n) = if k == 4294967295 then [] else k ∷ chain links (link_
 abbrev pub Ends : List Link → ℕ → ℕ → Type 0
 Ends links k zero = k ≡ nil
 Ends links k (suc n) = k ≢ nil → (k < length links) × Ends links (link_at links k).next n
+
+-- the members of one owner are told another, and nothing else changes
+pub record AreTold (links links' : List Link) (from to : ℕ) : Type 0 where
+  pub here : (k : ℕ) → (link_at links k).owner ≡ from → link_at links' k ≡ record (link_at links k) { owner = to }
+  pub others : (k : ℕ) → (link_at links k).owner ≢ from → link_at links' k ≡ link_at links k
+  pub len : length links' ≡ length links

@@ -1,5 +1,5 @@
 -- What a contract sees of `MemberLists`: at each key its owner, or none.
-use Rattle.std.specs.Prelude.{◌≡◌, ℕ, ◌==◌, List, Option, Some, None, slice_index_or, count_by}
+use Rattle.std.specs.Prelude.{◌≡◌, ℕ, ◌==◌, List, Option, Some, None, if◌then◌else◌, slice_index_or, count_by}
 use Rattle.std.specs.List.{AllByRecursion}
 
 -- the owner of a key
@@ -14,3 +14,7 @@ times k keys = count_by (λ j. j == k) keys
 pub record AreMembers (owners : List (Option ℕ)) (owner : ℕ) (keys : List ℕ) : Type 0 where
   pub once : (k : ℕ) → owner_of owners k ≡ Some owner → times k keys ≡ 1
   pub owned : AllByRecursion (λ k. owner_of owners k ≡ Some owner) keys
+
+-- the owner after all members of one went to another
+abbrev pub handed : ℕ → ℕ → ℕ → ℕ
+handed from to p = if p == from then to else p

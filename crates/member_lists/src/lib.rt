@@ -1,12 +1,12 @@
 //! Members by owner: which owner each key has, and the members of each owner in a list.
 //!
-//! Keys and owners are numbers below 2^30. Each call but `grow` costs a few reads and writes and takes
-//! no memory; the members of an owner come in no order that a caller may rely on.
+//! Keys and owners are numbers below 2^30. Each call but `grow` and `move_all` costs a few reads and writes, and
+//! each but `grow` takes no memory; the members of an owner come in no order that a caller may rely on.
 #![tactic(auto)]
 
-ghost use Rattle.std.specs.Prelude.{◌≡◌, ◌≢◌, ℕ, ◌+◌, ◌<◌, ◌≤◌, ◌^◌, length, map, Some, None, MatchOption, OnOk, OnErr, slice_set, IsSome, [], ◌∷◌, ◌++◌};
-ghost use Rattle.member_lists.specs.Owners.{owner_of, AreMembers};
-ghost use Rattle.member_lists.specs.Links.{nil, lone, link_at, head_at, owner_in, IsLinked};
+ghost use Rattle.std.specs.Prelude.{◌≡◌, ◌≢◌, ℕ, ◌+◌, ◌<◌, ◌≤◌, ◌^◌, length, map, Some, None, MatchOption, OnOk, OnErr, slice_set, option_map, IsSome, [], ◌∷◌, ◌++◌};
+ghost use Rattle.member_lists.specs.Owners.{owner_of, AreMembers, handed};
+ghost use Rattle.member_lists.specs.Links.{nil, lone, link_at, head_at, owner_in, chain, AreTold, Ends, IsLinked};
 
 mod members;
 
@@ -109,6 +109,48 @@ fn put_first(heads: &mut Vec<u32>, links: &mut Vec<Link>, key: u32, owner: u32)
     heads[owner as usize] = key;
 }
 
+/// Tells the members of one owner, from the first on, another owner. It answers the last of them.
+fn tell_owner(links: &mut Vec<Link>, first: u32, owner: u32) -> u32
+    requires some { first ≢ nil }
+    requires ends { Ends links.old.items first (length links.old.items) }
+    requires members { AreMembers (map owner_in links.old.items) (link_at links.old.items first).owner
+        (chain links.old.items first (length links.old.items)) }
+    ensures told { AreTold links.old.items links.new.items (link_at links.old.items first).owner owner }
+    ensures last { ((link_at links.old.items result).owner ≡ (link_at links.old.items first).owner)
+        × ((link_at links.old.items result).next ≡ nil) }
+{
+    let mut last = first;
+    let mut at = first;
+    while at != NIL {
+        let link = &mut links[at as usize];
+        link.owner = owner;
+        last = at;
+        at = link.next;
+    }
+    last
+}
+
+/// Puts the whole list of one owner, which has a member, before the members of another.
+fn move_list(heads: &mut Vec<u32>, links: &mut Vec<Link>, from: u32, to: u32)
+    requires differ { from ≢ to }
+    requires from { from < length heads.old.items }
+    requires to { to < length heads.old.items }
+    requires linked { IsLinked heads.old.items links.old.items }
+    requires some { head_at heads.old.items from ≢ nil }
+    ensures linked { IsLinked heads.new.items links.new.items }
+    ensures owners { (k : ℕ) → owner_of (map owner_in links.new.items) k
+        ≡ option_map (handed from to) (owner_of (map owner_in links.old.items) k) }
+    ensures len { length links.new.items ≡ length links.old.items }
+{
+    let first = heads[from as usize];
+    let last = tell_owner(links, first, to);
+    let behind = heads[to as usize];
+    set_prev(links, behind, last);
+    links[last as usize].next = behind;
+    heads[to as usize] = first;
+    heads[from as usize] = NIL;
+}
+
 impl MemberLists {
     /// No keys and no owners.
     pub fn new(alloc: Global) -> Self
@@ -201,5 +243,18 @@ impl MemberLists {
     {
         take_out(&mut self.heads, &mut self.links, key);
         put_first(&mut self.heads, &mut self.links, key, owner);
+    }
+
+    /// All members of the one owner become the other's. It costs one read and one write for each of them.
+    pub fn move_all(&mut self, from: u32, to: u32)
+        requires differ { from ≢ to }
+        requires from { from < length self.old }
+        requires to { to < length self.old }
+        ensures owners { (k : ℕ) → owner_of self.new k ≡ option_map (handed from to) (owner_of self.old k) }
+        ensures keys { length self.new ≡ length self.old }
+    {
+        if self.heads[from as usize] != NIL {
+            move_list(&mut self.heads, &mut self.links, from, to);
+        }
     }
 }

@@ -5,7 +5,7 @@ use Rattle.std.proofs.lemmas.List.{get_or-set_same, get_or-set_other, length-set
 use Rattle.member_queues.specs.declared.Node.{Node}
 use Rattle.member_queues.specs.Ranks.{ranked}
 use Rattle.member_queues.specs.Heap.{nil, blank, node_at, root_at, member_in, IsBelow, IsHeap, IsSinking}
-use Rattle.member_queues.proofs.Trees.{within, is_some, has_room, ranked-nodes, some_member}
+use Rattle.member_queues.proofs.Trees.{is_some, has_room, ranked-nodes, some_member}
 
 get_or-append_default : {X : Type 0} (xs : List X) (d : X) (i : ℕ) → get_or (xs ++ d ∷ []) i d ≡ get_or xs i d
 get_or-append_default [] d zero = refl
@@ -153,49 +153,23 @@ IsHeap-crowned rs ns k p w k_some room mine none = record {
     other : (q : ℕ) → q ≢ p → root_at (set rs p k) q ≡ root_at rs q
     other q differs = get_or-set_other rs p q k nil differs
 
--- the key that came and its owner's root f
-module _ (rs : List ℕ) (ns xs : List Node) (k p r f : ℕ) (w : IsHeap rs ns nil) (key : k < length ns) (free : (node_at ns k).owner ≡ nil) (room : p < length rs) (fits : r ≤ nil)
-    (new : (j : ℕ) → ranked (map member_in ns) j ≢ Some (p, r)) (was_root : root_at rs p ≡ f) (read : xs ≡ set ns k (record { owner = p; rank = r; above = nil; left = nil; right = nil })) where
+-- the key that came
+module _ (rs : List ℕ) (ns xs : List Node) (k p r : ℕ) (w : IsHeap rs ns nil) (key : k < length ns) (free : (node_at ns k).owner ≡ nil) (room : p < length rs) (fits : r ≤ nil)
+    (new : (j : ℕ) → ranked (map member_in ns) j ≢ Some (p, r)) (read : xs ≡ set ns k (record { owner = p; rank = r; above = nil; left = nil; right = nil })) where
   abbrev ns' : List Node
   ns' = set ns k (record { owner = p; rank = r; above = nil; left = nil; right = nil })
 
-  entered : IsHeap rs ns' k
+  pub entered : IsHeap rs ns' k
   entered = IsHeap-entered rs ns k p r w key free room fits new
-
-  k_there : k ≢ nil
-  k_there = omega (arith, key, w.ranked.few)
-
-  k_node : node_at ns' k ≡ record { owner = p; rank = r; above = nil; left = nil; right = nil }
-  k_node = get_or-set_same ns k _ blank key
-
-  root_facts : f ≢ nil → ((node_at ns' f).owner ≡ p) × ((node_at ns' f).above ≡ nil) × (f ≢ k)
-  root_facts some = rw was_root at (entered.tree.tops p (λ z. some (sym was_root ∙ z)))
 
   p_there : p ≢ nil
   p_there = omega (arith, room, w.ranked.few, w.ranked.rooms)
 
-  pub root_within : f ≢ nil → f < length xs
-  root_within some = rw read (within ns' f (λ z. p_there (sym (root_facts some).0 ∙ z)))
+  k_node : node_at ns' k ≡ record { owner = p; rank = r; above = nil; left = nil; right = nil }
+  k_node = get_or-set_same ns k _ blank key
 
-  pub sinks_below_root : (f ≢ nil) × (k ≢ nil → (node_at xs f).rank < (node_at xs k).rank) → IsSinking rs ns' f k
-  sinks_below_root less = record {
-    heap = entered;
-    owned = λ _ z. p_there (sym (root_facts less.0).0 ∙ z);
-    same = λ _. ap (λ (x : Node). x.owner) k_node ∙ sym (root_facts less.0).0;
-    lower = λ _. rw read at (less.1 k_there);
-  }
-
-  pub sinks_as_root : ((f ≢ nil) × (k ≢ nil → (node_at xs f).rank < (node_at xs k).rank) → ⊥) → IsSinking (set rs p k) ns' k f
-  sinks_as_root not = record {
-    heap = rw was_root at (IsHeap-crowned rs ns' k p entered k_there room (ap (λ (x : Node). x.owner) k_node) (ap (λ (x : Node). x.above) k_node));
-    owned = λ _ z. p_there (sym (ap (λ (x : Node). x.owner) k_node) ∙ z);
-    same = λ some. (root_facts some).0 ∙ sym (ap (λ (x : Node). x.owner) k_node);
-    lower = λ some.
-        let differ : (node_at ns' f).rank ≢ (node_at ns' k).rank = λ e.
-        (root_facts some).2 (entered.ranked.distinct f k (λ z. p_there (sym (root_facts some).0 ∙ z)) ((root_facts some).0 ∙ sym (ap (λ (x : Node). x.owner) k_node)) e) in
-        let higher : (node_at ns' f).rank < (node_at ns' k).rank → ⊥ = λ less. not (some, λ _. rw read less) in
-        omega (arith, differ, higher);
-  }
+  pub entered_top : ((node_at ns' k).owner ≡ p) × ((node_at ns' k).above ≡ nil)
+  entered_top = (ap (λ (x : Node). x.owner) k_node, ap (λ (x : Node). x.above) k_node)
 
   -- below a member of the same owner and a lesser rank
   pub sinks_below : (at : ℕ) → ((node_at xs at).owner ≡ (node_at xs k).owner) × ((node_at xs at).rank < (node_at xs k).rank) → IsSinking rs ns' at k

@@ -1,5 +1,5 @@
 -- A tree that is held and the root of its owner.
-use Rattle.std.proofs.Common.{◌≡◌, ◌≢◌, ℕ, ◌<◌, List, length, set, sym, ap, ◌∙◌, arith}
+use Rattle.std.proofs.Common.{◌≡◌, ◌≢◌, ℕ, ◌<◌, List, length, set, sym, ◌∙◌, arith}
 use Rattle.member_queues.specs.declared.Node.{Node}
 use Rattle.member_queues.specs.Heap.{nil, node_at, root_at, IsHeap, IsSinking}
 use Rattle.member_queues.proofs.Trees.{within}

@@ -1,21 +1,21 @@
 -- Members that go to another owner all at once, and keep their tree.
-use Rattle.std.proofs.Common.{◌≡◌, ◌≢◌, ◌⊎◌, inl, inr, ℕ, zero, suc, ◌+◌, ◌<◌, ◌≤◌, ◌==◌, Bool, true, false, List, [], ◌∷◌, length, set, map, if◌then◌else◌, Option, Some, None, option_map, refl, sym, ap, ◌∙◌, arith}
+use Rattle.std.proofs.Common.{◌≡◌, ◌≢◌, ◌⊎◌, inl, inr, ℕ, ◌+◌, ◌<◌, ◌==◌, Bool, true, false, List, [], ◌∷◌, length, set, map, if◌then◌else◌, Option, Some, None, option_map, refl, sym, ap, ◌∙◌, arith}
 use Rattle.std.specs.List.{AllByRecursion}
 use Rattle.std.specs.Option.{option_map_or}
 use Rattle.std.proofs.lemmas.Bool.{cases_eq, eq-eqb}
-use Rattle.std.proofs.lemmas.List.{get_or-set_same, get_or-set_other, length-set}
+use Rattle.std.proofs.lemmas.List.{get_or-set_same, get_or-set_other, length-set, length-map}
 use Rattle.std.proofs.lemmas.List.Sums.{sum_by-cons}
-use Rattle.member_lists.specs.Owners.{times}
+use Rattle.member_lists.specs.Owners.{times, handed}
 use Rattle.member_queues.specs.declared.Node.{Node}
-use Rattle.member_queues.specs.Ranks.{ranked, holder, AreRankedMembers, taken}
+use Rattle.member_queues.specs.Ranks.{ranked, holder, AreRankedMembers}
 use Rattle.member_queues.specs.Heap.{nil, blank, node_at, root_at, member_in, told, IsBelow, IsHeap}
-use Rattle.member_queues.proofs.Trees.{within, is_some, has_room, ranked-nodes, member_some, some_member, none_member}
+use Rattle.member_queues.proofs.Trees.{within, is_some, ranked-nodes, member_some, some_member, none_member}
 
-taken-from : (from to : ℕ) → taken from to from ≡ to
-taken-from from to = rw (eq-eqb from from refl) refl
+handed-from : (from to : ℕ) → handed from to from ≡ to
+handed-from from to = rw (eq-eqb from from refl) refl
 
-taken-other : (from to p : ℕ) → p ≢ from → taken from to p ≡ p
-taken-other from to p differs = let e : (p == from) ≡ false = grind (arith, differs) in rw e refl
+handed-other : (from to p : ℕ) → p ≢ from → handed from to p ≡ p
+handed-other from to p differs = let e : (p == from) ≡ false = grind (arith, differs) in rw e refl
 
 times-cons : (k j : ℕ) (xs : List ℕ) → times k (j ∷ xs) ≡ (if j == k then 1 else 0) + times k xs
 times-cons k j xs = sum_by-cons (λ i. if i == k then 1 else 0) j xs
@@ -125,10 +125,10 @@ module _ (rs : List ℕ) (ns ns' : List Node) (from to : ℕ) (w : IsHeap rs ns 
   to_some : to ≢ nil
   to_some = omega (arith, room_to, w.ranked.few, w.ranked.rooms)
 
-  own : (k : ℕ) → (node_at ns' k).owner ≡ taken from to (node_at ns k).owner
+  own : (k : ℕ) → (node_at ns' k).owner ≡ handed from to (node_at ns k).owner
   own k = elim (cases_eq (node_at ns k).owner from) [
-    | inl mine ↦ ap (λ (x : Node). x.owner) (t.here k mine) ∙ sym (ap (taken from to) mine ∙ taken-from from to)
-    | inr other ↦ ap (λ (x : Node). x.owner) (t.others k other) ∙ sym (taken-other from to (node_at ns k).owner other)
+    | inl mine ↦ ap (λ (x : Node). x.owner) (t.here k mine) ∙ sym (ap (handed from to) mine ∙ handed-from from to)
+    | inr other ↦ ap (λ (x : Node). x.owner) (t.others k other) ∙ sym (handed-other from to (node_at ns k).owner other)
   ]
 
   own_from : (k : ℕ) → (node_at ns k).owner ≡ from → (node_at ns' k).owner ≡ to
@@ -150,7 +150,7 @@ module _ (rs : List ℕ) (ns ns' : List Node) (from to : ℕ) (w : IsHeap rs ns 
   rights k = elim (cases_eq (node_at ns k).owner from) [ inl mine ↦ ap (λ (x : Node). x.right) (t.here k mine) | inr other ↦ ap (λ (x : Node). x.right) (t.others k other) ]
 
   was : (k : ℕ) → (node_at ns' k).owner ≢ nil → (node_at ns k).owner ≢ nil
-  was k owned z = owned (own k ∙ ap (taken from to) z ∙ taken-other from to nil (λ e. from_some (sym e)))
+  was k owned z = owned (own k ∙ ap (handed from to) z ∙ handed-other from to nil (λ e. from_some (sym e)))
 
   into : (j k : ℕ) → IsBelow ns j k → IsBelow ns' j k
   into j k (inl e) = inl (lefts j ∙ e)
@@ -161,7 +161,7 @@ module _ (rs : List ℕ) (ns ns' : List Node) (from to : ℕ) (w : IsHeap rs ns 
   back j k (inr e) = inr (sym (rights j) ∙ e)
 
   same_owner : (j k : ℕ) → (node_at ns j).owner ≡ (node_at ns k).owner → (node_at ns' j).owner ≡ (node_at ns' k).owner
-  same_owner j k e = own j ∙ ap (taken from to) e ∙ sym (own k)
+  same_owner j k e = own j ∙ ap (handed from to) e ∙ sym (own k)
 
   apart_nodes : (j k : ℕ) → (node_at ns j).owner ≡ from → (node_at ns k).owner ≡ to → (node_at ns j).rank ≢ (node_at ns k).rank
   apart_nodes j k mine yours e =
@@ -267,21 +267,28 @@ module _ (rs : List ℕ) (ns ns' : List Node) (from to : ℕ) (w : IsHeap rs ns 
   top-told some = let o = first some in (own_from (root_at rs from) o.0, up (root_at rs from) ∙ o.1)
 
   abbrev handed_pair : ℕ × ℕ → ℕ × ℕ
-  handed_pair m = (taken from to m.0, m.1)
+  handed_pair m = (handed from to m.0, m.1)
 
-  pub ranked-told : (k : ℕ) → ranked (map member_in ns') k ≡ option_map (λ (m : ℕ × ℕ). (taken from to m.0, m.1)) (ranked (map member_in ns) k)
+  pub ranked-told : (k : ℕ) → ranked (map member_in ns') k ≡ option_map (λ (m : ℕ × ℕ). (handed from to m.0, m.1)) (ranked (map member_in ns) k)
   ranked-told k = ranked-nodes ns' k ∙ go (cases_eq (node_at ns k).owner nil) ∙ sym (ap (option_map handed_pair) (ranked-nodes ns k))
     where
       go : ((node_at ns k).owner ≡ nil) ⊎ ((node_at ns k).owner ≢ nil) → member_in (node_at ns' k) ≡ option_map handed_pair (member_in (node_at ns k))
       go (inl none) =
           none_member (node_at ns' k) (own_other k (λ e. from_some (sym e ∙ none)) ∙ none) ∙ sym (ap (option_map handed_pair) (none_member (node_at ns k) none))
       go (inr some) =
-          some_member (node_at ns' k) (taken from to (node_at ns k).owner) (own k) (λ z. still (cases_eq (node_at ns k).owner from) z) ∙ ap (λ n. pair n) (ranks k)
+          some_member (node_at ns' k) (handed from to (node_at ns k).owner) (own k) (λ z. still (cases_eq (node_at ns k).owner from) z) ∙ ap (λ n. pair n) (ranks k)
           ∙ sym (ap (option_map handed_pair) (some_member (node_at ns k) (node_at ns k).owner refl some))
         where
           pair : ℕ → Option (ℕ × ℕ)
-          pair n = Some (taken from to (node_at ns k).owner, n)
+          pair n = Some (handed from to (node_at ns k).owner, n)
 
-          still : ((node_at ns k).owner ≡ from) ⊎ ((node_at ns k).owner ≢ from) → taken from to (node_at ns k).owner ≡ nil → ⊥
-          still (inl mine) z = to_some (sym (ap (taken from to) mine ∙ taken-from from to) ∙ z)
-          still (inr other) z = some (sym (taken-other from to (node_at ns k).owner other) ∙ z)
+          still : ((node_at ns k).owner ≡ from) ⊎ ((node_at ns k).owner ≢ from) → handed from to (node_at ns k).owner ≡ nil → ⊥
+          still (inl mine) z = to_some (sym (ap (handed from to) mine ∙ handed-from from to) ∙ z)
+          still (inr other) z = some (sym (handed-other from to (node_at ns k).owner other) ∙ z)
+
+-- a member's owner is within the keys
+pub owner_within : (rs : List ℕ) (ns : List Node) → IsHeap rs ns nil → (k p r : ℕ) → ranked (map member_in ns) k ≡ Some (p, r) → p < length (map member_in ns)
+owner_within rs ns w k p r is =
+    let m = member_some (node_at ns k) p r (sym (ranked-nodes ns k) ∙ is) in
+    let lt = w.ranked.known k (λ z. m.2 (sym m.0 ∙ z)) in
+    simp length-map (let e = m.0 in let l = w.ranked.rooms in omega (arith, e, lt, l))

@@ -1,5 +1,5 @@
 -- What a contract sees of `MemberQueues`: at each key its owner and its rank, or neither.
-use Rattle.std.specs.Prelude.{◌≡◌, ℕ, ◌≤◌, ◌==◌, List, Option, Some, None, option_map, if◌then◌else◌, slice_index_or}
+use Rattle.std.specs.Prelude.{◌≡◌, ℕ, ◌≤◌, List, Option, Some, None, option_map, slice_index_or}
 use Rattle.std.specs.List.{AllByRecursion}
 use Rattle.member_lists.specs.Owners.{times}
 
@@ -21,7 +21,3 @@ holder members k = option_map (λ (m : ℕ × ℕ). m.0) (ranked members k)
 pub record AreRankedMembers (members : List (Option (ℕ × ℕ))) (owner : ℕ) (keys : List ℕ) : Type 0 where
   pub once : (k : ℕ) → holder members k ≡ Some owner → times k keys ≡ 1
   pub owned : AllByRecursion (λ k. holder members k ≡ Some owner) keys
-
--- the owner after all members of one went to another
-abbrev pub taken : ℕ → ℕ → ℕ → ℕ
-taken from to p = if p == from then to else p

@@ -8,7 +8,8 @@
 
 ghost use Rattle.std.specs.Prelude.{◌≡◌, ◌≢◌, ◌⊎◌, ℕ, ◌+◌, ◌<◌, ◌^◌, length, map, Some, None, MatchOption, OnOk, OnErr, [], ◌∷◌, ◌++◌, IsSome, IsTrue, ◌↔◌, slice_set, option_map};
 ghost use Rattle.std.specs.List.{AllByRecursion};
-ghost use Rattle.member_queues.specs.Ranks.{ranked, IsLeast, AreRankedMembers, taken};
+ghost use Rattle.member_lists.specs.Owners.{handed};
+ghost use Rattle.member_queues.specs.Ranks.{ranked, IsLeast, AreRankedMembers};
 ghost use Rattle.member_queues.specs.Heap.{nil, node_at, root_at, member_in, told, AreSides, IsHeap, IsSinking};
 
 use member_lists::Members;
@@ -166,6 +167,25 @@ fn fill(forest: &mut Forest, key: u32, by: u32, other: u32)
     sink(forest, by, other);
 }
 
+/// Joins a tree, if there is one, with its owner's other keys: below their root or over it.
+fn meld(forest: &mut Forest, owner: u32, held: u32)
+    requires heap { IsHeap forest.old.roots.items forest.old.nodes.items held }
+    requires owner { owner < length forest.old.roots.items }
+    requires top { held ≢ nil → ((node_at forest.old.nodes.items held).owner ≡ owner)
+        × ((node_at forest.old.nodes.items held).above ≡ nil) }
+    ensures heap { IsHeap forest.new.roots.items forest.new.nodes.items nil }
+    ensures members { map member_in forest.new.nodes.items ≡ map member_in forest.old.nodes.items }
+    ensures len { length forest.new.nodes.items ≡ length forest.old.nodes.items }
+{
+    let root = forest.roots[owner as usize];
+    if is_before(forest.nodes.as_slice(), root, held) {
+        sink(forest, root, held);
+    } else if held != NIL {
+        forest.roots[owner as usize] = held;
+        sink(forest, held, root);
+    }
+}
+
 /// Puts a key into its owner's tree: below the one that came last, where that ranks lower, and else below
 /// the root or over it.
 fn enter(forest: &mut Forest, key: u32, owner: u32, rank: u32, latest: u32)
@@ -185,14 +205,10 @@ fn enter(forest: &mut Forest, key: u32, owner: u32, rank: u32, latest: u32)
         left: NIL,
         right: NIL,
     };
-    let root = forest.roots[owner as usize];
     if is_elder(forest.nodes.as_slice(), latest, key) {
         sink(forest, latest, key);
-    } else if is_before(forest.nodes.as_slice(), root, key) {
-        sink(forest, root, key);
     } else {
-        forest.roots[owner as usize] = key;
-        sink(forest, key, root);
+        meld(forest, owner, key);
     }
 }
 
@@ -217,9 +233,10 @@ fn detach(forest: &mut Forest, from: u32, to: u32, members: Members<'_>) -> u32
     requires apart { (j k r : ℕ) → ranked (map member_in forest.old.nodes.items) j ≡ Some (from, r)
         → ranked (map member_in forest.old.nodes.items) k ≢ Some (to, r) }
     ensures heap { IsHeap forest.new.roots.items forest.new.nodes.items result }
-    ensures top { result ≢ nil → ((node_at forest.new.nodes.items result).owner ≡ to) × ((node_at forest.new.nodes.items result).above ≡ nil) }
+    ensures top { result ≢ nil → ((node_at forest.new.nodes.items result).owner ≡ to)
+        × ((node_at forest.new.nodes.items result).above ≡ nil) }
     ensures members { (k : ℕ) → ranked (map member_in forest.new.nodes.items) k
-        ≡ option_map (λ (m : ℕ × ℕ). (taken from to m.0, m.1)) (ranked (map member_in forest.old.nodes.items) k) }
+        ≡ option_map (λ (m : ℕ × ℕ). (handed from to m.0, m.1)) (ranked (map member_in forest.old.nodes.items) k) }
     ensures len { length forest.new.nodes.items ≡ length forest.old.nodes.items }
     ensures rooms { length forest.new.roots.items ≡ length forest.old.roots.items }
 {
@@ -227,24 +244,6 @@ fn detach(forest: &mut Forest, from: u32, to: u32, members: Members<'_>) -> u32
     tell_owner(&mut forest.nodes, members, to);
     forest.roots[from as usize] = NIL;
     root
-}
-
-/// Joins a tree, if there is one, with its owner's other keys: below their root or over it.
-fn meld(forest: &mut Forest, owner: u32, held: u32)
-    requires heap { IsHeap forest.old.roots.items forest.old.nodes.items held }
-    requires owner { owner < length forest.old.roots.items }
-    requires top { held ≢ nil → ((node_at forest.old.nodes.items held).owner ≡ owner) × ((node_at forest.old.nodes.items held).above ≡ nil) }
-    ensures heap { IsHeap forest.new.roots.items forest.new.nodes.items nil }
-    ensures members { map member_in forest.new.nodes.items ≡ map member_in forest.old.nodes.items }
-    ensures len { length forest.new.nodes.items ≡ length forest.old.nodes.items }
-{
-    let root = forest.roots[owner as usize];
-    if is_before(forest.nodes.as_slice(), root, held) {
-        sink(forest, root, held);
-    } else if held != NIL {
-        forest.roots[owner as usize] = held;
-        sink(forest, held, root);
-    }
 }
 
 impl MemberQueues {
@@ -299,6 +298,13 @@ impl MemberQueues {
         if owner == NIL { None } else { Some(rank) }
     }
 
+    /// What is true at any time; the call does nothing. The owner of each member has a number below that of the keys.
+    pub fn laws(&self)
+        ensures { (k p r : ℕ) → ranked self.now k ≡ Some (p, r) → p < length self.now }
+    {
+        let _ = &self.forest;
+    }
+
     /// The member of an owner that has the least rank. It costs one read, whatever the members are.
     pub fn least(&self, owner: u32) -> Option<u32>
         requires { owner < length self.now }
@@ -335,7 +341,8 @@ impl MemberQueues {
         requires to { to < length self.old }
         requires all { AreRankedMembers self.old from members }
         requires apart { (j k r : ℕ) → ranked self.old j ≡ Some (from, r) → ranked self.old k ≢ Some (to, r) }
-        ensures members { (k : ℕ) → ranked self.new k ≡ option_map (λ (m : ℕ × ℕ). (taken from to m.0, m.1)) (ranked self.old k) }
+        ensures members { (k : ℕ) → ranked self.new k
+            ≡ option_map (λ (m : ℕ × ℕ). (handed from to m.0, m.1)) (ranked self.old k) }
         ensures keys { length self.new ≡ length self.old }
     {
         let held = detach(&mut self.forest, from, to, members);

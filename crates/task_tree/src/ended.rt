@@ -2,6 +2,7 @@
 ghost use Rattle.std.specs.Prelude.{◌≡◌, ◌≢◌, ℕ, ◌<◌, ◌^◌, length, option_map, Some, None, IsSome, MatchOption, OnOk, OnErr, [], ◌∷◌, ◌++◌, slice_set};
 ghost use Rattle.member_queues.specs.Ranks.{ranked, IsLeast};
 ghost use Rattle.task_tree.specs.Ended.{AreEnded};
+ghost use Rattle.task_tree.specs.Tree.{handed};
 
 use member_lists::{MemberLists, Members};
 use member_queues::MemberQueues;
@@ -93,6 +94,29 @@ impl EndedChildren {
     {
         self.queues.insert(key, parent, rank);
         self.lists.add(key, parent);
+    }
+
+    /// What is true at any time; the call does nothing. There is room for the parent of each ended child.
+    pub(crate) fn laws(&self)
+        ensures { (k p r : ℕ) → ranked self.now k ≡ Some (p, r) → p < length self.now }
+    {
+        self.queues.laws();
+    }
+
+    /// All ended children of the one parent become the other's, with their ranks. It costs two reads and two writes
+    /// for each of them, and a logarithm of them, taken over many calls.
+    pub(crate) fn move_all(&mut self, from: TaskKey, to: TaskKey)
+        requires differ { from ≢ to }
+        requires from { from < length self.old }
+        requires to { to < length self.old }
+        requires apart { (j k r : ℕ) → ranked self.old j ≡ Some (from, r) → ranked self.old k ≢ Some (to, r) }
+        ensures ranks { (k : ℕ) → ranked self.new k
+            ≡ option_map (λ (m : ℕ × ℕ). (handed from to m.0, m.1)) (ranked self.old k) }
+        ensures keys { length self.new ≡ length self.old }
+    {
+        let members = self.lists.members(from);
+        self.queues.move_all(from, to, members);
+        self.lists.move_all(from, to);
     }
 
     /// Takes a key from its parent.

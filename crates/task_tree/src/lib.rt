@@ -226,8 +226,8 @@ impl TaskTree {
         enter_ended(&mut self.ended, &self.children, key, rank);
     }
 
-    /// All children of the one task become the other's, and those that have ended keep their ranks. It costs a few
-    /// writes for each child, and a logarithm for each that has ended.
+    /// All children of the one task become the other's, and those that have ended keep their ranks. It costs one write
+    /// for each child and two more for each that has ended, and a logarithm of these, taken over many calls.
     pub fn hand_on(&mut self, from: TaskKey, to: TaskKey)
         requires differ { from ≢ to }
         requires from { from < length self.old.tasks }

@@ -86,18 +86,18 @@ pub(crate) fn leave_parent(children: &mut MemberLists, key: TaskKey)
     }
 }
 
-/// The ended child goes to the ended children of another task, where it has ended.
-fn hand_ended(ended: &mut EndedChildren, child: TaskKey, to: TaskKey)
-    requires key { child < length ended.old }
+/// All ended children of the one become the other's. A task past the room for ranks has none.
+fn hand_ended(ended: &mut EndedChildren, from: TaskKey, to: TaskKey)
+    requires differ { from ≢ to }
     requires to { to < length ended.old }
-    requires apart { (k p r : ℕ) → ranked ended.old child ≡ Some (p, r) → ranked ended.old k ≢ Some (to, r) }
-    ensures here { ranked ended.new child ≡ option_map (λ (m : ℕ × ℕ). (to, m.1)) (ranked ended.old child) }
-    ensures others { (k : ℕ) → k ≢ child → ranked ended.new k ≡ ranked ended.old k }
+    requires apart { (j k r : ℕ) → ranked ended.old j ≡ Some (from, r) → ranked ended.old k ≢ Some (to, r) }
+    ensures ranks { (k : ℕ) → ranked ended.new k
+        ≡ option_map (λ (m : ℕ × ℕ). (handed from to m.0, m.1)) (ranked ended.old k) }
     ensures keys { length ended.new ≡ length ended.old }
 {
-    if let Some(rank) = ended.rank(child) {
-        ended.remove(child);
-        ended.insert(child, to, rank);
+    ended.laws();
+    if (from as usize) < ended.keys() {
+        ended.move_all(from, to);
     }
 }
 
@@ -118,8 +118,6 @@ pub(crate) fn hand_all(
     ensures ranks { (k : ℕ) → ranked ended.new k ≡ option_map (λ (m : ℕ × ℕ). (handed from to m.0, m.1)) (ranked ended.old k) }
     ensures keys { (length children.new ≡ length children.old) × (length ended.new ≡ length ended.old) }
 {
-    while let Some(child) = children.first(from) {
-        children.move_to(child, to);
-        hand_ended(ended, child, to);
-    }
+    children.move_all(from, to);
+    hand_ended(ended, from, to);
 }

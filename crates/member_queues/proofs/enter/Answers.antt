@@ -1,4 +1,4 @@
-use Rattle.std.proofs.Common.{◌≡◌, ◌≢◌, ℕ, ◌<◌, length, Some, None, refl, sym, ◌∙◌, arith, List, set, map, Bool, true, false}
+use Rattle.std.proofs.Common.{◌≡◌, ◌≢◌, ℕ, ◌<◌, length, Some, None, refl, sym, ◌∙◌, arith, List, set, map}
 use Rattle.std.proofs.lemmas.List.{map-set}
 use Rattle.member_queues.specs.declared.Node.{Node}
 use Rattle.member_queues.specs.Ranks.{ranked}
@@ -16,31 +16,20 @@ written ns k p r some =
     let node : Node = record { owner = p; rank = r; above = 4294967295; left = 4294967295; right = 4294967295 } in
     map-set member_in ns k node ∙ rw (trees.some_member node p refl some) refl
 
-not_both : {b : Bool} → b ≡ false → b ≡ true → ⊥
-not_both f t = cc
-
-pub is_before-requires-clause-a : goal.is_before-requires-clause-a
-is_before-requires-clause-a c =
-    entering.root_within c.args.forest.now.roots.items c.args.forest.now.nodes.items c.as_slice-else-is_elder.result.now c.args.key c.args.owner c.args.rank c.index-root.result.now c.requires.heap c.requires.key (free c.args.forest.now.nodes.items c.args.key c.requires.free) c.requires.owner
-    (omega (arith, c.ranges.rank)) c.requires.distinct (trees.root_is _ c.args.owner c.index-root.result.now c.requires.owner c.index-root.ensures) c.as_slice-else-is_elder.ensures.value
-
 pub sink-requires : goal.sink-requires
 sink-requires c =
-    entering.sinks_below c.args.forest.now.roots.items c.args.forest.now.nodes.items c.as_slice.result.now c.args.key c.args.owner c.args.rank c.index-root.result.now c.requires.heap c.requires.key (free c.args.forest.now.nodes.items c.args.key c.requires.free) c.requires.owner
-    (omega (arith, c.ranges.rank)) c.requires.distinct (trees.root_is _ c.args.owner c.index-root.result.now c.requires.owner c.index-root.ensures) c.as_slice.ensures.value
-    c.args.latest (c.is_elder.ensures c.if-is_elder.true)
+    entering.sinks_below c.args.forest.now.roots.items c.args.forest.now.nodes.items c.as_slice.result.now c.args.key c.args.owner c.args.rank c.requires.heap c.requires.key (free c.args.forest.now.nodes.items c.args.key c.requires.free) c.requires.owner
+    (omega (arith, c.ranges.rank)) c.requires.distinct c.as_slice.ensures.value c.args.latest (c.is_elder.ensures c.if-is_elder.true)
 
-pub sink-requires-then-is_before : goal.sink-requires-then-is_before
-sink-requires-then-is_before c =
-    entering.sinks_below_root c.args.forest.now.roots.items c.args.forest.now.nodes.items c.as_slice-else-is_elder.result.now c.args.key c.args.owner c.args.rank c.index-root.result.now c.requires.heap c.requires.key (free c.args.forest.now.nodes.items c.args.key c.requires.free) c.requires.owner
-    (omega (arith, c.ranges.rank)) c.requires.distinct (trees.root_is _ c.args.owner c.index-root.result.now c.requires.owner c.index-root.ensures) c.as_slice-else-is_elder.ensures.value
-    (c.is_before.ensures.0 c.if-is_before.true)
+pub meld-requires-clause-heap : goal.meld-requires-clause-heap
+meld-requires-clause-heap c =
+    entering.entered c.args.forest.now.roots.items c.args.forest.now.nodes.items c.as_slice.result.now c.args.key c.args.owner c.args.rank c.requires.heap c.requires.key (free c.args.forest.now.nodes.items c.args.key c.requires.free) c.requires.owner
+    (omega (arith, c.ranges.rank)) c.requires.distinct c.as_slice.ensures.value
 
-pub sink-requires-else-is_before : goal.sink-requires-else-is_before
-sink-requires-else-is_before c =
-    entering.sinks_as_root c.args.forest.now.roots.items c.args.forest.now.nodes.items c.as_slice-else-is_elder.result.now c.args.key c.args.owner c.args.rank c.index-root.result.now c.requires.heap c.requires.key (free c.args.forest.now.nodes.items c.args.key c.requires.free) c.requires.owner
-    (omega (arith, c.ranges.rank)) c.requires.distinct (trees.root_is _ c.args.owner c.index-root.result.now c.requires.owner c.index-root.ensures) c.as_slice-else-is_elder.ensures.value
-    (λ facts. not_both c.if-is_before.false (c.is_before.ensures.1 facts))
+pub meld-requires-clause-top : goal.meld-requires-clause-top
+meld-requires-clause-top c = λ _.
+    entering.entered_top c.args.forest.now.roots.items c.args.forest.now.nodes.items c.as_slice.result.now c.args.key c.args.owner c.args.rank c.requires.heap c.requires.key (free c.args.forest.now.nodes.items c.args.key c.requires.free) c.requires.owner
+    (omega (arith, c.ranges.rank)) c.requires.distinct c.as_slice.ensures.value
 
 an_owner : (rs : List ℕ) (ns : List Node) (p : ℕ) → IsHeap rs ns nil → p < length rs → p ≢ nil
 an_owner rs ns p w room = omega (arith, room, w.ranked.few, w.ranked.rooms)
@@ -49,10 +38,6 @@ pub returns-then-is_elder-clause-members : goal.returns-then-is_elder-clause-mem
 returns-then-is_elder-clause-members c =
     c.sink.ensures.members ∙ written c.args.forest.now.nodes.items c.args.key c.args.owner c.args.rank (an_owner _ _ c.args.owner c.requires.heap c.requires.owner)
 
-pub returns-then-is_before-clause-members : goal.returns-then-is_before-clause-members
-returns-then-is_before-clause-members c =
-    c.sink-then-is_before.ensures.members ∙ written c.args.forest.now.nodes.items c.args.key c.args.owner c.args.rank (an_owner _ _ c.args.owner c.requires.heap c.requires.owner)
-
-pub returns-else-is_before-clause-members : goal.returns-else-is_before-clause-members
-returns-else-is_before-clause-members c =
-    c.sink-else-is_before.ensures.members ∙ written c.args.forest.now.nodes.items c.args.key c.args.owner c.args.rank (an_owner _ _ c.args.owner c.requires.heap c.requires.owner)
+pub returns-else-is_elder-clause-members : goal.returns-else-is_elder-clause-members
+returns-else-is_elder-clause-members c =
+    c.meld.ensures.members ∙ written c.args.forest.now.nodes.items c.args.key c.args.owner c.args.rank (an_owner _ _ c.args.owner c.requires.heap c.requires.owner)
