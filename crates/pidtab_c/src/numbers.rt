@@ -2,7 +2,8 @@
 //! release.
 ghost use Rattle.std.specs.Prelude.{◌≡◌};
 ghost use Rattle.pidtab_c.specs.Numbers.{switch_of, which_of, kind_of, limit_of, status_of, call_of, control_call_of};
-ghost use Rattle.pidtab_c.specs.Numbers.{later_call_of, blank, with_zeroes, levels_numbers, refusal_numbers, numbers_of};
+ghost use Rattle.pidtab_c.specs.Numbers.{later_call_of, blank, with_zeroes, levels_numbers};
+ghost use Rattle.pidtab_c.specs.Numbers.{refusal_numbers, numbers_of};
 
 use arrayvec::ArrayVec;
 use pid_types::call::{Call, Kind, Which};

@@ -1,4 +1,4 @@
-//! One read of a task for C: all that is told of it, in one struct. It is no call: it uses no stamp, and changes nothing.
+//! One read of a task for C, in one struct. It is no call: it uses no stamp, and changes nothing.
 ghost use Rattle.std.specs.Prelude.{◌≡◌, ◌≢◌, ◌↔◌, ◌⊎◌, None};
 ghost use Rattle.translate.specs.Stat.{stat_at};
 ghost use Rattle.pidtab_c.specs.Records.{Has};
@@ -13,8 +13,8 @@ use pid_types::reply::Refusal;
 use std::alloc::Global;
 use translate::stat::Stat;
 
-/// A task as the caller's namespace sees it; all its numbers are those there, 0 where there is none. Where `refusal` is not
-/// 0 the task was not read, and all but `errno` and `refusal` is 0.
+/// A task as the caller's namespace sees it; all its numbers are those there, 0 where there is none. Where `refusal` is
+/// not 0 the task was not read, and all but `errno` and `refusal` is 0.
 ///
 /// | Field | What it tells |
 /// |---|---|
@@ -115,11 +115,12 @@ fn tell_task(answer: Result<Stat, Refusal>) -> TaskNumbers
     }
 }
 
-/// Reads the task with the number in the caller's namespace, where 0 is the caller: a zombie too, as `getpgid(2)` finds it.
+/// Reads the task with the number in the caller's namespace, where 0 is the caller: a zombie too, as `getpgid(2)` finds
+/// it.
 ///
-/// `CLOSED` where there is no open table. It needs no memory, and is answered when the stamps are used up, too. What the
-/// table refuses is `DONE`: the task says so, by `no-caller` or `no-task`. It costs two searches, and a read for each
-/// level.
+/// `CLOSED` where there is no open table. It needs no memory, and is answered when the stamps are used up, too. What
+/// the table refuses is `DONE`: the task says so, by `no-caller` or `no-task`. It costs two searches, and a read for
+/// each level.
 #[unsafe(no_mangle)]
 pub extern "C" fn pidtab_stat(
     alloc: Global,

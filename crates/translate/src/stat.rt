@@ -1,4 +1,4 @@
-//! One read of a task: what `/proc/PID/status` and `/proc/PID/stat` of `proc(5)` tell of it, as the caller's namespace sees it.
+//! One read of a task as the caller's namespace sees it: what `status` and `stat` of `proc(5)` tell of a process.
 
 ghost use Rattle.std.specs.Prelude.{◌≡◌, ℕ, Some, IsSome, IfOk};
 ghost use Rattle.pid_numbers.specs.Numbering.{id_at};
@@ -69,7 +69,8 @@ fn read_task(store: &Tasks, space: SpaceKey, found: &Found) -> Stat
     }
 }
 
-/// Reads the task with the number in the caller's namespace, where 0 is the caller: a zombie too, as `getpgid(2)` finds it.
+/// Reads the task with the number in the caller's namespace, where 0 is the caller: a zombie too, as `getpgid(2)` finds
+/// it.
 ///
 /// The refusal is `NoCaller` where no live task has the caller's root number, then `NoTask` where no task is there with
 /// the number. It costs two searches in trees of numbers, a few reads, and a read for each level. It takes no memory.
