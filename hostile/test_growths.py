@@ -243,23 +243,16 @@ class Commands(unittest.TestCase):
         for program, count in itertools.product(builds_of("pidtab"), (1, 2)):
             with self.subTest(program=program.name, count=count):
                 outcomes = self.refuse_each(program, count, self.play_list)
-                self.assertGreater(min(outcomes["fault"], outcomes["refused"]), 0)
+                self.assertGreater(outcomes["fault"], 0)
+                self.assertEqual(outcomes["refused"], 0)
 
     def play_list(self, program, growth, count):
         ran = run(program, "list", given="\n".join(self.calls).encode(), settings=self.settings(growth, count))
         if ran.returncode:
             self.assertEqual((ran.returncode, ran.stdout, ran.stderr), (1, b"", NO_MEMORY))
             return "fault"
-        self.assertEqual(ran.stderr, b"")
-        return self.outcome(ran.stdout.decode().splitlines(), count)
-
-    def outcome(self, lines, count):
-        """Whether the list is that of all calls, or of all but some that found no memory."""
-        if lines == self.plain.list(self.calls):
-            return "whole"
-        left_out = [some for k in range(1, count + 1) for some in self.plain.without(self.calls, k)]
-        self.assertTrue(any(lines == self.plain.list(some) for some in left_out), lines)
-        return "refused"
+        self.assertEqual((ran.stderr, ran.stdout.decode().splitlines()), (b"", self.plain.list(self.calls)))
+        return "whole"
 
     def test_work(self):
         for program, count in itertools.product(builds_of("pidtab"), (1, 2)):

@@ -19,7 +19,7 @@ use pid_types::config::Config;
 use pid_types::device::{Discard, FromReader, Source, ToWriter};
 use pid_words::{Command, WordsFault};
 use pid_workers::{
-    Finished, JobFiles, MOST_READS, OpenGate, list_record, run, run_state, run_workers,
+    Finished, JobFiles, MOST_READS, OpenGate, list_record, run, run_for_table, run_workers,
 };
 use std::alloc::Global;
 use std::io;
@@ -191,7 +191,7 @@ fn list_script<R: Threads + AllocGlobal, I: Read + Drop, O: Write>(
     }
 }
 
-/// The list of the table that a script leaves.
+/// The list of the table that a script leaves. It is no list where a call of the script found no memory.
 fn list_of_script<L: Ledger, R: Threads + AllocGlobal, S: Source>(
     rt: &R,
     blank: Blank,
@@ -203,8 +203,11 @@ fn list_of_script<L: Ledger, R: Threads + AllocGlobal, S: Source>(
     ensures ok { IfOk result (λ list. ListsScript config.now (S.remaining source.old) (S.remaining source.new) list.items) }
     ensures fault { IfErr result (FailsToList MOST_READS config.now (S.remaining source.old) (S.remaining source.new) (S.has_failed source.new)) }
 {
-    let (_tally, record) = run_state::<L, _, _>(rt.alloc(), blank, source, &mut Discard, config)?;
-    Ok(list_record(rt, rt.alloc(), &record)?)
+    let left = run_for_table::<L, _, _>(rt.alloc(), blank, source, &mut Discard, config)?;
+    if !left.is_whole {
+        return Err(Fault::NoMemory);
+    }
+    Ok(list_record(rt, rt.alloc(), &left.record)?)
 }
 
 /// Reads the job files, runs a worker for each, and writes what they had. Its text is held whole, so

@@ -5,8 +5,8 @@
 //! [`work`], at a [`Desk`], and a [`Gate`] is told before and after each call and may hold it. No other
 //! library crate starts threads but [`list_text_split`], and all workers wait for one lock.
 //!
-//! [`run`] answers a script on a new table, [`run_limited`] with a bound on reads, and [`run_state`] hands
-//! back the record too. They wait for nobody but the reader and the writer. [`run_state`] keeps the whole
+//! [`run`] answers a script on a new table, [`run_limited`] with a bound on reads, and [`run_state`] and
+//! [`run_for_table`] hand back the record too. They wait for nobody but the reader and the writer. [`run_state`] keeps the whole
 //! history of the run, 184 bytes a call; the others cut each call away at once, so that they take the memory
 //! of the table. [`list_record`] writes a record's list.
 #![tactic(auto)]
@@ -23,6 +23,7 @@ mod result;
 mod script;
 mod short_seat;
 mod threads;
+mod whole_seat;
 
 pub use audits::audit;
 pub use desk::{Desk, Gate, OpenGate, SeatDesk};
@@ -36,5 +37,5 @@ pub use pid_script::line::{Line, parse_line};
 pub use pid_script::list::list_text;
 pub use pid_script::tally::{RunScriptFault, Tally};
 pub use result::Work;
-pub use script::{MOST_READS, run, run_limited, run_state};
+pub use script::{Left, MOST_READS, run, run_for_table, run_limited, run_state};
 pub use threads::{Finished, RunFault, run_workers};

@@ -7,12 +7,14 @@ ghost use Rattle.pid_types.specs.declared.reply.Reply.{Reply};
 ghost use Rattle.pid_workers.specs.Made.{calls_of};
 ghost use Rattle.pid_script.specs.Script.{start_of, HasStopped};
 ghost use Rattle.pid_script.specs.declared.tally.RunScriptFault.TheVariants.{Write};
+ghost use Rattle.pid_script.specs.declared.tally.Tally.{Tally};
 ghost use Rattle.pid_types.specs.Devices.{DidBoth};
 ghost use Rattle.pid_script.specs.Dialogue.{Converses};
 ghost use Rattle.pid_script.specs.Session.{ended_at, Finishes, Leaves};
 
 use crate::one_seat::OneSeat;
 use crate::short_seat::ShortSeat;
+use crate::whole_seat::WholeSeat;
 use locked_table::Record;
 use pid_script::session::run_script;
 use pid_script::tally::{RunScriptFault, Tally};
@@ -138,4 +140,41 @@ pub fn run_state<L: Ledger, S: Source, K: Sink>(
         seat: _seat,
     } = table;
     Ok((tally, record))
+}
+
+/// What a script leaves: the record, which has no history, and whether each of its calls found the memory that it needed.
+#[derive(Drop)]
+pub struct Left<L: Ledger> {
+    pub record: Record<L, 1>,
+    pub is_whole: bool,
+}
+
+/// Runs a script on a new table, as [`run`] does, and hands back what it leaves. No clause says when `is_whole` holds.
+pub fn run_for_table<L: Ledger, S: Source, K: Sink>(
+    alloc: Global,
+    blank: Blank,
+    source: &mut S,
+    sink: &mut K,
+    config: &Config,
+) -> Result<Left<L>, RunScriptFault>
+    requires name { blank.name ≡ L.name }
+    requires parts { (blank.parts ≡ L.parts) × (L.parts ≡ 1) }
+    ensures ok { IfOk result (λ left. (stamp : ℕ) × (tally : Tally) × (text : List ℕ) × (calls : List (Call × Reply))
+        × Finishes (start_of config.now) (ended_at left.record.present stamp tally text calls)
+        (S.remaining source.old) (S.remaining source.new) (K.contents sink.old) (K.contents sink.new)) }
+    ensures err { IfErr result (Leaves MOST_READS (start_of config.now)
+        (S.remaining source.old) (S.remaining source.new) (K.contents sink.old) (K.contents sink.new) (S.has_failed source.new)) }
+{
+    let mut table = match WholeSeat::<L>::new(alloc, blank, config) {
+        Ok(table) => table,
+        Err(_) => return Err(RunScriptFault::NoMemory),
+    };
+    let _tally = run_script(&mut table, source, sink, MOST_READS)?;
+    let WholeSeat { seat, is_whole } = table;
+    let ShortSeat {
+        record,
+        seat: _seat,
+        reply: _reply,
+    } = seat;
+    Ok(Left { record, is_whole })
 }

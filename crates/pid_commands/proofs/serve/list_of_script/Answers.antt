@@ -1,21 +1,19 @@
 use Rattle.std.proofs.Common.{inl, refl}
 use Rattle.std.proofs.lemmas.Result.{err_from_is_err_and}
-use Rattle.kept_table.specs.Chronicle.{next_stamp}
-use Rattle.pid_workers.specs.Made.{calls_of}
 use Rattle.pid_commands.proofs.serve.list_of_script.Goals as goal
 
 -- the state that the script leaves, and the snapshot that the list shows
 pub returns-clause-ok : goal.returns-clause-ok
 returns-clause-ok g c =
-    let ran = c.in_ok-_tally.ensures.ok in
+    let ran = c.in_ok-left.ensures.ok in
     let listed = c.in_ok-list_record.ensures in record {
-      present = c.in_ok-_tally.record.present;
-      stamp = next_stamp c.in_ok-_tally.record;
-      tally = c.in_ok-_tally._tally;
-      text = ran.0;
-      calls = calls_of c.in_ok-_tally.record;
+      present = c.in_ok-left.left.record.present;
+      stamp = ran.0;
+      tally = ran.1;
+      text = ran.2;
+      calls = ran.3;
       plain = listed.0;
-      finished = ran.1;
+      finished = ran.4;
       shown = listed.1;
       listed = listed.2;
     }
