@@ -426,7 +426,7 @@ def one_line(line):
     return load
 
 
-# name: (generator, pid_max, sizes, instructions a call of the peer, where there is a figure)
+# name: (generator, pid_max, sizes, instructions a call of the peer, where there is a figure: at each size, or at some)
 LOADS = {
     "fork_storm": (fork_storm, 4194304, (3000, 30000), 1094),
     "cycle_among_100": (lambda s, n: cycle_among(s, n, 100), 32768, (30000,), 1051),
@@ -445,7 +445,7 @@ LOADS = {
     "exit_parent_of_zombies": (exit_parent_of_zombies, 4194304, (300, 3000, 30000), 18),
     "wait_own": (wait_own, 4194304, (300, 3000, 30000), 493),
     "wait_own_ended": (wait_own_ended, 4194304, (300, 3000, 30000), None),
-    "wait_group_miss": (wait_group_miss, 4194304, (300, 3000, 30000), 330575),
+    "wait_group_miss": (wait_group_miss, 4194304, (300, 3000, 30000), {30000: 330575}),
     "containers": (containers, 4194304, (300, 3000, 30000), 1600),
     "chain": (chain, 4194304, (300, 3000, 30000), 1107),
     "wait_group": (wait_group, 4194304, (300, 30000), None),
@@ -496,7 +496,8 @@ def measure(program, names):
             s = make(name, n)
             calls = EVENTS * n if name in BY_TASK else len(s.lines) - s.split
             cost = (collected(program, pid_max, s.lines) - collected(program, pid_max, s.lines[: s.split])) / calls
-            compared = f"{peer:,} | {cost / peer:.2f}" if peer else "| "
+            theirs = peer.get(n) if isinstance(peer, dict) else peer
+            compared = f"{theirs:,} | {cost / theirs:.2f}" if theirs else "| "
             print(f"| {name} | {n:,} | {calls:,} | {cost:,.0f} | {compared} |", flush=True)
 
 
