@@ -22,7 +22,10 @@ const NUMBERS: u32 = 70;
 fn see_array(array: &IndexArray<u32>) -> Picture {
     let mut seen = Picture::new();
     let mut from = 0u32;
-    while let Some(i) = array.next(from) {
+    for _ in 0..PLACES.len() {
+        let Some(i) = array.next(from) else {
+            return seen;
+        };
         let _ = seen.try_push(u64::from(i));
         let _ = seen.try_push(u64::from(array.get(i).copied().unwrap_or(0)));
         for m in 0..3 {

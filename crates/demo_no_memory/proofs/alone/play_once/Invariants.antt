@@ -9,3 +9,6 @@ ghosts-serve g a = record { name = a.blank.name; parts = a.blank.parts }
 
 abbrev pub ghosts-serve_two : goal.ghosts-serve_two
 ghosts-serve_two g a = record { name = a.blank.name; parts = a.blank.parts }
+
+abbrev pub ghosts-open : goal.ghosts-open
+ghosts-open g a = record { name = a.blank.name; parts = a.blank.parts }
