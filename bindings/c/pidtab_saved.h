@@ -9,7 +9,7 @@
  * Nobody checks that a caller keeps these rules, nor those of pidtab.h, which hold too:
  *
  * - One thread at a time works on a struct pidtab_saved. The others may make calls on the shared record meanwhile.
- * - One process at a time writes the file, by one descriptor, which is at the file's beginning for a load and for pidtab_saved_begin.
+ * - One process at a time writes the file, by one descriptor, whose place nobody else moves. O_APPEND holds that for writes.
  * - What a write has given to the kernel survives the process. To have it survive the machine, call fsync or fdatasync.
  * - A pipe without a reader is SIGPIPE, as for any write. Ignored, it is PIDTAB_DEVICE with EPIPE.
  */
@@ -32,7 +32,7 @@ enum pidtab_saved_status {
 	PIDTAB_OTHER_VERSION = 93 /* EPROTONOSUPPORT: the form is of a version that this library does not know */
 };
 
-/* What a status says, as a sentence: that of any function of pidtab.h too. */
+/* What a status says, as a sentence; also one of pidtab.h. */
 static inline const char *pidtab_saved_text(uint32_t status)
 {
 	switch (status) {
@@ -97,13 +97,15 @@ uint32_t pidtab_saved_line(const struct pidtab_call *call, void *bytes, size_t r
 
 /* A file that a history is saved to. Its fields may be read, and are not written. */
 struct pidtab_saved {
-	uint64_t next;     /* so many calls are in the file, each whole; the next one has this ordinal */
-	uint64_t bytes;    /* so many bytes they have, with the head */
-	uint64_t left_out; /* so many bytes are behind them, of a torn end */
+	struct pidtab_saved_head head; /* the settings in the file */
+	uint64_t next;                 /* so many calls are in the file, each whole; the next one has this ordinal */
+	uint64_t bytes;                /* so many bytes they have, with the head */
+	uint64_t left_out;             /* so many bytes of a torn end a load has found behind them */
 	uint64_t sum;
-	size_t part;       /* so many bytes a write that failed has left behind them */
+	size_t part;                   /* so many bytes a write that failed has left behind them */
+	bool is_torn;                  /* the torn end is in the file yet */
 	int file;
-	int error;         /* the errno of what was PIDTAB_DEVICE, or else 0 */
+	int error;                     /* the errno of what was PIDTAB_DEVICE, or else 0 */
 };
 
 /* Begins a saved history: writes the head into an empty file. The settings are those that the record is opened with; nobody compares
@@ -121,7 +123,7 @@ uint32_t pidtab_saved_begin(struct pidtab_saved *saved, int file, const struct p
 uint32_t pidtab_saved_append(struct pidtab_saved *saved, struct pidtab_record *record);
 uint32_t pidtab_saved_append_shared(struct pidtab_saved *saved, struct pidtab_shared *shared);
 
-/* Opens a record by the head of the file, and makes its calls. The file is read to its end and not changed. Where keep is not 0, the
+/* Opens a record by the head of the file, and makes its calls. The file is read from its beginning to its end, and not changed. Where keep is not 0, the
  * new record's history is cut whenever it has so many entries; each cut is a copy of the table. A shared record cuts none later.
  *
  * On DONE the record is open: `next` calls were made, and each had the saved reply. A torn end, which is that of a writer that was
@@ -139,6 +141,12 @@ uint32_t pidtab_saved_load_shared(struct pidtab_saved *saved, int file, struct p
 /* Cuts the torn end off the file, behind a load, or what was written of a head. Then an append goes on, or a begin. DONE, also where
  * there is none; DEVICE. */
 uint32_t pidtab_saved_trim(struct pidtab_saved *saved);
+
+/* Loads the file, and trims it: an append goes on. A file that is empty, or ends within its head, is begun, and the record is opened
+ * with the settings `fresh`; those of another file are its own, and `head` has them. The descriptor reads and writes. Statuses are
+ * those of a load but for TORN; where none is DONE, nothing is to be closed. */
+uint32_t pidtab_saved_resume(struct pidtab_saved *saved, int file, const struct pidtab_saved_head *fresh, struct pidtab_record *record, uint64_t keep);
+uint32_t pidtab_saved_resume_shared(struct pidtab_saved *saved, int file, const struct pidtab_saved_head *fresh, struct pidtab_shared *shared, uint64_t keep);
 
 #ifdef __cplusplus
 }

@@ -55,7 +55,7 @@ static uint32_t go_to_beginning(struct pidtab_saved *saved)
 uint32_t pidtab_saved_begin(struct pidtab_saved *saved, int file, const struct pidtab_saved_head *head)
 {
 	unsigned char block[PIDTAB_SAVED_BLOCK];
-	struct pidtab_saved begun = { .file = file };
+	struct pidtab_saved begun = { .head = *head, .file = file };
 	size_t size;
 	uint32_t status = pidtab_saved_put_head(head, block, sizeof block, &size, &begun.sum);
 
@@ -67,34 +67,49 @@ uint32_t pidtab_saved_begin(struct pidtab_saved *saved, int file, const struct p
 	return status;
 }
 
-/* What is saved: a record, or one behind its lock. */
-struct source {
+/* A record, or one behind its lock. */
+struct either {
 	struct pidtab_record *record;
 	struct pidtab_shared *shared;
 };
 
-static uint32_t count_calls(const struct source *source, uint64_t *first_kept, uint64_t *recorded)
+static uint32_t open_by(const struct either *either, const struct pidtab_saved_head *head)
 {
-	if (source->shared)
-		return pidtab_shared_counts(source->shared, first_kept, recorded);
-	return pidtab_record_counts(source->record, first_kept, recorded);
+	if (either->shared)
+		return pidtab_shared_open(either->shared, head->pid_max, head->first_stamp, head->workers, 0);
+	return pidtab_record_open(either->record, head->pid_max, head->first_stamp, head->workers);
 }
 
-static uint32_t read_entries(const struct source *source, uint64_t from, struct pidtab_entry *entries, size_t *count)
+static void close_it(const struct either *either)
 {
-	if (source->shared)
-		return pidtab_shared_read(source->shared, from, entries, AT_ONCE, count);
-	return pidtab_record_read(source->record, from, entries, AT_ONCE, count);
+	if (either->shared)
+		pidtab_shared_close(either->shared);
+	else
+		pidtab_record_close(either->record);
+}
+
+static uint32_t count_calls(const struct either *either, uint64_t *first_kept, uint64_t *recorded)
+{
+	if (either->shared)
+		return pidtab_shared_counts(either->shared, first_kept, recorded);
+	return pidtab_record_counts(either->record, first_kept, recorded);
+}
+
+static uint32_t read_entries(const struct either *either, uint64_t from, struct pidtab_entry *entries, size_t *count)
+{
+	if (either->shared)
+		return pidtab_shared_read(either->shared, from, entries, AT_ONCE, count);
+	return pidtab_record_read(either->record, from, entries, AT_ONCE, count);
 }
 
 /* Saves the next entries. Behind a write that failed they are the same ones, and perhaps more, so the same bytes come first. */
-static uint32_t append_some(struct pidtab_saved *saved, const struct source *source)
+static uint32_t append_some(struct pidtab_saved *saved, const struct either *either)
 {
 	struct pidtab_entry entries[AT_ONCE];
 	unsigned char bytes[AT_ONCE * PIDTAB_SAVED_LONGEST];
 	uint64_t sum = saved->sum;
 	size_t count = 0, size = 0, used = 0;
-	uint32_t status = read_entries(source, saved->next, entries, &count);
+	uint32_t status = read_entries(either, saved->next, entries, &count);
 
 	for (size_t i = 0; i < count && status == PIDTAB_DONE; i++, used += size)
 		status = pidtab_saved_put(&entries[i], bytes + used, sizeof bytes - used, &size, &sum);
@@ -107,29 +122,37 @@ static uint32_t append_some(struct pidtab_saved *saved, const struct source *sou
 	return PIDTAB_DONE;
 }
 
-static uint32_t append_from(struct pidtab_saved *saved, const struct source *source)
+/* A file without a head, or with a torn end, is not gone on with. */
+static uint32_t find_end(struct pidtab_saved *saved)
+{
+	saved->error = 0;
+	if (saved->file == NO_FILE)
+		return failed(saved, EBADF);
+	return saved->bytes == 0 || saved->is_torn ? PIDTAB_TORN : PIDTAB_DONE;
+}
+
+static uint32_t append_from(struct pidtab_saved *saved, const struct either *either)
 {
 	uint64_t first_kept, recorded;
-	uint32_t status = count_calls(source, &first_kept, &recorded);
+	uint32_t status = find_end(saved);
 
-	saved->error = 0;
-	if (status == PIDTAB_DONE && (saved->bytes == 0 || saved->left_out != 0))
-		status = PIDTAB_TORN;
+	if (status == PIDTAB_DONE)
+		status = count_calls(either, &first_kept, &recorded);
 	if (status == PIDTAB_DONE && (saved->next < first_kept || recorded < saved->next))
 		status = PIDTAB_NOT_KEPT;
 	while (status == PIDTAB_DONE && saved->next < recorded)
-		status = append_some(saved, source);
+		status = append_some(saved, either);
 	return status;
 }
 
 uint32_t pidtab_saved_append(struct pidtab_saved *saved, struct pidtab_record *record)
 {
-	return append_from(saved, &(struct source){ .record = record });
+	return append_from(saved, &(struct either){ .record = record });
 }
 
 uint32_t pidtab_saved_append_shared(struct pidtab_saved *saved, struct pidtab_shared *shared)
 {
-	return append_from(saved, &(struct source){ .shared = shared });
+	return append_from(saved, &(struct either){ .shared = shared });
 }
 
 /* What was read of the file, and is not taken yet. */
@@ -156,18 +179,27 @@ static uint32_t fill(struct pidtab_saved *saved, struct input *input)
 	return PIDTAB_DONE;
 }
 
-static uint32_t load_head(struct pidtab_saved *saved, struct input *input, struct pidtab_saved_head *head)
+/* What is behind the last whole entry is left out. */
+static uint32_t leave_out(struct pidtab_saved *saved, uint64_t count, uint32_t status)
+{
+	saved->left_out = count;
+	saved->is_torn = count != 0;
+	return status;
+}
+
+/* From the file's beginning; a pipe has none. */
+static uint32_t load_head(struct pidtab_saved *saved, struct input *input)
 {
 	size_t size;
-	uint32_t status = fill(saved, input);
+	uint32_t status;
 
+	lseek(saved->file, 0, SEEK_SET);
+	status = fill(saved, input);
 	if (status == PIDTAB_DONE)
-		status = pidtab_saved_take_head(input->bytes, input->to, head, &size, &saved->sum);
+		status = pidtab_saved_take_head(input->bytes, input->to, &saved->head, &size, &saved->sum);
 	if (status == PIDTAB_DONE)
 		input->from = size;
-	if (status == PIDTAB_TORN)
-		saved->left_out = input->to;
-	return status;
+	return status == PIDTAB_TORN ? leave_out(saved, input->to, status) : status;
 }
 
 /* Entries in hand, with their sizes. */
@@ -245,12 +277,11 @@ static uint32_t judge_wrong(struct pidtab_saved *saved, struct input *input, siz
 		return status;
 	if (!all)
 		return PIDTAB_WRONG_BYTE;
-	saved->left_out = before + count;
-	return PIDTAB_DONE;
+	return leave_out(saved, before + count, PIDTAB_DONE);
 }
 
 /* Replays the entries behind the head to the end of the file. */
-static uint32_t replay_all(struct pidtab_saved *saved, struct input *input, struct pidtab_record *record, uint64_t keep)
+static uint32_t replay_on(struct pidtab_saved *saved, struct input *input, struct pidtab_record *record, uint64_t keep)
 {
 	struct batch batch;
 	uint32_t status, taken = PIDTAB_DONE;
@@ -268,55 +299,59 @@ static uint32_t replay_all(struct pidtab_saved *saved, struct input *input, stru
 	}
 	if (taken == PIDTAB_WRONG_BYTE)
 		return judge_wrong(saved, input, batch.place);
-	saved->left_out = input->to - input->from;
-	return PIDTAB_DONE;
+	return leave_out(saved, input->to - input->from, PIDTAB_DONE);
+}
+
+/* No other thread has the shared record yet, so its lock may be held for all of it. */
+static uint32_t replay_all(struct pidtab_saved *saved, struct input *input, const struct either *either, uint64_t keep)
+{
+	uint32_t status;
+
+	if (!either->shared)
+		return replay_on(saved, input, either->record, keep);
+	status = replay_on(saved, input, pidtab_shared_lock(either->shared), keep);
+	pidtab_shared_unlock(either->shared);
+	return status;
+}
+
+/* Closes the record where it is of no use. */
+static uint32_t close_unless_done(struct pidtab_saved *saved, const struct either *either, uint32_t status)
+{
+	if (status == PIDTAB_DONE)
+		return status;
+	saved->file = NO_FILE;
+	close_it(either);
+	return status;
+}
+
+static uint32_t load_into(struct pidtab_saved *saved, int file, const struct either *either, uint64_t keep)
+{
+	struct input input = { .has_ended = false };
+	uint32_t status;
+
+	*saved = (struct pidtab_saved){ .file = file };
+	status = load_head(saved, &input);
+	if (status == PIDTAB_DONE)
+		status = open_by(either, &saved->head);
+	if (status != PIDTAB_DONE)
+		return status;
+	return close_unless_done(saved, either, replay_all(saved, &input, either, keep));
 }
 
 uint32_t pidtab_saved_load(struct pidtab_saved *saved, int file, struct pidtab_record *record, uint64_t keep)
 {
-	struct input input = { .has_ended = false };
-	struct pidtab_saved_head head;
-	uint32_t status;
-
-	*saved = (struct pidtab_saved){ .file = file };
-	status = load_head(saved, &input, &head);
-	if (status == PIDTAB_DONE)
-		status = pidtab_record_open(record, head.pid_max, head.first_stamp, head.workers);
-	if (status != PIDTAB_DONE)
-		return status;
-	status = replay_all(saved, &input, record, keep);
-	if (status == PIDTAB_DONE)
-		return status;
-	saved->file = NO_FILE;
-	pidtab_record_close(record);
-	return status;
+	return load_into(saved, file, &(struct either){ .record = record }, keep);
 }
 
 uint32_t pidtab_saved_load_shared(struct pidtab_saved *saved, int file, struct pidtab_shared *shared, uint64_t keep)
 {
-	struct input input = { .has_ended = false };
-	struct pidtab_saved_head head;
-	uint32_t status;
-
-	*saved = (struct pidtab_saved){ .file = file };
-	status = load_head(saved, &input, &head);
-	if (status == PIDTAB_DONE)
-		status = pidtab_shared_open(shared, head.pid_max, head.first_stamp, head.workers, 0);
-	if (status != PIDTAB_DONE)
-		return status;
-	status = replay_all(saved, &input, pidtab_shared_lock(shared), keep);
-	pidtab_shared_unlock(shared);
-	if (status == PIDTAB_DONE)
-		return status;
-	saved->file = NO_FILE;
-	pidtab_shared_close(shared);
-	return status;
+	return load_into(saved, file, &(struct either){ .shared = shared }, keep);
 }
 
 uint32_t pidtab_saved_trim(struct pidtab_saved *saved)
 {
-	off_t behind = (off_t)(saved->left_out + saved->part), end = 0;
-	int done = 0;
+	off_t behind = (off_t)(saved->part + (saved->is_torn ? saved->left_out : 0)), end;
+	int done;
 
 	saved->error = 0;
 	if (behind == 0)
@@ -329,7 +364,43 @@ uint32_t pidtab_saved_trim(struct pidtab_saved *saved)
 	while (done != 0 && errno == EINTR);
 	if (done != 0)
 		return failed(saved, errno);
-	saved->left_out = 0;
+	saved->is_torn = false;
 	saved->part = 0;
 	return PIDTAB_DONE;
+}
+
+/* Begins the file, which has nothing but the torn front of a head. */
+static uint32_t begin_anew(struct pidtab_saved *saved, const struct pidtab_saved_head *fresh)
+{
+	uint64_t left_out = saved->left_out;
+	uint32_t status = pidtab_saved_trim(saved);
+
+	if (status == PIDTAB_DONE)
+		status = pidtab_saved_begin(saved, saved->file, fresh);
+	saved->left_out = left_out;
+	return status;
+}
+
+static uint32_t resume(struct pidtab_saved *saved, int file, const struct pidtab_saved_head *fresh, const struct either *either, uint64_t keep)
+{
+	uint32_t status = load_into(saved, file, either, keep);
+
+	if (status == PIDTAB_DONE)
+		return close_unless_done(saved, either, pidtab_saved_trim(saved));
+	if (status == PIDTAB_TORN) {
+		status = open_by(either, fresh);
+		if (status == PIDTAB_DONE)
+			return close_unless_done(saved, either, begin_anew(saved, fresh));
+	}
+	return status;
+}
+
+uint32_t pidtab_saved_resume(struct pidtab_saved *saved, int file, const struct pidtab_saved_head *fresh, struct pidtab_record *record, uint64_t keep)
+{
+	return resume(saved, file, fresh, &(struct either){ .record = record }, keep);
+}
+
+uint32_t pidtab_saved_resume_shared(struct pidtab_saved *saved, int file, const struct pidtab_saved_head *fresh, struct pidtab_shared *shared, uint64_t keep)
+{
+	return resume(saved, file, fresh, &(struct either){ .shared = shared }, keep);
 }

@@ -223,14 +223,14 @@ static void saved_and_loaded(void)
 	CHECK(pidtab_saved_begin(&saved, file, &head) == PIDTAB_DONE && saved.next == 0 && saved.bytes == 48 && has(file, bytes, 48));
 	CHECK(pidtab_saved_append(&saved, &whole) == PIDTAB_DONE && saved.next == calls && saved.bytes == places[calls] && saved.error == 0);
 	CHECK(has(file, bytes, places[calls]) && pidtab_saved_append(&saved, &whole) == PIDTAB_DONE && has(file, bytes, places[calls]));
-	CHECK(lseek(file, 0, SEEK_SET) == 0 && pidtab_saved_load(&saved, file, &again, 0) == PIDTAB_DONE);
+	CHECK(pidtab_saved_load(&saved, file, &again, 0) == PIDTAB_DONE);
 	CHECK(saved.next == calls && saved.bytes == places[calls] && saved.left_out == 0);
 	has_entries(&again, calls);
 	same_lists(&whole, &again);
 	/* Both go on. */
 	makes(&again, 0, (struct pidtab_call){ .operation = PIDTAB_FORK, .caller = 1 });
 	CHECK(pidtab_saved_trim(&saved) == PIDTAB_DONE && pidtab_saved_append(&saved, &again) == PIDTAB_DONE && saved.next == calls + 1);
-	CHECK(lseek(file, 0, SEEK_SET) == 0 && load_status(file, &saved) == PIDTAB_DONE && saved.next == calls + 1);
+	CHECK(load_status(file, &saved) == PIDTAB_DONE && saved.next == calls + 1);
 	CHECK(pidtab_record_close(&again) == PIDTAB_DONE && close(file) == 0);
 }
 
@@ -244,9 +244,10 @@ static void cut_at(size_t size)
 
 	CHECK(pidtab_saved_load(&saved, file, &again, 0) == PIDTAB_DONE && saved.next == count && saved.bytes == places[count]);
 	CHECK(saved.left_out == size - places[count] && has(file, bytes, size));
+	CHECK(saved.head.pid_max == head.pid_max && saved.head.workers == head.workers && saved.head.first_stamp == head.first_stamp);
 	has_entries(&again, count);
 	CHECK(pidtab_saved_append(&saved, &whole) == (saved.left_out ? (uint32_t)PIDTAB_TORN : PIDTAB_DONE));
-	CHECK(pidtab_saved_trim(&saved) == PIDTAB_DONE && saved.left_out == 0);
+	CHECK(pidtab_saved_trim(&saved) == PIDTAB_DONE && saved.left_out == size - places[count]);
 	CHECK(pidtab_saved_append(&saved, &whole) == PIDTAB_DONE && has(file, bytes, places[calls]));
 	CHECK(pidtab_record_close(&again) == PIDTAB_DONE && close(file) == 0);
 }
@@ -266,12 +267,77 @@ static void cut_in_the_head_at(size_t size)
 	CHECK(has(file, bytes, places[calls]) && close(file) == 0);
 }
 
+/* The same in one go: the calls that are lost are made again, and the file is the whole. */
+static void resumed_at(size_t size)
+{
+	struct pidtab_record again = PIDTAB_RECORD_INIT;
+	struct pidtab_saved saved;
+	size_t count = whole_in(size);
+	int file = file_of(bytes, size);
+
+	CHECK(pidtab_saved_resume(&saved, file, &head, &again, 0) == PIDTAB_DONE && saved.next == count);
+	CHECK(saved.left_out == size - (size < 48 ? 0 : places[count]) && has(file, bytes, places[count]) && saved.head.workers == head.workers);
+	for (size_t i = count; i < calls; i++)
+		makes(&again, (uint32_t)entries[i].worker, entries[i].call);
+	CHECK(pidtab_saved_append(&saved, &again) == PIDTAB_DONE && has(file, bytes, places[calls]));
+	CHECK(pidtab_record_close(&again) == PIDTAB_DONE && close(file) == 0);
+}
+
 static void cut_at_every_byte(void)
 {
-	for (size_t size = 0; size < 48; size++)
-		cut_in_the_head_at(size);
-	for (size_t size = 48; size <= places[calls]; size++)
-		cut_at(size);
+	for (size_t size = 0; size <= places[calls]; size++) {
+		if (size < 48)
+			cut_in_the_head_at(size);
+		else
+			cut_at(size);
+		resumed_at(size);
+	}
+}
+
+static uint32_t resume_status(int file, const struct pidtab_saved_head *fresh)
+{
+	struct pidtab_record again = PIDTAB_RECORD_INIT;
+	struct pidtab_saved saved;
+	uint32_t status = pidtab_saved_resume(&saved, file, fresh, &again, 0);
+
+	CHECK(status != PIDTAB_DONE && is_closed(&again) && pidtab_saved_append(&saved, &again) != PIDTAB_DONE);
+	return status;
+}
+
+/* What no file is resumed of: it stays as it is, but for a torn front of a head. */
+static void not_resumed(void)
+{
+	const struct pidtab_saved_head no_workers = { .pid_max = 32768, .first_stamp = 1 };
+	int torn = file_of(bytes, 7), other = file_of("fork 1\n", 7);
+	int pipes[2];
+
+	CHECK(resume_status(torn, &no_workers) == PIDTAB_OUT_OF_RANGE && has(torn, bytes, 7));
+	CHECK(resume_status(other, &head) == PIDTAB_NOT_SAVED && has(other, "fork 1\n", 7));
+	CHECK(resume_status(-1, &head) == PIDTAB_DEVICE);
+	device.left = 20;
+	device.fault = ENOSPC;
+	CHECK(resume_status(torn, &head) == PIDTAB_DEVICE && has(torn, bytes, 13));
+	mend();
+	CHECK(pipe(pipes) == 0 && write(pipes[1], bytes, 49) == 49 && close(pipes[1]) == 0);
+	CHECK(resume_status(pipes[0], &head) == PIDTAB_DEVICE && close(pipes[0]) == 0 && close(torn) == 0 && close(other) == 0);
+}
+
+/* The settings of the file are those that count, and an open record stays as it is. */
+static void resumed_with_other_settings(void)
+{
+	const struct pidtab_saved_head others = { .pid_max = 301, .workers = 1, .first_stamp = 9 };
+	static struct pidtab_shared shared;
+	struct pidtab_saved saved;
+	int file = file_of(bytes, places[calls] - 1), empty = new_file();
+
+	CHECK(pidtab_saved_resume_shared(&saved, file, &others, &shared, 0) == PIDTAB_DONE && saved.next == calls - 1 && saved.left_out == 47);
+	CHECK(saved.head.pid_max == 32768 && saved.head.workers == 3 && saved.head.first_stamp == 1 && has(file, bytes, places[calls - 1]));
+	pidtab_shared_close(&shared);
+	CHECK(pidtab_saved_resume_shared(&saved, empty, &others, &shared, 0) == PIDTAB_DONE && saved.head.pid_max == 301 && saved.bytes == 48);
+	CHECK(pidtab_saved_append_shared(&saved, &shared) == PIDTAB_DONE);
+	pidtab_shared_close(&shared);
+	CHECK(ftruncate(empty, 0) == 0 && pidtab_saved_resume(&saved, empty, &others, &whole, 0) == PIDTAB_BUSY && has(empty, "", 0));
+	CHECK(close(file) == 0 && close(empty) == 0);
 }
 
 static void change_is_found(size_t at, unsigned change)
@@ -388,7 +454,7 @@ static void short_and_interrupted(void)
 		device.most = most;
 		device.interrupts = true;
 		CHECK(pidtab_saved_begin(&saved, file, &head) == PIDTAB_DONE && pidtab_saved_append(&saved, &whole) == PIDTAB_DONE);
-		CHECK(has(file, bytes, places[calls]) && lseek(file, 0, SEEK_SET) == 0);
+		CHECK(has(file, bytes, places[calls]));
 		CHECK(load_status(file, &saved) == PIDTAB_DONE && saved.next == calls);
 		mend();
 		CHECK(close(file) == 0);
@@ -432,7 +498,7 @@ static void given_up(void)
 	device.fault = EIO;
 	CHECK(pidtab_saved_append(&saved, &whole) == PIDTAB_DEVICE && saved.next == 16 && saved.part == places[20] + 5 - places[16]);
 	mend();
-	CHECK(lseek(file, 0, SEEK_SET) == 0 && load_status(file, &read) == PIDTAB_DONE && read.next == 20 && read.left_out == 5);
+	CHECK(load_status(file, &read) == PIDTAB_DONE && read.next == 20 && read.left_out == 5);
 	CHECK(pidtab_saved_trim(&saved) == PIDTAB_DONE && has(file, bytes, places[16]));
 	CHECK(pidtab_saved_append(&saved, &whole) == PIDTAB_DONE && has(file, bytes, places[calls]) && close(file) == 0);
 }
@@ -450,7 +516,6 @@ static void reads_that_fail(void)
 	int file = file_of(bytes, places[calls]);
 
 	for (size_t size = 0; size < places[calls]; size++) {
-		CHECK(lseek(file, 0, SEEK_SET) == 0);
 		device.left = size;
 		device.fault = EIO;
 		CHECK(load_status(file, &saved) == PIDTAB_DEVICE && saved.error == EIO && saved.next <= whole_in(size));
@@ -555,7 +620,7 @@ static void histories_that_are_cut(void)
 	CHECK(pidtab_saved_append(&saved, &record) == PIDTAB_DONE && saved.next == calls + 1);
 	CHECK(pidtab_saved_begin(&late, other, &head) == PIDTAB_DONE && pidtab_saved_append(&late, &record) == PIDTAB_NOT_KEPT && has(other, bytes, 48));
 	CHECK(pidtab_saved_append(&saved, &whole) == PIDTAB_NOT_KEPT && saved.next == calls + 1);
-	CHECK(lseek(file, 0, SEEK_SET) == 0 && load_status(file, &saved) == PIDTAB_DONE && saved.next == calls + 1);
+	CHECK(load_status(file, &saved) == PIDTAB_DONE && saved.next == calls + 1);
 	CHECK(pidtab_record_close(&record) == PIDTAB_DONE && pidtab_saved_append(&late, &record) == PIDTAB_CLOSED);
 	CHECK(close(file) == 0 && close(other) == 0);
 }
@@ -574,7 +639,7 @@ static void loaded_with_cuts(void)
 	makes(&again, 0, (struct pidtab_call){ .operation = PIDTAB_GETPID, .caller = 1 });
 	CHECK(pidtab_saved_append(&saved, &again) == PIDTAB_DONE && saved.next == calls + 1);
 	/* A record that is open already stays as it is. */
-	CHECK(lseek(file, 0, SEEK_SET) == 0 && pidtab_saved_load(&saved, file, &again, 0) == PIDTAB_BUSY && saved.bytes == 0);
+	CHECK(pidtab_saved_load(&saved, file, &again, 0) == PIDTAB_BUSY && saved.bytes == 0);
 	CHECK(pidtab_record_counts(&again, &first_kept, &recorded) == PIDTAB_DONE && recorded == calls + 1);
 	CHECK(pidtab_record_close(&again) == PIDTAB_DONE && close(file) == 0);
 }
@@ -589,7 +654,6 @@ static void want_of_memory(void)
 	uint32_t status;
 
 	do {
-		CHECK(lseek(file, 0, SEEK_SET) == 0);
 		refuse_at = ++at;
 		status = pidtab_saved_load(&saved, file, &again, 0);
 		refuse_at = 0;
@@ -680,7 +744,7 @@ static void saved_while_threads_make_calls(void)
 	CHECK(pidtab_saved_begin(&saved, file, &sixteen) == PIDTAB_DONE);
 	all_at_once(&saved);
 	CHECK(saved.next == WORKERS * (1 + 3 * EACH) && saved.bytes == 48 * (1 + saved.next));
-	CHECK(lseek(file, 0, SEEK_SET) == 0 && pidtab_saved_load_shared(&saved, file, &again, 4096) == PIDTAB_DONE);
+	CHECK(pidtab_saved_load_shared(&saved, file, &again, 4096) == PIDTAB_DONE);
 	CHECK(saved.next == WORKERS * (1 + 3 * EACH) && saved.left_out == 0);
 	same_lists(pidtab_shared_lock(&shared), pidtab_shared_lock(&again));
 	pidtab_shared_unlock(&shared);
@@ -715,6 +779,8 @@ int main(void)
 	reckon_bytes();
 	saved_and_loaded();
 	cut_at_every_byte();
+	not_resumed();
+	resumed_with_other_settings();
 	every_byte_changed();
 	swapped_doubled_and_dropped();
 	zeroes_at_the_end();
