@@ -103,6 +103,8 @@ INSTALL ?= install
 PROGRAMS = pidtab-tree pidtab-check pidtab-play
 # The functions of the library, each of which has a manual page by its name.
 FUNCTIONS = $(shell sed -n 's/^\.Nm \(pidtab_[a-z]*\).*/\1/p' man/pidtab.3)
+SAVED_FUNCTIONS = $(shell sed -n 's/^\.Nm \(pidtab_saved_[a-z_]*\).*/\1/p' man/pidtab_saved.3)
+HEADERS = pidtab.h pidtab_shared.h pidtab_saved.h
 MANUALS = $(foreach page,$(wildcard man/*.$(1)),'$(DESTDIR)$(MANDIR)/man$(1)/$(notdir $(page))')
 BINARIES = $(DESTDIR)$(PREFIX)/bin
 SHARED_FILES = $(DESTDIR)$(PREFIX)/share/pidtab
@@ -134,16 +136,17 @@ install-library: ## installs the library alone, with its header and its manual p
 	$(INSTALL) -d '$(DESTDIR)$(LIBDIR)/pkgconfig' '$(DESTDIR)$(INCLUDEDIR)' '$(DESTDIR)$(MANDIR)/man3'
 	$(INSTALL) -m 644 out/libpidtab.a out/libpidtab.so.1 '$(DESTDIR)$(LIBDIR)'
 	ln -sf libpidtab.so.1 '$(DESTDIR)$(LIBDIR)/libpidtab.so'
-	$(INSTALL) -m 644 out/pidtab.h out/pidtab_shared.h '$(DESTDIR)$(INCLUDEDIR)'
+	$(INSTALL) -m 644 $(HEADERS:%=out/%) '$(DESTDIR)$(INCLUDEDIR)'
 	$(describe) > '$(DESTDIR)$(LIBDIR)/pkgconfig/pidtab.pc'
 	$(INSTALL) -m 644 man/*.3 '$(DESTDIR)$(MANDIR)/man3'
 	for it in $(FUNCTIONS); do echo '.so man3/pidtab.3' > '$(DESTDIR)$(MANDIR)/man3/'$$it.3 || exit 1; done
+	for it in $(SAVED_FUNCTIONS); do echo '.so man3/pidtab_saved.3' > '$(DESTDIR)$(MANDIR)/man3/'$$it.3 || exit 1; done
 
 uninstall: ## removes what both have installed, with the same variables
 	rm -f '$(BINARIES)/pidtab' $(PROGRAMS:%='$(BINARIES)/%')
 	rm -f '$(DESTDIR)$(LIBDIR)/libpidtab.a' '$(DESTDIR)$(LIBDIR)/libpidtab.so' '$(DESTDIR)$(LIBDIR)/libpidtab.so.1'
-	rm -f '$(DESTDIR)$(LIBDIR)/pkgconfig/pidtab.pc' '$(DESTDIR)$(INCLUDEDIR)/pidtab.h' '$(DESTDIR)$(INCLUDEDIR)/pidtab_shared.h'
-	rm -f $(call MANUALS,1) $(call MANUALS,3) $(call MANUALS,5) $(FUNCTIONS:%='$(DESTDIR)$(MANDIR)/man3/%.3')
+	rm -f '$(DESTDIR)$(LIBDIR)/pkgconfig/pidtab.pc' $(HEADERS:%='$(DESTDIR)$(INCLUDEDIR)/%')
+	rm -f $(call MANUALS,1) $(call MANUALS,3) $(call MANUALS,5) $(foreach it,$(FUNCTIONS) $(SAVED_FUNCTIONS),'$(DESTDIR)$(MANDIR)/man3/$(it).3')
 	rm -rf '$(DESTDIR)$(PYTHONDIR)/pidtab' '$(SHARED_FILES)'
 
 .PHONY: dist dist-test
@@ -171,7 +174,7 @@ lib: ## * proves and builds the library for C, with its header, in out/ (some 40
 	@tools/prove pidtab_c out/lib.log rt lib || { echo 'make lib failed: see out/lib.log' >&2; exit 1; }
 	@$(MAKE) -s out/libpidtab.a out/libpidtab.so.1 > out/link.log 2>&1 || { echo 'make lib failed: see out/link.log' >&2; exit 1; }
 	@ln -sf libpidtab.so.1 out/libpidtab.so
-	@cp bindings/c/pidtab.h bindings/c/pidtab_shared.h out
+	@cp $(HEADERS:%=bindings/c/%) out
 	@$(describe) > out/pidtab.pc
 	@tools/report out/library.txt out/libpidtab.a out/libpidtab.so.1
 
@@ -180,8 +183,8 @@ out/proved.a: $(LIBRARY) bindings/c/renamed.syms
 	$(OBJCOPY) --redefine-syms=bindings/c/renamed.syms $(LIBRARY) $@
 
 # One object, of whose symbols only pidtab_.. are seen.
-AROUND = heap guard guard_record shared
-out/pidtab.o: out/proved.a $(AROUND:%=bindings/c/%.c) bindings/c/pidtab.h bindings/c/pidtab_shared.h
+AROUND = heap guard guard_record shared saved saved_file saved_line
+out/pidtab.o: out/proved.a $(AROUND:%=bindings/c/%.c) $(HEADERS:%=bindings/c/%)
 	for it in $(AROUND); do $(CC) -std=c11 -O2 -Wall -Wextra -Werror -fPIC -pthread -c -o out/$$it.o bindings/c/$$it.c || exit 1; done
 	$(LD) -r -o $@ --whole-archive out/proved.a --no-whole-archive $(AROUND:%=out/%.o)
 	$(OBJCOPY) -w --keep-global-symbol='pidtab_*' $@
@@ -218,6 +221,9 @@ bindings-python:
 HELD = -Dmalloc=test_malloc -Drealloc=test_realloc
 RECORD_TEST = test_record guard guard_record
 SHARED_TEST = test_shared shared guard guard_record heap
+SAVED_TEST = test_saved saved saved_line guard_record heap
+SAVED_FILE_TEST = test_saved_file saved saved_line shared guard_record
+DEVICES = -Dread=test_read -Dwrite=test_write
 bindings-c:
 	$(call tested,$(firstword $(CC)),$(LIBRARY),\
 		bindings/c/test_names && $(MAKE) -s out/proved.a && \
@@ -228,7 +234,12 @@ bindings-c:
 		$(CC) $(THREADED) $(HELD) -Dfree=test_free -c -o out/held_heap.o bindings/c/heap.c && \
 		$(CC) $(THREADED) -o out/test_threads bindings/c/test_threads.c bindings/c/guard.c out/held_heap.o out/proved.a && out/test_threads && \
 		for sanitizer in '$(CHECKED)' '$(THREADED)'; do \
-			$(CC) $$sanitizer -o out/test_shared $(SHARED_TEST:%=bindings/c/%.c) out/proved.a && out/test_shared || exit 1; done)
+			$(CC) $$sanitizer -o out/test_shared $(SHARED_TEST:%=bindings/c/%.c) out/proved.a && out/test_shared && \
+			$(CC) $$sanitizer -o out/test_saved $(SAVED_TEST:%=bindings/c/%.c) out/proved.a && out/test_saved && \
+			$(CC) $$sanitizer $(HELD) -c -o out/saved_heap.o bindings/c/heap.c && \
+			$(CC) $$sanitizer $(DEVICES) -c -o out/saved_file_test.o bindings/c/saved_file.c && \
+			$(CC) $$sanitizer -o out/test_saved_file $(SAVED_FILE_TEST:%=bindings/c/%.c) out/saved_heap.o out/saved_file_test.o out/proved.a && \
+			out/test_saved_file || exit 1; done)
 
 bindings-rust:
 	$(call tested,cargo,out/libpidtab.a,cd bindings/rust && cargo test --offline --quiet)

@@ -21,8 +21,9 @@ PROGRAM = ["bin/pidtab", "bin/pidtab-check", "bin/pidtab-play", "bin/pidtab-tree
            "share/man/man1/pidtab-play.1", "share/man/man1/pidtab-tree.1", "share/man/man1/pidtab.1", "share/man/man5/pidtab.5", "share/pidtab/LICENSE"]  # fmt: skip
 # The library has a manual page for each function, by its name.
 FUNCTIONS = re.findall(r"^(?:static inline )?[a-z].*[ *](pidtab_[a-z]+)\(", read_page("bindings/c/pidtab.h"), re.MULTILINE)
-PAGES = sorted(f"share/man/man3/{name}.3" for name in ["pidtab", *FUNCTIONS] if name not in ("pidtab_value", "pidtab_do"))
-LIBRARY = ["include/pidtab.h", "include/pidtab_shared.h", "lib/libpidtab.a", "lib/libpidtab.so", "lib/libpidtab.so.1", "lib/pkgconfig/pidtab.pc", *PAGES]
+SAVED = re.findall(r"^(?:static inline )?[a-z].*[ *](pidtab_saved_[a-z_]+)\(", read_page("bindings/c/pidtab_saved.h"), re.MULTILINE)
+PAGES = sorted(f"share/man/man3/{name}.3" for name in ["pidtab", "pidtab_saved", *FUNCTIONS, *SAVED] if name not in ("pidtab_value", "pidtab_do"))
+LIBRARY = ["include/pidtab.h", "include/pidtab_saved.h", "include/pidtab_shared.h", "lib/libpidtab.a", "lib/libpidtab.so", "lib/libpidtab.so.1", "lib/pkgconfig/pidtab.pc", *PAGES]
 
 # Both ways to a table, from the package that was installed.
 BOTH = """\

@@ -1,5 +1,7 @@
 """The examples of the pages and of the manual pages, run as printed."""
 
+import ctypes
+import ctypes.util
 import re
 import subprocess
 import tempfile
@@ -24,6 +26,7 @@ EXAMPLES = [
     ("bindings/python/README.md", "## By the program", "python"),
     ("bindings/python/README.md", "## In its own process", "python"),
     ("bindings/c/README.md", "## Example", "c"),
+    ("bindings/c/README.md", "## A saved history", "c"),
     ("bindings/rust/README.md", "## Example", "rust"),
     ("bindings/go/README.md", "## Example", "go"),
 ]
@@ -99,7 +102,7 @@ class Manuals(unittest.TestCase):
         self.assertEqual(said, [])
         # 1 is a matter of style, as those pages are; 2 and more are faults.
         self.assertIn(done.returncode, (0, 1))
-        self.assertEqual(len(pages), 6)
+        self.assertEqual(len(pages), 7)
 
     def test_the_language(self) -> None:
         need_program()
@@ -144,11 +147,52 @@ class Manuals(unittest.TestCase):
             (Path(folder) / "functions.c").write_text(code)
             run([need_tool("cc"), *STRICT, f"-I{REPOSITORY / 'bindings' / 'c'}", "-c", "functions.c"], Path(folder))
 
-    def test_the_example_of_the_library(self) -> None:
+    def test_the_examples_of_the_library(self) -> None:
         need_archive()
-        *_, code, printed = displays((MANUAL / "pidtab.3").read_text())
-        with tempfile.TemporaryDirectory() as folder:
-            self.assertEqual(run_c(code, Path(folder), [f"-I{BUILT}", str(BUILT / "libpidtab.a")]), printed)
+        for page in ("pidtab.3", "pidtab_saved.3"):
+            *_, code, printed = displays((MANUAL / page).read_text())
+            with self.subTest(page), tempfile.TemporaryDirectory() as folder:
+                self.assertEqual(run_c(code, Path(folder), [f"-I{BUILT}", str(BUILT / "libpidtab.a")]), printed)
+
+    def test_the_settings_of_a_saved_history(self) -> None:
+        settings, *_ = displays((MANUAL / "pidtab_saved.3").read_text())
+        self.assertIn(settings, read_page("bindings/c/pidtab_saved.h"))
+
+
+class SavedHistory(unittest.TestCase):
+    """The example of docs/SAVED.md: its bytes, their checksums, and the program that shows them."""
+
+    def blocks(self) -> list[bytes]:
+        """The blocks of the page."""
+        (shown,) = fenced(section(read_page("docs/SAVED.md"), "## An example"), "hex")
+        return [bytes.fromhex(it) for it in shown.split("\n\n")]
+
+    def test_the_bytes_are_those_of_the_tests(self) -> None:
+        code = read_page("bindings/c/test_saved.c").partition("example[4][PIDTAB_SAVED_BLOCK] = {")[2].partition("};")[0]
+        self.assertEqual(b"".join(self.blocks()), bytes(int(it, 16) for it in re.findall(r"0x([0-9a-f]{2})", code)))
+        self.assertEqual([len(it) for it in self.blocks()], [48] * 4)
+
+    def test_the_checksums_are_those_of_xz(self) -> None:
+        name = ctypes.util.find_library("lzma")
+        if name is None:
+            raise unittest.SkipTest("no liblzma")
+        crc64 = ctypes.CDLL(name).lzma_crc64
+        crc64.argtypes, crc64.restype = (ctypes.c_char_p, ctypes.c_size_t, ctypes.c_uint64), ctypes.c_uint64
+        total = 0
+        for block in self.blocks():
+            total = crc64(block[:40], 40, total)
+            self.assertEqual(block[40:], total.to_bytes(8, "little"))
+
+    def test_the_program_that_shows_it(self) -> None:
+        need_archive()
+        text = section(read_page("docs/SAVED.md"), "## As a script")
+        (code,), (printed,) = fenced(text, "c"), fenced(text, "text")
+        with tempfile.TemporaryDirectory() as name:
+            folder = Path(name)
+            (folder / "history").write_bytes(b"".join(self.blocks()))
+            (folder / "show.c").write_text(code)
+            run([need_tool("cc"), *STRICT, "-o", "show", "show.c", f"-I{BUILT}", str(BUILT / "libpidtab.a")], folder)
+            self.assertEqual(run(["sh", "-c", "./show < history"], folder), printed)
 
 
 if __name__ == "__main__":
