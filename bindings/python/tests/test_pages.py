@@ -25,7 +25,9 @@ EXAMPLES = [
     ("bindings/python/README.md", "## In its own process", "python"),
     ("bindings/c/README.md", "## Example", "c"),
     ("bindings/rust/README.md", "## Example", "rust"),
+    ("bindings/rust/README.md", "## A table for many threads, with its history", "rust"),
     ("bindings/go/README.md", "## Example", "go"),
+    ("bindings/go/README.md", "## A table for many goroutines, with its history", "go"),
 ]
 
 
