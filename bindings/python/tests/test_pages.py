@@ -1,5 +1,6 @@
 """The examples of the pages and of the manual pages, run as printed."""
 
+import errno
 import re
 import subprocess
 import tempfile
@@ -10,7 +11,7 @@ from textwrap import indent
 
 from pidtab import Process, find_program
 from tests.pages import REPOSITORY, displays, fenced, read_page, section
-from tests.programs import BUILT, STRICT, need_archive, need_tool, run, run_c, run_go, run_python, run_rust, run_shell
+from tests.programs import ARCHIVE, BUILT, STRICT, need_archive, need_tool, run, run_c, run_go, run_python, run_rust, run_shell
 from tests.ways import need_library, need_program
 
 PACKAGES = REPOSITORY / "bindings" / "python"
@@ -27,6 +28,33 @@ EXAMPLES = [
     ("bindings/rust/README.md", "## Example", "rust"),
     ("bindings/go/README.md", "## Example", "go"),
 ]
+
+# The pages of the library's functions.
+LIBRARY_PAGES = ("pidtab.3", "pidtab_record.3", "pidtab_shared.3")
+
+STATUSES = {"DONE", "NOT_KEPT", "CLOSED", "AGAIN", "NO_MEMORY", "BUSY", "OUT_OF_RANGE", "NO_ROOM", "EMPTY_LINE", "BAD_LINE", "DIFFERS", "SPENT"}
+
+# What the header says of these by the name of another.
+INNER = {"pidtab_record_close": "pidtab_close", "pidtab_record_list": "pidtab_list", "pidtab_record_opening": "pidtab_list"}
+
+
+def synopsis(page: str) -> list[tuple[str, str, str]]:
+    """The functions of a manual page's synopsis: what each answers, its name and what it takes."""
+    found = re.findall(r'^\.Ft "?(.*?)"?\n\.F[no] (\w+)(.*\n(?:\.Fa .*\n)*)', page, re.MULTILINE)
+    return [(kind, name, ", ".join(re.findall(r'"([^"]*)"', taken)) or "void") for kind, name, taken in found]
+
+
+def statuses_of(name: str) -> set[str]:
+    """The statuses that the header lists with a function, or with the one whose work it does."""
+    if name in ("pidtab_shared_close", "pidtab_shared_lock", "pidtab_shared_unlock"):
+        return set()
+    header = read_page("bindings/c/pidtab_shared.h" if name.startswith("pidtab_shared_") else "bindings/c/pidtab.h")
+    before = header.partition(f"\nuint32_t {name}(")[0]
+    words = re.findall(r"\b[A-Z_]{4,}\b", before[before.rindex("/*") :])
+    if "DONE" in words:
+        return {it.removeprefix("PIDTAB_") for it in words} & STATUSES
+    inner = name.replace("pidtab_shared_", "pidtab_record_") if name.startswith("pidtab_shared_") else INNER[name]
+    return statuses_of(inner)
 
 
 class Examples(unittest.TestCase):
@@ -99,7 +127,7 @@ class Manuals(unittest.TestCase):
         self.assertEqual(said, [])
         # 1 is a matter of style, as those pages are; 2 and more are faults.
         self.assertIn(done.returncode, (0, 1))
-        self.assertEqual(len(pages), 6)
+        self.assertGreaterEqual(len(pages), 8)
 
     def test_the_language(self) -> None:
         need_program()
@@ -126,29 +154,67 @@ class Manuals(unittest.TestCase):
         found = re.sub(r"(?<=\| )pidtab[-a-z]*", lambda it: f"'{words[it[0]]}'", command)
         return subprocess.run(["sh", "-c", found], capture_output=True, text=True, check=False).stdout
 
-    def test_the_structs_of_the_library(self) -> None:
+    def test_the_examples_of_the_library(self) -> None:
+        need_archive()
+        for page in LIBRARY_PAGES:
+            *_, code, printed = displays((MANUAL / page).read_text())
+            with self.subTest(page), tempfile.TemporaryDirectory() as folder:
+                self.assertEqual(run_c(code, Path(folder), ["-pthread", f"-I{BUILT}", str(ARCHIVE)]), printed)
+
+
+class LibraryManuals(unittest.TestCase):
+    """The manual pages of the library's functions, by the headers."""
+
+    def test_the_structs(self) -> None:
         call, reply, *_ = displays((MANUAL / "pidtab.3").read_text())
+        entry, *_ = displays((MANUAL / "pidtab_record.3").read_text())
         header = re.sub(r" */\*.*?\*/", "", read_page("bindings/c/pidtab.h"), flags=re.DOTALL)
-        for struct in (call, reply):
+        for struct in (call, reply, entry):
             self.assertIn(struct, header)
 
-    def test_the_functions_of_the_library(self) -> None:
+    def test_each_call_as_a_function(self) -> None:
         # The compiler sees whether they are those of the header.
         _, _, functions, *_ = displays((MANUAL / "pidtab.3").read_text())
         names = re.findall(r"pidtab_\w+(?=\()", functions)
         header = read_page("bindings/c/pidtab.h")
         self.assertEqual(names, [it for it in re.findall(r"^static inline int64_t (pidtab_\w+)", header, re.MULTILINE) if it in names])
         self.assertEqual(len(names), 19)
-        code = '#include "pidtab.h"\n' + functions
+        self.compile(functions)
+
+    def compile(self, declarations: str) -> None:
+        """Compiles declarations behind the headers: another type of the same name is a fault."""
         with tempfile.TemporaryDirectory() as folder:
-            (Path(folder) / "functions.c").write_text(code)
+            (Path(folder) / "functions.c").write_text('#include "pidtab_shared.h"\n' + declarations)
             run([need_tool("cc"), *STRICT, f"-I{REPOSITORY / 'bindings' / 'c'}", "-c", "functions.c"], Path(folder))
 
-    def test_the_example_of_the_library(self) -> None:
-        need_archive()
-        *_, code, printed = displays((MANUAL / "pidtab.3").read_text())
-        with tempfile.TemporaryDirectory() as folder:
-            self.assertEqual(run_c(code, Path(folder), [f"-I{BUILT}", str(BUILT / "libpidtab.a")]), printed)
+    def test_each_synopsis(self) -> None:
+        for page in LIBRARY_PAGES:
+            text = (MANUAL / page).read_text()
+            declared = {name: f"{kind} {name}({taken});\n" for kind, name, taken in synopsis(text)}
+            with self.subTest(page):
+                named = re.findall(r"^\.Nm (pidtab_\w+)", text, re.MULTILINE)
+                self.assertEqual([it for it in named if it in declared], list(declared))
+                # The others are those of the display.
+                self.assertEqual(len(named) - len(declared), 19 if page == "pidtab.3" else 0)
+                self.compile("".join(declared.values()))
+
+    def test_each_status(self) -> None:
+        # BUSY is said once for all.
+        for page in ("pidtab_record.3", "pidtab_shared.3"):
+            sections = re.split(r"^\.S[sh] ", (MANUAL / page).read_text(), flags=re.MULTILINE)
+            shown = {it.split()[0]: re.findall(r"^\.It Dv PIDTAB_(\w+)", it, re.MULTILINE) for it in sections if it.startswith("pidtab_")}
+            self.assertGreater(len(shown), 13)
+            for name, statuses in shown.items():
+                with self.subTest(name):
+                    self.assertEqual(len(statuses), len(set(statuses)))
+                    self.assertEqual(set(statuses) - {"BUSY"}, statuses_of(name) - {"BUSY"})
+
+    def test_the_statuses_together(self) -> None:
+        header = "".join(re.findall(r"^enum pidtab_\w*status \{(.*?)^\};", read_page("bindings/c/pidtab.h"), re.MULTILINE | re.DOTALL))
+        numbers = dict(re.findall(r"PIDTAB_(\w+) = (\d+)", header))
+        text = (MANUAL / "pidtab_record.3").read_text().partition("\n.Sh RETURN VALUES\n")[2]
+        told = dict(re.findall(r"^\.It Dv PIDTAB_(\w+)\n(?:\.Er )?(\w+)", text, re.MULTILINE))
+        self.assertEqual({name: str(getattr(errno, it, it)) for name, it in told.items()}, numbers)
 
 
 if __name__ == "__main__":
