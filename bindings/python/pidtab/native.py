@@ -4,7 +4,7 @@ import ctypes
 import struct
 from abc import abstractmethod
 from collections.abc import Callable, Sequence
-from typing import NoReturn, Protocol, TypeVar
+from typing import TYPE_CHECKING, NoReturn, Protocol, TypeVar
 
 from pidtab.answers import Form
 from pidtab.calls import Call, Calls, Queries
@@ -140,11 +140,14 @@ class Ask(Queries):
     def __repr__(self) -> str:
         return f"<pidtab.Ask of {self._table!r}>"
 
-    def __getattr__(self, name: str) -> NoReturn:
-        if name.startswith("_") or not hasattr(Calls, name):
-            raise AttributeError(f"pidtab.Ask has no {name}")
-        raise AttributeError(f"{name} is no query: `ask` has getpid, getppid, getpgid, getsid, nspid, next and count")
-
     def _make(self, call: Call, form: Form[T]) -> T:
         self._table._check_owner()
         return make_call(call, form, self._table._ask)
+
+    # Not for a checker of types, which then finds a call that is no query.
+    if not TYPE_CHECKING:
+
+        def __getattr__(self, name: str) -> NoReturn:
+            if name.startswith("_") or not hasattr(Calls, name):
+                raise AttributeError(f"pidtab.Ask has no {name}")
+            raise AttributeError(f"{name} is no query: `ask` has getpid, getppid, getpgid, getsid, nspid, next and count")

@@ -87,26 +87,19 @@ class Seat(NumberCalls):
     def _is_left(self) -> bool:
         return self.worker >= 0 and self.shared._is_left()
 
-    def _enter(self) -> Hold:
-        """The open table, where the seat is open too."""
-        hold = self.shared._enter()
+    def _check_owner(self) -> None:
+        self.shared._check_open()
         if self._closed:
             raise TableClosed("the seat was closed")
-        return hold
-
-    def _check_owner(self) -> None:
-        self._enter()
 
     def _ask(self, call: PidtabCall, reply: PidtabReply) -> int:
         return self.shared._ask(call, reply)
 
     def _call(self, call: PidtabCall, reply: PidtabReply) -> int:
-        hold = self._enter()
-        return int(hold.functions.pidtab_shared_call(hold.at, self.worker, call, reply, self._ordinal))
+        return self.shared._status("pidtab_shared_call", self.worker, call, reply, self._ordinal)
 
     def _line(self, line: bytes, room: "ctypes.Array[ctypes.c_char]", size: ctypes.c_size_t) -> int:
-        hold = self._enter()
-        return int(hold.functions.pidtab_shared_line(hold.at, self.worker, line, len(line), room, len(room), size, self._ordinal))
+        return self.shared._status("pidtab_shared_line", self.worker, line, len(line), room, len(room), size, self._ordinal)
 
     def _list(self, room: "ctypes.Array[ctypes.c_char]", size: ctypes.c_size_t) -> int:
         return self.shared._list(room, size)
@@ -159,8 +152,7 @@ class Shared(Listed, Owner):
     def seat(self) -> Seat:
         """The seat of the next worker, from 0 on; `SeatsTaken` where each has its own. An interrupt amid it may lose a seat."""
         worker = ctypes.c_uint32()
-        hold = self._enter()
-        if hold.functions.pidtab_shared_seat(hold.at, worker) != DONE:
+        if self._status("pidtab_shared_seat", worker) != DONE:
             raise SeatsTaken(f"each of the {self.workers} workers has its seat: open the table with more, at most {MOST_WORKERS}")
         return Seat(self, worker.value)
 
@@ -172,24 +164,21 @@ class Shared(Listed, Owner):
     def counts(self) -> Counts:
         """The ordinal of the first kept entry, and how many calls were recorded, both of one moment."""
         first_kept, recorded = ctypes.c_uint64(), ctypes.c_uint64()
-        hold = self._enter()
-        check(hold.functions.pidtab_shared_counts(hold.at, first_kept, recorded), "counts")
+        check(self._status("pidtab_shared_counts", first_kept, recorded), "counts")
         return Counts(first_kept.value, recorded.value)
 
     def worker(self, number: int) -> int:
         """How many calls of the worker were recorded, the cut ones too."""
         number = check_range("worker", number, 0, self.workers - 1)
         calls = ctypes.c_uint64()
-        hold = self._enter()
-        check(hold.functions.pidtab_shared_worker(hold.at, number, calls), f"worker {number}")
+        check(self._status("pidtab_shared_worker", number, calls), f"worker {number}")
         return calls.value
 
     def entry(self, ordinal: int) -> Entry:
         """The recorded call with the ordinal; `NotKept` where it was cut away or is not reached yet. It costs the same for each."""
         ordinal = check_range("ordinal", ordinal, 0, GREATEST_NUMBER)
         worker, call, reply = ctypes.c_uint64(), PidtabCall(), PidtabReply()
-        hold = self._enter()
-        check(hold.functions.pidtab_shared_entry(hold.at, ordinal, worker, call, reply), f"entry {ordinal}")
+        check(self._status("pidtab_shared_entry", ordinal, worker, call, reply), f"entry {ordinal}")
         return read_entry(ordinal, worker.value, call, reply)
 
     def entries(self, start: int | None = None) -> Iterator[Entry]:
@@ -204,14 +193,12 @@ class Shared(Listed, Owner):
 
     def checkpoint(self) -> None:
         """Cuts the history: no entry is kept. Ordinals, stamps and counts go on. It costs a copy of the table, while all threads wait."""
-        hold = self._enter()
-        check(hold.functions.pidtab_shared_checkpoint(hold.at), "checkpoint")
+        check(self._status("pidtab_shared_checkpoint"), "checkpoint")
 
     def checkpoint_at(self, seen: int) -> bool:
         """Cuts the history where exactly so many calls were recorded: so no entry is cut that was not read. Whether it was cut."""
         seen = check_range("seen", seen, 0, GREATEST_NUMBER)
-        hold = self._enter()
-        status = int(hold.functions.pidtab_shared_checkpoint_at(hold.at, seen))
+        status = self._status("pidtab_shared_checkpoint_at", seen)
         if status != AGAIN:
             check(status, "checkpoint")
         return status != AGAIN
@@ -222,21 +209,24 @@ class Shared(Listed, Owner):
     def _is_open(self) -> bool:
         return self._hold is not None
 
-    def _enter(self) -> Hold:
-        """The open table, which is not freed as long as the caller has it."""
+    def _check_open(self) -> Hold:
+        """The open table of this process, which is not freed as long as the caller has it."""
         self._check_owner()
         hold = self._hold
         if hold is None:
             raise TableClosed("the table was closed")
         return hold
 
+    def _status(self, name: str, *arguments: object) -> int:
+        """What a function of the library answers. Nothing is raised from here but that there is no table: a kept fault would keep it open."""
+        hold = self._check_open()
+        return int(getattr(hold.functions, name)(hold.at, *arguments))
+
     def _ask(self, call: PidtabCall, reply: PidtabReply) -> int:
-        hold = self._enter()
-        return int(hold.functions.pidtab_shared_ask(hold.at, call, reply))
+        return self._status("pidtab_shared_ask", call, reply)
 
     def _list(self, room: "ctypes.Array[ctypes.c_char]", size: ctypes.c_size_t) -> int:
-        hold = self._enter()
-        return int(hold.functions.pidtab_shared_list(hold.at, room, len(room), size))
+        return self._status("pidtab_shared_list", room, len(room), size)
 
     def _list_text(self) -> str:
         return read_list_text(self._list)
@@ -253,8 +243,7 @@ class Shared(Listed, Owner):
     def _read(self, start: int) -> Sequence[Entry]:
         """A block of entries from the ordinal on."""
         room, count = (PidtabEntry * BLOCK)(), ctypes.c_size_t()
-        hold = self._enter()
-        check(hold.functions.pidtab_shared_read(hold.at, start, room, BLOCK, count), f"entry {start}")
+        check(self._status("pidtab_shared_read", start, room, BLOCK, count), f"entry {start}")
         return [read_entry(start + place, it.worker, it.call, it.reply) for place, it in enumerate(room[: count.value])]
 
     def _walk(self, block: Sequence[Entry], end: int) -> Iterator[Entry]:
