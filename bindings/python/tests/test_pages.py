@@ -12,7 +12,7 @@ from textwrap import indent
 from pidtab import Process, find_program
 from tests.pages import REPOSITORY, displays, fenced, read_page, section
 from tests.programs import ARCHIVE, BUILT, STRICT, need_archive, need_tool, run, run_c, run_go, run_python, run_rust, run_shell
-from tests.ways import need_library, need_program
+from tests.ways import need_library, need_program, need_shared
 
 PACKAGES = REPOSITORY / "bindings" / "python"
 MANUAL = REPOSITORY / "man"
@@ -24,6 +24,7 @@ EXAMPLES = [
     ("README.md", "### From Python", "python"),
     ("bindings/python/README.md", "## By the program", "python"),
     ("bindings/python/README.md", "## In its own process", "python"),
+    ("bindings/python/README.md", "## For many threads, with its history", "python"),
     ("bindings/c/README.md", "## Example", "c"),
     ("bindings/rust/README.md", "## Example", "rust"),
     ("bindings/go/README.md", "## Example", "go"),
@@ -101,6 +102,10 @@ class Examples(unittest.TestCase):
         need_library()
         self.check("python", run_python, "## In its own process")
         self.check("python", run_python, "### From Python")
+
+    def test_python_for_many_threads(self) -> None:
+        need_shared()
+        self.check("python", run_python, "with its history")
 
     def test_c(self) -> None:
         need_archive()
