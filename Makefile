@@ -101,9 +101,9 @@ MANDIR ?= $(PREFIX)/share/man
 PYTHONDIR ?= $(PREFIX)/share/pidtab/python
 INSTALL ?= install
 PROGRAMS = pidtab-tree pidtab-check pidtab-play
-# The functions of the library, each of which has a manual page by its name.
-FUNCTIONS = $(shell sed -n 's/^\.Nm \(pidtab_[a-z]*\).*/\1/p' man/pidtab.3)
-SAVED_FUNCTIONS = $(shell sed -n 's/^\.Nm \(pidtab_saved_[a-z_]*\).*/\1/p' man/pidtab_saved.3)
+# The functions that a manual page names at its head, each of which has a manual page by its name.
+NAMED = sed -n 's/^\.Nm \(pidtab_[a-z_]*\).*/\1/p'
+FUNCTIONS = $(shell $(NAMED) man/*.3)
 HEADERS = pidtab.h pidtab_shared.h pidtab_saved.h
 MANUALS = $(foreach page,$(wildcard man/*.$(1)),'$(DESTDIR)$(MANDIR)/man$(1)/$(notdir $(page))')
 BINARIES = $(DESTDIR)$(PREFIX)/bin
@@ -131,7 +131,7 @@ install: built $(if $(BUILT_LIBRARY),install-library) ## installs what is built 
 	$(INSTALL) -m 644 man/*.1 '$(DESTDIR)$(MANDIR)/man1'
 	$(INSTALL) -m 644 man/*.5 '$(DESTDIR)$(MANDIR)/man5'
 
-install-library: ## installs the library alone, with its header and its manual page
+install-library: ## installs the library alone, with its headers and its manual pages
 	@test -n '$(BUILT_LIBRARY)' || { echo 'no library out/libpidtab.so.1: build it with `make lib`' >&2; exit 1; }
 	$(INSTALL) -d '$(DESTDIR)$(LIBDIR)/pkgconfig' '$(DESTDIR)$(INCLUDEDIR)' '$(DESTDIR)$(MANDIR)/man3'
 	$(INSTALL) -m 644 out/libpidtab.a out/libpidtab.so.1 '$(DESTDIR)$(LIBDIR)'
@@ -139,14 +139,14 @@ install-library: ## installs the library alone, with its header and its manual p
 	$(INSTALL) -m 644 $(HEADERS:%=out/%) '$(DESTDIR)$(INCLUDEDIR)'
 	$(describe) > '$(DESTDIR)$(LIBDIR)/pkgconfig/pidtab.pc'
 	$(INSTALL) -m 644 man/*.3 '$(DESTDIR)$(MANDIR)/man3'
-	for it in $(FUNCTIONS); do echo '.so man3/pidtab.3' > '$(DESTDIR)$(MANDIR)/man3/'$$it.3 || exit 1; done
-	for it in $(SAVED_FUNCTIONS); do echo '.so man3/pidtab_saved.3' > '$(DESTDIR)$(MANDIR)/man3/'$$it.3 || exit 1; done
+	for page in man/*.3; do for it in $$($(NAMED) $$page); do \
+		echo ".so man3/$${page#man/}" > '$(DESTDIR)$(MANDIR)/man3/'$$it.3 || exit 1; done; done
 
 uninstall: ## removes what both have installed, with the same variables
 	rm -f '$(BINARIES)/pidtab' $(PROGRAMS:%='$(BINARIES)/%')
 	rm -f '$(DESTDIR)$(LIBDIR)/libpidtab.a' '$(DESTDIR)$(LIBDIR)/libpidtab.so' '$(DESTDIR)$(LIBDIR)/libpidtab.so.1'
 	rm -f '$(DESTDIR)$(LIBDIR)/pkgconfig/pidtab.pc' $(HEADERS:%='$(DESTDIR)$(INCLUDEDIR)/%')
-	rm -f $(call MANUALS,1) $(call MANUALS,3) $(call MANUALS,5) $(foreach it,$(FUNCTIONS) $(SAVED_FUNCTIONS),'$(DESTDIR)$(MANDIR)/man3/$(it).3')
+	rm -f $(call MANUALS,1) $(call MANUALS,3) $(call MANUALS,5) $(foreach it,$(FUNCTIONS),'$(DESTDIR)$(MANDIR)/man3/$(it).3')
 	rm -rf '$(DESTDIR)$(PYTHONDIR)/pidtab' '$(SHARED_FILES)'
 
 .PHONY: dist dist-test
