@@ -3,8 +3,10 @@ package pidtab
 import (
 	"errors"
 	"math"
+	"os"
 	"runtime"
 	"sort"
+	"strconv"
 	"strings"
 	"sync"
 	"syscall"
@@ -470,29 +472,49 @@ func TestGoroutinesAtOneSeat(t *testing.T) {
 	wantOrdinal(t, seat, 1599)
 }
 
-// The collector closes a table that nobody has any more, with its seats, and none that a seat is left of.
+// resident is the memory of this process, in bytes.
+func resident(t *testing.T) int {
+	t.Helper()
+	text, err := os.ReadFile("/proc/self/statm")
+	if err != nil {
+		t.Skip(err)
+	}
+	pages, err := strconv.Atoi(strings.Fields(string(text))[1])
+	if err != nil {
+		t.Fatal(err)
+	}
+	return pages * os.Getpagesize()
+}
+
+// dropped makes a table with a history of some 3.7 MB, and drops it and its seat.
+func dropped(t *testing.T) {
+	t.Helper()
+	shared, err := OpenShared(Settings{PidMax: 32768, Workers: 1})
+	if err != nil {
+		t.Fatal(err)
+	}
+	seat := seatOf(t, shared)
+	for i := 0; i < 20000; i++ {
+		seat.Getpid(1)
+	}
+}
+
+// The collector closes tables that nobody has any more, with their seats, and none that a seat is left of.
 func TestWhatTheCollectorCloses(t *testing.T) {
-	kept, err := OpenShared(Settings{PidMax: 32768, Workers: 1})
+	shared, err := OpenShared(Settings{PidMax: 32768, Workers: 1})
 	if err != nil {
 		t.Fatal(err)
 	}
-	seat, closed := seatOf(t, kept), make(chan bool)
-	dropped, err := OpenShared(Settings{PidMax: 32768, Workers: 1})
-	if err != nil {
-		t.Fatal(err)
+	seat := seatOf(t, shared)
+	shared = nil
+	before := resident(t)
+	for i := 0; i < 50; i++ {
+		dropped(t)
+		runtime.GC()
+		time.Sleep(time.Millisecond)
 	}
-	seatOf(t, dropped)
-	runtime.SetFinalizer(dropped.own, nil)
-	runtime.SetFinalizer(dropped.own, func(held *heldRecord) {
-		held.close()
-		close(closed)
-	})
-	dropped, kept = nil, nil
-	runtime.GC()
-	select {
-	case <-closed:
-	case <-time.After(10 * time.Second):
-		t.Error("nothing was collected")
+	if grown := resident(t) - before; grown > 90e6 {
+		t.Errorf("%d bytes more, of some 184 million", grown)
 	}
 	want(t, "getpid", of(seat.Getpid(1)), uint32(1), nil)
 }

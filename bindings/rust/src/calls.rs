@@ -27,51 +27,51 @@ pub enum Kind {
     Session,
 }
 
-/// A call as a value. [`Calls`] says what each asks for. More calls may come.
+/// A call as a value. Each says which method of [`Calls`] makes it; its fields are the arguments of that method. More calls may come.
 ///
-/// A `caller` and a `task` are root numbers, an `id` and a `parent` are ids of control groups, and each other number of a process is the
-/// caller's own.
+/// A `caller` and a `task` are root numbers, an `id` and a `parent` are ids of control groups, of which 0 is the root's, and each other number
+/// of a process is the caller's own. A query is one that `ask` answers too.
 #[derive(Clone, Copy, Debug, PartialEq, Eq, Hash)]
 #[non_exhaustive]
-#[allow(missing_docs)] // The fields are the arguments of the methods.
+#[allow(missing_docs)] // A field has its words at its call.
 pub enum Call {
-    /// [`Calls::fork`].
+    /// [`Calls::fork`]: the child goes into a new namespace, or not.
     Fork { caller: u32, new_space: bool },
     /// [`Calls::getpid`]; a query.
     Getpid { caller: u32 },
-    /// [`Calls::nspid`]; a query.
+    /// [`Calls::nspid`] of the task with the number; a query.
     Nspid { caller: u32, number: u32 },
     /// [`Calls::exec`].
     Exec { caller: u32 },
-    /// [`Calls::exit`].
+    /// [`Calls::exit`] with the status.
     Exit { caller: u32, status: u8 },
-    /// [`Calls::wait`].
+    /// [`Calls::wait`] for those children.
     Wait { caller: u32, which: Which },
     /// [`Calls::getppid`]; a query.
     Getppid { caller: u32 },
-    /// [`Calls::setpgid`].
+    /// [`Calls::setpgid`]: 0 is the caller, and the task; a negative group is refused.
     Setpgid { caller: u32, pid: i32, pgid: i32 },
     /// [`Calls::setsid`].
     Setsid { caller: u32 },
-    /// [`Calls::mk`].
+    /// [`Calls::mk`] below the parent.
     Mk { parent: u64 },
     /// [`Calls::rm`].
     Rm { id: u64 },
-    /// [`Calls::limit`].
+    /// [`Calls::limit`]: 0 to 4194304, or none for no limit.
     Limit { id: u64, limit: Option<u32> },
-    /// [`Calls::move_task`].
+    /// [`Calls::move_task`]: the task goes into the control group.
     Move { task: u32, id: u64 },
     /// [`Calls::count`]; a query.
     Count { id: u64 },
-    /// [`Calls::getpgid`]; a query.
+    /// [`Calls::getpgid`] of the task, where 0 is the caller; a query.
     Getpgid { caller: u32, pid: u32 },
-    /// [`Calls::getsid`]; a query.
+    /// [`Calls::getsid`] of the task, where 0 is the caller; a query.
     Getsid { caller: u32, pid: u32 },
-    /// [`Calls::next`]; a query.
+    /// [`Calls::next`]: the least number from there on; a query.
     Next { caller: u32, kind: Kind, from: u32 },
-    /// [`Calls::join`].
+    /// [`Calls::join`]: into the namespace of the task with the number.
     Join { caller: u32, number: u32 },
-    /// [`Calls::subreaper`].
+    /// [`Calls::subreaper`]: from now on, or no more.
     Subreaper { caller: u32, on: bool },
 }
 
