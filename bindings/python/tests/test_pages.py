@@ -156,7 +156,8 @@ class Manuals(unittest.TestCase):
         shown = 0
         for name in ("pidtab.1", "pidtab-tree.1", "pidtab-check.1", "pidtab-play.1"):
             for display in displays((MANUAL / name).read_text()):
-                command, *printed = display.splitlines()
+                # A backslash at its end has a line go on.
+                command, *printed = re.sub(r"\\\n *", "", display).splitlines()
                 shown += 1
                 with self.subTest(command):
                     said = self.run_command(command.removeprefix("$ "))

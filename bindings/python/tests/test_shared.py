@@ -109,16 +109,8 @@ class ForksBySeat(ForkCases, BySeat):
         hold = self.table.shared._check_open()
         with locked(hold.functions, hold.at):
             self.assertEqual(in_child(lambda: self.table.getpid(1)), f"closed: {OTHERS}")
-            self.assertEqual(in_child(lambda: drop(self.table)), "dropped")
+            self.assertEqual(in_child(lambda: self.table.close()), "None")
         self.assertEqual(self.table.getpid(1), 1)
-
-
-def drop(table: Calls) -> str:
-    """Drops what is left of a table in a child."""
-    assert isinstance(table, Seat)
-    table.shared._hold = None
-    gc.collect()
-    return "dropped"
 
 
 def methods_of(shared: Shared) -> list[Callable[[], object]]:
@@ -132,6 +124,7 @@ def methods_of(shared: Shared) -> list[Callable[[], object]]:
 @contextmanager
 def locked(functions: ctypes.CDLL, at: raw.PidtabShared) -> Iterator[None]:
     """Takes the lock of the library, so that each thread in a function waits."""
+    assert not isinstance(functions, ctypes.PyDLL), "a wait that keeps the interpreter's lock would have no end"
     functions.pidtab_shared_lock(ctypes.byref(at))
     try:
         yield
@@ -302,12 +295,12 @@ class Histories(unittest.TestCase):
             self.assertEqual([it.ordinal for it in self.shared.entries(start)], list(range(start, many)))
 
     def test_the_walk_ends_where_it_was_begun(self) -> None:
-        # Each step makes one call more.
-        self.one.getpid(1)
-        for entry in self.shared.entries():
-            self.assertEqual(entry.ordinal, 0)
-            self.one.getpid(1)
-        self.assertEqual(self.shared.counts(), Counts(0, 2))
+        # Each step makes one call more, and the second block has these too.
+        many = BLOCK + 1
+        self.one.answers(["getpid 1"] * many)
+        walked = [(entry.ordinal, self.one.getpid(1)) for entry in self.shared.entries()]
+        self.assertEqual(walked, [(place, 1) for place in range(many)])
+        self.assertEqual(self.shared.counts(), Counts(0, 2 * many))
 
     def test_a_cut_behind_the_last_entry_of_a_walk(self) -> None:
         self.one.answers(["getpid 1"] * BLOCK)
@@ -657,6 +650,17 @@ class Ends(unittest.TestCase):
         del shared
         gc.collect()
         self.assertEqual(self.closed, 1)
+
+    def test_one_that_nobody_has_in_a_forked_child(self) -> None:
+        shared = Shared()
+
+        def drop() -> int:
+            shared._hold = None
+            gc.collect()
+            return self.closed
+
+        self.assertEqual(in_child(drop), "0")
+        self.assertEqual((shared.seat().fork(1).root, self.closed), (2, 0))
 
     def test_a_fault_that_is_kept_keeps_no_table(self) -> None:
         shared = Shared()
