@@ -222,7 +222,8 @@ HELD = -Dmalloc=test_malloc -Drealloc=test_realloc
 RECORD_TEST = test_record guard guard_record
 SHARED_TEST = test_shared shared guard guard_record heap
 SAVED_TEST = test_saved saved saved_line guard_record heap
-SAVED_FILE_TEST = test_saved_file saved saved_line shared guard_record
+SAVED_FILE_TEST = test_saved_file saved shared guard_record
+SAVED_THREADS_TEST = test_saved_threads saved saved_file shared guard_record heap
 DEVICES = -Dread=test_read -Dwrite=test_write
 bindings-c:
 	$(call tested,$(firstword $(CC)),$(LIBRARY),\
@@ -235,11 +236,10 @@ bindings-c:
 		$(CC) $(THREADED) -o out/test_threads bindings/c/test_threads.c bindings/c/guard.c out/held_heap.o out/proved.a && out/test_threads && \
 		for sanitizer in '$(CHECKED)' '$(THREADED)'; do \
 			$(CC) $$sanitizer -o out/test_shared $(SHARED_TEST:%=bindings/c/%.c) out/proved.a && out/test_shared && \
-			$(CC) $$sanitizer -o out/test_saved $(SAVED_TEST:%=bindings/c/%.c) out/proved.a && out/test_saved && \
-			$(CC) $$sanitizer $(HELD) -c -o out/saved_heap.o bindings/c/heap.c && \
-			$(CC) $$sanitizer $(DEVICES) -c -o out/saved_file_test.o bindings/c/saved_file.c && \
-			$(CC) $$sanitizer -o out/test_saved_file $(SAVED_FILE_TEST:%=bindings/c/%.c) out/saved_heap.o out/saved_file_test.o out/proved.a && \
-			out/test_saved_file || exit 1; done)
+			$(CC) $$sanitizer -o out/test_saved_threads $(SAVED_THREADS_TEST:%=bindings/c/%.c) out/proved.a && out/test_saved_threads || exit 1; done && \
+		$(CC) $(CHECKED) -o out/test_saved $(SAVED_TEST:%=bindings/c/%.c) out/proved.a && out/test_saved && \
+		$(CC) $(CHECKED) $(DEVICES) -c -o out/test_devices.o bindings/c/saved_file.c && \
+		$(CC) $(CHECKED) -o out/test_saved_file $(SAVED_FILE_TEST:%=bindings/c/%.c) out/test_heap.o out/test_devices.o out/proved.a && out/test_saved_file)
 
 bindings-rust:
 	$(call tested,cargo,out/libpidtab.a,cd bindings/rust && cargo test --offline --quiet)

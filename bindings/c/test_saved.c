@@ -1,7 +1,6 @@
 /* Tests of a saved history as bytes in memory, and of calls as lines. The checksums of the example are those of liblzma; the lines are
  * those of docs/SCRIPT.md, and are read back. */
-#include "test.h"
-#include "pidtab_saved.h"
+#include "test_saved.h"
 
 #include <errno.h>
 
@@ -36,23 +35,6 @@ static const struct pidtab_entry entries[3] = {
 	{ 1, { .operation = PIDTAB_NSPID, .caller = 1, .number = 2 }, { .kind = PIDTAB_LEVELS, .count = 2, .levels = { 2, 1 } } },
 	{ 1, { .operation = PIDTAB_SETPGID, .caller = 1, .pgid = -1 }, { .kind = PIDTAB_REFUSED, .error = EINVAL, .refusal = PIDTAB_BAD_GROUP } },
 };
-
-static bool same_call(const struct pidtab_call *a, const struct pidtab_call *b)
-{
-	return a->operation == b->operation && a->caller == b->caller && a->id == b->id && a->number == b->number && a->choice == b->choice
-		&& a->pid == b->pid && a->pgid == b->pgid;
-}
-
-static bool same_reply(const struct pidtab_reply *a, const struct pidtab_reply *b)
-{
-	return a->kind == b->kind && a->error == b->error && a->refusal == b->refusal && a->count == b->count && a->first == b->first
-		&& a->second == b->second && memcmp(a->levels, b->levels, sizeof a->levels) == 0;
-}
-
-static bool same_entry(const struct pidtab_entry *a, const struct pidtab_entry *b)
-{
-	return a->worker == b->worker && same_call(&a->call, &b->call) && same_reply(&a->reply, &b->reply);
-}
 
 /* The same checksum a bit at a time, as the polynomial says: that of ECMA-182 with its bits reflected. */
 static uint64_t sum_by_bits(uint64_t sum, const unsigned char *bytes, size_t length)

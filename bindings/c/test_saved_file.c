@@ -1,12 +1,9 @@
-/* Tests of a saved history in a file: cut and changed at every byte, on devices that fail, and written while threads make calls. */
-#include "test.h"
-#include "pidtab_saved.h"
+/* Tests of a saved history in a file: cut and changed at every byte, with entries out of order, and on devices that fail. */
+#include "test_saved.h"
 
 #include <errno.h>
 #include <fcntl.h>
 #include <signal.h>
-#include <stdatomic.h>
-#include <sys/mman.h>
 #include <unistd.h>
 
 /* The heap that heap.c is built with here: it refuses the allocation that the counter falls on. 0: none. */
@@ -82,14 +79,6 @@ static struct pidtab_entry entries[MOST_CALLS];
 static size_t calls, places[MOST_CALLS + 1];
 static unsigned char bytes[MOST_BYTES];
 
-static int new_file(void)
-{
-	int file = memfd_create("history", 0);
-
-	CHECK(file >= 0);
-	return file;
-}
-
 /* A file with the bytes, at its beginning. */
 static int file_of(const void *from, size_t size)
 {
@@ -143,18 +132,6 @@ static void reckon_bytes(void)
 	places[calls] = at;
 }
 
-static bool same_call(const struct pidtab_call *a, const struct pidtab_call *b)
-{
-	return a->operation == b->operation && a->caller == b->caller && a->id == b->id && a->number == b->number && a->choice == b->choice
-		&& a->pid == b->pid && a->pgid == b->pgid;
-}
-
-static bool same_reply(const struct pidtab_reply *a, const struct pidtab_reply *b)
-{
-	return a->kind == b->kind && a->error == b->error && a->refusal == b->refusal && a->count == b->count && a->first == b->first
-		&& a->second == b->second && memcmp(a->levels, b->levels, sizeof a->levels) == 0;
-}
-
 /* The record has the first so many entries of the whole. */
 static void has_entries(struct pidtab_record *record, size_t wanted)
 {
@@ -163,7 +140,7 @@ static void has_entries(struct pidtab_record *record, size_t wanted)
 
 	CHECK(pidtab_record_read(record, 0, found, MOST_CALLS, &count) == PIDTAB_DONE && count == wanted);
 	for (size_t i = 0; i < count; i++)
-		CHECK(found[i].worker == entries[i].worker && same_call(&found[i].call, &entries[i].call) && same_reply(&found[i].reply, &entries[i].reply));
+		CHECK(same_entry(&found[i], &entries[i]));
 }
 
 static bool is_closed(struct pidtab_record *record)
@@ -171,16 +148,6 @@ static bool is_closed(struct pidtab_record *record)
 	uint64_t first_kept, recorded;
 
 	return pidtab_record_counts(record, &first_kept, &recorded) == PIDTAB_CLOSED;
-}
-
-static void same_lists(struct pidtab_record *one, struct pidtab_record *other)
-{
-	static char texts[2][1 << 20];
-	size_t sizes[2] = { 0, 1 };
-
-	CHECK(pidtab_record_list(one, texts[0], sizeof texts[0], &sizes[0]) == PIDTAB_DONE);
-	CHECK(pidtab_record_list(other, texts[1], sizeof texts[1], &sizes[1]) == PIDTAB_DONE);
-	CHECK(sizes[0] > 20 && sizes[0] == sizes[1] && memcmp(texts[0], texts[1], sizes[0]) == 0);
 }
 
 /* How many entries are whole in so many bytes. */
@@ -665,101 +632,10 @@ static void want_of_memory(void)
 	CHECK(pidtab_record_close(&again) == PIDTAB_DONE && close(file) == 0);
 }
 
-#define WORKERS 16
-#define EACH 5000
-
-static struct pidtab_shared shared;
-static atomic_int at_work;
-
-/* A namespace of the worker's own, and in it a child after the other. */
-static void *serves(void *unused)
-{
-	struct pidtab_call call = { .operation = PIDTAB_FORK, .caller = 1, .choice = 1 };
-	struct pidtab_reply reply;
-	uint64_t ordinal;
-	uint32_t worker, own;
-
-	CHECK(pidtab_shared_seat(&shared, &worker) == PIDTAB_DONE && pidtab_shared_call(&shared, worker, &call, &reply, &ordinal) == PIDTAB_DONE);
-	own = (uint32_t)reply.second;
-	for (int i = 0; i < EACH; i++) {
-		call = (struct pidtab_call){ .operation = PIDTAB_FORK, .caller = own };
-		CHECK(pidtab_shared_call(&shared, worker, &call, &reply, &ordinal) == PIDTAB_DONE && reply.kind == PIDTAB_FORKED);
-		call = (struct pidtab_call){ .operation = PIDTAB_EXIT, .caller = (uint32_t)reply.second, .number = worker };
-		CHECK(pidtab_shared_call(&shared, worker, &call, &reply, &ordinal) == PIDTAB_DONE && reply.kind == PIDTAB_OK);
-		call = (struct pidtab_call){ .operation = PIDTAB_WAIT, .caller = own };
-		CHECK(pidtab_shared_call(&shared, worker, &call, &reply, &ordinal) == PIDTAB_DONE && reply.second == worker);
-	}
-	atomic_fetch_sub(&at_work, 1);
-	return unused;
-}
-
-/* Saves as long as one of them makes calls, and gives the memory of the saved ones back where nobody has made one since. */
-static void *saves(void *at)
-{
-	struct pidtab_saved *saved = at;
-	bool last;
-
-	do {
-		last = atomic_load(&at_work) == 0;
-		CHECK(pidtab_saved_append_shared(saved, &shared) == PIDTAB_DONE);
-		uint32_t cut = pidtab_shared_checkpoint_at(&shared, saved->next);
-		CHECK(cut == PIDTAB_DONE || cut == PIDTAB_AGAIN);
-	} while (!last);
-	return NULL;
-}
-
-static void all_at_once(struct pidtab_saved *saved)
-{
-	pthread_t threads[WORKERS], saver;
-
-	atomic_store(&at_work, WORKERS);
-	CHECK(pthread_create(&saver, NULL, saves, saved) == 0);
-	for (int i = 0; i < WORKERS; i++)
-		CHECK(pthread_create(&threads[i], NULL, serves, NULL) == 0);
-	for (int i = 0; i < WORKERS; i++)
-		CHECK(pthread_join(threads[i], NULL) == 0);
-	CHECK(pthread_join(saver, NULL) == 0);
-}
-
-/* The counts of the workers are the same too. */
-static void same_counts(struct pidtab_shared *other)
-{
-	uint64_t here, there;
-
-	for (uint32_t i = 0; i < WORKERS; i++) {
-		CHECK(pidtab_shared_worker(&shared, i, &here) == PIDTAB_DONE && here == 1 + 3 * EACH);
-		CHECK(pidtab_shared_worker(other, i, &there) == PIDTAB_DONE && there == here);
-	}
-}
-
-static void saved_while_threads_make_calls(void)
-{
-	const struct pidtab_saved_head sixteen = { .pid_max = 32768, .workers = WORKERS, .first_stamp = 5 };
-	static struct pidtab_shared again;
-	struct pidtab_saved saved;
-	uint32_t worker;
-	int file = new_file();
-
-	CHECK(pidtab_shared_open(&shared, sixteen.pid_max, sixteen.first_stamp, sixteen.workers, 0) == PIDTAB_DONE);
-	CHECK(pidtab_saved_begin(&saved, file, &sixteen) == PIDTAB_DONE);
-	all_at_once(&saved);
-	CHECK(saved.next == WORKERS * (1 + 3 * EACH) && saved.bytes == 48 * (1 + saved.next));
-	CHECK(pidtab_saved_load_shared(&saved, file, &again, 4096) == PIDTAB_DONE);
-	CHECK(saved.next == WORKERS * (1 + 3 * EACH) && saved.left_out == 0);
-	same_lists(pidtab_shared_lock(&shared), pidtab_shared_lock(&again));
-	pidtab_shared_unlock(&shared);
-	pidtab_shared_unlock(&again);
-	same_counts(&again);
-	/* The workers take their seats again, and the file goes on. */
-	CHECK(pidtab_shared_seat(&again, &worker) == PIDTAB_DONE && worker == 0);
-	CHECK(pidtab_saved_append_shared(&saved, &again) == PIDTAB_DONE && close(file) == 0);
-	pidtab_shared_close(&shared);
-	pidtab_shared_close(&again);
-}
-
 /* A shared record that is not loaded is not open. */
 static void not_loaded_shared(void)
 {
+	static struct pidtab_shared shared;
 	static unsigned char forged[MOST_BYTES];
 	struct pidtab_saved saved;
 	struct pidtab_entry other = entries[1];
@@ -797,7 +673,6 @@ int main(void)
 	histories_that_are_cut();
 	loaded_with_cuts();
 	want_of_memory();
-	saved_while_threads_make_calls();
 	not_loaded_shared();
 	CHECK(pidtab_record_close(&whole) == PIDTAB_DONE);
 	return 0;
