@@ -139,6 +139,10 @@ class Listed(ABC):
         """The table as it stands now. It costs a copy of the table; by the program it costs what all calls so far did."""
         return read_list(self._list_text())
 
+    def list_text(self) -> str:
+        """The same as text, as `pidtab list` writes it and `pidtab-tree` reads it."""
+        return self._list_text()
+
     def tree(self) -> str:
         """The same as a drawing for people."""
         return draw_list(self.list())

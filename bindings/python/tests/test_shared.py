@@ -34,7 +34,7 @@ EACH = 20000
 
 # The queries, and a call of each kind that is none.
 QUERIES = ["getpid 2", "getppid 2", "getpgid 1 2", "getsid 1 2", "nspid 1 2", "next 1 task 2", "next 1 group 0", "next 1 session 9", "count 0"]
-NO_QUERIES = ["fork", "exec", "exit", "wait", "setpgid", "setsid", "join", "subreaper", "mk", "rm", "limit", "move", "line", "answers", "list", "tree", "close"]
+NO_QUERIES = ["fork", "exec", "exit", "wait", "setpgid", "setsid", "join", "subreaper", "mk", "rm", "limit", "move", "line", "answers", "list", "list_text", "tree", "close"]
 
 
 class CallsBySeat(CallCases, BySeat):
@@ -117,7 +117,7 @@ def methods_of(shared: Shared) -> list[Callable[[], object]]:
     """Each method of a table for threads, but its end."""
     return [
         shared.seat, shared.counts, lambda: shared.worker(0), lambda: shared.entry(0), shared.entries, lambda: shared.entries(0), shared.checkpoint,
-        lambda: shared.checkpoint_at(0), shared.list, shared.tree, lambda: shared.ask.getpid(1), lambda: shared.ask.count(),
+        lambda: shared.checkpoint_at(0), shared.list, shared.list_text, shared.tree, lambda: shared.ask.getpid(1), lambda: shared.ask.count(),
     ]  # fmt: skip
 
 
@@ -188,7 +188,7 @@ class Threads(unittest.TestCase):
         with Shared(WORKERS) as other:
             seats = [other.seat() for _ in range(WORKERS)]
             self.assertEqual([seats[it.worker].line(it.line) for it in entries], [it.answer for it in entries])
-            self.assertEqual(other._list_text(), shared._list_text())
+            self.assertEqual(other.list_text(), shared.list_text())
             self.assertGreater(len(other.list().tasks), WORKERS)
             self.assertEqual(list(other.entries()), entries)
 
