@@ -5,6 +5,10 @@
 #include <errno.h>
 
 _Static_assert(PIDTAB_DEVICE == EIO && PIDTAB_NOT_SAVED == ENOEXEC && PIDTAB_NOT_EMPTY == EEXIST && PIDTAB_TORN == ENOMSG, "status");
+_Static_assert(sizeof(struct pidtab_saved_head) == 16 && offsetof(struct pidtab_saved_head, first_stamp) == 8, "pidtab_saved_head");
+_Static_assert(offsetof(struct pidtab_saved, next) == 16 && offsetof(struct pidtab_saved, left_out) == 32, "pidtab_saved");
+_Static_assert(offsetof(struct pidtab_saved, part) == 48 && offsetof(struct pidtab_saved, is_torn) == 56, "pidtab_saved");
+_Static_assert(offsetof(struct pidtab_saved, file) == 60 && sizeof(struct pidtab_saved) == 72, "pidtab_saved");
 _Static_assert(PIDTAB_WRONG_BYTE == EILSEQ && PIDTAB_OTHER_VERSION == EPROTONOSUPPORT, "status");
 
 /* The example of docs/SAVED.md. */
