@@ -9,7 +9,7 @@
  * Nobody checks that a caller keeps these rules, nor those of pidtab.h, which hold too:
  *
  * - One thread at a time works on a struct pidtab_saved. The others may make calls on the shared record meanwhile.
- * - One process at a time writes the file, by one descriptor, whose place nobody else moves. O_APPEND holds that for writes.
+ * - One process at a time writes the file, and by one descriptor.
  * - What a write has given to the kernel survives the process. To have it survive the machine, call fsync or fdatasync.
  * - A pipe without a reader is SIGPIPE, as for any write. Ignored, it is PIDTAB_DEVICE with EPIPE.
  */
