@@ -9,7 +9,7 @@
  * Nobody checks that a caller keeps these rules, nor those of pidtab.h, which hold too:
  *
  * - One thread at a time works on a struct pidtab_saved. The others may make calls on the shared record meanwhile.
- * - One process at a time writes the file, by one descriptor, whose place nobody else moves. O_APPEND holds that for writes.
+ * - One process at a time writes the file, and by one descriptor.
  * - What a write has given to the kernel survives the process. To have it survive the machine, call fsync or fdatasync.
  * - A pipe without a reader is SIGPIPE, as for any write. Ignored, it is PIDTAB_DEVICE with EPIPE.
  */
@@ -75,8 +75,8 @@ uint64_t pidtab_saved_sum(uint64_t sum, const void *bytes, size_t length);
 /* Writes the head, of size PIDTAB_SAVED_BLOCK. DONE, NO_ROOM, and OUT_OF_RANGE for settings that no record is opened with. */
 uint32_t pidtab_saved_put_head(const struct pidtab_saved_head *head, void *bytes, size_t room, size_t *size, uint64_t *sum);
 
-/* Writes an entry; in room of PIDTAB_SAVED_LONGEST each fits. DONE; NO_ROOM, and then size says what is needed; OUT_OF_RANGE for an
- * entry that no record has: what its call does not take, and what its reply does not tell, is 0. */
+/* Writes an entry; in room of PIDTAB_SAVED_LONGEST each fits. DONE; NO_ROOM, and then size says what is needed; OUT_OF_RANGE where a
+ * number has no place in the form. Each entry of pidtab_record_read can be written. */
 uint32_t pidtab_saved_put(const struct pidtab_entry *entry, void *bytes, size_t room, size_t *size, uint64_t *sum);
 
 /* Reads the head from the front of the bytes; size is how many it has. DONE; TORN where there are fewer, and those may be the front
@@ -85,7 +85,7 @@ uint32_t pidtab_saved_take_head(const void *bytes, size_t length, struct pidtab_
 
 /* Reads an entry from the front of the bytes; size is how many it has. DONE; TORN where there are fewer, and then size says how
  * many there are at least; WRONG_BYTE, and then size is the place of the first block that is not as it was written. Nothing is
- * said of the call: it may be one that no record makes. */
+ * said of the call and the reply: they may be those of no record. */
 uint32_t pidtab_saved_take(const void *bytes, size_t length, struct pidtab_entry *entry, size_t *size, uint64_t *sum);
 
 /* No line is longer. */

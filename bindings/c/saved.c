@@ -12,9 +12,15 @@
 
 static const unsigned char magic[8] = { 0x89, 'p', 'i', 'd', 't', 'a', 'b', '\n' };
 
-/* Four steps of the CRC at once: that of each value of the last four bits. The polynomial is 0x42f0e1eba9ea3693 of ECMA-182, with its
- * bits reflected. */
-static const uint64_t steps[16] = {
+/* What the low four bits of a byte make of the CRC, and what its high four bits do. The polynomial is 0x42f0e1eba9ea3693 of ECMA-182,
+ * with its bits reflected. */
+static const uint64_t of_low[16] = {
+	0x0000000000000000, 0xb32e4cbe03a75f6f, 0xf4843657a840a05b, 0x47aa7ae9abe7ff34,
+	0x7bd0c384ff8f5e33, 0xc8fe8f3afc28015c, 0x8f54f5d357cffe68, 0x3c7ab96d5468a107,
+	0xf7a18709ff1ebc66, 0x448fcbb7fcb9e309, 0x0325b15e575e1c3d, 0xb00bfde054f94352,
+	0x8c71448d0091e255, 0x3f5f08330336bd3a, 0x78f572daa8d1420e, 0xcbdb3e64ab761d61
+};
+static const uint64_t of_high[16] = {
 	0x0000000000000000, 0x7d9ba13851336649, 0xfb374270a266cc92, 0x86ace348f355aadb,
 	0x64b62bcaebc387a1, 0x192d8af2baf0e1e8, 0x9f8169ba49a54b33, 0xe21ac88218962d7a,
 	0xc96c5795d7870f42, 0xb4f7f6ad86b4690b, 0x325b15e575e1c3d0, 0x4fc0b4dd24d2a599,
@@ -28,8 +34,7 @@ uint64_t pidtab_saved_sum(uint64_t sum, const void *bytes, size_t length)
 	sum = ~sum;
 	for (size_t i = 0; i < length; i++) {
 		sum ^= byte[i];
-		sum = sum >> 4 ^ steps[sum & 15];
-		sum = sum >> 4 ^ steps[sum & 15];
+		sum = sum >> 8 ^ of_low[sum & 15] ^ of_high[sum >> 4 & 15];
 	}
 	return ~sum;
 }

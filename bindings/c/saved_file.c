@@ -122,23 +122,26 @@ static uint32_t append_some(struct pidtab_saved *saved, const struct either *eit
 	return PIDTAB_DONE;
 }
 
-/* A file without a head, or with a torn end, is not gone on with. */
-static uint32_t find_end(struct pidtab_saved *saved)
+/* Goes to the end of the file; a pipe is there. A file without a head, or with a torn end, is not gone on with. */
+static uint32_t go_to_end(struct pidtab_saved *saved)
 {
 	saved->error = 0;
 	if (saved->file == NO_FILE)
 		return failed(saved, EBADF);
-	return saved->bytes == 0 || saved->is_torn ? PIDTAB_TORN : PIDTAB_DONE;
+	if (saved->bytes == 0 || saved->is_torn)
+		return PIDTAB_TORN;
+	lseek(saved->file, 0, SEEK_END);
+	return PIDTAB_DONE;
 }
 
 static uint32_t append_from(struct pidtab_saved *saved, const struct either *either)
 {
 	uint64_t first_kept, recorded;
-	uint32_t status = find_end(saved);
+	uint32_t status = go_to_end(saved);
 
 	if (status == PIDTAB_DONE)
 		status = count_calls(either, &first_kept, &recorded);
-	if (status == PIDTAB_DONE && (saved->next < first_kept || recorded < saved->next))
+	if (status == PIDTAB_DONE && recorded < saved->next)
 		status = PIDTAB_NOT_KEPT;
 	while (status == PIDTAB_DONE && saved->next < recorded)
 		status = append_some(saved, either);

@@ -213,9 +213,10 @@ static void cut_at(size_t size)
 	CHECK(saved.left_out == size - places[count] && has(file, bytes, size));
 	CHECK(saved.head.pid_max == head.pid_max && saved.head.workers == head.workers && saved.head.first_stamp == head.first_stamp);
 	has_entries(&again, count);
-	CHECK(pidtab_saved_append(&saved, &whole) == (saved.left_out ? (uint32_t)PIDTAB_TORN : PIDTAB_DONE));
-	CHECK(pidtab_saved_trim(&saved) == PIDTAB_DONE && saved.left_out == size - places[count]);
-	CHECK(pidtab_saved_append(&saved, &whole) == PIDTAB_DONE && has(file, bytes, places[calls]));
+	/* Wherever its descriptor is. */
+	CHECK(lseek(file, 0, SEEK_SET) == 0 && pidtab_saved_append(&saved, &whole) == (saved.left_out ? (uint32_t)PIDTAB_TORN : PIDTAB_DONE));
+	CHECK(lseek(file, 0, SEEK_SET) == 0 && pidtab_saved_trim(&saved) == PIDTAB_DONE && saved.left_out == size - places[count]);
+	CHECK(pidtab_saved_append(&saved, &whole) == PIDTAB_DONE && pidtab_saved_trim(&saved) == PIDTAB_DONE && has(file, bytes, places[calls]));
 	CHECK(pidtab_record_close(&again) == PIDTAB_DONE && close(file) == 0);
 }
 
@@ -544,6 +545,20 @@ static void other_replies(void)
 	}
 }
 
+/* Behind a load that failed nothing is appended, also where there is nothing to append. */
+static void not_gone_on_with(void)
+{
+	static unsigned char forged[MOST_BYTES];
+	struct pidtab_record empty = PIDTAB_RECORD_INIT;
+	struct pidtab_saved saved;
+	struct pidtab_entry other = entries[0];
+
+	other.reply.first++;
+	CHECK(status_of(forged, forge(&other, 0, forged), &saved) == PIDTAB_DIFFERS && saved.next == 0);
+	CHECK(pidtab_record_open(&empty, head.pid_max, head.first_stamp, head.workers) == PIDTAB_DONE);
+	CHECK(pidtab_saved_append(&saved, &empty) == PIDTAB_DEVICE && saved.error == EBADF && pidtab_record_close(&empty) == PIDTAB_DONE);
+}
+
 static void calls_that_cannot_be_made(void)
 {
 	static unsigned char forged[MOST_BYTES];
@@ -592,7 +607,7 @@ static void histories_that_are_cut(void)
 	CHECK(close(file) == 0 && close(other) == 0);
 }
 
-/* A load that keeps few entries, of the same calls. */
+/* A load that keeps few entries, of the same calls. It takes sixteen at a time. */
 static void loaded_with_cuts(void)
 {
 	struct pidtab_record again = PIDTAB_RECORD_INIT;
@@ -600,7 +615,9 @@ static void loaded_with_cuts(void)
 	uint64_t first_kept, recorded;
 	int file = file_of(bytes, places[calls]);
 
-	CHECK(pidtab_saved_load(&saved, file, &again, 10) == PIDTAB_DONE && saved.next == calls);
+	CHECK(pidtab_saved_load(&saved, file, &again, 33) == PIDTAB_DONE && saved.next == calls);
+	CHECK(pidtab_record_counts(&again, &first_kept, &recorded) == PIDTAB_DONE && first_kept == 48 && recorded == calls);
+	CHECK(pidtab_record_close(&again) == PIDTAB_DONE && pidtab_saved_load(&saved, file, &again, 16) == PIDTAB_DONE && saved.next == calls);
 	CHECK(pidtab_record_counts(&again, &first_kept, &recorded) == PIDTAB_DONE && first_kept == 64 && recorded == calls);
 	same_lists(&whole, &again);
 	makes(&again, 0, (struct pidtab_call){ .operation = PIDTAB_GETPID, .caller = 1 });
@@ -635,7 +652,7 @@ static void want_of_memory(void)
 /* A shared record that is not loaded is not open. */
 static void not_loaded_shared(void)
 {
-	static struct pidtab_shared shared;
+	struct pidtab_shared shared;
 	static unsigned char forged[MOST_BYTES];
 	struct pidtab_saved saved;
 	struct pidtab_entry other = entries[1];
@@ -668,6 +685,7 @@ int main(void)
 	pipes();
 	a_full_disk();
 	other_replies();
+	not_gone_on_with();
 	calls_that_cannot_be_made();
 	stamps_that_are_used_up();
 	histories_that_are_cut();
