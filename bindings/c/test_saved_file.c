@@ -4,6 +4,7 @@
 #include <errno.h>
 #include <fcntl.h>
 #include <signal.h>
+#include <sys/wait.h>
 #include <unistd.h>
 
 /* The heap that heap.c is built with here: it refuses the allocation that the counter falls on. 0: none. */
@@ -588,6 +589,54 @@ static void stamps_that_are_used_up(void)
 	CHECK(status_of(forged, 96, &saved) == PIDTAB_DONE && saved.next == 1);
 }
 
+/* A process that goes on with the file, and says of each call that it is saved, until it is killed. */
+static _Noreturn void lives(int file, int tells)
+{
+	struct pidtab_record record = PIDTAB_RECORD_INIT;
+	struct pidtab_saved saved;
+
+	CHECK(pidtab_saved_resume(&saved, file, &head, &record, 64) == PIDTAB_DONE);
+	for (uint64_t i = saved.next;; i++) {
+		makes(&record, i % 3, (struct pidtab_call){ .operation = i % 2 ? PIDTAB_SETSID : PIDTAB_NEXT, .caller = 1, .number = (uint32_t)i });
+		CHECK(pidtab_saved_append(&saved, &record) == PIDTAB_DONE && write(tells, &saved.next, sizeof saved.next) == sizeof saved.next);
+	}
+}
+
+/* How many calls were saved, as the process said before it was killed. */
+static uint64_t told_till_killed(int file)
+{
+	uint64_t told = 0;
+	int ends[2];
+
+	CHECK(pipe(ends) == 0);
+	pid_t life = fork();
+	CHECK(life >= 0);
+	if (life == 0)
+		lives(file, ends[1]);
+	CHECK(close(ends[1]) == 0);
+	for (int i = 0; i < 200; i++)
+		CHECK(read(ends[0], &told, sizeof told) == sizeof told);
+	CHECK(kill(life, SIGKILL) == 0 && waitpid(life, NULL, 0) == life);
+	while (read(ends[0], &told, sizeof told) == sizeof told)
+		continue;
+	CHECK(close(ends[0]) == 0);
+	return told;
+}
+
+static void killed_again_and_again(void)
+{
+	struct pidtab_saved saved;
+	int file = new_file();
+
+	for (uint64_t before = 0, turn = 0; turn < 20; turn++) {
+		uint64_t told = told_till_killed(file);
+		CHECK(told >= before + 200 && load_status(file, &saved) == PIDTAB_DONE);
+		CHECK(saved.next >= told && saved.next <= told + 1);
+		before = saved.next;
+	}
+	CHECK(close(file) == 0);
+}
+
 /* What is cut away unsaved is told; what is saved may be cut. */
 static void histories_that_are_cut(void)
 {
@@ -688,6 +737,7 @@ int main(void)
 	not_gone_on_with();
 	calls_that_cannot_be_made();
 	stamps_that_are_used_up();
+	killed_again_and_again();
 	histories_that_are_cut();
 	loaded_with_cuts();
 	want_of_memory();
