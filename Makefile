@@ -101,8 +101,10 @@ MANDIR ?= $(PREFIX)/share/man
 PYTHONDIR ?= $(PREFIX)/share/pidtab/python
 INSTALL ?= install
 PROGRAMS = pidtab-tree pidtab-check pidtab-play
-# The functions of the library, each of which has a manual page by its name.
-FUNCTIONS = $(shell sed -n 's/^\.Nm \(pidtab_[a-z]*\).*/\1/p' man/pidtab.3)
+# The functions that a manual page names at its head, each of which has a manual page by its name.
+NAMED = sed -n 's/^\.Nm \(pidtab_[a-z_]*\).*/\1/p'
+FUNCTIONS = $(shell $(NAMED) man/*.3)
+HEADERS = pidtab.h pidtab_shared.h pidtab_saved.h
 MANUALS = $(foreach page,$(wildcard man/*.$(1)),'$(DESTDIR)$(MANDIR)/man$(1)/$(notdir $(page))')
 BINARIES = $(DESTDIR)$(PREFIX)/bin
 SHARED_FILES = $(DESTDIR)$(PREFIX)/share/pidtab
@@ -129,21 +131,22 @@ install: built $(if $(BUILT_LIBRARY),install-library) ## installs what is built 
 	$(INSTALL) -m 644 man/*.1 '$(DESTDIR)$(MANDIR)/man1'
 	$(INSTALL) -m 644 man/*.5 '$(DESTDIR)$(MANDIR)/man5'
 
-install-library: ## installs the library alone, with its header and its manual page
+install-library: ## installs the library alone, with its headers and its manual pages
 	@test -n '$(BUILT_LIBRARY)' || { echo 'no library out/libpidtab.so.1: build it with `make lib`' >&2; exit 1; }
 	$(INSTALL) -d '$(DESTDIR)$(LIBDIR)/pkgconfig' '$(DESTDIR)$(INCLUDEDIR)' '$(DESTDIR)$(MANDIR)/man3'
 	$(INSTALL) -m 644 out/libpidtab.a out/libpidtab.so.1 '$(DESTDIR)$(LIBDIR)'
 	ln -sf libpidtab.so.1 '$(DESTDIR)$(LIBDIR)/libpidtab.so'
-	$(INSTALL) -m 644 out/pidtab.h out/pidtab_shared.h '$(DESTDIR)$(INCLUDEDIR)'
+	$(INSTALL) -m 644 $(HEADERS:%=out/%) '$(DESTDIR)$(INCLUDEDIR)'
 	$(describe) > '$(DESTDIR)$(LIBDIR)/pkgconfig/pidtab.pc'
 	$(INSTALL) -m 644 man/*.3 '$(DESTDIR)$(MANDIR)/man3'
-	for it in $(FUNCTIONS); do echo '.so man3/pidtab.3' > '$(DESTDIR)$(MANDIR)/man3/'$$it.3 || exit 1; done
+	for page in man/*.3; do for it in $$($(NAMED) $$page); do \
+		echo ".so man3/$${page#man/}" > '$(DESTDIR)$(MANDIR)/man3/'$$it.3 || exit 1; done; done
 
 uninstall: ## removes what both have installed, with the same variables
 	rm -f '$(BINARIES)/pidtab' $(PROGRAMS:%='$(BINARIES)/%')
 	rm -f '$(DESTDIR)$(LIBDIR)/libpidtab.a' '$(DESTDIR)$(LIBDIR)/libpidtab.so' '$(DESTDIR)$(LIBDIR)/libpidtab.so.1'
-	rm -f '$(DESTDIR)$(LIBDIR)/pkgconfig/pidtab.pc' '$(DESTDIR)$(INCLUDEDIR)/pidtab.h' '$(DESTDIR)$(INCLUDEDIR)/pidtab_shared.h'
-	rm -f $(call MANUALS,1) $(call MANUALS,3) $(call MANUALS,5) $(FUNCTIONS:%='$(DESTDIR)$(MANDIR)/man3/%.3')
+	rm -f '$(DESTDIR)$(LIBDIR)/pkgconfig/pidtab.pc' $(HEADERS:%='$(DESTDIR)$(INCLUDEDIR)/%')
+	rm -f $(call MANUALS,1) $(call MANUALS,3) $(call MANUALS,5) $(foreach it,$(FUNCTIONS),'$(DESTDIR)$(MANDIR)/man3/$(it).3')
 	rm -rf '$(DESTDIR)$(PYTHONDIR)/pidtab' '$(SHARED_FILES)'
 
 .PHONY: dist dist-test
@@ -171,7 +174,7 @@ lib: ## * proves and builds the library for C, with its header, in out/ (some 40
 	@tools/prove pidtab_c out/lib.log rt lib || { echo 'make lib failed: see out/lib.log' >&2; exit 1; }
 	@$(MAKE) -s out/libpidtab.a out/libpidtab.so.1 > out/link.log 2>&1 || { echo 'make lib failed: see out/link.log' >&2; exit 1; }
 	@ln -sf libpidtab.so.1 out/libpidtab.so
-	@cp bindings/c/pidtab.h bindings/c/pidtab_shared.h out
+	@cp $(HEADERS:%=bindings/c/%) out
 	@$(describe) > out/pidtab.pc
 	@tools/report out/library.txt out/libpidtab.a out/libpidtab.so.1
 
@@ -180,8 +183,8 @@ out/proved.a: $(LIBRARY) bindings/c/renamed.syms
 	$(OBJCOPY) --redefine-syms=bindings/c/renamed.syms $(LIBRARY) $@
 
 # One object, of whose symbols only pidtab_.. are seen.
-AROUND = heap guard guard_record shared
-out/pidtab.o: out/proved.a $(AROUND:%=bindings/c/%.c) bindings/c/pidtab.h bindings/c/pidtab_shared.h
+AROUND = heap guard guard_record shared saved saved_file
+out/pidtab.o: out/proved.a $(AROUND:%=bindings/c/%.c) $(HEADERS:%=bindings/c/%)
 	for it in $(AROUND); do $(CC) -std=c11 -O2 -Wall -Wextra -Werror -fPIC -pthread -c -o out/$$it.o bindings/c/$$it.c || exit 1; done
 	$(LD) -r -o $@ --whole-archive out/proved.a --no-whole-archive $(AROUND:%=out/%.o)
 	$(OBJCOPY) -w --keep-global-symbol='pidtab_*' $@
@@ -217,7 +220,12 @@ bindings-python:
 # From C, under the sanitizers for addresses and undefined behaviour, and under that for threads.
 HELD = -Dmalloc=test_malloc -Drealloc=test_realloc
 RECORD_TEST = test_record guard guard_record
+THREADS_TEST = test_threads guard guard_record
 SHARED_TEST = test_shared shared guard guard_record heap
+SAVED_TEST = test_saved saved guard_record heap
+SAVED_FILE_TEST = test_saved_file saved shared guard_record
+SAVED_THREADS_TEST = test_saved_threads saved saved_file shared guard_record heap
+DEVICES = -Dread=test_read -Dwrite=test_write
 bindings-c:
 	$(call tested,$(firstword $(CC)),$(LIBRARY),\
 		bindings/c/test_names && $(MAKE) -s out/proved.a && \
@@ -226,9 +234,13 @@ bindings-c:
 		$(CC) $(CHECKED) -o out/test_words bindings/c/test_words.c bindings/c/guard.c bindings/c/heap.c out/proved.a && out/test_words && \
 		$(CC) $(CHECKED) -o out/test_record $(RECORD_TEST:%=bindings/c/%.c) out/test_heap.o out/proved.a && out/test_record && \
 		$(CC) $(THREADED) $(HELD) -Dfree=test_free -c -o out/held_heap.o bindings/c/heap.c && \
-		$(CC) $(THREADED) -o out/test_threads bindings/c/test_threads.c bindings/c/guard.c out/held_heap.o out/proved.a && out/test_threads && \
+		$(CC) $(THREADED) -o out/test_threads $(THREADS_TEST:%=bindings/c/%.c) out/held_heap.o out/proved.a && out/test_threads && \
 		for sanitizer in '$(CHECKED)' '$(THREADED)'; do \
-			$(CC) $$sanitizer -o out/test_shared $(SHARED_TEST:%=bindings/c/%.c) out/proved.a && out/test_shared || exit 1; done)
+			$(CC) $$sanitizer -o out/test_shared $(SHARED_TEST:%=bindings/c/%.c) out/proved.a && out/test_shared && \
+			$(CC) $$sanitizer -o out/test_saved_threads $(SAVED_THREADS_TEST:%=bindings/c/%.c) out/proved.a && out/test_saved_threads || exit 1; done && \
+		$(CC) $(CHECKED) -o out/test_saved $(SAVED_TEST:%=bindings/c/%.c) out/proved.a && out/test_saved && \
+		$(CC) $(CHECKED) $(DEVICES) -c -o out/test_devices.o bindings/c/saved_file.c && \
+		$(CC) $(CHECKED) -o out/test_saved_file $(SAVED_FILE_TEST:%=bindings/c/%.c) out/test_heap.o out/test_devices.o out/proved.a && out/test_saved_file)
 
 bindings-rust:
 	$(call tested,cargo,out/libpidtab.a,cd bindings/rust && cargo test --offline --quiet)

@@ -10,63 +10,84 @@ uint32_t proved_call(struct pidtab *table, const struct pidtab_call *call, struc
 uint32_t proved_ask(struct pidtab *table, const struct pidtab_call *call, struct pidtab_reply *reply);
 uint32_t proved_stat(struct pidtab *table, uint32_t caller, uint32_t number, struct pidtab_task *task);
 
-static bool enter(struct pidtab *table)
+/* Marks the table, and takes out what the proved function works on: it may write each byte of that, and would clear the mark. */
+static bool enter(struct pidtab *table, struct pidtab *held)
 {
-	return !__atomic_test_and_set(&table->in_call, __ATOMIC_ACQUIRE);
+	if (__atomic_test_and_set(&table->in_call, __ATOMIC_ACQUIRE))
+		return false;
+	*held = (struct pidtab){ table->at, table->is_open, false };
+	return true;
 }
 
-static uint32_t leave(struct pidtab *table, uint32_t status)
+/* Puts it back, and takes the mark away. */
+static uint32_t leave(struct pidtab *table, const struct pidtab *held, uint32_t status)
 {
+	table->at = held->at;
+	table->is_open = held->is_open;
 	__atomic_clear(&table->in_call, __ATOMIC_RELEASE);
 	return status;
 }
 
 uint32_t pidtab_open(struct pidtab *table, uint32_t pid_max)
 {
-	if (!enter(table))
+	struct pidtab held;
+
+	if (!enter(table, &held))
 		return PIDTAB_BUSY;
-	return leave(table, proved_open(table, pid_max));
+	return leave(table, &held, proved_open(&held, pid_max));
 }
 
 uint32_t pidtab_close(struct pidtab *table)
 {
-	if (!enter(table))
+	struct pidtab held;
+
+	if (!enter(table, &held))
 		return PIDTAB_BUSY;
-	proved_close(table);
-	return leave(table, PIDTAB_DONE);
+	proved_close(&held);
+	return leave(table, &held, PIDTAB_DONE);
 }
 
 uint32_t pidtab_line(struct pidtab *table, const void *line, size_t length, void *answer, size_t room, size_t *size)
 {
-	if (!enter(table))
+	struct pidtab held;
+
+	if (!enter(table, &held))
 		return PIDTAB_BUSY;
-	return leave(table, proved_line(table, line, length, answer, room, size));
+	return leave(table, &held, proved_line(&held, line, length, answer, room, size));
 }
 
 uint32_t pidtab_list(struct pidtab *table, void *bytes, size_t room, size_t *size)
 {
-	if (!enter(table))
+	struct pidtab held;
+
+	if (!enter(table, &held))
 		return PIDTAB_BUSY;
-	return leave(table, proved_list(table, bytes, room, size));
+	return leave(table, &held, proved_list(&held, bytes, room, size));
 }
 
 uint32_t pidtab_call(struct pidtab *table, const struct pidtab_call *call, struct pidtab_reply *reply)
 {
-	if (!enter(table))
+	struct pidtab held;
+
+	if (!enter(table, &held))
 		return PIDTAB_BUSY;
-	return leave(table, proved_call(table, call, reply));
+	return leave(table, &held, proved_call(&held, call, reply));
 }
 
 uint32_t pidtab_ask(struct pidtab *table, const struct pidtab_call *call, struct pidtab_reply *reply)
 {
-	if (!enter(table))
+	struct pidtab held;
+
+	if (!enter(table, &held))
 		return PIDTAB_BUSY;
-	return leave(table, proved_ask(table, call, reply));
+	return leave(table, &held, proved_ask(&held, call, reply));
 }
 
 uint32_t pidtab_stat(struct pidtab *table, uint32_t caller, uint32_t number, struct pidtab_task *task)
 {
-	if (!enter(table))
+	struct pidtab held;
+
+	if (!enter(table, &held))
 		return PIDTAB_BUSY;
-	return leave(table, proved_stat(table, caller, number, task));
+	return leave(table, &held, proved_stat(&held, caller, number, task));
 }

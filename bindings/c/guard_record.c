@@ -17,119 +17,156 @@ uint32_t proved_record_checkpoint_at(struct pidtab_record *record, uint64_t seen
 uint32_t proved_record_list(struct pidtab_record *record, void *bytes, size_t room, size_t *size);
 uint32_t proved_record_opening(struct pidtab_record *record, void *bytes, size_t room, size_t *size);
 
-static bool enter(struct pidtab_record *record)
+/* Marks the record, and takes out what the proved function works on: it may write each byte of that, and would clear the mark. */
+static bool enter(struct pidtab_record *record, struct pidtab_record *held)
 {
-	return !__atomic_test_and_set(&record->in_call, __ATOMIC_ACQUIRE);
+	if (__atomic_test_and_set(&record->in_call, __ATOMIC_ACQUIRE))
+		return false;
+	*held = (struct pidtab_record){ record->at, record->is_open, false };
+	return true;
 }
 
-static uint32_t leave(struct pidtab_record *record, uint32_t status)
+/* Puts it back, and takes the mark away. */
+static uint32_t leave(struct pidtab_record *record, const struct pidtab_record *held, uint32_t status)
 {
+	record->at = held->at;
+	record->is_open = held->is_open;
 	__atomic_clear(&record->in_call, __ATOMIC_RELEASE);
 	return status;
 }
 
 uint32_t pidtab_record_open(struct pidtab_record *record, uint32_t pid_max, uint64_t first_stamp, uint32_t workers)
 {
-	if (!enter(record))
+	struct pidtab_record held;
+
+	if (!enter(record, &held))
 		return PIDTAB_BUSY;
-	return leave(record, proved_record_open(record, pid_max, first_stamp, workers));
+	return leave(record, &held, proved_record_open(&held, pid_max, first_stamp, workers));
 }
 
 uint32_t pidtab_record_close(struct pidtab_record *record)
 {
-	if (!enter(record))
+	struct pidtab_record held;
+
+	if (!enter(record, &held))
 		return PIDTAB_BUSY;
-	proved_record_close(record);
-	return leave(record, PIDTAB_DONE);
+	proved_record_close(&held);
+	return leave(record, &held, PIDTAB_DONE);
 }
 
 uint32_t pidtab_record_call(struct pidtab_record *record, uint32_t worker, const struct pidtab_call *call, struct pidtab_reply *reply, uint64_t *ordinal)
 {
-	if (!enter(record))
+	struct pidtab_record held;
+
+	if (!enter(record, &held))
 		return PIDTAB_BUSY;
-	return leave(record, proved_record_call(record, worker, call, reply, ordinal));
+	return leave(record, &held, proved_record_call(&held, worker, call, reply, ordinal));
 }
 
 uint32_t pidtab_record_line(struct pidtab_record *record, uint32_t worker, const void *line, size_t length, void *answer, size_t room, size_t *size, uint64_t *ordinal)
 {
-	if (!enter(record))
+	struct pidtab_record held;
+
+	if (!enter(record, &held))
 		return PIDTAB_BUSY;
-	return leave(record, proved_record_line(record, worker, line, length, answer, room, size, ordinal));
+	return leave(record, &held, proved_record_line(&held, worker, line, length, answer, room, size, ordinal));
 }
 
 uint32_t pidtab_record_ask(struct pidtab_record *record, const struct pidtab_call *call, struct pidtab_reply *reply)
 {
-	if (!enter(record))
+	struct pidtab_record held;
+
+	if (!enter(record, &held))
 		return PIDTAB_BUSY;
-	return leave(record, proved_record_ask(record, call, reply));
+	return leave(record, &held, proved_record_ask(&held, call, reply));
 }
 
 uint32_t pidtab_record_stat(struct pidtab_record *record, uint32_t caller, uint32_t number, struct pidtab_task *task)
 {
-	if (!enter(record))
+	struct pidtab_record held;
+
+	if (!enter(record, &held))
 		return PIDTAB_BUSY;
-	return leave(record, proved_record_stat(record, caller, number, task));
+	return leave(record, &held, proved_record_stat(&held, caller, number, task));
 }
 
 uint32_t pidtab_record_counts(struct pidtab_record *record, uint64_t *first_kept, uint64_t *recorded)
 {
-	if (!enter(record))
+	struct pidtab_record held;
+
+	if (!enter(record, &held))
 		return PIDTAB_BUSY;
-	return leave(record, proved_record_counts(record, first_kept, recorded));
+	return leave(record, &held, proved_record_counts(&held, first_kept, recorded));
 }
 
 uint32_t pidtab_record_worker(struct pidtab_record *record, uint32_t worker, uint64_t *calls)
 {
-	if (!enter(record))
+	struct pidtab_record held;
+
+	if (!enter(record, &held))
 		return PIDTAB_BUSY;
-	return leave(record, proved_record_worker(record, worker, calls));
+	return leave(record, &held, proved_record_worker(&held, worker, calls));
 }
 
 uint32_t pidtab_record_entry(struct pidtab_record *record, uint64_t ordinal, uint64_t *worker, struct pidtab_call *call, struct pidtab_reply *reply)
 {
-	if (!enter(record))
+	struct pidtab_record held;
+
+	if (!enter(record, &held))
 		return PIDTAB_BUSY;
-	return leave(record, proved_record_entry(record, ordinal, worker, call, reply));
+	return leave(record, &held, proved_record_entry(&held, ordinal, worker, call, reply));
 }
 
 uint32_t pidtab_record_read(struct pidtab_record *record, uint64_t from, struct pidtab_entry *entries, size_t room, size_t *count)
 {
-	if (!enter(record))
+	struct pidtab_record held;
+
+	if (!enter(record, &held))
 		return PIDTAB_BUSY;
-	return leave(record, proved_record_read(record, from, entries, room, count));
+	return leave(record, &held, proved_record_read(&held, from, entries, room, count));
 }
 
 uint32_t pidtab_record_replay(struct pidtab_record *record, const struct pidtab_entry *saved, size_t count, size_t *place)
 {
-	if (!enter(record))
+	struct pidtab_record held;
+
+	if (!enter(record, &held))
 		return PIDTAB_BUSY;
-	return leave(record, proved_record_replay(record, saved, count, place));
+	return leave(record, &held, proved_record_replay(&held, saved, count, place));
 }
 
 uint32_t pidtab_record_checkpoint(struct pidtab_record *record)
 {
-	if (!enter(record))
+	struct pidtab_record held;
+
+	if (!enter(record, &held))
 		return PIDTAB_BUSY;
-	return leave(record, proved_record_checkpoint(record));
+	return leave(record, &held, proved_record_checkpoint(&held));
 }
 
 uint32_t pidtab_record_checkpoint_at(struct pidtab_record *record, uint64_t seen)
 {
-	if (!enter(record))
+	struct pidtab_record held;
+
+	if (!enter(record, &held))
 		return PIDTAB_BUSY;
-	return leave(record, proved_record_checkpoint_at(record, seen));
+	return leave(record, &held, proved_record_checkpoint_at(&held, seen));
 }
 
 uint32_t pidtab_record_list(struct pidtab_record *record, void *bytes, size_t room, size_t *size)
 {
-	if (!enter(record))
+	struct pidtab_record held;
+
+	if (!enter(record, &held))
 		return PIDTAB_BUSY;
-	return leave(record, proved_record_list(record, bytes, room, size));
+	return leave(record, &held, proved_record_list(&held, bytes, room, size));
 }
 
 uint32_t pidtab_record_opening(struct pidtab_record *record, void *bytes, size_t room, size_t *size)
 {
-	if (!enter(record))
+	struct pidtab_record held;
+
+	if (!enter(record, &held))
 		return PIDTAB_BUSY;
-	return leave(record, proved_record_opening(record, bytes, room, size));
+	return leave(record, &held, proved_record_opening(&held, bytes, room, size));
 }

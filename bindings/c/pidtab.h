@@ -238,6 +238,14 @@ struct pidtab_task {
  * call, as pidtab_ask is none. What the table refuses is PIDTAB_DONE: the task says so. DONE, CLOSED. */
 uint32_t pidtab_stat(struct pidtab *table, uint32_t caller, uint32_t number, struct pidtab_task *task);
 
+/* No line of a call is longer. */
+#define PIDTAB_LONGEST_CALL 42
+
+/* Writes the call as a line of the script language, without a newline and a zero byte: pidtab_line makes the same call of it. It needs
+ * no table. DONE; OUT_OF_RANGE where the numbers say no call; NO_ROOM where the line is longer than the room, and then too size is its
+ * length. */
+uint32_t pidtab_call_line(const struct pidtab_call *call, void *line, size_t room, size_t *size);
+
 /* Each call as a function: a number, or minus an errno, which is the status or that of the refusal. What tells no number
  * is 0. pidtab_call tells a status from a refusal, and one refusal from another. */
 

@@ -92,14 +92,115 @@ static void each_function_is_busy(void)
 	CHECK(pidtab_close(&table) == PIDTAB_BUSY);
 }
 
-static void while_another(void *(*works)(void *))
+static struct pidtab_record record = PIDTAB_RECORD_INIT;
+
+static struct pidtab_entry saved;
+
+static void *opens_record(void *unused)
+{
+	CHECK(pidtab_record_open(&record, 32768, 1, 2) == PIDTAB_DONE);
+	return unused;
+}
+
+static void *calls(void *unused)
+{
+	const struct pidtab_call fork_1 = { .operation = PIDTAB_FORK, .caller = 1 };
+	struct pidtab_reply reply;
+	uint64_t ordinal;
+
+	while (hold)
+		CHECK(pidtab_record_call(&record, 0, &fork_1, &reply, &ordinal) == PIDTAB_DONE && reply.kind == PIDTAB_FORKED);
+	return unused;
+}
+
+static void *writes_lines(void *unused)
+{
+	char answer[PIDTAB_LONGEST_ANSWER];
+	size_t size;
+	uint64_t ordinal;
+
+	while (hold)
+		CHECK(pidtab_record_line(&record, 1, "fork 1", 6, answer, sizeof answer, &size, &ordinal) == PIDTAB_DONE);
+	return unused;
+}
+
+static void *replays(void *unused)
+{
+	size_t place;
+
+	while (hold)
+		CHECK(pidtab_record_replay(&record, &saved, 1, &place) == PIDTAB_DONE);
+	return unused;
+}
+
+static void *lists_record(void *unused)
+{
+	static char text[1 << 20];
+	size_t size = 0;
+	CHECK(pidtab_record_list(&record, text, sizeof text, &size) == PIDTAB_DONE && size > 100);
+	return unused;
+}
+
+static void *lists_opening(void *unused)
+{
+	static char text[1 << 20];
+	size_t size = 0;
+	CHECK(pidtab_record_opening(&record, text, sizeof text, &size) == PIDTAB_DONE && size > 24);
+	return unused;
+}
+
+static void *cuts(void *unused)
+{
+	CHECK(pidtab_record_checkpoint(&record) == PIDTAB_DONE);
+	return unused;
+}
+
+static void *cuts_at(void *unused)
+{
+	uint64_t first, recorded;
+	CHECK(pidtab_record_counts(&record, &first, &recorded) == PIDTAB_DONE);
+	CHECK(pidtab_record_checkpoint_at(&record, recorded) == PIDTAB_DONE);
+	return unused;
+}
+
+static void *closes_record(void *unused)
+{
+	CHECK(pidtab_record_close(&record) == PIDTAB_DONE);
+	return unused;
+}
+
+static void each_function_of_a_record_is_busy(void)
+{
+	char room[PIDTAB_LONGEST_ANSWER] = "kept";
+	size_t size = 7;
+	uint64_t one = 7, other = 7;
+	struct pidtab_call call = { .operation = PIDTAB_GETPID, .caller = 1 };
+	struct pidtab_reply reply = { .kind = 77 };
+	struct pidtab_entry entry = { .worker = 77 };
+
+	CHECK(pidtab_record_open(&record, 32768, 1, 2) == PIDTAB_BUSY && pidtab_record_open(&record, 0, 0, 0) == PIDTAB_BUSY);
+	CHECK(pidtab_record_call(&record, 0, &call, &reply, &one) == PIDTAB_BUSY);
+	CHECK(pidtab_record_line(&record, 0, "getpid 1", 8, room, sizeof room, &size, &one) == PIDTAB_BUSY);
+	CHECK(pidtab_record_ask(&record, &call, &reply) == PIDTAB_BUSY);
+	CHECK(pidtab_record_counts(&record, &one, &other) == PIDTAB_BUSY && pidtab_record_worker(&record, 0, &one) == PIDTAB_BUSY);
+	CHECK(pidtab_record_entry(&record, 0, &one, &call, &reply) == PIDTAB_BUSY);
+	CHECK(pidtab_record_read(&record, 0, &entry, 1, &size) == PIDTAB_BUSY);
+	CHECK(pidtab_record_replay(&record, &saved, 1, &size) == PIDTAB_BUSY);
+	CHECK(pidtab_record_checkpoint(&record) == PIDTAB_BUSY && pidtab_record_checkpoint_at(&record, 0) == PIDTAB_BUSY);
+	CHECK(pidtab_record_list(&record, room, sizeof room, &size) == PIDTAB_BUSY);
+	CHECK(pidtab_record_opening(&record, room, sizeof room, &size) == PIDTAB_BUSY);
+	CHECK(pidtab_record_close(&record) == PIDTAB_BUSY);
+	CHECK(one == 7 && other == 7 && size == 7 && strcmp(room, "kept") == 0 && reply.kind == 77 && entry.worker == 77);
+}
+
+static void while_another(void *(*works)(void *), void (*each_is_busy)(void))
 {
 	pthread_t other;
 
 	hold = true;
 	CHECK(pthread_create(&other, NULL, works, NULL) == 0);
 	sem_wait(&is_held);
-	each_function_is_busy();
+	each_is_busy();
 	sem_post(&go_on);
 	CHECK(pthread_join(other, NULL) == 0);
 }
@@ -107,15 +208,38 @@ static void while_another(void *(*works)(void *))
 static void in_the_middle_of_each(void)
 {
 	CHECK(sem_init(&is_held, 0, 0) == 0 && sem_init(&go_on, 0, 0) == 0);
-	while_another(opens);
+	while_another(opens, each_function_is_busy);
 	CHECK(pidtab_getpid(&table, 1) == 1 && pidtab_open(&table, 32768) == PIDTAB_BUSY);
-	while_another(asks_lines);
-	while_another(forks_on);
-	while_another(lists);
+	while_another(asks_lines, each_function_is_busy);
+	while_another(forks_on, each_function_is_busy);
+	while_another(lists, each_function_is_busy);
 	int64_t tasks = pidtab_count(&table, 0);
 	CHECK(tasks > 1 && pidtab_fork(&table, 1, false, NULL) > 1 && pidtab_count(&table, 0) == tasks + 1);
-	while_another(closes);
+	while_another(closes, each_function_is_busy);
 	CHECK(pidtab_getpid(&table, 1) == -PIDTAB_CLOSED && table.at == NULL && !table.is_open && !table.in_call);
+}
+
+/* A call that a replay may make at any time, with its reply. */
+static void save_a_call(void)
+{
+	const struct pidtab_call call = { .operation = PIDTAB_GETPID, .caller = 1 };
+	struct pidtab_reply reply;
+	uint64_t ordinal;
+	size_t count;
+
+	CHECK(pidtab_record_call(&record, 0, &call, &reply, &ordinal) == PIDTAB_DONE && reply.first == 1);
+	CHECK(pidtab_record_read(&record, ordinal, &saved, 1, &count) == PIDTAB_DONE && count == 1);
+}
+
+static void in_the_middle_of_each_of_a_record(void)
+{
+	void *(*const others[])(void *) = { calls, writes_lines, replays, lists_record, lists_opening, cuts, cuts_at, closes_record };
+
+	while_another(opens_record, each_function_of_a_record_is_busy);
+	save_a_call();
+	for (size_t i = 0; i < sizeof others / sizeof others[0]; i++)
+		while_another(others[i], each_function_of_a_record_is_busy);
+	CHECK(record.at == NULL && !record.is_open && !record.in_call);
 }
 
 #define THREADS 8
@@ -151,38 +275,10 @@ static void eight_at_once(void)
 	CHECK(pidtab_close(&table) == PIDTAB_DONE);
 }
 
-/* The proved functions, by the names of renamed.syms. */
-uint32_t proved_open(struct pidtab *, uint32_t);
-void proved_close(struct pidtab *);
-uint32_t proved_line(struct pidtab *, const void *, size_t, void *, size_t, size_t *);
-uint32_t proved_list(struct pidtab *, void *, size_t, size_t *);
-uint32_t proved_call(struct pidtab *, const struct pidtab_call *, struct pidtab_reply *);
-
-/* They know nothing of the mark, whose byte is none of theirs: it stays through each. */
-static void the_mark_stays(void)
-{
-	struct pidtab marked = { NULL, false, true };
-	char room[PIDTAB_LONGEST_ANSWER];
-	size_t size = 0;
-	struct pidtab_call call = { PIDTAB_FORK, 1, 0, 0, 1, 0, 0 };
-	struct pidtab_reply reply;
-
-	CHECK(proved_open(&marked, 0) == PIDTAB_OUT_OF_RANGE && marked.in_call);
-	CHECK(proved_line(&marked, "fork 1", 6, room, sizeof room, &size) == PIDTAB_CLOSED && marked.in_call);
-	CHECK(proved_open(&marked, 32768) == PIDTAB_DONE && marked.in_call);
-	CHECK(proved_line(&marked, "fork 1", 6, room, sizeof room, &size) == PIDTAB_DONE && marked.in_call);
-	CHECK(proved_line(&marked, "krof 1", 6, room, sizeof room, &size) == PIDTAB_BAD_LINE && marked.in_call);
-	CHECK(proved_call(&marked, &call, &reply) == PIDTAB_DONE && marked.in_call);
-	CHECK(proved_list(&marked, room, 0, &size) == PIDTAB_NO_ROOM && marked.in_call);
-	CHECK(proved_list(&marked, room, sizeof room, &size) == PIDTAB_DONE && marked.in_call);
-	proved_close(&marked);
-	CHECK(marked.in_call && !marked.is_open);
-}
-
 int main(void)
 {
 	in_the_middle_of_each();
+	in_the_middle_of_each_of_a_record();
 	eight_at_once();
-	the_mark_stays();
 	return 0;
 }

@@ -2,6 +2,8 @@ package pidtab
 
 import (
 	"os"
+	"os/exec"
+	"path/filepath"
 	"reflect"
 	"regexp"
 	"strconv"
@@ -96,5 +98,44 @@ func TestTheRefusalsAreThoseOfTheHeader(t *testing.T) {
 	}
 	if !reflect.DeepEqual(names, words[1:]) || !reflect.DeepEqual(told[1:], words[1:]) {
 		t.Error(words, names, told)
+	}
+}
+
+// block is the code of a kind in a section of the page.
+func block(t *testing.T, page, title, kind string) string {
+	t.Helper()
+	_, behind, _ := strings.Cut(page, "\n## "+title+"\n")
+	return between(t, behind, "```"+kind+"\n", "```\n")
+}
+
+// ran is what a program prints, in a module of its own over this package.
+func ran(t *testing.T, code string) string {
+	t.Helper()
+	here, err := os.Getwd()
+	if err != nil {
+		t.Fatal(err)
+	}
+	folder := t.TempDir()
+	module := "module example\n\ngo 1.19\n\nrequire pidtab v0.0.0\n\nreplace pidtab => " + here + "\n"
+	for name, text := range map[string]string{"main.go": code, "go.mod": module} {
+		if err := os.WriteFile(filepath.Join(folder, name), []byte(text), 0o666); err != nil {
+			t.Fatal(err)
+		}
+	}
+	run := exec.Command("go", "run", ".")
+	run.Dir = folder
+	said, err := run.Output()
+	if err != nil {
+		t.Fatal(err)
+	}
+	return string(said)
+}
+
+func TestTheExamplesOfThePage(t *testing.T) {
+	page := read(t, "bindings/go/README.md")
+	for _, title := range []string{"Example", "A table for many goroutines, with its history"} {
+		if said := ran(t, block(t, page, title, "go")); said != block(t, page, title, "text") {
+			t.Errorf("%s: %s", title, said)
+		}
 	}
 }

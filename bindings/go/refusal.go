@@ -9,16 +9,37 @@ import (
 	"syscall"
 )
 
-// Why a call was not made. The table is as it was.
+// Why a call was not made, or another function not done. The table and its history are as they were, but where a Replay has ErrDiffers.
 var (
 	ErrClosed     = errors.New("pidtab: the table is closed")
 	ErrNoMemory   = errors.New("pidtab: no memory")
 	ErrSpent      = errors.New("pidtab: spent: the table has made 2^64 - 2 calls")
-	ErrOutOfRange = errors.New("pidtab: out of range")
+	ErrOutOfRange = errors.New("pidtab: out of range: pid_max (301 to 4194304), workers (1 to 16), a worker, a seat, a number, no query, or what a call takes")
 	ErrEmptyLine  = errors.New("pidtab: an empty line has no answer")
 	ErrBadLine    = errors.New("pidtab: bad line")
 	ErrBusy       = errors.New("pidtab: busy: a thread that is not here is in a call, as in the forked child of a process with threads")
+	ErrNotKept    = errors.New("pidtab: no entry with the ordinal is kept: it was cut away, or is not reached yet")
+	ErrAgain      = errors.New("pidtab: another number of calls was recorded by now")
+	ErrDiffers    = errors.New("pidtab: a reply is not the saved one")
 )
+
+// ReplayError is why a replay stopped: the entries before the place were made again, and none behind it. ErrDiffers says that the call of the
+// one at the place was made, and has another reply. Any other says that it was not made: ErrOutOfRange where there is no such worker or call;
+// ErrNoMemory, ErrSpent.
+type ReplayError struct {
+	Place int   // of the entry among the saved ones, from 0 on
+	Err   error // which errors.Is finds
+}
+
+// Error tells the place and what is the matter.
+func (stopped ReplayError) Error() string {
+	return fmt.Sprintf("%v: saved entry %d", stopped.Err, stopped.Place)
+}
+
+// Unwrap is what is the matter.
+func (stopped ReplayError) Unwrap() error {
+	return stopped.Err
+}
 
 // Refusal is an error of a call that the table refuses, which changes nothing but that the call is counted. Its errno is wrapped:
 // errors.Is(err, syscall.ESRCH).
@@ -77,6 +98,12 @@ func faultOf(status uint32) error {
 		return ErrBadLine
 	case C.PIDTAB_BUSY:
 		return ErrBusy
+	case C.PIDTAB_NOT_KEPT:
+		return ErrNotKept
+	case C.PIDTAB_AGAIN:
+		return ErrAgain
+	case C.PIDTAB_DIFFERS:
+		return ErrDiffers
 	}
 	return fmt.Errorf("pidtab: the library answers with the status %d", status)
 }

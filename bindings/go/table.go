@@ -16,9 +16,15 @@ import (
 	"unsafe"
 )
 
-// Table is a table of processes. Goroutines may share it: one call is made at a time. It is never copied, which go vet sees by its lock.
-// Each call may answer ErrClosed and ErrSpent, beside what its method names.
+// Table is a table of processes, without a history. Goroutines may share it: one call is made at a time. A copy is the same table. Each call
+// may answer ErrClosed, ErrSpent and ErrBusy, beside what its method names.
 type Table struct {
+	calls
+	own *heldTable
+}
+
+// A heldTable is a table of the library, with its lock. It stays where it is, and is never copied.
+type heldTable struct {
 	lock sync.Mutex
 	raw  C.struct_pidtab
 }
@@ -26,91 +32,87 @@ type Table struct {
 // Open makes a table with the root init alone, whose numbers are below pidMax. ErrOutOfRange for a pidMax outside 301 to 4194304,
 // ErrNoMemory.
 func Open(pidMax uint32) (*Table, error) {
-	if version := C.pidtab_version(); version != C.PIDTAB_VERSION {
-		return nil, fmt.Errorf("pidtab: the library has the interface %d, and this package is for %d", version, C.PIDTAB_VERSION)
-	}
-	table := new(Table)
-	if err := faultOf(uint32(C.pidtab_open(&table.raw, C.uint32_t(pidMax)))); err != nil {
+	if err := compareVersions(); err != nil {
 		return nil, err
 	}
-	runtime.SetFinalizer(table, (*Table).Close)
-	return table, nil
+	held := new(heldTable)
+	if err := faultOf(uint32(C.pidtab_open(&held.raw, C.uint32_t(pidMax)))); err != nil {
+		return nil, err
+	}
+	runtime.SetFinalizer(held, (*heldTable).close)
+	return &Table{calls{held}, held}, nil
+}
+
+// compareVersions is an error where the library has another interface.
+func compareVersions() error {
+	if version := C.pidtab_version(); version != C.PIDTAB_VERSION {
+		return fmt.Errorf("pidtab: the library has the interface %d, and this package is for %d", version, C.PIDTAB_VERSION)
+	}
+	return nil
 }
 
 // Close frees the table. A second time nothing is done; calls answer ErrClosed from then on. A table that nobody has any more is closed at
 // some time.
 func (table *Table) Close() {
-	table.lock.Lock()
-	defer table.lock.Unlock()
-	C.pidtab_close(&table.raw)
+	table.held().close()
+}
+
+// Ask answers a query as its call would be answered, refusals too. It is no call: nothing changes, and it is not counted. A query is a getpid,
+// getppid, getpgid, getsid, nspid, next or count; ErrOutOfRange for each other call. ErrClosed, ErrBusy.
+func (table *Table) Ask(query Call) (Reply, error) {
+	held, numbers, reply := table.held(), query.numbers(), new(C.struct_pidtab_reply)
+	held.lock.Lock()
+	defer held.lock.Unlock()
+	if err := faultOf(uint32(C.pidtab_ask(&held.raw, &numbers, reply))); err != nil {
+		return Reply{}, err
+	}
+	return replyOf(reply), nil
 }
 
 // Line makes the call on a line of the script language, without its newline. What the table refuses is an answer, as `ESRCH no-caller`.
-// ErrEmptyLine, ErrBadLine, ErrClosed, ErrSpent, and ErrNoMemory for fork and mk.
+// ErrEmptyLine, ErrBadLine, ErrClosed, ErrSpent, ErrBusy, and ErrNoMemory for fork and mk.
 func (table *Table) Line(line string) (string, error) {
-	// One byte more, so that there is one to point to.
-	bytes := append([]byte(line), '\n')
-	var answer [C.PIDTAB_LONGEST_ANSWER]C.uint8_t
-	var size C.size_t
-	table.lock.Lock()
-	defer table.lock.Unlock()
-	status := C.pidtab_line(&table.raw, unsafe.Pointer(&bytes[0]), C.size_t(len(line)), unsafe.Pointer(&answer[0]), C.PIDTAB_LONGEST_ANSWER, &size)
-	if err := faultOf(uint32(status)); err != nil {
-		return "", err
-	}
-	return text(answer[:size]), nil
+	held := table.held()
+	held.lock.Lock()
+	defer held.lock.Unlock()
+	return answer(line, func(line unsafe.Pointer, length C.size_t, room unsafe.Pointer, size *C.size_t) C.uint32_t {
+		return C.pidtab_line(&held.raw, line, length, room, C.PIDTAB_LONGEST_ANSWER, size)
+	})
 }
-
-// The room for a first try of a list.
-const shortList = 4096
 
 // List is the list of the table, as `pidtab list` writes it. It costs a copy of the whole table, and two where it is longer than 4,096 bytes.
-// ErrClosed, ErrNoMemory.
+// ErrClosed, ErrNoMemory, ErrBusy.
 func (table *Table) List() (string, error) {
-	table.lock.Lock()
-	defer table.lock.Unlock()
-	size := C.size_t(shortList)
-	for {
-		room := make([]C.uint8_t, size)
-		status := C.pidtab_list(&table.raw, unsafe.Pointer(&room[0]), C.size_t(len(room)), &size)
-		if status == C.PIDTAB_NO_ROOM {
-			continue
-		}
-		if err := faultOf(uint32(status)); err != nil {
-			return "", err
-		}
-		return text(room[:size]), nil
-	}
+	held := table.held()
+	held.lock.Lock()
+	defer held.lock.Unlock()
+	return list(func(room unsafe.Pointer, most C.size_t, size *C.size_t) C.uint32_t {
+		return C.pidtab_list(&held.raw, room, most, size)
+	})
 }
 
-// Listing is the same list, read: the tasks, the namespaces and the control groups. ErrClosed, ErrNoMemory.
+// Listing is the same list, read: the tasks, the namespaces and the control groups. ErrClosed, ErrNoMemory, ErrBusy.
 func (table *Table) Listing() (Listing, error) {
-	list, err := table.List()
-	if err != nil {
-		return Listing{}, err
-	}
-	return ReadList(list)
+	return readListOf(table.List())
 }
 
-// text is what the bytes say.
-func text(bytes []C.uint8_t) string {
-	said := make([]byte, len(bytes))
-	for i, it := range bytes {
-		said[i] = byte(it)
+// held is the table of the library; one that is not open where nobody has opened it.
+func (table *Table) held() *heldTable {
+	if table.own == nil {
+		return new(heldTable)
 	}
-	return string(said)
+	return table.own
 }
 
-// do makes the call. The reply is no refusal.
-func (table *Table) do(call C.struct_pidtab_call) (*C.struct_pidtab_reply, error) {
-	reply := new(C.struct_pidtab_reply)
-	table.lock.Lock()
-	defer table.lock.Unlock()
-	if err := faultOf(uint32(C.pidtab_call(&table.raw, &call, reply))); err != nil {
-		return reply, err
-	}
-	if reply.kind == C.PIDTAB_REFUSED {
-		return reply, refusalOf(reply)
-	}
-	return reply, nil
+// step makes a call.
+func (held *heldTable) step(call *C.struct_pidtab_call, reply *C.struct_pidtab_reply) C.uint32_t {
+	held.lock.Lock()
+	defer held.lock.Unlock()
+	return C.pidtab_call(&held.raw, call, reply)
+}
+
+func (held *heldTable) close() {
+	held.lock.Lock()
+	defer held.lock.Unlock()
+	C.pidtab_close(&held.raw)
 }

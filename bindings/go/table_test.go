@@ -50,7 +50,7 @@ func play(t *testing.T, table *Table, lines ...string) {
 }
 
 // The answers are those of docs/SCRIPT.md, on tables that the lines before have made.
-var calls = []struct {
+var callsAndAnswers = []struct {
 	name   string
 	before []string
 	call   func(*Table) told
@@ -97,7 +97,7 @@ var calls = []struct {
 }
 
 func TestCalls(t *testing.T) {
-	for _, it := range calls {
+	for _, it := range callsAndAnswers {
 		table := open(t, 32768)
 		play(t, table, it.before...)
 		want(t, it.name, it.call(table), it.answer, nil)
@@ -230,7 +230,8 @@ func TestWhatErrorsSay(t *testing.T) {
 }
 
 func TestStatuses(t *testing.T) {
-	faults := map[uint32]error{0: nil, 9: ErrClosed, 12: ErrNoMemory, 22: ErrOutOfRange, 61: ErrEmptyLine, 71: ErrBadLine, 16: ErrBusy, 75: ErrSpent}
+	faults := map[uint32]error{0: nil, 9: ErrClosed, 12: ErrNoMemory, 22: ErrOutOfRange, 61: ErrEmptyLine, 71: ErrBadLine, 16: ErrBusy, 75: ErrSpent,
+		2: ErrNotKept, 11: ErrAgain, 74: ErrDiffers}
 	for status, wanted := range faults {
 		if err := faultOf(status); err != wanted {
 			t.Errorf("%d: %v", status, err)
@@ -293,7 +294,7 @@ func TestAClosedTable(t *testing.T) {
 	table := open(t, 32768)
 	table.Close()
 	table.Close()
-	for _, it := range calls {
+	for _, it := range callsAndAnswers {
 		if err := it.call(table).err; err != ErrClosed {
 			t.Errorf("%s: %v", it.name, err)
 		}
@@ -307,11 +308,11 @@ func TestAClosedTable(t *testing.T) {
 // As in a forked child, where the thread whose call was under way is not.
 func TestACallThatDoesNotEnd(t *testing.T) {
 	table := open(t, 32768)
-	table.raw.in_call = true
+	table.own.raw.in_call = true
 	want(t, "getpid", of(table.Getpid(1)), uint32(0), ErrBusy)
 	want(t, "line", of(table.Line("getpid 1")), "", ErrBusy)
 	want(t, "list", of(table.List()), "", ErrBusy)
-	table.raw.in_call = false
+	table.own.raw.in_call = false
 	want(t, "getpid", of(table.Getpid(1)), uint32(1), nil)
 }
 

@@ -7,12 +7,16 @@ if sys.version_info < (3, 10):
     raise ImportError("pidtab needs Python 3.10 or later, and this is Python %d.%d" % sys.version_info[:2])
 
 from pidtab.answers import Forked, Reaped
-from pidtab.calls import DEFAULT_PID_MAX, GREATEST_PID_MAX, LEAST_PID_MAX, Calls, Kind
-from pidtab.faults import LibraryFault, LibraryMissing, ProgramEnded, ProgramFault, ProgramMissing, Refusal, TableClosed
+from pidtab.bounds import DEFAULT_PID_MAX, GREATEST_PID_MAX, LEAST_PID_MAX
+from pidtab.calls import Calls, Kind, Queries
+from pidtab.faults import LibraryFault, LibraryMissing, NotKept, ProgramEnded, ProgramFault, ProgramMissing, Refusal, SeatsTaken, TableClosed
+from pidtab.history import Counts, Entry
 from pidtab.library import find_library
 from pidtab.listing import BadList, Control, Listing, Space, Task, read_list
+from pidtab.native import Ask
 from pidtab.process import Process
 from pidtab.program import find_program
+from pidtab.shared import Seat, Shared
 from pidtab.table import Table
 from pidtab.tree import draw_list
 
@@ -20,20 +24,28 @@ __all__ = [
     "DEFAULT_PID_MAX",
     "GREATEST_PID_MAX",
     "LEAST_PID_MAX",
+    "Ask",
     "BadList",
     "Calls",
     "Control",
+    "Counts",
+    "Entry",
     "Forked",
     "Kind",
     "LibraryFault",
     "LibraryMissing",
     "Listing",
+    "NotKept",
     "Process",
     "ProgramEnded",
     "ProgramFault",
     "ProgramMissing",
+    "Queries",
     "Reaped",
     "Refusal",
+    "Seat",
+    "SeatsTaken",
+    "Shared",
     "Space",
     "Table",
     "TableClosed",

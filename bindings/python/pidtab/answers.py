@@ -1,12 +1,13 @@
 """What answers say, as lines and as numbers. A program that answers what no call is answered is at fault."""
 
+import errno
 import re
 from collections.abc import Callable
 from dataclasses import dataclass
 from typing import Generic, TypeVar
 
-from pidtab.faults import ProgramFault, shorten
-from pidtab.raw import END, KILLED, NONE_YET, PidtabReply
+from pidtab.faults import ProgramFault, say_why, shorten
+from pidtab.raw import CONTROL, COUNTED, END, FORKED, KILLED, LEVELS, NONE_YET, NUMBER, OK, REAPED, REFUSED, PidtabReply
 
 T = TypeVar("T")
 
@@ -94,6 +95,26 @@ def tell_reaped(reply: PidtabReply) -> Reaped | None:
     if reply.kind == NONE_YET:
         return None
     return Reaped(reply.first, None if reply.second == KILLED else reply.second)
+
+
+def say_ended(status: int) -> str:
+    """How a child ended that was reaped."""
+    return "killed" if status == KILLED else f"exit {status}"
+
+
+# The answer that a reply is in the script language, by its kind.
+ANSWERS: dict[int, Callable[[PidtabReply], str]] = {
+    FORKED: lambda reply: f"child {reply.first} root {reply.second}",
+    OK: lambda reply: "ok",
+    NUMBER: lambda reply: str(reply.first),
+    LEVELS: lambda reply: " ".join(map(str, tell_numbers(reply))),
+    REAPED: lambda reply: f"reaped {reply.first} {say_ended(reply.second)}",
+    NONE_YET: lambda reply: "none",
+    COUNTED: lambda reply: str(reply.first),
+    CONTROL: lambda reply: f"control {reply.first}",
+    END: lambda reply: "end",
+    REFUSED: lambda reply: f"{errno.errorcode[reply.error]} {say_why(reply.refusal, reply.first)}",
+}
 
 
 @dataclass(frozen=True)

@@ -11,6 +11,14 @@ class TableClosed(RuntimeError):
     """The table was closed, or is that of the process of which this one is a fork."""
 
 
+class SeatsTaken(RuntimeError):
+    """Each worker of a shared table has its seat already."""
+
+
+class NotKept(LookupError):
+    """The history has no entry with the ordinal: it was cut away, or there is no such call yet."""
+
+
 class ProgramFault(RuntimeError):
     """The program does not do what it should."""
 

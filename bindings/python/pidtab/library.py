@@ -4,10 +4,12 @@ import ctypes
 import functools
 import os
 import sys
+from collections.abc import Mapping
+from typing import TypeVar
 
 from pidtab.faults import LibraryFault, LibraryMissing
 from pidtab.places import HERE, PREFIX, REPOSITORY
-from pidtab.raw import FUNCTIONS, VERSION
+from pidtab.raw import FUNCTIONS, LATER_FUNCTIONS, SHARED_FUNCTIONS, VERSION, VERSION_FUNCTION, Function
 
 # Interfaces that would not fit together have other names.
 SONAME = "libpidtab.so.1"
@@ -18,6 +20,8 @@ BUILT_LIBRARY = REPOSITORY / "out" / "libpidtab.so"
 INSTALLED_LIBRARY = PREFIX / "lib" / SONAME
 
 ADVICE = "build it with `make lib`, or name it by the variable PIDTAB_LIBRARY"
+
+L = TypeVar("L", bound=ctypes.CDLL)
 
 
 def find_library(named: str | os.PathLike[str] | None = None) -> str:
@@ -38,24 +42,42 @@ def has_lock() -> bool:
 
 @functools.cache
 def load_library(path: str) -> ctypes.PyDLL:
-    """The functions of the library. A PyDLL keeps the interpreter's lock through each call, so that no two threads are in one table."""
+    """The functions on a table. A PyDLL keeps the interpreter's lock through each call, so that no two threads are in one table."""
     if not has_lock():
-        raise LibraryFault("an interpreter without its lock would let two threads into one table")
+        raise LibraryFault("an interpreter without its lock would let two threads into one table: pidtab.Shared has a lock of its own")
+    library = load(ctypes.PyDLL, path, FUNCTIONS)
+    declare_functions(library, {name: it for name, it in LATER_FUNCTIONS.items() if hasattr(library, name)}, path)
+    return library
+
+
+@functools.cache
+def load_shared(path: str) -> ctypes.CDLL:
+    """The functions on a table behind a lock. A CDLL gives the interpreter's lock up for each call, so a wait for the other holds nobody up."""
+    return load(ctypes.CDLL, path, VERSION_FUNCTION | SHARED_FUNCTIONS)
+
+
+def load(kind: type[L], path: str, functions: Mapping[str, Function]) -> L:
+    """The library with these functions, if it has the interface that this package is written for."""
     try:
-        library = ctypes.PyDLL(path)
+        library = kind(path)
     except OSError as fault:
         raise LibraryMissing(f"cannot load {fault}: {ADVICE}") from fault
-    declare_functions(library, path)
+    declare_functions(library, functions, path)
     version = library.pidtab_version()
     if version != VERSION:
         raise LibraryFault(f"{path} has the interface {version}, and this package is written for {VERSION}")
     return library
 
 
-def declare_functions(library: ctypes.PyDLL, path: str) -> None:
-    """Says what each function of the header answers and takes."""
-    for name, (answered, taken) in FUNCTIONS.items():
+def declare_functions(library: ctypes.CDLL, functions: Mapping[str, Function], path: str) -> None:
+    """Says what each of these functions answers and takes."""
+    for name, (answered, taken) in functions.items():
         function = getattr(library, name, None)
         if function is None:
-            raise LibraryFault(f"{path} has no function {name}")
+            raise LibraryFault(lacks(path, name))
         function.restype, function.argtypes = answered, taken
+
+
+def lacks(path: str, name: str) -> str:
+    """What to say of a library without a function."""
+    return f"{path} has no function {name}" + ("" if name in FUNCTIONS else f", as the library of an earlier release: {ADVICE}")

@@ -6,7 +6,8 @@ import sys
 from collections.abc import Callable, Iterable, Iterator
 from contextlib import contextmanager
 
-from pidtab.calls import DEFAULT_PID_MAX, Calls
+from pidtab.bounds import DEFAULT_PID_MAX
+from pidtab.calls import Calls
 from pidtab.check import STANDARD_INPUT, open_script
 from pidtab.command import STATUS_DONE, STATUS_FAULT, STATUS_USAGE, complain, finish, parser_of
 from pidtab.faults import LibraryFault, ProgramFault

@@ -9,7 +9,8 @@ from contextlib import suppress
 from typing import IO, TypeVar
 
 from pidtab.answers import Form
-from pidtab.calls import DEFAULT_PID_MAX, Call, Calls, check_pid_max
+from pidtab.bounds import DEFAULT_PID_MAX, check_pid_max
+from pidtab.calls import Call, Calls
 from pidtab.faults import ProgramEnded, ProgramFault, ProgramMissing, TableClosed
 from pidtab.program import find_program
 from pidtab.turn import Turn

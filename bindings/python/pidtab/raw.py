@@ -1,4 +1,4 @@
-"""`bindings/c/pidtab.h` by hand: its numbers, structs and functions. A test compares them with it."""
+"""`bindings/c/pidtab.h` and `pidtab_shared.h` by hand: their numbers, structs and functions. A test compares them."""
 
 import ctypes
 import struct
@@ -15,9 +15,15 @@ EMPTY_LINE = 61
 BAD_LINE = 71
 SPENT = 75
 
+# Of a history besides.
+NOT_KEPT = 2
+AGAIN = 11
+DIFFERS = 74
+
 KILLED = 256
 LEVELS_MAX = 33
 LONGEST_ANSWER = 362
+MOST_WORKERS = 16
 
 FORK, GETPID, NSPID, EXEC, EXIT, WAIT, GETPPID, SETPGID, SETSID, MK = range(10)
 RM, LIMIT, MOVE, COUNT, GETPGID, GETSID, NEXT, JOIN, SUBREAPER = range(10, 19)
@@ -75,19 +81,67 @@ class PidtabReply(ctypes.Structure):
     ]
 
 
+class PidtabEntry(ctypes.Structure):
+    """A recorded call: whose it was, the call and its reply."""
+
+    worker: int
+    call: PidtabCall
+    reply: PidtabReply
+
+    _fields_ = [("worker", ctypes.c_uint64), ("call", PidtabCall), ("reply", PidtabReply)]
+
+
+class PidtabShared(ctypes.Structure):
+    """Room for a table behind a lock, whose size is the platform's: it has some 80 bytes. While it is open it is never copied."""
+
+    _fields_ = [("room", ctypes.c_uint64 * 32)]
+
+
 # The room for any answer.
 Answer = ctypes.c_char * LONGEST_ANSWER
 
+U32, U64, SIZE_T = ctypes.c_uint32, ctypes.c_uint64, ctypes.c_size_t
 TABLE = ctypes.POINTER(Pidtab)
+SHARED = ctypes.POINTER(PidtabShared)
+CALL = ctypes.POINTER(PidtabCall)
+REPLY = ctypes.POINTER(PidtabReply)
+ENTRIES = ctypes.POINTER(PidtabEntry)
 BYTES = ctypes.POINTER(ctypes.c_char)
-SIZE = ctypes.POINTER(ctypes.c_size_t)
+NUMBER_32 = ctypes.POINTER(U32)
+NUMBER_64 = ctypes.POINTER(U64)
+SIZE = ctypes.POINTER(SIZE_T)
 
-# Each function: what it answers, and what it takes.
-FUNCTIONS: dict[str, tuple[type[ctypes.c_uint32] | None, list[type]]] = {
-    "pidtab_version": (ctypes.c_uint32, []),
-    "pidtab_open": (ctypes.c_uint32, [TABLE, ctypes.c_uint32]),
-    "pidtab_close": (ctypes.c_uint32, [TABLE]),
-    "pidtab_line": (ctypes.c_uint32, [TABLE, ctypes.c_char_p, ctypes.c_size_t, BYTES, ctypes.c_size_t, SIZE]),
-    "pidtab_list": (ctypes.c_uint32, [TABLE, BYTES, ctypes.c_size_t, SIZE]),
-    "pidtab_call": (ctypes.c_uint32, [TABLE, ctypes.POINTER(PidtabCall), ctypes.POINTER(PidtabReply)]),
+# A function: what it answers, and what it takes.
+Function = tuple[type[ctypes.c_uint32] | None, list[type]]
+
+VERSION_FUNCTION: dict[str, Function] = {"pidtab_version": (U32, [])}
+
+# The functions on a table that each library of the interface has.
+FUNCTIONS: dict[str, Function] = {
+    **VERSION_FUNCTION,
+    "pidtab_open": (U32, [TABLE, U32]),
+    "pidtab_close": (U32, [TABLE]),
+    "pidtab_line": (U32, [TABLE, ctypes.c_char_p, SIZE_T, BYTES, SIZE_T, SIZE]),
+    "pidtab_list": (U32, [TABLE, BYTES, SIZE_T, SIZE]),
+    "pidtab_call": (U32, [TABLE, CALL, REPLY]),
+}
+
+# Those that an earlier library may lack.
+LATER_FUNCTIONS: dict[str, Function] = {"pidtab_ask": (U32, [TABLE, CALL, REPLY])}
+
+# Those on a table behind a lock.
+SHARED_FUNCTIONS: dict[str, Function] = {
+    "pidtab_shared_open": (U32, [SHARED, U32, U64, U32, U64]),
+    "pidtab_shared_close": (None, [SHARED]),
+    "pidtab_shared_seat": (U32, [SHARED, NUMBER_32]),
+    "pidtab_shared_call": (U32, [SHARED, U32, CALL, REPLY, NUMBER_64]),
+    "pidtab_shared_line": (U32, [SHARED, U32, ctypes.c_char_p, SIZE_T, BYTES, SIZE_T, SIZE, NUMBER_64]),
+    "pidtab_shared_ask": (U32, [SHARED, CALL, REPLY]),
+    "pidtab_shared_counts": (U32, [SHARED, NUMBER_64, NUMBER_64]),
+    "pidtab_shared_worker": (U32, [SHARED, U32, NUMBER_64]),
+    "pidtab_shared_entry": (U32, [SHARED, U64, NUMBER_64, CALL, REPLY]),
+    "pidtab_shared_read": (U32, [SHARED, U64, ENTRIES, SIZE_T, SIZE]),
+    "pidtab_shared_checkpoint": (U32, [SHARED]),
+    "pidtab_shared_checkpoint_at": (U32, [SHARED, U64]),
+    "pidtab_shared_list": (U32, [SHARED, BYTES, SIZE_T, SIZE]),
 }

@@ -315,7 +315,7 @@ class TableCases(Cases):
             lambda: table.setsid(1), lambda: table.getpid(1), lambda: table.getppid(1), lambda: table.getpgid(1), lambda: table.getsid(1),
             lambda: table.nspid(1, 1), lambda: table.next(1), lambda: table.join(1, 1), lambda: table.subreaper(1), lambda: table.mk(),
             lambda: table.rm(1), lambda: table.limit(1), lambda: table.move(1, 0), lambda: table.count(), lambda: table.line("getpid 1"),
-            lambda: table.answers(["getpid 1"]), lambda: table.list(), lambda: table.tree(),
+            lambda: table.answers(["getpid 1"]), lambda: table.list(), lambda: table.list_text(), lambda: table.tree(),
         ]  # fmt: skip
         for method in methods:
             with self.assertRaisesRegex(TableClosed, "was closed"):
@@ -401,6 +401,7 @@ class PageCases(Cases):
     def check_list(self, table: Calls, script: StoredScript) -> None:
         """The stored list, where there is one."""
         if script.list_text:
+            self.assertEqual(table.list_text(), script.list_text)
             self.assertEqual(table.list(), read_list(script.list_text))
 
 

@@ -23,7 +23,9 @@ OTHERS = "this table is that of the parent process: a forked child opens its own
 def run_python(*lines: str) -> tuple[str, str]:
     """What a program in Python writes and what it complains of, where each warning is an error."""
     command = [sys.executable, "-X", "dev", "-W", "error", "-B", "-c", "\n".join(["import gc, os, sys", "import pidtab", *lines])]
-    done = subprocess.run(command, cwd=PACKAGE, capture_output=True, text=True, timeout=60, check=False)
+    # The folder stays, since the variables for the program and the library may be relative to it.
+    found = {**os.environ, "PYTHONPATH": str(PACKAGE)}
+    done = subprocess.run(command, env=found, capture_output=True, text=True, timeout=60, check=False)
     return done.stdout, done.stderr
 
 

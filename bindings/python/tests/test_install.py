@@ -19,10 +19,12 @@ PREFIX = "/opt/pid tab"
 
 PROGRAM = ["bin/pidtab", "bin/pidtab-check", "bin/pidtab-play", "bin/pidtab-tree", "share/man/man1/pidtab-check.1",
            "share/man/man1/pidtab-play.1", "share/man/man1/pidtab-tree.1", "share/man/man1/pidtab.1", "share/man/man5/pidtab.5", "share/pidtab/LICENSE"]  # fmt: skip
-# The library has a manual page for each function, by its name.
-FUNCTIONS = re.findall(r"^(?:static inline )?[a-z].*[ *](pidtab_[a-z]+)\(", read_page("bindings/c/pidtab.h"), re.MULTILINE)
-PAGES = sorted(f"share/man/man3/{name}.3" for name in ["pidtab", *FUNCTIONS] if name not in ("pidtab_value", "pidtab_do"))
-LIBRARY = ["include/pidtab.h", "include/pidtab_shared.h", "lib/libpidtab.a", "lib/libpidtab.so", "lib/libpidtab.so.1", "lib/pkgconfig/pidtab.pc", *PAGES]
+# The library has a manual page for each function, by its name, beside the pages on all of them.
+HEADERS = sorted((REPOSITORY / "bindings" / "c").glob("pidtab*.h"))
+FUNCTIONS = re.findall(r"^(?:static inline )?[a-z].*[ *](pidtab_[a-z_]+)\(", "".join(path.read_text(encoding="utf-8") for path in HEADERS), re.MULTILINE)
+WHOLE = [path.stem for path in (REPOSITORY / "man").glob("*.3")]
+PAGES = sorted(f"share/man/man3/{name}.3" for name in [*WHOLE, *FUNCTIONS] if name not in ("pidtab_value", "pidtab_do"))
+LIBRARY = [*(f"include/{path.name}" for path in HEADERS), "lib/libpidtab.a", "lib/libpidtab.so", "lib/libpidtab.so.1", "lib/pkgconfig/pidtab.pc", *PAGES]
 
 # Both ways to a table, from the package that was installed.
 BOTH = """\
@@ -138,10 +140,18 @@ class Libraries(Installs):
         self.assertEqual(self.files(), LIBRARY)
         self.assertEqual((self.prefix / "lib" / "libpidtab.so").readlink(), Path("libpidtab.so.1"))
         self.assertEqual((self.prefix / "lib/pkgconfig/pidtab.pc").read_text().splitlines()[0], f"prefix={PREFIX}")
+        self.check_manuals()
         kept = self.prefix / "lib" / "libpidtab.so.0"
         kept.touch()
         self.assertEqual(self.stage("uninstall").returncode, 0)
         self.assertEqual(self.all_files(), [kept])
+
+    def check_manuals(self) -> None:
+        """A function's page leads to the one that has a section on it."""
+        manuals = self.prefix / "share/man/man3"
+        for page, name in (("pidtab", "ask"), ("pidtab_record", "checkpoint_at"), ("pidtab_shared", "seat"), ("pidtab_saved", "put_head")):
+            self.assertEqual((manuals / f"{page}_{name}.3").read_text(), f".so man3/{page}.3\n")
+            self.assertEqual((manuals / f"{page}.3").read_bytes(), (REPOSITORY / "man" / f"{page}.3").read_bytes())
 
     def test_with_the_program(self) -> None:
         need_program()

@@ -222,7 +222,7 @@ class LibraryFolders(Checkouts):
         for name in ("man", "bindings/c"):
             shutil.copytree(REPOSITORY / name, self.top / name)
         (self.top / "out").mkdir()
-        for name in ("libpidtab.a", "libpidtab.so.1", "pidtab.h", "pidtab_shared.h"):
+        for name in ("libpidtab.a", "libpidtab.so.1", "pidtab.h", "pidtab_shared.h", "pidtab_saved.h"):
             (self.top / "out" / name).touch()
 
     def install(self, *words: str) -> list[str]:

@@ -1,5 +1,8 @@
 """The examples of the pages and of the manual pages, run as printed."""
 
+import ctypes
+import ctypes.util
+import errno
 import re
 import subprocess
 import tempfile
@@ -10,8 +13,8 @@ from textwrap import indent
 
 from pidtab import Process, find_program
 from tests.pages import REPOSITORY, displays, fenced, read_page, section
-from tests.programs import BUILT, STRICT, need_archive, need_tool, run, run_c, run_go, run_python, run_rust, run_shell
-from tests.ways import need_library, need_program
+from tests.programs import ARCHIVE, BUILT, STRICT, need_archive, need_tool, run, run_c, run_go, run_python, run_rust, run_shell
+from tests.ways import need_library, need_program, need_shared
 
 PACKAGES = REPOSITORY / "bindings" / "python"
 MANUAL = REPOSITORY / "man"
@@ -23,10 +26,47 @@ EXAMPLES = [
     ("README.md", "### From Python", "python"),
     ("bindings/python/README.md", "## By the program", "python"),
     ("bindings/python/README.md", "## In its own process", "python"),
+    ("bindings/python/README.md", "## For many threads, with its history", "python"),
     ("bindings/c/README.md", "## Example", "c"),
+    ("bindings/c/README.md", "## A saved history", "c"),
     ("bindings/rust/README.md", "## Example", "rust"),
+    ("bindings/rust/README.md", "## A table for many threads, with its history", "rust"),
     ("bindings/go/README.md", "## Example", "go"),
+    ("bindings/go/README.md", "## A table for many goroutines, with its history", "go"),
 ]
+
+# The pages of the library's functions.
+LIBRARY_PAGES = sorted(path.name for path in MANUAL.glob("*.3"))
+
+STATUSES = {"DONE", "NOT_KEPT", "CLOSED", "AGAIN", "NO_MEMORY", "BUSY", "OUT_OF_RANGE", "NO_ROOM", "EMPTY_LINE", "BAD_LINE", "DIFFERS", "SPENT"}
+
+# What the header says of these by the name of another.
+INNER = {"pidtab_record_close": "pidtab_close", "pidtab_record_list": "pidtab_list", "pidtab_record_opening": "pidtab_list"}
+
+
+def synopsis(page: str) -> list[tuple[str, str, str]]:
+    """The functions of a manual page's synopsis: what each answers, its name and what it takes."""
+    found = re.findall(r'^\.Ft "?(.*?)"?\n\.F[no] (\w+)(.*\n(?:\.Fa .*\n)*)', page, re.MULTILINE)
+    return [(kind, name, ", ".join(re.findall(r'"([^"]*)"', taken)) or "void") for kind, name, taken in found]
+
+
+def statuses_in(header: str) -> list[tuple[str, str, str]]:
+    """The statuses of a header: the name, the number, and the errno that the comment begins with."""
+    enums = re.findall(r"^enum pidtab_\w*status \{(.*?)^\};", read_page(f"bindings/c/{header}"), re.MULTILINE | re.DOTALL)
+    return re.findall(r"^\tPIDTAB_(\w+) = (\d+),?(?: +/\* (E[A-Z]+)\b.*)?$", "".join(enums), re.MULTILINE)
+
+
+def statuses_of(name: str) -> set[str]:
+    """The statuses that the header lists with a function, or with the one whose work it does."""
+    if name in ("pidtab_shared_close", "pidtab_shared_lock", "pidtab_shared_unlock"):
+        return set()
+    header = read_page("bindings/c/pidtab_shared.h" if name.startswith("pidtab_shared_") else "bindings/c/pidtab.h")
+    before = header.partition(f"\nuint32_t {name}(")[0]
+    words = re.findall(r"\b[A-Z_]{4,}\b", before[before.rindex("/*") :])
+    if "DONE" in words:
+        return {it.removeprefix("PIDTAB_") for it in words} & STATUSES
+    inner = name.replace("pidtab_shared_", "pidtab_record_") if name.startswith("pidtab_shared_") else INNER[name]
+    return statuses_of(inner)
 
 
 class Examples(unittest.TestCase):
@@ -74,6 +114,10 @@ class Examples(unittest.TestCase):
         self.check("python", run_python, "## In its own process")
         self.check("python", run_python, "### From Python")
 
+    def test_python_for_many_threads(self) -> None:
+        need_shared()
+        self.check("python", run_python, "with its history")
+
     def test_c(self) -> None:
         need_archive()
         self.check("c", run_c)
@@ -99,7 +143,7 @@ class Manuals(unittest.TestCase):
         self.assertEqual(said, [])
         # 1 is a matter of style, as those pages are; 2 and more are faults.
         self.assertIn(done.returncode, (0, 1))
-        self.assertEqual(len(pages), 6)
+        self.assertGreaterEqual(len(pages), 9)
 
     def test_the_language(self) -> None:
         need_program()
@@ -112,7 +156,8 @@ class Manuals(unittest.TestCase):
         shown = 0
         for name in ("pidtab.1", "pidtab-tree.1", "pidtab-check.1", "pidtab-play.1"):
             for display in displays((MANUAL / name).read_text()):
-                command, *printed = display.splitlines()
+                # A backslash at its end has a line go on.
+                command, *printed = re.sub(r"\\\n *", "", display).splitlines()
                 shown += 1
                 with self.subTest(command):
                     said = self.run_command(command.removeprefix("$ "))
@@ -126,29 +171,111 @@ class Manuals(unittest.TestCase):
         found = re.sub(r"(?<=\| )pidtab[-a-z]*", lambda it: f"'{words[it[0]]}'", command)
         return subprocess.run(["sh", "-c", found], capture_output=True, text=True, check=False).stdout
 
-    def test_the_structs_of_the_library(self) -> None:
-        call, reply, *_ = displays((MANUAL / "pidtab.3").read_text())
-        header = re.sub(r" */\*.*?\*/", "", read_page("bindings/c/pidtab.h"), flags=re.DOTALL)
-        for struct in (call, reply):
-            self.assertIn(struct, header)
+    def test_the_examples_of_the_library(self) -> None:
+        need_archive()
+        for page in LIBRARY_PAGES:
+            *_, code, printed = displays((MANUAL / page).read_text())
+            with self.subTest(page), tempfile.TemporaryDirectory() as folder:
+                self.assertEqual(run_c(code, Path(folder), ["-pthread", f"-I{BUILT}", str(ARCHIVE)]), printed)
 
-    def test_the_functions_of_the_library(self) -> None:
+
+class LibraryManuals(unittest.TestCase):
+    """The manual pages of the library's functions, by the headers."""
+
+    def test_the_structs(self) -> None:
+        call, reply, *_ = displays((MANUAL / "pidtab.3").read_text())
+        entry, *_ = displays((MANUAL / "pidtab_record.3").read_text())
+        settings, *_ = displays((MANUAL / "pidtab_saved.3").read_text())
+        headers = re.sub(r" */\*.*?\*/", "", read_page("bindings/c/pidtab.h") + read_page("bindings/c/pidtab_saved.h"), flags=re.DOTALL)
+        for struct in (call, reply, entry, settings):
+            self.assertIn(struct, headers)
+
+    def test_each_call_as_a_function(self) -> None:
         # The compiler sees whether they are those of the header.
         _, _, functions, *_ = displays((MANUAL / "pidtab.3").read_text())
         names = re.findall(r"pidtab_\w+(?=\()", functions)
         header = read_page("bindings/c/pidtab.h")
         self.assertEqual(names, [it for it in re.findall(r"^static inline int64_t (pidtab_\w+)", header, re.MULTILINE) if it in names])
         self.assertEqual(len(names), 19)
-        code = '#include "pidtab.h"\n' + functions
+        self.compile(functions)
+
+    def compile(self, declarations: str) -> None:
+        """Compiles declarations behind the headers: another type of the same name is a fault."""
         with tempfile.TemporaryDirectory() as folder:
-            (Path(folder) / "functions.c").write_text(code)
+            (Path(folder) / "functions.c").write_text('#include "pidtab_saved.h"\n' + declarations)
             run([need_tool("cc"), *STRICT, f"-I{REPOSITORY / 'bindings' / 'c'}", "-c", "functions.c"], Path(folder))
 
-    def test_the_example_of_the_library(self) -> None:
+    def test_each_synopsis(self) -> None:
+        for page in LIBRARY_PAGES:
+            text = (MANUAL / page).read_text()
+            declared = {name: f"{kind} {name}({taken});\n" for kind, name, taken in synopsis(text)}
+            with self.subTest(page):
+                named = re.findall(r"^\.Nm (pidtab_\w+)", text, re.MULTILINE)
+                self.assertEqual([it for it in named if it in declared], list(declared))
+                # The others are those of the display.
+                self.assertEqual(len(named) - len(declared), 19 if page == "pidtab.3" else 0)
+                self.compile("".join(declared.values()))
+
+    def test_each_status(self) -> None:
+        # BUSY is said once for all.
+        for page in ("pidtab_record.3", "pidtab_shared.3"):
+            sections = re.split(r"^\.S[sh] ", (MANUAL / page).read_text(), flags=re.MULTILINE)
+            shown = {it.split()[0]: re.findall(r"^\.It Dv PIDTAB_(\w+)", it, re.MULTILINE) for it in sections if it.startswith("pidtab_")}
+            self.assertGreater(len(shown), 13)
+            for name, statuses in shown.items():
+                with self.subTest(name):
+                    self.assertEqual(len(statuses), len(set(statuses)))
+                    self.assertEqual(set(statuses) - {"BUSY"}, statuses_of(name) - {"BUSY"})
+
+    def test_the_statuses_together(self) -> None:
+        # A page has all of its header, and others only of the header below.
+        known: dict[str, str] = {}
+        for header, page in (("pidtab.h", "pidtab_record.3"), ("pidtab_saved.h", "pidtab_saved.3")):
+            own = {name: number for name, number, _ in statuses_in(header)}
+            known.update(own)
+            text = (MANUAL / page).read_text().partition("\n.Sh RETURN VALUES\n")[2]
+            told = {name: str(getattr(errno, it, it)) for name, it in re.findall(r"^\.It Dv PIDTAB_(\w+)\n(?:\.Er )?(\w+)", text, re.MULTILINE)}
+            with self.subTest(page):
+                self.assertTrue(own)
+                self.assertEqual([str(getattr(errno, it, 0)) for _, _, it in statuses_in(header)], list(own.values()))
+                self.assertLessEqual(own.items(), told.items())
+                self.assertLessEqual(told.items(), known.items())
+
+
+class SavedHistory(unittest.TestCase):
+    """The example of docs/SAVED.md: its bytes, their checksums, and the program that shows them."""
+
+    def blocks(self) -> list[bytes]:
+        """The blocks of the page."""
+        (shown,) = fenced(section(read_page("docs/SAVED.md"), "## An example"), "hex")
+        return [bytes.fromhex(it) for it in shown.split("\n\n")]
+
+    def test_the_bytes_are_those_of_the_tests(self) -> None:
+        code = read_page("bindings/c/test_saved.c").partition("example[4][PIDTAB_SAVED_BLOCK] = {")[2].partition("};")[0]
+        self.assertEqual(b"".join(self.blocks()), bytes(int(it, 16) for it in re.findall(r"0x([0-9a-f]{2})", code)))
+        self.assertEqual([len(it) for it in self.blocks()], [48] * 4)
+
+    def test_the_checksums_are_those_of_xz(self) -> None:
+        name = ctypes.util.find_library("lzma")
+        if name is None:
+            raise unittest.SkipTest("no liblzma")
+        crc64 = ctypes.CDLL(name).lzma_crc64
+        crc64.argtypes, crc64.restype = (ctypes.c_char_p, ctypes.c_size_t, ctypes.c_uint64), ctypes.c_uint64
+        total = 0
+        for block in self.blocks():
+            total = crc64(block[:40], 40, total)
+            self.assertEqual(block[40:], total.to_bytes(8, "little"))
+
+    def test_the_program_that_shows_it(self) -> None:
         need_archive()
-        *_, code, printed = displays((MANUAL / "pidtab.3").read_text())
-        with tempfile.TemporaryDirectory() as folder:
-            self.assertEqual(run_c(code, Path(folder), [f"-I{BUILT}", str(BUILT / "libpidtab.a")]), printed)
+        text = section(read_page("docs/SAVED.md"), "## As a script")
+        (code,), (printed,) = fenced(text, "c"), fenced(text, "text")
+        with tempfile.TemporaryDirectory() as name:
+            folder = Path(name)
+            (folder / "history").write_bytes(b"".join(self.blocks()))
+            (folder / "show.c").write_text(code)
+            run([need_tool("cc"), *STRICT, "-pthread", "-o", "show", "show.c", f"-I{BUILT}", str(ARCHIVE)], folder)
+            self.assertEqual(run(["sh", "-c", "./show < history"], folder), printed)
 
 
 if __name__ == "__main__":

@@ -5,6 +5,7 @@ import gc
 import os
 import random
 import re
+import subprocess
 import sys
 import tempfile
 import threading
@@ -12,6 +13,7 @@ import unittest
 from collections.abc import Callable
 from pathlib import Path
 from types import SimpleNamespace
+from typing import Any
 from unittest import mock
 
 from pidtab import Calls, LibraryFault, LibraryMissing, Process, Table, TableClosed, find_library, raw
@@ -19,14 +21,25 @@ from pidtab.calls import KINDS
 from pidtab.faults import WORDS
 from pidtab.language import FORMS
 from pidtab.library import load_library
-from tests.pages import quoted, read_page, rows, section
+from tests.pages import REPOSITORY, quoted, read_page, rows, section
+from tests.programs import need_tool
 from tests.ways import ask, need_library, need_program
 
 SEED = 20
 RANDOM_LINES = 3000
 
 # The names of C for the types of the fields.
-TYPES = {"void *": ctypes.c_void_p, "bool": ctypes.c_bool, "uint32_t": ctypes.c_uint32, "uint64_t": ctypes.c_uint64, "int32_t": ctypes.c_int32}
+TYPES: dict[str, Any] = {
+    "void *": ctypes.c_void_p, "bool": ctypes.c_bool, "uint32_t": ctypes.c_uint32, "uint64_t": ctypes.c_uint64, "int32_t": ctypes.c_int32,
+    "struct pidtab_call": raw.PidtabCall, "struct pidtab_reply": raw.PidtabReply,
+}  # fmt: skip
+
+# What is passed for them: for bytes that are read, and that are written, and for the address of what else.
+PASSED: dict[str, type] = {
+    "const void *line": ctypes.c_char_p, "void *": raw.BYTES, "struct pidtab *": raw.TABLE, "struct pidtab_shared *": raw.SHARED,
+    "struct pidtab_call *": raw.CALL, "struct pidtab_reply *": raw.REPLY, "struct pidtab_entry *": raw.ENTRIES, "size_t *": raw.SIZE,
+    "uint32_t *": raw.NUMBER_32, "uint64_t *": raw.NUMBER_64, "size_t ": raw.SIZE_T, "uint32_t ": raw.U32, "uint64_t ": raw.U64,
+}  # fmt: skip
 
 # The words of docs/SCRIPT.md, in the order of their numbers, which stay.
 REFUSALS = [
@@ -35,9 +48,9 @@ REFUSALS = [
 ]  # fmt: skip
 
 
-def header() -> str:
-    """The header of C without its comments, each run of white space one space."""
-    return " ".join(re.sub(r"/\*.*?\*/", " ", read_page("bindings/c/pidtab.h"), flags=re.DOTALL).split())
+def header(name: str = "pidtab.h") -> str:
+    """A header of C without its comments, each run of white space one space."""
+    return " ".join(re.sub(r"/\*.*?\*/", " ", read_page(f"bindings/c/{name}"), flags=re.DOTALL).split())
 
 
 def body(words: str) -> str:
@@ -56,17 +69,23 @@ def read_enum(name: str) -> dict[str, int]:
     return numbers
 
 
+def takes(argument: str) -> type:
+    """The type of ctypes for what a function of the header takes."""
+    (kind,) = re.findall(r"^(?:const )?((?:struct )?\w+ \*?)\w+$", argument)
+    return PASSED.get(argument, PASSED[kind])
+
+
 class Header(unittest.TestCase):
     """The numbers, structs and functions are those of the header."""
 
     def test_the_enums(self) -> None:
-        enums = [read_enum(name) for name in ("status", "operation", "which", "use", "kind")]
-        self.assertEqual([len(enum) for enum in enums], [9, 19, 4, 3, 10])
+        enums = [read_enum(name) for name in ("status", "record_status", "operation", "which", "use", "kind")]
+        self.assertEqual([len(enum) for enum in enums], [9, 3, 19, 4, 3, 10])
         for word, number in [entry for enum in enums for entry in enum.items()]:
             self.assertEqual(getattr(raw, word), number, word)
 
     def test_the_bounds(self) -> None:
-        for name in ("VERSION", "KILLED", "LEVELS_MAX", "LONGEST_ANSWER"):
+        for name in ("VERSION", "KILLED", "LEVELS_MAX", "LONGEST_ANSWER", "MOST_WORKERS"):
             self.assertIn(f"#define PIDTAB_{name} {getattr(raw, name)} ", header())
 
     def test_the_kinds_of_next(self) -> None:
@@ -74,25 +93,40 @@ class Header(unittest.TestCase):
         self.assertEqual(list(KINDS), [use.lower() for use in uses])
 
     def test_the_structs(self) -> None:
-        for name, known in (("pidtab", raw.Pidtab), ("pidtab_call", raw.PidtabCall), ("pidtab_reply", raw.PidtabReply)):
-            fields = re.findall(r"(void \*|\w+) ?(\w+)(\[PIDTAB_LEVELS_MAX\])?;", body(f"struct {name}"))
+        structs = (("pidtab", raw.Pidtab), ("pidtab_call", raw.PidtabCall), ("pidtab_reply", raw.PidtabReply), ("pidtab_entry", raw.PidtabEntry))
+        for name, known in structs:
+            fields = re.findall(r"(void \*|struct \w+|\w+) ?(\w+)(\[PIDTAB_LEVELS_MAX\])?;", body(f"struct {name}"))
             wanted = [(name, TYPES[kind] * raw.LEVELS_MAX if many else TYPES[kind]) for kind, name, many in fields]
             self.assertEqual(list(known._fields_), wanted)
 
     def test_the_sizes(self) -> None:
-        # Those that bindings/c/test.c asserts.
-        self.assertEqual([ctypes.sizeof(it) for it in (raw.Pidtab, raw.PidtabCall, raw.PidtabReply)], [16, 32, 168])
+        # Those that bindings/c/test.c and test_shared.c assert.
+        structs = (raw.Pidtab, raw.PidtabCall, raw.PidtabReply, raw.PidtabEntry)
+        self.assertEqual([ctypes.sizeof(it) for it in structs], [16, 32, 168, 208])
         self.assertEqual(raw.CALL_FIELDS.size, 32)
         for packed in (bytes(raw.PidtabCall(*range(1, 8))), b"\xff" * 32):
             fields = raw.PidtabCall.from_buffer_copy(packed)
             self.assertEqual(raw.CALL_FIELDS.unpack(packed), tuple(getattr(fields, name) for name, *_ in fields._fields_))
 
+    def test_the_room_for_a_shared_table(self) -> None:
+        # Its size and its alignment are those of the platform's lock.
+        kind = "struct pidtab_shared"
+        wanted = f"sizeof({kind}) <= {ctypes.sizeof(raw.PidtabShared)} && _Alignof({kind}) <= {ctypes.alignment(raw.PidtabShared)}"
+        code = f'#include "pidtab_shared.h"\n_Static_assert({wanted}, "room");\n'
+        command = [need_tool("cc"), "-std=c11", "-fsyntax-only", f"-I{REPOSITORY / 'bindings' / 'c'}", "-xc", "-"]
+        done = subprocess.run(command, input=code, capture_output=True, text=True, check=False)
+        self.assertEqual((done.returncode, done.stderr), (0, ""))
+
     def test_the_functions(self) -> None:
-        # The package has no records, and its queries are calls.
-        declared = re.findall(r"(?<!inline )(?:uint32_t|void) (pidtab_(?!record_|ask\b)\w+)\(([^)]*)\);", header())
-        self.assertEqual(sorted(name for name, _ in declared), sorted(raw.FUNCTIONS))
-        for name, taken in declared:
-            self.assertEqual(len(raw.FUNCTIONS[name][1]), 0 if taken == "void" else len(taken.split(",")), name)
+        # The package has no records but those behind a lock, and takes that lock for one function at a time.
+        left_out = {"pidtab_shared_lock", "pidtab_shared_unlock"}
+        text = header() + header("pidtab_shared.h")
+        declared = dict(re.findall(r"(?<!inline )(?:uint32_t |void |\*)(pidtab_(?!record_)\w+)\(([^)]*)\);", text))
+        known = {**raw.FUNCTIONS, **raw.LATER_FUNCTIONS, **raw.SHARED_FUNCTIONS}
+        self.assertEqual(set(declared) - left_out, set(known))
+        self.assertLessEqual(left_out, set(declared))
+        for name, (_, arguments) in known.items():
+            self.assertEqual([takes(it) for it in declared[name].split(", ") if it != "void"], arguments, name)
 
     def test_the_words_of_refusals(self) -> None:
         self.assertEqual(list(WORDS), REFUSALS)

@@ -25,6 +25,9 @@ INTERFACES = {
     "Makefile": r"-soname,libpidtab\.so\.(\d+)",
 }
 
+# What the first library of interface 1 exported, and so each later one.
+RELEASED = {"pidtab_version", "pidtab_open", "pidtab_close", "pidtab_line", "pidtab_list", "pidtab_call"}
+
 
 def found(page: str, pattern: str) -> list[str]:
     """The numbers that a page has where the pattern says."""
@@ -56,8 +59,8 @@ class Versions(unittest.TestCase):
     def test_the_functions_that_stay(self) -> None:
         # Those that the header declares and does not define are exported.
         exported = re.findall(r"^(?:uint32_t|void) (pidtab_\w+)\(", read_page("bindings/c/pidtab.h"), re.MULTILINE)
-        self.assertEqual(len(exported), 6)
-        self.assertIn("- The six exported functions", section(read_page("docs/STABLE.md"), "## What stays while the interface is 1"))
+        self.assertEqual(RELEASED - set(exported), set())
+        self.assertIn("- The exported functions, ", section(read_page("docs/STABLE.md"), "## What stays while the interface is 1"))
 
 
 if __name__ == "__main__":

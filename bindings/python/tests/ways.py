@@ -7,8 +7,8 @@ from types import SimpleNamespace
 from typing import TYPE_CHECKING
 from unittest import mock
 
-from pidtab import Calls, Forked, LibraryFault, Process, ProgramMissing, Reaped, Refusal, Table, find_library, find_program
-from pidtab.library import load_library
+from pidtab import Calls, Forked, LibraryFault, Process, ProgramMissing, Reaped, Refusal, Seat, Shared, Table, find_library, find_program
+from pidtab.library import load_library, load_shared
 
 DEFAULT_PID_MAX = 32768
 
@@ -44,6 +44,14 @@ def need_library() -> None:
         raise unittest.SkipTest(str(fault)) from fault
 
 
+def need_shared() -> None:
+    """Skips what needs the library with its tables for threads, where it is not there."""
+    try:
+        load_shared(find_library())
+    except LibraryFault as fault:
+        raise unittest.SkipTest(str(fault)) from fault
+
+
 class ByProgram(Way):
     """By the program at the other end of a pipe."""
 
@@ -74,6 +82,19 @@ class ByLibrary(Way):
         table = Table(pid_max)
         self.addCleanup(table.close)
         return table
+
+
+class BySeat(Way):
+    """By the only seat of a table for threads."""
+
+    @classmethod
+    def setUpClass(cls) -> None:
+        need_shared()
+
+    def open(self, pid_max: int = DEFAULT_PID_MAX) -> Seat:
+        shared = Shared(1, pid_max=pid_max)
+        self.addCleanup(shared.close)
+        return shared.seat()
 
 
 def make_wait(table: Calls, caller: int, words: list[str]) -> Reaped | None:

@@ -1,5 +1,5 @@
 //! The example of README.md.
-use pidtab::{Error, Kind, Table, Which};
+use pidtab::{Calls, Error, Kind, Table, Which};
 
 fn main() -> Result<(), Error> {
     let mut table = Table::open(32768)?;

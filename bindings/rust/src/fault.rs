@@ -83,6 +83,14 @@ impl Refusal {
         self.row().1
     }
 
+    /// The id of what refuses, 0 where it has none.
+    pub(crate) fn id(self) -> u64 {
+        match self {
+            Refusal::NoNumber(id) | Refusal::PidsLimit(id) => id,
+            _ => 0,
+        }
+    }
+
     /// The number and the word.
     fn row(self) -> (u32, &'static str) {
         match self {
@@ -118,12 +126,12 @@ impl fmt::Display for Refusal {
     }
 }
 
-/// Why a call has no answer. The table is as it was. More reasons may come.
+/// Why a function has no answer. The table and its history are as they were. More reasons may come.
 ///
 /// As an [`io::Error`] it has the kind that the kernel's error has, and holds this one:
 ///
 /// ```
-/// use pidtab::Table;
+/// use pidtab::{Calls, Table};
 /// use std::io;
 ///
 /// fn remove(table: &mut Table) -> io::Result<()> {
@@ -146,15 +154,23 @@ pub enum Error {
         /// Why.
         refusal: Refusal,
     },
-    /// There was no memory: for a table, a fork, a new control group or a list.
+    /// There was no memory: for a table, a fork, a new control group or a list; for any call of a [`Seat`](crate::Seat), as its entry takes
+    /// memory; for entries that are read, and for a cut.
     NoMemory,
     /// The table has made 2^64 - 2 calls.
     Spent,
-    /// `pid_max` is outside 301 to 4194304.
+    /// What was given is outside its range: `pid_max` 301 to 4194304, 1 to 16 workers, a first stamp from 1 on, a worker below their number.
+    /// Or there are no more seats, or what was asked is no query.
     OutOfRange,
-    /// A call that another thread began is under way. A table has one owner, so this comes in the forked child of a process with threads alone,
-    /// where that thread is not.
+    /// A call that another thread began is under way. A table has one owner, and a record has a lock, so this comes in the forked child of a
+    /// process with threads alone, where that thread is not.
     Busy,
+    /// No entry with the ordinal is kept: it was cut away, or is not reached yet.
+    NotKept,
+    /// Another number of calls was recorded by now.
+    Again,
+    /// A reply is not the saved one.
+    Differs,
 }
 
 impl Error {
@@ -165,8 +181,16 @@ impl Error {
             raw::SPENT => Error::Spent,
             raw::OUT_OF_RANGE => Error::OutOfRange,
             raw::BUSY => Error::Busy,
+            raw::NOT_KEPT => Error::NotKept,
+            raw::AGAIN => Error::Again,
+            raw::DIFFERS => Error::Differs,
             _ => unreachable!("the library answers the status {status}"),
         }
+    }
+
+    /// Nothing where the status is `DONE`; else what it says.
+    pub(crate) fn unless_done(status: u32) -> Result<(), Error> {
+        raw::done(status, ()).map_err(Error::of)
     }
 }
 
@@ -176,8 +200,13 @@ impl fmt::Display for Error {
             Error::Refused { errno, refusal } => write!(to, "{refusal} (errno {errno})"),
             Error::NoMemory => to.write_str("no memory"),
             Error::Spent => to.write_str("spent"),
-            Error::OutOfRange => to.write_str("pid_max is 301 to 4194304"),
+            Error::OutOfRange => to.write_str(
+                "out of range: pid_max (301 to 4194304), workers (1 to 16), a first stamp (from 1), a worker, a seat, or no query",
+            ),
             Error::Busy => to.write_str("busy"),
+            Error::NotKept => to.write_str("no entry with the ordinal is kept"),
+            Error::Again => to.write_str("another number of calls was recorded by now"),
+            Error::Differs => to.write_str("a reply is not the saved one"),
         }
     }
 }
@@ -193,9 +222,42 @@ impl From<Error> for io::Error {
             Error::NoMemory => io::ErrorKind::OutOfMemory,
             Error::OutOfRange => io::ErrorKind::InvalidInput,
             Error::Busy => kind_of(raw::BUSY as i32),
+            Error::NotKept => kind_of(raw::NOT_KEPT as i32),
+            Error::Again => kind_of(raw::AGAIN as i32),
+            Error::Differs => io::ErrorKind::InvalidData,
             Error::Spent => io::ErrorKind::Other,
         };
         io::Error::new(kind, error)
+    }
+}
+
+/// Why a replay stopped: the entries before the place were made again, and none behind it.
+///
+/// As an [`Error`] it is the error alone, so that `?` takes it there.
+#[derive(Clone, Copy, Debug, PartialEq, Eq, Hash)]
+pub struct ReplayError {
+    /// The entry's place among the saved ones, from 0 on.
+    pub place: usize,
+    /// `Differs`: its call was made and recorded, and has another reply. Any other says that it was not made: `OutOfRange` where no worker
+    /// has its number; `NoMemory`, `Spent`, `Busy`.
+    pub error: Error,
+}
+
+impl fmt::Display for ReplayError {
+    fn fmt(&self, to: &mut fmt::Formatter<'_>) -> fmt::Result {
+        write!(to, "saved entry {}: {}", self.place, self.error)
+    }
+}
+
+impl std::error::Error for ReplayError {
+    fn source(&self) -> Option<&(dyn std::error::Error + 'static)> {
+        Some(&self.error)
+    }
+}
+
+impl From<ReplayError> for Error {
+    fn from(stopped: ReplayError) -> Error {
+        stopped.error
     }
 }
 
@@ -207,7 +269,7 @@ pub enum LineError {
     Empty,
     /// It is no line of the script language.
     Bad,
-    /// There was no memory for a `fork` or a `mk`.
+    /// There was no memory for a `fork` or a `mk`; of a [`Seat`](crate::Seat), for any call.
     NoMemory,
     /// The table has made 2^64 - 2 calls.
     Spent,
@@ -273,6 +335,10 @@ mod tests {
         assert_eq!(Error::of(12), Error::NoMemory);
         assert_eq!(Error::of(75), Error::Spent);
         assert_eq!(Error::of(22), Error::OutOfRange);
+        assert_eq!(Error::of(2), Error::NotKept);
+        assert_eq!(Error::of(11), Error::Again);
+        assert_eq!(Error::of(74), Error::Differs);
+        assert_eq!(Error::unless_done(0), Ok(()));
         assert_eq!(LineError::of(61), LineError::Empty);
         assert_eq!(LineError::of(71), LineError::Bad);
         assert_eq!(LineError::of(12), LineError::NoMemory);
@@ -296,6 +362,10 @@ mod tests {
         as_io(Error::NoMemory, 12);
         as_io(Error::OutOfRange, 22);
         as_io(Error::Busy, 16);
+        as_io(Error::NotKept, 2);
+        as_io(Error::Again, 11);
+        let differs = io::Error::from(Error::Differs);
+        assert_eq!(differs.kind(), io::ErrorKind::InvalidData);
         let kind = |error: LineError| io::Error::from(error).kind();
         assert_eq!(kind(LineError::Bad), io::ErrorKind::InvalidInput);
         assert_eq!(kind(LineError::NoMemory), io::ErrorKind::OutOfMemory);

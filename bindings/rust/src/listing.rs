@@ -76,6 +76,13 @@ pub struct Listing {
     pub controls: Vec<Control>,
 }
 
+impl Listing {
+    /// What a list of the library says.
+    pub(crate) fn of(list: &str) -> Listing {
+        list.parse().expect("what the library lists is a list")
+    }
+}
+
 /// A text that `pidtab list` does not write.
 #[derive(Clone, Copy, Debug, PartialEq, Eq, Hash)]
 pub struct BadList {

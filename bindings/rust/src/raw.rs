@@ -1,6 +1,10 @@
-//! `bindings/c/pidtab.h` by hand: its numbers, structs and functions. The tests below compare them with it.
+//! `bindings/c/pidtab.h` by hand: its numbers, structs and functions, and an owner for each struct that is opened and closed. All unsafe code
+//! of the crate is here. `header.rs` compares the first part with the header.
+#![allow(unsafe_code)]
+
 use std::ffi::c_void;
 use std::mem::{offset_of, size_of};
+use std::ptr;
 
 pub(crate) const VERSION: u32 = 1;
 
@@ -12,6 +16,10 @@ pub(crate) const NO_ROOM: u32 = 34;
 pub(crate) const EMPTY_LINE: u32 = 61;
 pub(crate) const BAD_LINE: u32 = 71;
 pub(crate) const SPENT: u32 = 75;
+
+pub(crate) const NOT_KEPT: u32 = 2;
+pub(crate) const AGAIN: u32 = 11;
+pub(crate) const DIFFERS: u32 = 74;
 
 pub(crate) const FORK: u32 = 0;
 pub(crate) const GETPID: u32 = 1;
@@ -42,25 +50,45 @@ pub(crate) const TASKS: u32 = 0;
 pub(crate) const GROUPS: u32 = 1;
 pub(crate) const SESSIONS: u32 = 2;
 
+pub(crate) const FORKED: u32 = 0;
+pub(crate) const OK: u32 = 1;
+pub(crate) const NUMBER: u32 = 2;
+pub(crate) const LEVELS: u32 = 3;
+pub(crate) const REAPED: u32 = 4;
 pub(crate) const NONE_YET: u32 = 5;
+pub(crate) const COUNTED: u32 = 6;
+pub(crate) const CONTROL: u32 = 7;
 pub(crate) const END: u32 = 8;
 pub(crate) const REFUSED: u32 = 9;
 
 pub(crate) const KILLED: u64 = 256;
 pub(crate) const LEVELS_MAX: usize = 33;
 pub(crate) const LONGEST_ANSWER: usize = 362;
+#[cfg(test)]
+pub(crate) const MOST_WORKERS: u32 = 16;
 
-/// A table, or none: it begins as zeroes.
+/// A table, or none, or a record, or none: it begins as zeroes. The two structs of the header are alike.
 #[repr(C)]
-pub(crate) struct Pidtab {
-    pub(crate) at: *mut c_void,
-    pub(crate) is_open: bool,
-    pub(crate) in_call: bool,
+struct Held {
+    at: *mut c_void,
+    is_open: bool,
+    in_call: bool,
+}
+
+impl Held {
+    /// None, on the heap, so that it stays where it is when it is open.
+    fn none() -> Box<Held> {
+        Box::new(Held {
+            at: ptr::null_mut(),
+            is_open: false,
+            in_call: false,
+        })
+    }
 }
 
 /// A call as numbers.
 #[repr(C)]
-#[derive(Clone, Copy, Default)]
+#[derive(Clone, Copy, Debug, Default, PartialEq)]
 pub(crate) struct Call {
     pub(crate) operation: u32,
     pub(crate) caller: u32,
@@ -73,7 +101,7 @@ pub(crate) struct Call {
 
 /// A reply as numbers.
 #[repr(C)]
-#[derive(Clone, Copy)]
+#[derive(Clone, Copy, Debug, PartialEq)]
 pub(crate) struct Reply {
     pub(crate) kind: u32,
     pub(crate) error: u32,
@@ -97,10 +125,30 @@ impl Reply {
     };
 }
 
+/// A recorded call with its worker and its reply, as numbers.
+#[repr(C)]
+#[derive(Clone, Copy, Debug, PartialEq)]
+pub(crate) struct Entry {
+    pub(crate) worker: u64,
+    pub(crate) call: Call,
+    pub(crate) reply: Reply,
+}
+
+impl Entry {
+    /// The room for an entry.
+    pub(crate) fn blank() -> Entry {
+        Entry {
+            worker: 0,
+            call: Call::default(),
+            reply: Reply::BLANK,
+        }
+    }
+}
+
 const _: () = {
-    assert!(size_of::<Pidtab>() == 16);
-    assert!(offset_of!(Pidtab, at) == 0 && offset_of!(Pidtab, is_open) == 8);
-    assert!(offset_of!(Pidtab, in_call) == 9);
+    assert!(size_of::<Held>() == 16);
+    assert!(offset_of!(Held, at) == 0 && offset_of!(Held, is_open) == 8);
+    assert!(offset_of!(Held, in_call) == 9);
     assert!(size_of::<Call>() == 32);
     assert!(offset_of!(Call, operation) == 0 && offset_of!(Call, caller) == 4);
     assert!(offset_of!(Call, id) == 8 && offset_of!(Call, number) == 16);
@@ -111,198 +159,278 @@ const _: () = {
     assert!(offset_of!(Reply, refusal) == 8 && offset_of!(Reply, count) == 12);
     assert!(offset_of!(Reply, first) == 16 && offset_of!(Reply, second) == 24);
     assert!(offset_of!(Reply, levels) == 32);
+    assert!(size_of::<Entry>() == 208 && offset_of!(Entry, worker) == 0);
+    assert!(offset_of!(Entry, call) == 8 && offset_of!(Entry, reply) == 40);
 };
 
 extern "C" {
-    pub(crate) fn pidtab_version() -> u32;
-    pub(crate) fn pidtab_open(table: *mut Pidtab, pid_max: u32) -> u32;
-    pub(crate) fn pidtab_close(table: *mut Pidtab) -> u32;
-    pub(crate) fn pidtab_line(
-        table: *mut Pidtab,
+    fn pidtab_version() -> u32;
+    fn pidtab_open(table: *mut Held, pid_max: u32) -> u32;
+    fn pidtab_close(table: *mut Held) -> u32;
+    fn pidtab_line(
+        table: *mut Held,
         line: *const c_void,
         length: usize,
         answer: *mut c_void,
         room: usize,
         size: *mut usize,
     ) -> u32;
-    pub(crate) fn pidtab_list(
-        table: *mut Pidtab,
+    fn pidtab_list(table: *mut Held, bytes: *mut c_void, room: usize, size: *mut usize) -> u32;
+    fn pidtab_call(table: *mut Held, call: *const Call, reply: *mut Reply) -> u32;
+    fn pidtab_ask(table: *mut Held, call: *const Call, reply: *mut Reply) -> u32;
+    fn pidtab_record_open(record: *mut Held, pid_max: u32, first_stamp: u64, workers: u32) -> u32;
+    fn pidtab_record_close(record: *mut Held) -> u32;
+    fn pidtab_record_call(
+        record: *mut Held,
+        worker: u32,
+        call: *const Call,
+        reply: *mut Reply,
+        ordinal: *mut u64,
+    ) -> u32;
+    fn pidtab_record_line(
+        record: *mut Held,
+        worker: u32,
+        line: *const c_void,
+        length: usize,
+        answer: *mut c_void,
+        room: usize,
+        size: *mut usize,
+        ordinal: *mut u64,
+    ) -> u32;
+    fn pidtab_record_ask(record: *mut Held, call: *const Call, reply: *mut Reply) -> u32;
+    fn pidtab_record_counts(record: *mut Held, first_kept: *mut u64, recorded: *mut u64) -> u32;
+    fn pidtab_record_worker(record: *mut Held, worker: u32, calls: *mut u64) -> u32;
+    fn pidtab_record_entry(
+        record: *mut Held,
+        ordinal: u64,
+        worker: *mut u64,
+        call: *mut Call,
+        reply: *mut Reply,
+    ) -> u32;
+    fn pidtab_record_read(
+        record: *mut Held,
+        from: u64,
+        entries: *mut Entry,
+        room: usize,
+        count: *mut usize,
+    ) -> u32;
+    fn pidtab_record_replay(
+        record: *mut Held,
+        saved: *const Entry,
+        count: usize,
+        place: *mut usize,
+    ) -> u32;
+    fn pidtab_record_checkpoint(record: *mut Held) -> u32;
+    fn pidtab_record_checkpoint_at(record: *mut Held, seen: u64) -> u32;
+    fn pidtab_record_list(
+        record: *mut Held,
         bytes: *mut c_void,
         room: usize,
         size: *mut usize,
     ) -> u32;
-    pub(crate) fn pidtab_call(table: *mut Pidtab, call: *const Call, reply: *mut Reply) -> u32;
+    fn pidtab_record_opening(
+        record: *mut Held,
+        bytes: *mut c_void,
+        room: usize,
+        size: *mut usize,
+    ) -> u32;
 }
 
-#[cfg(test)]
-mod tests {
-    use super::*;
-    use crate::Refusal;
-    use std::fs;
+// What the head of the header asks of a caller, and why each function below may be called:
+//
+// - A struct begins as zeroes, and stays on the heap until it is dropped. It has one owner, whose methods take it by `&mut`.
+// - Each pointer is a reference's or a slice's. None is null, not even to 0 bytes, and the compiler lets no two of them overlap.
+// - The library takes its memory from malloc, which any thread may free.
+// - No function here is called from a signal handler, as that would be unsafe code of the caller's.
 
-    /// The header without its comments, each run of white space one space.
-    fn header() -> String {
-        let path = concat!(env!("CARGO_MANIFEST_DIR"), "/../c/pidtab.h");
-        let text = fs::read_to_string(path).expect("the header");
-        let mut parts = text.split("/*");
-        let mut bare = parts.next().expect("a first part").to_owned();
-        for part in parts {
-            bare += part.split_once("*/").expect("the end of a comment").1;
-        }
-        bare.split_whitespace().collect::<Vec<_>>().join(" ")
+/// Panics where the library has another interface.
+fn compare_versions() {
+    // SAFETY: the function takes nothing.
+    let version = unsafe { pidtab_version() };
+    assert_eq!(version, VERSION, "the library's interface");
+}
+
+/// The value, where the status is `DONE`; else the status.
+pub(crate) fn done<T>(status: u32, value: T) -> Result<T, u32> {
+    if status == DONE {
+        Ok(value)
+    } else {
+        Err(status)
+    }
+}
+
+/// An open table.
+pub(crate) struct Table {
+    held: Box<Held>,
+}
+
+// SAFETY: the table's memory is reached by this owner alone, the library has no state beside it, and it comes from malloc, which any
+// thread may free. That the handle may go to another thread is proved: crates/pidtab_c/proofs/handle/Handle/TheSendSync. It
+// is not `Sync`: what is proved is of one function at a time, and no call is proved to leave the table unwritten.
+unsafe impl Send for Table {}
+
+impl Table {
+    pub(crate) fn open(pid_max: u32) -> Result<Table, u32> {
+        compare_versions();
+        let mut held = Held::none();
+        // SAFETY: the pointer is to a struct of zeroes that is this call's alone.
+        let status = unsafe { pidtab_open(&mut *held, pid_max) };
+        done(status, Table { held })
     }
 
-    /// What stands between the braces behind the words.
-    fn body<'a>(header: &'a str, words: &str) -> &'a str {
-        let (_, behind) = header.split_once(&format!("{words} {{ ")).expect(words);
-        behind.split_once(" }").expect("a closing brace").0
+    pub(crate) fn call(&mut self, call: &Call, reply: &mut Reply) -> u32 {
+        // SAFETY: the table is open and lent to this call alone; no two of the three overlap.
+        unsafe { pidtab_call(&mut *self.held, call, reply) }
     }
 
-    /// The header has an enum with these numbers and no others, in this order.
-    fn same_enum(name: &str, numbers: &[(&str, u32)]) {
-        let header = header();
-        let mut next = 0;
-        let mut told = Vec::new();
-        for word in body(&header, &format!("enum {name}")).split(',') {
-            let (word, number) = word.split_once('=').unwrap_or((word, ""));
-            next = number.trim().parse().unwrap_or(next);
-            told.push((word.trim().trim_start_matches("PIDTAB_").to_owned(), next));
-            next += 1;
-        }
-        let wanted: Vec<_> = numbers.iter().map(|it| (it.0.to_owned(), it.1)).collect();
-        assert_eq!(told, wanted, "{name}");
+    pub(crate) fn ask(&mut self, call: &Call, reply: &mut Reply) -> u32 {
+        // SAFETY: as above.
+        unsafe { pidtab_ask(&mut *self.held, call, reply) }
     }
 
-    #[test]
-    fn the_numbers_are_those_of_the_header() {
-        same_enum(
-            "pidtab_status",
-            &[
-                ("DONE", DONE),
-                ("CLOSED", 9),
-                ("NO_MEMORY", NO_MEMORY),
-                ("BUSY", BUSY),
-                ("OUT_OF_RANGE", OUT_OF_RANGE),
-                ("NO_ROOM", NO_ROOM),
-                ("EMPTY_LINE", EMPTY_LINE),
-                ("BAD_LINE", BAD_LINE),
-                ("SPENT", SPENT),
-            ],
-        );
-        same_enum(
-            "pidtab_operation",
-            &[
-                ("FORK", FORK),
-                ("GETPID", GETPID),
-                ("NSPID", NSPID),
-                ("EXEC", EXEC),
-                ("EXIT", EXIT),
-                ("WAIT", WAIT),
-                ("GETPPID", GETPPID),
-                ("SETPGID", SETPGID),
-                ("SETSID", SETSID),
-                ("MK", MK),
-                ("RM", RM),
-                ("LIMIT", LIMIT),
-                ("MOVE", MOVE),
-                ("COUNT", COUNT),
-                ("GETPGID", GETPGID),
-                ("GETSID", GETSID),
-                ("NEXT", NEXT),
-                ("JOIN", JOIN),
-                ("SUBREAPER", SUBREAPER),
-            ],
-        );
+    pub(crate) fn line(&mut self, line: &[u8], answer: &mut [u8], size: &mut usize) -> u32 {
+        let (bytes, length) = (line.as_ptr().cast(), line.len());
+        let (room, most) = (answer.as_mut_ptr().cast(), answer.len());
+        // SAFETY: as above; the line and the answer are slices with these lengths.
+        unsafe { pidtab_line(&mut *self.held, bytes, length, room, most, size) }
     }
 
-    #[test]
-    fn the_choices_and_kinds_are_those_of_the_header() {
-        same_enum(
-            "pidtab_which",
-            &[
-                ("ANY", ANY),
-                ("CHILD", CHILD),
-                ("OWN_GROUP", OWN_GROUP),
-                ("GROUP", GROUP),
-            ],
-        );
-        same_enum(
-            "pidtab_use",
-            &[("TASKS", TASKS), ("GROUPS", GROUPS), ("SESSIONS", SESSIONS)],
-        );
-        same_enum(
-            "pidtab_kind",
-            &[
-                ("FORKED", 0),
-                ("OK", 1),
-                ("NUMBER", 2),
-                ("LEVELS", 3),
-                ("REAPED", 4),
-                ("NONE_YET", NONE_YET),
-                ("COUNTED", 6),
-                ("CONTROL", 7),
-                ("END", END),
-                ("REFUSED", REFUSED),
-            ],
-        );
+    pub(crate) fn list(&mut self, text: &mut [u8], size: &mut usize) -> u32 {
+        let (room, most) = (text.as_mut_ptr().cast(), text.len());
+        // SAFETY: as above; the room is a slice with this length.
+        unsafe { pidtab_list(&mut *self.held, room, most, size) }
     }
 
-    /// A refusal's name in the header is its word in capital letters, with `_` for `-`.
-    #[test]
-    fn the_refusals_are_those_of_the_header() {
-        let refusals = (1..=19).map(|it| (it, Refusal::of(it, 0).name()));
-        let names: Vec<_> = refusals
-            .clone()
-            .map(|(number, word)| (word.to_uppercase().replace('-', "_"), number))
-            .collect();
-        let names: Vec<_> = names.iter().map(|it| (it.0.as_str(), it.1)).collect();
-        same_enum("pidtab_refusal", &names);
-        let header = header();
-        let told = body(&header, "words[] =").split(',').skip(1);
-        let told: Vec<_> = told.map(|it| it.trim().trim_matches('"')).collect();
-        assert_eq!(told, refusals.map(|it| it.1).collect::<Vec<_>>());
+    /// As in a forked child, where the thread whose call was under way is not.
+    #[cfg(test)]
+    pub(crate) fn mark(&mut self, in_call: bool) {
+        self.held.in_call = in_call;
+    }
+}
+
+impl Drop for Table {
+    fn drop(&mut self) {
+        // SAFETY: the table is lent to this call alone; one that is not open stays so. No other thread is in it, so it is closed.
+        unsafe { pidtab_close(&mut *self.held) };
+    }
+}
+
+/// An open record: a table with its history.
+pub(crate) struct Record {
+    held: Box<Held>,
+}
+
+// SAFETY: as a table. That the handle may go to another thread is proved: crates/pidtab_c/proofs/record_handle. It is not `Sync`: a lock is
+// around it.
+unsafe impl Send for Record {}
+
+impl Record {
+    pub(crate) fn open(pid_max: u32, first_stamp: u64, workers: u32) -> Result<Record, u32> {
+        compare_versions();
+        let mut held = Held::none();
+        // SAFETY: the pointer is to a struct of zeroes that is this call's alone.
+        let status = unsafe { pidtab_record_open(&mut *held, pid_max, first_stamp, workers) };
+        done(status, Record { held })
     }
 
-    #[test]
-    fn the_bounds_are_those_of_the_header() {
-        let header = header();
-        for (name, number) in [
-            ("VERSION", u64::from(VERSION)),
-            ("KILLED", KILLED),
-            ("LEVELS_MAX", LEVELS_MAX as u64),
-            ("LONGEST_ANSWER", LONGEST_ANSWER as u64),
-        ] {
-            assert!(
-                header.contains(&format!("#define PIDTAB_{name} {number} ")),
-                "{name}"
-            );
-        }
+    pub(crate) fn call(&mut self, worker: u32, call: &Call, reply: &mut Reply) -> Result<u64, u32> {
+        let mut ordinal = 0;
+        // SAFETY: the record is open and lent to this call alone; no two of the four overlap.
+        let status =
+            unsafe { pidtab_record_call(&mut *self.held, worker, call, reply, &mut ordinal) };
+        done(status, ordinal)
     }
 
-    #[test]
-    fn the_structs_and_functions_are_those_of_the_header() {
-        let header = header();
-        assert_eq!(
-            body(&header, "struct pidtab"),
-            "void *at; bool is_open; bool in_call;"
-        );
-        assert_eq!(
-            body(&header, "struct pidtab_call"),
-            "uint32_t operation; uint32_t caller; uint64_t id; uint32_t number; uint32_t choice; int32_t pid; int32_t pgid;"
-        );
-        assert_eq!(
-            body(&header, "struct pidtab_reply"),
-            "uint32_t kind; uint32_t error; uint32_t refusal; uint32_t count; uint64_t first; uint64_t second; uint32_t levels[PIDTAB_LEVELS_MAX];"
-        );
-        for declared in [
-            "uint32_t pidtab_version(void);",
-            "uint32_t pidtab_open(struct pidtab *table, uint32_t pid_max);",
-            "uint32_t pidtab_close(struct pidtab *table);",
-            "uint32_t pidtab_line(struct pidtab *table, const void *line, size_t length, void *answer, size_t room, size_t *size);",
-            "uint32_t pidtab_list(struct pidtab *table, void *bytes, size_t room, size_t *size);",
-            "uint32_t pidtab_call(struct pidtab *table, const struct pidtab_call *call, struct pidtab_reply *reply);",
-        ] {
-            assert!(header.contains(declared), "{declared}");
-        }
+    pub(crate) fn line(
+        &mut self,
+        worker: u32,
+        line: &[u8],
+        answer: &mut [u8],
+        size: &mut usize,
+        ordinal: &mut u64,
+    ) -> u32 {
+        let (bytes, length) = (line.as_ptr().cast(), line.len());
+        let (room, most) = (answer.as_mut_ptr().cast(), answer.len());
+        let held = &mut *self.held;
+        // SAFETY: as above; the line and the answer are slices with these lengths.
+        unsafe { pidtab_record_line(held, worker, bytes, length, room, most, size, ordinal) }
+    }
+
+    pub(crate) fn ask(&mut self, call: &Call, reply: &mut Reply) -> u32 {
+        // SAFETY: as above.
+        unsafe { pidtab_record_ask(&mut *self.held, call, reply) }
+    }
+
+    /// The ordinal of the first kept entry, and how many calls were recorded.
+    pub(crate) fn counts(&mut self) -> Result<(u64, u64), u32> {
+        let (mut first_kept, mut recorded) = (0, 0);
+        // SAFETY: as above.
+        let status =
+            unsafe { pidtab_record_counts(&mut *self.held, &mut first_kept, &mut recorded) };
+        done(status, (first_kept, recorded))
+    }
+
+    pub(crate) fn worker(&mut self, worker: u32) -> Result<u64, u32> {
+        let mut calls = 0;
+        // SAFETY: as above.
+        let status = unsafe { pidtab_record_worker(&mut *self.held, worker, &mut calls) };
+        done(status, calls)
+    }
+
+    pub(crate) fn entry(&mut self, ordinal: u64) -> Result<Entry, u32> {
+        let mut entry = Entry::blank();
+        let (worker, call, reply) = (&mut entry.worker, &mut entry.call, &mut entry.reply);
+        // SAFETY: as above; the three are fields of one struct, so they do not overlap.
+        let status = unsafe { pidtab_record_entry(&mut *self.held, ordinal, worker, call, reply) };
+        done(status, entry)
+    }
+
+    /// How many entries were read.
+    pub(crate) fn read(&mut self, from: u64, entries: &mut [Entry]) -> Result<usize, u32> {
+        let (at, room, mut count) = (entries.as_mut_ptr(), entries.len(), 0);
+        // SAFETY: as above; the entries are a slice with this length.
+        let status = unsafe { pidtab_record_read(&mut *self.held, from, at, room, &mut count) };
+        done(status, count)
+    }
+
+    pub(crate) fn replay(&mut self, saved: &[Entry], place: &mut usize) -> u32 {
+        let (at, count) = (saved.as_ptr(), saved.len());
+        // SAFETY: as above; the entries are a slice with this length.
+        unsafe { pidtab_record_replay(&mut *self.held, at, count, place) }
+    }
+
+    pub(crate) fn checkpoint(&mut self) -> u32 {
+        // SAFETY: as above.
+        unsafe { pidtab_record_checkpoint(&mut *self.held) }
+    }
+
+    pub(crate) fn checkpoint_at(&mut self, seen: u64) -> u32 {
+        // SAFETY: as above.
+        unsafe { pidtab_record_checkpoint_at(&mut *self.held, seen) }
+    }
+
+    pub(crate) fn list(&mut self, text: &mut [u8], size: &mut usize) -> u32 {
+        let (room, most) = (text.as_mut_ptr().cast(), text.len());
+        // SAFETY: as above; the room is a slice with this length.
+        unsafe { pidtab_record_list(&mut *self.held, room, most, size) }
+    }
+
+    pub(crate) fn opening(&mut self, text: &mut [u8], size: &mut usize) -> u32 {
+        let (room, most) = (text.as_mut_ptr().cast(), text.len());
+        // SAFETY: as above.
+        unsafe { pidtab_record_opening(&mut *self.held, room, most, size) }
+    }
+
+    /// As in a forked child, where the thread whose call was under way is not.
+    #[cfg(test)]
+    pub(crate) fn mark(&mut self, in_call: bool) {
+        self.held.in_call = in_call;
+    }
+}
+
+impl Drop for Record {
+    fn drop(&mut self) {
+        // SAFETY: the record is lent to this call alone; one that is not open stays so. No other thread is in it, so it is closed.
+        unsafe { pidtab_record_close(&mut *self.held) };
     }
 }

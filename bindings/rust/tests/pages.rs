@@ -1,4 +1,4 @@
-//! What the repository has in writing: the stored scripts with their answers, and the example of README.md.
+//! What the repository has in writing: the stored scripts with their answers, and the examples of README.md.
 use pidtab::{LineError, Table};
 use std::path::{Path, PathBuf};
 use std::process::Command;
@@ -50,22 +50,25 @@ fn block(title: &str, kind: &str) -> String {
     behind.split_once("```\n").expect("its end").0.to_owned()
 }
 
-/// The example, where cargo builds it beside the tests.
-fn example() -> PathBuf {
+/// An example, where cargo builds it beside the tests.
+fn built(name: &str) -> PathBuf {
     let test = env::current_exe().expect("this test");
     let folder = test.ancestors().nth(2).expect("cargo's folder");
-    folder.join("examples/containers")
+    folder.join("examples").join(name)
+}
+
+/// A section's code is that of the example, and its text is what the example prints.
+fn same_example(name: &str, title: &str) {
+    let code = read(&format!("bindings/rust/examples/{name}.rs"));
+    let (_, code) = code.split_once('\n').expect("a head");
+    assert_eq!(code, block(title, "rust"));
+    let done = Command::new(built(name)).output().expect("the example");
+    let said = String::from_utf8(done.stdout).expect("text");
+    assert_eq!((done.status.success(), said), (true, block(title, "text")));
 }
 
 #[test]
-fn the_example_of_the_page() {
-    let code = read("bindings/rust/examples/containers.rs");
-    let (_, code) = code.split_once('\n').expect("a head");
-    assert_eq!(code, block("Example", "rust"));
-    let done = Command::new(example()).output().expect("the example");
-    let said = String::from_utf8(done.stdout).expect("text");
-    assert_eq!(
-        (done.status.success(), said),
-        (true, block("Example", "text"))
-    );
+fn the_examples_of_the_page() {
+    same_example("containers", "Example");
+    same_example("shared", "A table for many threads, with its history");
 }

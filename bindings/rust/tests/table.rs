@@ -1,5 +1,7 @@
 //! Each call by its method, with what docs/SCRIPT.md says of it; the limits of a table; threads.
-use pidtab::{Child, Ended, Error, Kind, LineError, Reaped, Refusal, Table, Which};
+use pidtab::{
+    Call, Calls, Child, Ended, Error, Kind, LineError, Reaped, Refusal, Reply, Table, Which,
+};
 use std::sync::Mutex;
 use std::thread;
 
@@ -221,6 +223,21 @@ fn lines() {
     assert_eq!(table.line(b"mk 0"), Ok("control 5".to_owned()));
 }
 
+/// A query is answered as its call is, and is none: the next id is that of the first call.
+#[test]
+fn queries_that_are_no_calls() {
+    let mut table = open();
+    assert_eq!(table.ask(Call::Getpid { caller: 1 }), Ok(Reply::Number(1)));
+    assert_eq!(table.ask(Call::Count { id: 0 }), Ok(Reply::Counted(1)));
+    let (errno, refusal) = (ESRCH, Refusal::NoCaller);
+    let nobody = Reply::Refused { errno, refusal };
+    assert_eq!(table.ask(Call::Getpid { caller: 9 }), Ok(nobody.clone()));
+    assert_eq!(table.ask(Call::Mk { parent: 0 }), Err(Error::OutOfRange));
+    assert_eq!(table.mk(0), Ok(1));
+    assert_eq!(table.call(Call::Getpid { caller: 9 }), Ok(nobody));
+    assert_eq!(table.mk(0), Ok(3));
+}
+
 #[test]
 fn what_errors_say() {
     let mut table = open();
@@ -228,6 +245,10 @@ fn what_errors_say() {
     assert_eq!(fault.to_string(), "no-caller (errno 3)");
     assert_eq!(Refusal::NoNumber(0).to_string(), "no-number 0");
     assert_eq!(Error::NoMemory.to_string(), "no memory");
+    assert_eq!(
+        Error::NotKept.to_string(),
+        "no entry with the ordinal is kept"
+    );
     assert_eq!(LineError::Bad.to_string(), "bad line");
     assert_eq!(format!("{table:?}"), "Table { .. }");
 }

@@ -1,0 +1,148 @@
+/* pidtab_saved.h - a saved history: the calls of a record with their replies, as bytes and in a file.
+ *
+ * A process that crashed loads the file. A fresh record is opened with the settings of the file's head, each saved call is made on
+ * it again, and each reply is compared with the saved one. Then the file and the record go on. docs/SAVED.md has the form of the
+ * bytes: a head of 48 bytes, and 48 bytes for each call but a few. It is the same on every machine, and has no time and no address.
+ *
+ * saved.c is tested and not proved. It allocates nothing; only the record does, as its calls are made.
+ *
+ * Nobody checks that a caller keeps these rules, nor those of pidtab.h, which hold too:
+ *
+ * - One thread at a time works on a struct pidtab_saved. The others may make calls on the shared record meanwhile.
+ * - One process at a time writes the file, and by one descriptor.
+ * - What a write has given to the kernel survives the process. To have it survive the machine, call fsync or fdatasync.
+ * - A pipe without a reader is SIGPIPE, as for any write. Ignored, it is PIDTAB_DEVICE with EPIPE.
+ */
+#ifndef PIDTAB_SAVED_H
+#define PIDTAB_SAVED_H
+
+#include "pidtab_shared.h"
+
+#ifdef __cplusplus
+extern "C" {
+#endif
+
+/* What these functions answer besides. */
+enum pidtab_saved_status {
+	PIDTAB_DEVICE = 5,        /* EIO: a read or a write of the file failed; the field `error` has its errno */
+	PIDTAB_NOT_SAVED = 8,     /* ENOEXEC: the bytes are no saved history */
+	PIDTAB_NOT_EMPTY = 17,    /* EEXIST: the file has bytes already */
+	PIDTAB_TORN = 42,         /* ENOMSG: the bytes end before the head, or the entry, does */
+	PIDTAB_WRONG_BYTE = 84,   /* EILSEQ: a byte is not the one that was written */
+	PIDTAB_OTHER_VERSION = 93 /* EPROTONOSUPPORT: the form is of a version that this library does not know */
+};
+
+/* What a status says, as a sentence; also one of pidtab.h. */
+static inline const char *pidtab_saved_text(uint32_t status)
+{
+	switch (status) {
+	case PIDTAB_DEVICE:
+		return "a read or a write of the file failed";
+	case PIDTAB_NOT_SAVED:
+		return "the bytes are no saved history";
+	case PIDTAB_NOT_EMPTY:
+		return "the file has bytes already";
+	case PIDTAB_TORN:
+		return "the bytes end within the head or an entry";
+	case PIDTAB_WRONG_BYTE:
+		return "a byte is not the one that was written";
+	case PIDTAB_OTHER_VERSION:
+		return "the saved history is of another version";
+	}
+	return pidtab_text(status);
+}
+
+/* The version of the form. */
+#define PIDTAB_SAVED_VERSION 1
+
+/* The head and each entry are whole blocks of so many bytes. The longest entry is that of an nspid with 33 levels. */
+#define PIDTAB_SAVED_BLOCK 48
+#define PIDTAB_SAVED_LONGEST 192
+
+/* The settings that the record was opened with, as pidtab_record_open takes them. */
+struct pidtab_saved_head {
+	uint32_t pid_max;
+	uint32_t workers;
+	uint64_t first_stamp;
+};
+
+/* Bytes in memory. `sum` is the running checksum: the head's functions begin it, and each entry's goes on with it. No function
+ * changes anything unless it is PIDTAB_DONE, but `size`. */
+
+/* The CRC-64/XZ of bytes behind those whose CRC is `sum`, which is 0 for none. */
+uint64_t pidtab_saved_sum(uint64_t sum, const void *bytes, size_t length);
+
+/* Writes the head, of size PIDTAB_SAVED_BLOCK. DONE, NO_ROOM, and OUT_OF_RANGE for settings that no record is opened with. */
+uint32_t pidtab_saved_put_head(const struct pidtab_saved_head *head, void *bytes, size_t room, size_t *size, uint64_t *sum);
+
+/* Writes an entry; in room of PIDTAB_SAVED_LONGEST each fits. DONE; NO_ROOM, and then size says what is needed; OUT_OF_RANGE where a
+ * number has no place in the form. Each entry of pidtab_record_read can be written. */
+uint32_t pidtab_saved_put(const struct pidtab_entry *entry, void *bytes, size_t room, size_t *size, uint64_t *sum);
+
+/* Reads the head from the front of the bytes; size is how many it has. DONE; TORN where there are fewer, and those may be the front
+ * of a head; NOT_SAVED; OTHER_VERSION; WRONG_BYTE; and OUT_OF_RANGE as above. */
+uint32_t pidtab_saved_take_head(const void *bytes, size_t length, struct pidtab_saved_head *head, size_t *size, uint64_t *sum);
+
+/* Reads an entry from the front of the bytes; size is how many it has. DONE; TORN where there are fewer, and then size says how
+ * many there are at least; WRONG_BYTE, and then size is the place of the first block that is not as it was written. Nothing is
+ * said of the call and the reply: they may be those of no record. */
+uint32_t pidtab_saved_take(const void *bytes, size_t length, struct pidtab_entry *entry, size_t *size, uint64_t *sum);
+
+/* A file that a history is saved to. Its fields may be read, and are not written. */
+struct pidtab_saved {
+	struct pidtab_saved_head head; /* the settings in the file */
+	uint64_t next;                 /* so many calls are in the file, each whole; the next one has this ordinal */
+	uint64_t bytes;                /* so many bytes they have, with the head */
+	uint64_t left_out;             /* so many bytes of a torn end a load has found behind them */
+	uint64_t sum;
+	size_t part;                   /* so many bytes a write that failed has left behind them */
+	bool is_torn;                  /* the torn end is in the file yet */
+	int file;
+	int error;                     /* the errno of what was PIDTAB_DEVICE, or else 0 */
+};
+
+/* Begins a saved history: writes the head into an empty file. The settings are those that the record is opened with; nobody compares
+ * them. DONE; OUT_OF_RANGE; NOT_EMPTY; DEVICE, and then pidtab_saved_trim takes away what was written of the head. */
+uint32_t pidtab_saved_begin(struct pidtab_saved *saved, int file, const struct pidtab_saved_head *head);
+
+/* Writes the calls that were recorded since, and perhaps some that are recorded meanwhile. The lock of a shared record is held for
+ * sixteen calls at a time, and for no write. Short and interrupted writes are gone on with.
+ *
+ * DONE, CLOSED, BUSY. NOT_KEPT where the next call to be saved was cut away, or the record has fewer calls than the file: so a history
+ * that was cut before it was saved from its first call on is refused. TORN where a load has left out a torn end that is not trimmed
+ * yet. DEVICE: the next append goes on behind the last byte that was written, so nothing is lost or doubled.
+ *
+ * What is saved may be cut: pidtab_record_checkpoint_at with `next` gives its memory back, and the file goes on. */
+uint32_t pidtab_saved_append(struct pidtab_saved *saved, struct pidtab_record *record);
+uint32_t pidtab_saved_append_shared(struct pidtab_saved *saved, struct pidtab_shared *shared);
+
+/* Opens a record by the head of the file, and makes its calls. The file is read from its beginning to its end, and not changed. Where keep is not 0, the
+ * new record's history is cut whenever it has so many entries; each cut is a copy of the table. A shared record cuts none later.
+ *
+ * On DONE the record is open: `next` calls were made, and each had the saved reply. A torn end, which is that of a writer that was
+ * stopped, is left out: `left_out` says how many bytes it has. Any other status says that nothing is to be closed:
+ *
+ * - TORN: the file ends within its head. NOT_SAVED, OTHER_VERSION: by its head. OUT_OF_RANGE where `bytes` is 0: its settings.
+ * - WRONG_BYTE: in the head, where `bytes` is 0, or in the entry that begins at `bytes`, that of the ordinal `next`.
+ * - DIFFERS: the call with the ordinal `next`, saved at `bytes`, has another reply. OUT_OF_RANGE, SPENT, NO_MEMORY: it was not made.
+ * - DEVICE, BUSY. NO_MEMORY where `bytes` is 0: the record was not opened.
+ *
+ * A file that is cut to a length of `bytes`, where that is not 0, loads as what comes before. It costs what the calls cost. */
+uint32_t pidtab_saved_load(struct pidtab_saved *saved, int file, struct pidtab_record *record, uint64_t keep);
+uint32_t pidtab_saved_load_shared(struct pidtab_saved *saved, int file, struct pidtab_shared *shared, uint64_t keep);
+
+/* Cuts the torn end off the file, behind a load, or what was written of a head. Then an append goes on, or a begin. DONE, also where
+ * there is none; DEVICE. */
+uint32_t pidtab_saved_trim(struct pidtab_saved *saved);
+
+/* Loads the file, and trims it: an append goes on. A file that is empty, or ends within its head, is begun, and the record is opened
+ * with the settings `fresh`; those of another file are its own, and `head` has them. The descriptor reads and writes. Statuses are
+ * those of a load but for TORN; where none is DONE, nothing is to be closed. */
+uint32_t pidtab_saved_resume(struct pidtab_saved *saved, int file, const struct pidtab_saved_head *fresh, struct pidtab_record *record, uint64_t keep);
+uint32_t pidtab_saved_resume_shared(struct pidtab_saved *saved, int file, const struct pidtab_saved_head *fresh, struct pidtab_shared *shared, uint64_t keep);
+
+#ifdef __cplusplus
+}
+#endif
+
+#endif

@@ -1,0 +1,409 @@
+/* A saved history in a file: begun, gone on with, and loaded into a fresh record. */
+#define _POSIX_C_SOURCE 200809L
+#define _FILE_OFFSET_BITS 64
+
+#include "pidtab_saved.h"
+
+#include <errno.h>
+#include <string.h>
+#include <sys/stat.h>
+#include <unistd.h>
+
+/* So many entries are in hand at once, and the bytes of as many of the longest. */
+#define AT_ONCE 16
+
+/* What a load that failed leaves, so that no append writes behind a wrong byte. */
+#define NO_FILE (-1)
+
+static uint32_t failed(struct pidtab_saved *saved, int error)
+{
+	saved->error = error;
+	return PIDTAB_DEVICE;
+}
+
+/* Writes what of the bytes is not in the file yet; `part` is how many are. A file that takes no byte is full. */
+static uint32_t write_on(struct pidtab_saved *saved, const unsigned char *bytes, size_t size)
+{
+	while (saved->part < size) {
+		ssize_t count = write(saved->file, bytes + saved->part, size - saved->part);
+		if (count == 0)
+			return failed(saved, ENOSPC);
+		if (count < 0 && errno != EINTR)
+			return failed(saved, errno);
+		if (count > 0)
+			saved->part += (size_t)count;
+	}
+	saved->part = 0;
+	saved->bytes += size;
+	return PIDTAB_DONE;
+}
+
+/* Goes to the beginning of an empty file. A pipe and the like has none, and is taken for empty. */
+static uint32_t go_to_beginning(struct pidtab_saved *saved)
+{
+	struct stat about;
+
+	if (fstat(saved->file, &about) != 0)
+		return failed(saved, errno);
+	if (!S_ISREG(about.st_mode))
+		return PIDTAB_DONE;
+	if (about.st_size != 0)
+		return PIDTAB_NOT_EMPTY;
+	return lseek(saved->file, 0, SEEK_SET) == 0 ? PIDTAB_DONE : failed(saved, errno);
+}
+
+uint32_t pidtab_saved_begin(struct pidtab_saved *saved, int file, const struct pidtab_saved_head *head)
+{
+	unsigned char block[PIDTAB_SAVED_BLOCK];
+	struct pidtab_saved begun = { .head = *head, .file = file };
+	size_t size;
+	uint32_t status = pidtab_saved_put_head(head, block, sizeof block, &size, &begun.sum);
+
+	if (status == PIDTAB_DONE)
+		status = go_to_beginning(&begun);
+	if (status == PIDTAB_DONE)
+		status = write_on(&begun, block, size);
+	*saved = begun;
+	return status;
+}
+
+/* A record, or one behind its lock. */
+struct either {
+	struct pidtab_record *record;
+	struct pidtab_shared *shared;
+};
+
+static uint32_t open_by(const struct either *either, const struct pidtab_saved_head *head)
+{
+	if (either->shared)
+		return pidtab_shared_open(either->shared, head->pid_max, head->first_stamp, head->workers, 0);
+	return pidtab_record_open(either->record, head->pid_max, head->first_stamp, head->workers);
+}
+
+static void close_it(const struct either *either)
+{
+	if (either->shared)
+		pidtab_shared_close(either->shared);
+	else
+		pidtab_record_close(either->record);
+}
+
+static uint32_t count_calls(const struct either *either, uint64_t *first_kept, uint64_t *recorded)
+{
+	if (either->shared)
+		return pidtab_shared_counts(either->shared, first_kept, recorded);
+	return pidtab_record_counts(either->record, first_kept, recorded);
+}
+
+static uint32_t read_entries(const struct either *either, uint64_t from, struct pidtab_entry *entries, size_t *count)
+{
+	if (either->shared)
+		return pidtab_shared_read(either->shared, from, entries, AT_ONCE, count);
+	return pidtab_record_read(either->record, from, entries, AT_ONCE, count);
+}
+
+/* Saves the next entries. Behind a write that failed they are the same ones, and perhaps more, so the same bytes come first. */
+static uint32_t append_some(struct pidtab_saved *saved, const struct either *either)
+{
+	struct pidtab_entry entries[AT_ONCE];
+	unsigned char bytes[AT_ONCE * PIDTAB_SAVED_LONGEST];
+	uint64_t sum = saved->sum;
+	size_t count = 0, size = 0, used = 0;
+	uint32_t status = read_entries(either, saved->next, entries, &count);
+
+	for (size_t i = 0; i < count && status == PIDTAB_DONE; i++, used += size)
+		status = pidtab_saved_put(&entries[i], bytes + used, sizeof bytes - used, &size, &sum);
+	if (status == PIDTAB_DONE)
+		status = write_on(saved, bytes, used);
+	if (status != PIDTAB_DONE)
+		return status;
+	saved->next += count;
+	saved->sum = sum;
+	return PIDTAB_DONE;
+}
+
+/* Goes to the end of the file; a pipe is there. A file without a head, or with a torn end, is not gone on with. */
+static uint32_t go_to_end(struct pidtab_saved *saved)
+{
+	saved->error = 0;
+	if (saved->file == NO_FILE)
+		return failed(saved, EBADF);
+	if (saved->bytes == 0 || saved->is_torn)
+		return PIDTAB_TORN;
+	lseek(saved->file, 0, SEEK_END);
+	return PIDTAB_DONE;
+}
+
+static uint32_t append_from(struct pidtab_saved *saved, const struct either *either)
+{
+	uint64_t first_kept, recorded;
+	uint32_t status = go_to_end(saved);
+
+	if (status == PIDTAB_DONE)
+		status = count_calls(either, &first_kept, &recorded);
+	if (status == PIDTAB_DONE && recorded < saved->next)
+		status = PIDTAB_NOT_KEPT;
+	while (status == PIDTAB_DONE && saved->next < recorded)
+		status = append_some(saved, either);
+	return status;
+}
+
+uint32_t pidtab_saved_append(struct pidtab_saved *saved, struct pidtab_record *record)
+{
+	return append_from(saved, &(struct either){ .record = record });
+}
+
+uint32_t pidtab_saved_append_shared(struct pidtab_saved *saved, struct pidtab_shared *shared)
+{
+	return append_from(saved, &(struct either){ .shared = shared });
+}
+
+/* What was read of the file, and is not taken yet. */
+struct input {
+	size_t from, to;
+	bool has_ended;
+	unsigned char bytes[AT_ONCE * PIDTAB_SAVED_LONGEST];
+};
+
+/* Reads until there is no more room, or the file ends. */
+static uint32_t fill(struct pidtab_saved *saved, struct input *input)
+{
+	memmove(input->bytes, input->bytes + input->from, input->to - input->from);
+	input->to -= input->from;
+	input->from = 0;
+	while (!input->has_ended && input->to < sizeof input->bytes) {
+		ssize_t count = read(saved->file, input->bytes + input->to, sizeof input->bytes - input->to);
+		if (count < 0 && errno != EINTR)
+			return failed(saved, errno);
+		if (count > 0)
+			input->to += (size_t)count;
+		input->has_ended = count == 0;
+	}
+	return PIDTAB_DONE;
+}
+
+/* What is behind the last whole entry is left out. */
+static uint32_t leave_out(struct pidtab_saved *saved, uint64_t count, uint32_t status)
+{
+	saved->left_out = count;
+	saved->is_torn = count != 0;
+	return status;
+}
+
+/* From the file's beginning; a pipe has none. */
+static uint32_t load_head(struct pidtab_saved *saved, struct input *input)
+{
+	size_t size;
+	uint32_t status;
+
+	lseek(saved->file, 0, SEEK_SET);
+	status = fill(saved, input);
+	if (status == PIDTAB_DONE)
+		status = pidtab_saved_take_head(input->bytes, input->to, &saved->head, &size, &saved->sum);
+	if (status == PIDTAB_DONE)
+		input->from = size;
+	return status == PIDTAB_TORN ? leave_out(saved, input->to, status) : status;
+}
+
+/* Entries in hand, with their sizes. */
+struct batch {
+	struct pidtab_entry entries[AT_ONCE];
+	size_t sizes[AT_ONCE];
+	size_t count;
+	size_t place; /* in the entry behind them: of its first wrong block */
+};
+
+/* Takes entries until there are enough, or one is not whole, or wrong. */
+static uint32_t take_some(struct pidtab_saved *saved, struct input *input, struct batch *batch)
+{
+	uint32_t status = PIDTAB_DONE;
+	size_t size = 0;
+
+	for (batch->count = 0; batch->count < AT_ONCE; input->from += size) {
+		status = pidtab_saved_take(input->bytes + input->from, input->to - input->from, &batch->entries[batch->count], &size, &saved->sum);
+		if (status != PIDTAB_DONE)
+			break;
+		batch->sizes[batch->count++] = size;
+	}
+	batch->place = size;
+	return status;
+}
+
+/* A cut that finds no memory is tried again behind the next entries. */
+static void cut_behind(struct pidtab_record *record, uint64_t keep)
+{
+	uint64_t first_kept, recorded;
+
+	if (keep == 0 || pidtab_record_counts(record, &first_kept, &recorded) != PIDTAB_DONE)
+		return;
+	if (recorded - first_kept >= keep)
+		pidtab_record_checkpoint(record);
+}
+
+/* Makes the calls, and counts those that had the saved reply. */
+static uint32_t replay(struct pidtab_saved *saved, struct pidtab_record *record, const struct batch *batch)
+{
+	size_t place = 0;
+	uint32_t status = pidtab_record_replay(record, batch->entries, batch->count, &place);
+
+	for (size_t i = 0; i < place; i++)
+		saved->bytes += batch->sizes[i];
+	saved->next += place;
+	return status;
+}
+
+/* Counts the bytes to the end of the file, and finds whether all are 0. */
+static uint32_t find_zeroes(struct pidtab_saved *saved, struct input *input, uint64_t *count, bool *all)
+{
+	uint32_t status = PIDTAB_DONE;
+
+	*all = true;
+	for (*count = 0; status == PIDTAB_DONE && *all && input->from < input->to; status = fill(saved, input)) {
+		*count += input->to - input->from;
+		while (input->from < input->to)
+			*all = input->bytes[input->from++] == 0 && *all;
+	}
+	return status;
+}
+
+/* A wrong block is torn too where it has no checksum and only zeroes are behind it: a file may have its length before its bytes. */
+static uint32_t judge_wrong(struct pidtab_saved *saved, struct input *input, size_t place)
+{
+	uint64_t count;
+	size_t before = place + PIDTAB_SAVED_BLOCK - 8;
+	bool all;
+	uint32_t status;
+
+	input->from += before;
+	status = find_zeroes(saved, input, &count, &all);
+	if (status != PIDTAB_DONE)
+		return status;
+	if (!all)
+		return PIDTAB_WRONG_BYTE;
+	return leave_out(saved, before + count, PIDTAB_DONE);
+}
+
+/* Replays the entries behind the head to the end of the file. */
+static uint32_t replay_on(struct pidtab_saved *saved, struct input *input, struct pidtab_record *record, uint64_t keep)
+{
+	struct batch batch;
+	uint32_t status, taken = PIDTAB_DONE;
+
+	saved->bytes = PIDTAB_SAVED_BLOCK;
+	while (taken == PIDTAB_DONE) {
+		status = fill(saved, input);
+		if (status != PIDTAB_DONE)
+			return status;
+		taken = take_some(saved, input, &batch);
+		status = replay(saved, record, &batch);
+		if (status != PIDTAB_DONE)
+			return status;
+		cut_behind(record, keep);
+	}
+	if (taken == PIDTAB_WRONG_BYTE)
+		return judge_wrong(saved, input, batch.place);
+	return leave_out(saved, input->to - input->from, PIDTAB_DONE);
+}
+
+/* No other thread has the shared record yet, so its lock may be held for all of it. */
+static uint32_t replay_all(struct pidtab_saved *saved, struct input *input, const struct either *either, uint64_t keep)
+{
+	uint32_t status;
+
+	if (!either->shared)
+		return replay_on(saved, input, either->record, keep);
+	status = replay_on(saved, input, pidtab_shared_lock(either->shared), keep);
+	pidtab_shared_unlock(either->shared);
+	return status;
+}
+
+/* Closes the record where it is of no use. */
+static uint32_t close_unless_done(struct pidtab_saved *saved, const struct either *either, uint32_t status)
+{
+	if (status == PIDTAB_DONE)
+		return status;
+	saved->file = NO_FILE;
+	close_it(either);
+	return status;
+}
+
+static uint32_t load_into(struct pidtab_saved *saved, int file, const struct either *either, uint64_t keep)
+{
+	struct input input = { .has_ended = false };
+	uint32_t status;
+
+	*saved = (struct pidtab_saved){ .file = file };
+	status = load_head(saved, &input);
+	if (status == PIDTAB_DONE)
+		status = open_by(either, &saved->head);
+	if (status != PIDTAB_DONE)
+		return status;
+	return close_unless_done(saved, either, replay_all(saved, &input, either, keep));
+}
+
+uint32_t pidtab_saved_load(struct pidtab_saved *saved, int file, struct pidtab_record *record, uint64_t keep)
+{
+	return load_into(saved, file, &(struct either){ .record = record }, keep);
+}
+
+uint32_t pidtab_saved_load_shared(struct pidtab_saved *saved, int file, struct pidtab_shared *shared, uint64_t keep)
+{
+	return load_into(saved, file, &(struct either){ .shared = shared }, keep);
+}
+
+uint32_t pidtab_saved_trim(struct pidtab_saved *saved)
+{
+	off_t behind = (off_t)(saved->part + (saved->is_torn ? saved->left_out : 0)), end;
+	int done;
+
+	saved->error = 0;
+	if (behind == 0)
+		return PIDTAB_DONE;
+	end = lseek(saved->file, -behind, SEEK_END);
+	if (end < 0)
+		return failed(saved, errno);
+	do
+		done = ftruncate(saved->file, end);
+	while (done != 0 && errno == EINTR);
+	if (done != 0)
+		return failed(saved, errno);
+	saved->is_torn = false;
+	saved->part = 0;
+	return PIDTAB_DONE;
+}
+
+/* Begins the file, which has nothing but the torn front of a head. */
+static uint32_t begin_anew(struct pidtab_saved *saved, const struct pidtab_saved_head *fresh)
+{
+	uint64_t left_out = saved->left_out;
+	uint32_t status = pidtab_saved_trim(saved);
+
+	if (status == PIDTAB_DONE)
+		status = pidtab_saved_begin(saved, saved->file, fresh);
+	saved->left_out = left_out;
+	return status;
+}
+
+static uint32_t resume(struct pidtab_saved *saved, int file, const struct pidtab_saved_head *fresh, const struct either *either, uint64_t keep)
+{
+	uint32_t status = load_into(saved, file, either, keep);
+
+	if (status == PIDTAB_DONE)
+		return close_unless_done(saved, either, pidtab_saved_trim(saved));
+	if (status == PIDTAB_TORN) {
+		status = open_by(either, fresh);
+		if (status == PIDTAB_DONE)
+			return close_unless_done(saved, either, begin_anew(saved, fresh));
+	}
+	return status;
+}
+
+uint32_t pidtab_saved_resume(struct pidtab_saved *saved, int file, const struct pidtab_saved_head *fresh, struct pidtab_record *record, uint64_t keep)
+{
+	return resume(saved, file, fresh, &(struct either){ .record = record }, keep);
+}
+
+uint32_t pidtab_saved_resume_shared(struct pidtab_saved *saved, int file, const struct pidtab_saved_head *fresh, struct pidtab_shared *shared, uint64_t keep)
+{
+	return resume(saved, file, fresh, &(struct either){ .shared = shared }, keep);
+}

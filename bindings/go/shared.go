@@ -1,0 +1,376 @@
+package pidtab
+
+// #include <pidtab.h>
+import "C"
+
+import (
+	"runtime"
+	"sync"
+	"unsafe"
+)
+
+// Settings are with what a Shared is opened.
+type Settings struct {
+	PidMax     uint32 // all numbers are below it: 301 to 4194304
+	Workers    uint32 // how many seats there are: 1 to 16
+	FirstStamp uint64 // the stamp of the first call, which is the id of what it makes; 0 is for 1
+	Keep       uint64 // how many entries are kept at most; 0: the history is never cut unasked
+}
+
+// Shared is a table of processes for many goroutines at once, with its history. One lock guards it, and each method waits for its turn. So each
+// goroutine has the answer that one sequential table would give, and the ordinal of a call is its place in that sequence.
+//
+// A goroutine makes its calls by a Seat; all other methods are any goroutine's. A copy is the same table. Each method may answer ErrClosed and
+// ErrBusy, beside what it names.
+//
+// The kept history replays, reply for reply, as one thread's, from its opening to the present state, and the calls of all workers add up to
+// Counts.Recorded. That is proved of the library. The lock is trusted: it is a sync.Mutex, so that a goroutine that waits holds no thread.
+//
+// The history has 184 bytes a call until it is cut. With Settings.Keep, the call that makes the kept entries as many cuts it, as Checkpoint
+// does, and pays for it; where there is no memory for that, the history grows on, and the next call tries again.
+type Shared struct {
+	own *heldRecord
+}
+
+// A heldRecord is a record of the library, with its lock. It stays where it is, and is never copied.
+type heldRecord struct {
+	lock    sync.Mutex
+	raw     C.struct_pidtab_record
+	keep    uint64
+	workers uint32
+	seated  uint32
+}
+
+// OpenShared makes a table with the root init alone. ErrOutOfRange for settings outside their ranges, ErrNoMemory.
+func OpenShared(settings Settings) (*Shared, error) {
+	if err := compareVersions(); err != nil {
+		return nil, err
+	}
+	if settings.FirstStamp == 0 {
+		settings.FirstStamp = 1
+	}
+	held := &heldRecord{keep: settings.Keep, workers: settings.Workers}
+	status := C.pidtab_record_open(&held.raw, C.uint32_t(settings.PidMax), C.uint64_t(settings.FirstStamp), C.uint32_t(settings.Workers))
+	if err := faultOf(uint32(status)); err != nil {
+		return nil, err
+	}
+	runtime.SetFinalizer(held, (*heldRecord).close)
+	return &Shared{held}, nil
+}
+
+// Close frees the table and its history. A second time nothing is done; all methods, and those of the seats, answer ErrClosed from then on. A
+// table that nobody has any more, nor a seat of it, is closed at some time.
+func (shared *Shared) Close() {
+	shared.held().close()
+}
+
+// Seat is a seat for the next worker. Each worker's number is given once, from 0 on. ErrOutOfRange where all are given.
+func (shared *Shared) Seat() (*Seat, error) {
+	held := shared.held()
+	held.lock.Lock()
+	defer held.lock.Unlock()
+	if !held.raw.is_open {
+		return nil, ErrClosed
+	}
+	if held.seated == held.workers {
+		return nil, ErrOutOfRange
+	}
+	own := &seated{held: held, worker: held.seated}
+	held.seated++
+	return &Seat{calls{own}, own}, nil
+}
+
+// Ask answers a query as its call would be answered, refusals too. It is no call: nothing changes, and it is not recorded. A query is a getpid,
+// getppid, getpgid, getsid, nspid, next or count; ErrOutOfRange for each other call.
+func (shared *Shared) Ask(query Call) (Reply, error) {
+	numbers, reply := query.numbers(), new(C.struct_pidtab_reply)
+	err := shared.alone(func(raw *C.struct_pidtab_record) C.uint32_t { return C.pidtab_record_ask(raw, &numbers, reply) })
+	if err != nil {
+		return Reply{}, err
+	}
+	return replyOf(reply), nil
+}
+
+// Counts is how far a history goes. The ordinals of the kept entries are those from FirstKept on, below Recorded.
+type Counts struct {
+	FirstKept uint64 // the ordinal of the first kept entry, or of the next call where none is kept
+	Recorded  uint64 // how many calls were recorded, the cut ones too: the ordinal of the next call
+}
+
+// Counts is how far the history goes.
+func (shared *Shared) Counts() (Counts, error) {
+	held := shared.held()
+	held.lock.Lock()
+	defer held.lock.Unlock()
+	return held.counts()
+}
+
+// Worker is how many calls of the worker were recorded, the cut ones too. ErrOutOfRange where there are not so many workers: they are numbered
+// from 0 on.
+func (shared *Shared) Worker(worker uint32) (uint64, error) {
+	var made C.uint64_t
+	err := shared.alone(func(raw *C.struct_pidtab_record) C.uint32_t {
+		return C.pidtab_record_worker(raw, C.uint32_t(worker), &made)
+	})
+	return uint64(made), err
+}
+
+// Entry is a recorded call with its reply; == compares two.
+type Entry struct {
+	Ordinal uint64 // the call's place among all recorded calls, from 0 on
+	Worker  uint32 // the number of the worker whose seat made it, from 0 on
+	Call    Call
+	Reply   Reply
+}
+
+// Entry is the kept entry with the ordinal. ErrNotKept where it was cut away or is not reached yet.
+func (shared *Shared) Entry(ordinal uint64) (Entry, error) {
+	numbers := new(C.struct_pidtab_entry)
+	err := shared.alone(func(raw *C.struct_pidtab_record) C.uint32_t {
+		return C.pidtab_record_entry(raw, C.uint64_t(ordinal), &numbers.worker, &numbers.call, &numbers.reply)
+	})
+	if err != nil {
+		return Entry{}, err
+	}
+	return entryOf(ordinal, numbers), nil
+}
+
+// How many entries go to the library, or come from it, at a time.
+const batch = 64
+
+// Entries are the kept entries from the ordinal on: as many as there are, and at most so many. None where from is the ordinal of the next call.
+// It costs a copy of each, and all others wait meanwhile: whoever ships a long history takes some thousands at a time. ErrNotKept where from
+// is neither a kept entry nor the next call, ErrOutOfRange where most is negative.
+func (shared *Shared) Entries(from uint64, most int) ([]Entry, error) {
+	if most < 0 {
+		return nil, ErrOutOfRange
+	}
+	held := shared.held()
+	held.lock.Lock()
+	defer held.lock.Unlock()
+	counts, err := held.counts()
+	if err != nil {
+		return nil, err
+	}
+	if from < counts.FirstKept || from > counts.Recorded {
+		return nil, ErrNotKept
+	}
+	if there := counts.Recorded - from; there < uint64(most) {
+		most = int(there)
+	}
+	entries, room := make([]Entry, 0, most), make([]C.struct_pidtab_entry, batch)
+	for len(entries) < most {
+		next := from + uint64(len(entries))
+		var read C.size_t
+		status := C.pidtab_record_read(&held.raw, C.uint64_t(next), &room[0], C.size_t(least(batch, most-len(entries))), &read)
+		if err := faultOf(uint32(status)); err != nil {
+			return nil, err
+		}
+		entries = appendEntries(entries, next, room[:read])
+	}
+	return entries, nil
+}
+
+// Checkpoint cuts the history: the present state is the opening from now on, and ordinals go on. It costs a copy of the whole table.
+// ErrNoMemory, and nothing has changed.
+func (shared *Shared) Checkpoint() error {
+	return shared.alone(func(raw *C.struct_pidtab_record) C.uint32_t { return C.pidtab_record_checkpoint(raw) })
+}
+
+// CheckpointAt is the same where exactly so many calls were recorded, so that no call is cut that nobody has read. ErrAgain where it is another
+// number, ErrNoMemory; nothing has changed then.
+func (shared *Shared) CheckpointAt(seen uint64) error {
+	return shared.alone(func(raw *C.struct_pidtab_record) C.uint32_t {
+		return C.pidtab_record_checkpoint_at(raw, C.uint64_t(seen))
+	})
+}
+
+// List is the list of the present state, as `pidtab list` writes it. It costs a copy of the whole table, and two where it is longer than 4,096
+// bytes. ErrNoMemory.
+func (shared *Shared) List() (string, error) {
+	held := shared.held()
+	held.lock.Lock()
+	defer held.lock.Unlock()
+	return list(func(room unsafe.Pointer, most C.size_t, size *C.size_t) C.uint32_t {
+		return C.pidtab_record_list(&held.raw, room, most, size)
+	})
+}
+
+// Listing is the same list, read: the tasks, the namespaces and the control groups. ErrNoMemory.
+func (shared *Shared) Listing() (Listing, error) {
+	return readListOf(shared.List())
+}
+
+// Opening is the list of the state that the kept history begins in: that of the first opening, or of the last cut. It costs as much.
+// ErrNoMemory.
+func (shared *Shared) Opening() (string, error) {
+	held := shared.held()
+	held.lock.Lock()
+	defer held.lock.Unlock()
+	return list(func(room unsafe.Pointer, most C.size_t, size *C.size_t) C.uint32_t {
+		return C.pidtab_record_opening(&held.raw, room, most, size)
+	})
+}
+
+// Replay makes the calls of saved entries, in their order, each for the worker that it names, and compares their replies. Their ordinals are not
+// looked at. With the same opening and the same settings, the record is then the saved one. All others wait meanwhile. A history that cuts
+// itself does so each 64 entries, and at the end.
+//
+// It stops at the first entry that has another reply or cannot be made, with a ReplayError; what was made before stays made.
+func (shared *Shared) Replay(saved []Entry) error {
+	held := shared.held()
+	held.lock.Lock()
+	defer held.lock.Unlock()
+	if _, err := held.counts(); err != nil {
+		return err
+	}
+	for first := 0; first < len(saved); first += batch {
+		room := numbersOf(saved[first:least(first+batch, len(saved))])
+		var place C.size_t
+		status := C.pidtab_record_replay(&held.raw, &room[0], C.size_t(len(room)), &place)
+		held.cutWhereLong()
+		if err := faultOf(uint32(status)); err != nil {
+			return ReplayError{first + int(place), err}
+		}
+	}
+	return nil
+}
+
+// held is the record of the library; one that is not open where nobody has opened it.
+func (shared *Shared) held() *heldRecord {
+	if shared.own == nil {
+		return new(heldRecord)
+	}
+	return shared.own
+}
+
+// alone does one function of the library, under the lock.
+func (shared *Shared) alone(do func(*C.struct_pidtab_record) C.uint32_t) error {
+	held := shared.held()
+	held.lock.Lock()
+	defer held.lock.Unlock()
+	return faultOf(uint32(do(&held.raw)))
+}
+
+// counts is how far the history goes. The lock is held.
+func (held *heldRecord) counts() (Counts, error) {
+	var firstKept, recorded C.uint64_t
+	err := faultOf(uint32(C.pidtab_record_counts(&held.raw, &firstKept, &recorded)))
+	return Counts{uint64(firstKept), uint64(recorded)}, err
+}
+
+// cutWhereLong cuts a history that is to cut itself, where it is long enough. A cut that finds no memory is tried again behind the next call.
+// The lock is held.
+func (held *heldRecord) cutWhereLong() {
+	if held.keep == 0 {
+		return
+	}
+	if counts, err := held.counts(); err == nil && counts.Recorded-counts.FirstKept >= held.keep {
+		C.pidtab_record_checkpoint(&held.raw)
+	}
+}
+
+func (held *heldRecord) close() {
+	held.lock.Lock()
+	defer held.lock.Unlock()
+	C.pidtab_record_close(&held.raw)
+}
+
+// entryOf is the entry with the ordinal that the library's numbers say.
+func entryOf(ordinal uint64, numbers *C.struct_pidtab_entry) Entry {
+	return Entry{ordinal, uint32(numbers.worker), callOf(&numbers.call), replyOf(&numbers.reply)}
+}
+
+// appendEntries appends what was read, of which the first has the ordinal next.
+func appendEntries(entries []Entry, next uint64, read []C.struct_pidtab_entry) []Entry {
+	for i := range read {
+		entries = append(entries, entryOf(next+uint64(i), &read[i]))
+	}
+	return entries
+}
+
+// numbersOf are the entries as the library takes them.
+func numbersOf(saved []Entry) []C.struct_pidtab_entry {
+	room := make([]C.struct_pidtab_entry, len(saved))
+	for i, entry := range saved {
+		room[i] = C.struct_pidtab_entry{worker: C.uint64_t(entry.Worker), call: entry.Call.numbers(), reply: entry.Reply.numbers()}
+	}
+	return room
+}
+
+func least(a, b int) int {
+	if a < b {
+		return a
+	}
+	return b
+}
+
+// Seat is a worker's place at a Shared, by which it makes calls. Each is recorded, the refused ones too, with its ordinal. A seat is meant for one
+// goroutine; where several use it, each call is made, and Ordinal is that of the last one of them. A copy is the same seat.
+//
+// Each call may answer ErrNoMemory, as its entry takes memory, ErrClosed, ErrSpent and ErrBusy, beside what its method names.
+type Seat struct {
+	calls
+	own *seated
+}
+
+// What a seat knows; the lock of the record guards it.
+type seated struct {
+	held    *heldRecord
+	worker  uint32
+	ordinal uint64
+	made    bool
+}
+
+// Worker is the worker's number, from 0 on.
+func (seat *Seat) Worker() uint32 {
+	return seat.place().worker
+}
+
+// Ordinal is that of the seat's last recorded call, which may be a refused one; false before the first. A call that was not made, as for want of
+// memory, leaves it.
+func (seat *Seat) Ordinal() (uint64, bool) {
+	own := seat.place()
+	own.held.lock.Lock()
+	defer own.held.lock.Unlock()
+	return own.ordinal, own.made
+}
+
+// Line makes the call on a line of the script language, without its newline. What the table refuses is an answer, as `ESRCH no-caller`.
+// ErrEmptyLine, ErrBadLine, and what a call may answer.
+func (seat *Seat) Line(line string) (string, error) {
+	own := seat.place()
+	own.held.lock.Lock()
+	defer own.held.lock.Unlock()
+	return answer(line, func(line unsafe.Pointer, length C.size_t, room unsafe.Pointer, size *C.size_t) C.uint32_t {
+		var ordinal C.uint64_t
+		status := C.pidtab_record_line(&own.held.raw, C.uint32_t(own.worker), line, length, room, C.PIDTAB_LONGEST_ANSWER, size, &ordinal)
+		return own.after(status, ordinal)
+	})
+}
+
+// place is what the seat knows; one at a table that is not open where nobody has given it.
+func (seat *Seat) place() *seated {
+	if seat.own == nil {
+		return &seated{held: new(heldRecord)}
+	}
+	return seat.own
+}
+
+// step makes a call.
+func (own *seated) step(call *C.struct_pidtab_call, reply *C.struct_pidtab_reply) C.uint32_t {
+	own.held.lock.Lock()
+	defer own.held.lock.Unlock()
+	var ordinal C.uint64_t
+	status := C.pidtab_record_call(&own.held.raw, C.uint32_t(own.worker), call, reply, &ordinal)
+	return own.after(status, ordinal)
+}
+
+// after keeps the ordinal of a call that was made, and cuts a history that is long enough. The lock is held.
+func (own *seated) after(status C.uint32_t, ordinal C.uint64_t) C.uint32_t {
+	if status == C.PIDTAB_DONE {
+		own.ordinal, own.made = uint64(ordinal), true
+		own.held.cutWhereLong()
+	}
+	return status
+}

@@ -1,0 +1,520 @@
+package pidtab
+
+import (
+	"errors"
+	"math"
+	"os"
+	"runtime"
+	"sort"
+	"strconv"
+	"strings"
+	"sync"
+	"syscall"
+	"testing"
+	"time"
+)
+
+func openShared(t *testing.T, settings Settings) *Shared {
+	t.Helper()
+	shared, err := OpenShared(settings)
+	if err != nil {
+		t.Fatal(err)
+	}
+	t.Cleanup(shared.Close)
+	return shared
+}
+
+func seatOf(t *testing.T, shared *Shared) *Seat {
+	t.Helper()
+	seat, err := shared.Seat()
+	if err != nil {
+		t.Fatal(err)
+	}
+	return seat
+}
+
+// wantCounts compares how far the history goes.
+func wantCounts(t *testing.T, shared *Shared, firstKept, recorded uint64) {
+	t.Helper()
+	want(t, "counts", of(shared.Counts()), Counts{firstKept, recorded}, nil)
+}
+
+func wantOrdinal(t *testing.T, seat *Seat, wanted uint64) {
+	t.Helper()
+	if ordinal, made := seat.Ordinal(); !made || ordinal != wanted {
+		t.Errorf("ordinal %d %t, and not %d", ordinal, made, wanted)
+	}
+}
+
+const (
+	workers = 16
+	each    = 20000
+)
+
+// A work is what a worker does at its seat, and what it knows of it.
+type work struct {
+	t        *testing.T
+	seat     *Seat
+	receipts []Entry
+}
+
+// make makes a call, and keeps its receipt.
+func (it *work) make(call Call) Reply {
+	reply, err := it.seat.Call(call)
+	ordinal, made := it.seat.Ordinal()
+	if err != nil || !made {
+		it.t.Error(call, err)
+	}
+	it.receipts = append(it.receipts, Entry{ordinal, it.seat.Worker(), call, reply})
+	return reply
+}
+
+// serve makes a namespace of the worker's own, and in it one child after the other, which ends with the worker's number.
+func (it *work) serve() {
+	status := it.seat.Worker()
+	own := uint32(it.make(Call{Operation: OpFork, Caller: 1, Choice: 1}).Second)
+	for len(it.receipts)+4 < each {
+		child := it.make(Call{Operation: OpFork, Caller: own})
+		root, number := uint32(child.Second), child.First
+		pid := it.make(Call{Operation: OpGetpid, Caller: root})
+		it.make(Call{Operation: OpExit, Caller: root, Number: status})
+		reaped := it.make(Call{Operation: OpWait, Caller: own, Choice: 1, Number: uint32(number)})
+		if pid.First != number || reaped != (Reply{Kind: ReplyReaped, First: number, Second: uint64(status)}) {
+			it.t.Error(child, pid, reaped)
+		}
+	}
+	for len(it.receipts) < each {
+		if pid := it.make(Call{Operation: OpGetpid, Caller: own}); pid.First != 1 {
+			it.t.Error(pid)
+		}
+	}
+}
+
+// sixteenAtOnce are the receipts of sixteen goroutines, by their workers.
+func sixteenAtOnce(t *testing.T, shared *Shared) [][]Entry {
+	works := make([]work, workers)
+	var busy sync.WaitGroup
+	for i := range works {
+		busy.Add(1)
+		go func(it *work) {
+			defer busy.Done()
+			seat, err := shared.Seat()
+			if err != nil {
+				t.Error(err)
+				return
+			}
+			*it = work{t, seat, make([]Entry, 0, each)}
+			it.serve()
+		}(&works[i])
+	}
+	busy.Wait()
+	if t.Failed() {
+		t.FailNow()
+	}
+	sort.Slice(works, func(i, j int) bool { return works[i].seat.Worker() < works[j].seat.Worker() })
+	receipts := make([][]Entry, workers)
+	for i := range works {
+		receipts[i] = works[i].receipts
+	}
+	return receipts
+}
+
+func theCountsAddUp(t *testing.T, shared *Shared) {
+	t.Helper()
+	wantCounts(t, shared, 0, workers*each)
+	for i := uint32(0); i < workers; i++ {
+		want(t, "worker", of(shared.Worker(i)), uint64(each), nil)
+	}
+	want(t, "no seat", of(shared.Seat()), (*Seat)(nil), ErrOutOfRange)
+}
+
+// theReceiptsAreTheEntries compares each worker's receipts with its entries, in order.
+func theReceiptsAreTheEntries(t *testing.T, history []Entry, receipts [][]Entry) {
+	t.Helper()
+	if len(history) != workers*each {
+		t.Fatal(len(history))
+	}
+	for i, entry := range history {
+		own := receipts[entry.Worker]
+		if len(own) == 0 || entry.Ordinal != uint64(i) || own[0] != entry {
+			t.Fatal(i, entry)
+		}
+		receipts[entry.Worker] = own[1:]
+	}
+}
+
+// theHistoryReplays makes it again on a second record, and by the calls of one goroutine on a table without a history.
+func theHistoryReplays(t *testing.T, history []Entry, list string) {
+	t.Helper()
+	again := openShared(t, Settings{PidMax: 32768, Workers: workers})
+	want(t, "replay", only(again.Replay(history)), nil, nil)
+	wantCounts(t, again, 0, workers*each)
+	want(t, "list", of(again.List()), list, nil)
+	table := open(t, 32768)
+	for _, entry := range history {
+		if reply, err := table.Call(entry.Call); err != nil || reply != entry.Reply {
+			t.Fatal(entry, reply, err)
+		}
+	}
+	want(t, "list", of(table.List()), list, nil)
+}
+
+func TestSixteenGoroutinesShareATable(t *testing.T) {
+	shared := openShared(t, Settings{PidMax: 32768, Workers: workers})
+	receipts := sixteenAtOnce(t, shared)
+	theCountsAddUp(t, shared)
+	history, err := shared.Entries(0, math.MaxInt)
+	if err != nil {
+		t.Fatal(err)
+	}
+	theReceiptsAreTheEntries(t, history, receipts)
+	list, err := shared.List()
+	if err != nil || !strings.Contains(list, "count 17\n") {
+		t.Fatal(list, err)
+	}
+	theHistoryReplays(t, history, list)
+	want(t, "too few", only(shared.CheckpointAt(workers*each-1)), nil, ErrAgain)
+	want(t, "all", only(shared.CheckpointAt(workers*each)), nil, nil)
+	wantCounts(t, shared, workers*each, workers*each)
+	want(t, "worker", of(shared.Worker(3)), uint64(each), nil)
+}
+
+func TestEachSeatIsGivenOnce(t *testing.T) {
+	shared := openShared(t, Settings{PidMax: 32768, Workers: 3})
+	for i := uint32(0); i < 3; i++ {
+		if worker := seatOf(t, shared).Worker(); worker != i {
+			t.Error(worker)
+		}
+	}
+	want(t, "no seat", of(shared.Seat()), (*Seat)(nil), ErrOutOfRange)
+}
+
+func TestTheRangesOfSettings(t *testing.T) {
+	for _, settings := range []Settings{{}, {0, 1, 1, 0}, {300, 1, 1, 0}, {4194305, 1, 1, 0}, {32768, 0, 1, 0}, {32768, 17, 1, 0}, {32768, 1<<32 - 1, 1, 0}} {
+		want(t, "settings", of(OpenShared(settings)), (*Shared)(nil), ErrOutOfRange)
+	}
+	openShared(t, Settings{PidMax: 301, Workers: 1, FirstStamp: 1})
+	openShared(t, Settings{PidMax: 4194304, Workers: 16, FirstStamp: math.MaxUint64 - 1, Keep: 1})
+}
+
+func TestCallsLinesAndOrdinals(t *testing.T) {
+	shared := openShared(t, Settings{PidMax: 32768, Workers: 2})
+	seat, other := seatOf(t, shared), seatOf(t, shared)
+	if ordinal, made := seat.Ordinal(); made || ordinal != 0 {
+		t.Error(ordinal, made)
+	}
+	want(t, "fork", of(seat.Fork(1, NewNamespace)), Child{2, 2}, nil)
+	wantOrdinal(t, seat, 0)
+	want(t, "nobody", of(other.Getpid(9)), uint32(0), Refusal{syscall.ESRCH, "no-caller"})
+	wantOrdinal(t, other, 1)
+	want(t, "line", of(other.Line("getpid 2")), "1", nil)
+	want(t, "refused line", of(other.Line("getpid 9")), "ESRCH no-caller", nil)
+	wantOrdinal(t, other, 3)
+	want(t, "empty", of(other.Line("")), "", ErrEmptyLine)
+	want(t, "bad", of(other.Line("getpid")), "", ErrBadLine)
+	want(t, "no call", of(other.Call(Call{Operation: 19})), Reply{}, ErrOutOfRange)
+	want(t, "no status", of(other.Call(Call{Operation: OpExit, Caller: 2, Number: 256})), Reply{}, ErrOutOfRange)
+	wantOrdinal(t, seat, 0)
+	wantOrdinal(t, other, 3)
+	wantCounts(t, shared, 0, 4)
+	want(t, "worker 0", of(shared.Worker(0)), uint64(1), nil)
+	want(t, "worker 1", of(shared.Worker(1)), uint64(3), nil)
+	want(t, "worker 2", of(shared.Worker(2)), uint64(0), ErrOutOfRange)
+}
+
+// forked makes so many children of process 1: numbers from 2 on, where there are no others.
+func forked(t *testing.T, seat *Seat, times int) {
+	t.Helper()
+	for i := 0; i < times; i++ {
+		if _, err := seat.Fork(1, false); err != nil {
+			t.Error(err)
+		}
+	}
+}
+
+func TestEntries(t *testing.T) {
+	shared := openShared(t, Settings{PidMax: 32768, Workers: 2})
+	seatOf(t, shared)
+	forked(t, seatOf(t, shared), 200)
+	wanted := Entry{64, 1, Call{Operation: OpFork, Caller: 1}, Reply{Kind: ReplyForked, First: 66, Second: 66}}
+	want(t, "entry", of(shared.Entry(64)), wanted, nil)
+	want(t, "entry 200", of(shared.Entry(200)), Entry{}, ErrNotKept)
+	for _, most := range []int{0, 1, 63, 64, 65, 136, 137, math.MaxInt} {
+		entries, err := shared.Entries(64, most)
+		if err != nil || len(entries) != least(most, 136) || most > 0 && entries[0] != wanted {
+			t.Error(most, len(entries), err)
+		}
+		for i, entry := range entries {
+			if entry.Ordinal != uint64(64+i) || entry.Reply.First != uint64(66+i) {
+				t.Error(i, entry)
+			}
+		}
+	}
+	want(t, "none", of(shared.Entries(200, 5)), []Entry{}, nil)
+	want(t, "negative", of(shared.Entries(0, -1)), []Entry(nil), ErrOutOfRange)
+	for _, from := range []uint64{201, math.MaxUint64} {
+		want(t, "beyond", of(shared.Entries(from, 0)), []Entry(nil), ErrNotKept)
+		want(t, "beyond", of(shared.Entries(from, math.MaxInt)), []Entry(nil), ErrNotKept)
+	}
+}
+
+// Queries with their replies by docs/SCRIPT.md, where process 1 has a child in a new namespace.
+var queries = []struct {
+	query Call
+	reply Reply
+}{
+	{Call{Operation: OpGetpid, Caller: 2}, Reply{Kind: ReplyNumber, First: 1}},
+	{Call{Operation: OpGetppid, Caller: 2}, Reply{Kind: ReplyNumber}},
+	{Call{Operation: OpNspid, Caller: 1, Number: 2}, Reply{Kind: ReplyLevels, Count: 2, Levels: [33]uint32{2, 1}}},
+	{Call{Operation: OpGetpgid, Caller: 1, Number: 2}, Reply{Kind: ReplyNumber, First: 1}},
+	{Call{Operation: OpGetsid, Caller: 1, Number: 2}, Reply{Kind: ReplyNumber, First: 1}},
+	{Call{Operation: OpNext, Caller: 1, Choice: uint32(Tasks), Number: 2}, Reply{Kind: ReplyNumber, First: 2}},
+	{Call{Operation: OpNext, Caller: 1, Choice: uint32(Tasks), Number: 3}, Reply{Kind: ReplyEnd}},
+	{Call{Operation: OpCount}, Reply{Kind: ReplyCounted, First: 2}},
+	{Call{Operation: OpGetpid, Caller: 9}, Reply{Kind: ReplyRefused, Errno: syscall.ESRCH, Refusal: 1}},
+}
+
+// A query is answered as its call is, and is none: the next id is that of the second call.
+func TestQueriesThatAreNoCalls(t *testing.T) {
+	shared, table := openShared(t, Settings{PidMax: 32768, Workers: 1}), open(t, 32768)
+	seat := seatOf(t, shared)
+	for _, it := range []calls{seat.calls, table.calls} {
+		want(t, "fork", of(it.Fork(1, true)), Child{2, 2}, nil)
+	}
+	for _, it := range queries {
+		want(t, "ask", of(shared.Ask(it.query)), it.reply, nil)
+		want(t, "ask a table", of(table.Ask(it.query)), it.reply, nil)
+	}
+	for _, call := range []Call{{Operation: OpExec, Caller: 1}, {Operation: OpMk}, {Operation: OpNext, Caller: 1, Choice: 3}, {Operation: 19}} {
+		want(t, "no query", of(shared.Ask(call)), Reply{}, ErrOutOfRange)
+		want(t, "no query of a table", of(table.Ask(call)), Reply{}, ErrOutOfRange)
+	}
+	wantCounts(t, shared, 0, 1)
+	want(t, "mk", of(seat.Mk(0)), uint64(2), nil)
+	want(t, "mk of a table", of(table.Mk(0)), uint64(2), nil)
+}
+
+func TestWhatAReplyRefuses(t *testing.T) {
+	reply, err := open(t, 32768).Call(Call{Operation: OpGetpid, Caller: 9})
+	want(t, "refused", told{reply.Err(), err}, Refusal{syscall.ESRCH, "no-caller"}, nil)
+	limited := Reply{Kind: ReplyRefused, Errno: syscall.EAGAIN, Refusal: 5, First: 7}
+	want(t, "limited", only(limited.Err()), nil, Refusal{syscall.EAGAIN, "pids-limit 7"})
+	want(t, "done", only(Reply{Kind: ReplyOK}.Err()), nil, nil)
+}
+
+func TestACut(t *testing.T) {
+	shared := openShared(t, Settings{PidMax: 32768, Workers: 1})
+	seat := seatOf(t, shared)
+	opening, err := shared.List()
+	forked(t, seat, 2)
+	want(t, "opening", of(shared.Opening()), opening, err)
+	for _, seen := range []uint64{0, 1, 3} {
+		want(t, "another number", only(shared.CheckpointAt(seen)), nil, ErrAgain)
+	}
+	want(t, "checkpoint", only(shared.Checkpoint()), nil, nil)
+	list, err := shared.List()
+	want(t, "opening", of(shared.Opening()), list, err)
+	wantCounts(t, shared, 2, 2)
+	for ordinal := uint64(0); ordinal < 3; ordinal++ {
+		want(t, "entry", of(shared.Entry(ordinal)), Entry{}, ErrNotKept)
+	}
+	want(t, "cut", of(shared.Entries(0, math.MaxInt)), []Entry(nil), ErrNotKept)
+	want(t, "none", of(shared.Entries(2, math.MaxInt)), []Entry{}, nil)
+	want(t, "getpid", of(seat.Getpid(1)), uint32(1), nil)
+	wantOrdinal(t, seat, 2)
+	want(t, "worker", of(shared.Worker(0)), uint64(3), nil)
+	want(t, "checkpoint", only(shared.CheckpointAt(3)), nil, nil)
+}
+
+// With Keep the history is never longer, nor behind a replay.
+func TestCutsOfItsOwn(t *testing.T) {
+	shared := openShared(t, Settings{PidMax: 32768, Workers: 1, Keep: 10})
+	seat := seatOf(t, shared)
+	for ordinal := uint64(0); ordinal < 25; ordinal++ {
+		if _, err := seat.Line("fork 1"); err != nil {
+			t.Fatal(err)
+		}
+		wantOrdinal(t, seat, ordinal)
+		wantCounts(t, shared, (ordinal+1)/10*10, ordinal+1)
+	}
+	forked(t, seat, 1)
+	saved, err := shared.Entries(20, math.MaxInt)
+	again := openShared(t, Settings{PidMax: 32768, Workers: 1, Keep: 5})
+	forked(t, seatOf(t, again), 20)
+	want(t, "replay", told{again.Replay(saved), err}, nil, nil)
+	wantCounts(t, again, 26, 26)
+	list, err := shared.List()
+	want(t, "list", of(again.List()), list, err)
+}
+
+func TestAReplayThatStops(t *testing.T) {
+	shared := openShared(t, Settings{PidMax: 32768, Workers: 2})
+	forked(t, seatOf(t, shared), 100)
+	saved, err := shared.Entries(0, math.MaxInt)
+	if err != nil {
+		t.Fatal(err)
+	}
+	saved[70].Worker = 2
+	again := openShared(t, Settings{PidMax: 32768, Workers: 2})
+	want(t, "no such worker", only(again.Replay(saved)), nil, ReplayError{70, ErrOutOfRange})
+	wantCounts(t, again, 0, 70)
+	saved[70].Worker, saved[80].Reply.Second = 1, 7
+	stopped := again.Replay(saved[70:])
+	want(t, "another reply", only(stopped), nil, ReplayError{10, ErrDiffers})
+	if !errors.Is(stopped, ErrDiffers) || stopped.Error() != "pidtab: a reply is not the saved one: saved entry 10" {
+		t.Error(stopped)
+	}
+	wantCounts(t, again, 0, 81)
+	want(t, "worker 1", of(again.Worker(1)), uint64(1), nil)
+	want(t, "nothing", only(again.Replay(nil)), nil, nil)
+	want(t, "no call", only(again.Replay([]Entry{{Call: Call{Operation: 19}}})), nil, ReplayError{0, ErrOutOfRange})
+}
+
+func TestTheLastStamp(t *testing.T) {
+	shared := openShared(t, Settings{PidMax: 32768, Workers: 1, FirstStamp: math.MaxUint64 - 1})
+	seat := seatOf(t, shared)
+	want(t, "mk", of(seat.Mk(0)), uint64(math.MaxUint64-1), nil)
+	want(t, "spent", of(seat.Getpid(1)), uint32(0), ErrSpent)
+	want(t, "spent line", of(seat.Line("getpid 1")), "", ErrSpent)
+	wantOrdinal(t, seat, 0)
+	wantCounts(t, shared, 0, 1)
+	want(t, "ask", of(shared.Ask(Call{Operation: OpGetpid, Caller: 1})), Reply{Kind: ReplyNumber, First: 1}, nil)
+}
+
+// allClosed says that each method answers so.
+func allClosed(t *testing.T, shared *Shared, seat *Seat, err error) {
+	t.Helper()
+	want(t, "ask", of(shared.Ask(Call{Operation: OpCount})), Reply{}, err)
+	want(t, "counts", of(shared.Counts()), Counts{}, err)
+	want(t, "worker", of(shared.Worker(0)), uint64(0), err)
+	want(t, "entry", of(shared.Entry(0)), Entry{}, err)
+	want(t, "entries", of(shared.Entries(0, 9)), []Entry(nil), err)
+	want(t, "checkpoint", only(shared.Checkpoint()), nil, err)
+	want(t, "checkpoint at", only(shared.CheckpointAt(0)), nil, err)
+	want(t, "list", of(shared.List()), "", err)
+	want(t, "listing", of(shared.Listing()), Listing{}, err)
+	want(t, "opening", of(shared.Opening()), "", err)
+	want(t, "replay", only(shared.Replay(nil)), nil, err)
+	want(t, "replay", only(shared.Replay(make([]Entry, 1))), nil, err)
+	want(t, "getpid", of(seat.Getpid(1)), uint32(0), err)
+	want(t, "call", of(seat.Call(Call{Operation: OpGetpid, Caller: 1})), Reply{}, err)
+	want(t, "line", of(seat.Line("getpid 1")), "", err)
+	want(t, "empty line", of(seat.Line("")), "", err)
+}
+
+func TestAClosedSharedTable(t *testing.T) {
+	shared := openShared(t, Settings{PidMax: 32768, Workers: 2, Keep: 1})
+	seat := seatOf(t, shared)
+	want(t, "getpid", of(seat.Getpid(1)), uint32(1), nil)
+	shared.Close()
+	shared.Close()
+	allClosed(t, shared, seat, ErrClosed)
+	want(t, "seat", of(shared.Seat()), (*Seat)(nil), ErrClosed)
+	wantOrdinal(t, seat, 0)
+	allClosed(t, new(Shared), new(Seat), ErrClosed)
+	want(t, "no table", of(new(Shared).Seat()), (*Seat)(nil), ErrClosed)
+	if ordinal, made := new(Seat).Ordinal(); made || ordinal != 0 || new(Seat).Worker() != 0 {
+		t.Error(ordinal, made)
+	}
+	new(Shared).Close()
+}
+
+// A goroutine closes the table while others are in it: each has its answer or ErrClosed.
+func TestACloseWhileOthersCall(t *testing.T) {
+	shared := openShared(t, Settings{PidMax: 32768, Workers: 4})
+	var busy sync.WaitGroup
+	for i := 0; i < 4; i++ {
+		busy.Add(1)
+		go func(seat *Seat) {
+			defer busy.Done()
+			var err error
+			for err == nil {
+				_, err = seat.Getpid(1)
+			}
+			if err != ErrClosed {
+				t.Error(err)
+			}
+		}(seatOf(t, shared))
+	}
+	time.Sleep(10 * time.Millisecond)
+	shared.Close()
+	busy.Wait()
+}
+
+// As in a forked child, where the thread whose call was under way is not.
+func TestASharedCallThatDoesNotEnd(t *testing.T) {
+	shared := openShared(t, Settings{PidMax: 32768, Workers: 1, Keep: 1})
+	seat := seatOf(t, shared)
+	shared.own.raw.in_call = true
+	want(t, "counts", of(shared.Counts()), Counts{}, ErrBusy)
+	want(t, "getpid", of(seat.Getpid(1)), uint32(0), ErrBusy)
+	want(t, "line", of(seat.Line("getpid 1")), "", ErrBusy)
+	want(t, "list", of(shared.List()), "", ErrBusy)
+	shared.Close()
+	shared.own.raw.in_call = false
+	want(t, "getpid", of(seat.Getpid(1)), uint32(1), nil)
+}
+
+// Several goroutines may use one seat: no call is lost.
+func TestGoroutinesAtOneSeat(t *testing.T) {
+	shared := openShared(t, Settings{PidMax: 32768, Workers: 1})
+	seat := seatOf(t, shared)
+	var busy sync.WaitGroup
+	for i := 0; i < 8; i++ {
+		busy.Add(1)
+		go func() {
+			defer busy.Done()
+			forked(t, seat, 200)
+		}()
+	}
+	busy.Wait()
+	wantCounts(t, shared, 0, 1600)
+	wantOrdinal(t, seat, 1599)
+}
+
+// resident is the memory of this process, in bytes.
+func resident(t *testing.T) int {
+	t.Helper()
+	text, err := os.ReadFile("/proc/self/statm")
+	if err != nil {
+		t.Skip(err)
+	}
+	pages, err := strconv.Atoi(strings.Fields(string(text))[1])
+	if err != nil {
+		t.Fatal(err)
+	}
+	return pages * os.Getpagesize()
+}
+
+// dropped makes a table with a history of some 3.7 MB, and drops it and its seat.
+func dropped(t *testing.T) {
+	t.Helper()
+	shared, err := OpenShared(Settings{PidMax: 32768, Workers: 1})
+	if err != nil {
+		t.Fatal(err)
+	}
+	seat := seatOf(t, shared)
+	for i := 0; i < 20000; i++ {
+		seat.Getpid(1)
+	}
+}
+
+// The collector closes tables that nobody has any more, with their seats, and none that a seat is left of.
+func TestWhatTheCollectorCloses(t *testing.T) {
+	shared, err := OpenShared(Settings{PidMax: 32768, Workers: 1})
+	if err != nil {
+		t.Fatal(err)
+	}
+	seat := seatOf(t, shared)
+	shared = nil
+	before := resident(t)
+	for i := 0; i < 50; i++ {
+		dropped(t)
+		runtime.GC()
+		time.Sleep(time.Millisecond)
+	}
+	if grown := resident(t) - before; grown > 90e6 {
+		t.Errorf("%d bytes more, of some 184 million", grown)
+	}
+	want(t, "getpid", of(seat.Getpid(1)), uint32(1), nil)
+}

@@ -1,0 +1,21 @@
+"""The ranges of what tables are made with and asked."""
+
+from operator import index
+from typing import SupportsIndex
+
+DEFAULT_PID_MAX = 32768
+LEAST_PID_MAX = 301
+GREATEST_PID_MAX = 4194304
+
+
+def check_range(name: str, number: SupportsIndex, least: int, greatest: int) -> int:
+    """The same, if it is an integer in the range."""
+    number = index(number)
+    if not least <= number <= greatest:
+        raise ValueError(f"{name} is {least} to {greatest}, not {number}")
+    return number
+
+
+def check_pid_max(pid_max: SupportsIndex) -> int:
+    """The same, if it is an integer in its range."""
+    return check_range("pid_max", pid_max, LEAST_PID_MAX, GREATEST_PID_MAX)

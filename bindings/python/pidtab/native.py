@@ -1,0 +1,153 @@
+"""Calls on a table of this process, by the library of C: told as numbers, or as lines."""
+
+import ctypes
+import struct
+from abc import abstractmethod
+from collections.abc import Callable, Sequence
+from typing import TYPE_CHECKING, NoReturn, Protocol, TypeVar
+
+from pidtab.answers import Form
+from pidtab.calls import Call, Calls, Queries
+from pidtab.faults import LibraryFault, TableClosed, read_fault, refusal_of, say_why
+from pidtab.raw import (
+    BAD_LINE,
+    CALL_FIELDS,
+    CLOSED,
+    DONE,
+    NO_MEMORY,
+    NO_ROOM,
+    OUT_OF_RANGE,
+    REFUSED,
+    SPENT,
+    Answer,
+    PidtabCall,
+    PidtabReply,
+)
+
+# The room for a first try of a list.
+SHORT_LIST = 4096
+
+# What the program answers where the library has a status.
+ANSWERS = {BAD_LINE: "bad line", OUT_OF_RANGE: "bad line", NO_MEMORY: "no memory", SPENT: "spent"}
+
+T = TypeVar("T")
+
+
+def answer_of(status: int) -> str:
+    """The answer that a status stands for, of those that no call was made for."""
+    if status == CLOSED:
+        raise TableClosed("the table was closed")
+    if status not in ANSWERS:
+        raise LibraryFault(f"the library answered with the status {status}")
+    return ANSWERS[status]
+
+
+def fault_of(status: int, line: str) -> Exception:
+    """What is raised for a status other than done."""
+    return read_fault(line, answer_of(status)) or AssertionError(status)
+
+
+def pack(call: Call) -> PidtabCall:
+    """The numbers of a call, if each fits into its field."""
+    packed = PidtabCall()
+    try:
+        CALL_FIELDS.pack_into(packed, 0, *call)
+    except struct.error:
+        raise ValueError(f"bad line: {call.line}") from None
+    return packed
+
+
+def unpack(packed: PidtabCall) -> Call:
+    """The call that the numbers are."""
+    return Call._make(CALL_FIELDS.unpack(packed))
+
+
+def read_list_text(write: Callable[["ctypes.Array[ctypes.c_char]", ctypes.c_size_t], int]) -> str:
+    """The list that is written into a room, whose function answers a status, and its size too where the room is short."""
+    size = ctypes.c_size_t(SHORT_LIST)
+    while True:
+        # Until the next try, other threads may make the list longer.
+        room = ctypes.create_string_buffer(size.value + size.value // 8)
+        status = write(room, size)
+        if status == DONE:
+            return ctypes.string_at(room, size.value).decode("ascii")
+        if status != NO_ROOM:
+            raise fault_of(status, "list")
+
+
+def make_call(call: Call, form: Form[T], make: Callable[[PidtabCall, PidtabReply], int]) -> T:
+    """What a call is answered by a function that takes and tells numbers, and answers a status."""
+    reply = PidtabReply()
+    status = make(pack(call), reply)
+    if status != DONE:
+        raise fault_of(status, call.line)
+    if reply.kind == REFUSED:
+        raise refusal_of(reply.error, call.line, say_why(reply.refusal, reply.first))
+    return form.tell(reply)
+
+
+class NumberCalls(Calls):
+    """Calls by functions of the library, each of which answers a status."""
+
+    @abstractmethod
+    def _call(self, call: PidtabCall, reply: PidtabReply) -> int:
+        """The status of the function that answers the numbers."""
+
+    @abstractmethod
+    def _line(self, line: bytes, room: "ctypes.Array[ctypes.c_char]", size: ctypes.c_size_t) -> int:
+        """The status of the function that answers the line."""
+
+    @abstractmethod
+    def _list(self, room: "ctypes.Array[ctypes.c_char]", size: ctypes.c_size_t) -> int:
+        """The status of the function that writes the list."""
+
+    def _make(self, call: Call, form: Form[T]) -> T:
+        self._check_owner()
+        return make_call(call, form, self._call)
+
+    def _answers(self, lines: Sequence[bytes]) -> tuple[str, ...]:
+        self._check_owner()
+        # Calls of other threads may come between two lines.
+        return tuple([self._answer(line) for line in lines])
+
+    def _answer(self, line: bytes) -> str:
+        room, size = Answer(), ctypes.c_size_t()
+        status = self._line(line, room, size)
+        return ctypes.string_at(room, size.value).decode("ascii") if status == DONE else answer_of(status)
+
+    def _list_text(self) -> str:
+        self._check_owner()
+        return read_list_text(self._list)
+
+
+class Asked(Protocol):
+    """A table that answers queries."""
+
+    def _check_owner(self) -> None: ...
+
+    def _ask(self, call: PidtabCall, reply: PidtabReply) -> int: ...
+
+
+class Ask(Queries):
+    """Queries that are no calls, as the `ask` of a table: they are neither counted nor recorded, and shift no later id.
+
+    It has the seven queries and no other call. As long as somebody has it, the table is not dropped.
+    """
+
+    def __init__(self, table: Asked) -> None:
+        self._table = table
+
+    def __repr__(self) -> str:
+        return f"<pidtab.Ask of {self._table!r}>"
+
+    def _make(self, call: Call, form: Form[T]) -> T:
+        self._table._check_owner()
+        return make_call(call, form, self._table._ask)
+
+    # Not for a checker of types, which then finds a call that is no query.
+    if not TYPE_CHECKING:
+
+        def __getattr__(self, name: str) -> NoReturn:
+            if name.startswith("_") or not hasattr(Calls, name):
+                raise AttributeError(f"pidtab.Ask has no {name}")
+            raise AttributeError(f"{name} is no query: `ask` has getpid, getppid, getpgid, getsid, nspid, next and count")

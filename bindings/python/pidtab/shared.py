@@ -1,0 +1,263 @@
+"""One table in this process for many threads, with its history, by the library of C."""
+
+import ctypes
+import os
+import weakref
+from collections.abc import Iterator, Sequence
+
+from pidtab.bounds import DEFAULT_PID_MAX, check_pid_max, check_range
+from pidtab.calls import Listed
+from pidtab.faults import NotKept, SeatsTaken, TableClosed
+from pidtab.history import Counts, Entry, read_entry
+from pidtab.library import find_library, load_shared
+from pidtab.native import Ask, NumberCalls, fault_of, read_list_text
+from pidtab.owner import TABLES, Owner
+from pidtab.raw import AGAIN, DONE, MOST_WORKERS, NOT_KEPT, PidtabCall, PidtabEntry, PidtabReply, PidtabShared
+
+GREATEST_NUMBER = 2**64 - 1
+
+# No call has this ordinal.
+NO_ORDINAL = GREATEST_NUMBER
+
+# How many entries are read in one go, while all other threads wait.
+BLOCK = 1024
+
+
+def close_shared(functions: ctypes.CDLL, at: PidtabShared, process: int) -> None:
+    """Closes a table, but not in a forked child."""
+    if os.getpid() == process:
+        functions.pidtab_shared_close(at)
+
+
+class Hold:
+    """A `struct pidtab_shared` that is open. It is closed when nobody has this any more, so never while a thread is in a function."""
+
+    def __init__(self, functions: ctypes.CDLL, pid_max: int, first_stamp: int, workers: int, keep: int) -> None:
+        self.functions = functions
+        self.at = PidtabShared()
+        status = functions.pidtab_shared_open(self.at, pid_max, first_stamp, workers, keep)
+        if status != DONE:
+            raise fault_of(status, "open")
+        # Not at the end of the interpreter, where threads may still be in a function.
+        weakref.finalize(self, close_shared, functions, self.at, os.getpid()).atexit = False
+
+
+class Seat(NumberCalls):
+    """The calls of one worker of a shared table, from `Shared.seat`. They are recorded, each with its reply.
+
+    Threads may share a seat: each call is answered what that call is answered. Then `ordinal` is that of the seat's latest call, whichever
+    thread has made it; a thread that wants its own takes a seat of its own.
+
+    An interrupt, as by Ctrl-C, never breaks a call: it was made or not begun. Where it was made and its answer lost, `ordinal` has moved, and
+    `shared.entry(seat.ordinal)` has the answer.
+    """
+
+    shared: "Shared"
+    worker: int = -1
+
+    def __init__(self, shared: "Shared", worker: int) -> None:
+        self.shared = shared
+        self.worker = worker
+        self.pid_max = shared.pid_max
+        self._closed = False
+        # The library writes it, so that no interrupt comes between a call and this.
+        self._ordinal = ctypes.c_uint64(NO_ORDINAL)
+
+    @property
+    def ordinal(self) -> int | None:
+        """The place of the seat's latest call in the history, counted from 0; None before the first."""
+        ordinal = self._ordinal.value
+        return None if ordinal == NO_ORDINAL else ordinal
+
+    @property
+    def ask(self) -> Ask:
+        """Queries that are no calls, as those of the table."""
+        return Ask(self)
+
+    def close(self) -> None:
+        """Gives the seat up: it makes no more calls. The table stays open, and the seat is not handed out again."""
+        self._closed = True
+
+    def _settings(self) -> str:
+        return f"worker={self.worker} pid_max={self.pid_max}"
+
+    def _is_open(self) -> bool:
+        return self.worker >= 0 and not self._closed and self.shared._is_open()
+
+    def _is_left(self) -> bool:
+        return self.worker >= 0 and self.shared._is_left()
+
+    def _check_owner(self) -> None:
+        self.shared._check_open()
+        if self._closed:
+            raise TableClosed("the seat was closed")
+
+    def _ask(self, call: PidtabCall, reply: PidtabReply) -> int:
+        return self.shared._ask(call, reply)
+
+    def _call(self, call: PidtabCall, reply: PidtabReply) -> int:
+        return self.shared._status("pidtab_shared_call", self.worker, call, reply, self._ordinal)
+
+    def _line(self, line: bytes, room: "ctypes.Array[ctypes.c_char]", size: ctypes.c_size_t) -> int:
+        return self.shared._status("pidtab_shared_line", self.worker, line, len(line), room, len(room), size, self._ordinal)
+
+    def _list(self, room: "ctypes.Array[ctypes.c_char]", size: ctypes.c_size_t) -> int:
+        return self.shared._list(room, size)
+
+
+class Shared(Listed, Owner):
+    """A table that many threads use at once, with the history of its calls. Each worker makes its calls by a seat of its own.
+
+    The library has a lock around the table, and a thread waits for it without the interpreter's lock: so an interpreter without that lock may
+    have such a table too. Each call is made alone, and its ordinal is its place among all. The calls, made again in their order by one thread,
+    have the same answers.
+
+    The history takes 184 bytes a call until it is cut: by a checkpoint, or by itself where `keep` is not 0. Then the call that makes the kept
+    entries so many cuts them, itself too, and pays for a copy of the table.
+
+    Once it is closed, each method raises `TableClosed`, and so it does in a forked child, whose parent has the table. Where there is no memory,
+    any call and what copies the table raise a MemoryError. One that nobody has any more, by a seat or otherwise, is closed.
+    """
+
+    workers: int = 0
+
+    # None where it was closed.
+    _hold: Hold | None = None
+
+    def __init__(
+        self,
+        workers: int = 4,
+        *,
+        pid_max: int = DEFAULT_PID_MAX,
+        first_stamp: int = 1,
+        keep: int = 0,
+        library: str | os.PathLike[str] | None = None,
+    ) -> None:
+        """Opens it with process 1 alone.
+
+        There are 1 to 16 workers. The first call has the first stamp, 1 to 2^64 - 1, as the id of what it makes; each later one has the next.
+        """
+        self.workers = check_range("workers", workers, 1, MOST_WORKERS)
+        self.pid_max = check_pid_max(pid_max)
+        self.first_stamp = check_range("first_stamp", first_stamp, 1, GREATEST_NUMBER)
+        self.keep = check_range("keep", keep, 0, GREATEST_NUMBER)
+        self.library = find_library(library)
+        self._hold = Hold(load_shared(self.library), self.pid_max, self.first_stamp, self.workers, self.keep)
+        TABLES.add(self)
+
+    def close(self) -> None:
+        """Frees the table with its history. A second time nothing is done. Calls that other threads are in are made before."""
+        self._hold = None
+
+    def seat(self) -> Seat:
+        """The seat of the next worker, from 0 on; `SeatsTaken` where each has its own. An interrupt amid it may lose a seat."""
+        worker = ctypes.c_uint32()
+        if self._status("pidtab_shared_seat", worker) != DONE:
+            raise SeatsTaken(f"each of the {self.workers} workers has its seat: open the table with more, at most {MOST_WORKERS}")
+        return Seat(self, worker.value)
+
+    @property
+    def ask(self) -> Ask:
+        """Queries that are no calls: `shared.ask.getpid(1)` is answered as a seat's would be, and is neither counted nor recorded."""
+        return Ask(self)
+
+    def counts(self) -> Counts:
+        """The ordinal of the first kept entry, and how many calls were recorded, both of one moment."""
+        first_kept, recorded = ctypes.c_uint64(), ctypes.c_uint64()
+        check(self._status("pidtab_shared_counts", first_kept, recorded), "counts")
+        return Counts(first_kept.value, recorded.value)
+
+    def worker(self, number: int) -> int:
+        """How many calls of the worker were recorded, the cut ones too."""
+        number = check_range("worker", number, 0, self.workers - 1)
+        calls = ctypes.c_uint64()
+        check(self._status("pidtab_shared_worker", number, calls), f"worker {number}")
+        return calls.value
+
+    def entry(self, ordinal: int) -> Entry:
+        """The recorded call with the ordinal; `NotKept` where it was cut away or is not reached yet. It costs the same for each."""
+        ordinal = check_range("ordinal", ordinal, 0, GREATEST_NUMBER)
+        worker, call, reply = ctypes.c_uint64(), PidtabCall(), PidtabReply()
+        check(self._status("pidtab_shared_entry", ordinal, worker, call, reply), f"entry {ordinal}")
+        return read_entry(ordinal, worker.value, call, reply)
+
+    def entries(self, start: int | None = None) -> Iterator[Entry]:
+        """The recorded calls from the ordinal on, or from the first kept one, to the last that there is now.
+
+        They are read in blocks, and calls of other threads may come between two of them. `NotKept` is raised where the start is not kept, and
+        amid the walk where the next block was cut away meanwhile. The ordinal of the next call may be the start: then there are none so far.
+        """
+        first = None if start is None else check_range("start", start, 0, GREATEST_NUMBER)
+        end = self.counts().recorded
+        return self._walk(self._first_block(first), end)
+
+    def checkpoint(self) -> None:
+        """Cuts the history: no entry is kept. Ordinals, stamps and counts go on. It costs a copy of the table, while all threads wait."""
+        check(self._status("pidtab_shared_checkpoint"), "checkpoint")
+
+    def checkpoint_at(self, seen: int) -> bool:
+        """Cuts the history where exactly so many calls were recorded: so no entry is cut that was not read. Whether it was cut."""
+        seen = check_range("seen", seen, 0, GREATEST_NUMBER)
+        status = self._status("pidtab_shared_checkpoint_at", seen)
+        if status != AGAIN:
+            check(status, "checkpoint")
+        return status != AGAIN
+
+    def _settings(self) -> str:
+        return f"workers={self.workers} pid_max={self.pid_max}"
+
+    def _is_open(self) -> bool:
+        return self._hold is not None
+
+    def _check_open(self) -> Hold:
+        """The open table of this process, which is not freed as long as the caller has it."""
+        self._check_owner()
+        hold = self._hold
+        if hold is None:
+            raise TableClosed("the table was closed")
+        return hold
+
+    def _status(self, name: str, *arguments: object) -> int:
+        """What a function of the library answers. Nothing is raised from here but that there is no table: a kept fault would keep it open."""
+        hold = self._check_open()
+        return int(getattr(hold.functions, name)(hold.at, *arguments))
+
+    def _ask(self, call: PidtabCall, reply: PidtabReply) -> int:
+        return self._status("pidtab_shared_ask", call, reply)
+
+    def _list(self, room: "ctypes.Array[ctypes.c_char]", size: ctypes.c_size_t) -> int:
+        return self._status("pidtab_shared_list", room, len(room), size)
+
+    def _list_text(self) -> str:
+        return read_list_text(self._list)
+
+    def _first_block(self, start: int | None) -> Sequence[Entry]:
+        """The first block from the start on, or from the first kept entry, which may be cut away before it is read."""
+        while start is None:
+            try:
+                return self._read(self.counts().first_kept)
+            except NotKept:
+                continue
+        return self._read(start)
+
+    def _read(self, start: int) -> Sequence[Entry]:
+        """A block of entries from the ordinal on."""
+        room, count = (PidtabEntry * BLOCK)(), ctypes.c_size_t()
+        check(self._status("pidtab_shared_read", start, room, BLOCK, count), f"entry {start}")
+        return [read_entry(start + place, it.worker, it.call, it.reply) for place, it in enumerate(room[: count.value])]
+
+    def _walk(self, block: Sequence[Entry], end: int) -> Iterator[Entry]:
+        """The entries from a block on, to below the end."""
+        while block:
+            yield from block[: max(0, end - block[0].ordinal)]
+            following = block[-1].ordinal + 1
+            # Behind the end nothing is read, as it may be cut away by now.
+            block = self._read(following) if following < end else ()
+
+
+def check(status: int, what: str) -> None:
+    """Raises what a status other than done stands for."""
+    if status == NOT_KEPT:
+        raise NotKept(f"{what} is not kept: it was cut away, or there is no such call yet")
+    if status != DONE:
+        raise fault_of(status, what)

@@ -1,0 +1,857 @@
+"""A table that threads share: its seats are tables as the others, its history is what they were answered, and misuse has its sentence."""
+
+import copy
+import ctypes
+import gc
+import os
+import pickle
+import signal
+import subprocess
+import sys
+import threading
+import time
+import unittest
+from collections.abc import Callable, Iterator
+from contextlib import contextmanager, suppress
+from pathlib import Path
+from types import FrameType, SimpleNamespace
+from typing import Any
+from unittest import mock
+
+from pidtab import Ask, Calls, Counts, Entry, LibraryFault, NotKept, Queries, Seat, SeatsTaken, Shared, Table, TableClosed, raw
+from pidtab.library import load_library, load_shared
+from pidtab.shared import BLOCK
+from tests.pages import StoredScript
+from tests.test_arguments import NO_INTEGERS, IntegerCases, LongCases, TypeCases
+from tests.test_calls import CallCases, LineCases, ListCases, NumberCases, PageCases, TableCases
+from tests.test_ends import OTHERS, ForkCases, in_child, say
+from tests.test_refusals import RefusalCases
+from tests.ways import BySeat, ask, need_library, need_shared, say_answer
+
+PACKAGE = Path(__file__).resolve().parents[1]
+WORKERS = 16
+EACH = 20000
+
+# The queries, and a call of each kind that is none.
+QUERIES = ["getpid 2", "getppid 2", "getpgid 1 2", "getsid 1 2", "nspid 1 2", "next 1 task 2", "next 1 group 0", "next 1 session 9", "count 0"]
+NO_QUERIES = ["fork", "exec", "exit", "wait", "setpgid", "setsid", "join", "subreaper", "mk", "rm", "limit", "move", "line", "answers", "list", "list_text", "tree", "close"]
+
+
+class CallsBySeat(CallCases, BySeat):
+    pass
+
+
+class NumbersBySeat(NumberCases, BySeat):
+    pass
+
+
+class LinesBySeat(LineCases, BySeat):
+    pass
+
+
+class ListsBySeat(ListCases, BySeat):
+    pass
+
+
+class TablesBySeat(TableCases, BySeat):
+    pass
+
+
+class RefusalsBySeat(RefusalCases, BySeat):
+    pass
+
+
+class TypesBySeat(TypeCases, BySeat):
+    pass
+
+
+class IntegersBySeat(IntegerCases, BySeat):
+    pass
+
+
+class LongBySeat(LongCases, BySeat):
+    pass
+
+
+class PagesBySeat(PageCases, BySeat):
+    """The stored answers, and the history that is made of them."""
+
+    def check_list(self, table: Calls, script: StoredScript) -> None:
+        super().check_list(table, script)
+        assert isinstance(table, Seat)
+        asked = [line.decode("latin-1") for line in script.lines if line]
+        made = [(line, answer) for line, answer in zip(asked, script.answers, strict=True) if answer != "bad line"]
+        entries = list(table.shared.entries())
+        self.assertEqual([(it.line, it.answer) for it in entries], made)
+        self.assertEqual([(it.ordinal, it.worker) for it in entries], [(place, 0) for place in range(len(made))])
+
+
+class ForksBySeat(ForkCases, BySeat):
+    """In a forked child."""
+
+    def test_what_it_shows_of_itself(self) -> None:
+        assert isinstance(self.table, Seat)
+        shown = "<pidtab.Seat worker=0 pid_max=32768, of the parent process>"
+        self.assertEqual(in_child(lambda: repr(self.table)), shown)
+        shared = self.table.shared
+        self.assertEqual(in_child(lambda: repr(shared)), "<pidtab.Shared workers=1 pid_max=32768, of the parent process>")
+
+    def test_each_method_of_the_table_in_the_child(self) -> None:
+        assert isinstance(self.table, Seat)
+        shared, queries = self.table.shared, self.table.ask
+        for method in [*methods_of(shared), lambda: queries.getpid(1)]:
+            self.assertEqual(in_child(method), f"closed: {OTHERS}")
+        self.assertEqual(in_child(shared.close), "None")
+        self.assertEqual(shared.counts(), Counts(0, 0))
+
+    def test_a_fork_while_the_lock_is_taken(self) -> None:
+        assert isinstance(self.table, Seat)
+        hold = self.table.shared._check_open()
+        with locked(hold.functions, hold.at):
+            self.assertEqual(in_child(lambda: self.table.getpid(1)), f"closed: {OTHERS}")
+            self.assertEqual(in_child(lambda: self.table.close()), "None")
+        self.assertEqual(self.table.getpid(1), 1)
+
+
+def methods_of(shared: Shared) -> list[Callable[[], object]]:
+    """Each method of a table for threads, but its end."""
+    return [
+        shared.seat, shared.counts, lambda: shared.worker(0), lambda: shared.entry(0), shared.entries, lambda: shared.entries(0), shared.checkpoint,
+        lambda: shared.checkpoint_at(0), shared.list, shared.list_text, shared.tree, lambda: shared.ask.getpid(1), lambda: shared.ask.count(),
+    ]  # fmt: skip
+
+
+@contextmanager
+def locked(functions: ctypes.CDLL, at: raw.PidtabShared) -> Iterator[None]:
+    """Takes the lock of the library, so that each thread in a function waits."""
+    assert not isinstance(functions, ctypes.PyDLL), "a wait that keeps the interpreter's lock would have no end"
+    functions.pidtab_shared_lock(ctypes.byref(at))
+    try:
+        yield
+    finally:
+        functions.pidtab_shared_unlock(ctypes.byref(at))
+
+
+class Receipts:
+    """The calls of one worker, and what they were answered."""
+
+    def __init__(self, seat: Seat) -> None:
+        self.seat = seat
+        self.kept: list[Entry] = []
+
+    def make(self, line: str, call: Callable[[], object]) -> Any:
+        """Makes a call by its method, and keeps what it tells."""
+        told = call()
+        ordinal = self.seat.ordinal
+        assert ordinal is not None
+        self.kept.append(Entry(ordinal, self.seat.worker, line, say_answer(line.split(" ")[0], told)))
+        return told
+
+    def serve(self, times: int) -> None:
+        """A namespace of the worker's own, and in it a child after the other, which ends with the worker's number."""
+        seat = self.seat
+        own = self.make("fork 1 new", lambda: seat.fork(1, new=True)).root
+        while len(self.kept) + 4 < times:
+            child = self.make(f"fork {own}", lambda: seat.fork(own))
+            self.make(f"getpid {child.root}", lambda: seat.getpid(child.root))
+            self.make(f"exit {child.root} {seat.worker}", lambda: seat.exit(child.root, seat.worker))
+            self.make(f"wait {own} pid {child.child}", lambda: seat.wait(own, child.child))
+        while len(self.kept) < times:
+            self.make(f"getppid {own}", lambda: seat.getppid(own))
+
+
+class Threads(unittest.TestCase):
+    """Sixteen threads, each with a seat of its own."""
+
+    @classmethod
+    def setUpClass(cls) -> None:
+        need_shared()
+
+    def test_the_history_is_what_they_were_answered(self) -> None:
+        with Shared(WORKERS) as shared:
+            works = [Receipts(shared.seat()) for _ in range(WORKERS)]
+            run_all([threading.Thread(target=work.serve, args=(EACH,)) for work in works])
+            self.check_counts(shared)
+            entries = list(shared.entries())
+            for work in works:
+                self.assertEqual([it for it in entries if it.worker == work.seat.worker], work.kept)
+            self.assertEqual([it.ordinal for it in entries], list(range(WORKERS * EACH)))
+            self.check_again(entries, shared)
+
+    def check_counts(self, shared: Shared) -> None:
+        """The counts of the workers add up."""
+        self.assertEqual(shared.counts(), Counts(0, WORKERS * EACH))
+        self.assertEqual([shared.worker(it) for it in range(WORKERS)], [EACH] * WORKERS)
+
+    def check_again(self, entries: list[Entry], shared: Shared) -> None:
+        """The same calls of one thread have the same answers, and leave the same list."""
+        with Shared(WORKERS) as other:
+            seats = [other.seat() for _ in range(WORKERS)]
+            self.assertEqual([seats[it.worker].line(it.line) for it in entries], [it.answer for it in entries])
+            self.assertEqual(other.list_text(), shared.list_text())
+            self.assertGreater(len(other.list().tasks), WORKERS)
+            self.assertEqual(list(other.entries()), entries)
+
+    def test_two_threads_of_one_seat(self) -> None:
+        # Each child is forked and told once, and the ordinal is that of the latest call.
+        with Shared(1) as shared:
+            seat = shared.seat()
+            seen: list[int] = []
+            run_all([threading.Thread(target=lambda: seen.extend(seat.fork(1).root for _ in range(2000))) for _ in range(4)])
+            self.assertEqual(sorted(seen), list(range(2, 8002)))
+            self.assertEqual((seat.ordinal, shared.worker(0), shared.counts()), (7999, 8000, Counts(0, 8000)))
+
+    def test_seats_are_handed_out_once(self) -> None:
+        with Shared(WORKERS) as shared:
+            numbers: list[int] = []
+            run_all([threading.Thread(target=lambda: numbers.append(shared.seat().worker)) for _ in range(WORKERS)])
+            self.assertEqual(sorted(numbers), list(range(WORKERS)))
+            with self.assertRaises(SeatsTaken):
+                shared.seat()
+
+    def test_a_wait_for_the_lock_holds_nobody_up(self) -> None:
+        # With the interpreter's lock kept, this thread would wait for ever.
+        with Shared(1) as shared:
+            seat, told = shared.seat(), list[int]()
+            hold = shared._check_open()
+            with locked(hold.functions, hold.at):
+                thread = threading.Thread(target=lambda: told.append(seat.getpid(1)))
+                thread.start()
+                time.sleep(0.1)
+                self.assertEqual((told, thread.is_alive()), ([], True))
+            thread.join(60)
+            self.assertEqual(told, [1])
+
+    def test_lists_amid_calls(self) -> None:
+        # Each list is one of the table between two calls: as many tasks as its count.
+        with Shared(2) as shared:
+            threads = [threading.Thread(target=Receipts(shared.seat()).serve, args=(3000,)) for _ in range(2)]
+            for thread in threads:
+                thread.start()
+            while any(thread.is_alive() for thread in threads):
+                listing = shared.list()
+                self.assertEqual(len(listing.tasks), listing.controls[0].count)
+            run_all(threads, started=True)
+
+
+def run_all(threads: list[threading.Thread], started: bool = False) -> None:
+    """Runs threads to their ends."""
+    for thread in () if started else threads:
+        thread.start()
+    for thread in threads:
+        thread.join()
+
+
+class Histories(unittest.TestCase):
+    """What is kept of the calls, and what is cut."""
+
+    @classmethod
+    def setUpClass(cls) -> None:
+        need_shared()
+
+    def setUp(self) -> None:
+        self.shared = Shared(2)
+        self.addCleanup(self.shared.close)
+        self.one, self.other = self.shared.seat(), self.shared.seat()
+
+    def test_each_entry(self) -> None:
+        self.assertEqual((self.one.ordinal, self.other.ordinal), (None, None))
+        self.one.fork(1, new=True)
+        self.assertEqual(self.other.line("fork 2"), "child 2 root 3")
+        with self.assertRaises(ProcessLookupError):
+            self.one.getpid(9)
+        wanted = [Entry(0, 0, "fork 1 new", "child 2 root 2"), Entry(1, 1, "fork 2", "child 2 root 3"), Entry(2, 0, "getpid 9", "ESRCH no-caller")]
+        self.assertEqual(list(self.shared.entries()), wanted)
+        self.assertEqual([self.shared.entry(place) for place in range(3)], wanted)
+        self.assertEqual((self.one.ordinal, self.other.ordinal), (2, 1))
+        self.assertEqual((self.shared.worker(0), self.shared.worker(1), self.shared.counts()), (2, 1, Counts(0, 3)))
+
+    def test_what_makes_no_call_is_not_recorded(self) -> None:
+        faults: list[Callable[[], object]] = [
+            lambda: self.one.line("FORK 1"), lambda: self.one.line(""), lambda: self.one.exit(1, 256), lambda: self.one.fork(2**32),
+            lambda: self.one.next(1, "thing"), lambda: self.one.fork("1"),  # type: ignore[arg-type]
+        ]  # fmt: skip
+        for fault in faults:
+            with self.assertRaises((ValueError, TypeError)):
+                fault()
+        self.assertEqual(self.one.answers(["FORK 1", "getpid 1"]), ("bad line", "1"))
+        self.assertEqual((self.one.ordinal, self.shared.counts()), (0, Counts(0, 1)))
+
+    def test_the_list_is_one_for_all(self) -> None:
+        self.one.fork(1)
+        self.assertEqual(self.shared.list(), self.other.list())
+        self.assertEqual(self.shared.tree(), self.one.tree())
+        self.assertEqual([task.numbers for task in self.shared.list().tasks], [(1,), (2,)])
+
+    def test_many_entries_are_read_in_blocks(self) -> None:
+        many = 2 * BLOCK + 3
+        self.one.answers(["getpid 1"] * many)
+        hold = self.shared._check_open()
+        with mock.patch.object(self.shared, "_check_open", return_value=hold) as entered:
+            self.assertEqual([it.ordinal for it in self.shared.entries()], list(range(many)))
+        # The counts twice, and three blocks.
+        self.assertEqual(entered.call_count, 5)
+        for start in (0, 1, BLOCK - 1, BLOCK, 2 * BLOCK, many - 1, many):
+            self.assertEqual([it.ordinal for it in self.shared.entries(start)], list(range(start, many)))
+
+    def test_the_walk_ends_where_it_was_begun(self) -> None:
+        # Each step makes one call more, and the second block has these too.
+        many = BLOCK + 1
+        self.one.answers(["getpid 1"] * many)
+        walked = [(entry.ordinal, self.one.getpid(1)) for entry in self.shared.entries()]
+        self.assertEqual(walked, [(place, 1) for place in range(many)])
+        self.assertEqual(self.shared.counts(), Counts(0, 2 * many))
+
+    def test_a_cut_behind_the_last_entry_of_a_walk(self) -> None:
+        self.one.answers(["getpid 1"] * BLOCK)
+        walk = self.shared.entries()
+        self.assertEqual([next(walk).ordinal for _ in range(BLOCK)], list(range(BLOCK)))
+        self.one.getpid(1)
+        self.shared.checkpoint()
+        self.assertEqual(list(walk), [])
+
+    def test_a_cut_amid_a_walk(self) -> None:
+        self.one.answers(["getpid 1"] * (BLOCK + 1))
+        walk = self.shared.entries()
+        next(walk)
+        self.shared.checkpoint()
+        with self.assertRaisesRegex(NotKept, f"^entry {BLOCK} is not kept"):
+            list(walk)
+
+    def test_a_cut_before_the_first_kept_entry_is_read(self) -> None:
+        self.one.answers(["getpid 1"] * 3)
+        self.shared.checkpoint()
+        with mock.patch.object(self.shared, "counts", side_effect=[Counts(0, 3), Counts(0, 3), Counts(3, 3)]) as asked:
+            self.assertEqual(list(self.shared.entries()), [])
+        self.assertEqual(asked.call_count, 3)
+
+    def test_checkpoints(self) -> None:
+        self.one.answers(["fork 1"] * 3)
+        self.assertEqual([self.shared.checkpoint_at(seen) for seen in (2, 4, 0, 2**64 - 1)], [False] * 4)
+        self.assertEqual(self.shared.counts(), Counts(0, 3))
+        self.assertIs(self.shared.checkpoint_at(3), True)
+        self.assertEqual((self.shared.counts(), list(self.shared.entries())), (Counts(3, 3), []))
+        self.assertEqual(self.other.mk(), 4)
+        self.assertEqual((self.other.ordinal, list(self.shared.entries(3))), (3, [Entry(3, 1, "mk 0", "control 4")]))
+        self.shared.checkpoint()
+        self.assertEqual((self.shared.counts(), self.shared.worker(0), self.shared.worker(1)), (Counts(4, 4), 3, 1))
+        self.assertEqual(len(self.shared.list().tasks), 4)
+
+    def test_what_is_not_kept(self) -> None:
+        self.one.answers(["getpid 1"] * 3)
+        self.assertTrue(self.shared.checkpoint_at(3))
+        finds: list[Callable[[int], object]] = [self.shared.entry, self.shared.entries]
+        for ordinal in (0, 2, 4, 2**64 - 1):
+            for find in finds:
+                with self.assertRaisesRegex(NotKept, f"^entry {ordinal} is not kept: it was cut away, or there is no such call yet$"):
+                    find(ordinal)
+        with self.assertRaises(LookupError):
+            self.shared.entry(3)
+
+    def test_a_table_that_cuts_itself(self) -> None:
+        with Shared(1, keep=10) as shared:
+            seat = shared.seat()
+            seat.answers(["fork 1"] * 25)
+            self.assertEqual((shared.keep, shared.counts(), len(list(shared.entries())), seat.ordinal), (10, Counts(20, 25), 5, 24))
+            with self.assertRaises(NotKept):
+                shared.entry(19)
+
+    def test_the_first_stamp(self) -> None:
+        with Shared(1, first_stamp=1000) as shared:
+            self.assertEqual((shared.first_stamp, shared.seat().mk(), shared.counts()), (1000, 1000, Counts(0, 1)))
+        with Shared(1, first_stamp=2**64 - 2) as shared:
+            seat = shared.seat()
+            self.assertEqual(seat.mk(), 2**64 - 2)
+            with self.assertRaisesRegex(OverflowError, "^getpid 1: spent$"):
+                seat.getpid(1)
+            self.assertEqual((seat.answers(["getpid 1"]), shared.ask.getpid(1)), (("spent",), 1))
+            self.assertEqual((seat.ordinal, shared.counts()), (0, Counts(0, 1)))
+
+
+class Asking(unittest.TestCase):
+    """Queries that are no calls."""
+
+    @classmethod
+    def setUpClass(cls) -> None:
+        need_shared()
+        need_library()
+
+    def setUp(self) -> None:
+        self.shared, self.table = Shared(2), Table()
+        self.addCleanup(self.shared.close)
+        self.addCleanup(self.table.close)
+        self.seat = self.shared.seat()
+
+    def ways(self) -> list[tuple[Calls, Ask]]:
+        """What answers calls, and what answers queries of the same table."""
+        return [(self.table, self.table.ask), (self.seat, self.shared.ask), (self.seat, self.seat.ask)]
+
+    def test_they_are_answered_as_calls(self) -> None:
+        for table, _ in self.ways()[:2]:
+            table.fork(1, new=True)
+        for table, queries in self.ways():
+            for line in [*QUERIES, "getpid 9", "nspid 1 9", "count 9"]:
+                with self.subTest(line):
+                    self.assertEqual(ask(queries, line), ask(table, line))  # type: ignore[arg-type]
+
+    def test_they_are_no_calls(self) -> None:
+        for table, queries in self.ways():
+            before = table.mk()
+            for line in QUERIES[2:3] * 5 + ["getpid 9", "count 9"]:
+                ask(queries, line)  # type: ignore[arg-type]
+            # The id is the number of the call.
+            self.assertEqual(table.mk(), before + 1)
+        self.assertEqual((self.shared.counts(), self.seat.ordinal), (Counts(0, 4), 3))
+
+    def test_what_is_no_query(self) -> None:
+        for _, queries in self.ways():
+            for name in NO_QUERIES:
+                self.assertFalse(hasattr(queries, name))
+                with self.assertRaisesRegex(AttributeError, f"^{name} is no query: `ask` has getpid, .* next and count$"):
+                    getattr(queries, name)
+            with self.assertRaisesRegex(AttributeError, "^pidtab.Ask has no frok$"):
+                queries.frok  # type: ignore[attr-defined]
+        public = {name for name in dir(Calls) if not name.startswith("_")} - {"pid_max"}
+        self.assertEqual(public - set(NO_QUERIES), {name for name in dir(Queries) if not name.startswith("_")})
+        self.assertEqual(self.shared.counts(), Counts(0, 0))
+
+    def test_numbers(self) -> None:
+        for _, queries in self.ways():
+            for value in NO_INTEGERS:
+                with self.assertRaises(TypeError):
+                    queries.getpid(value)
+            for value in (-1, 2**32):
+                with self.assertRaisesRegex(ValueError, f"^bad line: getpid {value}$"):
+                    queries.getpid(value)
+
+    def test_what_it_shows_of_itself(self) -> None:
+        shown = [repr(queries) for _, queries in self.ways()]
+        seat = "<pidtab.Seat worker=0 pid_max=32768, open>"
+        self.assertEqual(shown[0], "<pidtab.Ask of <pidtab.Table pid_max=32768, open>>")
+        self.assertEqual(shown[1:], ["<pidtab.Ask of <pidtab.Shared workers=2 pid_max=32768, open>>", f"<pidtab.Ask of {seat}>"])
+
+    def test_closed(self) -> None:
+        asked = self.ways()
+        self.seat.close()
+        self.table.close()
+        for (_, queries), words in zip(asked, ("the table was closed", None, "the seat was closed")):
+            if words is None:
+                self.assertEqual(queries.getpid(1), 1)
+                continue
+            with self.assertRaisesRegex(TableClosed, f"^{words}$"):
+                queries.getpid(1)
+        self.shared.close()
+        with self.assertRaisesRegex(TableClosed, "^the table was closed$"):
+            self.shared.ask.getpid(1)
+
+    def test_an_earlier_library(self) -> None:
+        functions = SimpleNamespace(pidtab_open=mock.Mock(return_value=0), pidtab_close=mock.Mock())
+        with mock.patch("pidtab.table.find_library", return_value="early.so"), mock.patch("pidtab.table.load_library", return_value=functions):
+            table = Table()
+        self.addCleanup(table.close)
+        with self.assertRaisesRegex(LibraryFault, "^early.so has no function pidtab_ask, as the library of an earlier release: build it with"):
+            table.ask.getpid(1)
+
+
+class Misuse(unittest.TestCase):
+    """What is no use of a table has its error."""
+
+    @classmethod
+    def setUpClass(cls) -> None:
+        need_shared()
+
+    def open(self, workers: int = 2, **settings: Any) -> Shared:
+        """A new table, which is closed behind the test."""
+        shared = Shared(workers, **settings)
+        self.addCleanup(shared.close)
+        return shared
+
+    def test_a_close_twice(self) -> None:
+        shared = self.open()
+        shared.close()
+        shared.close()
+        with shared:
+            pass
+        self.assertEqual(repr(shared), "<pidtab.Shared workers=2 pid_max=32768, closed>")
+
+    def test_a_table_that_was_closed(self) -> None:
+        with self.open() as shared:
+            seat = shared.seat()
+            self.assertEqual(seat.getpid(1), 1)
+        for method in [*methods_of(shared), lambda: seat.getpid(1), lambda: seat.line("getpid 1"), lambda: seat.answers(["getpid 1"]), seat.list]:
+            with self.assertRaisesRegex(TableClosed, "^the table was closed$"):
+                method()
+        seat.close()
+        self.assertEqual((repr(seat), seat.ordinal), ("<pidtab.Seat worker=0 pid_max=32768, closed>", 0))
+
+    def test_a_seat_that_was_closed(self) -> None:
+        shared = self.open()
+        with shared.seat() as seat:
+            self.assertEqual(repr(seat), "<pidtab.Seat worker=0 pid_max=32768, open>")
+        seat.close()
+        calls: list[Callable[[], object]] = [lambda: seat.getpid(1), lambda: seat.line("getpid 1"), lambda: seat.answers(["getpid 1"]), seat.list]
+        for call in calls:
+            with self.assertRaisesRegex(TableClosed, "^the seat was closed$"):
+                call()
+        # The table goes on, and the number does not come again.
+        self.assertEqual((shared.counts(), shared.seat().worker), (Counts(0, 0), 1))
+
+    def test_more_seats_than_workers(self) -> None:
+        shared = self.open()
+        self.assertEqual([shared.seat().worker for _ in range(2)], [0, 1])
+        for _ in range(2):
+            with self.assertRaisesRegex(SeatsTaken, "^each of the 2 workers has its seat: open the table with more, at most 16$"):
+                shared.seat()
+
+    def test_numbers_out_of_range(self) -> None:
+        greatest = 2**64 - 1
+        ranges: list[tuple[str, int, int]] = [("workers", 1, 16), ("pid_max", 301, 4194304), ("first_stamp", 1, greatest), ("keep", 0, greatest)]
+        for name, least, most in ranges:
+            for value in (least, most):
+                self.assertEqual(getattr(self.open(**{name: value}), name), value)
+            for value in (least - 1, most + 1, -(2**70)):
+                with self.subTest(name), self.assertRaisesRegex(ValueError, f"^{name} is {least} to {most}, not {value}$"):
+                    Shared(**{name: value})  # type: ignore[arg-type]
+
+    def test_places_out_of_range(self) -> None:
+        shared = self.open()
+        places: list[tuple[Callable[[Any], object], str, int]] = [
+            (shared.worker, "worker is 0 to 1", 2), (shared.entry, "ordinal is 0 to", 2**64), (shared.entries, "start is 0 to", 2**64),
+            (shared.checkpoint_at, "seen is 0 to", 2**64),
+        ]  # fmt: skip
+        for method, words, above in places:
+            for value in (-1, above):
+                with self.assertRaisesRegex(ValueError, f"^{words}.*, not {value}$"):
+                    method(value)
+            for value in NO_INTEGERS:
+                # A walk without a start begins with the first kept entry.
+                if value is not None or method != shared.entries:
+                    with self.assertRaisesRegex(TypeError, "cannot be interpreted as an integer"):
+                        method(value)
+
+    def test_what_is_no_integer(self) -> None:
+        for name in ("workers", "pid_max", "first_stamp", "keep"):
+            for value in NO_INTEGERS:
+                with self.subTest(name), self.assertRaisesRegex(TypeError, "cannot be interpreted as an integer"):
+                    Shared(**{name: value})
+        with self.assertRaisesRegex(TypeError, "positional"):
+            Shared(4, 400)  # type: ignore[misc]
+
+    def test_there_are_no_copies(self) -> None:
+        takes: list[Callable[[object], object]] = [copy.copy, copy.deepcopy, pickle.dumps]
+        for take in takes:
+            with self.assertRaisesRegex(TypeError, "^a Shared is not copied or pickled"):
+                take(self.open())
+
+    def test_what_it_shows_of_itself(self) -> None:
+        self.assertEqual(repr(self.open(pid_max=301)), "<pidtab.Shared workers=2 pid_max=301, open>")
+        self.assertEqual(repr(Shared.__new__(Shared)), "<pidtab.Shared workers=0 pid_max=32768, closed>")
+        self.assertEqual(repr(Seat.__new__(Seat)), "<pidtab.Seat worker=-1 pid_max=32768, closed>")
+
+    def test_want_of_memory(self) -> None:
+        shared = self.open()
+        seat, hold = shared.seat(), shared._check_open()
+        names = [name for name in raw.SHARED_FUNCTIONS if name != "pidtab_shared_close"]
+        functions = SimpleNamespace(**{name: mock.Mock(return_value=raw.NO_MEMORY) for name in names})
+        with mock.patch.object(hold, "functions", functions):
+            calls: list[Callable[[], object]] = [
+                shared.checkpoint, lambda: shared.checkpoint_at(0), shared.list, lambda: seat.getpid(1), lambda: seat.line("getpid 1"),
+            ]  # fmt: skip
+            for call in calls:
+                with self.assertRaisesRegex(MemoryError, "no memory"):
+                    call()
+            self.assertEqual(seat.answers(["getpid 1"]), ("no memory",))
+        with mock.patch("pidtab.shared.load_shared", return_value=functions), self.assertRaisesRegex(MemoryError, "no memory"):
+            Shared()
+
+
+class Libraries(unittest.TestCase):
+    """Libraries that have no tables for threads, and interpreters without their lock."""
+
+    def test_a_library_of_an_earlier_release(self) -> None:
+        early = SimpleNamespace(**{name: mock.Mock(return_value=1) for name in raw.FUNCTIONS})
+        with mock.patch("ctypes.CDLL", return_value=early):
+            words = "^early.so has no function pidtab_shared_open, as the library of an earlier release: build it with `make lib`"
+            with self.assertRaisesRegex(LibraryFault, words):
+                load_shared.__wrapped__("early.so")
+        with mock.patch("ctypes.PyDLL", return_value=early):
+            self.assertIs(load_library.__wrapped__("early.so"), early)
+
+    def test_what_is_no_library(self) -> None:
+        with mock.patch("ctypes.CDLL", return_value=SimpleNamespace(other=1)), self.assertRaisesRegex(LibraryFault, "^other.so has no function pidtab_version$"):
+            load_shared.__wrapped__("other.so")
+        with self.assertRaisesRegex(LibraryFault, "no library /no/such/library: build it"):
+            Shared(library="/no/such/library")
+        with self.assertRaisesRegex(LibraryFault, "cannot load .*sh: .*: build it"):
+            Shared(library="/bin/sh")
+
+    def test_another_interface(self) -> None:
+        functions = SimpleNamespace(**{name: mock.Mock(return_value=2) for name in (*raw.VERSION_FUNCTION, *raw.SHARED_FUNCTIONS)})
+        with mock.patch("ctypes.CDLL", return_value=functions), self.assertRaisesRegex(LibraryFault, "^later.so has the interface 2"):
+            load_shared.__wrapped__("later.so")
+
+    def test_an_interpreter_without_its_lock(self) -> None:
+        need_shared()
+        with mock.patch.object(sys, "_is_gil_enabled", return_value=False, create=True):
+            with self.assertRaisesRegex(LibraryFault, "pidtab.Shared has a lock of its own"):
+                load_library.__wrapped__("any.so")
+            load_shared.cache_clear()
+            with Shared() as shared:
+                self.assertEqual(shared.seat().fork(1).root, 2)
+
+
+class Ends(unittest.TestCase):
+    """A table is closed once, by whoever has it last, and never while a thread is in it."""
+
+    @classmethod
+    def setUpClass(cls) -> None:
+        need_shared()
+
+    def setUp(self) -> None:
+        self.closed = 0
+        shared = Shared(2)
+        self.functions = shared._check_open().functions
+        shared.close()
+
+        def close(at: raw.PidtabShared) -> None:
+            self.closed += 1
+            self.functions.pidtab_shared_close(at)
+
+        # The library's functions, with a count of the ends.
+        counted = SimpleNamespace(**{name: getattr(self.functions, name) for name in raw.SHARED_FUNCTIONS})
+        counted.pidtab_shared_close = close
+        loaded = mock.patch("pidtab.shared.load_shared", return_value=counted)
+        loaded.start()
+        self.addCleanup(loaded.stop)
+
+    def test_one_that_nobody_has(self) -> None:
+        shared = Shared()
+        self.assertEqual(self.closed, 0)
+        del shared
+        gc.collect()
+        self.assertEqual(self.closed, 1)
+
+    def test_a_seat_keeps_the_table(self) -> None:
+        seat = Shared().seat()
+        queries = seat.ask
+        gc.collect()
+        self.assertEqual((seat.fork(1).root, self.closed), (2, 0))
+        del seat
+        gc.collect()
+        self.assertEqual((queries.getpid(2), self.closed), (2, 0))
+        del queries
+        gc.collect()
+        self.assertEqual(self.closed, 1)
+
+    def test_a_close_is_done_once(self) -> None:
+        with Shared() as shared:
+            pass
+        shared.close()
+        del shared
+        gc.collect()
+        self.assertEqual(self.closed, 1)
+
+    def test_one_that_nobody_has_in_a_forked_child(self) -> None:
+        shared = Shared()
+
+        def drop() -> int:
+            shared._hold = None
+            gc.collect()
+            return self.closed
+
+        self.assertEqual(in_child(drop), "0")
+        self.assertEqual((shared.seat().fork(1).root, self.closed), (2, 0))
+
+    def test_a_fault_that_is_kept_keeps_no_table(self) -> None:
+        shared = Shared()
+        kept: list[BaseException] = []
+        calls: list[Callable[[], object]] = [lambda: shared.seat().getpid(9), lambda: shared.entry(5), lambda: shared.ask.getpid(9)]
+        for call in calls:
+            try:
+                call()
+            except (OSError, LookupError) as fault:
+                kept.append(fault)
+        shared.close()
+        self.assertEqual((len(kept), self.closed), (3, 1))
+
+    def test_one_that_is_not_opened(self) -> None:
+        for settings in ({"workers": 0}, {"pid_max": 1}, {"keep": -1}):
+            with suppress(ValueError):
+                Shared(**settings)  # type: ignore[arg-type]
+        gc.collect()
+        self.assertEqual(self.closed, 0)
+
+    def test_a_close_while_a_thread_is_in_it(self) -> None:
+        shared = Shared()
+        seat, told = shared.seat(), list[int]()
+        at = shared._check_open().at
+        with locked(self.functions, at):
+            thread = threading.Thread(target=lambda: told.append(seat.fork(1).root))
+            thread.start()
+            time.sleep(0.1)
+            shared.close()
+            with self.assertRaisesRegex(TableClosed, "^the table was closed$"):
+                seat.getpid(1)
+            self.assertEqual((told, self.closed), ([], 0))
+        thread.join(60)
+        # Its call was made, and the end came behind it.
+        self.assertEqual((told, self.closed), ([2], 1))
+
+    def test_a_close_amid_calls_of_many_threads(self) -> None:
+        for _ in range(20):
+            shared = Shared(4)
+            ended: list[str] = []
+            threads = [threading.Thread(target=work_till_closed, args=(shared.seat(), ended)) for _ in range(4)]
+            for thread in threads:
+                thread.start()
+            while shared.counts().recorded < 100:
+                time.sleep(0)
+            shared.close()
+            run_all(threads, started=True)
+            self.assertEqual(ended, ["the table was closed"] * 4)
+        self.assertEqual(self.closed, 20)
+
+
+def work_till_closed(seat: Seat, ended: list[str]) -> None:
+    """Makes calls, until the table is closed."""
+    try:
+        while True:
+            seat.getpid(1)
+    except TableClosed as fault:
+        ended.append(str(fault))
+
+
+class Programs(unittest.TestCase):
+    """Programs in Python that end in odd ways."""
+
+    @classmethod
+    def setUpClass(cls) -> None:
+        need_shared()
+
+    def run_python(self, *lines: str) -> tuple[str, str, int]:
+        """What a program writes and complains of, and its status, where each warning is an error."""
+        command = [sys.executable, "-X", "dev", "-W", "error", "-B", "-c", "\n".join(["import os, threading, time", "import pidtab", *lines])]
+        named = {name: os.path.abspath(os.environ[name]) for name in ("PIDTAB_LIBRARY",) if os.environ.get(name)}
+        done = subprocess.run(command, cwd=PACKAGE, env={**os.environ, **named}, capture_output=True, text=True, timeout=60, check=False)
+        return done.stdout, done.stderr, done.returncode
+
+    def test_no_warning_at_the_end_of_the_interpreter(self) -> None:
+        lines = ["s = pidtab.Shared()", "seat = s.seat()", "print(seat.fork(1).root)"]
+        self.assertEqual(self.run_python(*lines), ("2\n", "", 0))
+        self.assertEqual(self.run_python(*lines, "s.itself = s", "del s"), ("2\n", "", 0))
+        self.assertEqual(self.run_python("with pidtab.Shared() as s: print(s.seat().fork(1).root)"), ("2\n", "", 0))
+
+    def test_an_end_amid_calls_of_daemons(self) -> None:
+        lines = [
+            "s = pidtab.Shared(8)",
+            "def work(seat):",
+            "    while True: seat.getpid(1)",
+            "for _ in range(8): threading.Thread(target=work, args=(s.seat(),), daemon=True).start()",
+            "time.sleep(0.2)",
+            "print('done')",
+        ]
+        for _ in range(3):
+            self.assertEqual(self.run_python(*lines), ("done\n", "", 0))
+
+    def test_a_forked_child_ends_well(self) -> None:
+        lines = ["s = pidtab.Shared(2)", "seat = s.seat()", "seat.fork(1)", "child = os.fork()", "if child == 0:", "    del s, seat", "    raise SystemExit(0)"]
+        after = ["print(os.waitpid(child, 0)[1], seat.fork(1).root, s.counts().recorded)"]
+        self.assertEqual(self.run_python(*lines, *after), ("0 3 2\n", "", 0))
+
+    def test_a_child_opens_its_own(self) -> None:
+        lines = ["s = pidtab.Shared(2)", "seat = s.seat()", "seat.fork(1)", "child = os.fork()", "if child == 0:"]
+        lines += ["    with pidtab.Shared(1) as own: os._exit(own.seat().fork(1).root)", "print(os.waitstatus_to_exitcode(os.waitpid(child, 0)[1]))"]
+        self.assertEqual(self.run_python(*lines), ("2\n", "", 0))
+
+
+class Interrupts(unittest.TestCase):
+    """Ctrl-C, and what any other handler of a signal raises: a call was made whole, or not begun."""
+
+    @classmethod
+    def setUpClass(cls) -> None:
+        need_shared()
+
+    def setUp(self) -> None:
+        self.shared = Shared(1, pid_max=4194304)
+        self.addCleanup(self.shared.close)
+        self.seat = self.shared.seat()
+        self.awaited = False
+
+    def interrupt(self, number: int, frame: FrameType | None) -> None:
+        # Where nobody would catch it, it comes later.
+        if self.awaited:
+            self.awaited = False
+            raise KeyboardInterrupt
+
+    @contextmanager
+    def interrupts(self, first: float, every: float = 0.0) -> Iterator[None]:
+        """Raises a KeyboardInterrupt in so many seconds, and then again and again."""
+        before = signal.signal(signal.SIGALRM, self.interrupt)
+        try:
+            signal.setitimer(signal.ITIMER_REAL, first, every)
+            yield
+        finally:
+            signal.setitimer(signal.ITIMER_REAL, 0)
+            signal.signal(signal.SIGALRM, before)
+
+    def test_many_in_a_second(self) -> None:
+        told: list[int] = []
+        interrupted = 0
+        end = time.monotonic() + 1
+        with self.interrupts(0.005, 0.005):
+            while time.monotonic() < end:
+                try:
+                    self.fork_for_ever(told)
+                except KeyboardInterrupt:
+                    interrupted += 1
+        self.assertGreater(interrupted, 20)
+        recorded = self.shared.counts().recorded
+        # The ordinal is that of the last call, also where its answer was lost.
+        self.assertEqual((self.seat.ordinal, self.shared.worker(0)), (recorded - 1, recorded))
+        roots = [int(it.answer.split(" ")[3]) for it in self.shared.entries()]
+        self.assertEqual(roots, list(range(2, recorded + 2)))
+        self.assertEqual(sorted(set(told)), told)
+        self.assertLessEqual(recorded - len(told), interrupted)
+
+    def fork_for_ever(self, told: list[int]) -> None:
+        """Forks children until it is interrupted, and keeps what it is told."""
+        self.awaited = True
+        while True:
+            told.append(self.seat.fork(1).root)
+
+    def test_one_while_a_call_waits(self) -> None:
+        # The lock is taken by another thread, which gives it back later: then the call is made, and the interrupt comes.
+        hold = self.shared._check_open()
+        release = threading.Event()
+
+        def keep() -> None:
+            with locked(hold.functions, hold.at):
+                taken.set()
+                release.wait(60)
+
+        taken, thread = threading.Event(), threading.Thread(target=keep)
+        thread.start()
+        taken.wait(60)
+        threading.Timer(0.3, release.set).start()
+        self.awaited = True
+        with self.interrupts(0.1), self.assertRaises(KeyboardInterrupt):
+            self.seat.fork(1)
+        thread.join(60)
+        self.assertEqual((self.seat.ordinal, self.shared.entry(0)), (0, Entry(0, 0, "fork 1", "child 2 root 2")))
+        self.assertEqual(self.seat.fork(1).root, 3)
+
+    def test_calls_of_a_handler(self) -> None:
+        # A handler runs between two steps of the interpreter, and never in a function of the library.
+        made: list[int] = []
+        before = signal.signal(signal.SIGALRM, lambda number, frame: made.append(self.seat.fork(1).root))
+        self.addCleanup(signal.signal, signal.SIGALRM, before)
+        signal.setitimer(signal.ITIMER_REAL, 0.002, 0.002)
+        self.addCleanup(signal.setitimer, signal.ITIMER_REAL, 0)
+        others = [self.seat.fork(1).root for _ in range(20000)]
+        signal.setitimer(signal.ITIMER_REAL, 0)
+        self.assertGreater(len(made), 5)
+        self.assertEqual(sorted([*made, *others]), list(range(2, len(made) + 20002)))
+
+
+if __name__ == "__main__":
+    unittest.main()

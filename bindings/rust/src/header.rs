@@ -1,0 +1,232 @@
+//! That `raw.rs` is `bindings/c/pidtab.h`: its numbers, structs and functions.
+use crate::raw::*;
+use crate::Refusal;
+use std::fs;
+
+/// The header without its comments, each run of white space one space.
+fn header() -> String {
+    let path = concat!(env!("CARGO_MANIFEST_DIR"), "/../c/pidtab.h");
+    let text = fs::read_to_string(path).expect("the header");
+    let mut parts = text.split("/*");
+    let mut bare = parts.next().expect("a first part").to_owned();
+    for part in parts {
+        bare += part.split_once("*/").expect("the end of a comment").1;
+    }
+    bare.split_whitespace().collect::<Vec<_>>().join(" ")
+}
+
+/// What stands between the braces behind the words.
+fn body<'a>(header: &'a str, words: &str) -> &'a str {
+    let (_, behind) = header.split_once(&format!("{words} {{ ")).expect(words);
+    behind.split_once(" }").expect("a closing brace").0
+}
+
+/// The header has an enum with these numbers and no others, in this order.
+fn same_enum(name: &str, numbers: &[(&str, u32)]) {
+    let header = header();
+    let mut next = 0;
+    let mut told = Vec::new();
+    for word in body(&header, &format!("enum {name}")).split(',') {
+        let (word, number) = word.split_once('=').unwrap_or((word, ""));
+        next = number.trim().parse().unwrap_or(next);
+        told.push((word.trim().trim_start_matches("PIDTAB_").to_owned(), next));
+        next += 1;
+    }
+    let wanted: Vec<_> = numbers.iter().map(|it| (it.0.to_owned(), it.1)).collect();
+    assert_eq!(told, wanted, "{name}");
+}
+
+#[test]
+fn the_numbers_are_those_of_the_header() {
+    same_enum(
+        "pidtab_status",
+        &[
+            ("DONE", DONE),
+            ("CLOSED", 9),
+            ("NO_MEMORY", NO_MEMORY),
+            ("BUSY", BUSY),
+            ("OUT_OF_RANGE", OUT_OF_RANGE),
+            ("NO_ROOM", NO_ROOM),
+            ("EMPTY_LINE", EMPTY_LINE),
+            ("BAD_LINE", BAD_LINE),
+            ("SPENT", SPENT),
+        ],
+    );
+    same_enum(
+        "pidtab_record_status",
+        &[
+            ("NOT_KEPT", NOT_KEPT),
+            ("AGAIN", AGAIN),
+            ("DIFFERS", DIFFERS),
+        ],
+    );
+    same_enum(
+        "pidtab_operation",
+        &[
+            ("FORK", FORK),
+            ("GETPID", GETPID),
+            ("NSPID", NSPID),
+            ("EXEC", EXEC),
+            ("EXIT", EXIT),
+            ("WAIT", WAIT),
+            ("GETPPID", GETPPID),
+            ("SETPGID", SETPGID),
+            ("SETSID", SETSID),
+            ("MK", MK),
+            ("RM", RM),
+            ("LIMIT", LIMIT),
+            ("MOVE", MOVE),
+            ("COUNT", COUNT),
+            ("GETPGID", GETPGID),
+            ("GETSID", GETSID),
+            ("NEXT", NEXT),
+            ("JOIN", JOIN),
+            ("SUBREAPER", SUBREAPER),
+        ],
+    );
+}
+
+#[test]
+fn the_choices_and_kinds_are_those_of_the_header() {
+    same_enum(
+        "pidtab_which",
+        &[
+            ("ANY", ANY),
+            ("CHILD", CHILD),
+            ("OWN_GROUP", OWN_GROUP),
+            ("GROUP", GROUP),
+        ],
+    );
+    same_enum(
+        "pidtab_use",
+        &[("TASKS", TASKS), ("GROUPS", GROUPS), ("SESSIONS", SESSIONS)],
+    );
+    same_enum(
+        "pidtab_kind",
+        &[
+            ("FORKED", FORKED),
+            ("OK", OK),
+            ("NUMBER", NUMBER),
+            ("LEVELS", LEVELS),
+            ("REAPED", REAPED),
+            ("NONE_YET", NONE_YET),
+            ("COUNTED", COUNTED),
+            ("CONTROL", CONTROL),
+            ("END", END),
+            ("REFUSED", REFUSED),
+        ],
+    );
+}
+
+/// A refusal's name in the header is its word in capital letters, with `_` for `-`.
+#[test]
+fn the_refusals_are_those_of_the_header() {
+    let refusals = (1..=19).map(|it| (it, Refusal::of(it, 0).name()));
+    let names: Vec<_> = refusals
+        .clone()
+        .map(|(number, word)| (word.to_uppercase().replace('-', "_"), number))
+        .collect();
+    let names: Vec<_> = names.iter().map(|it| (it.0.as_str(), it.1)).collect();
+    same_enum("pidtab_refusal", &names);
+    let header = header();
+    let told = body(&header, "words[] =").split(',').skip(1);
+    let told: Vec<_> = told.map(|it| it.trim().trim_matches('"')).collect();
+    assert_eq!(told, refusals.map(|it| it.1).collect::<Vec<_>>());
+}
+
+#[test]
+fn the_bounds_are_those_of_the_header() {
+    let header = header();
+    for (name, number) in [
+        ("VERSION", u64::from(VERSION)),
+        ("KILLED", KILLED),
+        ("LEVELS_MAX", LEVELS_MAX as u64),
+        ("LONGEST_ANSWER", LONGEST_ANSWER as u64),
+        ("MOST_WORKERS", u64::from(MOST_WORKERS)),
+    ] {
+        assert!(
+            header.contains(&format!("#define PIDTAB_{name} {number} ")),
+            "{name}"
+        );
+    }
+}
+
+/// A struct of the header, by its fields.
+fn same_struct(header: &str, name: &str, fields: &str) {
+    assert_eq!(body(header, &format!("struct {name}")), fields);
+}
+
+#[test]
+fn the_structs_are_those_of_the_header() {
+    let header = header();
+    let held = "void *at; bool is_open; bool in_call;";
+    same_struct(&header, "pidtab", held);
+    same_struct(&header, "pidtab_record", held);
+    same_struct(
+        &header,
+        "pidtab_call",
+        "uint32_t operation; uint32_t caller; uint64_t id; uint32_t number; uint32_t choice; int32_t pid; int32_t pgid;",
+    );
+    same_struct(
+        &header,
+        "pidtab_reply",
+        "uint32_t kind; uint32_t error; uint32_t refusal; uint32_t count; uint64_t first; uint64_t second; uint32_t levels[PIDTAB_LEVELS_MAX];",
+    );
+    let entry = "uint64_t worker; struct pidtab_call call; struct pidtab_reply reply;";
+    same_struct(&header, "pidtab_entry", entry);
+}
+
+/// The header has the function, with these arguments behind its table or record.
+fn same_function(header: &str, name: &str, of: &str, others: &str) {
+    let declared = format!("uint32_t pidtab_{name}(struct {of}{others});");
+    assert!(header.contains(&declared), "{declared}");
+}
+
+#[test]
+fn the_functions_are_those_of_the_header() {
+    let header = header();
+    assert!(header.contains("uint32_t pidtab_version(void);"));
+    for (name, others) in [
+        ("open", ", uint32_t pid_max"),
+        ("close", ""),
+        (
+            "line",
+            ", const void *line, size_t length, void *answer, size_t room, size_t *size",
+        ),
+        ("list", ", void *bytes, size_t room, size_t *size"),
+        (
+            "call",
+            ", const struct pidtab_call *call, struct pidtab_reply *reply",
+        ),
+        (
+            "ask",
+            ", const struct pidtab_call *call, struct pidtab_reply *reply",
+        ),
+    ] {
+        same_function(&header, name, "pidtab *table", others);
+    }
+}
+
+#[test]
+fn the_functions_on_a_record_are_those_of_the_header() {
+    let header = header();
+    for (name, others) in [
+        ("open", ", uint32_t pid_max, uint64_t first_stamp, uint32_t workers"),
+        ("close", ""),
+        ("call", ", uint32_t worker, const struct pidtab_call *call, struct pidtab_reply *reply, uint64_t *ordinal"),
+        ("line", ", uint32_t worker, const void *line, size_t length, void *answer, size_t room, size_t *size, uint64_t *ordinal"),
+        ("ask", ", const struct pidtab_call *call, struct pidtab_reply *reply"),
+        ("counts", ", uint64_t *first_kept, uint64_t *recorded"),
+        ("worker", ", uint32_t worker, uint64_t *calls"),
+        ("entry", ", uint64_t ordinal, uint64_t *worker, struct pidtab_call *call, struct pidtab_reply *reply"),
+        ("read", ", uint64_t from, struct pidtab_entry *entries, size_t room, size_t *count"),
+        ("replay", ", const struct pidtab_entry *saved, size_t count, size_t *place"),
+        ("checkpoint", ""),
+        ("checkpoint_at", ", uint64_t seen"),
+        ("list", ", void *bytes, size_t room, size_t *size"),
+        ("opening", ", void *bytes, size_t room, size_t *size"),
+    ] {
+        let name = format!("record_{name}");
+        same_function(&header, &name, "pidtab_record *record", others);
+    }
+}

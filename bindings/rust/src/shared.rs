@@ -1,0 +1,610 @@
+//! A table that threads share, with its history: a record of the library behind a lock of this crate.
+//!
+//! The lock is std's and not that of `pidtab_shared.h`. A pthread mutex that its own thread takes again has no defined behaviour, and Rust has
+//! no name for its size.
+use crate::calls::sealed::Sealed;
+use crate::{raw, texts, Call, Calls, Error, LineError, Listing, ReplayError, Reply};
+use std::fmt;
+use std::ops::{Deref, DerefMut};
+use std::sync::atomic::{AtomicU32, Ordering};
+use std::sync::{Mutex, MutexGuard, PoisonError};
+
+/// A recorded call with its reply.
+#[derive(Clone, Debug, PartialEq, Eq, Hash)]
+pub struct Entry {
+    /// The call's place among all recorded calls, from 0 on.
+    pub ordinal: u64,
+    /// The number of the worker whose seat made it, from 0 on.
+    pub worker: u32,
+    /// The call.
+    pub call: Call,
+    /// What it was answered.
+    pub reply: Reply,
+}
+
+/// How far a history goes. The ordinals of the kept entries are those from `first_kept` on, below `recorded`.
+#[derive(Clone, Copy, Debug, PartialEq, Eq, Hash)]
+#[non_exhaustive]
+pub struct Counts {
+    /// The ordinal of the first kept entry, or of the next call where none is kept.
+    pub first_kept: u64,
+    /// How many calls were recorded, the cut ones too: the ordinal of the next call.
+    pub recorded: u64,
+}
+
+/// With what a [`Shared`] is opened, as [`Shared::options`] begins it.
+#[derive(Clone, Copy, Debug)]
+pub struct Options {
+    pid_max: u32,
+    workers: u32,
+    first_stamp: u64,
+    keep: u64,
+}
+
+impl Options {
+    /// The stamp of the first call, from 1 on; 1 without this. The id of a new namespace or control group is the stamp of its call.
+    pub fn first_stamp(self, first_stamp: u64) -> Options {
+        Options {
+            first_stamp,
+            ..self
+        }
+    }
+
+    /// How many entries are kept at most: the call that makes them as many cuts the history, as [`Shared::checkpoint`] does, and pays for it. 0,
+    /// as without this, is never. Where there is no memory for the cut, the history grows on, and the next call tries again.
+    pub fn keep(self, keep: u64) -> Options {
+        Options { keep, ..self }
+    }
+
+    /// Opens it, with the root init alone.
+    ///
+    /// # Errors
+    /// `OutOfRange` for a `pid_max` outside 301 to 4194304, for workers outside 1 to 16, and for a first stamp of 0; `NoMemory`.
+    ///
+    /// # Panics
+    /// Where the library that was linked has another interface than this crate is written for.
+    pub fn open(self) -> Result<Shared, Error> {
+        let raw = raw::Record::open(self.pid_max, self.first_stamp, self.workers);
+        let record = Record {
+            raw: raw.map_err(Error::of)?,
+            keep: self.keep,
+        };
+        Ok(Shared {
+            record: Mutex::new(record),
+            workers: self.workers,
+            seated: AtomicU32::new(0),
+        })
+    }
+}
+
+/// A table of processes for many threads at once, with its history. It is closed when it is dropped.
+///
+/// One lock guards it, and each function waits for its turn. So each thread has the answer that one sequential table would give, and the ordinal
+/// of a call is its place in that sequence. A thread makes its calls by a [`Seat`]; all other functions are any thread's:
+///
+/// ```
+/// use pidtab::{Call, Calls, Error, Reply, Shared};
+/// use std::thread;
+///
+/// let shared = Shared::open(32768, 2)?;
+/// thread::scope(|scope| {
+///     for _ in 0..2 {
+///         scope.spawn(|| shared.seat()?.fork(1, false));
+///     }
+/// });
+/// assert_eq!(shared.ask(Call::Count { id: 0 })?, Reply::Counted(3));
+/// let forks = shared.entries(0, 10)?;
+/// assert_eq!(forks[1].call, Call::Fork { caller: 1, new_space: false });
+/// # Ok::<(), Error>(())
+/// ```
+///
+/// The kept history replays, reply for reply, as one thread's, from its opening to the present state, and the calls of all workers add up to
+/// [`Counts::recorded`]. That is proved of the library. The lock is trusted: it is a `Mutex` of std.
+///
+/// The history has 184 bytes a call until it is cut, by [`Options::keep`], [`Shared::checkpoint`] or [`Shared::checkpoint_at`].
+///
+/// A thread that panics harms no other: each function of the record ends first, and the lock is given back.
+pub struct Shared {
+    record: Mutex<Record>,
+    workers: u32,
+    seated: AtomicU32,
+}
+
+impl Shared {
+    /// A table with the root init alone, whose numbers are below `pid_max`, for 1 to 16 workers. Its first call has the stamp 1, and its
+    /// history is never cut unasked; [`Shared::options`] has other ways.
+    ///
+    /// # Errors
+    /// `OutOfRange` for a `pid_max` outside 301 to 4194304, and for workers outside 1 to 16; `NoMemory`.
+    ///
+    /// # Panics
+    /// Where the library that was linked has another interface than this crate is written for.
+    pub fn open(pid_max: u32, workers: u32) -> Result<Shared, Error> {
+        Shared::options(pid_max, workers).open()
+    }
+
+    /// The same, to be opened with another first stamp, or with a history that cuts itself. Nothing is tested until [`Options::open`].
+    pub fn options(pid_max: u32, workers: u32) -> Options {
+        Options {
+            pid_max,
+            workers,
+            first_stamp: 1,
+            keep: 0,
+        }
+    }
+
+    /// A seat for the next worker. Each worker's number is given once, from 0 on; a seat that is dropped is not given again.
+    ///
+    /// # Errors
+    /// `OutOfRange` where all are given.
+    pub fn seat(&self) -> Result<Seat<'_>, Error> {
+        let next = |seated| (seated < self.workers).then_some(seated + 1);
+        let given = self
+            .seated
+            .fetch_update(Ordering::Relaxed, Ordering::Relaxed, next);
+        Ok(Seat {
+            shared: self,
+            worker: given.map_err(|_| Error::OutOfRange)?,
+            ordinal: None,
+        })
+    }
+
+    /// The record, for several functions in one go, such as a list and the counts that it belongs to. All others wait while the guard lives.
+    ///
+    /// This thread calls no function of this `Shared` or of its seats meanwhile: it would wait for itself for ever, or panic. [`Seat::lock`]
+    /// is the guard with which calls are made.
+    pub fn lock(&self) -> Locked<'_> {
+        // A panic cannot leave a record half written: its functions are the library's, and each ends before this crate goes on.
+        let record = self.record.lock().unwrap_or_else(PoisonError::into_inner);
+        Locked { record }
+    }
+
+    /// As [`Record::ask`]: answers a query, which is no call.
+    ///
+    /// # Errors
+    /// `OutOfRange` for a call that is no query, `Busy`.
+    pub fn ask(&self, query: Call) -> Result<Reply, Error> {
+        self.lock().ask(query)
+    }
+
+    /// As [`Record::counts`]: how far the history goes.
+    ///
+    /// # Errors
+    /// `Busy`.
+    pub fn counts(&self) -> Result<Counts, Error> {
+        self.lock().counts()
+    }
+
+    /// As [`Record::worker`]: how many calls of the worker were recorded.
+    ///
+    /// # Errors
+    /// `OutOfRange` where there are not so many workers, `Busy`.
+    pub fn worker(&self, worker: u32) -> Result<u64, Error> {
+        self.lock().worker(worker)
+    }
+
+    /// As [`Record::entry`]: the kept entry with the ordinal.
+    ///
+    /// # Errors
+    /// `NotKept` where it was cut away or is not reached yet, `Busy`.
+    pub fn entry(&self, ordinal: u64) -> Result<Entry, Error> {
+        self.lock().entry(ordinal)
+    }
+
+    /// As [`Record::entries`]: at most so many of the kept entries from the ordinal on.
+    ///
+    /// # Errors
+    /// `NotKept` where `from` is neither a kept entry nor the next call; `NoMemory`, `Busy`.
+    pub fn entries(&self, from: u64, most: usize) -> Result<Vec<Entry>, Error> {
+        self.lock().entries(from, most)
+    }
+
+    /// As [`Record::checkpoint`]: cuts the history.
+    ///
+    /// # Errors
+    /// `NoMemory`, `Busy`.
+    pub fn checkpoint(&self) -> Result<(), Error> {
+        self.lock().checkpoint()
+    }
+
+    /// As [`Record::checkpoint_at`]: cuts the history where exactly so many calls were recorded.
+    ///
+    /// # Errors
+    /// `Again` where it is another number; `NoMemory`, `Busy`.
+    pub fn checkpoint_at(&self, seen: u64) -> Result<(), Error> {
+        self.lock().checkpoint_at(seen)
+    }
+
+    /// As [`Record::list`]: the list of the present state.
+    ///
+    /// # Errors
+    /// `NoMemory`, `Busy`.
+    pub fn list(&self) -> Result<String, Error> {
+        self.lock().list()
+    }
+
+    /// As [`Record::listing`]: the same list, read.
+    ///
+    /// # Errors
+    /// `NoMemory`, `Busy`.
+    pub fn listing(&self) -> Result<Listing, Error> {
+        Ok(Listing::of(&self.list()?))
+    }
+
+    /// As [`Record::opening`]: the list of the state that the kept history begins in.
+    ///
+    /// # Errors
+    /// `NoMemory`, `Busy`.
+    pub fn opening(&self) -> Result<String, Error> {
+        self.lock().opening()
+    }
+
+    /// As [`Record::replay`]: makes the calls of saved entries, and compares their replies.
+    ///
+    /// # Errors
+    /// Where it stops: `Differs`, `OutOfRange`, `NoMemory`, `Spent`, `Busy`.
+    pub fn replay(&self, saved: &[Entry]) -> Result<(), ReplayError> {
+        self.lock().replay(saved)
+    }
+}
+
+impl fmt::Debug for Shared {
+    fn fmt(&self, to: &mut fmt::Formatter<'_>) -> fmt::Result {
+        to.debug_struct("Shared").finish_non_exhaustive()
+    }
+}
+
+/// A table with its history, while its lock is held: what a [`Locked`] and a [`Turn`] lend.
+pub struct Record {
+    raw: raw::Record,
+    keep: u64,
+}
+
+/// How many entries go to the library, or come from it, at a time.
+const BATCH: usize = 64;
+
+impl Record {
+    /// Answers a query as its call would be answered, refusals too. It is no call: nothing changes, and it is not recorded. It takes no memory.
+    ///
+    /// A query is a `Getpid`, `Getppid`, `Getpgid`, `Getsid`, `Nspid`, `Next` or `Count`.
+    ///
+    /// # Errors
+    /// `OutOfRange` for each other call, `Busy`.
+    pub fn ask(&mut self, query: Call) -> Result<Reply, Error> {
+        let mut reply = raw::Reply::BLANK;
+        Error::unless_done(self.raw.ask(&query.numbers(), &mut reply))?;
+        Ok(Reply::of(&reply))
+    }
+
+    /// The ordinal of the first kept entry, and how many calls were recorded, the cut ones too.
+    ///
+    /// # Errors
+    /// `Busy`.
+    pub fn counts(&mut self) -> Result<Counts, Error> {
+        let (first_kept, recorded) = self.raw.counts().map_err(Error::of)?;
+        Ok(Counts {
+            first_kept,
+            recorded,
+        })
+    }
+
+    /// How many calls of the worker were recorded, the cut ones too.
+    ///
+    /// # Errors
+    /// `OutOfRange` where there are not so many workers: they are numbered from 0 on. `Busy`.
+    pub fn worker(&mut self, worker: u32) -> Result<u64, Error> {
+        self.raw.worker(worker).map_err(Error::of)
+    }
+
+    /// The kept entry with the ordinal.
+    ///
+    /// # Errors
+    /// `NotKept` where it was cut away or is not reached yet, `Busy`.
+    pub fn entry(&mut self, ordinal: u64) -> Result<Entry, Error> {
+        let entry = self.raw.entry(ordinal).map_err(Error::of)?;
+        Ok(Entry::of(ordinal, &entry))
+    }
+
+    /// The kept entries from the ordinal on: as many as there are, and at most `most`. None where `from` is the ordinal of the next call.
+    ///
+    /// It costs a copy of each, and all others wait meanwhile. Whoever ships a long history takes some thousands at a time.
+    ///
+    /// # Errors
+    /// `NotKept` where `from` is neither a kept entry nor the next call; `NoMemory`, `Busy`.
+    pub fn entries(&mut self, from: u64, most: usize) -> Result<Vec<Entry>, Error> {
+        let counts = self.counts()?;
+        let there = counts.recorded.saturating_sub(from.max(counts.first_kept));
+        let there = usize::try_from(there).unwrap_or(usize::MAX);
+        let mut entries = Vec::new();
+        entries
+            .try_reserve_exact(there.min(most))
+            .map_err(|_| Error::NoMemory)?;
+        let mut room = [raw::Entry::blank(); BATCH];
+        loop {
+            let wanted = BATCH.min(most - entries.len());
+            let next = from + entries.len() as u64;
+            let read = self.raw.read(next, &mut room[..wanted]);
+            let read = read.map_err(Error::of)?;
+            entries.extend((next..).zip(&room[..read]).map(|it| Entry::of(it.0, it.1)));
+            if read < BATCH {
+                return Ok(entries);
+            }
+        }
+    }
+
+    /// Cuts the history: the present state is the opening from now on, and ordinals go on. It costs a copy of the whole table.
+    ///
+    /// # Errors
+    /// `NoMemory`, and nothing has changed; `Busy`.
+    pub fn checkpoint(&mut self) -> Result<(), Error> {
+        Error::unless_done(self.raw.checkpoint())
+    }
+
+    /// The same where exactly `seen` calls were recorded, so that no call is cut that nobody has read.
+    ///
+    /// # Errors
+    /// `Again` where it is another number; `NoMemory`, `Busy`. Nothing has changed then.
+    pub fn checkpoint_at(&mut self, seen: u64) -> Result<(), Error> {
+        Error::unless_done(self.raw.checkpoint_at(seen))
+    }
+
+    /// The list of the present state, as `pidtab list` writes it. It costs a copy of the whole table, and two where it is longer than 4,096
+    /// bytes.
+    ///
+    /// # Errors
+    /// `NoMemory`, `Busy`.
+    pub fn list(&mut self) -> Result<String, Error> {
+        texts::list(|room, size| self.raw.list(room, size))
+    }
+
+    /// The same list, read: the tasks, the namespaces and the control groups.
+    ///
+    /// # Errors
+    /// `NoMemory`, `Busy`.
+    pub fn listing(&mut self) -> Result<Listing, Error> {
+        Ok(Listing::of(&self.list()?))
+    }
+
+    /// The list of the state that the kept history begins in: that of the first opening, or of the last cut. It costs as much.
+    ///
+    /// # Errors
+    /// `NoMemory`, `Busy`.
+    pub fn opening(&mut self) -> Result<String, Error> {
+        texts::list(|room, size| self.raw.opening(room, size))
+    }
+
+    /// Makes the calls of saved entries, in their order, each for the worker that it names, and compares their replies. Their ordinals are not
+    /// looked at. With the same opening and the same settings, the record is then the saved one.
+    ///
+    /// It costs what the calls cost. A history that cuts itself does so each 64 entries, and at the end.
+    ///
+    /// # Errors
+    /// It stops at the first entry that has another reply, `Differs`, or cannot be made: `OutOfRange` for a worker that is not there;
+    /// `NoMemory`, `Spent`, `Busy`. What was made before stays made.
+    pub fn replay(&mut self, saved: &[Entry]) -> Result<(), ReplayError> {
+        for (batch, entries) in saved.chunks(BATCH).enumerate() {
+            let mut room = [raw::Entry::blank(); BATCH];
+            for (numbers, entry) in room.iter_mut().zip(entries) {
+                *numbers = entry.numbers();
+            }
+            let mut place = 0;
+            let status = self.raw.replay(&room[..entries.len()], &mut place);
+            self.cut_where_long();
+            Error::unless_done(status).map_err(|error| ReplayError {
+                place: batch * BATCH + place,
+                error,
+            })?;
+        }
+        Ok(())
+    }
+
+    /// Makes a call of the worker: its reply and its ordinal.
+    fn call(&mut self, worker: u32, call: Call) -> Result<(Reply, u64), Error> {
+        let mut reply = raw::Reply::BLANK;
+        let made = self.raw.call(worker, &call.numbers(), &mut reply);
+        let ordinal = made.map_err(Error::of)?;
+        self.cut_where_long();
+        Ok((Reply::of(&reply), ordinal))
+    }
+
+    /// Makes the call on a line for the worker: its answer and its ordinal.
+    fn line(&mut self, worker: u32, line: &[u8]) -> Result<(String, u64), LineError> {
+        let mut ordinal = 0;
+        let answer =
+            texts::answer(|room, size| self.raw.line(worker, line, room, size, &mut ordinal))?;
+        self.cut_where_long();
+        Ok((answer, ordinal))
+    }
+
+    /// Cuts a history that is to cut itself, where it is long enough. A cut that finds no memory is tried again behind the next call.
+    fn cut_where_long(&mut self) {
+        let keep = self.keep;
+        if keep == 0 {
+            return;
+        }
+        let is_long = |it: Counts| it.recorded - it.first_kept >= keep;
+        if self.counts().is_ok_and(is_long) {
+            let _ = self.checkpoint();
+        }
+    }
+}
+
+impl fmt::Debug for Record {
+    fn fmt(&self, to: &mut fmt::Formatter<'_>) -> fmt::Result {
+        to.debug_struct("Record").finish_non_exhaustive()
+    }
+}
+
+/// The lock of a [`Shared`], by [`Shared::lock`]: a [`Record`] that is this thread's until this is dropped.
+///
+/// It stays in its thread:
+///
+/// ```compile_fail,E0277
+/// fn sent<T: Send>() {}
+/// sent::<pidtab::Locked<'static>>();
+/// ```
+#[derive(Debug)]
+pub struct Locked<'a> {
+    record: MutexGuard<'a, Record>,
+}
+
+impl Deref for Locked<'_> {
+    type Target = Record;
+
+    fn deref(&self) -> &Record {
+        &self.record
+    }
+}
+
+impl DerefMut for Locked<'_> {
+    fn deref_mut(&mut self) -> &mut Record {
+        &mut self.record
+    }
+}
+
+/// A worker's place at a [`Shared`], by which it makes calls, those of [`Calls`]. Each is recorded, the refused ones too, with its ordinal.
+///
+/// A seat is one worker's, so it cannot be cloned, and it cannot outlive its table:
+///
+/// ```compile_fail,E0599
+/// let shared = pidtab::Shared::open(32768, 1).unwrap();
+/// let other = shared.seat().unwrap().clone();
+/// ```
+///
+/// ```compile_fail,E0505
+/// use pidtab::Calls;
+/// let shared = pidtab::Shared::open(32768, 1).unwrap();
+/// let mut seat = shared.seat().unwrap();
+/// drop(shared);
+/// let _ = seat.getpid(1);
+/// ```
+pub struct Seat<'a> {
+    shared: &'a Shared,
+    worker: u32,
+    ordinal: Option<u64>,
+}
+
+impl Seat<'_> {
+    /// The worker's number, from 0 on.
+    pub fn worker(&self) -> u32 {
+        self.worker
+    }
+
+    /// The ordinal of the seat's last recorded call, which may be a refused one; none before the first. A call that was not made, as for want of
+    /// memory, leaves it.
+    pub fn ordinal(&self) -> Option<u64> {
+        self.ordinal
+    }
+
+    /// As [`Table::line`](crate::Table::line): makes the call on a line of the script language, without its newline.
+    ///
+    /// # Errors
+    /// `Empty`, `Bad`; `NoMemory` for any call, `Spent`, `Busy`.
+    pub fn line(&mut self, line: impl AsRef<[u8]>) -> Result<String, LineError> {
+        self.lock().line(line)
+    }
+
+    /// The lock, for several calls in one go: none of another worker comes between them. All others wait while the guard lives.
+    ///
+    /// This thread calls no function of the `Shared` or of another seat meanwhile: it would wait for itself for ever, or panic. The guard has
+    /// the functions of the record.
+    pub fn lock(&mut self) -> Turn<'_> {
+        Turn {
+            locked: self.shared.lock(),
+            worker: self.worker,
+            ordinal: &mut self.ordinal,
+        }
+    }
+}
+
+impl Sealed for Seat<'_> {}
+
+impl Calls for Seat<'_> {
+    fn call(&mut self, call: Call) -> Result<Reply, Error> {
+        self.lock().call(call)
+    }
+}
+
+impl fmt::Debug for Seat<'_> {
+    fn fmt(&self, to: &mut fmt::Formatter<'_>) -> fmt::Result {
+        to.debug_struct("Seat")
+            .field("worker", &self.worker)
+            .field("ordinal", &self.ordinal)
+            .finish_non_exhaustive()
+    }
+}
+
+/// The lock of a [`Shared`], by [`Seat::lock`]: a worker's calls and the functions of a [`Record`], until this is dropped.
+#[derive(Debug)]
+pub struct Turn<'a> {
+    locked: Locked<'a>,
+    worker: u32,
+    ordinal: &'a mut Option<u64>,
+}
+
+impl Turn<'_> {
+    /// As [`Seat::ordinal`].
+    pub fn ordinal(&self) -> Option<u64> {
+        *self.ordinal
+    }
+
+    /// As [`Seat::line`].
+    ///
+    /// # Errors
+    /// `Empty`, `Bad`; `NoMemory` for any call, `Spent`, `Busy`.
+    pub fn line(&mut self, line: impl AsRef<[u8]>) -> Result<String, LineError> {
+        let (answer, ordinal) = self.locked.line(self.worker, line.as_ref())?;
+        *self.ordinal = Some(ordinal);
+        Ok(answer)
+    }
+}
+
+impl Sealed for Turn<'_> {}
+
+impl Calls for Turn<'_> {
+    fn call(&mut self, call: Call) -> Result<Reply, Error> {
+        let (reply, ordinal) = self.locked.call(self.worker, call)?;
+        *self.ordinal = Some(ordinal);
+        Ok(reply)
+    }
+}
+
+impl Deref for Turn<'_> {
+    type Target = Record;
+
+    fn deref(&self) -> &Record {
+        &self.locked
+    }
+}
+
+impl DerefMut for Turn<'_> {
+    fn deref_mut(&mut self) -> &mut Record {
+        &mut self.locked
+    }
+}
+
+#[cfg(test)]
+mod tests {
+    use super::*;
+
+    /// As in a forked child, where the thread whose call was under way is not.
+    #[test]
+    fn a_call_that_does_not_end() {
+        let shared = Shared::options(32768, 1).keep(1).open().expect("a table");
+        let mut seat = shared.seat().expect("a seat");
+        shared.lock().raw.mark(true);
+        assert_eq!(seat.getpid(1), Err(Error::Busy));
+        assert_eq!(seat.line("getpid 1"), Err(LineError::Busy));
+        assert_eq!(shared.ask(Call::Getpid { caller: 1 }), Err(Error::Busy));
+        assert_eq!(shared.counts(), Err(Error::Busy));
+        assert_eq!(shared.worker(0), Err(Error::Busy));
+        assert_eq!(shared.entry(0), Err(Error::Busy));
+        assert_eq!(shared.entries(0, 1), Err(Error::Busy));
+        assert_eq!(shared.checkpoint(), Err(Error::Busy));
+        assert_eq!(shared.checkpoint_at(0), Err(Error::Busy));
+        assert_eq!(shared.list(), Err(Error::Busy));
+        assert_eq!(shared.opening(), Err(Error::Busy));
+        shared.lock().raw.mark(false);
+        assert_eq!((seat.ordinal(), seat.getpid(1)), (None, Ok(1)));
+    }
+}

@@ -1,0 +1,32 @@
+//! The texts that the library writes, with the room that it needs.
+use crate::{raw, Error, LineError};
+
+/// The room for a first try of a list, in bytes.
+const SHORT_LIST: usize = 4096;
+
+/// The answer that the library writes to a line: it has room for each, and is given the place for the answer's size.
+pub(crate) fn answer(
+    write: impl FnOnce(&mut [u8], &mut usize) -> u32,
+) -> Result<String, LineError> {
+    let (mut answer, mut size) = ([0u8; raw::LONGEST_ANSWER], 0);
+    let status = write(&mut answer, &mut size);
+    raw::done(status, ()).map_err(LineError::of)?;
+    Ok(String::from_utf8_lossy(&answer[..size]).into_owned())
+}
+
+/// The list that the library writes: where the room was too short, it is asked again with as much as it said.
+pub(crate) fn list(mut write: impl FnMut(&mut [u8], &mut usize) -> u32) -> Result<String, Error> {
+    let (mut text, mut size) = (Vec::<u8>::new(), SHORT_LIST);
+    loop {
+        text.try_reserve_exact(size).map_err(|_| Error::NoMemory)?;
+        text.resize(size, 0);
+        match write(&mut text, &mut size) {
+            raw::DONE => {
+                text.truncate(size);
+                return Ok(String::from_utf8_lossy(&text).into_owned());
+            }
+            raw::NO_ROOM => text.clear(),
+            status => return Err(Error::of(status)),
+        }
+    }
+}
