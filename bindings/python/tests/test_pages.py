@@ -183,16 +183,16 @@ class LibraryManuals(unittest.TestCase):
     """The manual pages of the library's functions, by the headers."""
 
     def test_the_structs(self) -> None:
-        call, reply, *_ = displays((MANUAL / "pidtab.3").read_text())
+        call, reply, task, *_ = displays((MANUAL / "pidtab.3").read_text())
         entry, *_ = displays((MANUAL / "pidtab_record.3").read_text())
         settings, *_ = displays((MANUAL / "pidtab_saved.3").read_text())
         headers = re.sub(r" */\*.*?\*/", "", read_page("bindings/c/pidtab.h") + read_page("bindings/c/pidtab_saved.h"), flags=re.DOTALL)
-        for struct in (call, reply, entry, settings):
+        for struct in (call, reply, task, entry, settings):
             self.assertIn(struct, headers)
 
     def test_each_call_as_a_function(self) -> None:
         # The compiler sees whether they are those of the header.
-        _, _, functions, *_ = displays((MANUAL / "pidtab.3").read_text())
+        _, _, _, functions, *_ = displays((MANUAL / "pidtab.3").read_text())
         names = re.findall(r"pidtab_\w+(?=\()", functions)
         header = read_page("bindings/c/pidtab.h")
         self.assertEqual(names, [it for it in re.findall(r"^static inline int64_t (pidtab_\w+)", header, re.MULTILINE) if it in names])
