@@ -243,12 +243,12 @@ describe("the page", { skip: missing() }, () => {
     await browser.value(`document.activeElement.blur(), scrollTo(0, 0)`);
     await focus("example");
     const reached = [];
-    for (let at = 0; at < 8; at++) {
+    for (let at = 0; at < 9; at++) {
       reached.push(await browser.value(`document.activeElement.id || document.activeElement.localName`));
       await browser.press("Tab");
     }
     const first = reached.filter((id) => id !== "editor");
-    assert.deepEqual(first.slice(0, 6), ["example", "pid-max", "script", "summary", "back", "place"]);
+    assert.deepEqual(first.slice(0, 7), ["example", "pid-max", "link", "script", "summary", "back", "place"]);
   });
 
   test("nothing was loaded but the page, and nothing went wrong", () => {
