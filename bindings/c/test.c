@@ -1,5 +1,6 @@
 /* Tests of the library from C: each function once, want of memory at each allocation in turn, and threads under a lock. */
 #include "test.h"
+#include "test_heap.h"
 
 #include <errno.h>
 #include <pthread.h>
@@ -16,24 +17,6 @@ _Static_assert(offsetof(struct pidtab_task, space) == 40 && offsetof(struct pidt
 _Static_assert(PIDTAB_CLOSED == EBADF && PIDTAB_NO_MEMORY == ENOMEM && PIDTAB_BUSY == EBUSY && PIDTAB_OUT_OF_RANGE == EINVAL, "status");
 _Static_assert(PIDTAB_NO_ROOM == ERANGE && PIDTAB_EMPTY_LINE == ENODATA && PIDTAB_BAD_LINE == EPROTO && PIDTAB_SPENT == EOVERFLOW, "status");
 _Static_assert(PIDTAB_SUBREAPER == 18 && PIDTAB_REFUSED == 9, "operations and kinds");
-
-/* The heap that heap.c is built with here: it refuses the allocation that the counter falls on. 0: none. */
-static int refuse_at;
-
-static bool refused(void)
-{
-	return refuse_at > 0 && --refuse_at == 0;
-}
-
-void *test_malloc(size_t size)
-{
-	return refused() ? NULL : malloc(size);
-}
-
-void *test_realloc(void *at, size_t size)
-{
-	return refused() ? NULL : realloc(at, size);
-}
 
 /* The list, to be freed. */
 static char *listed(struct pidtab *table)

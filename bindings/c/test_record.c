@@ -1,29 +1,12 @@
 /* Tests of a record from C: each status of each function, and want of memory at each allocation in turn. */
 #include "test.h"
+#include "test_heap.h"
 
 #include <errno.h>
 
 _Static_assert(PIDTAB_NOT_KEPT == ENOENT && PIDTAB_AGAIN == EAGAIN && PIDTAB_DIFFERS == EBADMSG, "status");
 _Static_assert(sizeof(struct pidtab_record) == 16 && offsetof(struct pidtab_record, is_open) == 8, "pidtab_record");
 _Static_assert(offsetof(struct pidtab_record, in_call) == 9, "pidtab_record");
-
-/* The heap that heap.c is built with here: it refuses the allocation that the counter falls on. 0: none. */
-static int refuse_at;
-
-static bool refused(void)
-{
-	return refuse_at > 0 && --refuse_at == 0;
-}
-
-void *test_malloc(size_t size)
-{
-	return refused() ? NULL : malloc(size);
-}
-
-void *test_realloc(void *at, size_t size)
-{
-	return refused() ? NULL : realloc(at, size);
-}
 
 static const struct pidtab_call getpid_1 = { .operation = PIDTAB_GETPID, .caller = 1 };
 static const struct pidtab_call fork_1 = { .operation = PIDTAB_FORK, .caller = 1 };

@@ -1,29 +1,12 @@
 /* Tests of a saved history in a file: cut and changed at every byte, with entries out of order, and on devices that fail. */
 #include "test_saved.h"
+#include "test_heap.h"
 
 #include <errno.h>
 #include <fcntl.h>
 #include <signal.h>
 #include <sys/wait.h>
 #include <unistd.h>
-
-/* The heap that heap.c is built with here: it refuses the allocation that the counter falls on. 0: none. */
-static int refuse_at;
-
-static bool refused(void)
-{
-	return refuse_at > 0 && --refuse_at == 0;
-}
-
-void *test_malloc(size_t size)
-{
-	return refused() ? NULL : malloc(size);
-}
-
-void *test_realloc(void *at, size_t size)
-{
-	return refused() ? NULL : realloc(at, size);
-}
 
 /* The device that saved_file.c is built with here. It moves at most so many bytes at once, is interrupted every other time, and
  * after so many bytes fails with the errno; one of 0 is a write that takes nothing. */

@@ -1,0 +1,21 @@
+/* A heap that refuses. heap.c is built with it, for the one file of a test that takes this in. */
+#include <stdbool.h>
+#include <stdlib.h>
+
+/* The heap that heap.c is built with here: it refuses the allocation that the counter falls on. 0: none. */
+static int refuse_at;
+
+static bool refused(void)
+{
+	return refuse_at > 0 && --refuse_at == 0;
+}
+
+void *test_malloc(size_t size)
+{
+	return refused() ? NULL : malloc(size);
+}
+
+void *test_realloc(void *at, size_t size)
+{
+	return refused() ? NULL : realloc(at, size);
+}
