@@ -226,15 +226,15 @@ fn fork_inside(
     ensures parents { HasParents store.new }
 {
     laws(store);
-    let planned = store.numbers().plan_new(own);
-    match &planned {
-        Err(fault) => match *fault {
+    let mut numbers = ArrayVec::new();
+    match store.numbers().plan_new_into(own, &mut numbers) {
+        Err(fault) => match fault {
             PlanFault::TooDeep => unreachable!(),
             PlanFault::NoNumber(full) => {
                 Ok(ShortReply::Refused(Refusal::NoNumber(id_of(store, full))))
             }
         },
-        Ok(numbers) => fork_new_planned(store, found, own, stamp, numbers),
+        Ok(()) => fork_new_planned(store, found, own, stamp, &numbers),
     }
 }
 
@@ -299,6 +299,16 @@ fn standing(store: &Tasks, found: &Found, space: Option<SpaceKey>) -> Result<Spa
     Ok(key)
 }
 
+/// The namespace with the id, looked for at the caller's own first: the children of most tasks go there.
+fn find_space(store: &Tasks, id: u64, own: SpaceKey) -> Option<SpaceKey>
+    ensures { IsKeyOf store.now.numbering id result }
+{
+    if store.numbers().id(own) == Some(id) {
+        return Some(own);
+    }
+    store.numbers().find_space(id)
+}
+
 /// The namespace for the caller's children, or why it can have none there or in a new one below it.
 fn namespace_for(
     store: &Tasks,
@@ -311,7 +321,7 @@ fn namespace_for(
     ensures ok { IfOk result (λ space. (space_refusal (state_of store.now) (row_of store.now found.now.key found.now.task) new_space ≡ None) × (id_at store.now.numbering space ≡ Some found.now.task.children_space)) }
     ensures err { IfErr result (λ r. space_refusal (state_of store.now) (row_of store.now found.now.key found.now.task) new_space ≡ Some r) }
 {
-    let space = store.numbers().find_space(found.task.children_space);
+    let space = find_space(store, found.task.children_space, own);
     if !new_space {
         return standing(store, found, space);
     }

@@ -27,7 +27,7 @@ off_right true = refl
 off_right false = refl
 
 -- a dead one has fallen
-dead_fell : (spaces : Slab Space) (s : ℕ) → dead_on spaces s ≡ true → fell spaces s ≡ true
+pub dead_fell : (spaces : Slab Space) (s : ℕ) → dead_on spaces s ≡ true → fell spaces s ≡ true
 dead_fell spaces s e = go (get spaces s) e
   where
     go : (o : Option Space) → option_map_or (λ t. t.fallen && (length (indexes t.ids.places) == 0)) o false ≡ true → option_map_or (λ t. t.fallen) (option_map namespace_of o) false ≡ true
@@ -62,11 +62,11 @@ not_dead spaces s f e = go (get spaces s) f e
         let x = some_at (entry_at z.ids.places r.0) (sym (contains_indexes z.ids.places r.0) ∙ r.1) in
         (r.0, x.0, x.1)
 
-module _ (pid_max : ℕ) (spaces spaces1 spaces2 : Slab Space) (names names' : ℕ → Option Identifier)
+module _ (pid_max : ℕ) (spaces spaces1 : Slab Space) (names names' : ℕ → Option Identifier)
     (old : IsWhole pid_max (way spaces) (entry_on spaces) (bound_on spaces) names (fell spaces)) (b : IsNumbering pid_max (way spaces1) (entry_on spaces1) (bound_on spaces1) names')
     (space : ℕ) (same_ways : (s : ℕ) → way spaces1 s ≡ way spaces s) (same : namespaces_of spaces1 ≡ namespaces_of spaces)
     (kept : (s n : ℕ) → contains (way spaces space) s ≡ false → entry_on spaces1 s n ≡ entry_on spaces s n)
-    (list : List ℕ) (list_is : list ≡ if fell spaces space then way spaces space else []) (left : (s : ℕ) → get spaces2 s ≡ left_on list spaces1 s) where
+    (list : List ℕ) (list_is : list ≡ if fell spaces space then way spaces space else []) where
   same_fell : (s : ℕ) → fell spaces1 s ≡ fell spaces s
   same_fell s = fell-same spaces1 spaces same s
 
@@ -114,65 +114,82 @@ module _ (pid_max : ℕ) (spaces spaces1 spaces2 : Slab Space) (names names' : �
     | inr out ↦ out
   ]
 
-  way_left : (s : ℕ) → way spaces2 s ≡ if goes list spaces1 s then [] else way spaces1 s
-  way_left s = ap (λ o. option_map_or (λ t. t.path.items) o []) (left s) ∙ sweeps.through (λ (o : Option Space). option_map_or (λ t. t.path.items) o []) (goes list spaces1 s) None (get spaces1 s)
+  on_way : (s : ℕ) → contains list s ≡ true → contains (way spaces1 space) s ≡ true
+  on_way s e = elim (sweeps.cases (fell spaces space)) [
+    | inl on ↦ ap (λ p. contains p s) (same_ways space) ∙ ap (λ l. contains l s) (sym (list_is ∙ ap (λ g. if g then way spaces space else []) on)) ∙ e
+    | inr stands ↦ absurd (let bad : false ≡ true = ap (λ l. contains l s) (sym (list_is ∙ ap (λ g. if g then way spaces space else []) stands)) ∙ e in cc)
+  ]
 
-  entry_left : (s n : ℕ) → entry_on spaces2 s n ≡ if goes list spaces1 s then None else entry_on spaces1 s n
-  entry_left s n = ap (option_and_then (λ t. entry_at t.ids.places n)) (left s) ∙ sweeps.through (λ (o : Option Space). option_and_then (λ t. entry_at t.ids.places n) o) (goes list spaces1 s) None (get spaces1 s)
+  -- where the innermost of the path stays, all of it stay
+  pub quiet : dead_on spaces1 space ≡ false → (s : ℕ) → goes list spaces1 s ≡ false
+  quiet lives s = elim (sweeps.cases (goes list spaces1 s)) [
+    | inr out ↦ out
+    | inl on ↦
+        let p = sweeps.place_of (way spaces1 space) s (on_way s (both (contains list s) (dead_on spaces1 s) on).0) in
+        let too = inside space p.0 p.1 (ap (goes list spaces1) p.2 ∙ on) in
+        absurd (let bad : true ≡ false = sym (both (contains list space) (dead_on spaces1 space) too).1 ∙ lives in cc)
+  ]
 
-  bound_left : (s : ℕ) → bound_on spaces2 s ≡ if goes list spaces1 s then None else bound_on spaces1 s
-  bound_left s = ap (option_map (λ t. t.ids.pid_max)) (left s) ∙ sweeps.through (λ (o : Option Space). option_map (λ t. t.ids.pid_max) o) (goes list spaces1 s) None (get spaces1 s)
+  module _ (spaces2 : Slab Space) (left : (s : ℕ) → get spaces2 s ≡ left_on list spaces1 s) where
+    way_left : (s : ℕ) → way spaces2 s ≡ if goes list spaces1 s then [] else way spaces1 s
+    way_left s = ap (λ o. option_map_or (λ t. t.path.items) o []) (left s) ∙ sweeps.through (λ (o : Option Space). option_map_or (λ t. t.path.items) o []) (goes list spaces1 s) None (get spaces1 s)
 
-  fell_left : (s : ℕ) → fell spaces2 s ≡ if goes list spaces1 s then false else fell spaces1 s
-  fell_left s = ap (λ o. option_map_or (λ t. t.fallen) (option_map namespace_of o) false) (left s) ∙ sweeps.through (λ (o : Option Space). option_map_or (λ t. t.fallen) (option_map namespace_of o) false) (goes list spaces1 s) None (get spaces1 s)
+    entry_left : (s n : ℕ) → entry_on spaces2 s n ≡ if goes list spaces1 s then None else entry_on spaces1 s n
+    entry_left s n = ap (option_and_then (λ t. entry_at t.ids.places n)) (left s) ∙ sweeps.through (λ (o : Option Space). option_and_then (λ t. entry_at t.ids.places n) o) (goes list spaces1 s) None (get spaces1 s)
 
-  -- all that is known holds of what is left
-  pub whole-swept : IsWhole pid_max (way spaces2) (entry_on spaces2) (bound_on spaces2) names' (fell spaces2)
-  whole-swept = record {
-    numbering = sweeps.numbering-swept pid_max (way spaces1) (entry_on spaces1) (bound_on spaces1) names' b (goes list spaces1) empty inside root (way spaces2) (entry_on spaces2) (bound_on spaces2) way_left entry_left bound_left;
-    fallen = sweeps.fallen-swept pid_max (way spaces1) (entry_on spaces1) (bound_on spaces1) names' b (goes list spaces1) empty inside root (way spaces2) (entry_on spaces2) (bound_on spaces2) way_left entry_left bound_left
-        (fell spaces1) (fell spaces2) (same_fell 0 ∙ old.fallen.stands) inner fell_left rest;
-  }
+    bound_left : (s : ℕ) → bound_on spaces2 s ≡ if goes list spaces1 s then None else bound_on spaces1 s
+    bound_left s = ap (option_map (λ t. t.ids.pid_max)) (left s) ∙ sweeps.through (λ (o : Option Space). option_map (λ t. t.ids.pid_max) o) (goes list spaces1 s) None (get spaces1 s)
 
-  -- where the look-ups are those of the identifiers, the dead ones are the model's
-  module _ (idents : Slab Ident) (order : List (ℕ × ℕ)) (b' : IsNumbering pid_max (way spaces1) (entry_on spaces1) (bound_on spaces1) (name_at idents)) where
-    abbrev mid : Numbering
-    mid = numbering_of pid_max spaces1 idents order
+    fell_left : (s : ℕ) → fell spaces2 s ≡ if goes list spaces1 s then false else fell spaces1 s
+    fell_left s = ap (λ o. option_map_or (λ t. t.fallen) (option_map namespace_of o) false) (left s) ∙ sweeps.through (λ (o : Option Space). option_map_or (λ t. t.fallen) (option_map namespace_of o) false) (goes list spaces1 s) None (get spaces1 s)
 
-    goes_dead : (s : ℕ) (z : Space) → get spaces1 s ≡ Some z → goes list spaces1 s ≡ is_dead mid s (namespace_of z)
-    goes_dead s z at = same_dead ∙ dead
-      where
-        dead : dead_on spaces1 s ≡ is_dead mid s (namespace_of z)
-        dead =
-            ap (λ o. option_map_or (λ t. t.fallen && (length (indexes t.ids.places) == 0)) o false) at
-            ∙ ap (λ g. z.fallen && g) (sweeps.empty_same (indexes z.ids.places) (taken_in mid s) (taken_same pid_max spaces1 idents order b' s z at))
+    -- all that is known holds of what is left
+    pub whole-swept : IsWhole pid_max (way spaces2) (entry_on spaces2) (bound_on spaces2) names' (fell spaces2)
+    whole-swept = record {
+      numbering = sweeps.numbering-swept pid_max (way spaces1) (entry_on spaces1) (bound_on spaces1) names' b (goes list spaces1) empty inside root (way spaces2) (entry_on spaces2) (bound_on spaces2) way_left entry_left bound_left;
+      fallen = sweeps.fallen-swept pid_max (way spaces1) (entry_on spaces1) (bound_on spaces1) names' b (goes list spaces1) empty inside root (way spaces2) (entry_on spaces2) (bound_on spaces2) way_left entry_left bound_left
+          (fell spaces1) (fell spaces2) (same_fell 0 ∙ old.fallen.stands) inner fell_left rest;
+    }
 
-        same_dead : goes list spaces1 s ≡ dead_on spaces1 s
-        same_dead = elim (sweeps.cases (dead_on spaces1 s)) [
-          | inr lives ↦ ap (λ g. contains list s && g) lives ∙ off_right (contains list s) ∙ sym lives
-          | inl gone ↦ elim (sweeps.cases (goes list spaces1 s)) [
-            | inl on ↦ on ∙ sym gone
-            | inr out ↦
-                let r = rest s (dead_fell spaces1 s gone) out in
-                absurd (let bad : None ≡ Some r.1 = sym (ap (option_map (λ e. e.value)) (dead_empty spaces1 s r.0 gone)) ∙ r.2 in cc)
+    -- where the look-ups are those of the identifiers, the dead ones are the model's
+    module _ (idents : Slab Ident) (order : List (ℕ × ℕ)) (b' : IsNumbering pid_max (way spaces1) (entry_on spaces1) (bound_on spaces1) (name_at idents)) where
+      abbrev mid : Numbering
+      mid = numbering_of pid_max spaces1 idents order
+
+      goes_dead : (s : ℕ) (z : Space) → get spaces1 s ≡ Some z → goes list spaces1 s ≡ is_dead mid s (namespace_of z)
+      goes_dead s z at = same_dead ∙ dead
+        where
+          dead : dead_on spaces1 s ≡ is_dead mid s (namespace_of z)
+          dead =
+              ap (λ o. option_map_or (λ t. t.fallen && (length (indexes t.ids.places) == 0)) o false) at
+              ∙ ap (λ g. z.fallen && g) (sweeps.empty_same (indexes z.ids.places) (taken_in mid s) (taken_same pid_max spaces1 idents order b' s z at))
+
+          same_dead : goes list spaces1 s ≡ dead_on spaces1 s
+          same_dead = elim (sweeps.cases (dead_on spaces1 s)) [
+            | inr lives ↦ ap (λ g. contains list s && g) lives ∙ off_right (contains list s) ∙ sym lives
+            | inl gone ↦ elim (sweeps.cases (goes list spaces1 s)) [
+              | inl on ↦ on ∙ sym gone
+              | inr out ↦
+                  let r = rest s (dead_fell spaces1 s gone) out in
+                  absurd (let bad : None ≡ Some r.1 = sym (ap (option_map (λ e. e.value)) (dead_empty spaces1 s r.0 gone)) ∙ r.2 in cc)
+            ]
           ]
-        ]
 
-    pub swept-same : (s : ℕ) → option_map namespace_of (get spaces2 s) ≡ swept_at mid s
-    swept-same s =
-        ap (option_map namespace_of) (left s) ∙ go (get spaces1 s) refl
-        ∙ sym (ap (option_and_then (λ t. if is_dead mid s t then None else Some t)) (get_or-map_option namespace_of spaces1.slots s))
-      where
-        nothing : (g : Bool) → option_map namespace_of (if g then None else None) ≡ None
-        nothing true = refl
-        nothing false = refl
+      pub swept-same : (s : ℕ) → option_map namespace_of (get spaces2 s) ≡ swept_at mid s
+      swept-same s =
+          ap (option_map namespace_of) (left s) ∙ go (get spaces1 s) refl
+          ∙ sym (ap (option_and_then (λ t. if is_dead mid s t then None else Some t)) (get_or-map_option namespace_of spaces1.slots s))
+        where
+          nothing : (g : Bool) → option_map namespace_of (if g then None else None) ≡ None
+          nothing true = refl
+          nothing false = refl
 
-        go : (o : Option Space) → get spaces1 s ≡ o → option_map namespace_of (left_on list spaces1 s) ≡ option_and_then (λ t. if is_dead mid s t then None else Some t) (option_map namespace_of o)
-        go None at = ap (λ o. option_map namespace_of (if goes list spaces1 s then None else o)) at ∙ nothing (goes list spaces1 s)
-        go (Some z) at =
-            ap (λ o. option_map namespace_of (if goes list spaces1 s then None else o)) at
-            ∙ sweeps.through (option_map namespace_of) (goes list spaces1 s) None (Some z)
-            ∙ ap (λ g. if g then None else Some (namespace_of z)) (goes_dead s z at)
+          go : (o : Option Space) → get spaces1 s ≡ o → option_map namespace_of (left_on list spaces1 s) ≡ option_and_then (λ t. if is_dead mid s t then None else Some t) (option_map namespace_of o)
+          go None at = ap (λ o. option_map namespace_of (if goes list spaces1 s then None else o)) at ∙ nothing (goes list spaces1 s)
+          go (Some z) at =
+              ap (λ o. option_map namespace_of (if goes list spaces1 s then None else o)) at
+              ∙ sweeps.through (option_map namespace_of) (goes list spaces1 s) None (Some z)
+              ∙ ap (λ g. if g then None else Some (namespace_of z)) (goes_dead s z at)
 
 -- what a sweep leaves does not hang on the key of the next identifier
 pub swept-next : (b : Numbering) (next s : ℕ) → swept_at b s ≡ swept_at (record b { next = next }) s

@@ -1,5 +1,5 @@
 -- Namespaces that fall, and those that go.
-use Rattle.std.proofs.Common.{◌≡◌, ◌≢◌, ◌⊎◌, inl, inr, ℕ, zero, suc, ◌+◌, ◌-◌, ◌<◌, ◌≤◌, Bool, true, false, ◌==◌, ◌&&◌, ◌||◌, List, [], ◌∷◌, length, get_or, drop, length-drop, Option, Some, None, is_some, if◌then◌else◌, refl, sym, ap, subst, ◌∙◌, arith, option_map}
+use Rattle.std.proofs.Common.{◌≡◌, ◌≢◌, ◌⊎◌, inl, inr, ℕ, zero, suc, ◌+◌, ◌-◌, ◌<◌, ◌≤◌, Bool, true, false, ◌==◌, ◌&&◌, ◌||◌, List, [], ◌∷◌, length, get_or, take, drop, length-drop, Option, Some, None, is_some, if◌then◌else◌, refl, sym, ap, subst, ◌∙◌, arith, option_map}
 use Rattle.std.specs.Prelude.{MatchBool}
 use Rattle.std.specs.Option.{option_map_or}
 use Rattle.std.proofs.lemmas.List.{get_or-drop}
@@ -286,8 +286,20 @@ empty_is ps false some = elim (cases (length (indexes ps) == 0)) [
   | inr e ↦ sym e
 ]
 
+-- what a list holds with one place more
+pub contains_take : (ns : List ℕ) (k s : ℕ) → k < length ns → contains (take (suc k) ns) s ≡ (get_or ns k 0 == s || contains (take k ns) s)
+contains_take [] k s lt = absurd (omega (arith, lt))
+contains_take (n ∷ ns) zero s lt = refl
+contains_take (n ∷ ns) (suc k) s lt = ap (λ b. n == s || b) (contains_take ns k s (omega (arith, lt))) ∙ swap (n == s) (get_or ns k 0 == s) (contains (take k ns) s)
+  where
+    swap : (a b c : Bool) → (a || (b || c)) ≡ (b || (a || c))
+    swap true true c = refl
+    swap true false c = refl
+    swap false true c = refl
+    swap false false c = refl
+
 -- what is left, one namespace after the other
-module _ (key : ℕ) (rest : List ℕ) (old new : Slab Space) (here : get new key ≡ if dead_on old key then None else get old key) (others : (s : ℕ) → s ≢ key → get new s ≡ get old s) where
+module _ (key : ℕ) (rest all : List ℕ) (all_is : (s : ℕ) → contains all s ≡ (key == s || contains rest s)) (old new : Slab Space) (here : get new key ≡ if dead_on old key then None else get old key) (others : (s : ℕ) → s ≢ key → get new s ≡ get old s) where
   not_dead : (b : Bool) (o : Option Space) → (if b && false then None else o) ≡ o
   not_dead true o = refl
   not_dead false o = refl
@@ -301,17 +313,17 @@ module _ (key : ℕ) (rest : List ℕ) (old new : Slab Space) (here : get new ke
       ap (λ o. if contains rest key && option_map_or (λ t. t.fallen && (length (indexes t.ids.places) == 0)) o false then None else o) now
       ∙ ap (λ g. if contains rest key && g then None else get old key) e ∙ not_dead (contains rest key) (get old key)
 
-  pub left-more : (s : ℕ) → left_on rest new s ≡ left_on (key ∷ rest) old s
+  pub left-more : (s : ℕ) → left_on rest new s ≡ left_on all old s
   left-more s = elim (cases_eq s key) [
     | inl e ↦
         ap (λ z. left_on rest new z) e ∙ by_dead (dead_on old key) refl
-        ∙ sym (ap (λ t. if (t || contains rest key) && dead_on old key then None else get old key) (eq-eqb key key refl))
-        ∙ sym (ap (λ z. left_on (key ∷ rest) old z) e)
+        ∙ sym (ap (λ t. if t && dead_on old key then None else get old key) (all_is key ∙ ap (λ t. t || contains rest key) (eq-eqb key key refl)))
+        ∙ sym (ap (λ z. left_on all old z) e)
     | inr m ↦
         let d : key ≢ s = λ e. m (sym e) in
         let off : (key == s) ≡ false = grind (arith, d) in
         ap (λ o. if contains rest s && option_map_or (λ t. t.fallen && (length (indexes t.ids.places) == 0)) o false then None else o) (others s m)
-        ∙ sym (ap (λ t. if (t || contains rest s) && dead_on old s then None else get old s) off)
+        ∙ sym (ap (λ t. if t && dead_on old s then None else get old s) (all_is s ∙ ap (λ t. t || contains rest s) off))
   ]
 
 -- what a slab shows of one that is there or not

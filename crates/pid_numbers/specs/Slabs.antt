@@ -59,10 +59,14 @@ abbrev pub IsPath : (ℕ → List ℕ) → List ℕ → Type 0
 IsPath ways [] = Unit {0}
 IsPath ways (s ∷ ss) = (ways s ≡ s ∷ ss) × IsPath ways ss
 
+-- the namespace's path, if it has one, begins with it
+abbrev pub IsHead : (ℕ → List ℕ) → ℕ → Type 0
+IsHead ways s = (ways s ≡ []) ⊎ ((rest : List ℕ) × (ways s ≡ s ∷ rest))
+
 -- the paths are those of a tree below the namespace with key 0
 pub record IsTree (ways : ℕ → List ℕ) : Type 0 where
   pub root : ways 0 ≡ 0 ∷ []
-  pub head : (s : ℕ) → (ways s ≡ []) ⊎ ((rest : List ℕ) × (ways s ≡ s ∷ rest))
+  pub head : (s : ℕ) → IsHead ways s
   pub paths : (s : ℕ) → IsPath ways (ways s)
   pub few : (s : ℕ) → length (ways s) ≤ 33
   pub ends : (s : ℕ) → 0 < length (ways s) → contains (ways s) 0 ≡ true

@@ -36,7 +36,6 @@ use pid_types::call::Kind;
 use pid_types::keys::{IdentKey, Pid, SpaceKey};
 use pid_types::plain::{DEEPEST_SPACE, LEVELS, Name};
 pub use plan::PlanFault;
-use plan::with_first;
 use slab::Slab;
 use spaces::{
     Space, add_space, cursor_at, first_ids, give_path, has_fallen, id_at, is_inside, key_at,
@@ -318,6 +317,7 @@ impl Numbers {
             × (numbers.new.items ≡ map (λ s. unwrap_or (draw_in self.now s) 0) (path_at self.now space))) }
         ensures err { IfErr result (λ s. find (λ s. is_none (draw_in self.now s)) (path_at self.now space) ≡ Some s) }
     {
+        numbers.clear();
         plan_path(&self.spaces, space, numbers)
     }
 
@@ -369,8 +369,8 @@ impl Numbers {
         prepare_path(&mut self.spaces, space, numbers)?;
         give_path(&mut self.spaces, space, numbers, key);
         self.idents.insert_reserved(Ident {
-            space,
             numbers: stored,
+            space,
             tasks: 1,
             groups: 0,
             sessions: 0,
@@ -378,23 +378,42 @@ impl Numbers {
         Ok(key)
     }
 
-    /// The numbers that a new namespace inside the parent and those around it give next, innermost
+    /// Writes the numbers that a new namespace inside the parent and those around it give next over others, innermost
     /// first: 1 in the new one. It costs one or two searches for each level.
     ///
     /// The error is that the parent has the deepest level, 32 (`pid_namespaces(7)`, "Nesting PID
     /// namespaces"), or else the first namespace that has no number to give.
-    pub fn plan_new(&self, parent: SpaceKey) -> Result<ArrayVec<Pid, LEVELS>, PlanFault>
-        ensures ok { IfOk result (λ numbers. (length (path_at self.now parent) ≤ deepest_space) × (find (λ s. is_none (draw_in self.now s)) (path_at self.now parent) ≡ None)
-            × (numbers.items ≡ 1 ∷ map (λ s. unwrap_or (draw_in self.now s) 0) (path_at self.now parent))) }
+    #[inline(always)]
+    pub fn plan_new_into(
+        &self,
+        parent: SpaceKey,
+        numbers: &mut ArrayVec<Pid, LEVELS>,
+    ) -> Result<(), PlanFault>
+        ensures ok { OnOk result ((length (path_at self.now parent) ≤ deepest_space) × (find (λ s. is_none (draw_in self.now s)) (path_at self.now parent) ≡ None)
+            × (numbers.new.items ≡ 1 ∷ map (λ s. unwrap_or (draw_in self.now s) 0) (path_at self.now parent))) }
         ensures err { IfErr result (λ fault. IsPlanFault self.now parent fault) }
     {
         if levels(&self.spaces, parent) > DEEPEST_SPACE {
             return Err(PlanFault::TooDeep);
         }
-        let mut around = ArrayVec::new();
-        match plan_path(&self.spaces, parent, &mut around) {
-            Ok(()) => Ok(with_first(&around)),
+        numbers.clear();
+        numbers.push(1);
+        match plan_path(&self.spaces, parent, numbers) {
+            Ok(()) => Ok(()),
             Err(space) => Err(PlanFault::NoNumber(space)),
+        }
+    }
+
+    /// The numbers of [`plan_new_into`](Numbers::plan_new_into) in a list of their own, of 33 places.
+    pub fn plan_new(&self, parent: SpaceKey) -> Result<ArrayVec<Pid, LEVELS>, PlanFault>
+        ensures ok { IfOk result (λ numbers. (length (path_at self.now parent) ≤ deepest_space) × (find (λ s. is_none (draw_in self.now s)) (path_at self.now parent) ≡ None)
+            × (numbers.items ≡ 1 ∷ map (λ s. unwrap_or (draw_in self.now s) 0) (path_at self.now parent))) }
+        ensures err { IfErr result (λ fault. IsPlanFault self.now parent fault) }
+    {
+        let mut numbers = ArrayVec::new();
+        match self.plan_new_into(parent, &mut numbers) {
+            Ok(()) => Ok(numbers),
+            Err(fault) => Err(fault),
         }
     }
 
@@ -431,8 +450,8 @@ impl Numbers {
         let key = add_space(&mut self.spaces, &mut self.order, parent, id, ids)?;
         give_path(&mut self.spaces, parent, around, ident);
         self.idents.insert_reserved(Ident {
-            space: key,
             numbers: stored,
+            space: key,
             tasks: 1,
             groups: 0,
             sessions: 0,
@@ -458,7 +477,7 @@ impl Numbers {
     #[inline(always)]
     pub fn add_use(&mut self, ident: IdentKey, kind: Kind)
         requires there { IsSome (identifier_at self.old ident) }
-        requires few { IfSome (identifier_at self.old ident) (λ u. uses kind u + 1 < 2 ^ 64) }
+        requires few { IfSome (identifier_at self.old ident) (λ u. uses kind u + 1 < 2 ^ 32) }
         ensures here { (u : Identifier) → identifier_at self.old ident ≡ Some u → identifier_at self.new ident ≡ Some (more kind u) }
         ensures others { (j : ℕ) → j ≢ ident → identifier_at self.new j ≡ identifier_at self.old j }
         ensures namespaces { self.new.namespaces ≡ self.old.namespaces }

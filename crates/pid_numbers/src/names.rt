@@ -19,15 +19,15 @@ use slab::Slab;
 /// An identifier, and how many use it as what.
 #[derive(Drop)]
 pub(crate) struct Ident {
-    pub space: SpaceKey,
     pub numbers: LevelNumbers,
-    pub tasks: u64,
-    pub groups: u64,
-    pub sessions: u64,
+    pub space: SpaceKey,
+    pub tasks: u32,
+    pub groups: u32,
+    pub sessions: u32,
 }
 
 /// How many uses of the kind.
-fn count(x: &Ident, kind: Kind) -> u64
+fn count(x: &Ident, kind: Kind) -> u32
     ensures { result ≡ uses kind (identifier_of x.now) }
 {
     match kind {
@@ -57,7 +57,7 @@ fn lessen(x: &mut Ident, kind: Kind)
 
 /// One use more.
 fn raise(x: &mut Ident, kind: Kind)
-    requires { uses kind (identifier_of x.old) + 1 < 2 ^ 64 }
+    requires { uses kind (identifier_of x.old) + 1 < 2 ^ 32 }
     ensures { identifier_of x.new ≡ more kind (identifier_of x.old) }
 {
     match kind {
@@ -117,7 +117,7 @@ pub(crate) fn count_at(idents: &Slab<Ident>, ident: IdentKey, kind: Kind) -> u64
     ensures { result ≡ option_map_or (uses kind) (name_at idents.now ident) 0 }
 {
     match idents.get(ident as usize) {
-        Some(x) => count(x, kind),
+        Some(x) => u64::from(count(x, kind)),
         None => 0,
     }
 }
@@ -157,7 +157,7 @@ pub(crate) fn less_use(idents: &mut Slab<Ident>, ident: IdentKey, kind: Kind)
 /// One use more.
 pub(crate) fn more_use(idents: &mut Slab<Ident>, ident: IdentKey, kind: Kind)
     requires there { IsSome (name_at idents.old ident) }
-    requires few { IfSome (name_at idents.old ident) (λ u. uses kind u + 1 < 2 ^ 64) }
+    requires few { IfSome (name_at idents.old ident) (λ u. uses kind u + 1 < 2 ^ 32) }
     ensures here { (u : Identifier) → name_at idents.old ident ≡ Some u → name_at idents.new ident ≡ Some (more kind u) }
     ensures others { (j : ℕ) → j ≢ ident → name_at idents.new j ≡ name_at idents.old j }
 {

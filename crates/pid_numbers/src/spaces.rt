@@ -6,7 +6,7 @@ ghost use Rattle.index_array.specs.Place.{index_count, Entry, entry_at, indexes,
 ghost use Rattle.std.specs.List.{filter};
 ghost use Rattle.id_slab.specs.Ids.{AreBelow};
 ghost use Rattle.pid_types.specs.Bounds.{deepest_space};
-ghost use Rattle.pid_numbers.specs.Slabs.{id_on, AreListed, way, fell, dead_on, left_on, entry_on, leads, plan_on, touched, given_to, ready, namespaces_of, namespace_on, bound_on, stepped, mark_of, IsTree, IsDistinct, ArePlanned, AreReady};
+ghost use Rattle.pid_numbers.specs.Slabs.{id_on, AreListed, way, fell, dead_on, goes, left_on, IsHead, entry_on, leads, plan_on, touched, given_to, ready, namespaces_of, namespace_on, bound_on, stepped, mark_of, IsTree, IsDistinct, ArePlanned, AreReady};
 ghost use Rattle.pid_numbers.specs.Numbering.{moved, fallen_within};
 ghost use Rattle.pid_types.specs.Settings.{HasGoodPidMax};
 ghost use Rattle.pid_types.specs.Chains.{contains};
@@ -85,18 +85,18 @@ pub(crate) fn plan_at(spaces: &Slab<Space>, space: SpaceKey) -> Option<Pid>
     }
 }
 
-/// Writes the numbers that those on the path give next over others, or answers the first that gives none.
+/// Writes the numbers that those on the path give next behind others, or answers the first that gives none.
 #[inline(always)]
 pub(crate) fn plan_path(
     spaces: &Slab<Space>,
     space: SpaceKey,
     numbers: &mut ArrayVec<Pid, LEVELS>,
 ) -> Result<(), SpaceKey>
+    requires room { length numbers.old.items + length (way spaces.now space) ≤ deepest_space + 1 }
     ensures ok { OnOk result ((find (λ s. is_none (plan_on spaces.now s)) (way spaces.now space) ≡ None)
-        × (numbers.new.items ≡ map (λ s. unwrap_or (plan_on spaces.now s) 0) (way spaces.now space))) }
+        × (numbers.new.items ≡ numbers.old.items ++ map (λ s. unwrap_or (plan_on spaces.now s) 0) (way spaces.now space))) }
     ensures err { IfErr result (λ s. find (λ s. is_none (plan_on spaces.now s)) (way spaces.now space) ≡ Some s) }
 {
-    numbers.clear();
     for k in 0..levels(spaces, space) {
         let key = key_at(spaces, space, k);
         match plan_at(spaces, key) {
@@ -297,22 +297,21 @@ pub(crate) fn has_fallen(spaces: &Slab<Space>, space: SpaceKey) -> bool
     }
 }
 
-/// The path of the namespace.
-fn path_of(spaces: &Slab<Space>, space: SpaceKey) -> ArrayVec<SpaceKey, LEVELS>
-    ensures { result.items ≡ way spaces.now space }
-{
-    let mut path = ArrayVec::<SpaceKey, LEVELS>::new();
-    for k in 0..levels(spaces, space) {
-        path.push(key_at(spaces, space, k));
-    }
-    path
-}
-
 /// Whether the namespace has fallen and no number in it is in use.
 fn is_dead(space: &Space) -> bool
     ensures { result ≡ space.now.fallen && (length (indexes space.now.ids.places) == 0) }
 {
     space.fallen && space.ids.is_empty()
+}
+
+/// Whether the namespace is there and dead.
+fn is_dead_at(spaces: &Slab<Space>, key: SpaceKey) -> bool
+    ensures { result ≡ dead_on spaces.now key }
+{
+    match spaces.get(key as usize) {
+        Some(s) => is_dead(s),
+        None => false,
+    }
 }
 
 /// Drops the namespace, where it is dead.
@@ -322,11 +321,7 @@ fn drop_dead(spaces: &mut Slab<Space>, order: &mut RisingIds, key: SpaceKey)
     ensures others { (s : ℕ) → s ≢ key → get spaces.new s ≡ get spaces.old s }
     ensures order { order.new ≡ filter (λ p. is_some (get spaces.new p.1)) order.old }
 {
-    let dead = match spaces.get(key as usize) {
-        Some(s) => is_dead(s),
-        None => false,
-    };
-    if !dead {
+    if !is_dead_at(spaces, key) {
         return;
     }
     if let Some(gone) = spaces.try_remove(key as usize) {
@@ -334,30 +329,36 @@ fn drop_dead(spaces: &mut Slab<Space>, order: &mut RisingIds, key: SpaceKey)
     }
 }
 
-/// Drops the dead namespaces of the path.
-fn sweep_path(spaces: &mut Slab<Space>, order: &mut RisingIds, path: &ArrayVec<SpaceKey, LEVELS>)
+/// Drops the dead namespaces on the path of one, the outermost first.
+fn sweep_path(spaces: &mut Slab<Space>, order: &mut RisingIds, space: SpaceKey)
     requires listed { AreListed (id_on spaces.old) order.old }
-    ensures left { (s : ℕ) → get spaces.new s ≡ left_on path.now.items spaces.old s }
+    requires distinct { IsDistinct (way spaces.old space) }
+    requires head { IsHead (way spaces.old) space }
+    ensures left { (s : ℕ) → get spaces.new s ≡ left_on (way spaces.old space) spaces.old s }
     ensures order { order.new ≡ filter (λ p. is_some (get spaces.new p.1)) order.old }
     ensures listed { AreListed (id_on spaces.new) order.new }
 {
-    for k in 0..path.len() {
-        drop_dead(spaces, order, path[k]);
+    let end = levels(spaces, space);
+    for k in 0..end {
+        let key = key_at(spaces, space, end - 1 - k);
+        drop_dead(spaces, order, key);
     }
 }
 
-/// Drops the dead namespaces on the path of a namespace that has fallen. On that of one that stands none is dead.
+/// Drops the dead namespaces on the path of a namespace that has fallen. On that of one that stands none is dead, and
+/// none is where the innermost is not.
 pub(crate) fn sweep_fallen(spaces: &mut Slab<Space>, order: &mut RisingIds, space: SpaceKey)
     requires listed { AreListed (id_on spaces.old) order.old }
+    requires distinct { IsDistinct (way spaces.old space) }
+    requires head { IsHead (way spaces.old) space }
+    requires quiet { dead_on spaces.old space ≡ false → (s : ℕ) → goes (if fell spaces.old space then way spaces.old space else []) spaces.old s ≡ false }
     ensures left { (s : ℕ) → get spaces.new s ≡ left_on (if fell spaces.old space then way spaces.old space else []) spaces.old s }
     ensures order { order.new ≡ filter (λ p. is_some (get spaces.new p.1)) order.old }
     ensures listed { AreListed (id_on spaces.new) order.new }
 {
-    if !has_fallen(spaces, space) {
-        return;
+    if is_dead_at(spaces, space) {
+        sweep_path(spaces, order, space);
     }
-    let path = path_of(spaces, space);
-    sweep_path(spaces, order, &path);
 }
 
 /// The path of a new namespace below the parent.

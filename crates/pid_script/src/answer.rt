@@ -2,6 +2,7 @@
 //! held in place, so nothing here takes memory or fails.
 ghost use Rattle.std.specs.Prelude.{◌≡◌, ◌+◌, ◌*◌, ◌<◌, ◌≤◌, ◌++◌, ◌∷◌, length, codes, decimal};
 ghost use Rattle.std.specs.List.{flat_map};
+ghost use Rattle.pid_types.specs.Refusals.{errno_entry, refusal_entry};
 ghost use Rattle.pid_script.specs.Answers.{joined, refused_by, refusal_text, ended_text, reply_text, answer_of, received, lent};
 
 use arrayvec::ArrayVec;
@@ -138,15 +139,41 @@ fn push_id<const N: usize>(text: &mut ArrayVec<u8, N>, refusal: Refusal)
     }
 }
 
+/// The name of the errno and the word that says why, in one piece, which costs one copy.
+fn refusal_words(refusal: Refusal) -> &'static [u8]
+    ensures words { result.now ≡ (errno_entry (refusal_entry refusal).error).name ++ codes " " ++ (refusal_entry refusal).word }
+    ensures short { length result.now ≤ 20 }
+{
+    match refusal {
+        Refusal::NoCaller => b"ESRCH no-caller",
+        Refusal::NoTask => b"ESRCH no-task",
+        Refusal::NoChild => b"ECHILD no-child",
+        Refusal::NoNumber(_) => b"EAGAIN no-number",
+        Refusal::PidsLimit(_) => b"EAGAIN pids-limit",
+        Refusal::SpaceFallen => b"ENOMEM space-fallen",
+        Refusal::TooDeep => b"ENOSPC too-deep",
+        Refusal::Elsewhere => b"EINVAL elsewhere",
+        Refusal::BadGroup => b"EINVAL bad-group",
+        Refusal::OtherSession => b"EPERM other-session",
+        Refusal::IsLeader => b"EPERM is-leader",
+        Refusal::NoGroup => b"EPERM no-group",
+        Refusal::Executed => b"EACCES executed",
+        Refusal::RootInit => b"EBUSY root-init",
+        Refusal::NoControl => b"ENOENT no-control",
+        Refusal::ControlBusy => b"EBUSY control-busy",
+        Refusal::RootControl => b"EINVAL root-control",
+        Refusal::BadLimit => b"EINVAL bad-limit",
+        Refusal::ControlDepth => b"EAGAIN control-depth",
+    }
+}
+
 #[inline(never)]
 fn push_refusal<const N: usize>(text: &mut ArrayVec<u8, N>, refusal: Refusal)
     requires { length text.old.items + 362 ≤ N }
     ensures items { text.new.items ≡ text.old.items ++ refusal_text refusal }
     ensures len { length text.new.items ≤ length text.old.items + 362 }
 {
-    push_bytes(text, refusal.error().name());
-    push_bytes(text, b" ");
-    push_bytes(text, refusal.word());
+    push_bytes(text, refusal_words(refusal));
     push_id(text, refusal);
 }
 

@@ -124,10 +124,10 @@ module _ (old new : Numbering) (ident : ℕ) (kind : Kind) (others : (j : ℕ) �
       go (inr differs) = ap (option_map bare) (others i differs)
 
 -- what bounds the uses leaves room for one more
-pub few-uses : (b : Numbering) (kind : Kind) (i : ℕ) → uses_at b kind i ≤ 1073741824 → IfSome (identifier_at b i) (λ u. uses kind u + 1 < 18446744073709551616)
+pub few-uses : (b : Numbering) (kind : Kind) (i : ℕ) → uses_at b kind i ≤ 1073741824 → IfSome (identifier_at b i) (λ u. uses kind u + 1 < 4294967296)
 few-uses b kind i few = go (identifier_at b i) few
   where
-    go : (o : Option Identifier) → option_map_or (uses kind) o 0 ≤ 1073741824 → IfSome o (λ u. uses kind u + 1 < 18446744073709551616)
+    go : (o : Option Identifier) → option_map_or (uses kind) o 0 ≤ 1073741824 → IfSome o (λ u. uses kind u + 1 < 4294967296)
     go None e = search rules
     go (Some u) e = omega (arith, e)
 

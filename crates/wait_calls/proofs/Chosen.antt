@@ -26,6 +26,10 @@ pub same_key : (o : Option ℕ) (n : ℕ) → option_eq ◌==◌ o (Some n) ≡ 
 same_key None n e = absurd (cc)
 same_key (Some m) n e = ap Some (eqb-true m n e)
 
+-- what is 1 is not 0
+pub differ : (n : ℕ) → n ≡ 1 → n ≡ 0 → ⊥
+differ n one none = omega (arith, one, none)
+
 module _ (s : Store) (caller group : ℕ) where
   -- the test is true of who matches, and of nobody else
   of_match : (k : ℕ) → IsMatch s caller (Group group) k → is_group_match s caller group k ≡ true

@@ -1,13 +1,18 @@
 //! The wait for a process group: a walk over the caller's ended children, and then, where none of them is in the
-//! group, one over its children and over the group's members in step.
+//! group, one over its children or over the group's members, whichever are fewer.
 
-ghost use Rattle.std.specs.Prelude.{◌≡◌, ◌<◌, ℕ, IsSome, length, true, false};
-ghost use Rattle.task_tree.specs.Tree.{task_at};
+ghost use Rattle.std.specs.Prelude.{◌≡◌, ◌≢◌, ◌<◌, ◌↔◌, ℕ, Some, IsSome, IsTrue, [], length, true, false};
+ghost use Rattle.std.specs.List.{AllByRecursion};
+ghost use Rattle.member_lists.specs.Owners.{times};
+ghost use Rattle.wait_calls.specs.declared.walk.Looked.{Looked};
+ghost use Rattle.task_tree.specs.Tree.{task_at, parent_of};
+ghost use Rattle.groups_sessions.specs.Membership.{group_of};
 ghost use Rattle.wait_calls.specs.Choice.{IsMatch, IsChoice, IsEndedChoice};
 ghost use Rattle.wait_calls.specs.declared.selection.Selected.TheVariants.{Group};
 ghost use Rattle.wait_calls.specs.Walk.{is_group_match as is_group_match_of, looked_at, walked};
 
 use crate::selection::{Choice, Selected, counted, parent_in};
+use member_lists::Members;
 use pid_types::keys::{IdentKey, TaskKey};
 use task_table::Tasks;
 
@@ -47,31 +52,87 @@ fn choose_ended(store: &Tasks, caller: TaskKey, group: IdentKey) -> Choice
     choice
 }
 
-/// Whether some child is in the group. Each of the two lists alone has all such children, so the walk ends with the
-/// first one that is found, or else with the shorter list.
+/// What a look at some more children finds.
+#[derive(Clone, Copy, Debug, PartialEq, Eq)]
+enum Looked {
+    /// One of them is in the group.
+    Match,
+    /// None is, and there are no more.
+    End,
+    /// None is.
+    More,
+}
+
+/// So many children are looked at for each member of the group.
+const CHILDREN_A_MEMBER: u32 = 4;
+
+/// Whether the caller's child is in the group.
+fn is_in(store: &Tasks, group: IdentKey, child: TaskKey) -> bool
+    requires { IsSome (parent_of store.now.tree child) }
+    ensures { IsTrue result ↔ (group_of store.now.members child ≡ Some group) }
+{
+    store.laws();
+    store.tree().laws();
+    store.members().group(child) == group
+}
+
+/// Looks at a few more children of the caller.
+#[inline(always)]
+fn look_at_children(
+    store: &Tasks,
+    caller: TaskKey,
+    group: IdentKey,
+    children: &mut Members<'_>,
+) -> Looked
+    requires { AllByRecursion (λ k. parent_of store.now.tree k ≡ Some caller) children.old }
+    ensures children { AllByRecursion (λ k. parent_of store.now.tree k ≡ Some caller) children.new }
+    ensures some { result ≡ Looked.Match → (k : ℕ) × IsMatch store.now caller (Group group) k }
+    ensures left { result ≢ Looked.Match → (k : ℕ) → group_of store.now.members k ≡ Some group → times k children.new ≡ times k children.old }
+    ensures end { result ≡ Looked.End → children.new ≡ [] }
+{
+    for _ in 0..CHILDREN_A_MEMBER {
+        let Some(child) = children.next() else {
+            return Looked::End;
+        };
+        if is_in(store, group, child) {
+            return Looked::Match;
+        }
+    }
+    Looked::More
+}
+
+/// Whether some member of the group is a child of the caller. It costs a few reads for each member.
+fn any_member_is_child(store: &Tasks, caller: TaskKey, group: IdentKey) -> bool
+    requires { group < length store.now.members }
+    ensures some { result ≡ true → (k : ℕ) × IsMatch store.now caller (Group group) k }
+    ensures none { result ≡ false → (k : ℕ) → IsMatch store.now caller (Group group) k → ⊥ }
+{
+    for member in store.members().group_members(group) {
+        if parent_in(store, member) == Some(caller) {
+            return true;
+        }
+    }
+    false
+}
+
+/// Whether some child is in the group. Each of the two lists alone has all such children. The walk is over the children,
+/// and over the members instead where so few of these are left behind that their list ends first.
 fn has_match(store: &Tasks, caller: TaskKey, group: IdentKey) -> bool
     requires caller { IsSome (task_at store.now.tree caller) }
     requires group { group < length store.now.members }
     ensures some { result ≡ true → (k : ℕ) × IsMatch store.now caller (Group group) k }
     ensures none { result ≡ false → (k : ℕ) → IsMatch store.now caller (Group group) k → ⊥ }
 {
-    let tree = store.tree();
-    let groups = store.members();
-    tree.laws();
-    groups.laws();
-    let mut members = groups.group_members(group);
-    for child in tree.children(caller) {
-        let Some(member) = members.next() else {
-            return false;
-        };
-        if is_group_match(store, caller, group, child) {
-            return true;
-        }
-        if is_group_match(store, caller, group, member) {
-            return true;
+    store.tree().laws();
+    let mut children = store.tree().children(caller);
+    for _ in store.members().group_members(group) {
+        match look_at_children(store, caller, group, &mut children) {
+            Looked::Match => return true,
+            Looked::End => return false,
+            Looked::More => {}
         }
     }
-    false
+    any_member_is_child(store, caller, group)
 }
 
 /// The choice among the children in the group.

@@ -15,21 +15,21 @@ some_there (Some x) i e = refl
 pub unreachable-requires : goal.unreachable-requires
 unreachable-requires c =
     let s = c.args.store.now in
-    let deep = subst (λ b. deepest_space < length (path_at b c.args.own)) c.numbers.ensures (subst (IsPlanFault c.numbers.result.now c.args.own) c.in-TooDeep.is (subst (λ r. IfErr r (IsPlanFault c.numbers.result.now c.args.own)) c.in-Err.is c.plan_new-planned.ensures.err)) in
+    let deep = subst (λ b. deepest_space < length (path_at b c.args.own)) c.numbers.ensures (subst (IsPlanFault c.numbers.result.now c.args.own) c.in-TooDeep.is (subst (λ r. IfErr r (IsPlanFault c.numbers.result.now c.args.own)) c.in-Err.is c.plan_new_into.ensures.err)) in
     let short = inside.path-short s c.laws.ensures c.requires.whole c.args.stamp c.requires.below c.args.own c.args.found.now.task.children_space c.requires.id c.requires.stands c.requires.shallow in
     omega (arith, deep, short)
 
 pub id_of-requires : goal.id_of-requires
 id_of-requires c =
     let s = c.args.store.now in
-    let fault = subst (IsPlanFault c.numbers.result.now c.args.own) c.in-NoNumber.is (subst (λ r. IfErr r (IsPlanFault c.numbers.result.now c.args.own)) c.in-Err.is c.plan_new-planned.ensures.err) in
+    let fault = subst (IsPlanFault c.numbers.result.now c.args.own) c.in-NoNumber.is (subst (λ r. IfErr r (IsPlanFault c.numbers.result.now c.args.own)) c.in-Err.is c.plan_new_into.ensures.err) in
     let full : find (λ q. is_none (draw_in s.numbering q)) (path_at s.numbering c.args.own) ≡ Some c.in-NoNumber.full = ap (λ b. find (λ q. is_none (draw_in b q)) (path_at b c.args.own)) (sym c.numbers.ensures) ∙ fault.1 in
     some_there (namespace_at s.numbering c.in-NoNumber.full) _ (full-there s c.laws.ensures c.args.own c.args.found.now.task.children_space c.requires.id (row_of s c.args.found.now.key c.args.found.now.task) c.in-NoNumber.full full)
 
 pub returns-in-NoNumber-clause-state : goal.returns-in-NoNumber-clause-state
 returns-in-NoNumber-clause-state c =
     let s = c.args.store.now in
-    let fault = subst (IsPlanFault c.numbers.result.now c.args.own) c.in-NoNumber.is (subst (λ r. IfErr r (IsPlanFault c.numbers.result.now c.args.own)) c.in-Err.is c.plan_new-planned.ensures.err) in
+    let fault = subst (IsPlanFault c.numbers.result.now c.args.own) c.in-NoNumber.is (subst (λ r. IfErr r (IsPlanFault c.numbers.result.now c.args.own)) c.in-Err.is c.plan_new_into.ensures.err) in
     let full : find (λ q. is_none (draw_in s.numbering q)) (path_at s.numbering c.args.own) ≡ Some c.in-NoNumber.full = ap (λ b. find (λ q. is_none (draw_in b q)) (path_at b c.args.own)) (sym c.numbers.ensures) ∙ fault.1 in
     let row = row_of s c.args.found.now.key c.args.found.now.task in
     let room = inside.room-full_new s c.laws.ensures c.requires.whole c.args.stamp c.requires.below c.args.own c.args.found.now.task.children_space c.requires.id c.requires.stands c.requires.shallow
@@ -40,7 +40,7 @@ returns-in-NoNumber-clause-state c =
 pub returns-in-NoNumber-clause-reply : goal.returns-in-NoNumber-clause-reply
 returns-in-NoNumber-clause-reply c =
     let s = c.args.store.now in
-    let fault = subst (IsPlanFault c.numbers.result.now c.args.own) c.in-NoNumber.is (subst (λ r. IfErr r (IsPlanFault c.numbers.result.now c.args.own)) c.in-Err.is c.plan_new-planned.ensures.err) in
+    let fault = subst (IsPlanFault c.numbers.result.now c.args.own) c.in-NoNumber.is (subst (λ r. IfErr r (IsPlanFault c.numbers.result.now c.args.own)) c.in-Err.is c.plan_new_into.ensures.err) in
     let full : find (λ q. is_none (draw_in s.numbering q)) (path_at s.numbering c.args.own) ≡ Some c.in-NoNumber.full = ap (λ b. find (λ q. is_none (draw_in b q)) (path_at b c.args.own)) (sym c.numbers.ensures) ∙ fault.1 in
     let row = row_of s c.args.found.now.key c.args.found.now.task in
     let room = inside.room-full_new s c.laws.ensures c.requires.whole c.args.stamp c.requires.below c.args.own c.args.found.now.task.children_space c.requires.id c.requires.stands c.requires.shallow

@@ -13,7 +13,7 @@ more_use-requires c =
     let is = views.identifier_is c.self.inside.pid_max c.self.inside.spaces c.self.inside.idents c.self.inside.order c.args.self.now c.self.view_is c.args.ident in
     record {
       there = subst IsSome is c.requires.there;
-      few = subst (λ o. IfSome o (λ u. uses c.args.kind u + 1 < 2 ^ 64)) is c.requires.few;
+      few = subst (λ o. IfSome o (λ u. uses c.args.kind u + 1 < 2 ^ 32)) is c.requires.few;
     }
 
 pub invariant_of-self : goal.invariant_of-self

@@ -110,6 +110,14 @@ release_path-requires c =
       len = drops.gone-len (way spaces) (name_at idents) (leads (entry_on spaces)) c.self.invariant.whole.numbering.tied c.args.ident gone one;
     }
 
+-- the path that a sweep walks, which is none where the namespace stands
+abbrev swept_path : Slab Space → ℕ → List ℕ
+swept_path spaces s = if fell spaces s then way spaces s else []
+
+-- a release changes nothing of it
+swept_same : (new old : Slab Space) (s : ℕ) → ((k : ℕ) → way new k ≡ way old k) → namespaces_of new ≡ namespaces_of old → swept_path new s ≡ swept_path old s
+swept_same new old s ways same = ap (λ b. if b then way new s else []) (views.fell-same new old same s) ∙ ap (λ p. if fell old s then p else []) (ways s)
+
 pub sweep_fallen-requires : goal.sweep_fallen-requires
 sweep_fallen-requires c =
     let spaces = c.self.inside.spaces in
@@ -118,17 +126,14 @@ sweep_fallen-requires c =
     let one = drops.last_one c.self.inside.pid_max spaces idents c.self.inside.order c.less_use.new.idents c.args.self.now c.self.view_is c.args.ident c.args.kind c.requires c.less_use.ensures.here gone (ap (option_map identifier_of) (sym c.try_remove.ensures.value ∙ c.in-Some.is)) in
     let b = drops.after-release c.self.inside.pid_max spaces c.release_path.new.spaces (name_at idents) (name_at c.try_remove.new.self) c.self.invariant.whole.numbering c.args.ident gone one c.release_path.ensures.way c.release_path.ensures.bound c.release_path.ensures.entries
     (ap (option_map identifier_of) c.try_remove.ensures.updates.changed) (λ j m. ap (option_map identifier_of) (c.try_remove.ensures.updates.others j m) ∙ c.less_use.ensures.others j m) in
+    let kept = drops.off-release c.self.inside.pid_max spaces c.release_path.new.spaces (name_at idents) (name_at c.try_remove.new.self) c.self.invariant.whole.numbering c.args.ident gone one c.release_path.ensures.way c.release_path.ensures.bound c.release_path.ensures.entries in
     record {
       listed = orders.listed-same (id_on spaces) (id_on c.release_path.new.spaces) c.self.inside.order c.self.invariant.listed (orders.ids-same c.release_path.new.spaces spaces c.release_path.ensures.namespaces);
+      distinct = ties.distinct-path (way c.release_path.new.spaces) (way c.release_path.new.spaces c.in-Some.gone.space) (b.tree.paths c.in-Some.gone.space);
+      head = b.tree.head c.in-Some.gone.space;
+      quiet = drops.quiet c.self.inside.pid_max spaces c.release_path.new.spaces (name_at idents) (name_at c.try_remove.new.self) c.self.invariant.whole b
+          c.in-Some.gone.space c.release_path.ensures.way c.release_path.ensures.namespaces kept (swept_path c.release_path.new.spaces c.in-Some.gone.space) (swept_same c.release_path.new.spaces spaces c.in-Some.gone.space c.release_path.ensures.way c.release_path.ensures.namespaces);
     }
-
--- the path that a sweep walks, which is none where the namespace stands
-abbrev swept_path : Slab Space → ℕ → List ℕ
-swept_path spaces s = if fell spaces s then way spaces s else []
-
--- a release changes nothing of it
-swept_same : (new old : Slab Space) (s : ℕ) → ((k : ℕ) → way new k ≡ way old k) → namespaces_of new ≡ namespaces_of old → swept_path new s ≡ swept_path old s
-swept_same new old s ways same = ap (λ b. if b then way new s else []) (views.fell-same new old same s) ∙ ap (λ p. if fell old s then p else []) (ways s)
 
 pub invariant_of-self-2 : goal.invariant_of-self-2
 invariant_of-self-2 c =
@@ -140,8 +145,8 @@ invariant_of-self-2 c =
     (ap (option_map identifier_of) c.try_remove.ensures.updates.changed) (λ j m. ap (option_map identifier_of) (c.try_remove.ensures.updates.others j m) ∙ c.less_use.ensures.others j m) in
     let kept = drops.off-release c.self.inside.pid_max spaces c.release_path.new.spaces (name_at idents) (name_at c.try_remove.new.self) c.self.invariant.whole.numbering c.args.ident gone one c.release_path.ensures.way c.release_path.ensures.bound c.release_path.ensures.entries in
     record {
-      whole = drops.whole-swept c.self.inside.pid_max spaces c.release_path.new.spaces c.sweep_fallen.new.spaces (name_at idents) (name_at c.try_remove.new.self) c.self.invariant.whole b
-          c.in-Some.gone.space c.release_path.ensures.way c.release_path.ensures.namespaces kept (swept_path c.release_path.new.spaces c.in-Some.gone.space) (swept_same c.release_path.new.spaces spaces c.in-Some.gone.space c.release_path.ensures.way c.release_path.ensures.namespaces) c.sweep_fallen.ensures.left;
+      whole = drops.whole-swept c.self.inside.pid_max spaces c.release_path.new.spaces (name_at idents) (name_at c.try_remove.new.self) c.self.invariant.whole b
+          c.in-Some.gone.space c.release_path.ensures.way c.release_path.ensures.namespaces kept (swept_path c.release_path.new.spaces c.in-Some.gone.space) (swept_same c.release_path.new.spaces spaces c.in-Some.gone.space c.release_path.ensures.way c.release_path.ensures.namespaces) c.sweep_fallen.new.spaces c.sweep_fallen.ensures.left;
       listed = c.sweep_fallen.ensures.listed;
     }
 
@@ -155,8 +160,8 @@ returns-clause-namespaces c s =
     (ap (option_map identifier_of) c.try_remove.ensures.updates.changed) (λ j m. ap (option_map identifier_of) (c.try_remove.ensures.updates.others j m) ∙ c.less_use.ensures.others j m) in
     let kept = drops.off-release c.self.inside.pid_max spaces c.release_path.new.spaces (name_at idents) (name_at c.try_remove.new.self) c.self.invariant.whole.numbering c.args.ident gone one c.release_path.ensures.way c.release_path.ensures.bound c.release_path.ensures.entries in
     ties.get_or-map_option namespace_of c.sweep_fallen.new.spaces.slots s
-    ∙ drops.swept-same c.self.inside.pid_max spaces c.release_path.new.spaces c.sweep_fallen.new.spaces (name_at idents) (name_at c.try_remove.new.self) c.self.invariant.whole b
-    c.in-Some.gone.space c.release_path.ensures.way c.release_path.ensures.namespaces kept (swept_path c.release_path.new.spaces c.in-Some.gone.space) (swept_same c.release_path.new.spaces spaces c.in-Some.gone.space c.release_path.ensures.way c.release_path.ensures.namespaces) c.sweep_fallen.ensures.left c.try_remove.new.self c.self.inside.order b s
+    ∙ drops.swept-same c.self.inside.pid_max spaces c.release_path.new.spaces (name_at idents) (name_at c.try_remove.new.self) c.self.invariant.whole b
+    c.in-Some.gone.space c.release_path.ensures.way c.release_path.ensures.namespaces kept (swept_path c.release_path.new.spaces c.in-Some.gone.space) (swept_same c.release_path.new.spaces spaces c.in-Some.gone.space c.release_path.ensures.way c.release_path.ensures.namespaces) c.sweep_fallen.new.spaces c.sweep_fallen.ensures.left c.try_remove.new.self c.self.inside.order b s
     ∙ drops.swept-next (numbering_of c.self.inside.pid_max c.release_path.new.spaces c.try_remove.new.self c.self.inside.order) c.self.inside.idents.vacant_key s
     ∙ ap (λ l. swept_at (record { pid_max = c.self.inside.pid_max; next = c.self.inside.idents.vacant_key; namespaces = l; names = map (option_map identifier_of) c.try_remove.new.self.slots; order = c.self.inside.order }) s) c.release_path.ensures.namespaces
     ∙ ap (λ b. swept_at (record b { names = map (option_map identifier_of) c.try_remove.new.self.slots }) s) c.self.view_is
