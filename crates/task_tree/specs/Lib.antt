@@ -1,3 +1,4 @@
 pub mod Tree
 pub mod Waiting
 pub mod Ended
+pub mod Places

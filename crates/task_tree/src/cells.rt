@@ -3,6 +3,7 @@ ghost use Rattle.std.specs.Prelude.{◌≡◌, ℕ, ◌<◌, ◌≤◌, ◌^◌,
 ghost use Rattle.task_tree.specs.Tree.{is_subreaper};
 
 use crate::Task;
+use crate::places::Places;
 use pid_types::keys::TaskKey;
 use std::alloc::{AllocError, Global};
 use std::marker::Model;
@@ -10,7 +11,7 @@ use std::marker::Model;
 /// At each key a task or none. Between two calls the count is that of the subreapers.
 #[derive(Drop)]
 pub(crate) struct Cells {
-    cells: Vec<Option<Task>>,
+    cells: Places,
     subreapers: usize,
 }
 
@@ -21,9 +22,9 @@ impl Model for Cells {
 
     ghost Value = { List (Option Task) };
 
-    ghost view = { λ a. a.cells.items };
+    ghost view = { λ a. a.cells };
 
-    ghost invariant = { λ a. a.subreapers ≡ count_by is_subreaper a.cells.items };
+    ghost invariant = { λ a. a.subreapers ≡ count_by is_subreaper a.cells };
 }
 
 /// Whether there is a task, and it is a subreaper.
@@ -42,7 +43,7 @@ impl Cells {
         ensures { result ≡ [] }
     {
         Cells {
-            cells: Vec::new(alloc),
+            cells: Places::new(alloc),
             subreapers: 0,
         }
     }
@@ -53,22 +54,21 @@ impl Cells {
         ensures ok { OnOk result (self.new ≡ self.old ++ None ∷ []) }
         ensures err { OnErr result (self.new ≡ self.old) }
     {
-        self.cells.push(None)?;
-        Ok(())
+        self.cells.grow()
     }
 
     /// How many keys there are.
     pub(crate) fn keys(&self) -> usize
         ensures { result ≡ length self.now }
     {
-        self.cells.len()
+        self.cells.keys()
     }
 
     /// The task with the key.
     pub(crate) fn task(&self, key: TaskKey) -> Option<Task>
         ensures { result ≡ slice_index_or self.now key None }
     {
-        *self.cells.get(key as usize)?
+        self.cells.task(key)
     }
 
     /// A task, or none, comes in the place of what the key had.
@@ -78,13 +78,13 @@ impl Cells {
         requires few { length self.old ≤ 2 ^ 30 }
         ensures { self.new ≡ slice_set self.old key task }
     {
-        if is_marked(self.cells[key as usize]) {
+        if is_marked(self.cells.task(key)) {
             self.subreapers -= 1;
         }
         if is_marked(task) {
             self.subreapers += 1;
         }
-        self.cells[key as usize] = task;
+        self.cells.set(key, task);
     }
 
     /// Whether some task is a subreaper. It costs one read.

@@ -17,6 +17,7 @@ ghost use Rattle.task_tree.specs.Tree.{task_at, parent_of, rank_of, lives, is_zo
 mod cells;
 mod ended;
 mod links;
+mod places;
 
 use cells::Cells;
 use ended::EndedChildren;

@@ -7,4 +7,4 @@ pub returns-clause-some : goal.returns-clause-some
 returns-clause-some c some =
     let above : 0 < c.self.inside.subreapers = grind (arith, some) in
     let is = c.self.invariant in
-    rw (← c.self.view_is) (some-counted is_subreaper c.self.inside.cells.items None (omega (arith, above, is)))
+    rw (← c.self.view_is) (some-counted is_subreaper c.self.inside.cells None (omega (arith, above, is)))

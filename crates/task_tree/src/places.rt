@@ -1,0 +1,125 @@
+//! Tasks by key, as they lie in memory.
+ghost use Rattle.std.specs.Prelude.{◌≡◌, ◌<◌, length, None, OnOk, OnErr, [], ◌∷◌, ◌++◌, slice_set, slice_index_or};
+ghost use Rattle.task_tree.specs.Places.{task_in};
+
+use crate::Task;
+use pid_types::keys::{ControlKey, TaskKey};
+use pid_types::plain::Life;
+use std::alloc::{AllocError, Global};
+use std::marker::Model;
+
+/// What a key has: a task, or none where there is no life. It takes 24 bytes, and an `Option<Task>` 32.
+#[derive(Clone, Copy)]
+struct Place {
+    children_space: u64,
+    home: ControlKey,
+    executed: bool,
+    subreaper: bool,
+    life: Option<Life>,
+}
+
+/// At each key a task or none.
+#[derive(Drop)]
+pub(crate) struct Places {
+    places: Vec<Place>,
+}
+
+impl Model for Places {
+    ghost use Rattle.std.specs.Prelude.{List, Option, map};
+    ghost use Rattle.task_tree.specs.declared.Task.{Task};
+    ghost use Rattle.task_tree.specs.Places.{task_in};
+
+    ghost Value = { List (Option Task) };
+
+    ghost view = { λ a. map task_in a.places.items };
+}
+
+/// What a key has that has no task.
+fn vacant() -> Place
+    ensures { task_in result ≡ None }
+{
+    Place {
+        children_space: 0,
+        home: 0,
+        executed: false,
+        subreaper: false,
+        life: None,
+    }
+}
+
+/// What a key with the task has.
+#[inline(always)]
+fn place_of(task: Option<Task>) -> Place
+    ensures { task_in result ≡ task }
+{
+    match task {
+        Some(task) => Place {
+            children_space: task.children_space,
+            home: task.home,
+            executed: task.executed,
+            subreaper: task.subreaper,
+            life: Some(task.life),
+        },
+        None => vacant(),
+    }
+}
+
+/// The task of a place.
+#[inline(always)]
+fn read_task(place: Place) -> Option<Task>
+    ensures { result ≡ task_in place }
+{
+    let life = place.life?;
+    Some(Task {
+        children_space: place.children_space,
+        home: place.home,
+        executed: place.executed,
+        subreaper: place.subreaper,
+        life,
+    })
+}
+
+impl Places {
+    /// No keys.
+    pub(crate) fn new(alloc: Global) -> Places
+        ensures { result ≡ [] }
+    {
+        Places {
+            places: Vec::new(alloc),
+        }
+    }
+
+    /// One key more, without a task. The error is want of memory.
+    #[inline(always)]
+    pub(crate) fn grow(&mut self) -> Result<(), AllocError>
+        ensures ok { OnOk result (self.new ≡ self.old ++ None ∷ []) }
+        ensures err { OnErr result (self.new ≡ self.old) }
+    {
+        self.places.push(vacant())?;
+        Ok(())
+    }
+
+    /// How many keys there are.
+    pub(crate) fn keys(&self) -> usize
+        ensures { result ≡ length self.now }
+    {
+        self.places.len()
+    }
+
+    /// The task with the key.
+    #[inline(always)]
+    pub(crate) fn task(&self, key: TaskKey) -> Option<Task>
+        ensures { result ≡ slice_index_or self.now key None }
+    {
+        read_task(*self.places.get(key as usize)?)
+    }
+
+    /// A task, or none, comes in the place of what the key had.
+    #[inline(always)]
+    pub(crate) fn set(&mut self, key: TaskKey, task: Option<Task>)
+        requires { key < length self.old }
+        ensures { self.new ≡ slice_set self.old key task }
+    {
+        self.places[key as usize] = place_of(task);
+    }
+}
