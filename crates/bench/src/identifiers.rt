@@ -19,7 +19,7 @@ fn draw(numbers: &mut Numbers, space: u32) -> Option<u32> {
         return None;
     }
     let planned = numbers.plan(space).ok()?;
-    numbers.draw(space, &planned).ok()
+    numbers.draw(space, planned.as_slice()).ok()
 }
 
 /// Makes a namespace inside another one; none where no number is left, or no memory.
@@ -28,7 +28,7 @@ fn nest(numbers: &mut Numbers, parent: u32, id: u64) -> Option<u32> {
         return None;
     }
     let planned = numbers.plan_new(parent).ok()?;
-    let (_, space) = numbers.draw_new(parent, id, &planned).ok()?;
+    let (_, space) = numbers.draw_new(parent, id, planned.as_slice()).ok()?;
     Some(space)
 }
 

@@ -88,7 +88,7 @@ fn draw(numbers: &mut Numbers, space: u32) -> Result<Option<u32>> {
         let Ok(planned) = numbers.plan(space) else {
             bail!("no number");
         };
-        match numbers.draw(space, &planned) {
+        match numbers.draw(space, planned.as_slice()) {
             Ok(ident) => return Ok(Some(ident)),
             Err(AllocError) => ensure!(see_numbers(numbers) == before, "something has changed"),
         }
@@ -105,7 +105,7 @@ fn draw_new(numbers: &mut Numbers, outer: u32, id: u64) -> Result<Option<u32>> {
         let Ok(planned) = numbers.plan_new(outer) else {
             bail!("no number");
         };
-        match numbers.draw_new(outer, id, &planned) {
+        match numbers.draw_new(outer, id, planned.as_slice()) {
             Ok((_, space)) => return Ok(Some(space)),
             Err(AllocError) => ensure!(see_numbers(numbers) == before, "something has changed"),
         }

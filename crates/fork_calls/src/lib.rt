@@ -89,23 +89,18 @@ fn child_number(store: &Tasks, key: TaskKey, own: SpaceKey, root: Pid) -> Pid
 }
 
 /// The root number of an identifier with these numbers: the outermost of them.
-fn outermost(numbers: &ArrayVec<Pid, LEVELS>) -> Pid
-    requires { 0 < length numbers.now.items }
-    ensures { result ≡ slice_index (reverse numbers.now.items) 0 }
+fn outermost(numbers: &[Pid]) -> Pid
+    requires { 0 < length numbers.now }
+    ensures { result ≡ slice_index (reverse numbers.now) 0 }
 {
     numbers[numbers.len() - 1]
 }
 
 /// The reply for a new task with the planned numbers: its numbers in the caller's namespace and in the root.
 #[inline(always)]
-fn reply_for(
-    store: &Tasks,
-    key: TaskKey,
-    own: SpaceKey,
-    numbers: &ArrayVec<Pid, LEVELS>,
-) -> ShortReply
+fn reply_for(store: &Tasks, key: TaskKey, own: SpaceKey, numbers: &[Pid]) -> ShortReply
     requires there { IsSome (task_at store.now.tree key) }
-    requires numbers { (u : Identifier) → identifier_at store.now.numbering key ≡ Some u → u.numbers ≡ numbers.now.items }
+    requires numbers { (u : Identifier) → identifier_at store.now.numbering key ≡ Some u → u.numbers ≡ numbers.now }
     ensures { (i : ℕ) → id_at store.now.numbering own ≡ Some i
         → reply_of result ≡ Reply.Forked (number_or_zero (state_of store.now).spaces (name_at store.now.numbering key) i) (root_number (name_at store.now.numbering key)) }
 {
@@ -121,7 +116,7 @@ fn fork_planned(
     found: &Found,
     own: SpaceKey,
     space: SpaceKey,
-    numbers: &ArrayVec<Pid, LEVELS>,
+    numbers: &[Pid],
 ) -> Result<ShortReply, AllocError>
     requires whole { IsWhole store.old }
     requires there { task_at store.old.tree found.now.key ≡ Some found.now.task }
@@ -129,7 +124,7 @@ fn fork_planned(
     requires own { id_at store.old.numbering own ≡ Some (name_at store.old.numbering found.now.key).space }
     requires id { id_at store.old.numbering space ≡ Some found.now.task.children_space }
     requires all { find (λ s. is_none (draw_in store.old.numbering s)) (path_at store.old.numbering space) ≡ None }
-    requires planned { numbers.now.items ≡ map (λ s. unwrap_or (draw_in store.old.numbering s) 0) (path_at store.old.numbering space) }
+    requires planned { numbers.now ≡ map (λ s. unwrap_or (draw_in store.old.numbering s) 0) (path_at store.old.numbering space) }
     ensures state { OnOk result (state_of store.new ≡ (forked_into (state_of store.old) (state_of store.old) (row_of store.old found.now.key found.now.task) found.now.task.children_space).state) }
     ensures reply { IfOk result (λ reply. reply_of reply ≡ (forked_into (state_of store.old) (state_of store.old) (row_of store.old found.now.key found.now.task) found.now.task.children_space).reply) }
     ensures err { OnErr result (state_of store.new ≡ state_of store.old) }
@@ -163,10 +158,29 @@ fn fork_into(
     ensures parents { HasParents store.new }
 {
     laws(store);
-    let mut numbers = ArrayVec::new();
+    let mut numbers = ArrayVec::<Pid, LEVELS>::new();
     match store.numbers().plan_into(space, &mut numbers) {
         Err(full) => Ok(ShortReply::Refused(Refusal::NoNumber(id_of(store, full)))),
-        Ok(()) => fork_planned(store, found, own, space, &numbers),
+        Ok(()) => fork_planned(store, found, own, space, numbers.as_slice()),
+    }
+}
+
+/// The caller's child in the root namespace, where one number is planned and no list of them. The error is want of memory.
+fn fork_into_root(store: &mut Tasks, found: &Found, own: SpaceKey) -> Result<ShortReply, AllocError>
+    requires whole { IsWhole store.old }
+    requires there { task_at store.old.tree found.now.key ≡ Some found.now.task }
+    requires live { lives found.now.task ≡ true }
+    requires own { id_at store.old.numbering own ≡ Some (name_at store.old.numbering found.now.key).space }
+    requires id { id_at store.old.numbering 0 ≡ Some found.now.task.children_space }
+    ensures state { OnOk result (state_of store.new ≡ (forked_into (state_of store.old) (state_of store.old) (row_of store.old found.now.key found.now.task) found.now.task.children_space).state) }
+    ensures reply { IfOk result (λ reply. reply_of reply ≡ (forked_into (state_of store.old) (state_of store.old) (row_of store.old found.now.key found.now.task) found.now.task.children_space).reply) }
+    ensures err { OnErr result (state_of store.new ≡ state_of store.old) }
+    ensures parents { HasParents store.new }
+{
+    laws(store);
+    match store.numbers().plan_one(0) {
+        None => Ok(ShortReply::Refused(Refusal::NoNumber(id_of(store, 0)))),
+        Some(number) => fork_planned(store, found, own, 0, &[number]),
     }
 }
 
@@ -177,7 +191,7 @@ fn fork_new_planned(
     found: &Found,
     own: SpaceKey,
     stamp: u64,
-    numbers: &ArrayVec<Pid, LEVELS>,
+    numbers: &[Pid],
 ) -> Result<ShortReply, AllocError>
     requires whole { IsWhole store.old }
     requires below { IsBelow stamp (state_of store.old) }
@@ -188,7 +202,7 @@ fn fork_new_planned(
     requires stands { is_gone (state_of store.old) found.now.task.children_space ≡ false }
     requires shallow { nat_le deepest_space (level (state_of store.old).spaces found.now.task.children_space) ≡ false }
     requires all { find (λ s. is_none (draw_in store.old.numbering s)) (path_at store.old.numbering own) ≡ None }
-    requires planned { numbers.now.items ≡ 1 ∷ map (λ s. unwrap_or (draw_in store.old.numbering s) 0) (path_at store.old.numbering own) }
+    requires planned { numbers.now ≡ 1 ∷ map (λ s. unwrap_or (draw_in store.old.numbering s) 0) (path_at store.old.numbering own) }
     ensures state { OnOk result (state_of store.new ≡ (forked_into (state_of store.old) (with_space (state_of store.old) found.now.task.children_space stamp) (row_of store.old found.now.key found.now.task) stamp).state) }
     ensures reply { IfOk result (λ reply. reply_of reply ≡ (forked_into (state_of store.old) (with_space (state_of store.old) found.now.task.children_space stamp) (row_of store.old found.now.key found.now.task) stamp).reply) }
     ensures err { OnErr result (state_of store.new ≡ state_of store.old) }
@@ -226,7 +240,7 @@ fn fork_inside(
     ensures parents { HasParents store.new }
 {
     laws(store);
-    let mut numbers = ArrayVec::new();
+    let mut numbers = ArrayVec::<Pid, LEVELS>::new();
     match store.numbers().plan_new_into(own, &mut numbers) {
         Err(fault) => match fault {
             PlanFault::TooDeep => unreachable!(),
@@ -234,7 +248,7 @@ fn fork_inside(
                 Ok(ShortReply::Refused(Refusal::NoNumber(id_of(store, full))))
             }
         },
-        Ok(()) => fork_new_planned(store, found, own, stamp, &numbers),
+        Ok(()) => fork_new_planned(store, found, own, stamp, numbers.as_slice()),
     }
 }
 
@@ -355,6 +369,7 @@ pub fn fork(
     match namespace_for(store, &found, own, new_space) {
         Err(refusal) => Ok(ShortReply::Refused(refusal)),
         Ok(_) if new_space => fork_inside(store, &found, own, stamp),
+        Ok(0) => fork_into_root(store, &found, own),
         Ok(space) => fork_into(store, &found, own, space),
     }
 }

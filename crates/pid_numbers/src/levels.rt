@@ -28,9 +28,9 @@ impl Model for LevelNumbers {
 
 impl LevelNumbers {
     /// Keeps the numbers. The error is want of memory.
-    pub(crate) fn from(alloc: Global, numbers: &ArrayVec<Pid, LEVELS>) -> Result<Self, AllocError>
-        requires { 0 < length numbers.now.items }
-        ensures { IfOk result (λ r. r ≡ numbers.now.items) }
+    pub(crate) fn from(alloc: Global, numbers: &[Pid]) -> Result<Self, AllocError>
+        requires { 0 < length numbers.now }
+        ensures { IfOk result (λ r. r ≡ numbers.now) }
     {
         let last = numbers.len() - 1;
         let root = numbers[last];
@@ -39,7 +39,7 @@ impl LevelNumbers {
             return Ok(LevelNumbers { inner, root });
         }
         let mut inner = Vec::with_capacity(alloc, last)?;
-        inner.extend_from_slice(&numbers.as_slice()[..last])?;
+        inner.extend_from_slice(&numbers[..last])?;
         Ok(LevelNumbers { inner, root })
     }
 

@@ -39,7 +39,8 @@ pub use plan::PlanFault;
 use slab::Slab;
 use spaces::{
     Space, add_space, cursor_at, first_ids, give_path, has_fallen, id_at, is_inside, key_at,
-    levels, look, next_at, path_below, plan_path, prepare_path, release_path, sweep_fallen,
+    levels, look, next_at, path_below, plan_at, plan_path, prepare_path, release_path,
+    sweep_fallen,
 };
 use std::alloc::{AllocError, Global};
 use std::marker::Model;
@@ -334,6 +335,15 @@ impl Numbers {
         }
     }
 
+    /// The number that the namespace gives next; none where it has none to give, or is not there. It costs one or two
+    /// searches.
+    #[inline(always)]
+    pub fn plan_one(&self, space: SpaceKey) -> Option<Pid>
+        ensures { result ≡ draw_in self.now space }
+    {
+        plan_at(&self.spaces, space)
+    }
+
     /// Takes the memory for one identifier, and answers the key that the next one will have, which is below
     /// 2^30. The error is want of memory.
     pub fn reserve(&mut self) -> Result<IdentKey, AllocError>
@@ -346,26 +356,21 @@ impl Numbers {
     /// Gives the planned numbers to a new identifier, which one task uses, and answers its key. The
     /// error is want of memory, and then nothing has changed.
     #[inline(always)]
-    pub fn draw(
-        &mut self,
-        space: SpaceKey,
-        numbers: &ArrayVec<Pid, LEVELS>,
-    ) -> Result<IdentKey, AllocError>
+    pub fn draw(&mut self, space: SpaceKey, numbers: &[Pid]) -> Result<IdentKey, AllocError>
         requires there { IsSome (namespace_at self.old space) }
         requires all { find (λ s. is_none (draw_in self.old s)) (path_at self.old space) ≡ None }
-        requires planned { numbers.now.items ≡ map (λ s. unwrap_or (draw_in self.old s) 0) (path_at self.old space) }
+        requires planned { numbers.now ≡ map (λ s. unwrap_or (draw_in self.old s) 0) (path_at self.old space) }
         ensures key { IfOk result (λ i. i ≡ self.old.next) }
         ensures fresh { IfOk result (λ i. identifier_at self.old i ≡ None) }
-        ensures named { IfOk result (λ i. identifier_at self.new i ≡ Some (new_identifier space numbers.now.items)) }
+        ensures named { IfOk result (λ i. identifier_at self.new i ≡ Some (new_identifier space numbers.now)) }
         ensures others { IfOk result (λ i. (j : ℕ) → j ≢ i → identifier_at self.new j ≡ identifier_at self.old j) }
-        ensures namespaces { OnOk result ((s : ℕ) → namespace_at self.new s ≡ option_map (moved (path_at self.old space) numbers.now.items s) (namespace_at self.old s)) }
+        ensures namespaces { OnOk result ((s : ℕ) → namespace_at self.new s ≡ option_map (moved (path_at self.old space) numbers.now s) (namespace_at self.old s)) }
         ensures order { self.new.order ≡ self.old.order }
         ensures err { OnErr result (self.new ≡ self.old) }
         ensures pid_max { self.new.pid_max ≡ self.old.pid_max }
     {
         let key = make_room(&mut self.idents)?;
         let stored = LevelNumbers::from(self.alloc, numbers)?;
-        let numbers = numbers.as_slice();
         prepare_path(&mut self.spaces, space, numbers)?;
         give_path(&mut self.spaces, space, numbers, key);
         self.idents.insert_reserved(Ident {
@@ -424,19 +429,19 @@ impl Numbers {
         &mut self,
         parent: SpaceKey,
         id: u64,
-        numbers: &ArrayVec<Pid, LEVELS>,
+        numbers: &[Pid],
     ) -> Result<(IdentKey, SpaceKey), AllocError>
         requires stands { option_map_or (λ t. t.fallen) (namespace_at self.old parent) true ≡ false }
         requires shallow { length (path_at self.old parent) ≤ deepest_space }
         requires above { AreBelow self.old.order id }
         requires all { find (λ s. is_none (draw_in self.old s)) (path_at self.old parent) ≡ None }
-        requires planned { numbers.now.items ≡ 1 ∷ map (λ s. unwrap_or (draw_in self.old s) 0) (path_at self.old parent) }
+        requires planned { numbers.now ≡ 1 ∷ map (λ s. unwrap_or (draw_in self.old s) 0) (path_at self.old parent) }
         ensures key { IfOk result (λ keys. keys.0 ≡ self.old.next) }
         ensures fresh { IfOk result (λ keys. (identifier_at self.old keys.0 ≡ None) × (namespace_at self.old keys.1 ≡ None)) }
-        ensures named { IfOk result (λ keys. identifier_at self.new keys.0 ≡ Some (new_identifier keys.1 numbers.now.items)) }
+        ensures named { IfOk result (λ keys. identifier_at self.new keys.0 ≡ Some (new_identifier keys.1 numbers.now)) }
         ensures made { IfOk result (λ keys. namespace_at self.new keys.1 ≡ Some (record (new_namespace id (keys.1 ∷ path_at self.old parent)) { cursor = 2 })) }
         ensures others { IfOk result (λ keys. (j : ℕ) → j ≢ keys.0 → identifier_at self.new j ≡ identifier_at self.old j) }
-        ensures namespaces { IfOk result (λ keys. (s : ℕ) → s ≢ keys.1 → namespace_at self.new s ≡ option_map (moved (path_at self.old parent) (drop 1 numbers.now.items) s) (namespace_at self.old s)) }
+        ensures namespaces { IfOk result (λ keys. (s : ℕ) → s ≢ keys.1 → namespace_at self.new s ≡ option_map (moved (path_at self.old parent) (drop 1 numbers.now) s) (namespace_at self.old s)) }
         ensures order { IfOk result (λ keys. self.new.order ≡ self.old.order ++ (id, keys.1) ∷ []) }
         ensures err { OnErr result (self.new ≡ self.old) }
         ensures pid_max { self.new.pid_max ≡ self.old.pid_max }
@@ -444,7 +449,6 @@ impl Numbers {
         let ident = make_room(&mut self.idents)?;
         let stored = LevelNumbers::from(self.alloc, numbers)?;
         let ids = first_ids(self.alloc, self.pid_max, ident)?;
-        let numbers = numbers.as_slice();
         let around = &numbers[1..];
         prepare_path(&mut self.spaces, parent, around)?;
         let key = add_space(&mut self.spaces, &mut self.order, parent, id, ids)?;

@@ -72,7 +72,7 @@ fn begin_root_init(store: &mut Tasks) -> Result<(), AllocError>
         subreaper: false,
         life: Life::Live,
     };
-    store.fork(None, 0, &numbers, task)?;
+    store.fork(None, 0, numbers.as_slice(), task)?;
     laws(store);
     Ok(())
 }

@@ -31,13 +31,12 @@ mod settle;
 mod uses;
 pub mod view;
 
-use arrayvec::ArrayVec;
 use groups_sessions::Members;
 use homes::leave_home;
 use pid_numbers::Numbers;
 use pid_types::call::Kind;
 use pid_types::keys::{ControlKey, IdentKey, Pid, SpaceKey, TaskKey};
-use pid_types::plain::{Ended, LEVELS, Life};
+use pid_types::plain::{Ended, Life};
 use pid_types::reply::Refusal;
 use pids_charge::{ControlFault, Controls};
 use room::room_for;
@@ -336,7 +335,7 @@ impl Tasks {
         &mut self,
         from: Option<TaskKey>,
         space: SpaceKey,
-        numbers: &ArrayVec<Pid, LEVELS>,
+        numbers: &[Pid],
         task: Task,
     ) -> Result<TaskKey, AllocError>
         requires from { (p : ℕ) → from ≡ Some p → IsSome (task_at self.old.tree p) }
@@ -345,10 +344,10 @@ impl Tasks {
         requires home { stands self.old.charges task.home ≡ true }
         requires there { IsSome (namespace_at self.old.numbering space) }
         requires all { find (λ s. is_none (draw_in self.old.numbering s)) (path_at self.old.numbering space) ≡ None }
-        requires planned { numbers.now.items ≡ map (λ s. unwrap_or (draw_in self.old.numbering s) 0) (path_at self.old.numbering space) }
-        ensures begun { IfOk result (λ key. Begins self.old self.new key from task (new_identifier space numbers.now.items)) }
+        requires planned { numbers.now ≡ map (λ s. unwrap_or (draw_in self.old.numbering s) 0) (path_at self.old.numbering space) }
+        ensures begun { IfOk result (λ key. Begins self.old self.new key from task (new_identifier space numbers.now)) }
         ensures order { self.new.numbering.order ≡ self.old.numbering.order }
-        ensures namespaces { OnOk result ((s : ℕ) → namespace_at self.new.numbering s ≡ option_map (cursor_moved (path_at self.old.numbering space) numbers.now.items s) (namespace_at self.old.numbering s)) }
+        ensures namespaces { OnOk result ((s : ℕ) → namespace_at self.new.numbering s ≡ option_map (cursor_moved (path_at self.old.numbering space) numbers.now s) (namespace_at self.old.numbering s)) }
         ensures err { OnErr result (IsSame self.old self.new) }
     {
         let key = self.make_room()?;
@@ -377,7 +376,7 @@ impl Tasks {
         from: TaskKey,
         outer: SpaceKey,
         id: u64,
-        numbers: &ArrayVec<Pid, LEVELS>,
+        numbers: &[Pid],
         task: Task,
     ) -> Result<(TaskKey, SpaceKey), AllocError>
         requires from { IsSome (task_at self.old.tree from) }
@@ -388,11 +387,11 @@ impl Tasks {
         requires shallow { length (path_at self.old.numbering outer) ≤ deepest_space }
         requires above { AreBelow self.old.numbering.order id }
         requires all { find (λ s. is_none (draw_in self.old.numbering s)) (path_at self.old.numbering outer) ≡ None }
-        requires planned { numbers.now.items ≡ 1 ∷ map (λ s. unwrap_or (draw_in self.old.numbering s) 0) (path_at self.old.numbering outer) }
-        ensures begun { IfOk result (λ keys. Begins self.old self.new keys.0 (Some from) task (new_identifier keys.1 numbers.now.items)) }
+        requires planned { numbers.now ≡ 1 ∷ map (λ s. unwrap_or (draw_in self.old.numbering s) 0) (path_at self.old.numbering outer) }
+        ensures begun { IfOk result (λ keys. Begins self.old self.new keys.0 (Some from) task (new_identifier keys.1 numbers.now)) }
         ensures fresh { IfOk result (λ keys. namespace_at self.old.numbering keys.1 ≡ None) }
         ensures made { IfOk result (λ keys. namespace_at self.new.numbering keys.1 ≡ Some (record (new_namespace id (keys.1 ∷ path_at self.old.numbering outer)) { cursor = 2 })) }
-        ensures namespaces { IfOk result (λ keys. (s : ℕ) → s ≢ keys.1 → namespace_at self.new.numbering s ≡ option_map (cursor_moved (path_at self.old.numbering outer) (drop 1 numbers.now.items) s) (namespace_at self.old.numbering s)) }
+        ensures namespaces { IfOk result (λ keys. (s : ℕ) → s ≢ keys.1 → namespace_at self.new.numbering s ≡ option_map (cursor_moved (path_at self.old.numbering outer) (drop 1 numbers.now) s) (namespace_at self.old.numbering s)) }
         ensures order { IfOk result (λ keys. self.new.numbering.order ≡ self.old.numbering.order ++ (id, keys.1) ∷ []) }
         ensures err { OnErr result (IsSame self.old self.new) }
     {

@@ -61,7 +61,7 @@ fn draw(numbers: &mut Numbers) -> Option<u32> {
         return None;
     }
     let planned = numbers.plan(0).ok()?;
-    numbers.draw(0, &planned).ok()
+    numbers.draw(0, planned.as_slice()).ok()
 }
 
 /// A task asks for itself or for another one, in the root namespace.

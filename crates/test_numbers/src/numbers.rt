@@ -19,9 +19,9 @@ fn draw(numbers: &mut Numbers, space: u32) -> Option<u32> {
         return None;
     }
     let planned = numbers.plan(space).ok()?;
-    match numbers.draw(space, &planned) {
+    match numbers.draw(space, planned.as_slice()) {
         Ok(ident) => Some(ident),
-        Err(_) => numbers.draw(space, &planned).ok(),
+        Err(_) => numbers.draw(space, planned.as_slice()).ok(),
     }
 }
 
@@ -45,9 +45,9 @@ fn draw_new(numbers: &mut Numbers, parent: u32) -> Option<(u32, u32)> {
     }
     let planned = numbers.plan_new(parent).ok()?;
     let id = next_id(numbers)?;
-    match numbers.draw_new(parent, id, &planned) {
+    match numbers.draw_new(parent, id, planned.as_slice()) {
         Ok(keys) => Some(keys),
-        Err(_) => numbers.draw_new(parent, id, &planned).ok(),
+        Err(_) => numbers.draw_new(parent, id, planned.as_slice()).ok(),
     }
 }
 
@@ -99,7 +99,7 @@ fn fallen(alloc: Global) -> Option<(Numbers, u32, u32)> {
     let Ok(planned) = numbers.plan_new(0) else {
         return None;
     };
-    let Ok((first, space)) = numbers.draw_new(0, 7, &planned) else {
+    let Ok((first, space)) = numbers.draw_new(0, 7, planned.as_slice()) else {
         return None;
     };
     numbers.fell(space);

@@ -11,8 +11,8 @@ use Rattle.pid_numbers.proofs.Numbers.draw.Goals as goal
 pub from-requires : goal.from-requires
 from-requires c =
     let r = views.there c.self.inside.pid_max c.self.inside.spaces c.self.inside.idents c.self.inside.order c.self.invariant.whole.numbering c.args.self.now c.self.view_is c.args.space c.requires.there in
-    let len : length c.args.numbers.now.items ≡ length (way c.self.inside.spaces c.args.space) = views.planned_len c.self.inside.pid_max c.self.inside.spaces c.self.inside.idents c.self.inside.order c.self.invariant.whole.numbering c.args.space c.args.numbers.now.items
-    (subst (λ b. c.args.numbers.now.items ≡ map (λ s. unwrap_or (draw_in b s) 0) (path_at b c.args.space)) (sym c.self.view_is) c.requires.planned) in
+    let len : length c.args.numbers.now ≡ length (way c.self.inside.spaces c.args.space) = views.planned_len c.self.inside.pid_max c.self.inside.spaces c.self.inside.idents c.self.inside.order c.self.invariant.whole.numbering c.args.space c.args.numbers.now
+    (subst (λ b. c.args.numbers.now ≡ map (λ s. unwrap_or (draw_in b s) 0) (path_at b c.args.space)) (sym c.self.view_is) c.requires.planned) in
     omega (arith, r, len)
 
 planned-in : (a b : Numbering) → a ≡ b → (space : ℕ) (numbers : List ℕ) → numbers ≡ map (λ s. unwrap_or (draw_in b s) 0) (path_at b space) → numbers ≡ map (λ s. unwrap_or (draw_in a s) 0) (path_at a space)
@@ -24,12 +24,12 @@ all-in a b view space h = subst (λ b. find (λ s. is_none (draw_in b s)) (path_
 pub prepare_path-requires : goal.prepare_path-requires
 prepare_path-requires c =
     let spaces = c.self.inside.spaces in
-    let numbers = c.args.numbers.now.items in
+    let numbers = c.args.numbers.now in
     let planned = planned-in (numbering_of c.self.inside.pid_max spaces c.self.inside.idents c.self.inside.order) c.args.self.now c.self.view_is c.args.space numbers c.requires.planned in
     let all = all-in (numbering_of c.self.inside.pid_max spaces c.self.inside.idents c.self.inside.order) c.args.self.now c.self.view_is c.args.space c.requires.all in
     record {
-      planned = subst (ArePlanned spaces (way spaces c.args.space)) (sym c.as_slice-numbers.ensures.value) (views.all_planned c.self.inside.pid_max spaces c.self.inside.idents c.self.inside.order c.self.invariant.whole.numbering c.args.space numbers all planned);
-      len = ap length c.as_slice-numbers.ensures.value ∙ views.planned_len c.self.inside.pid_max spaces c.self.inside.idents c.self.inside.order c.self.invariant.whole.numbering c.args.space numbers planned;
+      planned = subst (ArePlanned spaces (way spaces c.args.space)) refl (views.all_planned c.self.inside.pid_max spaces c.self.inside.idents c.self.inside.order c.self.invariant.whole.numbering c.args.space numbers all planned);
+      len = views.planned_len c.self.inside.pid_max spaces c.self.inside.idents c.self.inside.order c.self.invariant.whole.numbering c.args.space numbers planned;
     }
 
 pub invariant_of-self-in_err-prepare_path : goal.invariant_of-self-in_err-prepare_path
@@ -48,7 +48,7 @@ invariant_of-self-in_err-prepare_path c =
 pub give_path-requires : goal.give_path-requires
 give_path-requires c =
     let spaces = c.self.inside.spaces in
-    let numbers = c.args.numbers.now.items in
+    let numbers = c.args.numbers.now in
     let prep = c.in_ok-prepare_path.ensures in
     let planned = planned-in (numbering_of c.self.inside.pid_max spaces c.self.inside.idents c.self.inside.order) c.args.self.now c.self.view_is c.args.space numbers c.requires.planned in
     let all = all-in (numbering_of c.self.inside.pid_max spaces c.self.inside.idents c.self.inside.order) c.args.self.now c.self.view_is c.args.space c.requires.all in
@@ -56,10 +56,10 @@ give_path-requires c =
     let len : length numbers ≡ length (way spaces c.args.space) = views.planned_len c.self.inside.pid_max spaces c.self.inside.idents c.self.inside.order c.self.invariant.whole.numbering c.args.space numbers planned in
     record {
       distinct = subst IsDistinct (sym (prep.way c.args.space)) (ties.distinct-path (way spaces) (way spaces c.args.space) (c.self.invariant.whole.numbering.tree.paths c.args.space));
-      planned = subst (λ p. ArePlanned c.prepare_path.new.spaces p c.as_slice-numbers.result.now) (sym (prep.way c.args.space)) (subst (ArePlanned c.prepare_path.new.spaces (way spaces c.args.space)) (sym c.as_slice-numbers.ensures.value)
+      planned = subst (λ p. ArePlanned c.prepare_path.new.spaces p c.args.numbers.now) (sym (prep.way c.args.space)) (subst (ArePlanned c.prepare_path.new.spaces (way spaces c.args.space)) refl
           (λ k below. prep.plan (get_or (way spaces c.args.space) k 0) ∙ each k below));
-      ready = subst (λ p. AreReady c.prepare_path.new.spaces p c.as_slice-numbers.result.now) (sym (prep.way c.args.space)) prep.ok;
-      len = ap length c.as_slice-numbers.ensures.value ∙ len ∙ ap length (sym (prep.way c.args.space));
+      ready = subst (λ p. AreReady c.prepare_path.new.spaces p c.args.numbers.now) (sym (prep.way c.args.space)) prep.ok;
+      len = len ∙ ap length (sym (prep.way c.args.space));
     }
 
 pub invariant_of-self-2 : goal.invariant_of-self-2
@@ -67,8 +67,8 @@ invariant_of-self-2 c =
     let spaces = c.self.inside.spaces in
     let idents = c.self.inside.idents in
     let path = way spaces c.args.space in
-    let numbers = c.args.numbers.now.items in
-    let stored = c.as_slice-numbers.result.now in
+    let numbers = c.args.numbers.now in
+    let stored = c.args.numbers.now in
     let key = c.in_ok-key.key in
     let prep = c.in_ok-prepare_path.ensures in
     let is = planned-in (numbering_of c.self.inside.pid_max spaces idents c.self.inside.order) c.args.self.now c.self.view_is c.args.space numbers c.requires.planned in
@@ -85,7 +85,7 @@ invariant_of-self-2 c =
     let is : (s n : ℕ) → entry_on c.give_path.new.spaces s n ≡ touched path numbers (λ _. given_to key) (entry_on spaces) s n =
     λ s n. c.give_path.ensures.entries s n
     ∙ ap (λ p. touched p stored (λ _. given_to key) (entry_on c.prepare_path.new.spaces) s n) (prep.way c.args.space)
-    ∙ ap (λ l. touched path l (λ _. given_to key) (entry_on c.prepare_path.new.spaces) s n) c.as_slice-numbers.ensures.value
+    ∙ ap (λ l. touched path l (λ _. given_to key) (entry_on c.prepare_path.new.spaces) s n) refl
     ∙ ap (λ f. touched path numbers (λ _. given_to key) f s n) (λ i s n. prep.entries s n i) in
     record {
       whole = record {
@@ -114,12 +114,12 @@ returns-clause-others c j m =
 pub returns-clause-namespaces : goal.returns-clause-namespaces
 returns-clause-namespaces c s =
     let spaces = c.self.inside.spaces in
-    let numbers = c.args.numbers.now.items in
+    let numbers = c.args.numbers.now in
     let prep = c.in_ok-prepare_path.ensures in
     let now : Numbering = numbering_of c.self.inside.pid_max spaces c.self.inside.idents c.self.inside.order in
     let old : namespace_on c.prepare_path.new.spaces s ≡ namespace_at now s = sym (ties.get_or-map_option namespace_of c.prepare_path.new.spaces.slots s) ∙ ap (λ l. get_or l s None) prep.namespaces in
     ties.get_or-map_option namespace_of c.give_path.new.spaces.slots s ∙ c.give_path.ensures.namespaces s
-    ∙ ap (λ p. option_map (moved p c.as_slice-numbers.result.now s) (namespace_on c.prepare_path.new.spaces s)) (prep.way c.args.space ∙ sym (views.path_is c.self.inside.pid_max spaces c.self.inside.idents c.self.inside.order c.args.space))
-    ∙ ap (λ l. option_map (moved (path_at now c.args.space) l s) (namespace_on c.prepare_path.new.spaces s)) c.as_slice-numbers.ensures.value
+    ∙ ap (λ p. option_map (moved p c.args.numbers.now s) (namespace_on c.prepare_path.new.spaces s)) (prep.way c.args.space ∙ sym (views.path_is c.self.inside.pid_max spaces c.self.inside.idents c.self.inside.order c.args.space))
+    ∙ ap (λ l. option_map (moved (path_at now c.args.space) l s) (namespace_on c.prepare_path.new.spaces s)) refl
     ∙ ap (option_map (moved (path_at now c.args.space) numbers s)) old
     ∙ ap (λ b. option_map (moved (path_at b c.args.space) numbers s) (namespace_at b s)) c.self.view_is

@@ -29,9 +29,9 @@ standing (Some z) e = (e, (z, refl))
 pub prepare_path-requires : goal.prepare_path-requires
 prepare_path-requires c =
     let spaces = c.self.inside.spaces in
-    let around = take (length c.as_slice-numbers.result.now - 1) (drop 1 c.as_slice-numbers.result.now) in
+    let around = take (length c.args.numbers.now - 1) (drop 1 c.args.numbers.now) in
     let is : around ≡ map (λ s. unwrap_or (draw_in (numbering_of c.self.inside.pid_max spaces c.self.inside.idents c.self.inside.order) s) 0) (path_at (numbering_of c.self.inside.pid_max spaces c.self.inside.idents c.self.inside.order) c.args.parent) =
-    planned-around (numbering_of c.self.inside.pid_max spaces c.self.inside.idents c.self.inside.order) c.args.self.now c.self.view_is c.args.parent c.args.numbers.now.items c.as_slice-numbers.result.now c.as_slice-numbers.ensures.value c.requires.planned in
+    planned-around (numbering_of c.self.inside.pid_max spaces c.self.inside.idents c.self.inside.order) c.args.self.now c.self.view_is c.args.parent c.args.numbers.now c.args.numbers.now refl c.requires.planned in
     let all = all-in (numbering_of c.self.inside.pid_max spaces c.self.inside.idents c.self.inside.order) c.args.self.now c.self.view_is c.args.parent c.requires.all in
     record {
       planned = views.all_planned c.self.inside.pid_max spaces c.self.inside.idents c.self.inside.order c.self.invariant.whole.numbering c.args.parent around all is;
@@ -85,9 +85,9 @@ give_path-requires c =
     let key = c.in_ok-key.key in
     let add = c.in_ok-key.ensures in
     let prep = c.in_ok-prepare_path.ensures in
-    let around = take (length c.as_slice-numbers.result.now - 1) (drop 1 c.as_slice-numbers.result.now) in
+    let around = take (length c.args.numbers.now - 1) (drop 1 c.args.numbers.now) in
     let is : around ≡ map (λ s. unwrap_or (draw_in whole s) 0) (path_at whole c.args.parent) =
-    planned-around whole c.args.self.now c.self.view_is c.args.parent c.args.numbers.now.items c.as_slice-numbers.result.now c.as_slice-numbers.ensures.value c.requires.planned in
+    planned-around whole c.args.self.now c.self.view_is c.args.parent c.args.numbers.now c.args.numbers.now refl c.requires.planned in
     let all = all-in whole c.args.self.now c.self.view_is c.args.parent c.requires.all in
     let planned : ArePlanned spaces (way spaces c.args.parent) around = views.all_planned c.self.inside.pid_max spaces idents c.self.inside.order c.self.invariant.whole.numbering c.args.parent around all is in
     let len : length around ≡ length (way spaces c.args.parent) = views.planned_len c.self.inside.pid_max spaces idents c.self.inside.order c.self.invariant.whole.numbering c.args.parent around is in
@@ -110,9 +110,9 @@ invariant_of-self-2 c =
     let key = c.in_ok-key.key in
     let add = c.in_ok-key.ensures in
     let prep = c.in_ok-prepare_path.ensures in
-    let around = take (length c.as_slice-numbers.result.now - 1) (drop 1 c.as_slice-numbers.result.now) in
+    let around = take (length c.args.numbers.now - 1) (drop 1 c.args.numbers.now) in
     let is : around ≡ map (λ s. unwrap_or (draw_in whole s) 0) (path_at whole c.args.parent) =
-    planned-around whole c.args.self.now c.self.view_is c.args.parent c.args.numbers.now.items c.as_slice-numbers.result.now c.as_slice-numbers.ensures.value c.requires.planned in
+    planned-around whole c.args.self.now c.self.view_is c.args.parent c.args.numbers.now c.args.numbers.now refl c.requires.planned in
     let all = all-in whole c.args.self.now c.self.view_is c.args.parent c.requires.all in
     let planned : ArePlanned spaces (way spaces c.args.parent) around = views.all_planned c.self.inside.pid_max spaces idents c.self.inside.order c.self.invariant.whole.numbering c.args.parent around all is in
     let len : length around ≡ length (way spaces c.args.parent) = views.planned_len c.self.inside.pid_max spaces idents c.self.inside.order c.self.invariant.whole.numbering c.args.parent around is in
@@ -123,7 +123,7 @@ invariant_of-self-2 c =
     let ident = c.in_ok-ident.ident in
     let key_is : ident ≡ c.insert_reserved.result = c.in_ok-ident.ensures.key ∙ sym c.insert_reserved.ensures.key in
     let rest : (j : ℕ) → j ≢ ident → name_at c.insert_reserved.new.self j ≡ name_at idents j = λ j m. ap (option_map identifier_of) (c.insert_reserved.ensures.updates.others j (λ z. m (z ∙ sym key_is))) ∙ ap (λ z. name_at z j) c.in_ok-ident.ensures.same in
-    let items : c.args.numbers.now.items ≡ 1 ∷ around = subst (λ b. c.args.numbers.now.items ≡ 1 ∷ map (λ s. unwrap_or (draw_in b s) 0) (path_at b c.args.parent)) (sym c.self.view_is) c.requires.planned ∙ ap (λ l. 1 ∷ l) (sym is) in
+    let items : c.args.numbers.now ≡ 1 ∷ around = subst (λ b. c.args.numbers.now ≡ 1 ∷ map (λ s. unwrap_or (draw_in b s) 0) (path_at b c.args.parent)) (sym c.self.view_is) c.requires.planned ∙ ap (λ l. 1 ∷ l) (sym is) in
     let named : name_at c.insert_reserved.new.self ident ≡ Some (new_identifier key (1 ∷ around)) =
     ap (name_at c.insert_reserved.new.self) key_is ∙ ap (option_map identifier_of) c.insert_reserved.ensures.updates.changed ∙ ap (λ l. Some (new_identifier key l)) (c.in_ok-stored.ensures ∙ items) in
     let shown = c.add_space.new.spaces in
@@ -156,9 +156,9 @@ returns-clause-made c =
     let key = c.in_ok-key.key in
     let add = c.in_ok-key.ensures in
     let prep = c.in_ok-prepare_path.ensures in
-    let around = take (length c.as_slice-numbers.result.now - 1) (drop 1 c.as_slice-numbers.result.now) in
+    let around = take (length c.args.numbers.now - 1) (drop 1 c.args.numbers.now) in
     let is : around ≡ map (λ s. unwrap_or (draw_in whole s) 0) (path_at whole c.args.parent) =
-    planned-around whole c.args.self.now c.self.view_is c.args.parent c.args.numbers.now.items c.as_slice-numbers.result.now c.as_slice-numbers.ensures.value c.requires.planned in
+    planned-around whole c.args.self.now c.self.view_is c.args.parent c.args.numbers.now c.args.numbers.now refl c.requires.planned in
     let all = all-in whole c.args.self.now c.self.view_is c.args.parent c.requires.all in
     let planned : ArePlanned spaces (way spaces c.args.parent) around = views.all_planned c.self.inside.pid_max spaces idents c.self.inside.order c.self.invariant.whole.numbering c.args.parent around all is in
     let len : length around ≡ length (way spaces c.args.parent) = views.planned_len c.self.inside.pid_max spaces idents c.self.inside.order c.self.invariant.whole.numbering c.args.parent around is in
@@ -181,9 +181,9 @@ returns-clause-namespaces c s m =
     let key = c.in_ok-key.key in
     let add = c.in_ok-key.ensures in
     let prep = c.in_ok-prepare_path.ensures in
-    let around = take (length c.as_slice-numbers.result.now - 1) (drop 1 c.as_slice-numbers.result.now) in
+    let around = take (length c.args.numbers.now - 1) (drop 1 c.args.numbers.now) in
     let is : around ≡ map (λ s. unwrap_or (draw_in whole s) 0) (path_at whole c.args.parent) =
-    planned-around whole c.args.self.now c.self.view_is c.args.parent c.args.numbers.now.items c.as_slice-numbers.result.now c.as_slice-numbers.ensures.value c.requires.planned in
+    planned-around whole c.args.self.now c.self.view_is c.args.parent c.args.numbers.now c.args.numbers.now refl c.requires.planned in
     let all = all-in whole c.args.self.now c.self.view_is c.args.parent c.requires.all in
     let planned : ArePlanned spaces (way spaces c.args.parent) around = views.all_planned c.self.inside.pid_max spaces idents c.self.inside.order c.self.invariant.whole.numbering c.args.parent around all is in
     let len : length around ≡ length (way spaces c.args.parent) = views.planned_len c.self.inside.pid_max spaces idents c.self.inside.order c.self.invariant.whole.numbering c.args.parent around is in
@@ -191,10 +191,10 @@ returns-clause-namespaces c s m =
     let there : 0 < length (way spaces c.args.parent) = (c.self.invariant.whole.numbering.bounds c.args.parent stands.1.0.ids.pid_max (ap (option_map (λ t. t.ids.pid_max)) stands.1.1)).1 in
     let few : length (way spaces c.args.parent) < 33 =
     (let l = ap length (ap (λ b. path_at b c.args.parent) (sym c.self.view_is) ∙ views.path_is c.self.inside.pid_max spaces idents c.self.inside.order c.args.parent) in let s = c.requires.shallow in omega (arith, l, s)) in
-    let items : c.args.numbers.now.items ≡ 1 ∷ around = subst (λ b. c.args.numbers.now.items ≡ 1 ∷ map (λ s. unwrap_or (draw_in b s) 0) (path_at b c.args.parent)) (sym c.self.view_is) c.requires.planned ∙ ap (λ l. 1 ∷ l) (sym is) in
+    let items : c.args.numbers.now ≡ 1 ∷ around = subst (λ b. c.args.numbers.now ≡ 1 ∷ map (λ s. unwrap_or (draw_in b s) 0) (path_at b c.args.parent)) (sym c.self.view_is) c.requires.planned ∙ ap (λ l. 1 ∷ l) (sym is) in
     let old : namespace_on c.add_space.new.spaces s ≡ namespace_at whole s = ap (option_map namespace_of) (add.others s m) ∙ sym (ties.get_or-map_option namespace_of c.prepare_path.new.spaces.slots s) ∙ ap (λ l. get_or l s None) prep.namespaces in
     ties.get_or-map_option namespace_of c.give_path.new.spaces.slots s ∙ c.give_path.ensures.namespaces s
     ∙ ap (λ p. option_map (moved p around s) (namespace_on c.add_space.new.spaces s)) (begins.path3 c.self.inside.pid_max spaces c.prepare_path.new.spaces c.add_space.new.spaces (name_at idents) c.self.invariant.whole c.args.parent there few prep.plan prep.way key add.vacant add.others add.way ∙ sym (views.path_is c.self.inside.pid_max spaces idents c.self.inside.order c.args.parent))
     ∙ ap (λ l. option_map (moved (path_at whole c.args.parent) l s) (namespace_on c.add_space.new.spaces s)) (sym (ap (drop 1) items))
-    ∙ ap (option_map (moved (path_at whole c.args.parent) (drop 1 c.args.numbers.now.items) s)) old
-    ∙ ap (λ b. option_map (moved (path_at b c.args.parent) (drop 1 c.args.numbers.now.items) s) (namespace_at b s)) c.self.view_is
+    ∙ ap (option_map (moved (path_at whole c.args.parent) (drop 1 c.args.numbers.now) s)) old
+    ∙ ap (λ b. option_map (moved (path_at b c.args.parent) (drop 1 c.args.numbers.now) s) (namespace_at b s)) c.self.view_is

@@ -15,7 +15,7 @@ settle-requires-clause-named c k m is =
     let old : Store = record { numbering = c.self.inside.numbers; tree = c.self.inside.tree; members = c.self.inside.members; charges = c.self.inside.controls } in
     let group = less.used c.self.inside.numbers Group m.group (groups.group_used old c.self.invariant k m is) in
     let session = less.used c.self.inside.numbers Session m.session (groups.session_used old c.self.invariant k m is) in
-    let there = births.drawn-there c.self.inside.numbers c.draw_new.new.self c.in_ok-space.field-0-0 c.in_ok-space.space c.args.numbers.now.items c.in_ok-space.ensures.fresh.0 c.in_ok-space.ensures.named c.in_ok-space.ensures.others in
+    let there = births.drawn-there c.self.inside.numbers c.draw_new.new.self c.in_ok-space.field-0-0 c.in_ok-space.space c.args.numbers.now c.in_ok-space.ensures.fresh.0 c.in_ok-space.ensures.named c.in_ok-space.ensures.others in
     (there m.group (ap is_some group.1), there m.session (ap is_some session.1))
 
 pub settle-requires-clause-free : goal.settle-requires-clause-free
@@ -30,7 +30,7 @@ settle-requires-clause-free c k e =
 pub settle-requires-clause-few : goal.settle-requires-clause-few
 settle-requires-clause-few c k i =
     let old : Store = record { numbering = c.self.inside.numbers; tree = c.self.inside.tree; members = c.self.inside.members; charges = c.self.inside.controls } in
-    births.drawn-few c.self.inside.numbers c.draw_new.new.self c.in_ok-space.field-0-0 c.in_ok-space.space c.args.numbers.now.items c.in_ok-space.ensures.fresh.0 c.in_ok-space.ensures.named c.in_ok-space.ensures.others
+    births.drawn-few c.self.inside.numbers c.draw_new.new.self c.in_ok-space.field-0-0 c.in_ok-space.space c.args.numbers.now c.in_ok-space.ensures.fresh.0 c.in_ok-space.ensures.named c.in_ok-space.ensures.others
     (groups.few_uses old c.self.invariant c.laws-4.ensures.few) k i
 
 path_moved : (path numbers : List ℕ) (s : ℕ) (o : Option Namespace) → option_map_or (λ t. t.path) (option_map (cursor_moved path numbers s) o) [] ≡ option_map_or (λ t. t.path) o []
@@ -51,14 +51,14 @@ invariant_of-self-2 c =
     (let r = rw (← c.self.view_is) at c.in_ok-key.ensures.tasks in r) (let r = rw (← c.self.view_is) at c.in_ok-key.ensures.members in r) c.requires.live
     (births.one_parent old w c.args.from (ap is_some (same.tasks c.args.from) ∙ c.requires.from))
     (subst (λ (j : ℕ). births.OneMore c.self.inside.numbers c.draw_new.new.self j) key
-    (births.drawn-uses c.self.inside.numbers c.draw_new.new.self c.in_ok-space.field-0-0 c.in_ok-space.space c.args.numbers.now.items c.in_ok-space.ensures.fresh.0 c.in_ok-space.ensures.named c.in_ok-space.ensures.others))
+    (births.drawn-uses c.self.inside.numbers c.draw_new.new.self c.in_ok-space.field-0-0 c.in_ok-space.space c.args.numbers.now c.in_ok-space.ensures.fresh.0 c.in_ok-space.ensures.named c.in_ok-space.ensures.others))
     c.settle.ensures.uses c.settle.ensures.tasks c.settle.ensures.members c.settle.ensures.charged
     (ap (λ v. stands v c.args.task.home) same.charges ∙ c.requires.home) c.settle.ensures.count
     (births.ranks-born c.self.inside.numbers c.settle.new.numbers c.self.inside.tree c.settle.new.tree c.in_ok-key.key fresh
     (λ j differs. c.settle.ensures.bare j ∙ bare_drawn j (λ e. differs (e ∙ key)))
     (λ p long. ap (λ l. option_map_or (λ t. t.path) (slice_index_or l p None) []) c.settle.ensures.namespaces
     ∙ ap (λ o. option_map_or (λ t. t.path) o []) (c.in_ok-space.ensures.namespaces p (births.other_space c.self.inside.numbers c.in_ok-space.space p c.in_ok-space.ensures.fresh.1 long))
-    ∙ path_moved (path_at c.self.inside.numbers c.args.outer) (drop 1 c.args.numbers.now.items) p (namespace_at c.self.inside.numbers p))
+    ∙ path_moved (path_at c.self.inside.numbers c.args.outer) (drop 1 c.args.numbers.now) p (namespace_at c.self.inside.numbers p))
     c.laws-2.ensures.full (λ k. ap (λ l. slice_index_or l k None) c.settle.ensures.ranks)
     (λ k p r e. births.ranked-there old w c.laws-3.ensures.waiting k p r e
     (births.parent_task c.args.self.now old same c.requires.parents)) w.ranks)
