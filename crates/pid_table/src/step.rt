@@ -65,8 +65,8 @@ impl PidTable {
     /// stand. The reply is written in place. The error is want of memory, and then what the reply holds is of no account.
     ///
     /// It costs a search on each level of the namespaces that the call names, a step for each control group around the task,
-    /// and for a fall one for each member and for each namespace that there is. A wait for a group walks the shorter of two
-    /// lists: the caller's children, and the members of the group.
+    /// and for a fall one for each member and for each namespace that there is. A wait for a group walks at
+    /// most four times the shorter of two lists: the caller's children, and the members of the group.
     #[inline(always)]
     pub fn step(&mut self, stamp: u64, call: Call, reply: &mut Reply) -> Result<(), AllocError>
         requires below { IsBelow stamp self.old }

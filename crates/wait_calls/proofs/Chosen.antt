@@ -1,4 +1,4 @@
--- A walk over a list with all who match ends with the choice among them.
+-- A walk over all ended children ends with the choice among those of them in the group.
 use Rattle.std.proofs.Common.{◌≡◌, ◌≢◌, ℕ, ◌+◌, ◌<◌, ◌≤◌, ◌==◌, ◌&&◌, Bool, true, false, List, [], ◌∷◌, Option, Some, None, option_map, cond, refl, sym, ap, ◌∙◌, arith}
 use Rattle.std.specs.Option.{option_eq}
 use Rattle.std.specs.Prelude.{nat_lt, if◌then◌else◌}
@@ -38,7 +38,7 @@ module _ (s : Store) (caller group : ℕ) where
       let two : option_eq ◌==◌ (group_of s.members k) (Some group) ≡ true = ap (λ o. option_eq ◌==◌ o (Some group)) member ∙ eq-eqb group group refl in
       rw (one, two) refl
 
-  pub is_match : (k : ℕ) → is_group_match s caller group k ≡ true → IsMatch s caller (Group group) k
+  is_match : (k : ℕ) → is_group_match s caller group k ≡ true → IsMatch s caller (Group group) k
   is_match k e =
       let tests = both (option_eq ◌==◌ (parent_of s.tree k) (Some caller)) (option_eq ◌==◌ (group_of s.members k) (Some group)) e in
       (same_key (parent_of s.tree k) caller tests.0, same_key (group_of s.members k) group tests.1)
@@ -171,18 +171,6 @@ module _ (s : Store) (caller group : ℕ) where
             let own : Some m.1 ≡ Some r = sym (ap (option_map (λ (m : ℕ × ℕ). m.1)) at) ∙ some in
             let rank : m.1 ≡ r = cc in
             (e, rw (at, owner, rank) refl)
-
-    -- a list that has all who match leads to the choice
-    pub chosen : (keys : List ℕ) → ((k : ℕ) → IsMatch s caller (Group group) k → times k keys ≡ 1) → IsChoice s caller (Group group) (walked s caller group NoChild keys)
-    chosen keys all = go (walked s caller group NoChild keys) (names_walked keys NoChild tt) (λ i m. covers_walked keys NoChild i (of_match i m) (let h = all i m in omega (arith, h)))
-      where
-        go : (choice : Choice) → Names choice → ((i : ℕ) → IsMatch s caller (Group group) i → Covers i choice) → IsChoice s caller (Group group) choice
-        go NoChild names covers = λ k m. covers k m
-        go NoneEnded (k, e) covers = ((k, is_match k e), λ j m. no_zombie j m.0 (covers j m))
-        go (Ended child rank) (e, own) covers =
-            let m = is_match child e in
-            let z = zombie child rank m.0 own in
-            (m, z.0, z.1, λ k r match at. covers k match r (ap (option_map (λ (p : ℕ × ℕ). p.1)) at))
 
     -- a list of all ended children leads to the choice among those that have ended
     pub chosen-ended : (keys : List ℕ) → ((k : ℕ) → waiting_at s.tree.ended k ≡ Some caller → times k keys ≡ 1) → AllByRecursion (λ k. waiting_at s.tree.ended k ≡ Some caller) keys

@@ -2,9 +2,8 @@
 //!
 //! Nothing is changed and no memory is taken. A wait for any child, or for one task, costs a few reads,
 //! however many children there are. A wait for a group costs a few reads for each child of the caller that has
-//! ended. Where none of those is in the group, it costs a few more for each child and member up to the first child
-//! that is in the group; where there is none, for each child of the caller or for each member of the group,
-//! whichever are fewer.
+//! ended. Where none of those is in the group, it costs a few for each child up to the first one that is; and where the
+//! group's members are fewer than a quarter of the children, a few for each of them instead, and for four children.
 
 ghost use Rattle.std.specs.Prelude.{◌≡◌, IsSome};
 ghost use Rattle.task_tree.specs.Tree.{task_at, parent_of};

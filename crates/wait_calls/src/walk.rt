@@ -115,8 +115,8 @@ fn any_member_is_child(store: &Tasks, caller: TaskKey, group: IdentKey) -> bool
     false
 }
 
-/// Whether some child is in the group. Each of the two lists alone has all such children. The walk is over the children,
-/// and over the members instead where so few of these are left behind that their list ends first.
+/// Whether some child is in the group. Each of the two lists alone has all such children. The walk is over the children, and
+/// passes a member for each few of them; it is over the members instead where these end first.
 fn has_match(store: &Tasks, caller: TaskKey, group: IdentKey) -> bool
     requires caller { IsSome (task_at store.now.tree caller) }
     requires group { group < length store.now.members }
