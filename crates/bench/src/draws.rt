@@ -19,7 +19,7 @@ pub trait Numbers: Drop {
     fn release(&mut self, n: u32);
 }
 
-impl Numbers for CyclicIds<u32> {
+impl Numbers for CyclicIds {
     fn draw(&mut self) -> Result<Option<u32>, AllocError> {
         let Some(n) = self.plan() else {
             return Ok(None);

@@ -44,7 +44,7 @@ pub trait Entries: Drop {
     fn set_and_clear(&mut self, i: u32) -> u32;
 }
 
-impl Entries for IndexArray<u32> {
+impl Entries for IndexArray {
     fn value(&self, i: u32) -> u32 {
         self.get(i).copied().unwrap_or(0)
     }
@@ -66,7 +66,7 @@ impl Entries for IndexArray<u32> {
 
 /// Stores the entries below an end, at most 2^24, one in three. Below 4,194,304 that is some 41 MB. The
 /// error is want of memory.
-pub fn every_third(alloc: Global, end: u32) -> Result<IndexArray<u32>> {
+pub fn every_third(alloc: Global, end: u32) -> Result<IndexArray> {
     let mut entries = IndexArray::new(alloc);
     for k in 0..end / 3 {
         let marks = [k % MARKED == 0, false, false];

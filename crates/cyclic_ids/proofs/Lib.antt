@@ -1,1 +1,3 @@
+pub mod Beside
 pub mod Draws
+pub mod Searches

@@ -9,14 +9,14 @@
 //! it, and `commit` gives it. Only `prepare` takes memory.
 #![tactic(auto)]
 
-ghost use Rattle.std.specs.Prelude.{◌≡◌, ℕ, ◌+◌, ◌<◌, ◌≤◌, Option, Some, None, OnOk, IfSome, MatchBool, true, false, is_some, [], ◌∷◌};
-ghost use Rattle.std.specs.Option.{option_copied};
+ghost use Rattle.std.specs.Prelude.{◌≡◌, ℕ, ◌+◌, ◌*◌, ◌/◌, ◌<◌, ◌≤◌, Option, Some, None, OnOk, IfSome, MatchBool, true, false, not, is_some, [], ◌∷◌};
+ghost use Rattle.std.specs.Option.{option_copied, option_map};
 ghost use Rattle.index_array.specs.Place.{index_count, entry_at, is_prepared, value_at, is_marked, with_mark, IsLeastIndex, WritesEntry, KeepsEntries, KeepsPrepared};
 ghost use Rattle.pid_types.specs.Draw.{restart};
 ghost use Rattle.pid_types.specs.Settings.{HasGoodPidMax};
-ghost use Rattle.cyclic_ids.specs.Ids.{Ids, planned, AreInRange};
+ghost use Rattle.cyclic_ids.specs.Ids.{Ids, planned, entry_beside, lesser, AreInRange};
 
-use index_array::IndexArray;
+use index_array::{IndexArray, Leaf};
 use pid_types::keys::Pid;
 use std::alloc::{AllocError, Global};
 use std::marker::Model;
@@ -32,36 +32,100 @@ pub const SESSION_MARK: usize = 2;
 
 /// A finite map from numbers below a bound to values with marks, and a cursor for draws.
 ///
-/// It owns its values. A call makes one call of an `IndexArray`, `plan` at most two, so its cost hardly
-/// grows with the numbers in use.
-pub struct CyclicIds<T: Drop> {
-    ids: IndexArray<T>,
+/// The 64 numbers of one block, that of the last number that was prepared, stand in a leaf beside the
+/// tree. So a call for one of them is a call for that leaf, and a call for another is one of an `IndexArray`; a
+/// search may make both, and `plan` at most four. `prepare` exchanges the leaf for another, so draws in turn do
+/// so once in 64. The cost hardly grows with the numbers in use.
+pub struct CyclicIds {
+    ids: IndexArray,
+    leaf: Leaf,
+    /// The numbers of the leaf divided by 64.
+    block: u32,
+    /// Whether the numbers of the leaf are prepared.
+    is_ready: bool,
+    /// Whether the tree may have a leaf, with no entry, for the same block.
+    is_backed: bool,
     pid_max: u32,
     cursor: Pid,
 }
 
 // Written out, and not derived: so the crates above cite this drop, and do not prove it anew.
-impl<T: Drop> Drop for CyclicIds<T> {
+impl Drop for CyclicIds {
     fn drop(self) {
         let CyclicIds {
             ids: _,
+            leaf: _,
+            block: _,
+            is_ready: _,
+            is_backed: _,
             pid_max: _,
             cursor: _,
         } = self;
     }
 }
 
-impl<T: Drop> Model for CyclicIds<T> {
-    ghost use Rattle.cyclic_ids.specs.Ids.{Ids, AreIds};
+impl Model for CyclicIds {
+    ghost use Rattle.std.specs.Prelude.{ℕ};
+    ghost use Rattle.cyclic_ids.specs.Ids.{Ids, AreIds, places_beside};
 
-    ghost Value = { Ids T };
+    ghost Value = { Ids ℕ };
 
-    ghost view = { λ a. record { places = a.ids; pid_max = a.pid_max; cursor = a.cursor } };
+    ghost view = { λ a. record { places = places_beside a.is_ready a.block a.leaf.places a.ids; pid_max = a.pid_max; cursor = a.cursor } };
 
-    ghost invariant = { λ a. AreIds a.pid_max a.ids };
+    ghost invariant = { λ a. AreIds a.pid_max a.is_ready a.block a.leaf.places a.ids };
 }
 
-impl<T: Drop> CyclicIds<T> {
+/// The lesser of two numbers, of which the second is a slot in a block.
+fn lesser_of(found: Option<Pid>, block: u32, slot: Option<u32>) -> Option<Pid>
+    requires block { block < 262144 }
+    requires slot { IfSome slot (λ s. s < 64) }
+    ensures { result ≡ lesser found (option_map (λ s. block * 64 + s) slot) }
+{
+    match slot {
+        None => found,
+        Some(slot) => {
+            let n = block * 64 + slot;
+            match found {
+                None => Some(n),
+                Some(found) => Some(found.min(n)),
+            }
+        }
+    }
+}
+
+/// The least free number from one on and below an end, where that one is in the leaf's block.
+#[inline(always)]
+fn gap_from_leaf(ids: &IndexArray, leaf: &Leaf, block: u32, from: Pid, end: u32) -> Option<Pid>
+    requires block { block < 262144 }
+    requires here { from / 64 ≡ block }
+    requires end { end ≤ index_count }
+    ensures { IsLeastIndex (λ k. not (is_some (entry_beside block leaf.now.places ids.now k))) from end result }
+{
+    match leaf.next_gap(from % 64) {
+        None => ids.first_gap(block * 64 + 64, end),
+        Some(slot) => {
+            let n = block * 64 + slot;
+            if n < end { Some(n) } else { None }
+        }
+    }
+}
+
+/// Makes the nodes for an index, if they are asked for. The error is want of memory; no entry changes.
+fn make_room(ids: &mut IndexArray, i: u32, is_asked: bool) -> Result<(), AllocError>
+    ensures ok { OnOk result (is_asked ≡ true → is_prepared ids.new i ≡ true) }
+    ensures entries { KeepsEntries ids.old ids.new }
+    ensures keeps { KeepsPrepared ids.old ids.new }
+{
+    if !is_asked {
+        return Ok(());
+    }
+    match ids.prepare(i) {
+        Ok(()) => Ok(()),
+        Err(_) => Err(AllocError),
+    }
+}
+
+impl CyclicIds {
     /// No number is in use, and the cursor is 0. Each number will be below `pid_max`.
     pub fn new(alloc: Global, pid_max: u32) -> Self
         requires { HasGoodPidMax pid_max }
@@ -71,6 +135,10 @@ impl<T: Drop> CyclicIds<T> {
     {
         CyclicIds {
             ids: IndexArray::new(alloc),
+            leaf: Leaf::new(),
+            block: 0,
+            is_ready: false,
+            is_backed: false,
             pid_max,
             cursor: 0,
         }
@@ -98,9 +166,28 @@ impl<T: Drop> CyclicIds<T> {
         ensures below { IfSome result (λ n. n < self.now.pid_max) }
     {
         let low = self.restart();
-        match self.ids.first_gap(self.cursor.max(low), self.pid_max) {
+        match self.first_gap(self.cursor.max(low)) {
             Some(n) => Some(n),
-            None => self.ids.first_gap(low, self.pid_max),
+            None => self.first_gap(low),
+        }
+    }
+
+    /// The least free number from one on and below the bound.
+    #[inline(always)]
+    fn first_gap(&self, from: Pid) -> Option<Pid>
+        ensures { IsLeastIndex (λ k. not (is_some (entry_at self.now.places k))) from self.now.pid_max result }
+    {
+        if from / 64 == self.block {
+            return gap_from_leaf(&self.ids, &self.leaf, self.block, from, self.pid_max);
+        }
+        match self.ids.first_gap(from, self.pid_max) {
+            None => None,
+            Some(n) => {
+                if n / 64 != self.block {
+                    return Some(n);
+                }
+                gap_from_leaf(&self.ids, &self.leaf, self.block, n, self.pid_max)
+            }
         }
     }
 
@@ -124,21 +211,47 @@ impl<T: Drop> CyclicIds<T> {
         ensures pid_max { self.new.pid_max ≡ self.old.pid_max }
         ensures cursor { self.new.cursor ≡ self.old.cursor }
     {
-        match self.ids.prepare(n) {
-            Ok(()) => Ok(()),
-            Err(_) => Err(AllocError),
+        if n / 64 != self.block {
+            return self.change_leaf(n);
         }
+        self.is_ready = true;
+        Ok(())
+    }
+
+    /// Puts the leaf into the tree, and takes that of a number out in its place. On want of memory nothing
+    /// changes but nodes.
+    #[inline(never)]
+    fn change_leaf(&mut self, n: Pid) -> Result<(), AllocError>
+        requires { n < self.old.pid_max }
+        ensures ok { OnOk result (is_prepared self.new.places n ≡ true) }
+        ensures entries { KeepsEntries self.old.places self.new.places }
+        ensures keeps { KeepsPrepared self.old.places self.new.places }
+        ensures planned { planned self.new ≡ planned self.old }
+        ensures pid_max { self.new.pid_max ≡ self.old.pid_max }
+        ensures cursor { self.new.cursor ≡ self.old.cursor }
+    {
+        let first = self.block * 64;
+        make_room(&mut self.ids, first, self.is_ready)?;
+        self.ids.exchange_leaf(first, &mut self.leaf);
+        self.is_backed = self.ids.is_prepared(n);
+        self.ids.exchange_leaf(n, &mut self.leaf);
+        self.block = n / 64;
+        self.is_ready = true;
+        Ok(())
     }
 
     /// Whether `commit` has the memory that it needs for a number.
     pub fn is_prepared(&self, n: Pid) -> bool
         ensures { result ≡ is_prepared self.now.places n }
     {
+        if n / 64 == self.block {
+            return self.is_ready;
+        }
         self.ids.is_prepared(n)
     }
 
     /// Gives the planned number to a value, with no mark. It takes no memory.
-    pub fn commit(&mut self, n: Pid, v: T)
+    pub fn commit(&mut self, n: Pid, v: u32)
         requires planned { planned self.old ≡ Some n }
         requires prepared { is_prepared self.old.places n ≡ true }
         ensures writes { WritesEntry self.old.places self.new.places n
@@ -153,7 +266,7 @@ impl<T: Drop> CyclicIds<T> {
     /// Gives the planned number to a value, with the marks that `marks` has at their place. It takes no
     /// memory, and costs what `commit` does, where each `set_mark` after it would be a call of its own.
     #[inline(always)]
-    pub fn commit_marked(&mut self, n: Pid, v: T, marks: [bool; 3])
+    pub fn commit_marked(&mut self, n: Pid, v: u32, marks: [bool; 3])
         requires planned { planned self.old ≡ Some n }
         requires prepared { is_prepared self.old.places n ≡ true }
         ensures writes { WritesEntry self.old.places self.new.places n
@@ -162,26 +275,53 @@ impl<T: Drop> CyclicIds<T> {
         ensures pid_max { self.new.pid_max ≡ self.old.pid_max }
         ensures cursor { self.new.cursor ≡ n + 1 }
     {
-        let _ = self.ids.store_prepared(n, v, marks);
+        let block = self.block;
         let next = n + 1;
         self.cursor = next;
+        if n / 64 == block {
+            self.leaf.store(n % 64, v, marks);
+        } else {
+            let _ = self.ids.store_prepared(n, v, marks);
+        }
     }
 
     /// Makes a number free and answers its value, none where it was not in use. The cursor stays.
     #[inline(always)]
-    pub fn release(&mut self, n: Pid) -> Option<T>
+    pub fn release(&mut self, n: Pid) -> Option<u32>
         ensures writes { WritesEntry self.old.places self.new.places n None }
         ensures answer { result ≡ value_at self.old.places n }
         ensures pid_max { self.new.pid_max ≡ self.old.pid_max }
         ensures cursor { self.new.cursor ≡ self.old.cursor }
     {
-        self.ids.erase(n)
+        if n / 64 != self.block {
+            return self.ids.erase(n);
+        }
+        let old = self.leaf.erase(n % 64);
+        self.is_ready = !self.leaf.is_empty();
+        self.give_back_empty();
+        old
+    }
+
+    /// Gives back the tree's leaf for the leaf's block, once no number of the block is in use.
+    #[inline(always)]
+    fn give_back_empty(&mut self)
+        ensures entries { KeepsEntries self.old.places self.new.places }
+        ensures pid_max { self.new.pid_max ≡ self.old.pid_max }
+        ensures cursor { self.new.cursor ≡ self.old.cursor }
+    {
+        if self.is_backed & !self.is_ready {
+            self.is_backed = false;
+            self.ids.give_back(self.block * 64);
+        }
     }
 
     /// The value of a number; none where it is not in use.
-    pub fn find(&self, n: Pid) -> Option<&T>
+    pub fn find(&self, n: Pid) -> Option<&u32>
         ensures { option_copied result ≡ value_at self.now.places n }
     {
+        if n / 64 == self.block {
+            return self.leaf.value(n % 64);
+        }
         self.ids.get(n)
     }
 
@@ -190,6 +330,9 @@ impl<T: Drop> CyclicIds<T> {
         requires { m < 3 }
         ensures { result ≡ is_marked m (entry_at self.now.places n) }
     {
+        if n / 64 == self.block {
+            return self.leaf.is_marked(n % 64, m);
+        }
         self.ids.has_mark(n, m)
     }
 
@@ -203,6 +346,9 @@ impl<T: Drop> CyclicIds<T> {
         ensures pid_max { self.new.pid_max ≡ self.old.pid_max }
         ensures cursor { self.new.cursor ≡ self.old.cursor }
     {
+        if n / 64 == self.block {
+            return self.leaf.set_mark(n % 64, m, true);
+        }
         self.ids.set_mark(n, m)
     }
 
@@ -216,6 +362,9 @@ impl<T: Drop> CyclicIds<T> {
         ensures pid_max { self.new.pid_max ≡ self.old.pid_max }
         ensures cursor { self.new.cursor ≡ self.old.cursor }
     {
+        if n / 64 == self.block {
+            return self.leaf.set_mark(n % 64, m, false);
+        }
         self.ids.clear_mark(n, m)
     }
 
@@ -224,14 +373,24 @@ impl<T: Drop> CyclicIds<T> {
         requires { m < 3 }
         ensures { IsLeastIndex (λ k. is_marked m (entry_at self.now.places k)) from index_count result }
     {
-        self.ids.next_marked(from, m)
+        let found = self.ids.next_marked(from, m);
+        if from / 64 > self.block {
+            return found;
+        }
+        let start = from.saturating_sub(self.block * 64);
+        lesser_of(found, self.block, self.leaf.next_marked(start, m))
     }
 
     /// The least number at or above `from` that is in use; none where there is none.
     pub fn next(&self, from: Pid) -> Option<Pid>
         ensures { IsLeastIndex (λ k. is_some (entry_at self.now.places k)) from index_count result }
     {
-        self.ids.next(from)
+        let found = self.ids.next(from);
+        if from / 64 > self.block {
+            return found;
+        }
+        let start = from.saturating_sub(self.block * 64);
+        lesser_of(found, self.block, self.leaf.next(start))
     }
 
     /// Whether no number is in use. It costs one read.
@@ -240,6 +399,9 @@ impl<T: Drop> CyclicIds<T> {
         ensures { MatchBool result ((n : ℕ) → entry_at self.now.places n ≡ None)
             ((n : ℕ) × (is_some (entry_at self.now.places n) ≡ true)) }
     {
-        self.ids.is_empty()
+        match self.leaf.next(0) {
+            Some(_) => false,
+            None => self.ids.is_empty(),
+        }
     }
 }

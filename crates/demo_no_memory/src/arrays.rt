@@ -19,7 +19,7 @@ const PID_MAX: u32 = 302;
 const NUMBERS: u32 = 70;
 
 /// What can be read of an array: each index in use, with its value and its marks.
-fn see_array(array: &IndexArray<u32>) -> Picture {
+fn see_array(array: &IndexArray) -> Picture {
     let mut seen = Picture::new();
     let mut from = 0u32;
     for _ in 0..PLACES.len() {
@@ -37,7 +37,7 @@ fn see_array(array: &IndexArray<u32>) -> Picture {
 }
 
 /// Makes room at an index, and once more where there was no memory.
-fn prepare(array: &mut IndexArray<u32>, i: u32) -> Result<bool> {
+fn prepare(array: &mut IndexArray, i: u32) -> Result<bool> {
     let before = see_array(array);
     match array.prepare(i) {
         Ok(()) => return Ok(true),
@@ -48,7 +48,7 @@ fn prepare(array: &mut IndexArray<u32>, i: u32) -> Result<bool> {
 }
 
 /// Stores the index itself as its value, and once more where there was no memory.
-fn store(array: &mut IndexArray<u32>, i: u32) -> Result<bool> {
+fn store(array: &mut IndexArray, i: u32) -> Result<bool> {
     let before = see_array(array);
     let marks = [true, false, true];
     match array.store(i, i, marks) {
@@ -74,7 +74,7 @@ pub fn fill_array(alloc: Global) -> Result<Option<u64>> {
 }
 
 /// What can be read of numbers: the cursor, and each number in use with its value.
-fn see_ids(ids: &CyclicIds<u32>) -> Picture {
+fn see_ids(ids: &CyclicIds) -> Picture {
     let mut seen = Picture::new();
     let _ = seen.try_push(u64::from(ids.cursor()));
     for n in 0..PID_MAX {
@@ -87,7 +87,7 @@ fn see_ids(ids: &CyclicIds<u32>) -> Picture {
 }
 
 /// Draws a number, and once more where there was no memory.
-fn draw(ids: &mut CyclicIds<u32>) -> Result<bool> {
+fn draw(ids: &mut CyclicIds) -> Result<bool> {
     let Some(n) = ids.plan() else {
         bail!("no number");
     };

@@ -8,7 +8,7 @@ use Rattle.index_array.specs.declared.root.Root.TheVariants.{Empty, Height0, Hei
 use Rattle.index_array.proofs.Powers.{node_fits}
 
 -- the nodes cover no index past the last one
-pub short : {T : Type 0} (r : Root T) → IsRoot r → length (root_places r) ≤ 16777216
+pub short : (r : Root) → IsRoot r → length (root_places r) ≤ 16777216
 short Empty top = lit≤ tt
 short (Height0 b) top = rw top.whole (node_fits 0 top.low)
 short (Height1 b) top = rw top.whole (node_fits 1 top.low)
@@ -16,5 +16,5 @@ short (Height2 b) top = rw top.whole (node_fits 2 top.low)
 short (Height3 b) top = rw top.whole (node_fits 3 top.low)
 
 -- so above them there is no entry
-pub none_above : {T : Type 0} (r : Root T) → IsRoot r → (i : ℕ) → 16777216 ≤ i → entry_at (root_places r) i ≡ None
+pub none_above : (r : Root) → IsRoot r → (i : ℕ) → 16777216 ≤ i → entry_at (root_places r) i ≡ None
 none_above r root i above = let bound = short r root in ap (λ (p : Place _). p.entry) (get_or_past (root_places r) i bare (omega (arith, bound, above)))

@@ -1,5 +1,5 @@
 -- A node, seen as the places of the indexes below it.
-use Rattle.std.specs.Prelude.{ℕ, zero, suc, ◌≡◌, ◌+◌, ◌^◌, ◌<◌, Bool, true, Option, Some, None, List, [], ◌∷◌, ◌++◌, length, replicate, map, slice_index_or}
+use Rattle.std.specs.Prelude.{ℕ, zero, suc, ◌≡◌, ◌+◌, ◌^◌, ◌<◌, Bool, true, Option, Some, None, List, [], ◌∷◌, ◌++◌, length, replicate, map, slice_index_or, if◌then◌else◌}
 use Rattle.std.specs.List.{flat_map, list_any}
 use Rattle.std.specs.Option.{option_map}
 use Rattle.std.proofs.Common.{Box}
@@ -30,6 +30,11 @@ leaf_place w k o = record { prepared = true; entry = entry_with o (marks_of w k)
 abbrev pub leaf_places : {T : Type 0} → Words → ℕ → List (Option T) → List (Place T)
 leaf_places w k [] = []
 leaf_places w k (o ∷ os) = leaf_place w k o ∷ leaf_places w (suc k) os
+
+-- what stands in the slots of a leaf, from slot k on: a value counts where its bit is set
+abbrev pub slots_from : ℕ → ℕ → List ℕ → List (Option ℕ)
+slots_from present k [] = []
+slots_from present k (v ∷ vs) = (if has_bit present k then Some v else None) ∷ slots_from present (suc k) vs
 
 -- the places below a slot of an inner node of height h
 abbrev pub below : {T : Type 0} → ℕ → Option (Tree T) → List (Place T)

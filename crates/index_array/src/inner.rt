@@ -11,21 +11,20 @@ use crate::bits::{SlotBits, Sought, Words, has_bit, next_bit};
 use crate::block::{Block, Parent, Written};
 use crate::leaf::{Leaf, empty_slots};
 use std::alloc::{AllocError, Global};
-use std::marker::{Model, PhantomData};
+use std::marker::Model;
 
 /// A node above leaves has 64 children of the next lower height, of which each may be missing.
 #[derive(Drop)]
-pub struct Inner<T: Drop, C: Block<T>> {
+pub struct Inner<C: Block> {
     words: Words,
     children: Vec<Option<Box<C>>>,
-    of: PhantomData<T>,
 }
 
-impl<T: Drop, C: Block<T>> Model for Inner<T, C> {
-    ghost use Rattle.std.specs.Prelude.{◌+◌, []};
+impl<C: Block> Model for Inner<C> {
+    ghost use Rattle.std.specs.Prelude.{ℕ, ◌+◌, []};
     ghost use Rattle.index_array.specs.Tree.{Tree, places_of, kids, IsNode};
 
-    ghost Value = { Tree T };
+    ghost Value = { Tree ℕ };
 
     ghost view = { λ a. record { height = C.height + 1; places = places_of a.words (C.height + 1) [] (kids C.tree a.children.items) } };
 
@@ -61,7 +60,7 @@ fn start_of(slot: u32, height: u32) -> u32
     slot << (6 * height)
 }
 
-impl<T: Drop, C: Block<T>> Inner<T, C> {
+impl<C: Block> Inner<C> {
     /// A node with no entry; the error is want of memory.
     pub fn new(alloc: Global) -> Result<Self, AllocError>
         requires { C.height < 3 }
@@ -70,7 +69,6 @@ impl<T: Drop, C: Block<T>> Inner<T, C> {
         Ok(Inner {
             words: Words::none(),
             children: empty_slots(alloc)?,
-            of: PhantomData,
         })
     }
 
@@ -112,7 +110,7 @@ impl<T: Drop, C: Block<T>> Inner<T, C> {
     }
 }
 
-impl<T: Drop, C: Block<T>> Block<T> for Inner<T, C> {
+impl<C: Block> Block for Inner<C> {
     ghost use Rattle.std.specs.Prelude.{◌+◌};
 
     ghost height = { C.height + 1 };
@@ -140,7 +138,7 @@ impl<T: Drop, C: Block<T>> Block<T> for Inner<T, C> {
     }
 
     #[inline(always)]
-    fn leaf(&self, i: u32) -> Option<(&Leaf<T>, u32)> {
+    fn leaf(&self, i: u32) -> Option<(&Leaf, u32)> {
         match self.below(i) {
             None => None,
             Some((child, rest)) => child.leaf(rest),
@@ -165,7 +163,7 @@ impl<T: Drop, C: Block<T>> Block<T> for Inner<T, C> {
     }
 
     #[inline(always)]
-    fn put(&mut self, i: u32, value: Option<T>, marks: [bool; 3]) -> Written<T>
+    fn put(&mut self, i: u32, value: Option<u32>, marks: [bool; 3]) -> Written
         requires covered { i < 64 ^ (self.old.height + 1) }
         requires prepared { IsSome value → is_prepared self.old.places i ≡ true }
         requires unmarked { IsNone value → marks ≡ false ∷ false ∷ false ∷ [] }
@@ -221,6 +219,25 @@ impl<T: Drop, C: Block<T>> Block<T> for Inner<T, C> {
         }
     }
 
+    #[inline(always)]
+    fn exchange(&mut self, i: u32, leaf: &mut Leaf) {
+        let _words = &self.words;
+        let height = C::height() + 1;
+        let slot = slot_of(i, height);
+        if self.children[slot as usize].is_none() {
+            return;
+        }
+        match &mut self.children[slot as usize] {
+            None => unreachable!(),
+            Some(child) => {
+                let child: &mut C = child;
+                child.exchange(rest_of(i, height), leaf);
+                let below = child.together();
+                self.words.set_slot(slot, below);
+            }
+        }
+    }
+
     #[inline(never)]
     fn prepare(&mut self, alloc: Global, i: u32) -> Result<(), AllocError> {
         let _words = &self.words;
@@ -255,7 +272,7 @@ impl<T: Drop, C: Block<T>> Block<T> for Inner<T, C> {
     }
 }
 
-impl<T: Drop, C: Block<T>> Parent<T, C> for Inner<T, C> {
+impl<C: Block> Parent<C> for Inner<C> {
     fn adopt(&mut self, child: Box<C>)
         requires child { IsChild self.old.height (C.tree child.value) }
         requires empty { (j : ℕ) → entry_at self.old.places j ≡ None }

@@ -17,9 +17,9 @@ use std::alloc::{AllocError, Global};
 
 /// A node over leaves.
 #[derive(Drop)]
-pub struct Node1<T: Drop>(Inner<T, Leaf<T>>);
+pub struct Node1(Inner<Leaf>);
 
-impl<T: Drop> Block<T> for Node1<T> {
+impl Block for Node1 {
     ghost height = { 1 };
 
     ghost tree = { λ t. t.0 };
@@ -45,7 +45,7 @@ impl<T: Drop> Block<T> for Node1<T> {
     }
 
     #[inline(always)]
-    fn leaf(&self, i: u32) -> Option<(&Leaf<T>, u32)> {
+    fn leaf(&self, i: u32) -> Option<(&Leaf, u32)> {
         self.0.leaf(i)
     }
 
@@ -55,7 +55,7 @@ impl<T: Drop> Block<T> for Node1<T> {
     }
 
     #[inline(always)]
-    fn put(&mut self, i: u32, value: Option<T>, marks: [bool; 3]) -> Written<T>
+    fn put(&mut self, i: u32, value: Option<u32>, marks: [bool; 3]) -> Written
         requires covered { i < 64 ^ (self.old.0.height + 1) }
         requires prepared { IsSome value → is_prepared self.old.0.places i ≡ true }
         requires unmarked { IsNone value → marks ≡ false ∷ false ∷ false ∷ [] }
@@ -77,6 +77,11 @@ impl<T: Drop> Block<T> for Node1<T> {
     }
 
     #[inline(always)]
+    fn exchange(&mut self, i: u32, leaf: &mut Leaf) {
+        self.0.exchange(i, leaf)
+    }
+
+    #[inline(always)]
     fn prepare(&mut self, alloc: Global, i: u32) -> Result<(), AllocError> {
         self.0.prepare(alloc, i)
     }
@@ -87,9 +92,9 @@ impl<T: Drop> Block<T> for Node1<T> {
     }
 }
 
-impl<T: Drop> Parent<T, Leaf<T>> for Node1<T> {
+impl Parent<Leaf> for Node1 {
     #[inline(always)]
-    fn adopt(&mut self, child: Box<Leaf<T>>)
+    fn adopt(&mut self, child: Box<Leaf>)
         requires child { IsChild self.old.0.height child.value }
         requires empty { (j : ℕ) → entry_at self.old.0.places j ≡ None }
         ensures height { self.new.0.height ≡ self.old.0.height }
@@ -103,9 +108,9 @@ impl<T: Drop> Parent<T, Leaf<T>> for Node1<T> {
 
 /// A node over those.
 #[derive(Drop)]
-pub struct Node2<T: Drop>(Inner<T, Node1<T>>);
+pub struct Node2(Inner<Node1>);
 
-impl<T: Drop> Block<T> for Node2<T> {
+impl Block for Node2 {
     ghost height = { 2 };
 
     ghost tree = { λ t. t.0 };
@@ -131,7 +136,7 @@ impl<T: Drop> Block<T> for Node2<T> {
     }
 
     #[inline(always)]
-    fn leaf(&self, i: u32) -> Option<(&Leaf<T>, u32)> {
+    fn leaf(&self, i: u32) -> Option<(&Leaf, u32)> {
         self.0.leaf(i)
     }
 
@@ -141,7 +146,7 @@ impl<T: Drop> Block<T> for Node2<T> {
     }
 
     #[inline(always)]
-    fn put(&mut self, i: u32, value: Option<T>, marks: [bool; 3]) -> Written<T>
+    fn put(&mut self, i: u32, value: Option<u32>, marks: [bool; 3]) -> Written
         requires covered { i < 64 ^ (self.old.0.height + 1) }
         requires prepared { IsSome value → is_prepared self.old.0.places i ≡ true }
         requires unmarked { IsNone value → marks ≡ false ∷ false ∷ false ∷ [] }
@@ -163,6 +168,11 @@ impl<T: Drop> Block<T> for Node2<T> {
     }
 
     #[inline(always)]
+    fn exchange(&mut self, i: u32, leaf: &mut Leaf) {
+        self.0.exchange(i, leaf)
+    }
+
+    #[inline(always)]
     fn prepare(&mut self, alloc: Global, i: u32) -> Result<(), AllocError> {
         self.0.prepare(alloc, i)
     }
@@ -173,9 +183,9 @@ impl<T: Drop> Block<T> for Node2<T> {
     }
 }
 
-impl<T: Drop> Parent<T, Node1<T>> for Node2<T> {
+impl Parent<Node1> for Node2 {
     #[inline(always)]
-    fn adopt(&mut self, child: Box<Node1<T>>)
+    fn adopt(&mut self, child: Box<Node1>)
         requires child { IsChild self.old.0.height child.value.0 }
         requires empty { (j : ℕ) → entry_at self.old.0.places j ≡ None }
         ensures height { self.new.0.height ≡ self.old.0.height }

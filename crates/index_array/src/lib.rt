@@ -10,7 +10,7 @@
 
 ghost use Rattle.std.specs.Prelude.{◌≡◌, ◌≢◌, ℕ, ◌<◌, ◌≤◌, min, Option, Some, None, MatchOption, MatchBool, IfOk, IfErr, OnOk, OnErr, Err, ◌↔◌, true, false, not, is_some, List, length, ◌*◌};
 ghost use Rattle.std.specs.Option.{option_copied};
-ghost use Rattle.index_array.specs.Place.{Place, bare, place_at, entry_at, is_prepared, value_at, is_marked, with_mark, IsLeastIndex, IsFirst, WritesEntry, KeepsEntries, KeepsPrepared};
+ghost use Rattle.index_array.specs.Place.{Place, bare, place_at, entry_at, is_prepared, value_at, is_marked, with_mark, IsLeastIndex, IsFirst, WritesEntry, KeepsEntries, KeepsPrepared, HasRoom, SwapsLeaf};
 ghost use Rattle.index_array.specs.Tree.{IsInLeaf};
 ghost use Rattle.index_array.specs.Words.{IsSought};
 ghost use Rattle.index_array.specs.declared.bits.Sought.{Sought};
@@ -24,10 +24,10 @@ mod root;
 
 use bits::Sought;
 use block::Block;
-use leaf::Leaf;
+pub use leaf::Leaf;
 use root::{
-    Root, erase_in, find_in, gap_in, give_back_in, grown, is_empty_in, leaf_in, planted,
-    prepare_in, put_mark_in, store_in,
+    Root, erase_in, exchange_in, find_in, gap_in, give_back_in, grown, is_empty_in, leaf_in,
+    planted, prepare_in, put_mark_in, store_in,
 };
 use std::alloc::{AllocError, Global};
 use std::marker::Model;
@@ -52,16 +52,16 @@ pub enum IndexFault {
 /// that the nodes cover: `entry_at` and `is_prepared` look one up.
 ///
 /// A call walks down at most four nodes and changes those on the way, a search looks at most at eight.
-/// A leaf takes 64 bytes and, apart from it, 64 `Option<T>`; a node above it 64 bytes and 64 slots of 16.
-pub struct IndexArray<T: Drop> {
-    root: Root<T>,
+/// A leaf takes 296 bytes; a node above it 64 bytes and, apart from it, 64 slots of 16.
+pub struct IndexArray {
+    root: Root,
     alloc: Global,
     /// The index at which the last erase left its leaf empty, where that leaf may still stand.
     emptied: Option<u32>,
 }
 
 // Written out, and not derived: so the crates above cite this drop, and do not prove it anew.
-impl<T: Drop> Drop for IndexArray<T> {
+impl Drop for IndexArray {
     fn drop(self) {
         let IndexArray {
             root: _,
@@ -71,19 +71,19 @@ impl<T: Drop> Drop for IndexArray<T> {
     }
 }
 
-impl<T: Drop> Model for IndexArray<T> {
-    ghost use Rattle.std.specs.Prelude.{List};
+impl Model for IndexArray {
+    ghost use Rattle.std.specs.Prelude.{ℕ, List};
     ghost use Rattle.index_array.specs.Place.{Place};
     ghost use Rattle.index_array.specs.Root.{root_places, IsRoot};
 
-    ghost Value = { List (Place T) };
+    ghost Value = { List (Place ℕ) };
 
     ghost view = { λ a. root_places a.root };
 
     ghost invariant = { λ a. IsRoot a.root };
 }
 
-impl<T: Drop> IndexArray<T> {
+impl IndexArray {
     /// An array with no entry, which takes its memory from `alloc`. This call takes none.
     pub fn new(alloc: Global) -> Self
         ensures { (i : ℕ) → entry_at result i ≡ None }
@@ -103,7 +103,7 @@ impl<T: Drop> IndexArray<T> {
     }
 
     /// The value at an index; none at 2^24 and above.
-    pub fn get(&self, i: u32) -> Option<&T>
+    pub fn get(&self, i: u32) -> Option<&u32>
         ensures { option_copied result ≡ value_at self.now i }
     {
         match self.leaf(i) {
@@ -114,7 +114,7 @@ impl<T: Drop> IndexArray<T> {
 
     /// The leaf that an index is in, with the slot of the index in it; none where there is no such leaf.
     #[inline(always)]
-    fn leaf(&self, i: u32) -> Option<(&Leaf<T>, u32)>
+    fn leaf(&self, i: u32) -> Option<(&Leaf, u32)>
         ensures { MatchOption result (place_at self.now i ≡ bare) (λ p. IsInLeaf self.now i p.0.now p.1) }
     {
         match &self.root {
@@ -260,7 +260,7 @@ impl<T: Drop> IndexArray<T> {
     /// Stores a value with its marks at an index that is prepared, and answers the value that stood
     /// there. It takes no memory.
     #[inline(always)]
-    pub fn store_prepared(&mut self, i: u32, v: T, marks: [bool; 3]) -> Option<T>
+    pub fn store_prepared(&mut self, i: u32, v: u32, marks: [bool; 3]) -> Option<u32>
         requires { is_prepared self.old i ≡ true }
         ensures writes { WritesEntry self.old self.new i (Some (record { value = v; marks = marks })) }
         ensures keeps { KeepsPrepared self.old self.new }
@@ -282,7 +282,12 @@ impl<T: Drop> IndexArray<T> {
     /// there.
     ///
     /// An error is that of `prepare`, with the value; then no entry has changed.
-    pub fn store(&mut self, i: u32, v: T, marks: [bool; 3]) -> Result<Option<T>, (IndexFault, T)>
+    pub fn store(
+        &mut self,
+        i: u32,
+        v: u32,
+        marks: [bool; 3],
+    ) -> Result<Option<u32>, (IndexFault, u32)>
         ensures writes { OnOk result
             (WritesEntry self.old self.new i (Some (record { value = v; marks = marks }))) }
         ensures answer { IfOk result (λ old. old ≡ value_at self.old i) }
@@ -304,7 +309,7 @@ impl<T: Drop> IndexArray<T> {
     /// the nodes above it that have no entry. So an index is prepared afterwards only if `is_prepared`
     /// says so.
     #[inline(always)]
-    pub fn erase(&mut self, i: u32) -> Option<T>
+    pub fn erase(&mut self, i: u32) -> Option<u32>
         ensures writes { WritesEntry self.old self.new i None }
         ensures answer { result ≡ value_at self.old i }
     {
@@ -335,9 +340,10 @@ impl<T: Drop> IndexArray<T> {
         }
     }
 
-    /// Gives back the leaf of an index and the nodes above it, as far as they have no entry.
+    /// Gives back the leaf of an index and the nodes above it, as far as they have no entry. Whoever
+    /// empties a leaf by `exchange_leaf` calls it.
     #[inline(never)]
-    fn give_back(&mut self, i: u32)
+    pub fn give_back(&mut self, i: u32)
         ensures { KeepsEntries self.old self.new }
     {
         if !self.give_back_below(i) {
@@ -357,6 +363,24 @@ impl<T: Drop> IndexArray<T> {
             Root::Height1(node) => give_back_in(&mut **node, i),
             Root::Height2(node) => give_back_in(&mut **node, i),
             Root::Height3(node) => give_back_in(&mut **node, i),
+        }
+    }
+
+    /// Exchanges the leaf that an index is in for another one, whose slot `k` stands for the index `k`
+    /// places above the first of the leaf's. Where the array has no leaf there, the other one has to be
+    /// empty, and nothing changes. It takes no memory, and copies both leaves.
+    #[inline(never)]
+    pub fn exchange_leaf(&mut self, i: u32, leaf: &mut Leaf)
+        requires { HasRoom self.old i leaf.old.places }
+        ensures swaps { SwapsLeaf self.old self.new i leaf.old.places leaf.new.places }
+        ensures keeps { KeepsPrepared self.old self.new }
+    {
+        match &mut self.root {
+            Root::Empty => {}
+            Root::Height0(node) => exchange_in(&mut **node, i, leaf),
+            Root::Height1(node) => exchange_in(&mut **node, i, leaf),
+            Root::Height2(node) => exchange_in(&mut **node, i, leaf),
+            Root::Height3(node) => exchange_in(&mut **node, i, leaf),
         }
     }
 

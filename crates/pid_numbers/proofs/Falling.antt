@@ -3,11 +3,10 @@ use Rattle.std.proofs.Common.{◌≡◌, ◌≢◌, ◌⊎◌, inl, inr, ℕ, �
 use Rattle.std.specs.Option.{option_map_or}
 use Rattle.std.proofs.lemmas.Bool.{cases_eq, cases_lt, eq-eqb}
 use Rattle.pid_types.specs.Chains.{contains}
-use Rattle.pid_types.specs.Names.{beside}
 use Rattle.pid_types.specs.declared.call.Kind.TheVariants.{Task}
 use Rattle.index_array.specs.Place.{Entry, index_count, is_marked}
 use Rattle.pid_numbers.specs.Numbering.{Namespace, Identifier, number_in, is_used_as, felled, fallen_within, HasOwnTask}
-use Rattle.pid_numbers.specs.Slabs.{leads, marks_of, IsTree, IsTied, AreMarked}
+use Rattle.pid_numbers.specs.Slabs.{leads, IsTree, IsTied, AreMarked}
 use Rattle.pid_numbers.proofs.Ties as ties
 use Rattle.pid_numbers.proofs.Sweeps as sweeps
 

@@ -8,3 +8,4 @@ pub mod Inwards
 pub mod Orders
 pub mod Model
 pub mod Falling
+pub mod Founded

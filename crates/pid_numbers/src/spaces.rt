@@ -27,7 +27,7 @@ pub(crate) struct Space {
     pub id: u64,
     pub fallen: bool,
     pub path: ArrayVec<SpaceKey, LEVELS>,
-    pub ids: CyclicIds<IdentKey>,
+    pub ids: CyclicIds,
 }
 
 /// The mark of a kind.
@@ -384,7 +384,7 @@ pub(crate) fn add_space(
     order: &mut RisingIds,
     parent: SpaceKey,
     id: u64,
-    ids: CyclicIds<IdentKey>,
+    ids: CyclicIds,
 ) -> Result<SpaceKey, AllocError>
     requires few { length (way spaces.old parent) < deepest_space + 1 }
     requires above { AreBelow order.old id }
@@ -415,7 +415,7 @@ pub(crate) fn first_ids(
     alloc: Global,
     pid_max: u32,
     value: IdentKey,
-) -> Result<CyclicIds<IdentKey>, AllocError>
+) -> Result<CyclicIds, AllocError>
     requires { HasGoodPidMax pid_max }
     ensures here { IfOk result (λ ids. entry_at ids.places 1 ≡ given_to value) }
     ensures others { IfOk result (λ ids. (n : ℕ) → n ≢ 1 → entry_at ids.places n ≡ None) }

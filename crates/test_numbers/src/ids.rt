@@ -6,7 +6,7 @@ use cyclic_ids::{CyclicIds, GROUP_MARK, SESSION_MARK, TASK_MARK};
 use std::process::Abort;
 
 /// Draws a number, and tries again where there was no memory; then the next number has to stay.
-fn draw(rt: &impl Abort, ids: &mut CyclicIds<u32>) -> Option<u32> {
+fn draw(rt: &impl Abort, ids: &mut CyclicIds) -> Option<u32> {
     let n = ids.plan()?;
     if ids.prepare(n).is_err() {
         assert_eq!(rt; ids.plan(), Some(n));
@@ -20,37 +20,41 @@ fn draw(rt: &impl Abort, ids: &mut CyclicIds<u32>) -> Option<u32> {
 
 // What the ids answer, of which the tests know nothing more.
 
-fn expect_draw(rt: &impl Abort, ids: &mut CyclicIds<u32>, drawn: Option<u32>) {
+fn expect_draw(rt: &impl Abort, ids: &mut CyclicIds, drawn: Option<u32>) {
     assert_eq!(rt; draw(rt, ids), drawn);
 }
 
 /// Releases a number that was drawn, whose entry is itself.
-fn expect_release(rt: &impl Abort, ids: &mut CyclicIds<u32>, n: u32) {
+fn expect_release(rt: &impl Abort, ids: &mut CyclicIds, n: u32) {
     assert_eq!(rt; ids.release(n), Some(n));
 }
 
-fn expect_entry(rt: &impl Abort, ids: &CyclicIds<u32>, n: u32, entry: u32) {
+fn expect_entry(rt: &impl Abort, ids: &CyclicIds, n: u32, entry: u32) {
     assert_eq!(rt; ids.find(n).copied(), Some(entry));
 }
 
-fn expect_marked(rt: &impl Abort, ids: &CyclicIds<u32>, mark: usize, next: Option<u32>)
+fn expect_marked(rt: &impl Abort, ids: &CyclicIds, mark: usize, next: Option<u32>)
     requires { mark < 3 }
 {
     assert_eq!(rt; ids.next_marked(0, mark), next);
 }
 
-fn expect_cursor(rt: &impl Abort, ids: &CyclicIds<u32>, cursor: u32) {
+fn expect_next(rt: &impl Abort, ids: &CyclicIds, from: u32, next: Option<u32>) {
+    assert_eq!(rt; ids.next(from), next);
+}
+
+fn expect_cursor(rt: &impl Abort, ids: &CyclicIds, cursor: u32) {
     assert_eq!(rt; ids.cursor(), cursor);
 }
 
-fn has_mark(ids: &CyclicIds<u32>, n: u32, mark: usize) -> bool
+fn has_mark(ids: &CyclicIds, n: u32, mark: usize) -> bool
     requires { mark < 3 }
 {
     ids.has_mark(n, mark)
 }
 
 /// Gives the planned number with marks, again where there was no memory.
-fn give_marked(ids: &mut CyclicIds<u32>, entry: u32, marks: [bool; 3]) {
+fn give_marked(ids: &mut CyclicIds, entry: u32, marks: [bool; 3]) {
     if let Some(n) = ids.plan() {
         if ids.prepare(n).is_ok() || ids.prepare(n).is_ok() {
             ids.commit_marked(n, entry, marks);
@@ -58,26 +62,26 @@ fn give_marked(ids: &mut CyclicIds<u32>, entry: u32, marks: [bool; 3]) {
     }
 }
 
-fn set_mark(ids: &mut CyclicIds<u32>, n: u32, mark: usize) -> bool
+fn set_mark(ids: &mut CyclicIds, n: u32, mark: usize) -> bool
     requires { mark < 3 }
 {
     ids.set_mark(n, mark)
 }
 
-fn clear_mark(ids: &mut CyclicIds<u32>, n: u32, mark: usize) -> bool
+fn clear_mark(ids: &mut CyclicIds, n: u32, mark: usize) -> bool
     requires { mark < 3 }
 {
     ids.clear_mark(n, mark)
 }
 
-fn expect_empty(rt: &impl Abort, ids: &CyclicIds<u32>, is_empty: bool) {
+fn expect_empty(rt: &impl Abort, ids: &CyclicIds, is_empty: bool) {
     assert_eq!(rt; ids.is_empty(), is_empty);
 }
 
 /// No number is in use, then one, then none again.
 #[test]
 fn tells_whether_a_number_is_in_use(rt: HostRuntime) {
-    let mut ids = CyclicIds::<u32>::new(rt.alloc(), 301);
+    let mut ids = CyclicIds::new(rt.alloc(), 301);
     expect_empty(&rt, &ids, true);
     expect_draw(&rt, &mut ids, Some(1));
     expect_empty(&rt, &ids, false);
@@ -144,4 +148,37 @@ fn marks_numbers(rt: HostRuntime) {
     assert!(rt; !has_mark(&ids, 2, SESSION_MARK));
     assert!(rt; clear_mark(&mut ids, 2, GROUP_MARK));
     expect_marked(&rt, &ids, GROUP_MARK, None);
+}
+
+/// 130 numbers are in three blocks of 64, of which one at a time stands beside the tree.
+#[test]
+fn draws_across_blocks(rt: HostRuntime) {
+    let mut ids = CyclicIds::new(rt.alloc(), 301);
+    for n in 1..=130 {
+        expect_draw(&rt, &mut ids, Some(n));
+    }
+    assert!(rt; set_mark(&mut ids, 70, TASK_MARK));
+    assert!(rt; set_mark(&mut ids, 129, TASK_MARK));
+    expect_marked(&rt, &ids, TASK_MARK, Some(70));
+    expect_release(&rt, &mut ids, 70);
+    expect_marked(&rt, &ids, TASK_MARK, Some(129));
+    expect_entry(&rt, &ids, 5, 5);
+    expect_entry(&rt, &ids, 130, 130);
+    expect_next(&rt, &ids, 70, Some(71));
+    expect_next(&rt, &ids, 131, None);
+    expect_release(&rt, &mut ids, 129);
+    expect_next(&rt, &ids, 129, Some(130));
+}
+
+/// One number at a time comes and goes: each block is left empty, and the next has the number's turn.
+#[test]
+fn leaves_empty_blocks(rt: HostRuntime) {
+    let mut ids = CyclicIds::new(rt.alloc(), 301);
+    for n in 1..=300 {
+        expect_draw(&rt, &mut ids, Some(n));
+        expect_next(&rt, &ids, 0, Some(n));
+        expect_release(&rt, &mut ids, n);
+        expect_empty(&rt, &ids, true);
+    }
+    expect_draw(&rt, &mut ids, Some(300));
 }

@@ -2,4 +2,4 @@ use Rattle.index_array.proofs.Roots.{none_above}
 use Rattle.index_array.proofs.IndexArray.laws.Goals as goal
 
 pub returns : goal.returns
-returns g c = rw (← c.self.view_is) (none_above c.self.inside.root c.self.invariant)
+returns c = rw (← c.self.view_is) (none_above c.self.inside.root c.self.invariant)

@@ -1,4 +1,4 @@
 use Rattle.index_array.proofs.IndexArray.next.Goals as goal
 
 pub returns : goal.returns
-returns g c = c.first.ensures
+returns c = c.first.ensures

@@ -1,10 +1,10 @@
-use Rattle.std.proofs.Common.{◌≡◌, ◌≢◌, ◌∙◌, ℕ, ◌<◌, ◌≤◌, false, true, List, [], Option, Some, None, option_map, option_and_then, refl, sym, ap, arith}
+use Rattle.std.proofs.Common.{◌≡◌, ◌∙◌, ℕ, [], Option, Some, None, option_map, option_and_then, refl, sym, ap, arith}
 use Rattle.std.specs.Option.{option_map_or}
 use Rattle.index_array.specs.Place.{Entry, is_marked}
 use Rattle.slab.specs.Slab.{Slab, get}
 use Rattle.pid_numbers.specs.declared.spaces.Space.{Space}
 use Rattle.pid_numbers.specs.Numbering.{felled}
-use Rattle.pid_numbers.specs.Slabs.{way, entry_on, home_at, leads, name_at, namespace_of, namespace_on}
+use Rattle.pid_numbers.specs.Slabs.{way, entry_on, home_at, name_at, namespace_of, namespace_on}
 use Rattle.pid_numbers.proofs.Falling as falling
 use Rattle.pid_numbers.proofs.fall.fall_by_tasks.Goals as goal
 

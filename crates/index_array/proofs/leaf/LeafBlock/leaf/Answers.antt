@@ -3,7 +3,7 @@ use Rattle.index_array.proofs.Leaves.{leaf_index, leaf_prepared}
 use Rattle.index_array.proofs.leaf.LeafBlock.leaf.Goals as goal
 
 pub returns : goal.returns
-returns g c =
+returns c =
     let slot : c.args.i < 64 = leaf_index (ap (λ v. v.height) c.self.view_is) c.requires in
     record {
       place = refl;
