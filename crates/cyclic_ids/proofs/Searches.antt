@@ -12,6 +12,19 @@ found_same p q from end (Some a) same found = (found.0, found.1, same a ∙ foun
 
 -- a test that is one of the leaf in its block, and one of the tree elsewhere
 module _ (p own tree : ℕ → Bool) (block : ℕ) (here : (k : ℕ) → k / 64 ≡ block → p k ≡ own (k % 64)) (there : (k : ℕ) → k / 64 ≢ block → p k ≡ tree k) where
+  -- what the leaf finds from a number of its block on comes first
+  pub found_first : (from end s : ℕ) → from / 64 ≡ block → block * 64 + 64 ≤ end → IsLeastIndex own (from % 64) 64 (Some s) → IsLeastIndex p from end (Some (block * 64 + s))
+  found_first from end s start fits found =
+      let below = found.1 in
+      let same : (block * 64 + s) / 64 ≡ block = omega (arith, below) in
+      let slot : (block * 64 + s) % 64 ≡ s = omega (arith, below) in (
+        omega (arith, found.0, start),
+        omega (arith, below, fits),
+        here (block * 64 + s) same ∙ ap own slot ∙ found.2,
+        λ k low high.
+            here k (omega (arith, start, low, high, below)) ∙ found.3 (k % 64) (omega (arith, start, low, high, below)) (omega (arith, start, low, high, below)),
+      )
+
   -- where the tree passes the test in the whole block: what it finds is outside, or leads to the leaf
   module _ (all : (k : ℕ) → k / 64 ≡ block → tree k ≡ true) where
     outside : (k : ℕ) → tree k ≡ false → p k ≡ false

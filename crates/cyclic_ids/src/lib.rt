@@ -373,6 +373,20 @@ impl CyclicIds {
         requires { m < 3 }
         ensures { IsLeastIndex (λ k. is_marked m (entry_at self.now.places k)) from index_count result }
     {
+        // What the leaf finds in its own block comes before all that the tree could.
+        if from / 64 == self.block {
+            if let Some(slot) = self.leaf.next_marked(from % 64, m) {
+                return Some(self.block * 64 + slot);
+            }
+        }
+        self.search_marked(from, m)
+    }
+
+    /// The same by a search of the tree and one of the leaf.
+    fn search_marked(&self, from: Pid, m: usize) -> Option<Pid>
+        requires { m < 3 }
+        ensures { IsLeastIndex (λ k. is_marked m (entry_at self.now.places k)) from index_count result }
+    {
         let found = self.ids.next_marked(from, m);
         if from / 64 > self.block {
             return found;
