@@ -1,5 +1,5 @@
 -- Entries in the order of their ids. One without a key was removed.
-use Rattle.std.specs.Prelude.{ℕ, List, [], ◌∷◌, Option, Some, None, IsSome}
+use Rattle.std.specs.Prelude.{◌≡◌, ◌≢◌, ◌<◌, ℕ, List, [], ◌∷◌, length, Option, Some, None, IsSome, MatchOption, slice_index_or}
 use Rattle.id_slab.specs.Ids.{Rises}
 use Rattle.id_slab.specs.declared.Entry.{Entry}
 
@@ -22,3 +22,9 @@ abbrev pub EndsLive : List Entry → Type 0
 EndsLive [] = Unit {0}
 EndsLive (e ∷ []) = IsSome e.key
 EndsLive (e ∷ f ∷ entries) = EndsLive (f ∷ entries)
+
+-- the place of the id among the entries, or none where no entry has it
+abbrev pub IsPlaceOf : List Entry → ℕ → Option ℕ → Type 0
+IsPlaceOf entries id result = MatchOption result
+    ((k : ℕ) → k < length entries → (slice_index_or entries k (record { id = 0; key = None })).id ≢ id)
+    (λ i. (i < length entries) × ((slice_index_or entries i (record { id = 0; key = None })).id ≡ id))

@@ -5,9 +5,9 @@
 //! half of the entries may be marks, so that no call moves all others each time.
 #![tactic(auto)]
 
-ghost use Rattle.std.specs.Prelude.{◌≡◌, ◌≢◌, ℕ, ◌<◌, ◌≤◌, length, Some, None, IsTrue, MatchOption, OnOk, OnErr, [], ◌∷◌, ◌++◌, slice_index_or};
+ghost use Rattle.std.specs.Prelude.{◌≡◌, length, IsTrue, OnOk, OnErr, [], ◌∷◌, ◌++◌};
 ghost use Rattle.id_slab.specs.Ids.{key_of, without, AreBelow, AreRising};
-ghost use Rattle.id_slab.specs.Entries.{live, Rise, EndsLive};
+ghost use Rattle.id_slab.specs.Entries.{live, Rise, EndsLive, IsPlaceOf};
 
 mod iter;
 mod room;
@@ -46,18 +46,28 @@ impl Model for RisingIds {
     ghost invariant = { λ a. Rise a.entries.items × (a.count ≡ length (live a.entries.items)) };
 }
 
-/// The place of an id among entries that rise.
-fn place_of(entries: &[Entry], id: u64) -> Option<usize>
+/// The place of an id among entries that rise, by halves.
+fn search(entries: &[Entry], id: u64) -> Option<usize>
     requires { Rise entries.now }
-    ensures { MatchOption result
-        ((k : ℕ) → k < length entries.now → (slice_index_or entries.now k (record { id = 0; key = None })).id ≢ id)
-        (λ i. (i < length entries.now) × ((slice_index_or entries.now i (record { id = 0; key = None })).id ≡ id)) }
+    ensures { IsPlaceOf entries.now id result }
 {
     let i = entries.partition_point(|e| e.id < id);
     if i >= entries.len() {
         return None;
     }
     if entries[i].id == id { Some(i) } else { None }
+}
+
+/// The place of an id among entries that rise. The last one is looked at first, since what came last often goes first.
+fn place_of(entries: &[Entry], id: u64) -> Option<usize>
+    requires { Rise entries.now }
+    ensures { IsPlaceOf entries.now id result }
+{
+    let end = entries.len();
+    if end > 0 && entries[end - 1].id == id {
+        return Some(end - 1);
+    }
+    search(entries, id)
 }
 
 /// Drops the marks behind the last id.

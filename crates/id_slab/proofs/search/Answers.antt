@@ -1,7 +1,7 @@
 use Rattle.std.proofs.Common.{rules, ltb, arith}
 use Rattle.id_slab.specs.declared.Entry.{Entry}
 use Rattle.id_slab.proofs.Lives as lives
-use Rattle.id_slab.proofs.place_of.Goals as goal
+use Rattle.id_slab.proofs.search.Goals as goal
 use Rattle.std.proofs.Common.{ltb-true, ltb-false}
 use Rattle.std.proofs.lemmas.List.Sorted.{IsPartitionPoint-from_clause, IsPartitionedBy-ltb, IsNonDecreasingBy-from_default}
 
