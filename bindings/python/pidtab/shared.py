@@ -215,7 +215,8 @@ class Shared(Listed, Owner):
     @property
     def saved(self) -> Saved | None:
         """What the table's file has, by the last `save` or as it was loaded; None where there is none."""
-        return None if self._file is None else self._file.told
+        file = self._file
+        return None if file is None or not self._is_open() else file.told
 
     def save(self, path: FilePath, *, sync: bool = False) -> Saved:
         """Writes the calls that the file does not have yet, and tells what it has then. Other threads may make calls meanwhile.
@@ -237,13 +238,11 @@ class Shared(Listed, Owner):
 
     def _file_at(self, path: str, functions: ctypes.CDLL) -> SavedFile:
         """The file at the path, which has a head."""
-        before = self._file
-        if before is None or not before.is_at(path):
+        before = file = self._file
+        if file is None or not file.is_at(path):
             if self.counts().first_kept != 0:
                 raise NotKept(f"call 0 is not kept: it was cut away before it was saved to {path}")
-            self._file = SavedFile(functions, path, os.O_RDWR | os.O_CREAT)
-        file = self._file
-        assert file is not None
+            file = self._file = SavedFile(functions, path, os.O_RDWR | os.O_CREAT)
         try:
             if not file.is_begun:
                 file.begin(PidtabSavedHead(self.pid_max, self.workers, self.first_stamp))
