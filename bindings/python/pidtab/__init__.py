@@ -9,13 +9,14 @@ if sys.version_info < (3, 10):
 from pidtab.answers import Forked, Reaped
 from pidtab.bounds import DEFAULT_PID_MAX, GREATEST_PID_MAX, LEAST_PID_MAX
 from pidtab.calls import Calls, Kind, Queries
-from pidtab.faults import LibraryFault, LibraryMissing, NotKept, ProgramEnded, ProgramFault, ProgramMissing, Refusal, SeatsTaken, TableClosed
+from pidtab.faults import BadHistory, LibraryFault, LibraryMissing, NotKept, ProgramEnded, ProgramFault, ProgramMissing, Refusal, SeatsTaken, TableClosed
 from pidtab.history import Counts, Entry
 from pidtab.library import find_library
 from pidtab.listing import BadList, Control, Listing, Space, Task, read_list
 from pidtab.native import Ask
 from pidtab.process import Process
 from pidtab.program import find_program
+from pidtab.saved import Saved
 from pidtab.shared import Seat, Shared
 from pidtab.table import Table
 from pidtab.tree import draw_list
@@ -25,6 +26,7 @@ __all__ = [
     "GREATEST_PID_MAX",
     "LEAST_PID_MAX",
     "Ask",
+    "BadHistory",
     "BadList",
     "Calls",
     "Control",
@@ -43,6 +45,7 @@ __all__ = [
     "Queries",
     "Reaped",
     "Refusal",
+    "Saved",
     "Seat",
     "SeatsTaken",
     "Shared",

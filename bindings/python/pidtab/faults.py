@@ -19,6 +19,16 @@ class NotKept(LookupError):
     """The history has no entry with the ordinal: it was cut away, or there is no such call yet."""
 
 
+class BadHistory(ValueError):
+    """A file that is no saved history, or not the one that was written, or whose calls have other replies now.
+
+    The first `calls` are whole and good, and what is wrong stands in what is saved at the byte `place`, which is 0 for the head.
+    """
+
+    calls: int = 0
+    place: int = 0
+
+
 class ProgramFault(RuntimeError):
     """The program does not do what it should."""
 

@@ -9,7 +9,7 @@ from typing import TypeVar
 
 from pidtab.faults import LibraryFault, LibraryMissing
 from pidtab.places import HERE, PREFIX, REPOSITORY
-from pidtab.raw import FUNCTIONS, LATER_FUNCTIONS, SHARED_FUNCTIONS, VERSION, VERSION_FUNCTION, Function
+from pidtab.raw import FUNCTIONS, LATER_FUNCTIONS, SAVED_FUNCTIONS, SHARED_FUNCTIONS, VERSION, VERSION_FUNCTION, Function
 
 # Interfaces that would not fit together have other names.
 SONAME = "libpidtab.so.1"
@@ -53,7 +53,7 @@ def load_library(path: str) -> ctypes.PyDLL:
 @functools.cache
 def load_shared(path: str) -> ctypes.CDLL:
     """The functions on a table behind a lock. A CDLL gives the interpreter's lock up for each call, so a wait for the other holds nobody up."""
-    return load(ctypes.CDLL, path, VERSION_FUNCTION | SHARED_FUNCTIONS)
+    return load(ctypes.CDLL, path, VERSION_FUNCTION | SHARED_FUNCTIONS | SAVED_FUNCTIONS)
 
 
 def load(kind: type[L], path: str, functions: Mapping[str, Function]) -> L:

@@ -1,4 +1,4 @@
-"""`bindings/c/pidtab.h` and `pidtab_shared.h` by hand: their numbers, structs and functions. A test compares them."""
+"""`bindings/c/pidtab.h`, `pidtab_shared.h` and `pidtab_saved.h` by hand: their numbers, structs and functions. A test compares them."""
 
 import ctypes
 import struct
@@ -19,6 +19,14 @@ SPENT = 75
 NOT_KEPT = 2
 AGAIN = 11
 DIFFERS = 74
+
+# Of a saved history besides.
+DEVICE = 5
+NOT_SAVED = 8
+NOT_EMPTY = 17
+TORN = 42
+WRONG_BYTE = 84
+OTHER_VERSION = 93
 
 KILLED = 256
 LEVELS_MAX = 33
@@ -97,12 +105,48 @@ class PidtabShared(ctypes.Structure):
     _fields_ = [("room", ctypes.c_uint64 * 32)]
 
 
+class PidtabSavedHead(ctypes.Structure):
+    """The settings of a record, as the head of its saved history has them."""
+
+    pid_max: int
+    workers: int
+    first_stamp: int
+
+    _fields_ = [("pid_max", ctypes.c_uint32), ("workers", ctypes.c_uint32), ("first_stamp", ctypes.c_uint64)]
+
+
+class PidtabSaved(ctypes.Structure):
+    """A file that a history is saved to."""
+
+    head: PidtabSavedHead
+    next: int
+    bytes: int
+    left_out: int
+    part: int
+    is_torn: bool
+    error: int
+
+    _fields_ = [
+        ("head", PidtabSavedHead),
+        ("next", ctypes.c_uint64),
+        ("bytes", ctypes.c_uint64),
+        ("left_out", ctypes.c_uint64),
+        ("sum", ctypes.c_uint64),
+        ("part", ctypes.c_size_t),
+        ("is_torn", ctypes.c_bool),
+        ("file", ctypes.c_int),
+        ("error", ctypes.c_int),
+    ]
+
+
 # The room for any answer.
 Answer = ctypes.c_char * LONGEST_ANSWER
 
 U32, U64, SIZE_T = ctypes.c_uint32, ctypes.c_uint64, ctypes.c_size_t
 TABLE = ctypes.POINTER(Pidtab)
 SHARED = ctypes.POINTER(PidtabShared)
+SAVED = ctypes.POINTER(PidtabSaved)
+SAVED_HEAD = ctypes.POINTER(PidtabSavedHead)
 CALL = ctypes.POINTER(PidtabCall)
 REPLY = ctypes.POINTER(PidtabReply)
 ENTRIES = ctypes.POINTER(PidtabEntry)
@@ -144,4 +188,13 @@ SHARED_FUNCTIONS: dict[str, Function] = {
     "pidtab_shared_checkpoint": (U32, [SHARED]),
     "pidtab_shared_checkpoint_at": (U32, [SHARED, U64]),
     "pidtab_shared_list": (U32, [SHARED, BYTES, SIZE_T, SIZE]),
+}
+
+# Those on the file of its saved history.
+SAVED_FUNCTIONS: dict[str, Function] = {
+    "pidtab_saved_begin": (U32, [SAVED, ctypes.c_int, SAVED_HEAD]),
+    "pidtab_saved_append_shared": (U32, [SAVED, SHARED]),
+    "pidtab_saved_load_shared": (U32, [SAVED, ctypes.c_int, SHARED, U64]),
+    "pidtab_saved_trim": (U32, [SAVED]),
+    "pidtab_saved_resume_shared": (U32, [SAVED, ctypes.c_int, SAVED_HEAD, SHARED, U64]),
 }

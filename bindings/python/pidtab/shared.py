@@ -2,8 +2,9 @@
 
 import ctypes
 import os
+import threading
 import weakref
-from collections.abc import Iterator, Sequence
+from collections.abc import Callable, Iterator, Sequence
 
 from pidtab.bounds import DEFAULT_PID_MAX, check_pid_max, check_range
 from pidtab.calls import Listed
@@ -12,7 +13,8 @@ from pidtab.history import Counts, Entry, read_entry
 from pidtab.library import find_library, load_shared
 from pidtab.native import Ask, NumberCalls, fault_of, read_list_text
 from pidtab.owner import TABLES, Owner
-from pidtab.raw import AGAIN, DONE, MOST_WORKERS, NOT_KEPT, PidtabCall, PidtabEntry, PidtabReply, PidtabShared
+from pidtab.raw import AGAIN, DONE, MOST_WORKERS, NOT_KEPT, PidtabCall, PidtabEntry, PidtabReply, PidtabSavedHead, PidtabShared
+from pidtab.saved import FilePath, Saved, SavedFile
 
 GREATEST_NUMBER = 2**64 - 1
 
@@ -23,23 +25,24 @@ NO_ORDINAL = GREATEST_NUMBER
 BLOCK = 1024
 
 
-def close_shared(functions: ctypes.CDLL, at: PidtabShared, process: int) -> None:
-    """Closes a table, but not in a forked child."""
-    if os.getpid() == process:
+def close_shared(functions: ctypes.CDLL, at: PidtabShared, opened: Sequence[int], process: int) -> None:
+    """Closes a table, if it was opened, but not in a forked child."""
+    if list(opened) == [DONE] and os.getpid() == process:
         functions.pidtab_shared_close(at)
 
 
 class Hold:
     """A `struct pidtab_shared` that is open. It is closed when nobody has this any more, so never while a thread is in a function."""
 
-    def __init__(self, functions: ctypes.CDLL, pid_max: int, first_stamp: int, workers: int, keep: int) -> None:
+    def __init__(self, functions: ctypes.CDLL, open_at: Callable[[PidtabShared], int]) -> None:
         self.functions = functions
         self.at = PidtabShared()
-        status = functions.pidtab_shared_open(self.at, pid_max, first_stamp, workers, keep)
-        if status != DONE:
-            raise fault_of(status, "open")
+        opened: list[int] = []
         # Not at the end of the interpreter, where threads may still be in a function.
-        weakref.finalize(self, close_shared, functions, self.at, os.getpid()).atexit = False
+        weakref.finalize(self, close_shared, functions, self.at, opened, os.getpid()).atexit = False
+        # The list takes what that answers, which is one step with it, so no interrupt loses it.
+        opened.extend(map(open_at, [self.at]))
+        self.status = opened[0]
 
 
 class Seat(NumberCalls):
@@ -123,6 +126,8 @@ class Shared(Listed, Owner):
 
     # None where it was closed.
     _hold: Hold | None = None
+    # None where it was neither loaded nor saved.
+    _file: SavedFile | None = None
 
     def __init__(
         self,
@@ -142,12 +147,114 @@ class Shared(Listed, Owner):
         self.first_stamp = check_range("first_stamp", first_stamp, 1, GREATEST_NUMBER)
         self.keep = check_range("keep", keep, 0, GREATEST_NUMBER)
         self.library = find_library(library)
-        self._hold = Hold(load_shared(self.library), self.pid_max, self.first_stamp, self.workers, self.keep)
+        functions = load_shared(self.library)
+        hold = Hold(functions, lambda at: int(functions.pidtab_shared_open(at, self.pid_max, self.first_stamp, self.workers, self.keep)))
+        check(hold.status, "open")
+        self._begin(hold)
+
+    @classmethod
+    def load(cls, path: FilePath, *, keep: int = 0, library: str | os.PathLike[str] | None = None) -> "Shared":
+        """A table of a saved history: its calls are made again, and their replies compared with the saved ones. The file stays as it is.
+
+        A torn end, which is that of a writer that was stopped, is left out: `saved` has its length. Any other byte that is not the one that was
+        written is a `BadHistory`, and so is a reply that is another one now. The settings are those of the file, and no seat is taken. Where
+        `keep` is not 0, the history is cut whenever it has so many entries; later it is not. Threads may go on meanwhile; Ctrl-C waits.
+        """
+        keep = check_range("keep", keep, 0, GREATEST_NUMBER)
+        return cls._load(path, library, os.O_RDONLY, lambda file, at: file.load(at, keep))
+
+    @classmethod
+    def resume(
+        cls,
+        path: FilePath,
+        workers: int = 4,
+        *,
+        pid_max: int = DEFAULT_PID_MAX,
+        first_stamp: int = 1,
+        keep: int = 0,
+        library: str | os.PathLike[str] | None = None,
+    ) -> "Shared":
+        """The same, with a torn end cut off the file, so that `save` goes on with it.
+
+        A file that is not there, is empty, or ends within its head is begun, and the table has these settings.
+        """
+        head = PidtabSavedHead(
+            check_pid_max(pid_max), check_range("workers", workers, 1, MOST_WORKERS), check_range("first_stamp", first_stamp, 1, GREATEST_NUMBER)
+        )
+        keep = check_range("keep", keep, 0, GREATEST_NUMBER)
+        return cls._load(path, library, os.O_RDWR | os.O_CREAT, lambda file, at: file.resume(head, at, keep))
+
+    @classmethod
+    def _load(
+        cls, path: FilePath, library: str | os.PathLike[str] | None, flags: int, open_at: Callable[[SavedFile, PidtabShared], int]
+    ) -> "Shared":
+        """A table by its file."""
+        shared = cls.__new__(cls)
+        shared.library = find_library(library)
+        functions = load_shared(shared.library)
+        file = SavedFile(functions, os.path.abspath(os.fsdecode(path)), flags)
+        hold = Hold(functions, lambda at: open_at(file, at))
+        file.check(hold.status, "load")
+        head = file.at.head
+        shared.workers, shared.pid_max, shared.first_stamp, shared.keep = head.workers, head.pid_max, head.first_stamp, 0
+        shared._file = file
+        shared._begin(hold)
+        return shared
+
+    def _begin(self, hold: Hold) -> None:
+        """Has the table."""
+        # One thread at a time is at the file. A handler of a signal may come between two steps of a save, and save too.
+        self._saving = threading.RLock()
+        self._hold = hold
         TABLES.add(self)
 
     def close(self) -> None:
         """Frees the table with its history. A second time nothing is done. Calls that other threads are in are made before."""
-        self._hold = None
+        self._hold = self._file = None
+
+    @property
+    def saved(self) -> Saved | None:
+        """What the table's file has, by the last `save` or as it was loaded; None where there is none."""
+        file = self._file
+        return None if file is None or not self._is_open() else file.told
+
+    def save(self, path: FilePath, *, sync: bool = False) -> Saved:
+        """Writes the calls that the file does not have yet, and tells what it has then. Other threads may make calls meanwhile.
+
+        The file of the table is the one that it was loaded from or saved to last; a torn end is cut off it. Another is begun, if it is not there
+        or empty, and is the table's from then on; else it is a FileExistsError. `NotKept` is raised where the next call to be saved was cut away.
+        With `sync` the machine may crash: that is fsync(2).
+
+        A device that fails is an OSError. Behind it, and behind an interrupt, the next save goes on with the same byte.
+        """
+        functions, path = self._check_open().functions, os.path.abspath(os.fsdecode(path))
+        with self._saving:
+            file = self._file_at(path, functions)
+            file.make_ready()
+            file.check(self._append(file), "save")
+            if sync:
+                file.sync()
+            return file.told
+
+    def _file_at(self, path: str, functions: ctypes.CDLL) -> SavedFile:
+        """The file at the path, which has a head."""
+        before = file = self._file
+        if file is None or not file.is_at(path):
+            if self.counts().first_kept != 0:
+                raise NotKept(f"call 0 is not kept: it was cut away before it was saved to {path}")
+            file = self._file = SavedFile(functions, path, os.O_RDWR | os.O_CREAT)
+        try:
+            if not file.is_begun:
+                file.begin(PidtabSavedHead(self.pid_max, self.workers, self.first_stamp))
+        finally:
+            if not file.is_begun:
+                self._file = before
+        return file
+
+    def _append(self, file: SavedFile) -> int:
+        """The status of an append."""
+        hold = self._check_open()
+        return int(hold.functions.pidtab_saved_append_shared(file.at, hold.at))
 
     def seat(self) -> Seat:
         """The seat of the next worker, from 0 on; `SeatsTaken` where each has its own. An interrupt amid it may lose a seat."""

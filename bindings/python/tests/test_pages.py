@@ -27,6 +27,7 @@ EXAMPLES = [
     ("bindings/python/README.md", "## By the program", "python"),
     ("bindings/python/README.md", "## In its own process", "python"),
     ("bindings/python/README.md", "## For many threads, with its history", "python"),
+    ("bindings/python/README.md", "## A saved history", "python"),
     ("bindings/c/README.md", "## Example", "c"),
     ("bindings/c/README.md", "## A saved history", "c"),
     ("bindings/rust/README.md", "## Example", "rust"),
@@ -117,6 +118,7 @@ class Examples(unittest.TestCase):
     def test_python_for_many_threads(self) -> None:
         need_shared()
         self.check("python", run_python, "with its history")
+        self.check("python", run_python, "## A saved history")
 
     def test_c(self) -> None:
         need_archive()

@@ -117,7 +117,7 @@ def methods_of(shared: Shared) -> list[Callable[[], object]]:
     """Each method of a table for threads, but its end."""
     return [
         shared.seat, shared.counts, lambda: shared.worker(0), lambda: shared.entry(0), shared.entries, lambda: shared.entries(0), shared.checkpoint,
-        lambda: shared.checkpoint_at(0), shared.list, shared.list_text, shared.tree, lambda: shared.ask.getpid(1), lambda: shared.ask.count(),
+        lambda: shared.checkpoint_at(0), lambda: shared.save("/none/none"), shared.list, shared.list_text, shared.tree, lambda: shared.ask.getpid(1), lambda: shared.ask.count(),
     ]  # fmt: skip
 
 
@@ -586,7 +586,7 @@ class Libraries(unittest.TestCase):
             Shared(library="/bin/sh")
 
     def test_another_interface(self) -> None:
-        functions = SimpleNamespace(**{name: mock.Mock(return_value=2) for name in (*raw.VERSION_FUNCTION, *raw.SHARED_FUNCTIONS)})
+        functions = SimpleNamespace(**{name: mock.Mock(return_value=2) for name in (*raw.VERSION_FUNCTION, *raw.SHARED_FUNCTIONS, *raw.SAVED_FUNCTIONS)})
         with mock.patch("ctypes.CDLL", return_value=functions), self.assertRaisesRegex(LibraryFault, "^later.so has the interface 2"):
             load_shared.__wrapped__("later.so")
 

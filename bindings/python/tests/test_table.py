@@ -31,6 +31,7 @@ RANDOM_LINES = 3000
 # The names of C for the types of the fields.
 TYPES: dict[str, Any] = {
     "void *": ctypes.c_void_p, "bool": ctypes.c_bool, "uint32_t": ctypes.c_uint32, "uint64_t": ctypes.c_uint64, "int32_t": ctypes.c_int32,
+    "size_t": ctypes.c_size_t, "int": ctypes.c_int, "struct pidtab_saved_head": raw.PidtabSavedHead,
     "struct pidtab_call": raw.PidtabCall, "struct pidtab_reply": raw.PidtabReply,
 }  # fmt: skip
 
@@ -38,6 +39,7 @@ TYPES: dict[str, Any] = {
 PASSED: dict[str, type] = {
     "const void *line": ctypes.c_char_p, "void *": raw.BYTES, "struct pidtab *": raw.TABLE, "struct pidtab_shared *": raw.SHARED,
     "struct pidtab_call *": raw.CALL, "struct pidtab_reply *": raw.REPLY, "struct pidtab_entry *": raw.ENTRIES, "size_t *": raw.SIZE,
+    "struct pidtab_saved *": raw.SAVED, "struct pidtab_saved_head *": raw.SAVED_HEAD, "int ": ctypes.c_int,
     "uint32_t *": raw.NUMBER_32, "uint64_t *": raw.NUMBER_64, "size_t ": raw.SIZE_T, "uint32_t ": raw.U32, "uint64_t ": raw.U64,
 }  # fmt: skip
 
@@ -55,7 +57,7 @@ def header(name: str = "pidtab.h") -> str:
 
 def body(words: str) -> str:
     """What stands between the braces behind the words."""
-    _, found, behind = header().partition(words + " { ")
+    _, found, behind = (header() + header("pidtab_saved.h")).partition(words + " { ")
     assert found, words
     return behind.partition(" }")[0]
 
@@ -79,8 +81,8 @@ class Header(unittest.TestCase):
     """The numbers, structs and functions are those of the header."""
 
     def test_the_enums(self) -> None:
-        enums = [read_enum(name) for name in ("status", "record_status", "operation", "which", "use", "kind")]
-        self.assertEqual([len(enum) for enum in enums], [9, 3, 19, 4, 3, 10])
+        enums = [read_enum(name) for name in ("status", "record_status", "saved_status", "operation", "which", "use", "kind")]
+        self.assertEqual([len(enum) for enum in enums], [9, 3, 6, 19, 4, 3, 10])
         for word, number in [entry for enum in enums for entry in enum.items()]:
             self.assertEqual(getattr(raw, word), number, word)
 
@@ -93,8 +95,8 @@ class Header(unittest.TestCase):
         self.assertEqual(list(KINDS), [use.lower() for use in uses])
 
     def test_the_structs(self) -> None:
-        structs = (("pidtab", raw.Pidtab), ("pidtab_call", raw.PidtabCall), ("pidtab_reply", raw.PidtabReply), ("pidtab_entry", raw.PidtabEntry))
-        for name, known in structs:
+        tables = (("pidtab", raw.Pidtab), ("pidtab_call", raw.PidtabCall), ("pidtab_reply", raw.PidtabReply), ("pidtab_entry", raw.PidtabEntry))
+        for name, known in (*tables, ("pidtab_saved_head", raw.PidtabSavedHead), ("pidtab_saved", raw.PidtabSaved)):
             fields = re.findall(r"(void \*|struct \w+|\w+) ?(\w+)(\[PIDTAB_LEVELS_MAX\])?;", body(f"struct {name}"))
             wanted = [(name, TYPES[kind] * raw.LEVELS_MAX if many else TYPES[kind]) for kind, name, many in fields]
             self.assertEqual(list(known._fields_), wanted)
@@ -118,12 +120,13 @@ class Header(unittest.TestCase):
         self.assertEqual((done.returncode, done.stderr), (0, ""))
 
     def test_the_functions(self) -> None:
-        # The package has no records but those behind a lock, and takes that lock for one function at a time. It writes lines itself, and
-        # has no read of a whole task.
+        # The package has no records but those behind a lock, and takes that lock for one function at a time. It writes lines itself, has
+        # no read of a whole task, and saves to files alone.
         left_out = {"pidtab_shared_lock", "pidtab_shared_unlock", "pidtab_call_line", "pidtab_stat"}
-        text = header() + header("pidtab_shared.h")
-        declared = dict(re.findall(r"(?<!inline )(?:uint32_t |void |\*)(pidtab_(?!record_)\w+)\(([^)]*)\);", text))
-        known = {**raw.FUNCTIONS, **raw.LATER_FUNCTIONS, **raw.SHARED_FUNCTIONS}
+        left_out |= {f"pidtab_saved_{it}" for it in ("sum", "put", "put_head", "take", "take_head", "append", "load", "resume")}
+        text = header() + header("pidtab_shared.h") + header("pidtab_saved.h")
+        declared = dict(re.findall(r"(?<!inline )(?:uint32_t |uint64_t |void |\*)(pidtab_(?!record_)\w+)\(([^)]*)\);", text))
+        known = {**raw.FUNCTIONS, **raw.LATER_FUNCTIONS, **raw.SHARED_FUNCTIONS, **raw.SAVED_FUNCTIONS}
         self.assertEqual(set(declared) - left_out, set(known))
         self.assertLessEqual(left_out, set(declared))
         for name, (_, arguments) in known.items():

@@ -254,6 +254,7 @@ impl Kept {
 
     /// Makes room for the entries of n more calls. Each recorded call uses up one of them. The first room after the
     /// opening was the present state costs a copy of the whole table, which becomes the opening.
+    #[inline(always)]
     pub fn reserve_calls(&mut self, n: usize) -> Result<(), AllocError>
         ensures ok { OnOk result (n ≤ self.new.room) }
         ensures others { self.new ≡ record self.old { room = self.new.room } }
@@ -357,6 +358,7 @@ impl Kept {
 }
 
 /// Where the opening is the present state, makes a copy of that the opening. The error is want of memory.
+#[inline(always)]
 fn copy_opening(copy: &mut Option<Opening>, table: &PidTable) -> Result<(), AllocError>
     ensures same { opening_of copy.new table.now ≡ opening_of copy.old table.now }
     ensures ok { OnOk result (copy.new ≡ Some (opening_of copy.old table.now)) }
@@ -364,8 +366,18 @@ fn copy_opening(copy: &mut Option<Opening>, table: &PidTable) -> Result<(), Allo
     ensures none { OnErr result (copy.old ≡ None) }
 {
     if copy.is_none() {
-        *copy = Some(Opening::of(table)?);
+        return put_opening(copy, table);
     }
+    Ok(())
+}
+
+/// Makes a copy of the table the opening. The error is want of memory. It is not inlined, since a call rarely comes here.
+#[inline(never)]
+fn put_opening(copy: &mut Option<Opening>, table: &PidTable) -> Result<(), AllocError>
+    ensures ok { OnOk result (copy.new ≡ Some table.now) }
+    ensures err { OnErr result (copy.new ≡ copy.old) }
+{
+    *copy = Some(Opening::of(table)?);
     Ok(())
 }
 

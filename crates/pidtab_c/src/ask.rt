@@ -11,7 +11,7 @@ ghost use Rattle.pidtab_c.specs.Records.{Has};
 ghost use Rattle.pidtab_c.specs.Stamped.{reply_to};
 
 use crate::Pidtab;
-use crate::numbers::{CallNumbers, ReplyNumbers, read_call, tell_reply};
+use crate::numbers::{CallNumbers, ReplyNumbers, put_reply, read_call};
 use crate::record::PidtabRecord;
 use crate::status::{CLOSED, DONE, OUT_OF_RANGE};
 use pid_types::call::Call;
@@ -75,7 +75,7 @@ pub extern "C" fn pidtab_ask(
         table.put(held);
         return OUT_OF_RANGE;
     };
-    *reply = tell_reply(&held.ask(asked));
+    put_reply(&held.ask(asked), reply);
     table.put(held);
     DONE
 }
@@ -108,7 +108,7 @@ pub extern "C" fn pidtab_record_ask(
     };
     let mut told = Reply::Done;
     held.ask(asked, &mut told);
-    *reply = tell_reply(&told);
+    put_reply(&told, reply);
     table.put(held);
     DONE
 }

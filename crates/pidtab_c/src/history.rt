@@ -9,7 +9,7 @@ ghost use Rattle.pidtab_c.specs.Listed.{list_of_state};
 ghost use Rattle.pidtab_c.specs.Records.{Has, IsCut, Cuts};
 
 use crate::call_numbers::tell_call;
-use crate::numbers::{CallNumbers, ReplyNumbers, tell_reply};
+use crate::numbers::{CallNumbers, ReplyNumbers, put_reply};
 use crate::record::PidtabRecord;
 use crate::status::{AGAIN, CLOSED, DONE, NO_MEMORY, NO_ROOM, NOT_KEPT, OUT_OF_RANGE};
 use crate::texts::write_text;
@@ -97,7 +97,7 @@ fn tell_entry(
     };
     *worker = entry.worker as u64;
     *call = tell_call(&entry.call);
-    *reply = tell_reply(&entry.reply);
+    put_reply(&entry.reply, reply);
     DONE
 }
 

@@ -44,7 +44,7 @@ mod texts;
 
 use handle::{Handle, null};
 use loose::Loose;
-use numbers::{CallNumbers, ReplyNumbers, read_call, tell_reply};
+use numbers::{CallNumbers, ReplyNumbers, put_reply, read_call};
 use pid_script::answer::LONGEST_ANSWER;
 use pid_script::line::{Line, parse_line};
 use pid_types::call::Call;
@@ -306,7 +306,7 @@ pub extern "C" fn pidtab_call(
     };
     match table.make(alloc, made) {
         Ok(told) => {
-            *reply = tell_reply(&told);
+            put_reply(&told, reply);
             DONE
         }
         Err(fault) => status_of(fault),

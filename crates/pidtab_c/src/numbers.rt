@@ -131,6 +131,7 @@ fn read_status(number: u32) -> Option<u8>
 
 /// The call that the numbers say; none where the operation, or what it takes, is outside its range.
 #[tactic(auto, unfolding(crate::specs::Numbers::call_of))]
+#[inline(always)]
 pub(crate) fn read_call(n: &CallNumbers) -> Option<Call>
     ensures { result ≡ call_of n.now }
 {
@@ -201,30 +202,17 @@ fn read_later_call(n: &CallNumbers) -> Option<Call>
     }
 }
 
-/// A reply of the kind that tells nothing else.
-fn blank_of(kind: u32) -> ReplyNumbers
-    ensures { result ≡ blank kind }
+/// Writes a reply of the kind that tells one value or two.
+fn put_values(reply: &mut ReplyNumbers, kind: u32, first: u64, second: u64)
+    ensures { reply.new ≡ record (blank kind) { first = first; second = second } }
 {
-    ReplyNumbers {
-        kind,
-        errno: 0,
-        refusal: 0,
-        count: 0,
-        first: 0,
-        second: 0,
-        levels: [0; LEVELS],
-    }
-}
-
-/// A reply of the kind that tells one value or two.
-fn valued(kind: u32, first: u64, second: u64) -> ReplyNumbers
-    ensures { result ≡ record (blank kind) { first = first; second = second } }
-{
-    ReplyNumbers {
-        first,
-        second,
-        ..blank_of(kind)
-    }
+    reply.kind = kind;
+    reply.errno = 0;
+    reply.refusal = 0;
+    reply.count = 0;
+    reply.first = first;
+    reply.second = second;
+    reply.levels = [0; LEVELS];
 }
 
 /// The numbers, and zeroes behind them.
@@ -236,55 +224,67 @@ pub(crate) fn padded(numbers: &ArrayVec<u32, LEVELS>) -> [u32; LEVELS]
     levels
 }
 
-/// The reply with a task's numbers.
-fn levels_told(numbers: &ArrayVec<u32, LEVELS>) -> ReplyNumbers
-    ensures { result ≡ levels_numbers numbers.now.items }
+/// Writes the reply with a task's numbers.
+fn put_levels(reply: &mut ReplyNumbers, numbers: &ArrayVec<u32, LEVELS>)
+    ensures { reply.new ≡ levels_numbers numbers.now.items }
 {
-    ReplyNumbers {
-        count: numbers.len() as u32,
-        levels: padded(numbers),
-        ..blank_of(3)
-    }
+    put_values(reply, 3, 0, 0);
+    reply.count = numbers.len() as u32;
+    reply.levels = padded(numbers);
 }
 
-/// The reply of a refused call.
-fn refused(refusal: Refusal) -> ReplyNumbers
-    ensures { result ≡ refusal_numbers refusal }
+/// Writes the reply of a refused call.
+fn put_refusal(reply: &mut ReplyNumbers, refusal: Refusal)
+    ensures { reply.new ≡ refusal_numbers refusal }
 {
     let first = match refusal {
         Refusal::NoNumber(id) | Refusal::PidsLimit(id) => id,
         _ => 0,
     };
-    ReplyNumbers {
-        errno: refusal.errno(),
-        refusal: u32::from(refusal.number()),
-        first,
-        ..blank_of(9)
+    put_values(reply, 9, first, 0);
+    reply.errno = refusal.errno();
+    reply.refusal = u32::from(refusal.number());
+}
+
+/// Writes the reply as numbers where they go: a reply that is told and then copied would cost twice.
+#[tactic(auto, unfolding(crate::specs::Numbers::numbers_of))]
+pub(crate) fn put_reply(told: &Reply, reply: &mut ReplyNumbers)
+    ensures { reply.new ≡ numbers_of told.now }
+{
+    match told {
+        Reply::Forked { child, root } => put_values(reply, 0, u64::from(*child), u64::from(*root)),
+        Reply::Done => put_values(reply, 1, 0, 0),
+        Reply::Number(number) => put_values(reply, 2, u64::from(*number), 0),
+        Reply::Levels(numbers) => put_levels(reply, numbers),
+        Reply::Reaped {
+            child,
+            ended: Ended::Exited(status),
+        } => put_values(reply, 4, u64::from(*child), u64::from(*status)),
+        Reply::Reaped {
+            child,
+            ended: Ended::Killed,
+        } => put_values(reply, 4, u64::from(*child), 256),
+        Reply::NoneYet => put_values(reply, 5, 0, 0),
+        Reply::Counted(count) => put_values(reply, 6, *count, 0),
+        Reply::Control(id) => put_values(reply, 7, *id, 0),
+        Reply::End => put_values(reply, 8, 0, 0),
+        Reply::Refused(refusal) => put_refusal(reply, *refusal),
     }
 }
 
 /// The reply as numbers.
-#[tactic(auto, unfolding(crate::specs::Numbers::numbers_of))]
-pub(crate) fn tell_reply(reply: &Reply) -> ReplyNumbers
-    ensures { result ≡ numbers_of reply.now }
+pub(crate) fn tell_reply(told: &Reply) -> ReplyNumbers
+    ensures { result ≡ numbers_of told.now }
 {
-    match reply {
-        Reply::Forked { child, root } => valued(0, u64::from(*child), u64::from(*root)),
-        Reply::Done => blank_of(1),
-        Reply::Number(number) => valued(2, u64::from(*number), 0),
-        Reply::Levels(numbers) => levels_told(numbers),
-        Reply::Reaped {
-            child,
-            ended: Ended::Exited(status),
-        } => valued(4, u64::from(*child), u64::from(*status)),
-        Reply::Reaped {
-            child,
-            ended: Ended::Killed,
-        } => valued(4, u64::from(*child), 256),
-        Reply::NoneYet => blank_of(5),
-        Reply::Counted(count) => valued(6, *count, 0),
-        Reply::Control(id) => valued(7, *id, 0),
-        Reply::End => blank_of(8),
-        Reply::Refused(refusal) => refused(*refusal),
-    }
+    let mut reply = ReplyNumbers {
+        kind: 1,
+        errno: 0,
+        refusal: 0,
+        count: 0,
+        first: 0,
+        second: 0,
+        levels: [0; LEVELS],
+    };
+    put_reply(told, &mut reply);
+    reply
 }

@@ -11,7 +11,7 @@ ghost use Rattle.pidtab_c.specs.Lines.{IsCall};
 ghost use Rattle.pidtab_c.specs.Numbers.{call_of, numbers_of};
 ghost use Rattle.pidtab_c.specs.Records.{Has, roomless, without_room, IsRecorded};
 
-use crate::numbers::{CallNumbers, ReplyNumbers, read_call, tell_reply};
+use crate::numbers::{CallNumbers, ReplyNumbers, put_reply, read_call};
 use crate::record::PidtabRecord;
 use crate::status::{
     BAD_LINE, CLOSED, DONE, EMPTY_LINE, NO_MEMORY, NO_ROOM, OUT_OF_RANGE, SPENT, status_of,
@@ -24,6 +24,7 @@ use pid_types::call::Call;
 use std::alloc::Global;
 
 /// Makes the worker's call on the record, and tells its place in the history. The result is the status.
+#[inline(always)]
 pub(crate) fn make_on(held: &mut Kept, worker: usize, made: Call, ordinal: &mut u64) -> u32
     ensures done { result ≡ DONE → IsRecorded held.old worker made ordinal.new (Some held.new) }
     ensures reply { result ≡ DONE → last_reply held.new ≡ Some (outcome held.old made).reply }
@@ -68,7 +69,7 @@ fn call_on(
     let Some(told) = held.last_reply() else {
         unreachable!()
     };
-    *reply = tell_reply(told);
+    put_reply(told, reply);
     DONE
 }
 
