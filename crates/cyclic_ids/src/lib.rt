@@ -32,10 +32,10 @@ pub const SESSION_MARK: usize = 2;
 
 /// A finite map from numbers below a bound to values with marks, and a cursor for draws.
 ///
-/// The 64 numbers of one block, that of the last number that was prepared, stand in a leaf beside the
-/// tree. So a call for one of them is a call for that leaf, and a call for another is one of an `IndexArray`; a
-/// search may make both, and `plan` at most four. `prepare` exchanges the leaf for another, so draws in turn do
-/// so once in 64. The cost hardly grows with the numbers in use.
+/// The 64 numbers of one block, where draws go on, stand in a leaf beside the tree. A call for one of them is a
+/// call for that leaf, and a call for another is one of an `IndexArray`; a search may make both, and `plan` at
+/// most four. `prepare` exchanges the leaf for another, so draws in turn do so once in 64. The cost hardly grows
+/// with the numbers in use.
 pub struct CyclicIds {
     ids: IndexArray,
     leaf: Leaf,
@@ -45,6 +45,8 @@ pub struct CyclicIds {
     is_ready: bool,
     /// Whether the tree may have a leaf, with no entry, for the same block.
     is_backed: bool,
+    /// The block in which a number was last prepared that was not in the leaf's.
+    last: u32,
     pid_max: u32,
     cursor: Pid,
 }
@@ -58,6 +60,7 @@ impl Drop for CyclicIds {
             block: _,
             is_ready: _,
             is_backed: _,
+            last: _,
             pid_max: _,
             cursor: _,
         } = self;
@@ -70,7 +73,11 @@ impl Model for CyclicIds {
 
     ghost Value = { Ids ℕ };
 
-    ghost view = { λ a. record { places = places_beside a.is_ready a.block a.leaf.places a.ids; pid_max = a.pid_max; cursor = a.cursor } };
+    ghost view = { λ a. record {
+      places = places_beside a.is_ready a.block a.leaf.places a.ids;
+      pid_max = a.pid_max;
+      cursor = a.cursor;
+    } };
 
     ghost invariant = { λ a. AreIds a.pid_max a.is_ready a.block a.leaf.places a.ids };
 }
@@ -139,6 +146,7 @@ impl CyclicIds {
             block: 0,
             is_ready: false,
             is_backed: false,
+            last: 0,
             pid_max,
             cursor: 0,
         }
@@ -212,15 +220,37 @@ impl CyclicIds {
         ensures cursor { self.new.cursor ≡ self.old.cursor }
     {
         if n / 64 != self.block {
-            return self.change_leaf(n);
+            return self.prepare_elsewhere(n);
         }
         self.is_ready = true;
         Ok(())
     }
 
+    /// Prepares a number that is in another block than the leaf's. A first number in a block that the tree
+    /// has a leaf for stays there: where few numbers are free, the next one is in another block again.
+    #[inline(never)]
+    fn prepare_elsewhere(&mut self, n: Pid) -> Result<(), AllocError>
+        requires { n < self.old.pid_max }
+        ensures ok { OnOk result (is_prepared self.new.places n ≡ true) }
+        ensures entries { KeepsEntries self.old.places self.new.places }
+        ensures keeps { KeepsPrepared self.old.places self.new.places }
+        ensures planned { planned self.new ≡ planned self.old }
+        ensures pid_max { self.new.pid_max ≡ self.old.pid_max }
+        ensures cursor { self.new.cursor ≡ self.old.cursor }
+    {
+        let block = n / 64;
+        if block == self.last {
+            return self.change_leaf(n);
+        }
+        self.last = block;
+        if self.is_prepared(n) {
+            return Ok(());
+        }
+        self.change_leaf(n)
+    }
+
     /// Puts the leaf into the tree, and takes that of a number out in its place. On want of memory nothing
     /// changes but nodes.
-    #[inline(never)]
     fn change_leaf(&mut self, n: Pid) -> Result<(), AllocError>
         requires { n < self.old.pid_max }
         ensures ok { OnOk result (is_prepared self.new.places n ≡ true) }
