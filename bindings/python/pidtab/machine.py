@@ -9,7 +9,7 @@ from typing import Literal, NamedTuple
 
 from pidtab.calls import Calls
 from pidtab.faults import Diverged, LogFault
-from pidtab.log_form import DIGESTS_KEPT, MOST_SESSIONS, SHORT_DIGEST, Asked, Ended, Entry, Opened, Settings, read_entry
+from pidtab.log_form import DIGESTS_KEPT, MOST_SESSIONS, SHORT_DIGEST, Asked, Ended, Entry, Opened, Settings, read_entry, write_settings
 from pidtab.process import Process
 
 NO_MEMORY = "no memory"
@@ -116,7 +116,7 @@ class Machine:
         if entry != self.settings:
             raise LogFault(f"the log has {entry}, and this replica {self.settings}")
         self.begun = True
-        self.digest = hashlib.sha256(str(entry).encode()).hexdigest()
+        self.digest = hashlib.sha256(write_settings(entry)).hexdigest()
 
     def _open(self, position: int) -> None:
         """Opens a session, for which the one that was used the longest ago may end."""

@@ -85,7 +85,7 @@ class Replay:
         if len(words) != 6 or words[::2] != ["pidtab-log", "pid_max", "model"] or (words[1], words[5]) != (FORM, MODEL):
             raise BadLog(f"it does not begin with `pidtab-log {FORM} pid_max N model {MODEL}`")
         self.pid_max = int(words[3])
-        self.digest = hashlib.sha256(f"form {FORM}, pid_max {self.pid_max} and model {MODEL}".encode()).digest()
+        self.digest = hashlib.sha256(entries[0][1]).digest()
         self.made: dict[Place, Made] = {}
         self.repeated = 0
         # The entries that say of an earlier position what is not so here.

@@ -1,0 +1,339 @@
+"""Three members of etcd and three hosts, of which some are killed, stopped or late: no answered call is lost, wrong or doubled."""
+
+import os
+import signal
+import subprocess
+import sys
+import tempfile
+import time
+import unittest
+from pathlib import Path
+
+from cluster.etcds import LONGEST, Etcds, need_etcd, text64
+from cluster.load import table_kind
+from pidtab import EtcdLog, LogFault, NotKnown, Process, Replicated, Table, find_library, find_program
+from tests.ways import need_library, need_program
+
+PACKAGE = Path(__file__).resolve().parents[1]
+
+# How long the users of a test make calls, in seconds.
+LOAD = 14
+
+
+class Writer:
+    """A host in a process of its own."""
+
+    def __init__(self, members: list[str], name: str, file: Path, threads: int = 4, batch: int = 16, calls: int = 10**9, seconds: float = LOAD) -> None:
+        words = [",".join(members), name, threads, batch, calls, seconds, file]
+        command = [sys.executable, "-B", "-m", "cluster.writer", *map(str, words)]
+        self.file = file
+        self._child = subprocess.Popen(command, cwd=PACKAGE, env=environment(), stdin=subprocess.PIPE, stdout=subprocess.PIPE, text=True)
+
+    def read(self, word: str) -> list[str]:
+        """The words behind one that it says next."""
+        assert self._child.stdout
+        said = self._child.stdout.readline().split()
+        if said[:1] != [word]:
+            raise AssertionError(f"the writer of {self.file.name} says {said} in the place of {word}")
+        return said[1:]
+
+    def go(self) -> None:
+        """Has it say how far it is, or close."""
+        assert self._child.stdin
+        self._child.stdin.write("\n")
+        self._child.stdin.flush()
+
+    def send(self, number: signal.Signals) -> None:
+        """Sends it a signal."""
+        self._child.send_signal(number)
+
+    def end(self) -> None:
+        """Kills it, where it has not ended."""
+        self._child.kill()
+        self._child.wait()
+        assert self._child.stdin and self._child.stdout
+        self._child.stdin.close()
+        self._child.stdout.close()
+
+
+def environment() -> dict[str, str]:
+    """The variables of this process, with whole paths: the folder is another."""
+    named = {name: os.path.abspath(os.environ[name]) for name in ("PIDTAB", "PIDTAB_LIBRARY") if os.environ.get(name)}
+    return {**os.environ, **named}
+
+
+class Cluster(unittest.TestCase):
+    """Members and hosts, which end behind the test."""
+
+    def setUp(self) -> None:
+        need_etcd()
+        (need_program if table_kind() is Process else need_library)()
+        folder = tempfile.TemporaryDirectory(prefix="pidtab-cluster-")
+        self.addCleanup(folder.cleanup)
+        self.folder = Path(folder.name)
+        self.writers: list[Writer] = []
+
+    def start(self, *words: str, count: int = 3) -> Etcds:
+        """Starts members."""
+        etcds = Etcds(self.folder, count, *words)
+        self.addCleanup(etcds.stop)
+        return etcds
+
+    def writer(self, etcds: Etcds, **wishes: int) -> Writer:
+        """Starts a host, and waits until its table is open."""
+        writer = Writer(etcds.members, "web", self.folder / f"rows{len(self.writers)}", **wishes)
+        self.addCleanup(writer.end)
+        self.writers.append(writer)
+        self.opened = writer.read("open")
+        return writer
+
+    def compare(self, etcds: Etcds, *living: Writer) -> str:
+        """Waits until the hosts are done, and compares them with each other and all answers with the log: what is said of these."""
+        for writer in living:
+            writer.read("done")
+        for writer in living:
+            writer.go()
+        ends = {tuple(writer.read("at")) for writer in living}
+        said = self.replay(etcds)
+        self.assertEqual(len(ends), 1, said)
+        ((_, digest, listed),) = ends
+        self.assertIn(f"digest {digest}\nlist {listed}\nwriters with another digest: 0\n", said)
+        self.assertRegex(said, r"answers [1-9]\d*: 0 lost, 0 wrong, 0 doubled;")
+        self.assertRegex(said, r"times [1-9]\d*: 0 out of order")
+        # The writers' logs have troubles of their own.
+        self.assertRegex(said, r"calls, [1-9]\d* entries repeated")
+        for writer in living:
+            writer.go()
+            writer.read("closed")
+        return said
+
+    def replay(self, etcds: Etcds) -> str:
+        """What `pidtab-replay` says of the log and of all rows."""
+        log = self.folder / "log.json"
+        log.write_bytes(etcds.dump("web", etcds.leader()))
+        rows = [it for writer in self.writers for it in ("--answers", writer.file)]
+        way = ("--program", find_program()) if table_kind() is Process else ("--library", find_library())
+        command = [sys.executable, "-B", PACKAGE / "bin" / "pidtab-replay", *rows, *way, log]
+        done = subprocess.run(command, env=environment(), capture_output=True, text=True, check=False)
+        self.assertEqual((done.returncode, done.stderr), (0, ""), done.stdout)
+        print(f"\n{self.id().split('.')[-1]}:", *done.stdout.splitlines(), sep="\n    ", file=sys.stderr)
+        return done.stdout
+
+
+class Crashes(Cluster):
+    """What goes on through crashes."""
+
+    def test_a_leader_and_a_host_are_killed(self) -> None:
+        etcds = self.start()
+        one, two, three = (self.writer(etcds) for _ in range(3))
+        time.sleep(2)
+        leader = etcds.leader()
+        etcds.kill(leader)
+        time.sleep(2)
+        two.send(signal.SIGKILL)
+        time.sleep(1)
+        again = self.writer(etcds, seconds=6)
+        etcds.start(leader)
+        self.compare(etcds, one, three, again)
+        self.assertRegex(two.file.read_text("utf-8", "surrogateescape"), r"(?m)^\d+ \d+ \d+\t.*\t.*\t\d+\t\d+$")
+
+    def test_a_majority_is_lost_and_a_host_stops(self) -> None:
+        etcds = self.start()
+        one, two, three = (self.writer(etcds, batch=3) for _ in range(3))
+        time.sleep(2)
+        three.send(signal.SIGSTOP)
+        time.sleep(1)
+        for place in (0, 1):
+            etcds.kill(place)
+        time.sleep(4)
+        for place in (0, 1):
+            etcds.start(place)
+        time.sleep(2)
+        three.send(signal.SIGCONT)
+        self.compare(etcds, one, two, three)
+
+    def test_a_compaction_while_a_host_stops(self) -> None:
+        etcds = self.start()
+        one, two, three = (self.writer(etcds, batch=8) for _ in range(3))
+        time.sleep(2)
+        two.send(signal.SIGSTOP)
+        time.sleep(2)
+        # Its watches are cut off with the members, so it has to begin behind what is no more.
+        for place in range(3):
+            etcds.kill(place)
+            etcds.start(place)
+            etcds.wait_until_ready()
+        etcds.compact()
+        time.sleep(2)
+        etcds.compact()
+        three.send(signal.SIGKILL)
+        two.send(signal.SIGCONT)
+        late = self.writer(etcds, batch=8, seconds=3)
+        etcds.compact()
+        self.compare(etcds, one, two, late)
+
+    def test_a_member_that_hangs(self) -> None:
+        etcds = self.start()
+        one, two = (self.writer(etcds) for _ in range(2))
+        time.sleep(2)
+        leader = etcds.leader()
+        etcds.freeze(leader)
+        time.sleep(7)
+        etcds.thaw(leader)
+        self.compare(etcds, one, two)
+
+    def test_a_late_host(self) -> None:
+        etcds = self.start()
+        calls = 1_000_000
+        one = self.writer(etcds, threads=8, batch=500, calls=calls, seconds=240)
+        one.read("done")
+        late = self.writer(etcds, calls=0)
+        print(f"\na late host has {calls} calls after {self.opened[1]} seconds", file=sys.stderr)
+        one.go()
+        late.read("done")
+        late.go()
+        self.assertEqual(one.read("at"), late.read("at"))
+        said = self.replay(etcds)
+        self.assertRegex(said, rf"log: \d+ entries, {calls} calls")
+        self.assertIn(f"answers {calls}: 0 lost, 0 wrong, 0 doubled; 0 calls have none\n", said)
+
+
+class Refusals(Cluster):
+    """What etcd refuses, and what was done to a log."""
+
+    def open(self, etcds: Etcds, patience: float = 30.0, **wishes: object) -> Replicated:
+        """A host in this process."""
+        table = Replicated(EtcdLog(etcds.members, "web", **wishes), table=table_kind(), patience=patience)  # type: ignore[arg-type]
+        self.addCleanup(table.close)
+        return table
+
+    def wait_for_fault(self, table: Replicated, words: str) -> None:
+        """Waits until a replica has stopped, and sees why."""
+        end = time.monotonic() + LONGEST
+        while "closed" not in repr(table):
+            self.assertLess(time.monotonic(), end)
+            time.sleep(0.05)
+        with self.assertRaisesRegex(LogFault, words):
+            table.fork(1)
+
+    def keys(self, etcds: Etcds) -> list[str]:
+        """The keys of the log's entries."""
+        return [it["key"] for it in etcds.ask("/v3/kv/range", {"key": text64("web:"), "range_end": text64("web;")})["kvs"]]
+
+    def test_a_log_that_was_changed(self) -> None:
+        etcds = self.start(count=1)
+        table = self.open(etcds)
+        table.fork(1)
+        etcds.ask("/v3/kv/put", {"key": self.keys(etcds)[-1], "value": text64("hello")})
+        self.wait_for_fault(table, "the entry at revision 4 was overwritten")
+        with self.assertRaisesRegex(LogFault, "the entry at revision 4 was overwritten"):
+            self.open(etcds)
+
+    def test_a_log_that_was_trimmed(self) -> None:
+        etcds = self.start(count=1)
+        table = self.open(etcds)
+        for _ in range(5):
+            table.fork(1)
+        etcds.ask("/v3/kv/deleterange", {"key": self.keys(etcds)[3]})
+        self.wait_for_fault(table, "an entry of the log web was deleted")
+        # The first revision is 2, that of the settings, and a session is opened by the next.
+        with self.assertRaisesRegex(LogFault, "the writer of entry 6 had an entry 5, which the log has no more"):
+            self.open(etcds)
+        etcds.ask("/v3/kv/deleterange", {"key": self.keys(etcds)[0]})
+        with self.assertRaisesRegex(LogFault, "the log does not begin with its settings: it was trimmed"):
+            self.open(etcds)
+
+    def test_a_key_that_is_none_of_an_entry(self) -> None:
+        etcds = self.start(count=1)
+        etcds.ask("/v3/kv/put", {"key": text64("web:hello"), "value": text64("hello")})
+        with self.assertRaisesRegex(LogFault, "the log web has a key that is none of an entry: b'hello'"):
+            self.open(etcds)
+        # Of another log it is none.
+        log = EtcdLog(etcds.members, "we")
+        with Replicated(log, table=table_kind()) as table:
+            self.assertEqual(table.fork(1).root, 2)
+
+    def test_members_of_two_clusters(self) -> None:
+        etcds = self.start(count=1)
+        (self.folder / "other").mkdir()
+        others = Etcds(self.folder / "other", 1)
+        self.addCleanup(others.stop)
+        log = EtcdLog([*etcds.members, *others.members], "web")
+        with self.assertRaisesRegex(LogFault, "the members are not those of one etcd cluster"):
+            Replicated(log, table=table_kind())
+
+    def test_another_pid_max(self) -> None:
+        etcds = self.start(count=1)
+        self.open(etcds)
+        with self.assertRaisesRegex(LogFault, "the log has form 1, pid_max 32768 and model 1, and this replica form 1, pid_max 400 and model 1"):
+            Replicated(EtcdLog(etcds.members, "web"), pid_max=400, table=table_kind())
+
+    def test_no_space(self) -> None:
+        etcds = self.start("--quota-backend-bytes=4194304", count=1)
+        table = self.open(etcds, patience=3)
+        with self.assertRaisesRegex(NotKnown, "has not answered for 3 seconds .*etcdserver: mvcc: database space exceeded"):
+            for _ in range(2000):
+                table.answers(["x" * 200] * 2000)
+        # Where there is room again, it goes on: here by a greater quota.
+        etcds.stop()
+        etcds._words = ("--quota-backend-bytes=100000000",)
+        etcds.start(0)
+        etcds.wait_until_ready()
+        etcds.ask("/v3/maintenance/alarm", {"action": "DEACTIVATE", "alarm": "NOSPACE"})
+        end = time.monotonic() + LONGEST
+        while time.monotonic() < end:
+            try:
+                self.assertEqual(table.fork(1).root, 2)
+                break
+            except NotKnown:
+                pass
+        table.close()
+
+    def test_queries_that_are_not_behind(self) -> None:
+        need_library()
+        etcds = self.start()
+        one, two = (Replicated(EtcdLog(etcds.members, "web"), table=Table) for _ in range(2))
+        self.addCleanup(two.close)
+        self.addCleanup(one.close)
+        for number in range(2, 60):
+            self.assertEqual(one.fork(1).root, number)
+            self.assertEqual(two.ask(now=True).getpid(number), number)
+            # Others write to etcd too, so its revision alone does not say how far the log is.
+            etcds.ask("/v3/kv/put", {"key": text64("other"), "value": text64(str(number))})
+            self.assertEqual(two.ask(now=True).count(), number)
+        self.assertEqual(one.mk(), 59)
+        marks = etcds.ask("/v3/kv/range", {"key": text64("web:~mark")})
+        self.assertEqual(len(marks["kvs"]), 1)
+
+
+class Secrets(Cluster):
+    """Users and TLS."""
+
+    def test_a_user(self) -> None:
+        etcds = self.start(count=1)
+        for path, body in [
+            ("/v3/auth/user/add", {"name": "root", "password": "secret"}), ("/v3/auth/role/add", {"name": "root"}),
+            ("/v3/auth/user/grant", {"user": "root", "role": "root"}), ("/v3/auth/user/add", {"name": "web", "password": "word"}),
+            ("/v3/auth/role/add", {"name": "web"}), ("/v3/auth/user/grant", {"user": "web", "role": "web"}),
+            ("/v3/auth/role/grant", {"name": "web", "perm": {"permType": "READWRITE", "key": text64("web:"), "range_end": text64("web;")}}),
+            ("/v3/auth/enable", {}),
+        ]:  # fmt: skip
+            etcds.ask(path, body)
+        with Replicated(EtcdLog(etcds.members, "web", user=("web", "word")), table=table_kind()) as table:
+            self.assertEqual(table.fork(1).root, 2)
+            table.catch_up()
+        for name, user, words in [
+            ("web", None, "etcd refuses: etcdserver: user name is empty"), ("web", ("web", "wrong"), "etcd refuses: .*authentication failed"),
+            ("other", ("web", "word"), "etcd refuses: etcdserver: permission denied"),
+        ]:  # fmt: skip
+            with self.subTest(words), self.assertRaisesRegex(LogFault, words):
+                Replicated(EtcdLog(etcds.members, name, user=user), table=table_kind(), patience=10)
+
+    def test_a_user_where_there_are_none(self) -> None:
+        etcds = self.start(count=1)
+        with Replicated(EtcdLog(etcds.members, "web", user=("web", "word")), table=table_kind()) as table:
+            self.assertEqual(table.fork(1).root, 2)
+
+
+if __name__ == "__main__":
+    unittest.main()
