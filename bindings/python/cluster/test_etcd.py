@@ -1,7 +1,9 @@
 """Three members of etcd and three hosts, of which some are killed, stopped or late: no answered call is lost, wrong or doubled."""
 
 import os
+import shutil
 import signal
+import ssl
 import subprocess
 import sys
 import tempfile
@@ -12,6 +14,9 @@ from pathlib import Path
 from cluster.etcds import LONGEST, Etcds, need_etcd, text64
 from cluster.load import table_kind
 from pidtab import EtcdLog, LogFault, NotKnown, Process, Replicated, Table, find_library, find_program
+from pidtab.replay import read_log
+from tests.pages import displays, fenced, read_page, section
+from tests.programs import need_tool, run
 from tests.ways import need_library, need_program
 
 PACKAGE = Path(__file__).resolve().parents[1]
@@ -93,10 +98,11 @@ class Cluster(unittest.TestCase):
             writer.read("done")
         for writer in living:
             writer.go()
-        ends = {tuple(writer.read("at")) for writer in living}
+        # Not the positions: an entry that nobody needs any more may still be put again.
+        ends = {tuple(writer.read("at")[1:]) for writer in living}
         said = self.replay(etcds)
         self.assertEqual(len(ends), 1, said)
-        ((_, digest, listed),) = ends
+        ((digest, listed),) = ends
         self.assertIn(f"digest {digest}\nlist {listed}\nwriters with another digest: 0\n", said)
         self.assertRegex(said, r"answers [1-9]\d*: 0 lost, 0 wrong, 0 doubled;")
         self.assertRegex(said, r"times [1-9]\d*: 0 out of order")
@@ -192,7 +198,7 @@ class Crashes(Cluster):
         one.go()
         late.read("done")
         late.go()
-        self.assertEqual(one.read("at"), late.read("at"))
+        self.assertEqual(one.read("at")[1:], late.read("at")[1:])
         said = self.replay(etcds)
         self.assertRegex(said, rf"log: \d+ entries, {calls} calls")
         self.assertIn(f"answers {calls}: 0 lost, 0 wrong, 0 doubled; 0 calls have none\n", said)
@@ -329,10 +335,65 @@ class Secrets(Cluster):
             with self.subTest(words), self.assertRaisesRegex(LogFault, words):
                 Replicated(EtcdLog(etcds.members, name, user=user), table=table_kind(), patience=10)
 
+    def test_tls(self) -> None:
+        openssl = need_tool("openssl")
+        key, certificate = self.folder / "key.pem", self.folder / "certificate.pem"
+        words = ["req", "-x509", "-newkey", "rsa:2048", "-nodes", "-days", "1", "-subj", "/CN=127.0.0.1", "-addext", "subjectAltName=IP:127.0.0.1"]
+        subprocess.run([openssl, *words, "-keyout", key, "-out", certificate], capture_output=True, check=True)
+        tls = ssl.create_default_context(cafile=str(certificate))
+        etcds = Etcds(self.folder, 1, f"--cert-file={certificate}", f"--key-file={key}", scheme="https", tls=tls)
+        self.addCleanup(etcds.stop)
+        members = [f"https://{it}" for it in etcds.members]
+        with Replicated(EtcdLog(members, "web", tls=tls), table=table_kind()) as table:
+            self.assertEqual([table.fork(1).root for _ in range(3)], [2, 3, 4])
+            table.catch_up()
+        with self.assertRaisesRegex(LogFault, "the log was not opened: .*CERTIFICATE_VERIFY_FAILED"):
+            Replicated(EtcdLog(members, "web", tls=ssl.create_default_context()), table=table_kind(), patience=0.5)
+        with self.assertRaisesRegex(LogFault, "the log was not opened: .*"):
+            Replicated(EtcdLog(etcds.members, "web"), table=table_kind(), patience=0.5)
+
     def test_a_user_where_there_are_none(self) -> None:
         etcds = self.start(count=1)
         with Replicated(EtcdLog(etcds.members, "web", user=("web", "word")), table=table_kind()) as table:
             self.assertEqual(table.fork(1).root, 2)
+
+
+class Examples(Cluster):
+    """What the pages print."""
+
+    def test_the_page(self) -> None:
+        need_library()
+        text = section(read_page("docs/CLUSTER.md"), "## An example")
+        (code,), (command,), (printed,) = (fenced(text, kind) for kind in ("python", "sh", "text"))
+        etcds = self.start(count=1)
+        (self.folder / "host.py").write_text(code)
+        self.assertIn("127.0.0.1:2379", command)
+        said = run(["sh", "-c", command.replace("127.0.0.1:2379", etcds.members[0])], self.folder, PYTHONPATH=PACKAGE)
+        self.assertEqual(said, printed)
+
+    def test_the_manual_page(self) -> None:
+        (shown,) = displays(read_page("man/pidtab-replay.1"))
+        command, _, printed = shown.replace("\\\n", "").partition("\n")
+        etcds = self.start(count=1)
+        log = EtcdLog(etcds.members, "web")
+        with Replicated(log, table=table_kind()) as one, Replicated(log, table=table_kind()) as two:
+            for table, name, lines in ((one, "one", ["fork 1 new"]), (two, "two", ["fork 2", "getpid 9"])):
+                asked = table.submit(lines)
+                asked.result()
+                (self.folder / name).write_text("".join(asked.rows()))
+            (self.folder / "log").write_bytes(etcds.dump("web"))
+        # etcdctl need not be there: what it would write is in a file.
+        fed = command.removeprefix("$ ").replace("etcdctl get --prefix web: -w json", "cat log").replace("pidtab-replay", str(PACKAGE / "bin" / "pidtab-replay"))
+        self.assertEqual(run(["sh", "-c", fed], self.folder), printed)
+
+    @unittest.skipUnless(shutil.which("etcdctl"), "no etcdctl on PATH (Debian: etcd-client)")
+    def test_etcdctl_writes_the_same(self) -> None:
+        etcds = self.start(count=1)
+        with Replicated(EtcdLog(etcds.members, "web"), table=table_kind()) as table:
+            table.answers(["fork 1 new", "mk 0"])
+            table.catch_up()
+        command = ["etcdctl", "--endpoints", etcds.members[0], "get", "--prefix", "web:", "-w", "json"]
+        self.assertEqual(read_log(run(command, self.folder, ETCDCTL_API="3").encode()), read_log(etcds.dump("web")))
 
 
 if __name__ == "__main__":

@@ -10,6 +10,7 @@ from typing import Literal, NamedTuple
 from pidtab.calls import Calls
 from pidtab.faults import Diverged, LogFault
 from pidtab.log_form import DIGESTS_KEPT, MOST_SESSIONS, SHORT_DIGEST, Asked, Ended, Entry, Opened, Settings, read_entry, write_settings
+from pidtab.native import NumberCalls
 from pidtab.process import Process
 
 NO_MEMORY = "no memory"
@@ -31,21 +32,30 @@ class Outcome(NamedTuple):
     answers: Sequence[str] = ()
 
 
+def asker(table: Calls) -> Callable[[bytes], str]:
+    """What answers one line: for a table of this process its own function, which spares a list for each line."""
+    if isinstance(table, NumberCalls):
+        return table._answer
+    return lambda line: table._answers((line,))[0]
+
+
 def make_one_by_one(table: Calls, lines: Sequence[bytes]) -> list[str]:
     """The answers to lines. Where there is no memory for one, it is made again before the next."""
+    table._check_owner()
+    ask = asker(table)
     answers = []
     for line in lines:
-        (answer,) = table._answers((line,))
-        answers.append(answer if answer != NO_MEMORY else make_again(table, line))
+        answer = ask(line)
+        answers.append(answer if answer != NO_MEMORY else make_again(ask, line))
     return answers
 
 
-def make_again(table: Calls, line: bytes) -> str:
+def make_again(ask: Callable[[bytes], str], line: bytes) -> str:
     """The answer to a line for which there was no memory."""
     for pause in PAUSES:
         gc.collect()
         time.sleep(pause)
-        (answer,) = table._answers((line,))
+        answer = ask(line)
         if answer != NO_MEMORY:
             return answer
     raise NoMemory("no memory for a call")
