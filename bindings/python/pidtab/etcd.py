@@ -6,7 +6,6 @@ import json
 import os
 import socket
 import ssl
-import threading
 import weakref
 from collections.abc import Mapping, Sequence
 from typing import Any, NamedTuple
@@ -73,7 +72,10 @@ def hang_up(connection: http.client.HTTPConnection) -> None:
 
 
 class Etcd:
-    """The members of a cluster, which are tried in turn. Threads may share it."""
+    """The members of a cluster, which are tried in turn. Threads may share it.
+
+    It has no lock, which a fork might leave taken: two threads at once may lose a turn, or note an earlier revision, and neither does harm.
+    """
 
     def __init__(self, members: Sequence[Member], tls: ssl.SSLContext | None, user: tuple[str, str] | None, timeout: float) -> None:
         self.members = members
@@ -85,7 +87,6 @@ class Etcd:
         self._token = ""
         self._cluster = ""
         self._at = 0
-        self._lock = threading.Lock()
         # Connections that are open and not in use, each with the process that opened it.
         self._idle: list[tuple[int, http.client.HTTPConnection]] = []
         weakref.finalize(self, close_all, self._idle)
@@ -122,11 +123,10 @@ class Etcd:
     def note(self, header: Mapping[str, str]) -> int:
         """Reads the head of an answer: the revision. All members have to be those of one cluster."""
         cluster, revision = header.get("cluster_id", ""), int(header.get("revision", 0))
-        with self._lock:
-            if self._cluster and cluster and cluster != self._cluster:
-                raise LogFault("the members are not those of one etcd cluster")
-            self._cluster = cluster or self._cluster
-            self.revision = max(self.revision, revision)
+        if self._cluster and cluster and cluster != self._cluster:
+            raise LogFault("the members are not those of one etcd cluster")
+        self._cluster = cluster or self._cluster
+        self.revision = max(self.revision, revision)
         return revision
 
     def fault_of(self, told: JSON) -> Exception:
@@ -157,8 +157,7 @@ class Etcd:
             told = self._read(reply.status, reply.read())
         except (OSError, http.client.HTTPException) as fault:
             connection.close()
-            with self._lock:
-                self._at += 1
+            self._at += 1
             if isinstance(fault, NotEnabled):
                 raise
             raise OSError(self._say(connection, fault)) from fault

@@ -9,6 +9,7 @@ import ssl
 from collections.abc import Iterator, Sequence
 from typing import NamedTuple
 
+from pidtab.bounds import check_seconds
 from pidtab.etcd import JSON, Etcd, decode, encode, hang_up, read_member
 from pidtab.faults import LogFault
 from pidtab.log import Following, Log, Progress
@@ -94,7 +95,7 @@ class EtcdLog(Log):
         if tls is not None and any(it.startswith("http://") for it in texts):
             raise ValueError("a member by http has no tls")
         self.name = name
-        self._etcd = Etcd(found, tls, check_user(user), float(timeout))
+        self._etcd = Etcd(found, tls, check_user(user), check_seconds("timeout", timeout))
         self.prefix = name.encode() + b":"
         # Behind each key of the log.
         self.last = name.encode() + b";"

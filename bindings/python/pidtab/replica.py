@@ -1,11 +1,12 @@
 """One host's part in a table on many hosts: a thread that follows the log, one that appends to it, and one that watches the time."""
 
+import copy
 import queue
 import threading
 import time
 from collections import deque
-from collections.abc import Callable, Sequence
-from contextlib import suppress
+from collections.abc import Callable, Iterator, Sequence
+from contextlib import contextmanager, suppress
 from typing import TypeVar
 
 from pidtab.backoff import Backoff
@@ -18,6 +19,9 @@ from pidtab.submitted import Part, Receipt, Submitted, deadline_behind
 
 T = TypeVar("T")
 
+# What says that a table is not that of the log any more.
+LOSSES = (NoMemory, ProgramFault, MemoryError)
+
 # So often in a row a table is made anew from the log; then the replica stops.
 MOST_REPLAYS = 4
 
@@ -26,6 +30,9 @@ REPLAY_PAUSE = 0.5
 
 # A reader that waits so long for its own log asks for a mark, which the log's follower reaches by itself.
 SOON = 0.02
+
+# At least so many tries of the log are made within the patience, if it answers at once.
+PATIENCE_TRIES = 8
 
 # How long a close waits for its threads, which a log may hold up.
 LAST_SECONDS = 10.0
@@ -65,6 +72,8 @@ class Replica:
         self.trouble: Exception | None = None
         # The position up to which the log was read; entries behind it may be applied already.
         self.seen = 0
+        # Why the table is not that of the log any more; None where it is.
+        self.lost: Exception | None = None
         self.replays = 0
         self.failed_at = 0
         self.lock = threading.Lock()
@@ -90,10 +99,12 @@ class Replica:
 
     def start(self) -> None:
         """Begins, and waits until the table is as the log has it now."""
-        for thread in self.threads:
-            thread.start()
         try:
-            self.reach(self.insist(self.log.end, deadline_behind(self.patience)))
+            # Before the follower begins, which so gets there by itself.
+            end = self.insist(self.log.end, deadline_behind(self.patience))
+            for thread in self.threads:
+                thread.start()
+            self.reach(end)
             if not self.machine.begun:
                 self.insist(lambda: self.log.append(write_settings(self.settings)), deadline_behind(self.patience))
                 self.wait_until(lambda: self.machine.begun)
@@ -114,7 +125,7 @@ class Replica:
             raise TableClosed(CLOSED)
         if self.fault is not None:
             # A copy, since one that several threads raise has the traces of all.
-            raise type(self.fault)(*self.fault.args) from self.fault.__cause__
+            raise copy.copy(self.fault) from self.fault.__cause__
 
     def check_running(self) -> None:
         """Raises why the replica has stopped, if it has."""
@@ -125,6 +136,24 @@ class Replica:
         """Sees to it that no thread of the replica waits for itself, as in what was added to a `Future` to be called when it is done."""
         if threading.current_thread() in self.threads:
             raise RuntimeError("what is called when a Future is done cannot wait for its table: use `submit` there, or another thread")
+
+    @contextmanager
+    def read(self) -> Iterator[Calls]:
+        """The table, which nobody changes meanwhile. Amid a replay it would be as it was before, so who reads waits for its end."""
+        while True:
+            self.check_open()
+            if not self.is_whole():
+                self.check_thread()
+                self.wait_until(self.is_whole)
+            with self.table_lock:
+                self.check_open()
+                if self.is_whole():
+                    yield self.machine.table
+                    return
+
+    def is_whole(self) -> bool:
+        """Whether the table has all that was ever answered here."""
+        return self.lost is None and self.machine.position >= self.place[0]
 
     def catch_up(self) -> int:
         """Waits until the table has all that the log had when this was asked: the position."""
@@ -167,7 +196,7 @@ class Replica:
 
     def insist(self, step: Callable[[], T], deadline: float) -> T:
         """What a step of the log answers, which is tried until it does."""
-        backoff = Backoff()
+        backoff = Backoff(self.patience / PATIENCE_TRIES)
         while True:
             try:
                 return step()
@@ -237,20 +266,22 @@ class Replica:
 
     def follow(self) -> None:
         """Applies what comes of the log, for as long as the replica is open."""
-        backoff = Backoff()
+        backoff = Backoff(self.patience / PATIENCE_TRIES)
         while not self.stopped:
             try:
                 self.follow_once(backoff)
             except OSError as fault:
                 self.trouble = fault
-            except (NoMemory, ProgramFault, MemoryError) as fault:
-                self.replay(fault)
+            except LOSSES as fault:
+                self.lose(fault)
             except Exception as fault:
                 self.stop(fault, f"the replica has stopped, {fault}")
             self.pause(backoff.next())
 
     def follow_once(self, backoff: Backoff) -> None:
         """Follows the log until it raises something."""
+        if self.lost is not None:
+            self.replay()
         following = self.following = self.log.follow(self.seen)
         try:
             for progress in following:
@@ -267,7 +298,12 @@ class Replica:
             with self.table_lock:
                 if self.stopped:
                     return
-                outcome = self.machine.apply(position, data)
+                try:
+                    outcome = self.machine.apply(position, data)
+                except LOSSES as fault:
+                    # Before anybody reads it.
+                    self.lost = fault
+                    raise
                 self.note(position, self.machine.digest)
             if outcome is not None:
                 self.settle(outcome)
@@ -278,7 +314,8 @@ class Replica:
     def note(self, position: int, digest: str) -> None:
         """Notes the digest behind an entry. Where the log is replayed, it has to be the one that was noted before."""
         if position == self.place[0] and digest != self.place[1]:
-            raise Diverged(f"behind entry {position} the digest was {self.place[1][:SHORT_DIGEST]} here, and after a replay it is {digest[:SHORT_DIGEST]}")
+            before, now = self.place[1][:SHORT_DIGEST], digest[:SHORT_DIGEST]
+            raise Diverged(f"behind entry {position} the digest was {before} here, and after a replay it is {now}")
         if position > self.place[0]:
             self.place = (position, digest)
 
@@ -316,20 +353,24 @@ class Replica:
         self.session = 0
         self.changed.notify_all()
 
-    def replay(self, fault: Exception) -> None:
-        """Throws the table away and begins anew, from the log's first entry; a bound behind which the replica stops."""
+    def lose(self, fault: Exception) -> None:
+        """Counts how often in a row the table was lost, and stops the replica behind a bound."""
+        self.lost = fault
         self.replays = self.replays + 1 if self.machine.position <= self.failed_at else 1
         self.failed_at = max(self.failed_at, self.machine.position)
         if self.replays > MOST_REPLAYS:
-            words = f"the replica has stopped at entry {self.failed_at}, after {MOST_REPLAYS} replays of the log: {fault}"
-            self.stop(MemoryError(words) if isinstance(fault, (NoMemory, MemoryError)) else type(fault)(words), words)
-            return
+            words = f"the replica has stopped behind entry {self.failed_at}, after {MOST_REPLAYS} replays of the log: {fault}"
+            self.stop(type(fault)(words) if isinstance(fault, ProgramFault) else MemoryError(words), words)
         self.pause(self.replays * REPLAY_PAUSE)
+
+    def replay(self) -> None:
+        """Throws the table away, and begins anew from the log's first entry."""
         with self.table_lock:
             if self.stopped:
                 return
             self.machine.table.close()
             self.machine = Machine(self.open_table, self.settings)
+            self.lost = None
         with self.changed:
             self.seen = 0
             self.changed.notify_all()
@@ -338,7 +379,7 @@ class Replica:
 
     def append(self) -> None:
         """Puts what waits into the log, an entry at a time, and ends the session."""
-        backoff = Backoff()
+        backoff = Backoff(self.patience / PATIENCE_TRIES)
         try:
             while self.next_comes():
                 self.send(backoff)

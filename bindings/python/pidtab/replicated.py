@@ -1,13 +1,11 @@
 """One table on many hosts: each applies the calls of one log, in its order, to a table of its own."""
 
-import math
-import threading
 from collections.abc import Callable, Iterable, Sequence
 from contextlib import suppress
-from typing import Any, TypeVar
+from typing import TypeVar
 
 from pidtab.answers import Form
-from pidtab.bounds import DEFAULT_PID_MAX, check_pid_max
+from pidtab.bounds import DEFAULT_PID_MAX, check_pid_max, check_seconds
 from pidtab.calls import Call, Calls, as_line
 from pidtab.faults import LibraryFault, NotKept
 from pidtab.log import Log
@@ -74,7 +72,7 @@ class Replicated(Calls):
             raise TypeError(f"a log is a pidtab.Log, as an EtcdLog is, not {type(log).__name__}")
         self.pid_max = check_pid_max(pid_max)
         self.log = log
-        self.patience = check_patience(patience)
+        self.patience = check_seconds("patience", patience)
         self._replica = Replica(log, self.pid_max, opener(table, self.pid_max), self.patience)
         try:
             self._replica.start()
@@ -174,18 +172,16 @@ class Replicated(Calls):
         return form.read(self.line(call.line))
 
     def _ask(self, call: PidtabCall, reply: PidtabReply) -> int:
-        ask: Any = getattr(self._replica.machine.table, "_ask", None)
-        if ask is None:
-            raise LibraryFault("only a table by the library answers queries that are no calls: open it with table=pidtab.Table")
-        with self._replica.table_lock:
-            self._check_owner()
-            return int(self._replica.machine.table._ask(call, reply))  # type: ignore[attr-defined]
+        super()._check_owner()
+        with self._replica.read() as table:
+            if not isinstance(table, Table):
+                raise LibraryFault("only a table by the library answers queries that are no calls: open it with table=pidtab.Table")
+            return table._ask(call, reply)
 
     def _list_text(self) -> str:
-        self._check_owner()
-        with self._replica.table_lock:
-            self._check_owner()
-            return self._replica.machine.table._list_text()
+        super()._check_owner()
+        with self._replica.read() as table:
+            return table._list_text()
 
 
 def opener(table: Callable[..., Calls], pid_max: int) -> Callable[[], Calls]:
@@ -202,12 +198,3 @@ def opener(table: Callable[..., Calls], pid_max: int) -> Callable[[], Calls]:
         return opened
 
     return open_table
-
-
-def check_patience(patience: float) -> float:
-    """The same, if it is a number of seconds."""
-    if isinstance(patience, bool) or not isinstance(patience, (int, float)):
-        raise TypeError(f"patience is a number of seconds, not {type(patience).__name__}")
-    if not (0 < patience and math.isfinite(patience)) or patience > threading.TIMEOUT_MAX:
-        raise ValueError(f"patience is a number of seconds above 0, not {patience}")
-    return float(patience)

@@ -17,7 +17,7 @@ import pidtab
 from pidtab import Diverged, EtcdLog, Following, LibraryFault, LogFault, MemoryLog, NotKept, NotKnown, Replicated, TableClosed
 from pidtab.log_form import MOST_SESSIONS, OPEN, Asked, Settings, read_entry, write_calls, write_end, write_settings
 from tests.stand_in import StandIn
-from tests.test_ends import OTHERS, in_child
+from tests.test_ends import OTHERS, in_child, run_python
 from tests.test_interrupts import interrupts
 
 SETTINGS = write_settings(Settings(1, 32768, 1))
@@ -297,10 +297,63 @@ class Memory(Hosts):
         with self.assertRaisesRegex(NotKnown, "stopped .* no memory .*: the calls were made, or were not, or will be made yet") as caught:
             table.fork(1)
         self.assertIsInstance(caught.exception.__cause__, MemoryError)
-        with self.assertRaisesRegex(MemoryError, "after 4 replays of the log: no memory for a call"):
+        with self.assertRaisesRegex(MemoryError, "behind entry 2, after 4 replays of the log: no memory for a call"):
             table.fork(1)
         # The others have made it.
         self.assertEqual(other.fork(1).root, 3)
+
+    def open_two(self, second: Callable[[int], pidtab.Calls]) -> Replicated:
+        """A replica whose first table has memory for one fork, and then another table."""
+        opened: list[StandIn] = []
+
+        def open_table(pid_max: int) -> pidtab.Calls:
+            if opened:
+                return second(pid_max)
+            opened.append(StandIn(pid_max))
+            opened[0].refuse = lambda line: "no memory" if line.startswith(b"fork") and opened[0].next_task > 2 else None
+            return opened[0]
+
+        table = self.open(open_table)
+        self.assertEqual(table.fork(1).root, 2)
+        return table
+
+    def test_who_reads_waits_for_a_replay(self) -> None:
+        def open_late(pid_max: int) -> pidtab.Calls:
+            time.sleep(0.3)
+            return StandIn(pid_max)
+
+        table = self.open_two(open_late)
+        future = table.submit(["fork 1"])
+        while not future.done():
+            self.assertGreaterEqual(len(table.list().tasks), 2)
+        self.assertEqual(future.result(), ("child 3 root 3",))
+        self.assertEqual(table._replica.replays, 1)
+
+    def test_a_second_table_that_is_not_there(self) -> None:
+        table = self.open_two(mock.Mock(side_effect=pidtab.LibraryMissing("no library")))
+        with self.assertRaisesRegex(NotKnown, "the replica has stopped, no library"):
+            table.fork(1)
+        with self.assertRaisesRegex(pidtab.LibraryMissing, "no library"):
+            table.list()
+
+    def test_a_second_table_without_memory(self) -> None:
+        table = self.open_two(mock.Mock(side_effect=MemoryError("open: no memory")))
+        with self.assertRaisesRegex(NotKnown, "after 4 replays of the log: open: no memory"):
+            table.fork(1)
+        with self.assertRaisesRegex(MemoryError, "open: no memory"):
+            table.list()
+
+    def test_a_second_table_that_answers_otherwise(self) -> None:
+        def open_other(pid_max: int) -> pidtab.Calls:
+            other = StandIn(pid_max)
+            other.next_task = 5
+            return other
+
+        table = self.open_two(open_other)
+        with self.assertRaisesRegex(NotKnown, "behind entry 3 the digest was [0-9a-f]{16} here, and after a replay it is [0-9a-f]{16}"):
+            table.fork(1)
+        with self.assertRaises(Diverged):
+            table.list()
 
     def test_none_to_open_it(self) -> None:
         with self.assertRaises(MemoryError):
@@ -316,14 +369,14 @@ class Late(Hosts):
             self.open(patience=0.2)
 
     def test_amid_calls(self) -> None:
-        table = self.open(patience=0.4)
+        table = self.open(patience=1)
         table.fork(1)
         self.log.on.clear()
         first = table.submit(["fork 1"])
         self.wait_until(lambda: first.sent)
         behind = table.submit(["fork 1"])
         begun = time.monotonic()
-        with self.assertRaisesRegex(NotKnown, "0.4 seconds .*Connection refused.*: the calls were made, or were not, or will be made yet$") as caught:
+        with self.assertRaisesRegex(NotKnown, "1 seconds .*Connection refused.*: the calls were made, or were not, or will be made yet$") as caught:
             first.result()
         self.assertTrue(caught.exception.sent)
         with self.assertRaisesRegex(NotKnown, "the calls were not made$") as caught:
@@ -331,7 +384,7 @@ class Late(Hosts):
         self.assertFalse(caught.exception.sent)
         with self.assertRaisesRegex(NotKnown, "no call was made"):
             table.catch_up()
-        self.assertLess(time.monotonic() - begun, 5)
+        self.assertLess(time.monotonic() - begun, 10)
         self.log.on.set()
         # The first one was sent, so it is made yet, and before what is asked now.
         self.assertEqual(table.fork(1).root, 4)
@@ -472,6 +525,13 @@ class Ends(Hosts):
         gone = weakref.ref(Replicated(self.log, table=StandIn))
         self.wait_until(lambda: gc.collect() >= 0 and gone() is None)
         self.wait_until(lambda: not [it for it in threading.enumerate() if it.name.startswith("pidtab")])
+
+    def test_an_interpreter_that_ends(self) -> None:
+        said, complaints = run_python(
+            "from tests.stand_in import StandIn", "log = pidtab.MemoryLog()", "table = pidtab.Replicated(log, table=StandIn)", "table.fork(1)",
+            "futures = [table.submit(['fork 1'] * 100) for _ in range(100)]", "print(table.fork(1).root)",
+        )  # fmt: skip
+        self.assertEqual((said, complaints), ("10003\n", ""))
 
     def test_one_that_only_an_answer_needs(self) -> None:
         self.assertEqual(Replicated(self.log, table=StandIn).submit(["fork 1"]).result(LONG), ("child 2 root 2",))
