@@ -2,6 +2,7 @@
 
 from collections.abc import Callable, Iterable, Sequence
 from contextlib import suppress
+from operator import index
 from typing import TypeVar
 
 from pidtab.answers import Form
@@ -118,7 +119,7 @@ class Replicated(Calls):
     def digest_at(self, position: int) -> str:
         """The digest behind the entry at a position, of the last 4,096 entries; else a `NotKept`. So hosts that are not equally far can be compared."""
         self._check_owner()
-        found = self._replica.machine.digest_at(position)
+        found = self._replica.machine.digest_at(index(position))
         if found is None:
             raise NotKept(f"no digest is kept for position {position}: it is too old, not reached yet, or none of an entry")
         return found

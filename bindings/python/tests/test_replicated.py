@@ -570,6 +570,7 @@ class Misuse(Hosts):
     def test_a_position_without_a_digest(self) -> None:
         table = self.open()
         self.check(NotKept, "no digest is kept for position 7", lambda: table.digest_at(7))
+        self.check(TypeError, "", lambda: table.digest_at("1"))  # type: ignore[arg-type]
 
     def test_the_arguments_of_a_log_in_etcd(self) -> None:
         self.check(TypeError, "members is a list of texts, .* not one str", lambda: EtcdLog("127.0.0.1:2379", "web"))
