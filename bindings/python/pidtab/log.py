@@ -40,7 +40,10 @@ class Log(ABC):
 
     @abstractmethod
     def follow(self, after: int) -> Following:
-        """All entries behind the position, each once and in their order, and then each that comes. 0 is before all of them."""
+        """All entries behind the position, each once and in their order, and then each that comes. 0 is before all of them.
+
+        A generator of `Progress` does as well, if it yields at least once in some seconds.
+        """
 
     @abstractmethod
     def end(self) -> int:

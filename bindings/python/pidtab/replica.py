@@ -34,6 +34,9 @@ SOON = 0.02
 # At least so many tries of the log are made within the patience, if it answers at once.
 PATIENCE_TRIES = 8
 
+# How often a close looks whether it still waits for something, in seconds.
+LOOK = 0.2
+
 # How long a close waits for its threads, which a log may hold up.
 LAST_SECONDS = 10.0
 
@@ -94,6 +97,7 @@ class Replica:
         # The last entry that was applied, and the digest behind it. While the log is replayed it stays.
         self.place = (0, "")
         self.threads = [threading.Thread(target=it, name=f"pidtab {it.__name__}", daemon=True) for it in (self.follow, self.append, self.watch)]
+        self.appender = self.threads[1]
 
     # What the threads of the caller do.
 
@@ -219,19 +223,26 @@ class Replica:
 
     def finish(self) -> None:
         """The same, also for the thread that watches."""
+        deadline = deadline_behind(self.patience)
         try:
             with self.changed:
                 self.closing = True
                 self.changed.notify_all()
-                self.changed.wait_for(lambda: self.stopped or not (self.queue or self.pending), self.patience)
+                while self.is_waited_for() and time.monotonic() < deadline:
+                    # What is cancelled wakes nobody.
+                    self.changed.wait(LOOK)
             if self.is_idle():
-                # The thread that appends ends the session, by one try.
-                self.threads[1].join(LAST_SECONDS)
+                # It ends the session, by one try.
+                self.appender.join(LAST_SECONDS)
         finally:
             self.stop(None, CLOSED)
         for thread in self.threads:
             if thread is not threading.current_thread():
                 thread.join(LAST_SECONDS)
+
+    def is_waited_for(self) -> bool:
+        """Whether an answer may come yet that somebody waits for. The caller has the lock."""
+        return not self.stopped and any(not it.done() for it in self.waiting)
 
     def abandon(self) -> None:
         """Ends what could not be opened."""
@@ -254,7 +265,9 @@ class Replica:
             self.changed.notify_all()
         following = self.following
         if following is not None:
-            following.close()
+            # A generator that is at work cannot be closed, and ends behind its next word.
+            with suppress(ValueError):
+                following.close()
         self.wishes.put(None)
         for it in failed:
             it.fail(why, fault)
@@ -341,9 +354,10 @@ class Replica:
             count = len(part.lines)
             part.submitted.answer(part, Receipt(batch.session, batch.sequence, at, count), answers[at : at + count])
             at += count
-        with self.lock:
+        with self.changed:
             while self.waiting and self.waiting[0].done():
                 self.waiting.popleft()
+            self.changed.notify_all()
 
     def renew(self) -> None:
         """Gives up a session that the log has ended: what was sent in it and not made there, never will be, so it is sent in a new one."""

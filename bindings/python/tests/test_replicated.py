@@ -9,7 +9,7 @@ import threading
 import time
 import unittest
 import weakref
-from collections.abc import Callable, Sequence
+from collections.abc import Callable, Iterator, Sequence
 from concurrent.futures import CancelledError
 from unittest import mock
 
@@ -407,6 +407,17 @@ class Late(Hosts):
         self.assertLess(time.monotonic() - begun, 5)
         self.assertIsInstance(future.exception(0), NotKnown)
 
+    def test_a_close_behind_a_not_known(self) -> None:
+        table = self.open(patience=2)
+        table.fork(1)
+        self.log.on.clear()
+        with self.assertRaises(NotKnown):
+            table.fork(1)
+        begun = time.monotonic()
+        table.close()
+        # Nobody waits for anything, so a close does not either.
+        self.assertLess(time.monotonic() - begun, 1.5)
+
 
 class Ends(Hosts):
     """Closes, threads, interrupts, forks, and what nobody has any more."""
@@ -632,6 +643,19 @@ class OtherLog(unittest.TestCase):
 
         with Replicated(Other(), table=StandIn) as table:
             self.assertEqual(table.fork(1).root, 2)
+
+    def test_a_generator_follows(self) -> None:
+        class Simple(MemoryLog):
+            def follow(self, after: int) -> Iterator[pidtab.Progress]:  # type: ignore[override]
+                while True:
+                    found = [it for it in self.entries if it[0] > after]
+                    after += len(found)
+                    yield pidtab.Progress(after, found)
+                    time.sleep(0.02)
+
+        log = Simple()
+        with Replicated(log, table=StandIn) as table, Replicated(log, table=StandIn) as other:
+            self.assertEqual((table.fork(1).root, other.fork(1).root), (2, 3))
 
     def test_one_that_is_wrong(self) -> None:
         class Wrong(MemoryLog):
