@@ -7,9 +7,12 @@ import ssl
 import subprocess
 import sys
 import tempfile
+import threading
 import time
 import unittest
+from contextlib import suppress
 from pathlib import Path
+from unittest import mock
 
 from cluster.etcds import LONGEST, Etcds, need_etcd, text64
 from cluster.load import table_kind
@@ -122,8 +125,15 @@ class Cluster(unittest.TestCase):
         command = [sys.executable, "-B", PACKAGE / "bin" / "pidtab-replay", *rows, *way, log]
         done = subprocess.run(command, env=environment(), capture_output=True, text=True, check=False)
         self.assertEqual((done.returncode, done.stderr), (0, ""), done.stdout)
-        print(f"\n{self.id().split('.')[-1]}:", *done.stdout.splitlines(), sep="\n    ", file=sys.stderr)
+        longest = f"longest wait {self.longest_wait():.1f} s"
+        print(f"\n{self.id().split('.')[-1]}:", *done.stdout.splitlines(), longest, sep="\n    ", file=sys.stderr)
         return done.stdout
+
+
+    def longest_wait(self) -> float:
+        """How long the slowest answer took, in seconds."""
+        rows = [row.split("\t") for it in self.writers for row in it.file.read_text("utf-8", "surrogateescape").splitlines() if row.count("\t") == 4]
+        return max((int(row[4]) - int(row[3])) / 1e9 for row in rows)
 
 
 class Crashes(Cluster):
@@ -310,6 +320,91 @@ class Refusals(Cluster):
         self.assertEqual(one.mk(), 59)
         marks = etcds.ask("/v3/kv/range", {"key": text64("web:~mark")})
         self.assertEqual(len(marks["kvs"]), 1)
+
+
+class Walks(Cluster):
+    """A follower gets each entry once and in order, wherever it begins and however long etcd's history is."""
+
+    def walk(self, log: EtcdLog, after: int, last: int) -> list[tuple[int, bytes]]:
+        """The entries behind a position, up to one; none is above the position to which a progress says that all have come."""
+        found: list[tuple[int, bytes]] = []
+        following = log.follow(after)
+        try:
+            while not found or found[-1][0] < last:
+                progress = next(following)
+                self.assertLessEqual([it for it in progress.entries if it[0] > progress.position], [])
+                found += progress.entries
+                if progress.position >= last:
+                    break
+            return found
+        finally:
+            following.close()
+
+    def wait_for_answer(self, log: EtcdLog) -> None:
+        """Waits until a member answers at a connection that is good."""
+        end = time.monotonic() + LONGEST
+        while time.monotonic() < end:
+            with suppress(OSError):
+                log.end()
+                return
+            time.sleep(0.05)
+
+    def fill(self, log: EtcdLog, count: int) -> list[tuple[int, bytes]]:
+        """Entries of which some come late: their keys have revisions of long ago."""
+        entries = []
+        self.wait_for_answer(log)
+        for number in range(count):
+            if number % 3 == 0:
+                log._etcd.revision = number % 5
+            entries.append((log.append(b"entry %d" % number), b"entry %d" % number))
+        return entries
+
+    def test_each_beginning(self) -> None:
+        etcds = self.start(count=1)
+        log = EtcdLog(etcds.members, "web")
+        entries = self.fill(log, 60)
+        log.mark()
+        last = entries[-1][0]
+        for is_compacted in (False, True):
+            for most in (1, 7, 1000):
+                with mock.patch("pidtab.etcd_log.FIRST_PAGE", most), mock.patch("pidtab.etcd_log.LONGEST_PAGE", most):
+                    for begin in (0, 1, 30, 59):
+                        after = entries[begin][0] if begin else 0
+                        wanted = [it for it in entries if it[0] > after]
+                        self.assertEqual(self.walk(log, after, last), wanted, (is_compacted, most, begin))
+            etcds.compact()
+
+    def test_what_comes_while_it_walks(self) -> None:
+        etcds = self.start()
+        log = EtcdLog(etcds.members, "web")
+        entries = self.fill(log, 10)
+        following = log.follow(0)
+        self.addCleanup(following.close)
+        found = list(next(following).entries)
+        for member in (0, 1, 2):
+            etcds.kill(member)
+            etcds.start(member)
+            etcds.wait_until_ready()
+            entries += self.fill(log, 10)
+            etcds.compact()
+            while not found or found[-1][0] < entries[-1][0]:
+                try:
+                    found += next(following).entries
+                except OSError:
+                    following.close()
+                    following = log.follow(found[-1][0])
+        self.assertEqual(found, entries)
+
+    def test_a_follower_that_is_closed(self) -> None:
+        etcds = self.start(count=1)
+        log = EtcdLog(etcds.members, "web")
+        following = log.follow(0)
+        next(following)
+        threading.Timer(0.3, following.close).start()
+        begun = time.monotonic()
+        with suppress(OSError):
+            self.assertEqual(list(following), [])
+        self.assertLess(time.monotonic() - begun, 3)
 
 
 class Secrets(Cluster):

@@ -7,7 +7,6 @@ import argparse
 import base64
 import hashlib
 import json
-import sys
 from collections.abc import Iterable, Iterator
 from typing import NamedTuple
 
