@@ -63,13 +63,18 @@ def read_log(text: bytes) -> list[tuple[int, bytes]]:
 
 
 def read_row(text: str) -> Row:
-    """A recorded answer."""
-    words = text.removesuffix("\n").split("\t")
+    """A recorded answer. A bad line may have tabs of its own, and `bad line` is no time."""
+    head, *words = text.removesuffix("\n").split("\t")
+    times = None
     try:
-        where = Place(*map(int, words[0].split(" ")))
-        times = (int(words[3]), int(words[4])) if len(words) > 3 else None
-        return Row(where, Made(words[1], words[2]), times)
-    except (ValueError, TypeError, IndexError):
+        where = Place(*map(int, head.split(" ")))
+        if len(words) > 3 and words[-2].isdigit() and words[-1].isdigit():
+            times = (int(words[-2]), int(words[-1]))
+            words = words[:-2]
+        if len(words) < 2:
+            raise ValueError
+        return Row(where, Made("\t".join(words[:-1]), words[-1]), times)
+    except (ValueError, TypeError):
         raise BadLog(f"it has a row that is none: {text[:60]!r}") from None
 
 

@@ -22,8 +22,9 @@ T = TypeVar("T")
 # What says that a table is not that of the log any more.
 LOSSES = (NoMemory, ProgramFault, MemoryError)
 
-# So often in a row a table is made anew from the log; then the replica stops.
+# So often a table is made anew from the log without a gain of so many positions; then the replica stops.
 MOST_REPLAYS = 4
+GAIN = 1000
 
 # Seconds before the next of them, times how many there were.
 REPLAY_PAUSE = 0.5
@@ -368,9 +369,9 @@ class Replica:
         self.changed.notify_all()
 
     def lose(self, fault: Exception) -> None:
-        """Counts how often in a row the table was lost, and stops the replica behind a bound."""
+        """Counts how often the table was lost without a gain, and stops the replica behind a bound."""
         self.lost = fault
-        self.replays = self.replays + 1 if self.machine.position <= self.failed_at else 1
+        self.replays = 1 if self.machine.position > self.failed_at + GAIN else self.replays + 1
         self.failed_at = max(self.failed_at, self.machine.position)
         if self.replays > MOST_REPLAYS:
             words = f"the replica has stopped behind entry {self.failed_at}, after {MOST_REPLAYS} replays of the log: {fault}"

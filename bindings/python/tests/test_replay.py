@@ -110,6 +110,13 @@ class Replays(unittest.TestCase):
         # The last call in the log was answered before the others were asked.
         self.check("times 3: 1 out of order", [*ROWS[:2], ROWS[2].replace("\t30\t40", "\t1\t9")])
 
+    def test_a_line_with_tabs(self) -> None:
+        entries = [*LOG, (20, b"calls 5 3 1 9 " + AT_SECOND.hex()[:16].encode() + b"\na\t1\t2")]
+        for times in ("", "\t50\t60"):
+            status, said, _ = self.run_it(as_json(entries), rows=[*ROWS, f"5 3 0\ta\t1\t2\tbad line{times}\n"])
+            self.assertEqual(status, 0)
+            self.assertIn("answers 4: 0 lost, 0 wrong, 0 doubled; 0 calls have none", said)
+
     def test_a_call_without_an_answer(self) -> None:
         status, said, _ = self.run_it(as_json(LOG), rows=[*ROWS[:2], ROWS[2][:-1]])
         self.assertEqual(status, 0)
@@ -152,7 +159,7 @@ class Replays(unittest.TestCase):
         log, rows = MemoryLog(7), []
         with Replicated(log, table=kind) as one, Replicated(log, table=kind) as two:
             for table in (one, two, one, two):
-                asked = table.submit(["fork 1 new", "mk 0", "getpid 9", "x" * 300, "\udcff"])
+                asked = table.submit(["fork 1 new", "mk 0", "getpid 9", "x" * 300, "\udcff", "a\t1\t2", "\r"])
                 asked.result()
                 rows += asked.rows()
             two.catch_up()
@@ -160,7 +167,7 @@ class Replays(unittest.TestCase):
         (self.folder / "answers").write_text("".join(rows), "utf-8", "surrogateescape")
         status, said, fault = self.run_it(as_json(log.entries), "--answers", self.folder / "answers")
         self.assertEqual((status, fault), (0, ""))
-        self.assertIn("answers 20: 0 lost, 0 wrong, 0 doubled; 0 calls have none", said)
+        self.assertIn("answers 28: 0 lost, 0 wrong, 0 doubled; 0 calls have none", said)
         self.assertEqual(self.run_it(as_json(log.entries), "--list")[1], listed)
 
 

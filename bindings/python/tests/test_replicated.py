@@ -343,6 +343,24 @@ class Memory(Hosts):
         with self.assertRaisesRegex(MemoryError, "open: no memory"):
             table.list()
 
+    def test_one_that_never_gets_far(self) -> None:
+        # Each table gets an entry further than the one before.
+        opened: list[StandIn] = []
+
+        def open_table(pid_max: int) -> pidtab.Calls:
+            table, most = StandIn(pid_max), len(opened) + 2
+            table.refuse = lambda line: "no memory" if line.startswith(b"fork") and table.next_task > most else None
+            opened.append(table)
+            return table
+
+        table = self.open(open_table)
+        futures = [table.submit(["fork 1"]) for _ in range(1)]
+        with self.assertRaises((NotKnown, MemoryError)):
+            while True:
+                futures[-1].result()
+                futures.append(table.submit(["fork 1"]))
+        self.assertEqual(len(opened), 5)
+
     def test_a_second_table_that_answers_otherwise(self) -> None:
         def open_other(pid_max: int) -> pidtab.Calls:
             other = StandIn(pid_max)
