@@ -101,7 +101,7 @@ INCLUDEDIR ?= $(PREFIX)/include
 MANDIR ?= $(PREFIX)/share/man
 PYTHONDIR ?= $(PREFIX)/share/pidtab/python
 INSTALL ?= install
-PROGRAMS = pidtab-tree pidtab-check pidtab-play
+PROGRAMS = pidtab-tree pidtab-check pidtab-play pidtab-replay
 # The functions that a manual page names at its head, each of which has a manual page by its name.
 NAMED = sed -n 's/^\.Nm \(pidtab_[a-z_]*\).*/\1/p'
 FUNCTIONS = $(shell $(NAMED) man/*.3)
@@ -250,6 +250,15 @@ bindings-rust:
 bindings-go:
 	$(call tested,go,out/libpidtab.a,export CGO_CFLAGS="-DHEADER_$$(cksum < out/pidtab.h | cut -d ' ' -f 1)" && \
 		cd bindings/go && go vet ./... && { ! gofmt -l . | grep .; } && go test -count=1 ./...)
+
+.PHONY: replicated
+
+# By a log in memory that has troubles, and by three members of etcd on the loopback, of which some are killed.
+replicated: ## * tests one table on many hosts (some 8 minutes); where there is no library, it first does `make lib`
+	@test -e '$(SHARED)' || $(MAKE) -s lib
+	@command -v etcd > /dev/null || echo '$@: etcd is skipped: no etcd on PATH (Debian: etcd-server)'
+	$(call tested,python3,bindings/python/cluster,PIDTAB='$(PIDTAB)' PIDTAB_LIBRARY='$(SHARED)' \
+		python3 -B -m unittest discover -v -s bindings/python/cluster -t bindings/python)
 
 .PHONY: page page-test
 

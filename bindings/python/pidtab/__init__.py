@@ -9,15 +9,34 @@ if sys.version_info < (3, 10):
 from pidtab.answers import Forked, Reaped
 from pidtab.bounds import DEFAULT_PID_MAX, GREATEST_PID_MAX, LEAST_PID_MAX
 from pidtab.calls import Calls, Kind, Queries
-from pidtab.faults import BadHistory, LibraryFault, LibraryMissing, NotKept, ProgramEnded, ProgramFault, ProgramMissing, Refusal, SeatsTaken, TableClosed
+from pidtab.etcd_log import EtcdLog
+from pidtab.faults import (
+    BadHistory,
+    Diverged,
+    LibraryFault,
+    LibraryMissing,
+    LogFault,
+    NotKept,
+    NotKnown,
+    ProgramEnded,
+    ProgramFault,
+    ProgramMissing,
+    Refusal,
+    SeatsTaken,
+    TableClosed,
+)
 from pidtab.history import Counts, Entry
 from pidtab.library import find_library
 from pidtab.listing import BadList, Control, Listing, Space, Task, read_list
+from pidtab.log import Following, Log, Progress
+from pidtab.memory_log import MemoryLog
 from pidtab.native import Ask
 from pidtab.process import Process
 from pidtab.program import find_program
+from pidtab.replicated import ReplicaAsk, Replicated
 from pidtab.saved import Saved
 from pidtab.shared import Seat, Shared
+from pidtab.submitted import Receipt, Submitted
 from pidtab.table import Table
 from pidtab.tree import draw_list
 
@@ -31,25 +50,37 @@ __all__ = [
     "Calls",
     "Control",
     "Counts",
+    "Diverged",
     "Entry",
+    "EtcdLog",
+    "Following",
     "Forked",
     "Kind",
     "LibraryFault",
     "LibraryMissing",
     "Listing",
+    "Log",
+    "LogFault",
+    "MemoryLog",
     "NotKept",
+    "NotKnown",
     "Process",
     "ProgramEnded",
     "ProgramFault",
     "ProgramMissing",
+    "Progress",
     "Queries",
     "Reaped",
+    "Receipt",
     "Refusal",
+    "ReplicaAsk",
+    "Replicated",
     "Saved",
     "Seat",
     "SeatsTaken",
     "Shared",
     "Space",
+    "Submitted",
     "Table",
     "TableClosed",
     "Task",

@@ -1,5 +1,7 @@
 """The ranges of what tables are made with and asked."""
 
+import math
+import threading
 from operator import index
 from typing import SupportsIndex
 
@@ -14,6 +16,15 @@ def check_range(name: str, number: SupportsIndex, least: int, greatest: int) -> 
     if not least <= number <= greatest:
         raise ValueError(f"{name} is {least} to {greatest}, not {number}")
     return number
+
+
+def check_seconds(name: str, seconds: float) -> float:
+    """The same, if it is a number of seconds above 0, and not without an end."""
+    if isinstance(seconds, bool) or not isinstance(seconds, (int, float)):
+        raise TypeError(f"{name} is a number of seconds, not {type(seconds).__name__}")
+    if not (0 < seconds < threading.TIMEOUT_MAX and math.isfinite(seconds)):
+        raise ValueError(f"{name} is a number of seconds above 0, not {seconds}")
+    return float(seconds)
 
 
 def check_pid_max(pid_max: SupportsIndex) -> int:

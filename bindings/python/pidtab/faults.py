@@ -29,6 +29,37 @@ class BadHistory(ValueError):
     place: int = 0
 
 
+class NotKnown(RuntimeError):
+    """Whether calls on many hosts were made is not known: the log did not answer within the patience, or the replica was closed or stopped.
+
+    Where `sent` is False, nothing of them was put into the log: they were not made, and may be asked again. Else they were made, or were not, or
+    will be made yet. Read the table once the log answers again, and then decide: `ask(now=True)`, `catch_up` and `list`. The cause, where there
+    is one, is what stopped the replica.
+    """
+
+    def __init__(self, what: str, sent: bool = True) -> None:
+        super().__init__(what)
+        self.sent = sent
+
+
+class Diverged(RuntimeError):
+    """Two hosts have answered the same calls otherwise, and this replica has stopped. It does not say which of them is wrong.
+
+    Stop all replicas of the log. `pidtab-replay` plays it by one thread, and names the entries whose writers had answered otherwise: the hosts
+    that wrote them have another version of pidtab, or memory that fails. Repair them, and open all replicas again: each plays the whole log.
+    """
+
+
+class LogFault(RuntimeError):
+    """The log cannot be used, and this replica has stopped or was not opened. No call was put into it after that.
+
+    - It has other settings: open it with the `pid_max` that the sentence has, or by the release that has its model, or take another name.
+    - It was trimmed, changed or lost an entry: nothing can be built from it any more. Take another name, and make a new table there.
+    - An entry cannot be read: a later release has written it, or something else writes below the log's name.
+    - It refuses what it is asked, or did not answer when the replica was opened: the sentence has its reason.
+    """
+
+
 class ProgramFault(RuntimeError):
     """The program does not do what it should."""
 

@@ -25,6 +25,21 @@ INTERFACES = {
     "Makefile": r"-soname,libpidtab\.so\.(\d+)",
 }
 
+# Where the number of the model is written.
+MODELS = {
+    "docs/STABLE.md": r"^- The \*model\* is (\d+)\.",
+    "docs/CLUSTER.md": r"and the model, which is (\d+) \|$",
+    "bindings/python/pidtab/log_form.py": r"^MODEL = (\d+)$",
+    "bindings/python/pidtab/replay.py": r'^FORM, MODEL = "\d+", "(\d+)"$',
+}
+
+# Where that of the form of a log is.
+FORMS = {
+    "docs/CLUSTER.md": r"the settings: the form, which is (\d+),",
+    "bindings/python/pidtab/log_form.py": r"^FORM = (\d+)$",
+    "bindings/python/pidtab/replay.py": r'^FORM, MODEL = "(\d+)", "\d+"$',
+}
+
 # What the first library of interface 1 exported, and so each later one.
 RELEASED = {"pidtab_version", "pidtab_open", "pidtab_close", "pidtab_line", "pidtab_list", "pidtab_call"}
 
@@ -55,6 +70,10 @@ class Versions(unittest.TestCase):
         for page, pattern in INTERFACES.items():
             with self.subTest(page):
                 self.assertEqual(set(found(page, pattern)), {interface})
+
+    def test_the_log(self) -> None:
+        for places in (MODELS, FORMS):
+            self.assertEqual({tuple(found(page, pattern)) for page, pattern in places.items()}, {("1",)})
 
     def test_the_functions_that_stay(self) -> None:
         # Those that the header declares and does not define are exported.

@@ -1,0 +1,146 @@
+"""An etcd cluster on this machine's loopback, whose members can be killed and stopped."""
+
+import base64
+import json
+import shutil
+import signal
+import socket
+import ssl
+import subprocess
+import time
+import unittest
+import urllib.error
+import urllib.request
+from pathlib import Path
+from typing import Any
+
+HOST = "127.0.0.1"
+
+# Nothing here takes longer, in seconds, on a busy machine.
+LONGEST = 60.0
+
+
+def need_etcd() -> str:
+    """The path of etcd; what needs it is skipped where it is not there."""
+    found = shutil.which("etcd")
+    if found is None:
+        raise unittest.SkipTest("no etcd on PATH (Debian: etcd-server)")
+    return found
+
+
+def free_ports(count: int) -> list[int]:
+    """Ports that nobody uses."""
+    sockets = [socket.socket() for _ in range(count)]
+    for it in sockets:
+        it.bind((HOST, 0))
+    ports = [it.getsockname()[1] for it in sockets]
+    for it in sockets:
+        it.close()
+    return ports
+
+
+def text64(text: str) -> str:
+    """A text as the gateway of etcd takes it."""
+    return base64.b64encode(text.encode()).decode()
+
+
+class Etcds:
+    """Some members, each a process of its own with a folder of its own."""
+
+    def __init__(self, folder: Path, count: int = 3, *words: str, scheme: str = "http", tls: ssl.SSLContext | None = None) -> None:
+        self._program = need_etcd()
+        self._folder = folder
+        self._words = words
+        self._scheme = scheme
+        self._tls = tls
+        ports = free_ports(2 * count)
+        self._clients, self._peers = ports[:count], ports[count:]
+        self._running: dict[int, subprocess.Popen[bytes]] = {}
+        for place in range(count):
+            self.start(place)
+        self.wait_until_ready()
+
+    @property
+    def members(self) -> list[str]:
+        """The members, as `EtcdLog` takes them."""
+        return [f"{HOST}:{port}" for port in self._clients]
+
+    def start(self, place: int) -> None:
+        """Starts a member, again with what it has on disk."""
+        client, peer = f"{self._scheme}://{HOST}:{self._clients[place]}", f"http://{HOST}:{self._peers[place]}"
+        cluster = ",".join(f"m{it}=http://{HOST}:{port}" for it, port in enumerate(self._peers))
+        words = {
+            "name": f"m{place}", "data-dir": str(self._folder / f"m{place}"), "listen-client-urls": client, "advertise-client-urls": client,
+            "listen-peer-urls": peer, "initial-advertise-peer-urls": peer, "initial-cluster": cluster, "log-level": "error",
+        }  # fmt: skip
+        command = [self._program, *(f"--{name}={value}" for name, value in words.items()), *self._words]
+        with open(self._folder / f"m{place}.log", "ab") as said:
+            self._running[place] = subprocess.Popen(command, stdin=subprocess.DEVNULL, stdout=said, stderr=said, start_new_session=True)
+
+    def kill(self, place: int) -> None:
+        """Kills a member, as a loss of power would."""
+        self._running[place].kill()
+        self._running.pop(place).wait()
+
+    def freeze(self, place: int) -> None:
+        """Has a member stand still."""
+        self._running[place].send_signal(signal.SIGSTOP)
+
+    def thaw(self, place: int) -> None:
+        """Has it go on."""
+        self._running[place].send_signal(signal.SIGCONT)
+
+    def stop(self) -> None:
+        """Ends all members."""
+        for place in list(self._running):
+            self.kill(place)
+
+    def ask(self, path: str, body: dict[str, Any], place: int = 0, token: str = "") -> dict[str, Any]:
+        """What a member answers."""
+        headers = {"Authorization": token} if token else {}
+        url = f"{self._scheme}://{self.members[place]}{path}"
+        request = urllib.request.Request(url, json.dumps(body).encode(), headers)
+        with urllib.request.urlopen(request, timeout=LONGEST, context=self._tls) as reply:
+            told: dict[str, Any] = json.load(reply)
+            return told
+
+    def wait_until_ready(self) -> None:
+        """Waits until all members have a leader."""
+        end = time.monotonic() + LONGEST
+        for place in self._running:
+            while self._leader_of(place) == "0":
+                if time.monotonic() > end:
+                    raise TimeoutError("etcd does not start")
+                time.sleep(0.1)
+
+    def leader(self) -> int:
+        """The member that leads."""
+        for place in self._running:
+            told = self._status(place)
+            if told.get("leader") == told.get("header", {}).get("member_id"):
+                return place
+        raise LookupError("no leader")
+
+    def compact(self, place: int = 0) -> None:
+        """Drops the history up to now."""
+        revision = self.ask("/v3/kv/range", {"key": text64("none")}, place)["header"]["revision"]
+        try:
+            self.ask("/v3/kv/compaction", {"revision": revision, "physical": True}, place)
+        except urllib.error.HTTPError as fault:
+            said = fault.read()
+            # Nothing was written since the last time.
+            if b"has been compacted" not in said:
+                raise AssertionError(said) from fault
+
+    def dump(self, name: str, place: int = 0) -> bytes:
+        """A log, as `etcdctl get --prefix NAME: -w json` writes it."""
+        return json.dumps(self.ask("/v3/kv/range", {"key": text64(f"{name}:"), "range_end": text64(f"{name};")}, place)).encode()
+
+    def _status(self, place: int) -> dict[str, Any]:
+        try:
+            return self.ask("/v3/maintenance/status", {}, place)
+        except OSError:
+            return {}
+
+    def _leader_of(self, place: int) -> str:
+        return str(self._status(place).get("leader", "0"))

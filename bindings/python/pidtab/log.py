@@ -1,0 +1,54 @@
+"""A log on which all hosts agree: what a table on many hosts needs of it."""
+
+from abc import ABC, abstractmethod
+from collections.abc import Iterator, Sequence
+from typing import NamedTuple
+
+
+class Progress(NamedTuple):
+    """What has come of a log: entries with their positions, rising, and the position up to which these and all before are the whole log."""
+
+    position: int
+    entries: Sequence[tuple[int, bytes]] = ()
+
+
+class Following(Iterator[Progress]):
+    """A walk over a log that has no end: it waits for what comes. What it raises is an OSError, and then a new one goes on; or a `LogFault`."""
+
+    def __next__(self) -> Progress:
+        """What comes next. Where nothing comes for some seconds, that is a progress without entries."""
+        raise NotImplementedError
+
+    def close(self) -> None:
+        """Ends it, from any thread: who waits in it waits no more."""
+        raise NotImplementedError
+
+
+class Log(ABC):
+    """Entries in one order, the same for each host: `EtcdLog`, or another that keeps these promises. Positions are integers above 0, and rise.
+
+    An entry whose `append` has answered is never lost, and stands before each entry whose `append` began later. None is changed or taken away.
+    Threads may share a log. A `LogFault` says that it cannot be used any more.
+    """
+
+    @abstractmethod
+    def append(self, entry: bytes) -> int:
+        """Puts an entry of at most 600,000 bytes behind all others: its position.
+
+        This is one try. After an OSError the entry is there, or is not, or comes later; the caller puts it again, so it may be there twice.
+        """
+
+    @abstractmethod
+    def follow(self, after: int) -> Following:
+        """All entries behind the position, each once and in their order, and then each that comes. 0 is before all of them.
+
+        A generator of `Progress` does as well, if it yields at least once in some seconds.
+        """
+
+    @abstractmethod
+    def end(self) -> int:
+        """A position behind which there is no entry whose `append` had answered before this was asked. An OSError says nothing."""
+
+    def mark(self) -> int:
+        """The same, but each follower reaches it soon, also if no entry comes. It may cost a write, and puts no entry into the log."""
+        return self.end()

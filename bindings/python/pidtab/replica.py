@@ -1,0 +1,478 @@
+"""One host's part in a table on many hosts: a thread that follows the log, one that appends to it, and one that watches the time."""
+
+import copy
+import queue
+import threading
+import time
+from collections import deque
+from collections.abc import Callable, Iterator, Sequence
+from contextlib import contextmanager, suppress
+from typing import TypeVar
+
+from pidtab.backoff import Backoff
+from pidtab.calls import Calls
+from pidtab.faults import Diverged, LogFault, NotKnown, ProgramFault, TableClosed
+from pidtab.log import Following, Log, Progress
+from pidtab.log_form import FORM, MODEL, MOST_BYTES, OPEN, SHORT_DIGEST, Asked, Settings, write_calls, write_end, write_settings
+from pidtab.machine import Machine, NoMemory, Outcome
+from pidtab.submitted import Part, Receipt, Submitted, deadline_behind
+
+T = TypeVar("T")
+
+# What says that a table is not that of the log any more.
+LOSSES = (NoMemory, ProgramFault, MemoryError)
+
+# So often a table is made anew from the log without a gain of so many positions; then the replica stops.
+MOST_REPLAYS = 4
+GAIN = 1000
+
+# Seconds before the next of them, times how many there were.
+REPLAY_PAUSE = 0.5
+
+# A reader that waits so long for its own log asks for a mark, which the log's follower reaches by itself.
+SOON = 0.02
+
+# At least so many tries of the log are made within the patience, if it answers at once.
+PATIENCE_TRIES = 8
+
+# How often a close looks whether it still waits for something, in seconds.
+LOOK = 0.2
+
+# How long a close waits for its threads, which a log may hold up.
+LAST_SECONDS = 10.0
+
+CLOSED = "the table was closed"
+
+
+class Batch:
+    """The parts of one entry of calls."""
+
+    def __init__(self, session: int, sequence: int, parts: Sequence[Part], place: tuple[int, str]) -> None:
+        self.session = session
+        self.sequence = sequence
+        self.parts = parts
+        position, digest = place
+        lines = [line for part in parts for line in part.lines]
+        self.entry = write_calls(Asked(session, sequence, position, digest[:SHORT_DIGEST], lines))
+
+
+class Replica:
+    """A table that follows a log, and what this host puts into it.
+
+    Nothing here has its own reference to the `Replicated` that it serves, but by what was submitted and is not answered.
+    """
+
+    def __init__(self, log: Log, pid_max: int, open_table: Callable[[], Calls], patience: float) -> None:
+        self.log = log
+        self.patience = patience
+        self.settings = Settings(FORM, pid_max, MODEL)
+        self.open_table = open_table
+        # Set in a forked child, where the threads are not.
+        self.left = False
+        self.stopped = False
+        self.closing = False
+        self.fault: Exception | None = None
+        # What the log last said that it could not do, for the words of a fault.
+        self.trouble: Exception | None = None
+        # The position up to which the log was read; entries behind it may be applied already.
+        self.seen = 0
+        # Why the table is not that of the log any more; None where it is.
+        self.lost: Exception | None = None
+        self.replays = 0
+        self.failed_at = 0
+        self.lock = threading.Lock()
+        self.changed = threading.Condition(self.lock)
+        self.queue: deque[Part] = deque()
+        # What was sent and is not answered, by session and number.
+        self.pending: dict[tuple[int, int], Batch] = {}
+        self.waiting: deque[Submitted] = deque()
+        self.session = 0
+        self.sequence = 0
+        # What is being sent.
+        self.batch: Batch | None = None
+        self.following: Following | None = None
+        # Asks the watching thread to end the replica. A destructor may put something here, as it takes no lock.
+        self.wishes: "queue.SimpleQueue[None]" = queue.SimpleQueue()
+        self.table_lock = threading.Lock()
+        self.machine = Machine(open_table, self.settings)
+        # The last entry that was applied, and the digest behind it. While the log is replayed it stays.
+        self.place = (0, "")
+        self.threads = [threading.Thread(target=it, name=f"pidtab {it.__name__}", daemon=True) for it in (self.follow, self.append, self.watch)]
+        self.appender = self.threads[1]
+
+    # What the threads of the caller do.
+
+    def start(self) -> None:
+        """Begins, and waits until the table is as the log has it now."""
+        try:
+            # Before the follower begins, which so gets there by itself.
+            end = self.insist(self.log.end, deadline_behind(self.patience))
+            for thread in self.threads:
+                thread.start()
+            self.reach(end)
+            if not self.machine.begun:
+                self.insist(lambda: self.log.append(write_settings(self.settings)), deadline_behind(self.patience))
+                self.wait_until(lambda: self.machine.begun)
+        except NotKnown as fault:
+            raise LogFault(f"the log was not opened: {fault}") from self.trouble
+
+    def submit(self, submitted: Submitted) -> None:
+        """Has calls made."""
+        with self.lock:
+            self.check_open()
+            self.waiting.append(submitted)
+            self.queue.extend(submitted.parts)
+            self.changed.notify_all()
+
+    def check_open(self) -> None:
+        """Raises why the replica takes no calls, if it does not."""
+        if self.closing or (self.stopped and self.fault is None):
+            raise TableClosed(CLOSED)
+        if self.fault is not None:
+            # A copy, since one that several threads raise has the traces of all.
+            raise copy.copy(self.fault) from self.fault.__cause__
+
+    def check_running(self) -> None:
+        """Raises why the replica has stopped, if it has."""
+        if self.stopped:
+            self.check_open()
+
+    def check_thread(self) -> None:
+        """Sees to it that no thread of the replica waits for itself, as in what was added to a `Future` to be called when it is done."""
+        if threading.current_thread() in self.threads:
+            raise RuntimeError("what is called when a Future is done cannot wait for its table: use `submit` there, or another thread")
+
+    @contextmanager
+    def read(self) -> Iterator[Calls]:
+        """The table, which nobody changes meanwhile. Amid a replay it would be as it was before, so who reads waits for its end."""
+        while True:
+            self.check_open()
+            if not self.is_whole():
+                self.check_thread()
+                self.wait_until(self.is_whole)
+            with self.table_lock:
+                self.check_open()
+                if self.is_whole():
+                    yield self.machine.table
+                    return
+
+    def is_whole(self) -> bool:
+        """Whether the table has all that was ever answered here."""
+        return self.lost is None and self.machine.position >= self.place[0]
+
+    def catch_up(self) -> int:
+        """Waits until the table has all that the log had when this was asked: the position."""
+        self.check_thread()
+        self.check_open()
+        deadline = deadline_behind(self.patience)
+        end = self.insist(self.log.end, deadline)
+        with self.changed:
+            if self.changed.wait_for(lambda: self.seen >= end or self.stopped, SOON) and not self.stopped:
+                return self.place[0]
+        self.reach(self.insist(self.log.mark, deadline))
+        return self.place[0]
+
+    def reach(self, position: int) -> None:
+        """Waits until the log was read up to a position."""
+        self.wait_until(lambda: self.seen >= position)
+
+    def wait_until(self, holds: Callable[[], bool]) -> None:
+        """Waits for something that the follower brings, as long as it goes on within the patience."""
+        with self.changed:
+            while not holds():
+                self.check_open()
+                before = self.progress()
+                self.changed.wait_for(lambda: holds() or self.stopped or before != self.progress(), self.patience)
+                if not (holds() or self.stopped) and before == self.progress():
+                    raise self.over()
+
+    def progress(self) -> tuple[int, int, int]:
+        """What changes as long as the follower goes on."""
+        return (self.seen, self.machine.position, self.replays)
+
+    def over(self) -> NotKnown:
+        """What is raised when the patience is over for what makes no call."""
+        return NotKnown(f"{self.why_late()}: no call was made", sent=False)
+
+    def why_late(self) -> str:
+        """Why the patience is over, in words."""
+        trouble = "" if self.trouble is None else f" ({self.trouble})"
+        return f"the log has not answered for {self.patience:g} seconds{trouble}"
+
+    def insist(self, step: Callable[[], T], deadline: float) -> T:
+        """What a step of the log answers, which is tried until it does."""
+        backoff = Backoff(self.patience / PATIENCE_TRIES)
+        while True:
+            try:
+                return step()
+            except OSError as fault:
+                self.trouble = fault
+            self.check_running()
+            if time.monotonic() > deadline:
+                raise self.over()
+            self.pause(backoff.next())
+
+    def pause(self, seconds: float) -> None:
+        """Waits, and less if the replica stops."""
+        with self.changed:
+            self.changed.wait_for(lambda: self.stopped, seconds)
+
+    def close(self) -> None:
+        """Waits within the patience until what was submitted is answered, and ends. What still waits gets a `NotKnown`."""
+        self.check_thread()
+        self.finish()
+
+    def finish(self) -> None:
+        """The same, also for the thread that watches."""
+        deadline = deadline_behind(self.patience)
+        try:
+            with self.changed:
+                self.closing = True
+                self.changed.notify_all()
+                while self.is_waited_for() and time.monotonic() < deadline:
+                    # What is cancelled wakes nobody.
+                    self.changed.wait(LOOK)
+            if self.is_idle():
+                # It ends the session, by one try.
+                self.appender.join(LAST_SECONDS)
+        finally:
+            self.stop(None, CLOSED)
+        for thread in self.threads:
+            if thread is not threading.current_thread():
+                thread.join(LAST_SECONDS)
+
+    def is_waited_for(self) -> bool:
+        """Whether an answer may come yet that somebody waits for. The caller has the lock."""
+        return not self.stopped and any(not it.done() for it in self.waiting)
+
+    def abandon(self) -> None:
+        """Ends what could not be opened."""
+        self.stop(None, CLOSED)
+
+    def is_idle(self) -> bool:
+        """Whether nothing waits for an answer."""
+        with self.lock:
+            return not self.stopped and not self.queue and not self.pending
+
+    def stop(self, fault: Exception | None, why: str) -> None:
+        """Ends the threads and the table, and fails all that waits. Where it has stopped before, that stays as it was."""
+        with self.changed:
+            first, self.stopped = not self.stopped, True
+            self.fault = fault if first else self.fault
+            failed = [it for it in self.waiting if not it.done()]
+            self.waiting.clear()
+            self.queue.clear()
+            self.pending.clear()
+            self.changed.notify_all()
+        following = self.following
+        if following is not None:
+            # A generator that is at work cannot be closed, and ends behind its next word.
+            with suppress(ValueError):
+                following.close()
+        self.wishes.put(None)
+        for it in failed:
+            it.fail(why, fault)
+        if fault is None:
+            with self.table_lock:
+                self.machine.table.close()
+
+    # The thread that follows the log.
+
+    def follow(self) -> None:
+        """Applies what comes of the log, for as long as the replica is open."""
+        backoff = Backoff(self.patience / PATIENCE_TRIES)
+        while not self.stopped:
+            try:
+                self.follow_once(backoff)
+            except OSError as fault:
+                self.trouble = fault
+            except LOSSES as fault:
+                self.lose(fault)
+            except Exception as fault:
+                self.stop(fault, f"the replica has stopped, {fault}")
+            self.pause(backoff.next())
+
+    def follow_once(self, backoff: Backoff) -> None:
+        """Follows the log until it raises something."""
+        if self.lost is not None:
+            self.replay()
+        following = self.following = self.log.follow(self.seen)
+        try:
+            for progress in following:
+                self.take(progress)
+                backoff.reset()
+                if self.stopped:
+                    return
+        finally:
+            following.close()
+
+    def take(self, progress: Progress) -> None:
+        """Applies what has come, and answers what is this host's."""
+        for position, data in progress.entries:
+            with self.table_lock:
+                if self.stopped:
+                    return
+                try:
+                    outcome = self.machine.apply(position, data)
+                except LOSSES as fault:
+                    # Before anybody reads it.
+                    self.lost = fault
+                    raise
+                self.note(position, self.machine.digest)
+            if outcome is not None:
+                self.settle(outcome)
+        with self.changed:
+            self.seen = max(self.seen, progress.position)
+            self.changed.notify_all()
+
+    def note(self, position: int, digest: str) -> None:
+        """Notes the digest behind an entry. Where the log is replayed, it has to be the one that was noted before."""
+        if position == self.place[0] and digest != self.place[1]:
+            before, now = self.place[1][:SHORT_DIGEST], digest[:SHORT_DIGEST]
+            raise Diverged(f"behind entry {position} the digest was {before} here, and after a replay it is {now}")
+        if position > self.place[0]:
+            self.place = (position, digest)
+
+    def settle(self, outcome: Outcome) -> None:
+        """Answers an entry that is this host's."""
+        with self.changed:
+            if outcome.what == "repeated":
+                return
+            if outcome.what == "gap" and outcome.session == self.session:
+                raise LogFault(f"the log has lost an entry of session {outcome.session} before number {outcome.sequence}")
+            if outcome.what == "gone" and outcome.session == self.session:
+                self.renew()
+                return
+            batch = self.pending.pop((outcome.session, outcome.sequence), None)
+            self.changed.notify_all()
+        if batch is not None and outcome.what == "made":
+            self.answer(batch, outcome.answers)
+
+    def answer(self, batch: Batch, answers: Sequence[str]) -> None:
+        """Hands the answers of an entry to those who wait for them."""
+        at = 0
+        for part in batch.parts:
+            count = len(part.lines)
+            part.submitted.answer(part, Receipt(batch.session, batch.sequence, at, count), answers[at : at + count])
+            at += count
+        with self.changed:
+            while self.waiting and self.waiting[0].done():
+                self.waiting.popleft()
+            self.changed.notify_all()
+
+    def renew(self) -> None:
+        """Gives up a session that the log has ended: what was sent in it and not made there, never will be, so it is sent in a new one."""
+        parts = [part for _, batch in sorted(self.pending.items()) for part in batch.parts if not part.submitted.done()]
+        self.pending.clear()
+        self.queue.extendleft(reversed(parts))
+        self.session = 0
+        self.changed.notify_all()
+
+    def lose(self, fault: Exception) -> None:
+        """Counts how often the table was lost without a gain, and stops the replica behind a bound."""
+        self.lost = fault
+        self.replays = 1 if self.machine.position > self.failed_at + GAIN else self.replays + 1
+        self.failed_at = max(self.failed_at, self.machine.position)
+        if self.replays > MOST_REPLAYS:
+            words = f"the replica has stopped behind entry {self.failed_at}, after {MOST_REPLAYS} replays of the log: {fault}"
+            self.stop(type(fault)(words) if isinstance(fault, ProgramFault) else MemoryError(words), words)
+        self.pause(self.replays * REPLAY_PAUSE)
+
+    def replay(self) -> None:
+        """Throws the table away, and begins anew from the log's first entry."""
+        with self.table_lock:
+            if self.stopped:
+                return
+            self.machine.table.close()
+            self.machine = Machine(self.open_table, self.settings)
+            self.lost = None
+        with self.changed:
+            self.seen = 0
+            self.changed.notify_all()
+
+    # The thread that appends.
+
+    def append(self) -> None:
+        """Puts what waits into the log, an entry at a time, and ends the session."""
+        backoff = Backoff(self.patience / PATIENCE_TRIES)
+        try:
+            while self.next_comes():
+                self.send(backoff)
+            if self.session and not self.stopped:
+                # One try: a session that nobody ends goes when there are too many.
+                with suppress(OSError):
+                    self.log.append(write_end(self.session))
+        except Exception as fault:
+            self.stop(fault, f"the replica has stopped, {fault}")
+
+    def next_comes(self) -> bool:
+        """Waits until there is something to send; False where nothing more comes."""
+        with self.changed:
+            self.changed.wait_for(lambda: self.stopped or self.queue or self.batch or (self.closing and not self.pending))
+            return bool(self.queue or self.batch) and not self.stopped
+
+    def send(self, backoff: Backoff) -> None:
+        """Puts all that waits, as far as it fits, into the log as one entry. After a try with an unknown end the next one puts the same again."""
+        try:
+            if not self.session:
+                session = self.log.append(OPEN)
+                with self.lock:
+                    self.session, self.sequence = session, 0
+            batch = self.batch = self.batch or self.take_batch()
+            if batch is not None and self.is_wanted(batch):
+                self.log.append(batch.entry)
+            self.batch = None
+            backoff.reset()
+        except OSError as fault:
+            self.trouble = fault
+            self.pause(backoff.next())
+
+    def take_batch(self) -> Batch | None:
+        """What goes into the next entry; None where nothing does."""
+        parts, size = [], 0
+        with self.lock:
+            while self.session and self.queue and size + self.queue[0].size <= MOST_BYTES:
+                part = self.queue.popleft()
+                if part.submitted.send():
+                    parts.append(part)
+                    size += part.size
+            if not parts or self.stopped:
+                return None
+            self.sequence += 1
+            batch = Batch(self.session, self.sequence, parts, self.place)
+            self.pending[batch.session, batch.sequence] = batch
+            return batch
+
+    def is_wanted(self, batch: Batch) -> bool:
+        """Whether an entry is still to be sent: it was not applied, and its session goes on."""
+        with self.lock:
+            return not self.stopped and (batch.session, batch.sequence) in self.pending
+
+    # The thread that watches the time.
+
+    def watch(self) -> None:
+        """Fails what waits longer than the patience, and ends a replica that nobody has any more."""
+        while not self.stopped:
+            with self.lock:
+                until = self.waiting[0].deadline if self.waiting else deadline_behind(self.patience)
+            try:
+                self.wishes.get(timeout=max(0.0, until - time.monotonic()))
+            except queue.Empty:
+                self.expire()
+            else:
+                # A stop wakes this thread too, and says so before.
+                if not self.stopped:
+                    self.finish()
+
+    def expire(self) -> None:
+        """Fails what waits longer than the patience."""
+        now, overdue = time.monotonic(), []
+        with self.changed:
+            while self.waiting and (self.waiting[0].done() or self.waiting[0].deadline <= now):
+                overdue.append(self.waiting.popleft())
+            # What was not sent yet is not sent any more.
+            late = {id(it) for it in overdue}
+            self.queue = deque([part for part in self.queue if id(part.submitted) not in late])
+            self.changed.notify_all()
+        for it in overdue:
+            it.fail(self.why_late())
