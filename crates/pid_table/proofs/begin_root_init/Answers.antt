@@ -16,7 +16,7 @@ returns-clause-state c =
     let s = c.args.store.now in
     let planned = rw c.numbers.ensures at c.in-Ok.ensures.ok in
     let task : Task = record { children_space = 0; home = c.in-Some.home; executed = false; subreaper = false; life = Live } in
-    state-begun s c.laws.ensures c.requires c.fork.new.self c.laws-2.ensures c.in_ok-fork.field-0 task c.in-Ok.numbers.items c.in_ok-fork.ensures.begun (planned.1 ∙ numbers-are s c.laws.ensures c.requires)
+    state-begun s c.laws.ensures c.requires c.fork.new.self c.laws-2.ensures c.in_ok-fork.field-0 task c.as_slice.result.now c.in_ok-fork.ensures.begun (c.as_slice.ensures.value ∙ planned.1 ∙ numbers-are s c.laws.ensures c.requires)
     c.in_ok-fork.ensures.order c.in_ok-fork.ensures.namespaces c.in-Some.home (ap (λ v. id_at v c.in-Some.home) (sym c.controls.ensures) ∙ c.in-Some.ensures.id) refl
 
 pub returns-clause-whole : goal.returns-clause-whole
@@ -24,6 +24,6 @@ returns-clause-whole c =
     let s = c.args.store.now in
     let planned = rw c.numbers.ensures at c.in-Ok.ensures.ok in
     let task : Task = record { children_space = 0; home = c.in-Some.home; executed = false; subreaper = false; life = Live } in
-    whole-begun s c.laws.ensures c.requires c.fork.new.self c.laws-2.ensures c.in_ok-fork.field-0 task c.in-Ok.numbers.items c.in_ok-fork.ensures.begun (planned.1 ∙ numbers-are s c.laws.ensures c.requires)
+    whole-begun s c.laws.ensures c.requires c.fork.new.self c.laws-2.ensures c.in_ok-fork.field-0 task c.as_slice.result.now c.in_ok-fork.ensures.begun (c.as_slice.ensures.value ∙ planned.1 ∙ numbers-are s c.laws.ensures c.requires)
     c.in_ok-fork.ensures.order c.in_ok-fork.ensures.namespaces c.in-Some.home (ap (λ v. id_at v c.in-Some.home) (sym c.controls.ensures) ∙ c.in-Some.ensures.id) refl
     (c.root_state_is_sound.ensures s.numbering.pid_max 1 c.laws.ensures.numbering.good (omega arith)).0

@@ -26,4 +26,4 @@ only_home old new i space items root others fresh named p ns rest s within = eli
 pub fell-requires-clause-homes : goal.fell-requires-clause-homes
 fell-requires-clause-homes c s within stands =
     let made = c.in-Ok-draw_new.ensures in
-    only_home c.in-Ok.numbers c.draw_new.new.self c.in-Ok-draw_new.first c.in-Ok-draw_new.space c.in-Ok-plan_new.planned.items c.in-Ok.ensures.root c.in-Ok.ensures.others made.fresh.1 made.named _ _ made.namespaces s within
+    only_home c.in-Ok.numbers c.draw_new.new.self c.in-Ok-draw_new.first c.in-Ok-draw_new.space c.as_slice.result.now c.in-Ok.ensures.root c.in-Ok.ensures.others made.fresh.1 made.named _ _ made.namespaces s within
