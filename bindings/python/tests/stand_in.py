@@ -68,5 +68,3 @@ class StandIn(Calls):
         self._check_owner()
         tasks = "".join(f"task {it} space 0 parent 0 group 1 session 1 control 0 live\n" for it in sorted(self.tasks))
         return f"{tasks}space 0 parent - cursor {self.next_task}\ncontrol 0 parent - limit max count {len(self.tasks)}\n"
-
-
