@@ -47,6 +47,7 @@ void pidtab_shared_unlock(struct pidtab_shared *shared);
 uint32_t pidtab_shared_call(struct pidtab_shared *shared, uint32_t worker, const struct pidtab_call *call, struct pidtab_reply *reply, uint64_t *ordinal);
 uint32_t pidtab_shared_line(struct pidtab_shared *shared, uint32_t worker, const void *line, size_t length, void *answer, size_t room, size_t *size, uint64_t *ordinal);
 uint32_t pidtab_shared_ask(struct pidtab_shared *shared, const struct pidtab_call *call, struct pidtab_reply *reply);
+uint32_t pidtab_shared_stat(struct pidtab_shared *shared, uint32_t caller, uint32_t number, struct pidtab_task *task);
 uint32_t pidtab_shared_counts(struct pidtab_shared *shared, uint64_t *first_kept, uint64_t *recorded);
 uint32_t pidtab_shared_worker(struct pidtab_shared *shared, uint32_t worker, uint64_t *calls);
 uint32_t pidtab_shared_entry(struct pidtab_shared *shared, uint64_t ordinal, uint64_t *worker, struct pidtab_call *call, struct pidtab_reply *reply);

@@ -88,6 +88,12 @@ uint32_t pidtab_shared_ask(struct pidtab_shared *shared, const struct pidtab_cal
 	return unlocked(shared, pidtab_record_ask(&shared->record, call, reply));
 }
 
+uint32_t pidtab_shared_stat(struct pidtab_shared *shared, uint32_t caller, uint32_t number, struct pidtab_task *task)
+{
+	pthread_mutex_lock(&shared->lock);
+	return unlocked(shared, pidtab_record_stat(&shared->record, caller, number, task));
+}
+
 uint32_t pidtab_shared_counts(struct pidtab_shared *shared, uint64_t *first_kept, uint64_t *recorded)
 {
 	pthread_mutex_lock(&shared->lock);

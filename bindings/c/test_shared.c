@@ -3,6 +3,8 @@
 #include "test.h"
 #include "pidtab_shared.h"
 
+#include <errno.h>
+
 #define WORKERS 16
 #define EACH 20000
 
@@ -151,10 +153,13 @@ static void a_cut(void)
 {
 	struct pidtab_call call = { .operation = PIDTAB_GETPID, .caller = 1 };
 	struct pidtab_reply reply = { .kind = 77 };
+	struct pidtab_task task = { .count = 77 };
 	const uint64_t all = (uint64_t)WORKERS * EACH;
 	uint64_t first_kept, recorded, ordinal;
 
 	CHECK(pidtab_shared_ask(&shared, &call, &reply) == PIDTAB_DONE && reply.kind == PIDTAB_NUMBER && reply.first == 1);
+	CHECK(pidtab_shared_stat(&shared, 1, 0, &task) == PIDTAB_DONE && task.error == 0 && task.count == 1 && task.levels[0] == 1);
+	CHECK(pidtab_shared_stat(&shared, 0, 1, &task) == PIDTAB_DONE && task.error == ESRCH && task.refusal == PIDTAB_NO_CALLER);
 	CHECK(pidtab_shared_checkpoint_at(&shared, all - 1) == PIDTAB_AGAIN);
 	CHECK(pidtab_shared_checkpoint_at(&shared, all) == PIDTAB_DONE);
 	CHECK(pidtab_shared_counts(&shared, &first_kept, &recorded) == PIDTAB_DONE && first_kept == all && recorded == all);

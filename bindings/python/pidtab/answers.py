@@ -7,7 +7,7 @@ from dataclasses import dataclass
 from typing import Generic, TypeVar
 
 from pidtab.faults import ProgramFault, say_why, shorten
-from pidtab.raw import CONTROL, COUNTED, END, FORKED, KILLED, LEVELS, NONE_YET, NUMBER, OK, REAPED, REFUSED, PidtabReply
+from pidtab.raw import CONTROL, COUNTED, END, FORKED, KILLED, LEVELS, NONE_YET, NUMBER, OK, REAPED, REFUSED, PidtabReply, PidtabTask
 
 T = TypeVar("T")
 
@@ -31,6 +31,30 @@ class Reaped:
     def killed(self) -> bool:
         """Whether it was killed by the fall of its namespace."""
         return self.status is None
+
+
+@dataclass(frozen=True)
+class Stat:
+    """A task as a namespace sees it: its numbers there and inwards, and those of its parent, group and session, 0 where there is none.
+
+    Then the ids of its own namespace and of its control group, whether it lives, its status if it has ended and was not killed, and its marks.
+    """
+
+    numbers: tuple[int, ...]
+    parent: int
+    group: int
+    session: int
+    space: int
+    control: int
+    live: bool
+    status: int | None
+    executed: bool
+    subreaper: bool
+
+    @property
+    def killed(self) -> bool:
+        """Whether the fall of its namespace ended it."""
+        return not self.live and self.status is None
 
 
 def match(pattern: str, answer: str) -> "re.Match[str]":
@@ -95,6 +119,14 @@ def tell_reaped(reply: PidtabReply) -> Reaped | None:
     if reply.kind == NONE_YET:
         return None
     return Reaped(reply.first, None if reply.second == KILLED else reply.second)
+
+
+def tell_stat(task: PidtabTask) -> Stat:
+    """What was read of a task."""
+    status = task.status if task.ended and task.status != KILLED else None
+    numbers = tuple(task.levels[: task.count])
+    seen = (numbers, task.parent, task.group, task.session, task.space, task.control)
+    return Stat(*seen, not task.ended, status, bool(task.executed), bool(task.subreaper))
 
 
 def say_ended(status: int) -> str:

@@ -4,9 +4,10 @@ import ctypes
 import struct
 from abc import abstractmethod
 from collections.abc import Callable, Sequence
-from typing import TYPE_CHECKING, NoReturn, Protocol, TypeVar
+from typing import TYPE_CHECKING, NoReturn, Protocol, SupportsIndex, TypeVar
 
-from pidtab.answers import Form
+from pidtab.answers import Form, Stat, tell_stat
+from pidtab.bounds import check_range
 from pidtab.calls import Call, Calls, Queries
 from pidtab.faults import LibraryFault, TableClosed, read_fault, refusal_of, say_why
 from pidtab.raw import (
@@ -22,10 +23,13 @@ from pidtab.raw import (
     Answer,
     PidtabCall,
     PidtabReply,
+    PidtabTask,
 )
 
 # The room for a first try of a list.
 SHORT_LIST = 4096
+
+GREATEST_PID = 2**32 - 1
 
 # What the program answers where the library has a status.
 ANSWERS = {BAD_LINE: "bad line", OUT_OF_RANGE: "bad line", NO_MEMORY: "no memory", SPENT: "spent"}
@@ -86,6 +90,18 @@ def make_call(call: Call, form: Form[T], make: Callable[[PidtabCall, PidtabReply
     return form.tell(reply)
 
 
+def read_task(caller: SupportsIndex, pid: SupportsIndex, read: Callable[[int, int, PidtabTask], int]) -> Stat:
+    """What is read of a task by a function that takes the numbers, and answers a status."""
+    numbers = check_range("caller", caller, 0, GREATEST_PID), check_range("pid", pid, 0, GREATEST_PID)
+    task, asked = PidtabTask(), "stat {} {}".format(*numbers)
+    status = read(*numbers, task)
+    if status != DONE:
+        raise fault_of(status, asked)
+    if task.error:
+        raise refusal_of(task.error, asked, say_why(task.refusal, 0))
+    return tell_stat(task)
+
+
 class NumberCalls(Calls):
     """Calls by functions of the library, each of which answers a status."""
 
@@ -127,11 +143,13 @@ class Asked(Protocol):
 
     def _ask(self, call: PidtabCall, reply: PidtabReply) -> int: ...
 
+    def _stat(self, caller: int, pid: int, task: PidtabTask) -> int: ...
+
 
 class Ask(Queries):
     """Queries that are no calls, as the `ask` of a table: they are neither counted nor recorded, and shift no later id.
 
-    It has the seven queries and no other call. As long as somebody has it, the table is not dropped.
+    It has the seven queries and `stat`, and no other call. As long as somebody has it, the table is not dropped.
     """
 
     def __init__(self, table: Asked) -> None:
@@ -143,6 +161,11 @@ class Ask(Queries):
     def _make(self, call: Call, form: Form[T]) -> T:
         self._table._check_owner()
         return make_call(call, form, self._table._ask)
+
+    def stat(self, caller: int, pid: int = 0) -> Stat:
+        """The task with the number, where 0 is the caller, in one read: a zombie too, as `getpgid` finds it. no-caller, no-task."""
+        self._table._check_owner()
+        return read_task(caller, pid, self._table._stat)
 
     # Not for a checker of types, which then finds a call that is no query.
     if not TYPE_CHECKING:

@@ -89,6 +89,40 @@ class PidtabReply(ctypes.Structure):
     ]
 
 
+class PidtabTask(ctypes.Structure):
+    """A task as a namespace sees it."""
+
+    error: int
+    refusal: int
+    count: int
+    parent: int
+    group: int
+    session: int
+    ended: int
+    status: int
+    executed: int
+    subreaper: int
+    space: int
+    control: int
+    levels: "ctypes.Array[ctypes.c_uint32]"
+
+    _fields_ = [
+        ("error", ctypes.c_uint32),
+        ("refusal", ctypes.c_uint32),
+        ("count", ctypes.c_uint32),
+        ("parent", ctypes.c_uint32),
+        ("group", ctypes.c_uint32),
+        ("session", ctypes.c_uint32),
+        ("ended", ctypes.c_uint32),
+        ("status", ctypes.c_uint32),
+        ("executed", ctypes.c_uint32),
+        ("subreaper", ctypes.c_uint32),
+        ("space", ctypes.c_uint64),
+        ("control", ctypes.c_uint64),
+        ("levels", ctypes.c_uint32 * LEVELS_MAX),
+    ]
+
+
 class PidtabEntry(ctypes.Structure):
     """A recorded call: whose it was, the call and its reply."""
 
@@ -149,6 +183,7 @@ SAVED = ctypes.POINTER(PidtabSaved)
 SAVED_HEAD = ctypes.POINTER(PidtabSavedHead)
 CALL = ctypes.POINTER(PidtabCall)
 REPLY = ctypes.POINTER(PidtabReply)
+TASK = ctypes.POINTER(PidtabTask)
 ENTRIES = ctypes.POINTER(PidtabEntry)
 BYTES = ctypes.POINTER(ctypes.c_char)
 NUMBER_32 = ctypes.POINTER(U32)
@@ -171,7 +206,7 @@ FUNCTIONS: dict[str, Function] = {
 }
 
 # Those that an earlier library may lack.
-LATER_FUNCTIONS: dict[str, Function] = {"pidtab_ask": (U32, [TABLE, CALL, REPLY])}
+LATER_FUNCTIONS: dict[str, Function] = {"pidtab_ask": (U32, [TABLE, CALL, REPLY]), "pidtab_stat": (U32, [TABLE, U32, U32, TASK])}
 
 # Those on a table behind a lock.
 SHARED_FUNCTIONS: dict[str, Function] = {
@@ -181,6 +216,7 @@ SHARED_FUNCTIONS: dict[str, Function] = {
     "pidtab_shared_call": (U32, [SHARED, U32, CALL, REPLY, NUMBER_64]),
     "pidtab_shared_line": (U32, [SHARED, U32, ctypes.c_char_p, SIZE_T, BYTES, SIZE_T, SIZE, NUMBER_64]),
     "pidtab_shared_ask": (U32, [SHARED, CALL, REPLY]),
+    "pidtab_shared_stat": (U32, [SHARED, U32, U32, TASK]),
     "pidtab_shared_counts": (U32, [SHARED, NUMBER_64, NUMBER_64]),
     "pidtab_shared_worker": (U32, [SHARED, U32, NUMBER_64]),
     "pidtab_shared_entry": (U32, [SHARED, U64, NUMBER_64, CALL, REPLY]),

@@ -13,7 +13,7 @@ from pidtab.history import Counts, Entry, read_entry
 from pidtab.library import find_library, load_shared
 from pidtab.native import Ask, NumberCalls, fault_of, read_list_text
 from pidtab.owner import TABLES, Owner
-from pidtab.raw import AGAIN, DONE, MOST_WORKERS, NOT_KEPT, PidtabCall, PidtabEntry, PidtabReply, PidtabSavedHead, PidtabShared
+from pidtab.raw import AGAIN, DONE, MOST_WORKERS, NOT_KEPT, PidtabCall, PidtabEntry, PidtabReply, PidtabSavedHead, PidtabShared, PidtabTask
 from pidtab.saved import FilePath, Saved, SavedFile
 
 GREATEST_NUMBER = 2**64 - 1
@@ -97,6 +97,9 @@ class Seat(NumberCalls):
 
     def _ask(self, call: PidtabCall, reply: PidtabReply) -> int:
         return self.shared._ask(call, reply)
+
+    def _stat(self, caller: int, pid: int, task: PidtabTask) -> int:
+        return self.shared._stat(caller, pid, task)
 
     def _call(self, call: PidtabCall, reply: PidtabReply) -> int:
         return self.shared._status("pidtab_shared_call", self.worker, call, reply, self._ordinal)
@@ -331,6 +334,9 @@ class Shared(Listed, Owner):
 
     def _ask(self, call: PidtabCall, reply: PidtabReply) -> int:
         return self._status("pidtab_shared_ask", call, reply)
+
+    def _stat(self, caller: int, pid: int, task: PidtabTask) -> int:
+        return self._status("pidtab_shared_stat", caller, pid, task)
 
     def _list(self, room: "ctypes.Array[ctypes.c_char]", size: ctypes.c_size_t) -> int:
         return self._status("pidtab_shared_list", room, len(room), size)

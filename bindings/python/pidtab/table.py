@@ -7,7 +7,7 @@ from pidtab.bounds import DEFAULT_PID_MAX, check_pid_max
 from pidtab.faults import LibraryFault
 from pidtab.library import find_library, lacks, load_library
 from pidtab.native import Ask, NumberCalls, fault_of
-from pidtab.raw import DONE, Pidtab, PidtabCall, PidtabReply
+from pidtab.raw import DONE, Pidtab, PidtabCall, PidtabReply, PidtabTask
 
 
 class Table(NumberCalls):
@@ -37,9 +37,16 @@ class Table(NumberCalls):
         return Ask(self)
 
     def _ask(self, call: PidtabCall, reply: PidtabReply) -> int:
-        if not hasattr(self._functions, "pidtab_ask"):
-            raise LibraryFault(lacks(self.library, "pidtab_ask"))
-        return int(self._functions.pidtab_ask(self._table, call, reply))
+        return self._later("pidtab_ask", call, reply)
+
+    def _stat(self, caller: int, pid: int, task: PidtabTask) -> int:
+        return self._later("pidtab_stat", caller, pid, task)
+
+    def _later(self, name: str, *arguments: object) -> int:
+        """What a function answers that an earlier library may lack."""
+        if not hasattr(self._functions, name):
+            raise LibraryFault(lacks(self.library, name))
+        return int(getattr(self._functions, name)(self._table, *arguments))
 
     def _call(self, call: PidtabCall, reply: PidtabReply) -> int:
         return int(self._functions.pidtab_call(self._table, call, reply))

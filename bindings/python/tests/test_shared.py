@@ -18,7 +18,7 @@ from types import FrameType, SimpleNamespace
 from typing import Any
 from unittest import mock
 
-from pidtab import Ask, Calls, Counts, Entry, LibraryFault, NotKept, Queries, Seat, SeatsTaken, Shared, Table, TableClosed, raw
+from pidtab import Ask, Calls, Counts, Entry, LibraryFault, NotKept, Queries, Seat, SeatsTaken, Shared, Stat, Table, TableClosed, raw
 from pidtab.library import load_library, load_shared
 from pidtab.shared import BLOCK
 from tests.pages import StoredScript
@@ -117,7 +117,7 @@ def methods_of(shared: Shared) -> list[Callable[[], object]]:
     """Each method of a table for threads, but its end."""
     return [
         shared.seat, shared.counts, lambda: shared.worker(0), lambda: shared.entry(0), shared.entries, lambda: shared.entries(0), shared.checkpoint,
-        lambda: shared.checkpoint_at(0), lambda: shared.save("/none/none"), shared.list, shared.list_text, shared.tree, lambda: shared.ask.getpid(1), lambda: shared.ask.count(),
+        lambda: shared.checkpoint_at(0), lambda: shared.save("/none/none"), shared.list, shared.list_text, shared.tree, lambda: shared.ask.getpid(1), lambda: shared.ask.count(), lambda: shared.ask.stat(1),
     ]  # fmt: skip
 
 
@@ -415,6 +415,44 @@ class Asking(unittest.TestCase):
         self.assertEqual(public - set(NO_QUERIES), {name for name in dir(Queries) if not name.startswith("_")})
         self.assertEqual(self.shared.counts(), Counts(0, 0))
 
+    def test_one_read_of_a_task(self) -> None:
+        for table, queries in self.ways()[:2]:
+            table.answers(["mk 0", "fork 1 new", "fork 2", "fork 3", "move 3 1", "setsid 3", "subreaper 3 on", "exec 3", "fork 3", "exit 5 7", "exit 4 0"])
+            # By proc(5), getpgid(2) and the list: the task is 3 in the root namespace and 2 in that of its init.
+            self.assertEqual(queries.stat(1, 3), Stat((3, 2), 2, 3, 3, 2, 1, True, None, True, True))
+            self.assertEqual(queries.stat(3), Stat((2,), 1, 2, 2, 2, 1, True, None, True, True))
+            ended = queries.stat(1, 5)
+            self.assertEqual((ended.numbers, ended.parent, ended.live, ended.status, ended.killed), ((5, 4), 3, False, 7, False))
+            self.assertEqual(queries.stat(1), Stat((1,), 0, 1, 1, 0, 0, True, None, False, False))
+            before = table.mk()
+            table.exit(2)
+            killed = queries.stat(1, 2)
+            self.assertEqual((killed.live, killed.status, killed.killed), (False, 0, False))
+            self.check_killed(table, queries)
+            for caller, pid, why in ((9, 1, "no-caller"), (1, 9, "no-task")):
+                with self.assertRaisesRegex(ProcessLookupError, rf"^\[Errno 3\] stat {caller} {pid}: {why}$"):
+                    queries.stat(caller, pid)
+            # It is no call: the id is the number of the call.
+            self.assertEqual(table.mk(), before + 6)
+
+    def check_killed(self, table: Calls, queries: Ask) -> None:
+        """A task is killed by the exit of its namespace's init, and a zombie where its parent is outside: pid_namespaces(7)."""
+        table.answers(["fork 1 new", "join 1 6", "fork 1", "exit 6 3"])
+        killed = queries.stat(1, 7)
+        self.assertEqual((killed.numbers, killed.parent, killed.live, killed.status, killed.killed), ((7, 2), 1, False, None, True))
+
+    def test_the_numbers_of_a_read(self) -> None:
+        for _, queries in self.ways():
+            for value in NO_INTEGERS:
+                for read in (lambda it: queries.stat(it), lambda it: queries.stat(1, it)):
+                    with self.assertRaisesRegex(TypeError, "cannot be interpreted as an integer"):
+                        read(value)
+            for value in (-1, 2**32):
+                with self.assertRaisesRegex(ValueError, f"^caller is 0 to 4294967295, not {value}$"):
+                    queries.stat(value)
+                with self.assertRaisesRegex(ValueError, f"^pid is 0 to 4294967295, not {value}$"):
+                    queries.stat(1, value)
+
     def test_numbers(self) -> None:
         for _, queries in self.ways():
             for value in NO_INTEGERS:
@@ -451,6 +489,8 @@ class Asking(unittest.TestCase):
         self.addCleanup(table.close)
         with self.assertRaisesRegex(LibraryFault, "^early.so has no function pidtab_ask, as the library of an earlier release: build it with"):
             table.ask.getpid(1)
+        with self.assertRaisesRegex(LibraryFault, "^early.so has no function pidtab_stat, as the library of an earlier release: build it with"):
+            table.ask.stat(1)
 
 
 class Misuse(unittest.TestCase):

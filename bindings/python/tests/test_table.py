@@ -38,7 +38,7 @@ TYPES: dict[str, Any] = {
 # What is passed for them: for bytes that are read, and that are written, and for the address of what else.
 PASSED: dict[str, type] = {
     "const void *line": ctypes.c_char_p, "void *": raw.BYTES, "struct pidtab *": raw.TABLE, "struct pidtab_shared *": raw.SHARED,
-    "struct pidtab_call *": raw.CALL, "struct pidtab_reply *": raw.REPLY, "struct pidtab_entry *": raw.ENTRIES, "size_t *": raw.SIZE,
+    "struct pidtab_call *": raw.CALL, "struct pidtab_reply *": raw.REPLY, "struct pidtab_task *": raw.TASK, "struct pidtab_entry *": raw.ENTRIES, "size_t *": raw.SIZE,
     "struct pidtab_saved *": raw.SAVED, "struct pidtab_saved_head *": raw.SAVED_HEAD, "int ": ctypes.c_int,
     "uint32_t *": raw.NUMBER_32, "uint64_t *": raw.NUMBER_64, "size_t ": raw.SIZE_T, "uint32_t ": raw.U32, "uint64_t ": raw.U64,
 }  # fmt: skip
@@ -96,7 +96,7 @@ class Header(unittest.TestCase):
 
     def test_the_structs(self) -> None:
         tables = (("pidtab", raw.Pidtab), ("pidtab_call", raw.PidtabCall), ("pidtab_reply", raw.PidtabReply), ("pidtab_entry", raw.PidtabEntry))
-        for name, known in (*tables, ("pidtab_saved_head", raw.PidtabSavedHead), ("pidtab_saved", raw.PidtabSaved)):
+        for name, known in (*tables, ("pidtab_task", raw.PidtabTask), ("pidtab_saved_head", raw.PidtabSavedHead), ("pidtab_saved", raw.PidtabSaved)):
             fields = re.findall(r"(void \*|struct \w+|\w+) ?(\w+)(\[PIDTAB_LEVELS_MAX\])?;", body(f"struct {name}"))
             wanted = [(name, TYPES[kind] * raw.LEVELS_MAX if many else TYPES[kind]) for kind, name, many in fields]
             self.assertEqual(list(known._fields_), wanted)
@@ -120,9 +120,9 @@ class Header(unittest.TestCase):
         self.assertEqual((done.returncode, done.stderr), (0, ""))
 
     def test_the_functions(self) -> None:
-        # The package has no records but those behind a lock, and takes that lock for one function at a time. It writes lines itself, has
-        # no read of a whole task, and saves to files alone.
-        left_out = {"pidtab_shared_lock", "pidtab_shared_unlock", "pidtab_call_line", "pidtab_stat"}
+        # The package has no records but those behind a lock, and takes that lock for one function at a time. It writes lines itself, and
+        # saves to files alone.
+        left_out = {"pidtab_shared_lock", "pidtab_shared_unlock", "pidtab_call_line"}
         left_out |= {f"pidtab_saved_{it}" for it in ("sum", "put", "put_head", "take", "take_head", "append", "load", "resume")}
         text = header() + header("pidtab_shared.h") + header("pidtab_saved.h")
         declared = dict(re.findall(r"(?<!inline )(?:uint32_t |uint64_t |void |\*)(pidtab_(?!record_)\w+)\(([^)]*)\);", text))
