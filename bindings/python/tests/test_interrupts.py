@@ -10,8 +10,8 @@ import tempfile
 import threading
 import time
 import unittest
-from collections.abc import Callable, Iterator
-from contextlib import contextmanager, suppress
+from collections.abc import Callable
+from contextlib import AbstractContextManager, suppress
 from functools import partial
 from pathlib import Path
 from types import FrameType
@@ -21,6 +21,7 @@ from unittest import mock
 import pidtab.process
 import pidtab.turn
 from pidtab import Process
+from tests.alarms import alarms
 from tests.ways import need_program
 
 PACKAGE = Path(__file__).resolve().parents[1]
@@ -33,16 +34,9 @@ def interrupt(number: int, frame: FrameType | None) -> None:
     raise KeyboardInterrupt
 
 
-@contextmanager
-def interrupts(first: float, every: float = 0.0) -> Iterator[None]:
+def interrupts(first: float, every: float = 0.0) -> AbstractContextManager[None]:
     """Raises a KeyboardInterrupt in so many seconds, and then again and again."""
-    before = signal.signal(signal.SIGALRM, interrupt)
-    try:
-        signal.setitimer(signal.ITIMER_REAL, first, every)
-        yield
-    finally:
-        signal.setitimer(signal.ITIMER_REAL, 0)
-        signal.signal(signal.SIGALRM, before)
+    return alarms(interrupt, first, every)
 
 
 class Interrupter:

@@ -5,21 +5,19 @@ import gc
 import os
 import re
 import resource
-import signal
 import struct
 import subprocess
 import tempfile
 import threading
 import time
 import unittest
-from collections.abc import Callable, Iterator
-from contextlib import contextmanager
 from pathlib import Path
 from types import FrameType
 from typing import Any
 from unittest import mock
 
 from pidtab import BadHistory, Counts, Entry, NotKept, Saved, Seat, Shared, TableClosed
+from tests.alarms import Awaiting, alarms
 from tests.pages import fenced, read_page, section
 from tests.programs import ARCHIVE, BUILT, STRICT, need_archive, need_tool
 from tests.test_arguments import NO_INTEGERS
@@ -630,28 +628,8 @@ class Threads(Files):
         self.assertEqual(self.load().counts().first_kept, 0)
 
 
-class Interrupts(Files):
+class Interrupts(Awaiting, Files):
     """Ctrl-C amid a save or a load: nothing is lost or doubled."""
-
-    def setUp(self) -> None:
-        super().setUp()
-        self.awaited = False
-
-    def interrupt(self, number: int, frame: FrameType | None) -> None:
-        if self.awaited:
-            self.awaited = False
-            raise KeyboardInterrupt
-
-    @contextmanager
-    def interrupts(self, every: float, handler: Callable[[int, FrameType | None], object]) -> Iterator[None]:
-        """Calls the handler again and again."""
-        before = signal.signal(signal.SIGALRM, handler)
-        try:
-            signal.setitimer(signal.ITIMER_REAL, every, every)
-            yield
-        finally:
-            signal.setitimer(signal.ITIMER_REAL, 0)
-            signal.signal(signal.SIGALRM, before)
 
     def check_file(self, shared: Shared) -> None:
         """The file is what a save without interrupts writes."""
@@ -664,7 +642,7 @@ class Interrupts(Files):
         shared, (one, _) = self.open()
         interrupted = 0
         end = time.monotonic() + 1.5
-        with self.interrupts(0.003, self.interrupt):
+        with alarms(self.interrupt, 0.003, 0.003):
             while time.monotonic() < end:
                 try:
                     self.save_for_ever(shared, one)
@@ -686,7 +664,7 @@ class Interrupts(Files):
         one.fork(1)
         begun = interrupted = 0
         end = time.monotonic() + 1.5
-        with self.interrupts(0.0007, self.interrupt):
+        with alarms(self.interrupt, 0.0007, 0.0007):
             while time.monotonic() < end:
                 path = self.folder / f"file{begun}"
                 begun += 1
@@ -710,7 +688,7 @@ class Interrupts(Files):
         before = len(os.listdir("/proc/self/fd"))
         interrupted = 0
         loaded: Shared | None = None
-        with self.interrupts(0.001, self.interrupt):
+        with alarms(self.interrupt, 0.001, 0.001):
             for _ in range(50):
                 try:
                     self.awaited = True
@@ -733,7 +711,7 @@ class Interrupts(Files):
             shared.save(self.path)
 
         made = 0
-        with self.interrupts(0.002, save):
+        with alarms(save, 0.002, 0.002):
             # On a busy machine the handler comes later.
             while made < 300 or shared.worker(1) <= 5:
                 one.fork(1)

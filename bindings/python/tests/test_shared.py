@@ -12,15 +12,16 @@ import threading
 import time
 import unittest
 from collections.abc import Callable, Iterator
-from contextlib import contextmanager, suppress
+from contextlib import AbstractContextManager, contextmanager, suppress
 from pathlib import Path
-from types import FrameType, SimpleNamespace
+from types import SimpleNamespace
 from typing import Any
 from unittest import mock
 
 from pidtab import Ask, Calls, Counts, Entry, LibraryFault, NotKept, Queries, Seat, SeatsTaken, Shared, Stat, Table, TableClosed, raw
 from pidtab.library import load_library, load_shared
 from pidtab.shared import BLOCK
+from tests.alarms import Awaiting, alarms
 from tests.pages import StoredScript
 from tests.test_arguments import NO_INTEGERS, IntegerCases, LongCases, TypeCases
 from tests.test_calls import CallCases, LineCases, ListCases, NumberCases, PageCases, TableCases
@@ -804,7 +805,7 @@ class Programs(unittest.TestCase):
         self.assertEqual(self.run_python(*lines), ("2\n", "", 0))
 
 
-class Interrupts(unittest.TestCase):
+class Interrupts(Awaiting, unittest.TestCase):
     """Ctrl-C, and what any other handler of a signal raises: a call was made whole, or not begun."""
 
     @classmethod
@@ -815,24 +816,10 @@ class Interrupts(unittest.TestCase):
         self.shared = Shared(1, pid_max=4194304)
         self.addCleanup(self.shared.close)
         self.seat = self.shared.seat()
-        self.awaited = False
 
-    def interrupt(self, number: int, frame: FrameType | None) -> None:
-        # Where nobody would catch it, it comes later.
-        if self.awaited:
-            self.awaited = False
-            raise KeyboardInterrupt
-
-    @contextmanager
-    def interrupts(self, first: float, every: float = 0.0) -> Iterator[None]:
-        """Raises a KeyboardInterrupt in so many seconds, and then again and again."""
-        before = signal.signal(signal.SIGALRM, self.interrupt)
-        try:
-            signal.setitimer(signal.ITIMER_REAL, first, every)
-            yield
-        finally:
-            signal.setitimer(signal.ITIMER_REAL, 0)
-            signal.signal(signal.SIGALRM, before)
+    def interrupts(self, first: float, every: float = 0.0) -> AbstractContextManager[None]:
+        """Raises a KeyboardInterrupt in so many seconds, and then again and again, where one is awaited."""
+        return alarms(self.interrupt, first, every)
 
     def test_many_in_a_second(self) -> None:
         told: list[int] = []
