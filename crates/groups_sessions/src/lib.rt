@@ -19,7 +19,7 @@ pub use member_lists::Members as GroupMembers;
 use pid_numbers::Numbers;
 use pid_types::keys::{IdentKey, Pid, SpaceKey, TaskKey};
 use pid_types::reply::Refusal;
-use room::{group_in, has_member, make_room};
+use room::{has_member, make_room};
 use std::alloc::{AllocError, Global};
 use std::marker::Model;
 
@@ -131,7 +131,7 @@ impl Members {
         requires { IsSome (membership_at self.now task) }
         ensures { group_of self.now task ≡ Some result }
     {
-        group_in(&self.groups, task)
+        self.groups.member_owner(task)
     }
 
     /// The session that a task is in: `getsid(2)`.
@@ -139,7 +139,7 @@ impl Members {
         requires { IsSome (membership_at self.now task) }
         ensures { session_of self.now task ≡ Some result }
     {
-        let group = group_in(&self.groups, task);
+        let group = self.groups.member_owner(task);
         self.sessions[group as usize]
     }
 

@@ -1,11 +1,11 @@
 //! Memory for one more key, and look-ups in the lists of tasks by group.
 
-ghost use Rattle.std.specs.Prelude.{◌≡◌, ◌≢◌, ℕ, ◌+◌, ◌<◌, ◌≤◌, ◌^◌, length, Some, IsSome, IsTrue, false, OnOk, slice_index};
+ghost use Rattle.std.specs.Prelude.{◌≡◌, ◌≢◌, ℕ, ◌+◌, ◌<◌, ◌≤◌, ◌^◌, length, Some, IsTrue, false, OnOk, slice_index};
 ghost use Rattle.member_lists.specs.Owners.{owner_of};
 ghost use Rattle.groups_sessions.specs.Membership.{IsKept};
 
 use member_lists::MemberLists;
-use pid_types::keys::{IdentKey, TaskKey};
+use pid_types::keys::IdentKey;
 use std::alloc::AllocError;
 
 /// Makes room for one more key.
@@ -44,17 +44,6 @@ pub(crate) fn make_room(
         grow(groups, sessions)?;
     }
     Ok(())
-}
-
-/// The group of a task that is in one.
-pub(crate) fn group_in(groups: &MemberLists, task: TaskKey) -> IdentKey
-    requires { IsSome (owner_of groups.now task) }
-    ensures { owner_of groups.now task ≡ Some result }
-{
-    match groups.owner(task) {
-        Some(group) => group,
-        None => unreachable!(),
-    }
 }
 
 /// Whether some task is in the group.

@@ -196,6 +196,14 @@ impl MemberLists {
         if owner == NIL { None } else { Some(owner) }
     }
 
+    /// The owner of a key that has one.
+    pub fn member_owner(&self, key: u32) -> u32
+        requires { IsSome (owner_of self.now key) }
+        ensures { owner_of self.now key ≡ Some result }
+    {
+        self.links[key as usize].owner
+    }
+
     /// Some member of an owner, if it has any.
     pub fn first(&self, owner: u32) -> Option<u32>
         requires { owner < length self.now }
