@@ -2,13 +2,12 @@
 use Rattle.std.proofs.Common.{◌≡◌, ◌≢◌, ℕ, zero, suc, ◌+◌, ◌-◌, ◌<◌, false, List, [], ◌∷◌, length, get_or, take, drop, Option, Some, None, refl, sym, ap, subst, ◌∙◌, arith, option_map, option_and_then}
 use Rattle.std.specs.Option.{option_map_or}
 use Rattle.std.proofs.Math.Seq.{take-length}
-use Rattle.slab.specs.Slab.{Slab, get}
 use Rattle.pid_types.specs.Names.{beside}
 use Rattle.index_array.specs.Place.{entry_at, is_prepared}
 use Rattle.cyclic_ids.specs.Ids.{planned}
 use Rattle.pid_numbers.specs.declared.spaces.Space.{Space}
 use Rattle.pid_numbers.specs.Numbering.{Identifier, Namespace, moved, new_identifier}
-use Rattle.pid_numbers.specs.Slabs.{namespace_of, way, entry_on, bound_on, plan_on, fell, touched, given_to, ArePlanned, AreReady, IsDistinct, IsNumbering, IsWhole}
+use Rattle.pid_numbers.specs.Slabs.{slot, namespace_of, way, entry_on, bound_on, plan_on, fell, touched, given_to, ArePlanned, AreReady, IsDistinct, IsNumbering, IsWhole}
 use Rattle.pid_numbers.proofs.Ties as ties
 use Rattle.pid_numbers.proofs.Views as views
 use Rattle.pid_numbers.proofs.Adds as adds
@@ -19,10 +18,10 @@ around-is ns rest e =
     let l : length (1 ∷ rest) - 1 ≡ length rest = omega arith in
     ap (λ n. take (length n - 1) (drop 1 n)) e ∙ ap (λ k. take k rest) l ∙ take-length rest
 
-module _ (pid_max : ℕ) (spaces spaces1 spaces3 : Slab Space) (names : ℕ → Option Identifier) (whole : IsWhole pid_max (way spaces) (entry_on spaces) (bound_on spaces) names (fell spaces))
+module _ (pid_max : ℕ) (spaces spaces1 spaces3 : List Space) (names : ℕ → Option Identifier) (whole : IsWhole pid_max (way spaces) (entry_on spaces) (bound_on spaces) names (fell spaces))
     (parent : ℕ) (there : 0 < length (way spaces parent)) (few : length (way spaces parent) < 33)
     (plan1 : (s : ℕ) → plan_on spaces1 s ≡ plan_on spaces s) (way1 : (s : ℕ) → way spaces1 s ≡ way spaces s)
-    (key : ℕ) (vacant : get spaces1 key ≡ None) (others : (s : ℕ) → s ≢ key → get spaces3 s ≡ get spaces1 s) (here : way spaces3 key ≡ key ∷ way spaces1 parent) where
+    (key : ℕ) (vacant : slot spaces1 key ≡ None) (others : (s : ℕ) → s ≢ key → slot spaces3 s ≡ slot spaces1 s) (here : way spaces3 key ≡ key ∷ way spaces1 parent) where
   was : way spaces key ≡ []
   was = sym (way1 key) ∙ ap (λ o. option_map_or (λ t. t.path.items) o []) vacant
 
@@ -61,7 +60,7 @@ module _ (pid_max : ℕ) (spaces spaces1 spaces3 : Slab Space) (names : ℕ → 
 
     -- all that is known holds with it
     module _ (len : length around ≡ length (way spaces parent)) (stands : fell spaces parent ≡ false)
-        (spaces4 : Slab Space) (at1 : (s n : ℕ) → entry_on spaces1 s n ≡ entry_on spaces s n) (bound1 : (s : ℕ) → bound_on spaces1 s ≡ bound_on spaces s) (fell1 : (s : ℕ) → fell spaces1 s ≡ fell spaces s)
+        (spaces4 : List Space) (at1 : (s n : ℕ) → entry_on spaces1 s n ≡ entry_on spaces s n) (bound1 : (s : ℕ) → bound_on spaces1 s ≡ bound_on spaces s) (fell1 : (s : ℕ) → fell spaces1 s ≡ fell spaces s)
         (i : ℕ) (first : entry_on spaces3 key 1 ≡ given_to i) (empty : (n : ℕ) → n ≢ 1 → entry_on spaces3 key n ≡ None) (bound3 : bound_on spaces3 key ≡ Some pid_max) (new : fell spaces3 key ≡ false)
         (at4 : (s n : ℕ) → entry_on spaces4 s n ≡ touched (way spaces3 parent) around (λ _. given_to i) (entry_on spaces3) s n)
         (way4 : (s : ℕ) → way spaces4 s ≡ way spaces3 s) (bound4 : (s : ℕ) → bound_on spaces4 s ≡ bound_on spaces3 s) (fell4 : (s : ℕ) → fell spaces4 s ≡ fell spaces3 s)

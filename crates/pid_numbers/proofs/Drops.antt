@@ -1,14 +1,14 @@
 -- The sweep after an identifier went.
 use Rattle.std.proofs.Common.{◌≡◌, ◌≢◌, inl, inr, ℕ, ◌<◌, ◌-◌, Bool, true, false, ◌==◌, ◌&&◌, List, [], ◌∷◌, length, get_or, Option, Some, None, is_some, if◌then◌else◌, refl, sym, ap, subst, arith, ◌∙◌, option_map, option_and_then}
 use Rattle.std.specs.Option.{option_map_or}
-use Rattle.slab.specs.Slab.{Slab, get}
+use Rattle.slab.specs.Slab.{Slab}
 use Rattle.pid_types.specs.Chains.{contains}
 use Rattle.index_array.specs.Place.{Entry, entry_at, indexes}
 use Rattle.index_array.proofs.Indexes.{contains_indexes}
 use Rattle.pid_numbers.specs.declared.spaces.Space.{Space}
 use Rattle.pid_numbers.specs.declared.names.Ident.{Ident}
 use Rattle.pid_numbers.specs.Numbering.{Identifier, Numbering, namespace_at, identifier_at, is_used_as, less, uses, number_in, number_of, path_at, taken_in, is_dead, swept_at}
-use Rattle.pid_numbers.specs.Slabs.{AreFallen, namespace_of, namespaces_of, numbering_of, name_at, way, entry_on, bound_on, leads, fell, dead_on, goes, left_on, touched, IsTied, IsNumbering, IsWhole}
+use Rattle.pid_numbers.specs.Slabs.{slot, slots, AreFallen, namespace_of, namespaces_of, numbering_of, name_at, way, entry_on, bound_on, leads, fell, dead_on, goes, left_on, touched, IsTied, IsNumbering, IsWhole}
 use Rattle.std.specs.Prelude.{filter_map}
 use Rattle.pid_numbers.proofs.Ties.{get_or-map_option, at_key, listed_from, listed}
 use Rattle.std.proofs.lemmas.Bool.Decides.{nat_tests}
@@ -27,16 +27,16 @@ off_right true = refl
 off_right false = refl
 
 -- a dead one has fallen
-pub dead_fell : (spaces : Slab Space) (s : ℕ) → dead_on spaces s ≡ true → fell spaces s ≡ true
-dead_fell spaces s e = go (get spaces s) e
+pub dead_fell : (spaces : List Space) (s : ℕ) → dead_on spaces s ≡ true → fell spaces s ≡ true
+dead_fell spaces s e = go (slot spaces s) e
   where
     go : (o : Option Space) → option_map_or (λ t. t.fallen && (length (indexes t.ids.places) == 0)) o false ≡ true → option_map_or (λ t. t.fallen) (option_map namespace_of o) false ≡ true
     go None e = absurd (cc)
     go (Some z) e = (both z.fallen (length (indexes z.ids.places) == 0) e).0
 
 -- and no number in use
-dead_empty : (spaces : Slab Space) (s n : ℕ) → dead_on spaces s ≡ true → entry_on spaces s n ≡ None
-dead_empty spaces s n e = go (get spaces s) e
+dead_empty : (spaces : List Space) (s n : ℕ) → dead_on spaces s ≡ true → entry_on spaces s n ≡ None
+dead_empty spaces s n e = go (slot spaces s) e
   where
     bare : (o : Option (Entry ℕ)) → is_some o ≡ false → o ≡ None
     bare None e = refl
@@ -47,8 +47,8 @@ dead_empty spaces s n e = go (get spaces s) e
     go (Some z) e = bare (entry_at z.ids.places n) (sym (contains_indexes z.ids.places n) ∙ sweeps.none_in (indexes z.ids.places) (both z.fallen (length (indexes z.ids.places) == 0) e).1 n)
 
 -- and one that has fallen and is not dead has one
-not_dead : (spaces : Slab Space) (s : ℕ) → fell spaces s ≡ true → dead_on spaces s ≡ false → (n : ℕ) × (i : ℕ) × (leads (entry_on spaces) s n ≡ Some i)
-not_dead spaces s f e = go (get spaces s) f e
+not_dead : (spaces : List Space) (s : ℕ) → fell spaces s ≡ true → dead_on spaces s ≡ false → (n : ℕ) × (i : ℕ) × (leads (entry_on spaces) s n ≡ Some i)
+not_dead spaces s f e = go (slot spaces s) f e
   where
     some_at : (o : Option (Entry ℕ)) → is_some o ≡ true → (i : ℕ) × (option_map (λ (e : Entry ℕ). e.value) o ≡ Some i)
     some_at None e = absurd (cc)
@@ -62,7 +62,7 @@ not_dead spaces s f e = go (get spaces s) f e
         let x = some_at (entry_at z.ids.places r.0) (sym (contains_indexes z.ids.places r.0) ∙ r.1) in
         (r.0, x.0, x.1)
 
-module _ (pid_max : ℕ) (spaces spaces1 : Slab Space) (names names' : ℕ → Option Identifier)
+module _ (pid_max : ℕ) (spaces spaces1 : List Space) (names names' : ℕ → Option Identifier)
     (old : IsWhole pid_max (way spaces) (entry_on spaces) (bound_on spaces) names (fell spaces)) (b : IsNumbering pid_max (way spaces1) (entry_on spaces1) (bound_on spaces1) names')
     (space : ℕ) (same_ways : (s : ℕ) → way spaces1 s ≡ way spaces s) (same : namespaces_of spaces1 ≡ namespaces_of spaces)
     (kept : (s n : ℕ) → contains (way spaces space) s ≡ false → entry_on spaces1 s n ≡ entry_on spaces s n)
@@ -130,18 +130,18 @@ module _ (pid_max : ℕ) (spaces spaces1 : Slab Space) (names names' : ℕ → O
         absurd (let bad : true ≡ false = sym (both (contains list space) (dead_on spaces1 space) too).1 ∙ lives in cc)
   ]
 
-  module _ (spaces2 : Slab Space) (left : (s : ℕ) → get spaces2 s ≡ left_on list spaces1 s) where
+  module _ (spaces2 : List Space) (left : (s : ℕ) → slot spaces2 s ≡ left_on list spaces1 s) where
     way_left : (s : ℕ) → way spaces2 s ≡ if goes list spaces1 s then [] else way spaces1 s
-    way_left s = ap (λ o. option_map_or (λ t. t.path.items) o []) (left s) ∙ sweeps.through (λ (o : Option Space). option_map_or (λ t. t.path.items) o []) (goes list spaces1 s) None (get spaces1 s)
+    way_left s = ap (λ o. option_map_or (λ t. t.path.items) o []) (left s) ∙ sweeps.through (λ (o : Option Space). option_map_or (λ t. t.path.items) o []) (goes list spaces1 s) None (slot spaces1 s)
 
     entry_left : (s n : ℕ) → entry_on spaces2 s n ≡ if goes list spaces1 s then None else entry_on spaces1 s n
-    entry_left s n = ap (option_and_then (λ t. entry_at t.ids.places n)) (left s) ∙ sweeps.through (λ (o : Option Space). option_and_then (λ t. entry_at t.ids.places n) o) (goes list spaces1 s) None (get spaces1 s)
+    entry_left s n = ap (option_and_then (λ t. entry_at t.ids.places n)) (left s) ∙ sweeps.through (λ (o : Option Space). option_and_then (λ t. entry_at t.ids.places n) o) (goes list spaces1 s) None (slot spaces1 s)
 
     bound_left : (s : ℕ) → bound_on spaces2 s ≡ if goes list spaces1 s then None else bound_on spaces1 s
-    bound_left s = ap (option_map (λ t. t.ids.pid_max)) (left s) ∙ sweeps.through (λ (o : Option Space). option_map (λ t. t.ids.pid_max) o) (goes list spaces1 s) None (get spaces1 s)
+    bound_left s = ap (option_map (λ t. t.ids.pid_max)) (left s) ∙ sweeps.through (λ (o : Option Space). option_map (λ t. t.ids.pid_max) o) (goes list spaces1 s) None (slot spaces1 s)
 
     fell_left : (s : ℕ) → fell spaces2 s ≡ if goes list spaces1 s then false else fell spaces1 s
-    fell_left s = ap (λ o. option_map_or (λ t. t.fallen) (option_map namespace_of o) false) (left s) ∙ sweeps.through (λ (o : Option Space). option_map_or (λ t. t.fallen) (option_map namespace_of o) false) (goes list spaces1 s) None (get spaces1 s)
+    fell_left s = ap (λ o. option_map_or (λ t. t.fallen) (option_map namespace_of o) false) (left s) ∙ sweeps.through (λ (o : Option Space). option_map_or (λ t. t.fallen) (option_map namespace_of o) false) (goes list spaces1 s) None (slot spaces1 s)
 
     -- all that is known holds of what is left
     pub whole-swept : IsWhole pid_max (way spaces2) (entry_on spaces2) (bound_on spaces2) names' (fell spaces2)
@@ -156,7 +156,7 @@ module _ (pid_max : ℕ) (spaces spaces1 : Slab Space) (names names' : ℕ → O
       abbrev mid : Numbering
       mid = numbering_of pid_max spaces1 idents order
 
-      goes_dead : (s : ℕ) (z : Space) → get spaces1 s ≡ Some z → goes list spaces1 s ≡ is_dead mid s (namespace_of z)
+      goes_dead : (s : ℕ) (z : Space) → slot spaces1 s ≡ Some z → goes list spaces1 s ≡ is_dead mid s (namespace_of z)
       goes_dead s z at = same_dead ∙ dead
         where
           dead : dead_on spaces1 s ≡ is_dead mid s (namespace_of z)
@@ -175,16 +175,16 @@ module _ (pid_max : ℕ) (spaces spaces1 : Slab Space) (names names' : ℕ → O
             ]
           ]
 
-      pub swept-same : (s : ℕ) → option_map namespace_of (get spaces2 s) ≡ swept_at mid s
+      pub swept-same : (s : ℕ) → option_map namespace_of (slot spaces2 s) ≡ swept_at mid s
       swept-same s =
-          ap (option_map namespace_of) (left s) ∙ go (get spaces1 s) refl
-          ∙ sym (ap (option_and_then (λ t. if is_dead mid s t then None else Some t)) (get_or-map_option namespace_of spaces1.slots s))
+          ap (option_map namespace_of) (left s) ∙ go (slot spaces1 s) refl
+          ∙ sym (ap (option_and_then (λ t. if is_dead mid s t then None else Some t)) (get_or-map_option namespace_of (slots spaces1) s))
         where
           nothing : (g : Bool) → option_map namespace_of (if g then None else None) ≡ None
           nothing true = refl
           nothing false = refl
 
-          go : (o : Option Space) → get spaces1 s ≡ o → option_map namespace_of (left_on list spaces1 s) ≡ option_and_then (λ t. if is_dead mid s t then None else Some t) (option_map namespace_of o)
+          go : (o : Option Space) → slot spaces1 s ≡ o → option_map namespace_of (left_on list spaces1 s) ≡ option_and_then (λ t. if is_dead mid s t then None else Some t) (option_map namespace_of o)
           go None at = ap (λ o. option_map namespace_of (if goes list spaces1 s then None else o)) at ∙ nothing (goes list spaces1 s)
           go (Some z) at =
               ap (λ o. option_map namespace_of (if goes list spaces1 s then None else o)) at
@@ -197,13 +197,13 @@ unfolding taken_in
 swept-next b next s = refl
 
 -- between two calls none is dead
-pub nothing-dead : (pid_max : ℕ) (spaces : Slab Space) (idents : Slab Ident) (order : List (ℕ × ℕ)) → IsWhole pid_max (way spaces) (entry_on spaces) (bound_on spaces) (name_at idents) (fell spaces)
+pub nothing-dead : (pid_max : ℕ) (spaces : List Space) (idents : Slab Ident) (order : List (ℕ × ℕ)) → IsWhole pid_max (way spaces) (entry_on spaces) (bound_on spaces) (name_at idents) (fell spaces)
     → (s : ℕ) → namespace_at (numbering_of pid_max spaces idents order) s ≡ swept_at (numbering_of pid_max spaces idents order) s
 nothing-dead pid_max spaces idents order b s =
-    get_or-map_option namespace_of spaces.slots s ∙ go (get spaces s) refl
-    ∙ sym (ap (option_and_then (λ t. if is_dead (numbering_of pid_max spaces idents order) s t then None else Some t)) (get_or-map_option namespace_of spaces.slots s))
+    get_or-map_option namespace_of (slots spaces) s ∙ go (slot spaces s) refl
+    ∙ sym (ap (option_and_then (λ t. if is_dead (numbering_of pid_max spaces idents order) s t then None else Some t)) (get_or-map_option namespace_of (slots spaces) s))
   where
-    lives : (z : Space) → get spaces s ≡ Some z → is_dead (numbering_of pid_max spaces idents order) s (namespace_of z) ≡ false
+    lives : (z : Space) → slot spaces s ≡ Some z → is_dead (numbering_of pid_max spaces idents order) s (namespace_of z) ≡ false
     lives z at = elim (sweeps.cases (is_dead (numbering_of pid_max spaces idents order) s (namespace_of z))) [
       | inr e ↦ e
       | inl e ↦
@@ -216,12 +216,12 @@ nothing-dead pid_max spaces idents order b s =
           absurd (let bad : true ≡ false = sym on ∙ taken_same pid_max spaces idents order b.numbering s z at r.0 ∙ off in cc)
     ]
 
-    go : (o : Option Space) → get spaces s ≡ o → option_map namespace_of o ≡ option_and_then (λ t. if is_dead (numbering_of pid_max spaces idents order) s t then None else Some t) (option_map namespace_of o)
+    go : (o : Option Space) → slot spaces s ≡ o → option_map namespace_of o ≡ option_and_then (λ t. if is_dead (numbering_of pid_max spaces idents order) s t then None else Some t) (option_map namespace_of o)
     go None at = refl
     go (Some z) at = sym (ap (λ g. if g then None else Some (namespace_of z)) (lives z at))
 
 -- the identifier that lost its last use
-pub last_one : (pid_max : ℕ) (spaces : Slab Space) (idents : Slab Ident) (order : List (ℕ × ℕ)) (idents1 : Slab Ident) (b : Numbering) → numbering_of pid_max spaces idents order ≡ b → (i : ℕ) (kind : Kind) → is_used_as kind (identifier_at b i) ≡ true
+pub last_one : (pid_max : ℕ) (spaces : List Space) (idents : Slab Ident) (order : List (ℕ × ℕ)) (idents1 : Slab Ident) (b : Numbering) → numbering_of pid_max spaces idents order ≡ b → (i : ℕ) (kind : Kind) → is_used_as kind (identifier_at b i) ≡ true
     → ((u : Identifier) → name_at idents i ≡ Some u → name_at idents1 i ≡ Some (less kind u)) → (gone : Identifier) → name_at idents1 i ≡ Some gone
     → (v : Identifier) × (name_at idents i ≡ Some v) × (gone.space ≡ v.space) × (gone.numbers ≡ v.numbers)
 last_one pid_max spaces idents order idents1 b view i kind used here gone is =
@@ -233,7 +233,7 @@ pub gone-len : (ways : ℕ → List ℕ) (names : ℕ → Option Identifier) (se
     → (v : Identifier) × (names i ≡ Some v) × (gone.space ≡ v.space) × (gone.numbers ≡ v.numbers) → length gone.numbers ≡ length (ways gone.space)
 gone-len ways names see t i gone one = ap length one.3 ∙ t.full i one.0 one.1 ∙ ap (λ s. length (ways s)) (sym one.2)
 
-module _ (pid_max : ℕ) (spaces spaces1 : Slab Space) (names names' : ℕ → Option Identifier) (b : IsNumbering pid_max (way spaces) (entry_on spaces) (bound_on spaces) names)
+module _ (pid_max : ℕ) (spaces spaces1 : List Space) (names names' : ℕ → Option Identifier) (b : IsNumbering pid_max (way spaces) (entry_on spaces) (bound_on spaces) names)
     (i : ℕ) (gone : Identifier) (one : (v : Identifier) × (names i ≡ Some v) × (gone.space ≡ v.space) × (gone.numbers ≡ v.numbers))
     (ways : (s : ℕ) → way spaces1 s ≡ way spaces s) (bounds : (s : ℕ) → bound_on spaces1 s ≡ bound_on spaces s)
     (entries : (s n : ℕ) → entry_on spaces1 s n ≡ touched (way spaces gone.space) gone.numbers (λ _. None) (entry_on spaces) s n) where
@@ -248,7 +248,7 @@ module _ (pid_max : ℕ) (spaces spaces1 : Slab Space) (names names' : ℕ → O
   off-release s n out = entries s n ∙ ties.touched-miss (way spaces gone.space) gone.numbers (λ _. None) (entry_on spaces) s n (sweeps.off-path s (way spaces gone.space) gone.numbers (gone-len (way spaces) names (leads (entry_on spaces)) b.tied i gone one) out n)
 
 -- a namespace with a number in use holds one that leads to its identifier
-pub taken-held : (pid_max : ℕ) (spaces : Slab Space) (idents : Slab Ident) (order : List (ℕ × ℕ)) → IsNumbering pid_max (way spaces) (entry_on spaces) (bound_on spaces) (name_at idents) → (s : ℕ)
+pub taken-held : (pid_max : ℕ) (spaces : List Space) (idents : Slab Ident) (order : List (ℕ × ℕ)) → IsNumbering pid_max (way spaces) (entry_on spaces) (bound_on spaces) (name_at idents) → (s : ℕ)
     → 0 < length (taken_in (numbering_of pid_max spaces idents order) s) → (n : ℕ) × (i : ℕ) × (leads (entry_on spaces) s n ≡ Some i)
 unfolding taken_in
 taken-held pid_max spaces idents order b s some =
@@ -266,7 +266,7 @@ taken-some b i s n e = some (filter_map (number_in (path_at b) s) b.names) (list
     some (m ∷ ms) on = omega arith
 
 -- and a fallen one has a number in use
-pub held-taken : (pid_max : ℕ) (spaces : Slab Space) (idents : Slab Ident) (order : List (ℕ × ℕ)) (b : Numbering) → numbering_of pid_max spaces idents order ≡ b
+pub held-taken : (pid_max : ℕ) (spaces : List Space) (idents : Slab Ident) (order : List (ℕ × ℕ)) (b : Numbering) → numbering_of pid_max spaces idents order ≡ b
     → IsNumbering pid_max (way spaces) (entry_on spaces) (bound_on spaces) (name_at idents) → AreFallen (way spaces) (entry_on spaces) (fell spaces) → (s : ℕ) → fell spaces s ≡ true → 0 < length (taken_in b s)
 held-taken pid_max spaces idents order b view w fallen s on =
     let r = fallen.held s on in

@@ -1,3 +1,5 @@
+pub mod Places
+pub mod Vacancy
 pub mod Ties
 pub mod Sweeps
 pub mod Views

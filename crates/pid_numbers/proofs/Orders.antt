@@ -5,12 +5,11 @@ use Rattle.std.specs.List.{AllByRecursion, filter}
 use Rattle.std.proofs.lemmas.Bool.{cases_eq, eq-eqb}
 use Rattle.std.proofs.lemmas.List.Folds.{list_any-append}
 use Rattle.pid_types.specs.Chains.{contains}
-use Rattle.slab.specs.Slab.{Slab, get}
 use Rattle.id_slab.specs.Ids.{key_of, without, AreBelow}
 use Rattle.id_slab.proofs.Keys.{key_of-push, key_of-new, key_of-kept}
 use Rattle.pid_numbers.specs.declared.spaces.Space.{Space}
 use Rattle.pid_numbers.specs.Numbering.{Namespace, moved, fallen_within}
-use Rattle.pid_numbers.specs.Slabs.{namespace_of, namespaces_of, id_on, dead_on, AreListed}
+use Rattle.pid_numbers.specs.Slabs.{slot, slots, namespace_of, namespaces_of, id_on, dead_on, AreListed}
 use Rattle.pid_numbers.proofs.Ties.{get_or-map_option}
 
 module _ {X : Type 0} where
@@ -97,35 +96,35 @@ module _ (id id' : ℕ → Option ℕ) (order : List (ℕ × ℕ)) (l : AreListe
   all-there keep stay = filter-all (λ p. keep p.1) order (all-weaken (λ p. id p.1 ≡ Some p.0) (λ p. keep p.1 ≡ true) (λ p at. stay p.1 p.0 at) order l.each)
 
 -- an id is that of a namespace that is there
-pub id-there : (spaces : Slab Space) (s i : ℕ) → id_on spaces s ≡ Some i → is_some (get spaces s) ≡ true
-id-there spaces s i e = go (get spaces s) e
+pub id-there : (spaces : List Space) (s i : ℕ) → id_on spaces s ≡ Some i → is_some (slot spaces s) ≡ true
+id-there spaces s i e = go (slot spaces s) e
   where
     go : (o : Option Space) → option_map (λ t. t.id) (option_map namespace_of o) ≡ Some i → is_some o ≡ true
     go None e = absurd (cc)
     go (Some z) e = refl
 
-pub id-gone : (spaces : Slab Space) (s : ℕ) → is_some (get spaces s) ≡ false → id_on spaces s ≡ None
-id-gone spaces s e = go (get spaces s) e
+pub id-gone : (spaces : List Space) (s : ℕ) → is_some (slot spaces s) ≡ false → id_on spaces s ≡ None
+id-gone spaces s e = go (slot spaces s) e
   where
     go : (o : Option Space) → is_some o ≡ false → option_map (λ t. t.id) (option_map namespace_of o) ≡ None
     go None e = refl
     go (Some z) e = absurd (cc)
 
 -- a numbering shows which are there
-pub there-is : (spaces : Slab Space) (s : ℕ) → is_some (slice_index_or (namespaces_of spaces) s None) ≡ is_some (get spaces s)
-there-is spaces s = ap is_some (get_or-map_option namespace_of spaces.slots s) ∙ go (get spaces s)
+pub there-is : (spaces : List Space) (s : ℕ) → is_some (slice_index_or (namespaces_of spaces) s None) ≡ is_some (slot spaces s)
+there-is spaces s = ap is_some (get_or-map_option namespace_of (slots spaces) s) ∙ go (slot spaces s)
   where
     go : (o : Option Space) → is_some (option_map namespace_of o) ≡ is_some o
     go None = refl
     go (Some z) = refl
 
 -- and their ids
-pub id-is : (spaces : Slab Space) (s : ℕ) → option_map (λ t. t.id) (slice_index_or (namespaces_of spaces) s None) ≡ id_on spaces s
-id-is spaces s = ap (option_map (λ t. t.id)) (get_or-map_option namespace_of spaces.slots s)
+pub id-is : (spaces : List Space) (s : ℕ) → option_map (λ t. t.id) (slice_index_or (namespaces_of spaces) s None) ≡ id_on spaces s
+id-is spaces s = ap (option_map (λ t. t.id)) (get_or-map_option namespace_of (slots spaces) s)
 
 -- ids are seen in the namespaces
-pub ids-same : (a b : Slab Space) → namespaces_of a ≡ namespaces_of b → (s : ℕ) → id_on a s ≡ id_on b s
-ids-same a b same s = ap (option_map (λ t. t.id)) (sym (get_or-map_option namespace_of a.slots s) ∙ ap (λ l. slice_index_or l s None) same ∙ get_or-map_option namespace_of b.slots s)
+pub ids-same : (a b : List Space) → namespaces_of a ≡ namespaces_of b → (s : ℕ) → id_on a s ≡ id_on b s
+ids-same a b same s = ap (option_map (λ t. t.id)) (sym (get_or-map_option namespace_of (slots a) s) ∙ ap (λ l. slice_index_or l s None) same ∙ get_or-map_option namespace_of (slots b) s)
 
 -- and a cursor that moves changes none of them
 pub id-moved : (path numbers : List ℕ) (s : ℕ) (o : Option Namespace) → option_map (λ t. t.id) (option_map (moved path numbers s) o) ≡ option_map (λ t. t.id) o
@@ -133,22 +132,22 @@ id-moved path numbers s None = refl
 id-moved path numbers s (Some t) = refl
 
 -- what is left after one namespace may have gone
-module _ (key : ℕ) (old new : Slab Space) (here : get new key ≡ if dead_on old key then None else get old key) (others : (s : ℕ) → s ≢ key → get new s ≡ get old s) where
-  kept : (s : ℕ) → is_some (get new s) ≡ true → get new s ≡ get old s
+module _ (key : ℕ) (old new : List Space) (here : slot new key ≡ if dead_on old key then None else slot old key) (others : (s : ℕ) → s ≢ key → slot new s ≡ slot old s) where
+  kept : (s : ℕ) → is_some (slot new s) ≡ true → slot new s ≡ slot old s
   kept s on = elim (cases_eq s key) [
-    | inl same ↦ ap (get new) same ∙ go (dead_on old key) here (sym (ap (λ z. is_some (get new z)) same) ∙ on) ∙ sym (ap (get old) same)
+    | inl same ↦ ap (slot new) same ∙ go (dead_on old key) here (sym (ap (λ z. is_some (slot new z)) same) ∙ on) ∙ sym (ap (slot old) same)
     | inr d ↦ others s d
   ]
     where
-      go : (b : Bool) → get new key ≡ (if b then None else get old key) → is_some (get new key) ≡ true → get new key ≡ get old key
+      go : (b : Bool) → slot new key ≡ (if b then None else slot old key) → is_some (slot new key) ≡ true → slot new key ≡ slot old key
       go true e on = absurd (let bad : true ≡ false = sym on ∙ ap is_some e in cc)
       go false e on = e
 
-  pub there-before : (p : ℕ × ℕ) → is_some (get new p.1) ≡ true → is_some (get old p.1) ≡ true
+  pub there-before : (p : ℕ × ℕ) → is_some (slot new p.1) ≡ true → is_some (slot old p.1) ≡ true
   there-before p on = sym (ap is_some (kept p.1 on)) ∙ on
 
-  pub listed-dropped : (order : List (ℕ × ℕ)) → AreListed (id_on old) order → AreListed (id_on new) (filter (λ p. is_some (get new p.1)) order)
-  listed-dropped order l = listed-kept (id_on old) (id_on new) order l (λ s. is_some (get new s)) (λ s on. ap (λ o. option_map (λ t. t.id) (option_map namespace_of o)) (kept s on)) (id-gone new)
+  pub listed-dropped : (order : List (ℕ × ℕ)) → AreListed (id_on old) order → AreListed (id_on new) (filter (λ p. is_some (slot new p.1)) order)
+  listed-dropped order l = listed-kept (id_on old) (id_on new) order l (λ s. is_some (slot new s)) (λ s on. ap (λ o. option_map (λ t. t.id) (option_map namespace_of o)) (kept s on)) (id-gone new)
 
 -- the namespace, fallen where its key is among those that a walk has met
 abbrev pub fallen_among : ℕ → List (ℕ × ℕ) → ℕ → Option Namespace → Option Namespace

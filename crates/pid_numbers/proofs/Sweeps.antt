@@ -7,12 +7,11 @@ use Rattle.std.proofs.lemmas.Bool.{cases_eq, eq-eqb}
 use Rattle.std.proofs.lemmas.Bool.Decides.{nat_tests}
 use Rattle.pid_types.specs.Chains.{contains}
 use Rattle.pid_types.specs.Names.{beside}
-use Rattle.slab.specs.Slab.{Slab, get}
 use Rattle.pid_numbers.specs.declared.spaces.Space.{Space}
 use Rattle.index_array.specs.Place.{Entry, Place, entry_at, indexes}
 use Rattle.index_array.proofs.Indexes.{contains_indexes}
 use Rattle.pid_numbers.specs.Numbering.{Identifier, number_in}
-use Rattle.pid_numbers.specs.Slabs.{IsPath, IsTree, IsNumbering, AreFallen, leads, dead_on, left_on, IsDistinct}
+use Rattle.pid_numbers.specs.Slabs.{slot, IsPath, IsTree, IsNumbering, AreFallen, leads, dead_on, left_on, IsDistinct}
 use Rattle.pid_numbers.proofs.Ties.{at-path, distinct-path}
 
 -- the namespaces that have fallen stay, where none loses its last number
@@ -299,31 +298,31 @@ contains_take (n ∷ ns) (suc k) s lt = ap (λ b. n == s || b) (contains_take ns
     swap false false c = refl
 
 -- what is left, one namespace after the other
-module _ (key : ℕ) (rest all : List ℕ) (all_is : (s : ℕ) → contains all s ≡ (key == s || contains rest s)) (old new : Slab Space) (here : get new key ≡ if dead_on old key then None else get old key) (others : (s : ℕ) → s ≢ key → get new s ≡ get old s) where
+module _ (key : ℕ) (rest all : List ℕ) (all_is : (s : ℕ) → contains all s ≡ (key == s || contains rest s)) (old new : List Space) (here : slot new key ≡ if dead_on old key then None else slot old key) (others : (s : ℕ) → s ≢ key → slot new s ≡ slot old s) where
   not_dead : (b : Bool) (o : Option Space) → (if b && false then None else o) ≡ o
   not_dead true o = refl
   not_dead false o = refl
 
-  by_dead : (g : Bool) → dead_on old key ≡ g → left_on rest new key ≡ if g then None else get old key
+  by_dead : (g : Bool) → dead_on old key ≡ g → left_on rest new key ≡ if g then None else slot old key
   by_dead true e =
-      let now : get new key ≡ None = here ∙ ap (λ g. if g then None else get old key) e in
+      let now : slot new key ≡ None = here ∙ ap (λ g. if g then None else slot old key) e in
       ap (λ o. if contains rest key && option_map_or (λ t. t.fallen && (length (indexes t.ids.places) == 0)) o false then None else o) now ∙ not_dead (contains rest key) None
   by_dead false e =
-      let now : get new key ≡ get old key = here ∙ ap (λ g. if g then None else get old key) e in
+      let now : slot new key ≡ slot old key = here ∙ ap (λ g. if g then None else slot old key) e in
       ap (λ o. if contains rest key && option_map_or (λ t. t.fallen && (length (indexes t.ids.places) == 0)) o false then None else o) now
-      ∙ ap (λ g. if contains rest key && g then None else get old key) e ∙ not_dead (contains rest key) (get old key)
+      ∙ ap (λ g. if contains rest key && g then None else slot old key) e ∙ not_dead (contains rest key) (slot old key)
 
   pub left-more : (s : ℕ) → left_on rest new s ≡ left_on all old s
   left-more s = elim (cases_eq s key) [
     | inl e ↦
         ap (λ z. left_on rest new z) e ∙ by_dead (dead_on old key) refl
-        ∙ sym (ap (λ t. if t && dead_on old key then None else get old key) (all_is key ∙ ap (λ t. t || contains rest key) (eq-eqb key key refl)))
+        ∙ sym (ap (λ t. if t && dead_on old key then None else slot old key) (all_is key ∙ ap (λ t. t || contains rest key) (eq-eqb key key refl)))
         ∙ sym (ap (λ z. left_on all old z) e)
     | inr m ↦
         let d : key ≢ s = λ e. m (sym e) in
         let off : (key == s) ≡ false = grind (arith, d) in
         ap (λ o. if contains rest s && option_map_or (λ t. t.fallen && (length (indexes t.ids.places) == 0)) o false then None else o) (others s m)
-        ∙ sym (ap (λ t. if t && dead_on old s then None else get old s) (all_is s ∙ ap (λ t. t || contains rest s) off))
+        ∙ sym (ap (λ t. if t && dead_on old s then None else slot old s) (all_is s ∙ ap (λ t. t || contains rest s) off))
   ]
 
 -- what a slab shows of one that is there or not

@@ -170,6 +170,10 @@ at-path ways [] h j lt = absurd (omega (arith, lt))
 at-path ways (s ∷ ss) h zero lt = h.0
 at-path ways (s ∷ ss) h (suc j) lt = at-path ways ss h.1 j (omega (arith, lt))
 
+-- so each of them has a path
+pub on-path : (ways : ℕ → List ℕ) (path : List ℕ) → IsPath ways path → (j : ℕ) → j < length path → 0 < length (ways (get_or path j 0))
+on-path ways path h j lt = let rest = ap length (at-path ways path h j lt) in let l = length-drop j path in omega (arith, lt, rest, l)
+
 pub distinct-path : (ways : ℕ → List ℕ) (path : List ℕ) → IsPath ways path → IsDistinct path
 distinct-path ways path h i j lo lt same =
     let a = at-path ways path h i (omega (arith, lo, lt)) in

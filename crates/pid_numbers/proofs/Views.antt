@@ -8,10 +8,9 @@ use Rattle.std.proofs.lemmas.Bool.{cases_lt}
 use Rattle.std.proofs.lemmas.Bool.Decides.{nat_tests}
 use Rattle.pid_types.specs.Chains.{contains}
 use Rattle.pid_types.specs.Draw.{cyclic_draw, restart}
-use Rattle.std.proofs.Math.Seq.{map-set_same}
 use Rattle.pid_types.proofs.LeastFree.{draw-Some}
 use Rattle.cyclic_ids.specs.Ids.{Ids, planned}
-use Rattle.slab.specs.Slab.{Slab, get, with_value}
+use Rattle.slab.specs.Slab.{Slab}
 use Rattle.index_array.specs.Place.{Entry, entry_at, indexes, is_marked, IsLeastIndex}
 use Rattle.index_array.proofs.Indexes.{contains_indexes}
 use Rattle.cyclic_ids.proofs.Draws.{cyclic_draw-same}
@@ -20,15 +19,15 @@ use Rattle.pid_numbers.specs.declared.names.Ident.{Ident}
 use Rattle.pid_numbers.specs.Numbering.{Numbering, Identifier, Namespace, moved, levels_of, namespace_at, identifier_at, path_at, number_in, number_of, taken_in, draw_in, is_used_as, is_used, with_uses, uses, more, IsNumberUsedAs, IsNextUsed}
 use Rattle.pid_types.specs.declared.call.Kind.{Kind}
 use Rattle.pid_types.specs.declared.call.Kind.TheVariants.{Task, Group, Session}
-use Rattle.pid_numbers.specs.Slabs.{fell, numbering_of, namespace_of, identifier_of, way, entry_on, leads, plan_on, name_at, namespaces_of, marks_of, mark_of, bound_on, ArePlanned, IsNumbering}
+use Rattle.pid_numbers.specs.Slabs.{slot, slots, fell, numbering_of, namespace_of, identifier_of, way, entry_on, leads, plan_on, name_at, namespaces_of, marks_of, mark_of, bound_on, ArePlanned, IsNumbering}
 use Rattle.pid_numbers.proofs.Ties.{at_key, get_or-map_option, listed_from, listed, planned_each}
 
-module _ (pid_max : ℕ) (spaces : Slab Space) (idents : Slab Ident) (order : List (ℕ × ℕ)) where
+module _ (pid_max : ℕ) (spaces : List Space) (idents : Slab Ident) (order : List (ℕ × ℕ)) where
   abbrev numbering : Numbering
   numbering = numbering_of pid_max spaces idents order
 
   pub path_is : (s : ℕ) → path_at numbering s ≡ way spaces s
-  path_is s = ap (λ o. option_map_or (λ t. t.path) o []) (get_or-map_option namespace_of spaces.slots s) ∙ go (get spaces s)
+  path_is s = ap (λ o. option_map_or (λ t. t.path) o []) (get_or-map_option namespace_of (slots spaces) s) ∙ go (slot spaces s)
     where
       go : (o : Option Space) → option_map_or (λ t. t.path) (option_map namespace_of o) [] ≡ option_map_or (λ t. t.path.items) o []
       go None = refl
@@ -51,7 +50,7 @@ module _ (pid_max : ℕ) (spaces : Slab Space) (idents : Slab Ident) (order : Li
     one_found s n k e = number_is k s ∙ t.tied.found s n k e
 
     -- the numbers with an entry are those taken
-    pub taken_same : (s : ℕ) (z : Space) → get spaces s ≡ Some z → (n : ℕ) → contains (indexes z.ids.places) n ≡ contains (taken_in numbering s) n
+    pub taken_same : (s : ℕ) (z : Space) → slot spaces s ≡ Some z → (n : ℕ) → contains (indexes z.ids.places) n ≡ contains (taken_in numbering s) n
     unfolding taken_in
     taken_same s z at n = contains_indexes z.ids.places n ∙ go (entry_at z.ids.places n) refl
       where
@@ -73,9 +72,9 @@ module _ (pid_max : ℕ) (spaces : Slab Space) (idents : Slab Ident) (order : Li
 
     -- so each namespace gives the number that the model draws
     pub draw_same : (s : ℕ) → plan_on spaces s ≡ draw_in numbering s
-    draw_same s = sym (ap (option_and_then (λ t. cyclic_draw pid_max t.cursor (taken_in numbering s))) (get_or-map_option namespace_of spaces.slots s) ∙ go (get spaces s) refl)
+    draw_same s = sym (ap (option_and_then (λ t. cyclic_draw pid_max t.cursor (taken_in numbering s))) (get_or-map_option namespace_of (slots spaces) s) ∙ go (slot spaces s) refl)
       where
-        go : (o : Option Space) → get spaces s ≡ o → option_and_then (λ t. cyclic_draw pid_max t.cursor (taken_in numbering s)) (option_map namespace_of o) ≡ option_and_then (λ t. cyclic_draw t.ids.pid_max t.ids.cursor (indexes t.ids.places)) o
+        go : (o : Option Space) → slot spaces s ≡ o → option_and_then (λ t. cyclic_draw pid_max t.cursor (taken_in numbering s)) (option_map namespace_of o) ≡ option_and_then (λ t. cyclic_draw t.ids.pid_max t.ids.cursor (indexes t.ids.places)) o
         go None at = refl
         go (Some z) at = ap (λ m. cyclic_draw m z.ids.cursor (taken_in numbering s)) (sym (t.bounds s z.ids.pid_max (ap (option_map (λ t. t.ids.pid_max)) at)).0) ∙ sym (cyclic_draw-same z.ids.pid_max z.ids.cursor (indexes z.ids.places) (taken_in numbering s) (taken_same s z at))
 
@@ -93,8 +92,8 @@ module _ (pid_max : ℕ) (spaces : Slab Space) (idents : Slab Ident) (order : Li
     planned_len space numbers is = ap length is ∙ length-map (path_at numbering space) (λ s. unwrap_or (draw_in numbering s) 0) ∙ ap length (path_is space)
 
 -- a planned number has no entry
-pub plan_free : (spaces : Slab Space) (s n : ℕ) → plan_on spaces s ≡ Some n → entry_on spaces s n ≡ None
-plan_free spaces s n e = go (get spaces s) e
+pub plan_free : (spaces : List Space) (s n : ℕ) → plan_on spaces s ≡ Some n → entry_on spaces s n ≡ None
+plan_free spaces s n e = go (slot spaces s) e
   where
     bare : (o : Option (Entry ℕ)) → is_some o ≡ false → o ≡ None
     bare None e = refl
@@ -112,8 +111,8 @@ from_one cursor = go (nat_lt 300 cursor)
     go false = omega arith
 
 -- and is in range
-pub plan_in_range : (pid_max : ℕ) (spaces : Slab Space) (s n : ℕ) → ((m : ℕ) → bound_on spaces s ≡ Some m → m ≡ pid_max) → plan_on spaces s ≡ Some n → (0 < n) × (n < pid_max)
-plan_in_range pid_max spaces s n bounds e = go (get spaces s) bounds e
+pub plan_in_range : (pid_max : ℕ) (spaces : List Space) (s n : ℕ) → ((m : ℕ) → bound_on spaces s ≡ Some m → m ≡ pid_max) → plan_on spaces s ≡ Some n → (0 < n) × (n < pid_max)
+plan_in_range pid_max spaces s n bounds e = go (slot spaces s) bounds e
   where
     go : (o : Option Space) → ((m : ℕ) → option_map (λ t. t.ids.pid_max) o ≡ Some m → m ≡ pid_max) → option_and_then (λ t. planned t.ids) o ≡ Some n → (0 < n) × (n < pid_max)
     go None b e = absurd (cc)
@@ -126,20 +125,16 @@ plan_in_range pid_max spaces s n bounds e = go (get spaces s) bounds e
 pub below_bound : (ids : Ids ℕ) (n : ℕ) → planned ids ≡ Some n → n < ids.pid_max
 below_bound ids n e = (draw-Some ids.pid_max ids.cursor (indexes ids.places) n e).2
 
--- a namespace that looks the same changes nothing that is seen
-pub namespaces-same : (spaces : Slab Space) (key : ℕ) (z y : Space) → Some z ≡ get spaces key → namespace_of y ≡ namespace_of z → namespaces_of (with_value spaces key y) ≡ namespaces_of spaces
-namespaces-same spaces key z y at same = map-set_same (option_map namespace_of) spaces.slots key (Some y) None (ap Some same ∙ ap (option_map namespace_of) at)
-
 -- a namespace that is there has a path
-pub there : (pid_max : ℕ) (spaces : Slab Space) (idents : Slab Ident) (order : List (ℕ × ℕ)) → IsNumbering pid_max (way spaces) (entry_on spaces) (bound_on spaces) (name_at idents) → (b : Numbering) → numbering_of pid_max spaces idents order ≡ b → (s : ℕ) → IsSome (namespace_at b s) → 0 < length (way spaces s)
-there pid_max spaces idents order inv b view s some = go (get spaces s) refl (subst IsSome (ap (λ z. namespace_at z s) (sym view) ∙ get_or-map_option namespace_of spaces.slots s) some)
+pub there : (pid_max : ℕ) (spaces : List Space) (idents : Slab Ident) (order : List (ℕ × ℕ)) → IsNumbering pid_max (way spaces) (entry_on spaces) (bound_on spaces) (name_at idents) → (b : Numbering) → numbering_of pid_max spaces idents order ≡ b → (s : ℕ) → IsSome (namespace_at b s) → 0 < length (way spaces s)
+there pid_max spaces idents order inv b view s some = go (slot spaces s) refl (subst IsSome (ap (λ z. namespace_at z s) (sym view) ∙ get_or-map_option namespace_of (slots spaces) s) some)
   where
-    go : (o : Option Space) → get spaces s ≡ o → IsSome (option_map namespace_of o) → 0 < length (way spaces s)
+    go : (o : Option Space) → slot spaces s ≡ o → IsSome (option_map namespace_of o) → 0 < length (way spaces s)
     go None is h = absurd (search rules)
     go (Some z) is h = (inv.bounds s z.ids.pid_max (ap (option_map (λ t. t.ids.pid_max)) is)).1
 
 -- the identifier with a key is that of the slab
-pub identifier_is : (pid_max : ℕ) (spaces : Slab Space) (idents : Slab Ident) (order : List (ℕ × ℕ)) (b : Numbering) → numbering_of pid_max spaces idents order ≡ b → (k : ℕ) → identifier_at b k ≡ name_at idents k
+pub identifier_is : (pid_max : ℕ) (spaces : List Space) (idents : Slab Ident) (order : List (ℕ × ℕ)) (b : Numbering) → numbering_of pid_max spaces idents order ≡ b → (k : ℕ) → identifier_at b k ≡ name_at idents k
 identifier_is pid_max spaces idents order b view k = ap (λ z. identifier_at z k) (sym view) ∙ name_is pid_max spaces idents order k
 
 -- an identifier that is there
@@ -194,7 +189,7 @@ get_mark Task o = refl
 get_mark Group o = refl
 get_mark Session o = refl
 
-module _ (pid_max : ℕ) (spaces : Slab Space) (idents : Slab Ident) (order : List (ℕ × ℕ)) (b : IsNumbering pid_max (way spaces) (entry_on spaces) (bound_on spaces) (name_at idents)) (kind : Kind) (s : ℕ) where
+module _ (pid_max : ℕ) (spaces : List Space) (idents : Slab Ident) (order : List (ℕ × ℕ)) (b : IsNumbering pid_max (way spaces) (entry_on spaces) (bound_on spaces) (name_at idents)) (kind : Kind) (s : ℕ) where
   abbrev whole : Numbering
   whole = numbering_of pid_max spaces idents order
 
@@ -240,8 +235,8 @@ module _ (pid_max : ℕ) (spaces : Slab Space) (idents : Slab Ident) (order : Li
   )
 
 -- what has fallen is seen in the namespaces
-pub fell-same : (a b : Slab Space) → namespaces_of a ≡ namespaces_of b → (s : ℕ) → fell a s ≡ fell b s
-fell-same a b same s = ap (λ o. option_map_or (λ t. t.fallen) o false) (sym (get_or-map_option namespace_of a.slots s) ∙ ap (λ l. get_or l s None) same ∙ get_or-map_option namespace_of b.slots s)
+pub fell-same : (a b : List Space) → namespaces_of a ≡ namespaces_of b → (s : ℕ) → fell a s ≡ fell b s
+fell-same a b same s = ap (λ o. option_map_or (λ t. t.fallen) o false) (sym (get_or-map_option namespace_of (slots a) s) ∙ ap (λ l. get_or l s None) same ∙ get_or-map_option namespace_of (slots b) s)
 
 -- and a cursor that moves changes none of it
 pub fell-moved : (path numbers : List ℕ) (s : ℕ) (o : Option Namespace) → option_map_or (λ t. t.fallen) (option_map (moved path numbers s) o) false ≡ option_map_or (λ t. t.fallen) o false
@@ -249,11 +244,11 @@ fell-moved path numbers s None = refl
 fell-moved path numbers s (Some t) = refl
 
 -- a namespace with a key is that of the slab
-pub namespace_is : (pid_max : ℕ) (spaces : Slab Space) (idents : Slab Ident) (order : List (ℕ × ℕ)) (b : Numbering) → numbering_of pid_max spaces idents order ≡ b → (s : ℕ) → namespace_at b s ≡ option_map namespace_of (get spaces s)
-namespace_is pid_max spaces idents order b view s = ap (λ z. namespace_at z s) (sym view) ∙ get_or-map_option namespace_of spaces.slots s
+pub namespace_is : (pid_max : ℕ) (spaces : List Space) (idents : Slab Ident) (order : List (ℕ × ℕ)) (b : Numbering) → numbering_of pid_max spaces idents order ≡ b → (s : ℕ) → namespace_at b s ≡ option_map namespace_of (slot spaces s)
+namespace_is pid_max spaces idents order b view s = ap (λ z. namespace_at z s) (sym view) ∙ get_or-map_option namespace_of (slots spaces) s
 
 -- and its path
-pub path-of : (pid_max : ℕ) (spaces : Slab Space) (idents : Slab Ident) (order : List (ℕ × ℕ)) (b : Numbering) → numbering_of pid_max spaces idents order ≡ b → (s : ℕ) → path_at b s ≡ way spaces s
+pub path-of : (pid_max : ℕ) (spaces : List Space) (idents : Slab Ident) (order : List (ℕ × ℕ)) (b : Numbering) → numbering_of pid_max spaces idents order ≡ b → (s : ℕ) → path_at b s ≡ way spaces s
 path-of pid_max spaces idents order b view s = ap (λ z. path_at z s) (sym view) ∙ path_is pid_max spaces idents order s
 
 -- the identifier whose namespace was found
@@ -262,7 +257,7 @@ home None own e = absurd (cc)
 home (Some u) own e = (u, refl, ap (λ o. unwrap_or o 0) (sym e))
 
 -- its numbers from a namespace inwards
-pub levels-of : (pid_max : ℕ) (spaces : Slab Space) (idents : Slab Ident) (order : List (ℕ × ℕ)) (b : Numbering) → numbering_of pid_max spaces idents order ≡ b → (i s own : ℕ) (u : Identifier) → name_at idents i ≡ Some u → u.space ≡ own
+pub levels-of : (pid_max : ℕ) (spaces : List Space) (idents : Slab Ident) (order : List (ℕ × ℕ)) (b : Numbering) → numbering_of pid_max spaces idents order ≡ b → (i s own : ℕ) (u : Identifier) → name_at idents i ≡ Some u → u.space ≡ own
     → levels_of b i s ≡ beside_from s (reverse (way spaces own)) (reverse u.numbers)
 levels-of pid_max spaces idents order b view i s own u is at =
     ap (λ z. levels_of z i s) (sym view)

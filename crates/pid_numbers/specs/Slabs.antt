@@ -1,5 +1,5 @@
 -- The slabs of namespaces and identifiers, and what ties them.
-use Rattle.std.specs.Prelude.{◌≡◌, ◌≢◌, ◌⊎◌, ℕ, ◌+◌, ◌<◌, ◌≤◌, ◌==◌, ◌&&◌, Bool, true, false, List, [], ◌∷◌, length, map, Option, Some, None, option_map, option_and_then, if◌then◌else◌, slice_index_or}
+use Rattle.std.specs.Prelude.{◌≡◌, ◌≢◌, ◌⊎◌, ℕ, ◌+◌, ◌-◌, ◌<◌, ◌≤◌, ◌==◌, ◌&&◌, Bool, true, false, List, [], ◌∷◌, length, map, Option, Some, None, option_map, option_and_then, if◌then◌else◌, slice_index_or}
 use Rattle.std.specs.Option.{option_map_or, option_eq}
 use Rattle.std.specs.List.{AllByRecursion}
 use Rattle.slab.specs.Slab.{Slab, get}
@@ -21,38 +21,50 @@ namespace_of s = record { id = s.id; fallen = s.fallen; path = s.path.items; cur
 abbrev pub identifier_of : Ident → Identifier
 identifier_of x = record { space = x.space; numbers = x.numbers; tasks = x.tasks; groups = x.groups; sessions = x.sessions }
 
-abbrev pub namespaces_of : Slab Space → List (Option Namespace)
-namespaces_of spaces = map (option_map namespace_of) spaces.slots
+-- the namespace at a place, none where the place is vacant: then its path is empty
+abbrev pub shown : Space → Option Space
+shown s = if length s.path.items == 0 then None else Some s
 
-abbrev pub numbering_of : ℕ → Slab Space → Slab Ident → List (ℕ × ℕ) → Numbering
+-- the namespaces by key
+abbrev pub slots : List Space → List (Option Space)
+slots spaces = map shown spaces
+
+-- the namespace with the key
+abbrev pub slot : List Space → ℕ → Option Space
+slot spaces s = slice_index_or (slots spaces) s None
+
+abbrev pub namespaces_of : List Space → List (Option Namespace)
+namespaces_of spaces = map (option_map namespace_of) (slots spaces)
+
+abbrev pub numbering_of : ℕ → List Space → Slab Ident → List (ℕ × ℕ) → Numbering
 numbering_of pid_max spaces idents order = record { pid_max = pid_max; next = idents.vacant_key; namespaces = namespaces_of spaces; names = map (option_map identifier_of) idents.slots; order = order }
 
-abbrev pub namespace_on : Slab Space → ℕ → Option Namespace
-namespace_on spaces s = option_map namespace_of (get spaces s)
+abbrev pub namespace_on : List Space → ℕ → Option Namespace
+namespace_on spaces s = option_map namespace_of (slot spaces s)
 
 abbrev pub name_at : Slab Ident → ℕ → Option Identifier
 name_at idents i = option_map identifier_of (get idents i)
 
 -- the path of a namespace, none where there is no such namespace
-abbrev pub way : Slab Space → ℕ → List ℕ
-way spaces s = option_map_or (λ t. t.path.items) (get spaces s) []
+abbrev pub way : List Space → ℕ → List ℕ
+way spaces s = option_map_or (λ t. t.path.items) (slot spaces s) []
 
 -- what stands at a number of a namespace
-abbrev pub entry_on : Slab Space → ℕ → ℕ → Option (Entry ℕ)
-entry_on spaces s n = option_and_then (λ t. entry_at t.ids.places n) (get spaces s)
+abbrev pub entry_on : List Space → ℕ → ℕ → Option (Entry ℕ)
+entry_on spaces s n = option_and_then (λ t. entry_at t.ids.places n) (slot spaces s)
 
 -- the key that each number leads to
 abbrev pub leads : (ℕ → ℕ → Option (Entry ℕ)) → ℕ → ℕ → Option ℕ
 leads at s n = option_map (λ (e : Entry ℕ). e.value) (at s n)
 
-abbrev pub plan_on : Slab Space → ℕ → Option ℕ
-plan_on spaces s = option_and_then (λ t. planned t.ids) (get spaces s)
+abbrev pub plan_on : List Space → ℕ → Option ℕ
+plan_on spaces s = option_and_then (λ t. planned t.ids) (slot spaces s)
 
-abbrev pub bound_on : Slab Space → ℕ → Option ℕ
-bound_on spaces s = option_map (λ t. t.ids.pid_max) (get spaces s)
+abbrev pub bound_on : List Space → ℕ → Option ℕ
+bound_on spaces s = option_map (λ t. t.ids.pid_max) (slot spaces s)
 
-abbrev pub ready : Slab Space → ℕ → ℕ → Bool
-ready spaces s n = option_map_or (λ t. is_prepared t.ids.places n) (get spaces s) false
+abbrev pub ready : List Space → ℕ → ℕ → Bool
+ready spaces s n = option_map_or (λ t. is_prepared t.ids.places n) (slot spaces s) false
 
 -- each namespace of the path is there, and what is around it is the rest of the path
 abbrev pub IsPath : (ℕ → List ℕ) → List ℕ → Type 0
@@ -108,7 +120,7 @@ pub record IsNumbering (pid_max : ℕ) (ways : ℕ → List ℕ) (at : ℕ → �
   pub marks : AreMarked at names
 
 -- whether the namespace is there and has fallen
-abbrev pub fell : Slab Space → ℕ → Bool
+abbrev pub fell : List Space → ℕ → Bool
 fell spaces s = option_map_or (λ t. t.fallen) (namespace_on spaces s) false
 
 -- the root stands, what is in a fallen namespace has fallen, and each fallen namespace has a number in use
@@ -123,7 +135,7 @@ pub record IsWhole (pid_max : ℕ) (ways : ℕ → List ℕ) (at : ℕ → ℕ �
   pub fallen : AreFallen ways at fell
 
 -- the id of a namespace
-abbrev pub id_on : Slab Space → ℕ → Option ℕ
+abbrev pub id_on : List Space → ℕ → Option ℕ
 id_on spaces s = option_map (λ t. t.id) (namespace_on spaces s)
 
 -- the order has the id and the key of each namespace, and no others
@@ -131,33 +143,48 @@ pub record AreListed (id : ℕ → Option ℕ) (order : List (ℕ × ℕ)) : Typ
   pub each : AllByRecursion (λ p. id p.1 ≡ Some p.0) order
   pub listed : (s i : ℕ) → id s ≡ Some i → key_of order i ≡ Some s
 
--- all of that, and the order
-pub record IsKept (pid_max : ℕ) (spaces : Slab Space) (idents : Slab Ident) (order : List (ℕ × ℕ)) : Type 0 where
+-- each key is another than those before
+abbrev pub IsDistinct : List ℕ → Type 0
+IsDistinct path = (i j : ℕ) → i < j → j < length path → slice_index_or path i 0 ≢ slice_index_or path j 0
+
+-- each of the keys is that of a vacant place, none comes twice, and there is room for the keys of all places
+pub record AreVacant (spaces : List Space) (keys : List ℕ) (room : ℕ) : Type 0 where
+  pub each : (j : ℕ) → j < length keys → (slice_index_or keys j 0 < length spaces) × (way spaces (slice_index_or keys j 0) ≡ [])
+  pub distinct : IsDistinct keys
+  pub rooms : length spaces ≤ room
+
+-- the key of the next namespace: the last of the vacant ones, or else a new one
+abbrev pub next_place : List Space → List ℕ → ℕ
+next_place spaces vacant = slice_index_or vacant (length vacant - 1) (length spaces)
+
+-- all of that, the order, and the vacant places
+pub record IsKept (pid_max : ℕ) (spaces : List Space) (vacant : List ℕ) (room : ℕ) (idents : Slab Ident) (order : List (ℕ × ℕ)) : Type 0 where
   pub whole : IsWhole pid_max (way spaces) (entry_on spaces) (bound_on spaces) (name_at idents) (fell spaces)
   pub listed : AreListed (id_on spaces) order
+  pub places : AreVacant spaces vacant room
 
 -- the own namespace of an identifier
 abbrev pub home_at : Slab Ident → ℕ → Option ℕ
 home_at idents i = option_map (λ u. u.space) (name_at idents i)
 
 -- the numbers that tasks have in the namespace lead to each namespace inside that has not fallen
-pub record LeadsInside (spaces : Slab Space) (idents : Slab Ident) (outer : ℕ) : Type 0 where
+pub record LeadsInside (spaces : List Space) (idents : Slab Ident) (outer : ℕ) : Type 0 where
   pub tied : IsTied (way spaces) (name_at idents) (leads (entry_on spaces))
   pub marks : AreMarked (entry_on spaces) (name_at idents)
   pub range : (n i : ℕ) → leads (entry_on spaces) outer n ≡ Some i → n < index_count
   pub homes : (s : ℕ) → contains (way spaces s) outer ≡ true → fell spaces s ≡ false → HasOwnTask (name_at idents) s
 
 -- whether it has fallen and no number in it is in use
-abbrev pub dead_on : Slab Space → ℕ → Bool
-dead_on spaces s = option_map_or (λ t. t.fallen && (length (indexes t.ids.places) == 0)) (get spaces s) false
+abbrev pub dead_on : List Space → ℕ → Bool
+dead_on spaces s = option_map_or (λ t. t.fallen && (length (indexes t.ids.places) == 0)) (slot spaces s) false
 
 -- whether it is one of the path that is dead
-abbrev pub goes : List ℕ → Slab Space → ℕ → Bool
+abbrev pub goes : List ℕ → List Space → ℕ → Bool
 goes path spaces s = contains path s && dead_on spaces s
 
 -- what is there once the dead ones of the path have gone
-abbrev pub left_on : List ℕ → Slab Space → ℕ → Option Space
-left_on path spaces s = if goes path spaces s then None else get spaces s
+abbrev pub left_on : List ℕ → List Space → ℕ → Option Space
+left_on path spaces s = if goes path spaces s then None else slot spaces s
 
 -- what stands at each number, with a change at the numbers along the path
 abbrev pub touched : List ℕ → List ℕ → (Option (Entry ℕ) → Option (Entry ℕ)) → (ℕ → ℕ → Option (Entry ℕ)) → ℕ → ℕ → Option (Entry ℕ)
@@ -171,13 +198,9 @@ stepped n t = record t { cursor = n + 1 }
 abbrev pub given_to : ℕ → Option (Entry ℕ)
 given_to key = Some (record { value = key; marks = true ∷ false ∷ false ∷ [] })
 
--- each place has another key than those before
-abbrev pub IsDistinct : List ℕ → Type 0
-IsDistinct path = (i j : ℕ) → i < j → j < length path → slice_index_or path i 0 ≢ slice_index_or path j 0
-
 -- the numbers are those that the namespaces of the path give next
-abbrev pub ArePlanned : Slab Space → List ℕ → List ℕ → Type 0
+abbrev pub ArePlanned : List Space → List ℕ → List ℕ → Type 0
 ArePlanned spaces path numbers = (k : ℕ) → k < length path → plan_on spaces (slice_index_or path k 0) ≡ Some (slice_index_or numbers k 0)
 
-abbrev pub AreReady : Slab Space → List ℕ → List ℕ → Type 0
+abbrev pub AreReady : List Space → List ℕ → List ℕ → Type 0
 AreReady spaces path numbers = (k : ℕ) → k < length path → ready spaces (slice_index_or path k 0) (slice_index_or numbers k 0) ≡ true

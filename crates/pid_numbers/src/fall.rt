@@ -1,8 +1,7 @@
 //! The fall of a namespace with all inside it (`pid_namespaces(7)`).
 
-ghost use Rattle.std.specs.Prelude.{◌≡◌, ◌≢◌, ℕ, option_map, option_and_then};
-ghost use Rattle.slab.specs.Slab.{get};
-ghost use Rattle.pid_numbers.specs.Slabs.{id_on, AreListed, LeadsInside, IsTree, way, entry_on, leads, home_at, namespace_on, bound_on};
+ghost use Rattle.std.specs.Prelude.{◌≡◌, ◌≢◌, ◌<◌, ℕ, length, option_map, option_and_then};
+ghost use Rattle.pid_numbers.specs.Slabs.{slot, id_on, AreListed, LeadsInside, IsTree, way, entry_on, leads, home_at, namespace_on, bound_on};
 ghost use Rattle.pid_numbers.specs.Numbering.{fallen_within, felled};
 
 use crate::names::{Ident, home_of};
@@ -17,31 +16,30 @@ use slab::Slab;
 const FEW: usize = 64;
 
 /// The namespace has fallen, if it is the other one or inside it.
-fn fall_at(spaces: &mut Slab<Space>, key: SpaceKey, outer: SpaceKey)
-    requires { IsTree (way spaces.old) }
-    ensures here { namespace_on spaces.new key ≡ option_map (fallen_within outer) (namespace_on spaces.old key) }
-    ensures others { (s : ℕ) → s ≢ key → get spaces.new s ≡ get spaces.old s }
-    ensures entries { (s n : ℕ) → entry_on spaces.new s n ≡ entry_on spaces.old s n }
-    ensures bound { (s : ℕ) → bound_on spaces.new s ≡ bound_on spaces.old s }
-    ensures way { (s : ℕ) → way spaces.new s ≡ way spaces.old s }
+fn fall_at(spaces: &mut Vec<Space>, key: SpaceKey, outer: SpaceKey)
+    requires { IsTree (way spaces.old.items) }
+    ensures here { namespace_on spaces.new.items key ≡ option_map (fallen_within outer) (namespace_on spaces.old.items key) }
+    ensures others { (s : ℕ) → s ≢ key → slot spaces.new.items s ≡ slot spaces.old.items s }
+    ensures entries { (s n : ℕ) → entry_on spaces.new.items s n ≡ entry_on spaces.old.items s n }
+    ensures bound { (s : ℕ) → bound_on spaces.new.items s ≡ bound_on spaces.old.items s }
+    ensures way { (s : ℕ) → way spaces.new.items s ≡ way spaces.old.items s }
+    ensures len { length spaces.new.items ≡ length spaces.old.items }
 {
     if !is_inside(spaces, key, outer) {
         return;
     }
-    let Some(space) = spaces.get_mut(key as usize) else {
-        return;
-    };
-    space.fallen = true;
+    spaces[key as usize].fallen = true;
 }
 
 /// The namespace and all inside it have fallen. It costs a step for each namespace that is there.
-fn fall_among(spaces: &mut Slab<Space>, order: &RisingIds, outer: SpaceKey)
-    requires tree { IsTree (way spaces.old) }
-    requires listed { AreListed (id_on spaces.old) order.now }
-    ensures namespaces { (s : ℕ) → namespace_on spaces.new s ≡ option_map (fallen_within outer) (namespace_on spaces.old s) }
-    ensures entries { (s n : ℕ) → entry_on spaces.new s n ≡ entry_on spaces.old s n }
-    ensures bound { (s : ℕ) → bound_on spaces.new s ≡ bound_on spaces.old s }
-    ensures way { (s : ℕ) → way spaces.new s ≡ way spaces.old s }
+fn fall_among(spaces: &mut Vec<Space>, order: &RisingIds, outer: SpaceKey)
+    requires tree { IsTree (way spaces.old.items) }
+    requires listed { AreListed (id_on spaces.old.items) order.now }
+    ensures namespaces { (s : ℕ) → namespace_on spaces.new.items s ≡ option_map (fallen_within outer) (namespace_on spaces.old.items s) }
+    ensures entries { (s n : ℕ) → entry_on spaces.new.items s n ≡ entry_on spaces.old.items s n }
+    ensures bound { (s : ℕ) → bound_on spaces.new.items s ≡ bound_on spaces.old.items s }
+    ensures way { (s : ℕ) → way spaces.new.items s ≡ way spaces.old.items s }
+    ensures len { length spaces.new.items ≡ length spaces.old.items }
 {
     for (_, key) in order.iter() {
         fall_at(spaces, key, outer);
@@ -50,38 +48,38 @@ fn fall_among(spaces: &mut Slab<Space>, order: &RisingIds, outer: SpaceKey)
 
 /// The own namespace of the identifier that has the number.
 fn home_behind(
-    spaces: &Slab<Space>,
+    spaces: &Vec<Space>,
     idents: &Slab<Ident>,
     space: SpaceKey,
     n: Pid,
 ) -> Option<SpaceKey>
-    ensures { result ≡ option_and_then (home_at idents.now) (leads (entry_on spaces.now) space n) }
+    ensures { result ≡ option_and_then (home_at idents.now) (leads (entry_on spaces.now.items) space n) }
 {
     home_of(idents, look(spaces, space, n)?)
 }
 
-/// The namespace has fallen, if it is there.
-fn mark_fallen(spaces: &mut Slab<Space>, key: SpaceKey)
-    ensures here { namespace_on spaces.new key ≡ option_map felled (namespace_on spaces.old key) }
-    ensures others { (s : ℕ) → s ≢ key → get spaces.new s ≡ get spaces.old s }
-    ensures entries { (s n : ℕ) → entry_on spaces.new s n ≡ entry_on spaces.old s n }
-    ensures bound { (s : ℕ) → bound_on spaces.new s ≡ bound_on spaces.old s }
-    ensures way { (s : ℕ) → way spaces.new s ≡ way spaces.old s }
+/// The namespace has fallen.
+fn mark_fallen(spaces: &mut Vec<Space>, key: SpaceKey)
+    requires { 0 < length (way spaces.old.items key) }
+    ensures here { namespace_on spaces.new.items key ≡ option_map felled (namespace_on spaces.old.items key) }
+    ensures others { (s : ℕ) → s ≢ key → slot spaces.new.items s ≡ slot spaces.old.items s }
+    ensures entries { (s n : ℕ) → entry_on spaces.new.items s n ≡ entry_on spaces.old.items s n }
+    ensures bound { (s : ℕ) → bound_on spaces.new.items s ≡ bound_on spaces.old.items s }
+    ensures way { (s : ℕ) → way spaces.new.items s ≡ way spaces.old.items s }
+    ensures len { length spaces.new.items ≡ length spaces.old.items }
 {
-    let Some(space) = spaces.get_mut(key as usize) else {
-        return;
-    };
-    space.fallen = true;
+    spaces[key as usize].fallen = true;
 }
 
 /// The namespace and all inside it have fallen. It costs a search for each task that has a number in it, and looks at no
 /// namespace but those inside.
-fn fall_by_tasks(spaces: &mut Slab<Space>, idents: &Slab<Ident>, outer: SpaceKey)
-    requires { LeadsInside spaces.old idents.now outer }
-    ensures namespaces { (s : ℕ) → namespace_on spaces.new s ≡ option_map (fallen_within outer) (namespace_on spaces.old s) }
-    ensures entries { (s n : ℕ) → entry_on spaces.new s n ≡ entry_on spaces.old s n }
-    ensures bound { (s : ℕ) → bound_on spaces.new s ≡ bound_on spaces.old s }
-    ensures way { (s : ℕ) → way spaces.new s ≡ way spaces.old s }
+fn fall_by_tasks(spaces: &mut Vec<Space>, idents: &Slab<Ident>, outer: SpaceKey)
+    requires { LeadsInside spaces.old.items idents.now outer }
+    ensures namespaces { (s : ℕ) → namespace_on spaces.new.items s ≡ option_map (fallen_within outer) (namespace_on spaces.old.items s) }
+    ensures entries { (s n : ℕ) → entry_on spaces.new.items s n ≡ entry_on spaces.old.items s n }
+    ensures bound { (s : ℕ) → bound_on spaces.new.items s ≡ bound_on spaces.old.items s }
+    ensures way { (s : ℕ) → way spaces.new.items s ≡ way spaces.old.items s }
+    ensures len { length spaces.new.items ≡ length spaces.old.items }
 {
     let mut from = 0u32;
     while let Some(n) = next_at(spaces, outer, Kind::Task, from) {
@@ -96,18 +94,19 @@ fn fall_by_tasks(spaces: &mut Slab<Space>, idents: &Slab<Ident>, outer: SpaceKey
 /// The namespace and all inside it have fallen. It costs a step for each namespace that is there, if they are few, or else
 /// a search for each task that has a number in the one that falls.
 pub(crate) fn fall_all(
-    spaces: &mut Slab<Space>,
+    spaces: &mut Vec<Space>,
     idents: &Slab<Ident>,
     order: &RisingIds,
     outer: SpaceKey,
 )
-    requires tree { IsTree (way spaces.old) }
-    requires listed { AreListed (id_on spaces.old) order.now }
-    requires leads { LeadsInside spaces.old idents.now outer }
-    ensures namespaces { (s : ℕ) → namespace_on spaces.new s ≡ option_map (fallen_within outer) (namespace_on spaces.old s) }
-    ensures entries { (s n : ℕ) → entry_on spaces.new s n ≡ entry_on spaces.old s n }
-    ensures bound { (s : ℕ) → bound_on spaces.new s ≡ bound_on spaces.old s }
-    ensures way { (s : ℕ) → way spaces.new s ≡ way spaces.old s }
+    requires tree { IsTree (way spaces.old.items) }
+    requires listed { AreListed (id_on spaces.old.items) order.now }
+    requires leads { LeadsInside spaces.old.items idents.now outer }
+    ensures namespaces { (s : ℕ) → namespace_on spaces.new.items s ≡ option_map (fallen_within outer) (namespace_on spaces.old.items s) }
+    ensures entries { (s n : ℕ) → entry_on spaces.new.items s n ≡ entry_on spaces.old.items s n }
+    ensures bound { (s : ℕ) → bound_on spaces.new.items s ≡ bound_on spaces.old.items s }
+    ensures way { (s : ℕ) → way spaces.new.items s ≡ way spaces.old.items s }
+    ensures len { length spaces.new.items ≡ length spaces.old.items }
 {
     if order.count() <= FEW {
         fall_among(spaces, order, outer);

@@ -48,7 +48,9 @@ use std::marker::Model;
 /// Identifiers with their numbers and uses, and the namespaces that the numbers are of.
 pub struct Numbers {
     alloc: Global,
-    spaces: Slab<Space>,
+    spaces: Vec<Space>,
+    /// The keys of vacant places among the namespaces.
+    vacant: Vec<SpaceKey>,
     idents: Slab<Ident>,
     order: RisingIds,
     pid_max: u32,
@@ -60,6 +62,7 @@ impl Drop for Numbers {
         let Numbers {
             alloc: _,
             spaces: _,
+            vacant: _,
             idents: _,
             order: _,
             pid_max: _,
@@ -68,14 +71,15 @@ impl Drop for Numbers {
 }
 
 impl Model for Numbers {
+    ghost use Rattle.std.specs.Prelude.{vec_capacity};
     ghost use Rattle.pid_numbers.specs.Numbering.{Numbering};
     ghost use Rattle.pid_numbers.specs.Slabs.{numbering_of, IsKept};
 
     ghost Value = { Numbering };
 
-    ghost view = { λ a. numbering_of a.pid_max a.spaces a.idents a.order };
+    ghost view = { λ a. numbering_of a.pid_max a.spaces.items a.idents a.order };
 
-    ghost invariant = { λ a. IsKept a.pid_max a.spaces a.idents a.order };
+    ghost invariant = { λ a. IsKept a.pid_max a.spaces.items a.vacant.items (vec_capacity a.vacant) a.idents a.order };
 }
 
 impl Numbers {
@@ -91,11 +95,11 @@ impl Numbers {
     {
         let mut order = RisingIds::new(alloc);
         order.push(0, 0)?;
-        let mut spaces = Slab::new(alloc);
-        make_room(&mut spaces)?;
+        let mut spaces = Vec::with_capacity(alloc, 1)?;
+        let vacant = Vec::with_capacity(alloc, 1)?;
         let mut path = ArrayVec::<SpaceKey, LEVELS>::new();
         path.push(0);
-        spaces.insert_reserved(Space {
+        spaces.push_reserved(Space {
             id: 0,
             fallen: false,
             path,
@@ -104,6 +108,7 @@ impl Numbers {
         Ok(Numbers {
             alloc,
             spaces,
+            vacant,
             idents: Slab::new(alloc),
             order,
             pid_max,
@@ -451,7 +456,14 @@ impl Numbers {
         let ids = first_ids(self.alloc, self.pid_max, ident)?;
         let around = &numbers[1..];
         prepare_path(&mut self.spaces, parent, around)?;
-        let key = add_space(&mut self.spaces, &mut self.order, parent, id, ids)?;
+        let key = add_space(
+            &mut self.spaces,
+            &mut self.vacant,
+            &mut self.order,
+            parent,
+            id,
+            ids,
+        )?;
         give_path(&mut self.spaces, parent, around, ident);
         self.idents.insert_reserved(Ident {
             numbers: stored,
@@ -520,6 +532,11 @@ impl Numbers {
             unreachable!()
         };
         release_path(&mut self.spaces, gone.space, &gone.numbers);
-        sweep_fallen(&mut self.spaces, &mut self.order, gone.space);
+        sweep_fallen(
+            &mut self.spaces,
+            &mut self.vacant,
+            &mut self.order,
+            gone.space,
+        );
     }
 }

@@ -4,7 +4,7 @@ ghost use Rattle.std.specs.Prelude.{◌≡◌, ◌≢◌, ℕ, ◌+◌, ◌<◌,
 ghost use Rattle.std.specs.Option.{option_map_or};
 ghost use Rattle.pid_types.specs.Bounds.{deepest_space};
 ghost use Rattle.pid_numbers.specs.Numbering.{Identifier, uses, less, more, is_used, is_used_as};
-ghost use Rattle.pid_numbers.specs.Slabs.{identifier_of, name_at, way, entry_on, touched, mark_of, namespaces_of, bound_on, IsDistinct};
+ghost use Rattle.pid_numbers.specs.Slabs.{identifier_of, name_at, way, entry_on, touched, mark_of, namespaces_of, bound_on, IsDistinct, IsPath};
 ghost use Rattle.index_array.specs.Place.{with_mark};
 ghost use Rattle.pid_types.specs.declared.call.Kind.{Kind};
 
@@ -169,18 +169,19 @@ pub(crate) fn more_use(idents: &mut Slab<Ident>, ident: IdentKey, kind: Kind)
 
 /// Gives the numbers of an identifier the mark of a kind, or takes it away.
 pub(crate) fn mark_numbers(
-    spaces: &mut Slab<Space>,
+    spaces: &mut Vec<Space>,
     idents: &Slab<Ident>,
     ident: IdentKey,
     kind: Kind,
     on: bool,
 )
-    requires distinct { (s : ℕ) → IsDistinct (way spaces.old s) }
-    requires full { IfSome (name_at idents.now ident) (λ u. length u.numbers ≡ length (way spaces.old u.space)) }
-    ensures entries { IfSome (name_at idents.now ident) (λ u. (s n : ℕ) → entry_on spaces.new s n ≡ touched (way spaces.old u.space) u.numbers (with_mark (mark_of kind) on) (entry_on spaces.old) s n) }
-    ensures way { (s : ℕ) → way spaces.new s ≡ way spaces.old s }
-    ensures namespaces { namespaces_of spaces.new ≡ namespaces_of spaces.old }
-    ensures bound { (s : ℕ) → bound_on spaces.new s ≡ bound_on spaces.old s }
+    requires path { (s : ℕ) → IsPath (way spaces.old.items) (way spaces.old.items s) }
+    requires distinct { (s : ℕ) → IsDistinct (way spaces.old.items s) }
+    requires full { IfSome (name_at idents.now ident) (λ u. length u.numbers ≡ length (way spaces.old.items u.space)) }
+    ensures entries { IfSome (name_at idents.now ident) (λ u. (s n : ℕ) → entry_on spaces.new.items s n ≡ touched (way spaces.old.items u.space) u.numbers (with_mark (mark_of kind) on) (entry_on spaces.old.items) s n) }
+    ensures way { (s : ℕ) → way spaces.new.items s ≡ way spaces.old.items s }
+    ensures namespaces { namespaces_of spaces.new.items ≡ namespaces_of spaces.old.items }
+    ensures bound { (s : ℕ) → bound_on spaces.new.items s ≡ bound_on spaces.old.items s }
 {
     let Some(x) = idents.get(ident as usize) else {
         return;

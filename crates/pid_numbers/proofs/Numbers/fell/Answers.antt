@@ -1,13 +1,15 @@
 use Rattle.std.proofs.Common.{List, [], ◌∷◌, ◌≡◌, ◌∙◌, sym, ap, ℕ, ◌<◌, Bool, true, false, ◌||◌, length, Option, Some, None, option_map, refl, arith}
 use Rattle.std.specs.Option.{option_map_or}
 use Rattle.pid_types.specs.Chains.{contains}
-use Rattle.slab.specs.Slab.{Slab, get}
+use Rattle.slab.specs.Slab.{Slab}
 use Rattle.index_array.specs.Place.{Entry}
+use Rattle.std.specs.Prelude.{vec_capacity}
 use Rattle.pid_numbers.specs.declared.names.Ident.{Ident}
 use Rattle.pid_numbers.specs.declared.spaces.Space.{Space}
 use Rattle.pid_numbers.specs.Numbering.{Numbering, Identifier, Namespace, HasOwnTask, namespace_at, identifier_at, path_at, has_fallen_at, fallen_within}
-use Rattle.pid_numbers.specs.Slabs.{AreFallen, IsTree, IsTied, id_on, namespace_of, namespace_on, numbering_of, way, entry_on, bound_on, name_at, leads, fell}
+use Rattle.pid_numbers.specs.Slabs.{slot, slots, AreFallen, IsTree, IsTied, id_on, namespace_of, namespace_on, numbering_of, way, entry_on, bound_on, name_at, leads, fell}
 use Rattle.pid_numbers.proofs.Views as views
+use Rattle.pid_numbers.proofs.Vacancy as vacancy
 use Rattle.pid_numbers.proofs.Ties as ties
 use Rattle.pid_numbers.proofs.Sweeps as sweeps
 use Rattle.pid_numbers.proofs.Orders as orders
@@ -24,10 +26,10 @@ falls_id outer None = refl
 falls_id outer (Some t) = refl
 
 -- whether a namespace has fallen is seen in the numbering
-same_fall : (spaces : Slab Space) (b : Numbering) (s : ℕ) → namespace_at b s ≡ option_map namespace_of (get spaces s) → has_fallen_at b s ≡ fell spaces s
+same_fall : (spaces : List Space) (b : Numbering) (s : ℕ) → namespace_at b s ≡ option_map namespace_of (slot spaces s) → has_fallen_at b s ≡ fell spaces s
 same_fall spaces b s is = ap (λ o. option_map_or (λ t. t.fallen) o false) is
 
-homes : (pid_max : ℕ) (spaces : Slab Space) (idents : Slab Ident) (order : List (ℕ × ℕ)) (b : Numbering) (view : numbering_of pid_max spaces idents order ≡ b) (space : ℕ)
+homes : (pid_max : ℕ) (spaces : List Space) (idents : Slab Ident) (order : List (ℕ × ℕ)) (b : Numbering) (view : numbering_of pid_max spaces idents order ≡ b) (space : ℕ)
     → ((s : ℕ) → contains (path_at b s) space ≡ true → has_fallen_at b s ≡ false → HasOwnTask (identifier_at b) s)
     → (s : ℕ) → contains (way spaces s) space ≡ true → fell spaces s ≡ false → HasOwnTask (name_at idents) s
 homes pid_max spaces idents order b view space all s inside stands =
@@ -55,30 +57,31 @@ fall_all-requires c =
         tied = b.tied;
         marks = b.marks;
         range = λ n i led. (let below = (b.range c.args.space n i led).1 in let most = b.good.1 in omega (arith, below, most));
-        homes = homes c.self.inside.pid_max c.self.inside.spaces c.self.inside.idents c.self.inside.order c.args.self.now c.self.view_is c.args.space c.requires.homes;
+        homes = homes c.self.inside.pid_max c.self.inside.spaces.items c.self.inside.idents c.self.inside.order c.args.self.now c.self.view_is c.args.space c.requires.homes;
       };
     }
 
 pub invariant_of-self : goal.invariant_of-self
 invariant_of-self c =
-    let old = c.self.inside.spaces in
-    let new = c.fall_all.new.spaces in
+    let old = c.self.inside.spaces.items in
+    let new = c.fall_all.new.spaces.items in
     let idents = c.self.inside.idents in
     let b = c.self.invariant.whole.numbering in
     let used = still-used (way old) (name_at idents) (entry_on old) b.tree b.tied (fell old) c.self.invariant.whole.fallen c.args.space
     (homes c.self.inside.pid_max old idents c.self.inside.order c.args.self.now c.self.view_is c.args.space c.requires.homes) in
     let fallen = sweeps.fallen-fell c.self.inside.pid_max (way old) (entry_on old) (bound_on old) (name_at idents) b (fell old) (fell new) c.self.invariant.whole.fallen c.args.space c.requires.inner
-    (λ s. ap (λ o. option_map_or (λ t. t.fallen) o false) (c.fall_all.ensures.namespaces s) ∙ falls c.args.space (get old s))
+    (λ s. ap (λ o. option_map_or (λ t. t.fallen) o false) (c.fall_all.ensures.namespaces s) ∙ falls c.args.space (slot old s))
     (λ s within. used s within (fell old s) refl) in
     record {
       whole = record {
         numbering = ties.numbering-same c.self.inside.pid_max (way old) (way new) (entry_on old) (entry_on new) (bound_on old) (bound_on new) (name_at idents) (name_at idents) b c.fall_all.ensures.way c.fall_all.ensures.bound c.fall_all.ensures.entries (λ i. refl);
         fallen = sweeps.fallen-kept (way old) (way new) (entry_on old) (entry_on new) (fell new) (fell new) fallen c.fall_all.ensures.way (λ s. refl) (λ s n i led. (i, ap (option_map (λ e. e.value)) (c.fall_all.ensures.entries s n) ∙ led));
       };
+      places = vacancy.vacant-same c.self.inside.spaces.items new c.self.inside.vacant.items (vec_capacity c.self.inside.vacant) c.self.invariant.places c.fall_all.ensures.len c.fall_all.ensures.way;
       listed = orders.listed-same (id_on old) (id_on new) c.self.inside.order c.self.invariant.listed (λ s. ap (option_map (λ t. t.id)) (c.fall_all.ensures.namespaces s) ∙ falls_id c.args.space (namespace_on old s));
     }
 
 pub returns-clause-namespaces : goal.returns-clause-namespaces
 returns-clause-namespaces c s =
-    ties.get_or-map_option namespace_of c.fall_all.new.spaces.slots s ∙ c.fall_all.ensures.namespaces s
-    ∙ ap (option_map (fallen_within c.args.space)) (sym (ties.get_or-map_option namespace_of c.self.inside.spaces.slots s) ∙ ap (λ b. namespace_at b s) c.self.view_is)
+    ties.get_or-map_option namespace_of (slots c.fall_all.new.spaces.items) s ∙ c.fall_all.ensures.namespaces s
+    ∙ ap (option_map (fallen_within c.args.space)) (sym (ties.get_or-map_option namespace_of (slots c.self.inside.spaces.items) s) ∙ ap (λ b. namespace_at b s) c.self.view_is)

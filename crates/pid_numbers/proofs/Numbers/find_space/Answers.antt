@@ -9,9 +9,9 @@ use Rattle.pid_numbers.proofs.Numbers.find_space.Goals as goal
 pub returns : goal.returns
 returns c = go c.find.result c.find.ensures
   where
-    is : (s : ℕ) → id_at c.args.self.now s ≡ id_on c.self.inside.spaces s
-    is s = ap (λ b. id_at b s) (sym c.self.view_is) ∙ orders.id-is c.self.inside.spaces s
+    is : (s : ℕ) → id_at c.args.self.now s ≡ id_on c.self.inside.spaces.items s
+    is s = ap (λ b. id_at b s) (sym c.self.view_is) ∙ orders.id-is c.self.inside.spaces.items s
 
     go : (o : Option ℕ) → o ≡ key_of c.self.inside.order c.args.id → MatchOption o ((s : ℕ) → id_at c.args.self.now s ≢ Some c.args.id) (λ s. id_at c.args.self.now s ≡ Some c.args.id)
     go None e = λ s at. (let bad : None ≡ Some s = e ∙ c.self.invariant.listed.listed s c.args.id (sym (is s) ∙ at) in cc)
-    go (Some k) e = is k ∙ entry_of (λ i s. id_on c.self.inside.spaces s ≡ Some i) c.self.inside.order c.args.id k c.self.invariant.listed.each (sym e)
+    go (Some k) e = is k ∙ entry_of (λ i s. id_on c.self.inside.spaces.items s ≡ Some i) c.self.inside.order c.args.id k c.self.invariant.listed.each (sym e)

@@ -7,4 +7,4 @@ pub is_inside-requires : goal.is_inside-requires
 is_inside-requires c = c.self.invariant.whole.numbering.tree
 
 pub returns : goal.returns
-returns c = c.is_inside.ensures ∙ ap (λ p. contains p c.args.outer) (sym (views.path-of c.self.inside.pid_max c.self.inside.spaces c.self.inside.idents c.self.inside.order c.args.self.now c.self.view_is c.args.space))
+returns c = c.is_inside.ensures ∙ ap (λ p. contains p c.args.outer) (sym (views.path-of c.self.inside.pid_max c.self.inside.spaces.items c.self.inside.idents c.self.inside.order c.args.self.now c.self.view_is c.args.space))

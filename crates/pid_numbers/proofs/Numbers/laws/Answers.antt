@@ -3,10 +3,10 @@ use Rattle.std.specs.Option.{option_map_or}
 use Rattle.std.specs.List.{AllByRecursion}
 use Rattle.id_slab.specs.Ids.{key_of, AreRising}
 use Rattle.pid_numbers.specs.Numbering.{Numbering, id_at, number_of, path_at, has_fallen_at}
-use Rattle.slab.specs.Slab.{Slab, get}
+use Rattle.slab.specs.Slab.{Slab}
 use Rattle.pid_numbers.specs.declared.spaces.Space.{Space}
 use Rattle.pid_numbers.specs.declared.names.Ident.{Ident}
-use Rattle.pid_numbers.specs.Slabs.{IsNumbering, numbering_of, namespace_of, id_on, way, entry_on, bound_on, name_at, leads, fell}
+use Rattle.pid_numbers.specs.Slabs.{slot, IsNumbering, numbering_of, namespace_of, id_on, way, entry_on, bound_on, name_at, leads, fell}
 use Rattle.pid_numbers.proofs.Views as views
 use Rattle.pid_numbers.proofs.Ties as ties
 use Rattle.pid_numbers.proofs.Orders as orders
@@ -21,7 +21,7 @@ own_first s path (inl none) some = absurd (let l = ap length none in omega (arit
 own_first s path (inr way) some = ap (λ l. get_or l 0 0) way.1
 
 -- a namespace that is there has a path
-filled : (pid_max : ℕ) (spaces : Slab Space) (idents : Slab Ident) → IsNumbering pid_max (way spaces) (entry_on spaces) (bound_on spaces) (name_at idents) → (o : Option Space) (s : ℕ) → get spaces s ≡ o → (i : ℕ)
+filled : (pid_max : ℕ) (spaces : List Space) (idents : Slab Ident) → IsNumbering pid_max (way spaces) (entry_on spaces) (bound_on spaces) (name_at idents) → (o : Option Space) (s : ℕ) → slot spaces s ≡ o → (i : ℕ)
     → id_on spaces s ≡ Some i → 0 < length (way spaces s)
 filled pid_max spaces idents b None s is i e = absurd (let z : None ≡ Some i = sym (ap (λ o. option_map (λ t. t.id) (option_map namespace_of o)) is) ∙ e in cc)
 filled pid_max spaces idents b (Some t) s is i e = (b.bounds s t.ids.pid_max (ap (option_map (λ t. t.ids.pid_max)) is)).1
@@ -29,7 +29,7 @@ filled pid_max spaces idents b (Some t) s is i e = (b.bounds s t.ids.pid_max (ap
 pub returns : goal.returns
 returns c =
     let max = c.self.inside.pid_max in
-    let spaces = c.self.inside.spaces in
+    let spaces = c.self.inside.spaces.items in
     let idents = c.self.inside.idents in
     let b = c.self.invariant.whole.numbering in
     let value = c.args.self.now in
@@ -48,7 +48,7 @@ returns c =
       root = path 0 ∙ b.tree.root;
       own = λ s some. ap (λ l. get_or l 0 0) (path s) ∙ own_first s (way spaces s) (b.tree.head s) (subst (λ (l : List ℕ). 0 < length l) (path s) some);
       around = subst (λ (p : ℕ → List ℕ). (s j : ℕ) → j < length (p s) → p (get_or (p s) j 0) ≡ drop j (p s)) (λ i s. sym (path s) i) (λ s j lt. ties.at-path (way spaces) (way spaces s) (b.tree.paths s) j lt);
-      some = λ s i e. subst (λ (l : List ℕ). 0 < length l) (sym (path s)) (filled max spaces idents b (get spaces s) s refl i (sym (orders.id-is spaces s) ∙ ap (λ b. id_at b s) c.self.view_is ∙ e));
+      some = λ s i e. subst (λ (l : List ℕ). 0 < length l) (sym (path s)) (filled max spaces idents b (slot spaces s) s refl i (sym (orders.id-is spaces s) ∙ ap (λ b. id_at b s) c.self.view_is ∙ e));
       ends = λ s some. ap (λ l. contains l 0) (path s) ∙ b.tree.ends s (subst (λ (l : List ℕ). 0 < length l) (path s) some);
       held = λ s e. drops.held-taken max spaces idents c.self.inside.order value c.self.view_is b c.self.invariant.whole.fallen s (sym (fallen s) ∙ e);
       few = λ s. subst (λ (l : List ℕ). length l ≤ 33) (sym (path s)) (b.tree.few s);

@@ -13,7 +13,7 @@ is_inside-requires c = c.self.invariant.whole.numbering.tree
 
 pub returns-then-not-is_inside : goal.returns-then-not-is_inside
 returns-then-not-is_inside c =
-    let spaces = c.self.inside.spaces in
+    let spaces = c.self.inside.spaces.items in
     let idents = c.self.inside.idents in
     let h = views.home (name_at idents c.args.ident) c.in-Some.own c.in-Some.ensures in
     c.new-then-not-is_inside.ensures
@@ -22,14 +22,14 @@ returns-then-not-is_inside c =
 
 pub overflow_sub-above : goal.overflow_sub-above
 overflow_sub-above c =
-    let few = (sweeps.within (way c.self.inside.spaces) c.self.invariant.whole.numbering.tree c.in-Some.own c.args.space (sym c.if-not-is_inside.ensures)).1 in
+    let few = (sweeps.within (way c.self.inside.spaces.items) c.self.invariant.whole.numbering.tree c.in-Some.own c.args.space (sym c.if-not-is_inside.ensures)).1 in
     let a = c.levels.ensures.value in
     let b = c.levels-2.ensures.value in
     omega (arith, few, a, b)
 
 pub write_numbers_inwards-requires : goal.write_numbers_inwards-requires
 write_numbers_inwards-requires c =
-    let spaces = c.self.inside.spaces in
+    let spaces = c.self.inside.spaces.items in
     let idents = c.self.inside.idents in
     let b = c.self.invariant.whole.numbering in
     let own = c.in-Some.own in
@@ -48,7 +48,7 @@ write_numbers_inwards-requires c =
 
 pub returns : goal.returns
 returns c =
-    let spaces = c.self.inside.spaces in
+    let spaces = c.self.inside.spaces.items in
     let idents = c.self.inside.idents in
     let b = c.self.invariant.whole.numbering in
     let own = c.in-Some.own in

@@ -12,7 +12,7 @@ is_inside-requires c = c.self.invariant.whole.numbering.tree
 pub returns-then-not-is_inside : goal.returns-then-not-is_inside
 returns-then-not-is_inside c =
     let max = c.self.inside.pid_max in
-    let spaces = c.self.inside.spaces in
+    let spaces = c.self.inside.spaces.items in
     let idents = c.self.inside.idents in
     let b = c.self.invariant.whole.numbering in
     let h = views.home (name_at idents c.args.ident) c.in_ok-own.own c.in_ok-own.ensures in
@@ -23,7 +23,7 @@ returns-then-not-is_inside c =
 
 pub overflow_sub-place : goal.overflow_sub-place
 overflow_sub-place c =
-    let few = (sweeps.within (way c.self.inside.spaces) c.self.invariant.whole.numbering.tree c.in_ok-own.own c.args.space (sym c.if-not-is_inside.ensures)).1 in
+    let few = (sweeps.within (way c.self.inside.spaces.items) c.self.invariant.whole.numbering.tree c.in_ok-own.own c.args.space (sym c.if-not-is_inside.ensures)).1 in
     let a = c.levels.ensures.value in
     let b = c.levels-2.ensures.value in
     omega (arith, few, a, b)
@@ -31,7 +31,7 @@ overflow_sub-place c =
 pub number_at-requires : goal.number_at-requires
 number_at-requires c =
     let max = c.self.inside.pid_max in
-    let spaces = c.self.inside.spaces in
+    let spaces = c.self.inside.spaces.items in
     let idents = c.self.inside.idents in
     let b = c.self.invariant.whole.numbering in
     let h = views.home (name_at idents c.args.ident) c.in_ok-own.own c.in_ok-own.ensures in
@@ -42,7 +42,7 @@ number_at-requires c =
 pub returns : goal.returns
 returns c =
     let max = c.self.inside.pid_max in
-    let spaces = c.self.inside.spaces in
+    let spaces = c.self.inside.spaces.items in
     let idents = c.self.inside.idents in
     let b = c.self.invariant.whole.numbering in
     let h = views.home (name_at idents c.args.ident) c.in_ok-own.own c.in_ok-own.ensures in

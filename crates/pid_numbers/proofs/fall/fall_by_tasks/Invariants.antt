@@ -1,4 +1,4 @@
-use Rattle.std.proofs.Common.{◌≡◌, ◌≤◌, ◌-◌, ℕ}
+use Rattle.std.proofs.Common.{length, ◌≡◌, ◌≤◌, ◌-◌, ℕ}
 use Rattle.index_array.specs.Place.{index_count}
 use Rattle.pid_numbers.specs.Slabs.{way, entry_on, bound_on, name_at, namespace_on}
 use Rattle.pid_numbers.proofs.Falling.{IsFalling}
@@ -6,10 +6,11 @@ use Rattle.pid_numbers.proofs.fall.fall_by_tasks.Given as goal
 
 abbrev pub invariant-loop-n : goal.invariant-loop-n
 invariant-loop-n l = record {
-  walk : IsFalling (way l.initial.spaces) (name_at l.idents) l.outer (namespace_on l.initial.spaces) (namespace_on l.spaces) l.from;
-  entries : (s n : ℕ) → entry_on l.spaces s n ≡ entry_on l.initial.spaces s n;
-  bound : (s : ℕ) → bound_on l.spaces s ≡ bound_on l.initial.spaces s;
-  way : (s : ℕ) → way l.spaces s ≡ way l.initial.spaces s;
+  len : length l.spaces.items ≡ length l.initial.spaces.items;
+  walk : IsFalling (way l.initial.spaces.items) (name_at l.idents) l.outer (namespace_on l.initial.spaces.items) (namespace_on l.spaces.items) l.from;
+  entries : (s n : ℕ) → entry_on l.spaces.items s n ≡ entry_on l.initial.spaces.items s n;
+  bound : (s : ℕ) → bound_on l.spaces.items s ≡ bound_on l.initial.spaces.items s;
+  way : (s : ℕ) → way l.spaces.items s ≡ way l.initial.spaces.items s;
   below : l.from ≤ index_count;
 }
 

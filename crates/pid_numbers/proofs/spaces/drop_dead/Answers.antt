@@ -1,21 +1,61 @@
-use Rattle.std.proofs.Common.{◌≡◌, ◌∙◌, sym, ap, Some, is_some, option_map}
-use Rattle.slab.specs.Slab.{get}
-use Rattle.pid_numbers.specs.Slabs.{namespace_of, id_on}
+use Rattle.std.proofs.Common.{◌≡◌, ◌≢◌, ◌<◌, ◌∙◌, ℕ, length, sym, ap, subst, refl, Some, None, [], is_some, option_map, set, true, arith, if◌then◌else◌}
+use Rattle.std.specs.Prelude.{vec_capacity}
+use Rattle.std.proofs.lemmas.List.{length-set}
+use Rattle.pid_numbers.specs.declared.spaces.Space.{Space}
+use Rattle.pid_numbers.specs.Slabs.{slot, way, namespace_of, id_on, dead_on, AreVacant}
 use Rattle.pid_numbers.proofs.Orders as orders
+use Rattle.pid_numbers.proofs.Places as places
+use Rattle.pid_numbers.proofs.Vacancy as vacancy
 use Rattle.pid_numbers.proofs.spaces.drop_dead.Goals as goal
 
 pub returns-then-not-is_dead_at-clause-order : goal.returns-then-not-is_dead_at-clause-order
 returns-then-not-is_dead_at-clause-order c =
-    let spaces = c.args.spaces.now in
-    sym (orders.all-there (id_on spaces) (id_on spaces) c.args.order.now c.requires.listed (λ s. is_some (get spaces s)) (orders.id-there spaces))
+    let spaces = c.args.spaces.now.items in
+    sym (orders.all-there (id_on spaces) (id_on spaces) c.args.order.now c.requires.listed (λ s. is_some (slot spaces s)) (orders.id-there spaces))
 
-pub returns-in-Some-clause-order : goal.returns-in-Some-clause-order
-returns-in-Some-clause-order c =
-    let spaces = c.args.spaces.now in
-    let left = c.try_remove.new.self in
-    let arm = c.in-Some in
-    let at : get spaces c.args.key ≡ Some arm.gone = sym c.try_remove.ensures.value ∙ arm.is in
+pub push_reserved-requires : goal.push_reserved-requires
+push_reserved-requires c =
+    let some = places.dead-there c.args.spaces.now.items c.args.key (sym c.is_dead_at.ensures ∙ c.if-not-is_dead_at.false) in
+    let more = vacancy.room-more c.args.spaces.now.items c.args.vacant.now.items (vec_capacity c.args.vacant.now) c.args.key c.requires.vacant some in
+    omega (arith, more, c.args.vacant.now.ok.0)
+
+pub returns-clause-vacant : goal.returns-clause-vacant
+returns-clause-vacant c =
+    let spaces = c.args.spaces.now.items in
+    let key = c.args.key in
+    let y = c.index_mut-space.result.now in
+    let z : Space = record y { path = c.clear.new.self } in
+    let dead : dead_on spaces key ≡ true = sym c.is_dead_at.ensures ∙ c.if-not-is_dead_at.false in
+    let some = places.dead-there spaces key dead in
+    let gone : slot (set spaces key z) key ≡ None = places.slot-set_same spaces key z (places.way-in spaces key some) ∙ places.shown-none z c.clear.ensures in
+    let v = vacancy.one-more spaces c.args.vacant.now.items (vec_capacity c.args.vacant.now) key c.requires.vacant some (set spaces key z) (length-set spaces key z) gone (λ s m. places.slot-set_other spaces key s z m) in
+    rw (← c.push_reserved.ensures.items, ← c.push_reserved.ensures.capacity) at v
+
+pub returns-clause-here : goal.returns-clause-here
+returns-clause-here c =
+    let spaces = c.args.spaces.now.items in
+    let key = c.args.key in
+    let y = c.index_mut-space.result.now in
+    let z : Space = record y { path = c.clear.new.self } in
+    let dead : dead_on spaces key ≡ true = sym c.is_dead_at.ensures ∙ c.if-not-is_dead_at.false in
+    let some = places.dead-there spaces key dead in
+    let gone : slot (set spaces key z) key ≡ None = places.slot-set_same spaces key z (places.way-in spaces key some) ∙ places.shown-none z c.clear.ensures in
+    gone ∙ sym (ap (λ b. if b then None else slot spaces key) dead)
+
+pub returns-clause-others : goal.returns-clause-others
+returns-clause-others c s differs = places.slot-set_other c.args.spaces.now.items c.args.key s _ differs
+
+pub returns-clause-order : goal.returns-clause-order
+returns-clause-order c =
+    let spaces = c.args.spaces.now.items in
+    let key = c.args.key in
+    let y = c.index_mut-space.result.now in
+    let z : Space = record y { path = c.clear.new.self } in
+    let dead : dead_on spaces key ≡ true = sym c.is_dead_at.ensures ∙ c.if-not-is_dead_at.false in
+    let some = places.dead-there spaces key dead in
+    let gone : slot (set spaces key z) key ≡ None = places.slot-set_same spaces key z (places.way-in spaces key some) ∙ places.shown-none z c.clear.ensures in
+    let at : slot spaces key ≡ Some y = places.there-at spaces key y some c.index_mut-space.ensures.value in
     c.remove.ensures.rest
-    ∙ orders.without-key (id_on spaces) (id_on spaces) c.args.order.now c.requires.listed (λ s. is_some (get left s)) arm.gone.id c.args.key
-    (ap (λ o. option_map (λ t. t.id) (option_map namespace_of o)) at) (ap is_some c.try_remove.ensures.updates.changed)
-    (λ s j m e. ap is_some (c.try_remove.ensures.updates.others s m) ∙ orders.id-there spaces s j e)
+    ∙ orders.without-key (id_on spaces) (id_on spaces) c.args.order.now c.requires.listed (λ s. is_some (slot (set spaces key z) s)) y.id key
+    (ap (λ o. option_map (λ t. t.id) (option_map namespace_of o)) at) (ap is_some gone)
+    (λ s j m e. ap is_some (places.slot-set_other spaces key s z m) ∙ orders.id-there spaces s j e)

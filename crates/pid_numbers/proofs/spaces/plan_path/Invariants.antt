@@ -4,6 +4,6 @@ use Rattle.pid_numbers.proofs.spaces.plan_path.Given as goal
 
 abbrev pub invariant-loop-k : goal.invariant-loop-k
 invariant-loop-k l = record {
-  so_far : l.numbers.items ≡ l.initial.numbers.items ++ map (λ s. unwrap_or (plan_on l.spaces s) 0) (take l.k (way l.spaces l.space));
-  rest : find (λ s. is_none (plan_on l.spaces s)) (drop l.k (way l.spaces l.space)) ≡ find (λ s. is_none (plan_on l.spaces s)) (way l.spaces l.space);
+  so_far : l.numbers.items ≡ l.initial.numbers.items ++ map (λ s. unwrap_or (plan_on l.spaces.items s) 0) (take l.k (way l.spaces.items l.space));
+  rest : find (λ s. is_none (plan_on l.spaces.items s)) (drop l.k (way l.spaces.items l.space)) ≡ find (λ s. is_none (plan_on l.spaces.items s)) (way l.spaces.items l.space);
 }

@@ -4,8 +4,8 @@ use Rattle.pid_numbers.proofs.spaces.release_path.Given as goal
 
 abbrev pub invariant-loop-k : goal.invariant-loop-k
 invariant-loop-k l = record {
-  entries : (s n : ℕ) → touched (drop l.k (way l.initial.spaces l.space)) (drop l.k l.numbers) (λ _. None) (entry_on l.spaces) s n ≡ touched (way l.initial.spaces l.space) l.numbers (λ _. None) (entry_on l.initial.spaces) s n;
-  bound : (s : ℕ) → bound_on l.spaces s ≡ bound_on l.initial.spaces s;
-  way : (s : ℕ) → way l.spaces s ≡ way l.initial.spaces s;
-  namespaces : namespaces_of l.spaces ≡ namespaces_of l.initial.spaces;
+  entries : (s n : ℕ) → touched (drop l.k (way l.initial.spaces.items l.space)) (drop l.k l.numbers) (λ _. None) (entry_on l.spaces.items) s n ≡ touched (way l.initial.spaces.items l.space) l.numbers (λ _. None) (entry_on l.initial.spaces.items) s n;
+  bound : (s : ℕ) → bound_on l.spaces.items s ≡ bound_on l.initial.spaces.items s;
+  way : (s : ℕ) → way l.spaces.items s ≡ way l.initial.spaces.items s;
+  namespaces : namespaces_of l.spaces.items ≡ namespaces_of l.initial.spaces.items;
 }

@@ -1,10 +1,9 @@
 use Rattle.std.proofs.Common.{◌≡◌, ◌≢◌, inl, inr, ℕ, suc, ◌<◌, ◌-◌, ◌+◌, ◌==◌, ◌||◌, List, [], ◌∙◌, refl, sym, ap, subst, arith, get_or, length, take, is_some}
 use Rattle.pid_types.specs.Chains.{contains}
 use Rattle.std.specs.List.{filter}
-use Rattle.slab.specs.Slab.{get}
 use Rattle.std.specs.Option.{option_map_or}
 use Rattle.std.proofs.lemmas.List.{take_all}
-use Rattle.pid_numbers.specs.Slabs.{left_on, id_on, way, AreListed, IsHead, IsDistinct}
+use Rattle.pid_numbers.specs.Slabs.{slot, left_on, id_on, way, AreListed, IsHead, IsDistinct}
 use Rattle.pid_numbers.proofs.Sweeps as sweeps
 use Rattle.pid_numbers.proofs.Orders as orders
 use Rattle.pid_numbers.proofs.spaces.sweep_path.Goals as goal
@@ -16,13 +15,14 @@ not_first ways space n key (inr begins) distinct some lt is = λ e. distinct 0 n
 
 pub loop-k-init : goal.loop-k-init
 loop-k-init c =
-    let spaces = c.args.spaces.now in
+    let spaces = c.args.spaces.now.items in
     let end = c.levels-end.ensures.value in
     record {
       left = λ s. ap (λ p. left_on p spaces s) (take_all (c.levels-end.result - 0) (way spaces c.args.space) (omega (arith, end)));
       walked = λ _. refl;
-      order = sym (orders.all-there (id_on spaces) (id_on spaces) c.args.order.now c.requires.listed (λ s. is_some (get spaces s)) (orders.id-there spaces));
+      order = sym (orders.all-there (id_on spaces) (id_on spaces) c.args.order.now c.requires.listed (λ s. is_some (slot spaces s)) (orders.id-there spaces));
       listed = c.requires.listed;
+      vacant = c.requires.vacant;
     }
 
 pub loop-k-preserved : goal.loop-k-preserved
@@ -32,25 +32,26 @@ loop-k-preserved c =
     let len = c.levels-end.ensures.value in
     let lt = c.loop-k-test.true in
     let space = c.args.space in
-    let path = way c.args.spaces.now space in
+    let path = way c.args.spaces.now.items space in
     let key = c.key_at-key.result in
     let n = end - (k + 1) in
-    let new = c.drop_dead.new.spaces in
-    let same : way c.loop-k.spaces space ≡ path = c.loop-k.invariant.walked lt in
+    let new = c.drop_dead.new.spaces.items in
+    let same : way c.loop-k.spaces.items space ≡ path = c.loop-k.invariant.walked lt in
     let below : n < length path = omega (arith, lt, len) in
     let at : end - 1 - k ≡ n = omega arith in
     let key_is : get_or path n 0 ≡ key = sym (c.key_at-key.ensures ∙ ap (λ p. get_or p (end - 1 - k) 0) same ∙ ap (λ j. get_or path j 0) at) in
     let more : end - k ≡ suc n = omega (arith, lt) in
     let all_is : (s : ℕ) → contains (take (end - k) path) s ≡ (key == s || contains (take n path) s) = λ s. ap (λ j. contains (take j path) s) more ∙ sweeps.contains_take path n s below ∙ ap (λ j. j == s || contains (take n path) s) key_is in
     record {
-      left = λ s. sweeps.left-more key (take n path) (take (end - k) path) all_is c.loop-k.spaces new c.drop_dead.ensures.here c.drop_dead.ensures.others s ∙ c.loop-k.invariant.left s;
-      walked = λ again. ap (λ o. option_map_or (λ t. t.path.items) o []) (c.drop_dead.ensures.others space (not_first (way c.args.spaces.now) space n key c.requires.head c.requires.distinct (omega (arith, again)) below key_is)) ∙ same;
-      order = c.drop_dead.ensures.order ∙ ap (filter (λ p. is_some (get new p.1))) c.loop-k.invariant.order
-          ∙ orders.filter-filter (λ p. is_some (get new p.1)) (λ p. is_some (get c.loop-k.spaces p.1)) (orders.there-before key c.loop-k.spaces new c.drop_dead.ensures.here c.drop_dead.ensures.others) c.args.order.now;
-      listed = subst (AreListed (id_on new)) (sym c.drop_dead.ensures.order) (orders.listed-dropped key c.loop-k.spaces new c.drop_dead.ensures.here c.drop_dead.ensures.others c.loop-k.order c.loop-k.invariant.listed);
+      left = λ s. sweeps.left-more key (take n path) (take (end - k) path) all_is c.loop-k.spaces.items new c.drop_dead.ensures.here c.drop_dead.ensures.others s ∙ c.loop-k.invariant.left s;
+      walked = λ again. ap (λ o. option_map_or (λ t. t.path.items) o []) (c.drop_dead.ensures.others space (not_first (way c.args.spaces.now.items) space n key c.requires.head c.requires.distinct (omega (arith, again)) below key_is)) ∙ same;
+      order = c.drop_dead.ensures.order ∙ ap (filter (λ p. is_some (slot new p.1))) c.loop-k.invariant.order
+          ∙ orders.filter-filter (λ p. is_some (slot new p.1)) (λ p. is_some (slot c.loop-k.spaces.items p.1)) (orders.there-before key c.loop-k.spaces.items new c.drop_dead.ensures.here c.drop_dead.ensures.others) c.args.order.now;
+      listed = subst (AreListed (id_on new)) (sym c.drop_dead.ensures.order) (orders.listed-dropped key c.loop-k.spaces.items new c.drop_dead.ensures.here c.drop_dead.ensures.others c.loop-k.order c.loop-k.invariant.listed);
+      vacant = c.drop_dead.ensures.vacant;
     }
 
 pub returns-clause-left : goal.returns-clause-left
 returns-clause-left c s =
     let none : c.levels-end.result - c.loop-k.k ≡ 0 = omega (arith, c.loop-k-test.false) in
-    sym (ap (λ j. left_on (take j (way c.args.spaces.now c.args.space)) c.loop-k.spaces s) none) ∙ c.loop-k.invariant.left s
+    sym (ap (λ j. left_on (take j (way c.args.spaces.now.items c.args.space)) c.loop-k.spaces.items s) none) ∙ c.loop-k.invariant.left s
