@@ -1,7 +1,7 @@
 -- The places of namespaces: what is seen of one that is written.
-use Rattle.std.proofs.Common.{inl, inr, zero, suc, ◌+◌, ◌≡◌, ◌≢◌, ℕ, ◌<◌, ◌≤◌, ◌==◌, ◌&&◌, ◌||◌, ◌++◌, List, [], ◌∷◌, length, map, get_or, set, Option, Some, None, if◌then◌else◌, Bool, true, false, refl, sym, ap, ◌∙◌, arith, option_map, option_and_then}
+use Rattle.std.proofs.Common.{inl, inr, zero, suc, ◌≡◌, ◌≢◌, ℕ, ◌<◌, ◌≤◌, ◌==◌, ◌&&◌, ◌||◌, List, [], ◌∷◌, length, map, get_or, set, Option, Some, None, if◌then◌else◌, Bool, true, false, refl, sym, ap, ◌∙◌, arith, option_map, option_and_then}
 use Rattle.std.specs.Option.{option_map_or}
-use Rattle.std.proofs.lemmas.List.{get_or_past, get_or_default, get_or-set_same, get_or-set_other, length-set, length-map, map-set}
+use Rattle.std.proofs.lemmas.List.{get_or_past, get_or-set_same, get_or-set_other, length-map, map-set}
 use Rattle.std.proofs.Math.Seq.{map-set_same}
 use Rattle.std.proofs.lemmas.Bool.{cases_lt, cases_eq}
 use Rattle.std.proofs.lemmas.Bool.Decides.{nat_tests}

@@ -70,7 +70,7 @@ pub(crate) fn levels(spaces: &Vec<Space>, space: SpaceKey) -> usize
     ensures value { result ≡ length (way spaces.now.items space) }
     ensures few { result ≤ deepest_space + 1 }
 {
-    match place(spaces, space) {
+    match spaces.get(space as usize) {
         Some(s) => s.path.len(),
         None => 0,
     }
@@ -177,7 +177,9 @@ pub(crate) fn give_at(spaces: &mut Vec<Space>, key: SpaceKey, n: Pid, value: Ide
     ensures namespace { namespace_on spaces.new.items key ≡ option_map (stepped n) (namespace_on spaces.old.items key) }
     ensures len { length spaces.new.items ≡ length spaces.old.items }
 {
-    spaces[key as usize].ids.commit_marked(n, value, [true, false, false]);
+    spaces[key as usize]
+        .ids
+        .commit_marked(n, value, [true, false, false]);
 }
 
 /// Gives the planned numbers along a path to a task.

@@ -1,4 +1,4 @@
-use Rattle.std.proofs.Common.{◌≡◌, ◌<◌, ◌||◌, true, refl, sym, ap, ◌∙◌, length, option_map, option_and_then, Some, []}
+use Rattle.std.proofs.Common.{◌≡◌, ◌||◌, true, refl, sym, ap, ◌∙◌, option_map, option_and_then, Some, []}
 use Rattle.std.specs.Option.{option_map_or}
 use Rattle.index_array.specs.Place.{entry_at}
 use Rattle.pid_types.specs.Chains.{contains}

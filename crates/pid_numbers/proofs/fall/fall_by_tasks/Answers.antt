@@ -1,4 +1,4 @@
-use Rattle.std.proofs.Common.{◌≡◌, ◌∙◌, ◌<◌, length, subst, ℕ, List, [], Option, Some, None, option_map, option_and_then, refl, sym, ap, arith}
+use Rattle.std.proofs.Common.{◌≡◌, ◌∙◌, length, ℕ, List, [], Option, Some, None, option_map, option_and_then, refl, sym, ap, arith}
 use Rattle.std.specs.Option.{option_map_or}
 use Rattle.index_array.specs.Place.{Entry, is_marked}
 use Rattle.pid_numbers.specs.declared.spaces.Space.{Space}

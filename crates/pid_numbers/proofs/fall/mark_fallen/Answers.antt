@@ -1,10 +1,9 @@
-use Rattle.std.proofs.Common.{◌≡◌, ◌<◌, true, refl, sym, ap, ◌∙◌, length, option_map, option_and_then, Some, []}
+use Rattle.std.proofs.Common.{true, refl, sym, ap, ◌∙◌, option_map, option_and_then, []}
 use Rattle.std.specs.Option.{option_map_or}
 use Rattle.index_array.specs.Place.{entry_at}
-use Rattle.pid_types.specs.Chains.{contains}
 use Rattle.pid_numbers.specs.declared.spaces.Space.{Space}
 use Rattle.pid_numbers.specs.Numbering.{felled}
-use Rattle.pid_numbers.specs.Slabs.{namespace_of, way}
+use Rattle.pid_numbers.specs.Slabs.{namespace_of}
 use Rattle.pid_numbers.proofs.Places as places
 use Rattle.pid_numbers.proofs.fall.mark_fallen.Goals as goal
 

@@ -1,8 +1,8 @@
-use Rattle.std.proofs.Common.{◌≡◌, ◌≢◌, ◌<◌, ◌∙◌, ℕ, length, sym, ap, subst, refl, Some, None, [], is_some, option_map, set, true, arith, if◌then◌else◌}
+use Rattle.std.proofs.Common.{◌≡◌, ◌∙◌, sym, ap, Some, None, is_some, option_map, set, true, arith, if◌then◌else◌}
 use Rattle.std.specs.Prelude.{vec_capacity}
 use Rattle.std.proofs.lemmas.List.{length-set}
 use Rattle.pid_numbers.specs.declared.spaces.Space.{Space}
-use Rattle.pid_numbers.specs.Slabs.{slot, way, namespace_of, id_on, dead_on, AreVacant}
+use Rattle.pid_numbers.specs.Slabs.{slot, namespace_of, id_on, dead_on}
 use Rattle.pid_numbers.proofs.Orders as orders
 use Rattle.pid_numbers.proofs.Places as places
 use Rattle.pid_numbers.proofs.Vacancy as vacancy

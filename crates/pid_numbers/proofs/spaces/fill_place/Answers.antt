@@ -1,4 +1,4 @@
-use Rattle.std.proofs.Common.{◌≡◌, ◌≢◌, ◌<◌, ◌++◌, ◌∷◌, ℕ, length, Some, [], refl, sym, ap, ◌∙◌, subst, set}
+use Rattle.std.proofs.Common.{◌≡◌, ◌++◌, ◌∷◌, [], sym, ap, ◌∙◌, subst, set}
 use Rattle.std.specs.Prelude.{vec_capacity}
 use Rattle.pid_numbers.specs.Slabs.{slot, AreVacant}
 use Rattle.pid_numbers.proofs.Places as places

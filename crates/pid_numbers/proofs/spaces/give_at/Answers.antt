@@ -1,7 +1,6 @@
-use Rattle.std.proofs.Common.{◌≡◌, refl, sym, ap, ◌∙◌, option_map, option_and_then, Some, []}
+use Rattle.std.proofs.Common.{refl, sym, ap, ◌∙◌, option_map, option_and_then, Some, []}
 use Rattle.std.specs.Option.{option_map_or}
-use Rattle.index_array.specs.Place.{entry_at, is_prepared}
-use Rattle.cyclic_ids.specs.Ids.{planned}
+use Rattle.index_array.specs.Place.{entry_at}
 use Rattle.pid_numbers.specs.declared.spaces.Space.{Space}
 use Rattle.pid_numbers.specs.Slabs.{namespace_of, stepped}
 use Rattle.pid_numbers.proofs.Places as places

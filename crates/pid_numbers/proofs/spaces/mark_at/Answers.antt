@@ -1,4 +1,4 @@
-use Rattle.std.proofs.Common.{◌≡◌, true, false, refl, sym, ap, ◌∙◌, option_map, option_and_then, Some, []}
+use Rattle.std.proofs.Common.{true, false, refl, sym, ap, ◌∙◌, option_map, option_and_then, Some, []}
 use Rattle.std.specs.Option.{option_map_or}
 use Rattle.index_array.specs.Place.{entry_at, with_mark}
 use Rattle.pid_numbers.specs.declared.spaces.Space.{Space}
@@ -11,7 +11,7 @@ returns-then-on-clause-here c =
     let y = c.index_mut.result.now in
     let z : Space = record y { ids = c.set_mark.new.self } in
     let w = places.written c.args.spaces.now.items c.args.key y z c.requires c.index_mut.ensures.value refl in
-    ap (option_and_then (λ t. entry_at t.ids.places c.args.n)) w.after ∙ c.set_mark.ensures.writes.here 
+    ap (option_and_then (λ t. entry_at t.ids.places c.args.n)) w.after ∙ c.set_mark.ensures.writes.here
     ∙ ap (λ k. with_mark k true (entry_at y.ids.places c.args.n)) c.mark-m.ensures.value ∙ ap (λ b. with_mark (mark_of c.args.kind) b (entry_at y.ids.places c.args.n)) (sym c.if-on.true)
     ∙ sym (ap (λ o. with_mark (mark_of c.args.kind) c.args.on (option_and_then (λ t. entry_at t.ids.places c.args.n) o)) w.before)
 
@@ -51,7 +51,7 @@ returns-else-on-clause-here c =
     let y = c.index_mut.result.now in
     let z : Space = record y { ids = c.clear_mark.new.self } in
     let w = places.written c.args.spaces.now.items c.args.key y z c.requires c.index_mut.ensures.value refl in
-    ap (option_and_then (λ t. entry_at t.ids.places c.args.n)) w.after ∙ c.clear_mark.ensures.writes.here 
+    ap (option_and_then (λ t. entry_at t.ids.places c.args.n)) w.after ∙ c.clear_mark.ensures.writes.here
     ∙ ap (λ k. with_mark k false (entry_at y.ids.places c.args.n)) c.mark-m.ensures.value ∙ ap (λ b. with_mark (mark_of c.args.kind) b (entry_at y.ids.places c.args.n)) (sym c.if-on.false)
     ∙ sym (ap (λ o. with_mark (mark_of c.args.kind) c.args.on (option_and_then (λ t. entry_at t.ids.places c.args.n) o)) w.before)
 

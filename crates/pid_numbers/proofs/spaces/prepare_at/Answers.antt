@@ -1,11 +1,10 @@
-use Rattle.std.proofs.Common.{◌≡◌, refl, true, OnOk, subst, sym, ap, ◌∙◌, option_map, option_and_then, Some, None, false, []}
+use Rattle.std.proofs.Common.{◌≡◌, refl, true, OnOk, subst, sym, ap, ◌∙◌, option_map, option_and_then, Some, false, []}
 use Rattle.std.specs.Option.{option_map_or}
 use Rattle.index_array.specs.Place.{entry_at, is_prepared}
 use Rattle.cyclic_ids.specs.Ids.{planned}
 use Rattle.pid_numbers.specs.declared.spaces.Space.{Space}
-use Rattle.pid_numbers.specs.Slabs.{namespace_of, namespaces_of, slot, way, entry_on, plan_on, bound_on, ready}
+use Rattle.pid_numbers.specs.Slabs.{namespace_of}
 use Rattle.pid_numbers.proofs.Views as views
-use Rattle.pid_numbers.proofs.Ties as ties
 use Rattle.pid_numbers.proofs.Places as places
 use Rattle.pid_numbers.proofs.spaces.prepare_at.Goals as goal
 

@@ -1,8 +1,8 @@
-use Rattle.std.proofs.Common.{◌≡◌, refl, sym, ap, ◌∙◌, option_map, option_and_then, Some, []}
+use Rattle.std.proofs.Common.{refl, sym, ap, ◌∙◌, option_map, option_and_then, Some, []}
 use Rattle.std.specs.Option.{option_map_or}
-use Rattle.index_array.specs.Place.{entry_at, with_mark}
+use Rattle.index_array.specs.Place.{entry_at}
 use Rattle.pid_numbers.specs.declared.spaces.Space.{Space}
-use Rattle.pid_numbers.specs.Slabs.{namespace_of, mark_of}
+use Rattle.pid_numbers.specs.Slabs.{namespace_of}
 use Rattle.pid_numbers.proofs.Places as places
 use Rattle.pid_numbers.proofs.spaces.release_at.Goals as goal
 

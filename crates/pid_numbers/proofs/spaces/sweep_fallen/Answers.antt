@@ -1,5 +1,5 @@
-use Rattle.std.proofs.Common.{◌≡◌, ◌∙◌, sym, ap, is_some, true, Some, None, option_map, if◌then◌else◌, []}
-use Rattle.pid_numbers.specs.Slabs.{slot, left_on, id_on, way, fell, dead_on, goes}
+use Rattle.std.proofs.Common.{◌≡◌, ◌∙◌, sym, ap, is_some, true, None, if◌then◌else◌, []}
+use Rattle.pid_numbers.specs.Slabs.{slot, left_on, id_on, way, fell}
 use Rattle.pid_numbers.proofs.Orders as orders
 use Rattle.pid_numbers.proofs.Drops.{dead_fell}
 use Rattle.pid_numbers.proofs.spaces.sweep_fallen.Goals as goal
