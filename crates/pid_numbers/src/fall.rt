@@ -1,7 +1,8 @@
 //! The fall of a namespace with all inside it (`pid_namespaces(7)`).
 
 ghost use Rattle.std.specs.Prelude.{◌≡◌, ◌≢◌, ◌<◌, ℕ, length, option_map, option_and_then};
-ghost use Rattle.pid_numbers.specs.Slabs.{slot, id_on, AreListed, LeadsInside, IsTree, way, entry_on, leads, home_at, namespace_on, bound_on};
+ghost use Rattle.pid_numbers.specs.Slabs.{slot, id_on, AreListed, LeadsInside, IsTree, way, entry_on, leads, home_at};
+ghost use Rattle.pid_numbers.specs.Slabs.{namespace_on, bound_on};
 ghost use Rattle.pid_numbers.specs.Numbering.{fallen_within, felled};
 
 use crate::names::{Ident, home_of};
@@ -18,7 +19,8 @@ const FEW: usize = 64;
 /// The namespace has fallen, if it is the other one or inside it.
 fn fall_at(spaces: &mut Vec<Space>, key: SpaceKey, outer: SpaceKey)
     requires { IsTree (way spaces.old.items) }
-    ensures here { namespace_on spaces.new.items key ≡ option_map (fallen_within outer) (namespace_on spaces.old.items key) }
+    ensures here { namespace_on spaces.new.items key
+        ≡ option_map (fallen_within outer) (namespace_on spaces.old.items key) }
     ensures others { (s : ℕ) → s ≢ key → slot spaces.new.items s ≡ slot spaces.old.items s }
     ensures entries { (s n : ℕ) → entry_on spaces.new.items s n ≡ entry_on spaces.old.items s n }
     ensures bound { (s : ℕ) → bound_on spaces.new.items s ≡ bound_on spaces.old.items s }
@@ -35,7 +37,8 @@ fn fall_at(spaces: &mut Vec<Space>, key: SpaceKey, outer: SpaceKey)
 fn fall_among(spaces: &mut Vec<Space>, order: &RisingIds, outer: SpaceKey)
     requires tree { IsTree (way spaces.old.items) }
     requires listed { AreListed (id_on spaces.old.items) order.now }
-    ensures namespaces { (s : ℕ) → namespace_on spaces.new.items s ≡ option_map (fallen_within outer) (namespace_on spaces.old.items s) }
+    ensures namespaces { (s : ℕ) → namespace_on spaces.new.items s
+        ≡ option_map (fallen_within outer) (namespace_on spaces.old.items s) }
     ensures entries { (s n : ℕ) → entry_on spaces.new.items s n ≡ entry_on spaces.old.items s n }
     ensures bound { (s : ℕ) → bound_on spaces.new.items s ≡ bound_on spaces.old.items s }
     ensures way { (s : ℕ) → way spaces.new.items s ≡ way spaces.old.items s }
@@ -71,11 +74,12 @@ fn mark_fallen(spaces: &mut Vec<Space>, key: SpaceKey)
     spaces[key as usize].fallen = true;
 }
 
-/// The namespace and all inside it have fallen. It costs a search for each task that has a number in it, and looks at no
-/// namespace but those inside.
+/// The namespace and all inside it have fallen. It costs a search for each task that has a number in it, and looks at
+/// no namespace but those inside.
 fn fall_by_tasks(spaces: &mut Vec<Space>, idents: &Slab<Ident>, outer: SpaceKey)
     requires { LeadsInside spaces.old.items idents.now outer }
-    ensures namespaces { (s : ℕ) → namespace_on spaces.new.items s ≡ option_map (fallen_within outer) (namespace_on spaces.old.items s) }
+    ensures namespaces { (s : ℕ) → namespace_on spaces.new.items s
+        ≡ option_map (fallen_within outer) (namespace_on spaces.old.items s) }
     ensures entries { (s n : ℕ) → entry_on spaces.new.items s n ≡ entry_on spaces.old.items s n }
     ensures bound { (s : ℕ) → bound_on spaces.new.items s ≡ bound_on spaces.old.items s }
     ensures way { (s : ℕ) → way spaces.new.items s ≡ way spaces.old.items s }
@@ -91,8 +95,8 @@ fn fall_by_tasks(spaces: &mut Vec<Space>, idents: &Slab<Ident>, outer: SpaceKey)
     }
 }
 
-/// The namespace and all inside it have fallen. It costs a step for each namespace that is there, if they are few, or else
-/// a search for each task that has a number in the one that falls.
+/// The namespace and all inside it have fallen. It costs a step for each namespace that is there, if they are few, or
+/// else a search for each task that has a number in the one that falls.
 pub(crate) fn fall_all(
     spaces: &mut Vec<Space>,
     idents: &Slab<Ident>,
@@ -102,7 +106,8 @@ pub(crate) fn fall_all(
     requires tree { IsTree (way spaces.old.items) }
     requires listed { AreListed (id_on spaces.old.items) order.now }
     requires leads { LeadsInside spaces.old.items idents.now outer }
-    ensures namespaces { (s : ℕ) → namespace_on spaces.new.items s ≡ option_map (fallen_within outer) (namespace_on spaces.old.items s) }
+    ensures namespaces { (s : ℕ) → namespace_on spaces.new.items s
+        ≡ option_map (fallen_within outer) (namespace_on spaces.old.items s) }
     ensures entries { (s n : ℕ) → entry_on spaces.new.items s n ≡ entry_on spaces.old.items s n }
     ensures bound { (s : ℕ) → bound_on spaces.new.items s ≡ bound_on spaces.old.items s }
     ensures way { (s : ℕ) → way spaces.new.items s ≡ way spaces.old.items s }

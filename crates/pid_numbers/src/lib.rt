@@ -8,10 +8,16 @@
 //! an identifier that is gone may be given again.
 #![tactic(auto)]
 
-ghost use Rattle.std.specs.Prelude.{◌≡◌, ◌≢◌, ℕ, ◌+◌, ◌<◌, ◌≤◌, ◌^◌, length, map, Some, None, IsSome, IsTrue, IfOk, IfErr, IfSome, OnOk, OnErr, MatchOption, option_map, find, is_none, unwrap_or, slice_index_or, is_some, reverse, true, false, [], ◌∷◌, ◌++◌, drop, nat_lt, if◌then◌else◌};
+ghost use Rattle.std.specs.Prelude.{◌≡◌, ◌≢◌, ℕ, ◌+◌, ◌<◌, ◌≤◌, ◌^◌, length, map, Some, None, IsSome, IsTrue, IfOk};
+ghost use Rattle.std.specs.Prelude.{IfErr, IfSome, OnOk, OnErr, MatchOption, option_map, find, is_none, unwrap_or};
+ghost use Rattle.std.specs.Prelude.{slice_index_or, is_some, reverse, true, false, [], ◌∷◌, ◌++◌, drop, nat_lt};
+ghost use Rattle.std.specs.Prelude.{if◌then◌else◌};
 ghost use Rattle.std.specs.List.{AllByRecursion, filter};
 ghost use Rattle.id_slab.specs.Ids.{key_of, AreBelow, AreRising};
-ghost use Rattle.pid_numbers.specs.Numbering.{Identifier, is_there, id_at, namespace_at, identifier_at, number_of, path_at, draw_in, moved, more, less, left_of, uses, is_used, is_used_as, swept_at, new_namespace, new_identifier, levels_of, fallen_within, taken_in, has_fallen_at, HasOwnTask, IsNextUsed, IsPlanFault};
+ghost use Rattle.pid_numbers.specs.Numbering.{Identifier, is_there, id_at, namespace_at, identifier_at, number_of};
+ghost use Rattle.pid_numbers.specs.Numbering.{path_at, draw_in, moved, more, less, left_of, uses, is_used, is_used_as};
+ghost use Rattle.pid_numbers.specs.Numbering.{swept_at, new_namespace, new_identifier, levels_of, fallen_within};
+ghost use Rattle.pid_numbers.specs.Numbering.{taken_in, has_fallen_at, HasOwnTask, IsNextUsed, IsPlanFault};
 ghost use Rattle.pid_types.specs.Bounds.{deepest_space};
 ghost use Rattle.pid_types.specs.Chains.{contains};
 ghost use Rattle.std.specs.Option.{option_map_or};
@@ -131,7 +137,8 @@ impl Numbers {
     /// search in the namespace's tree of numbers.
     #[inline(always)]
     pub fn find(&self, space: SpaceKey, n: Pid) -> Option<IdentKey>
-        ensures { MatchOption result ((i : ℕ) → number_of self.now i space ≢ Some n) (λ i. number_of self.now i space ≡ Some n) }
+        ensures { MatchOption result ((i : ℕ) → number_of self.now i space ≢ Some n)
+            (λ i. number_of self.now i space ≡ Some n) }
     {
         look(&self.spaces, space, n)
     }
@@ -145,16 +152,20 @@ impl Numbers {
     pub fn laws(&self)
         ensures distinct { (i j s n : ℕ) → number_of self.now i s ≡ Some n → number_of self.now j s ≡ Some n → i ≡ j }
         ensures range { (i s n : ℕ) → number_of self.now i s ≡ Some n → (0 < n) × (n < self.now.pid_max) }
-        ensures full { (i : ℕ) (u : Identifier) → identifier_at self.now i ≡ Some u → (0 < length u.numbers) × (length u.numbers ≡ length (path_at self.now u.space)) }
+        ensures full { (i : ℕ) (u : Identifier) → identifier_at self.now i ≡ Some u
+            → (0 < length u.numbers) × (length u.numbers ≡ length (path_at self.now u.space)) }
         ensures good { HasGoodPidMax self.now.pid_max }
         ensures used { (i : ℕ) (u : Identifier) → identifier_at self.now i ≡ Some u → is_used u ≡ true }
         ensures root { path_at self.now 0 ≡ 0 ∷ [] }
         ensures own { (s : ℕ) → 0 < length (path_at self.now s) → slice_index_or (path_at self.now s) 0 0 ≡ s }
-        ensures around { (s j : ℕ) → j < length (path_at self.now s) → path_at self.now (slice_index_or (path_at self.now s) j 0) ≡ drop j (path_at self.now s) }
+        ensures around { (s j : ℕ) → j < length (path_at self.now s)
+            → path_at self.now (slice_index_or (path_at self.now s) j 0) ≡ drop j (path_at self.now s) }
         ensures few { (s : ℕ) → length (path_at self.now s) ≤ deepest_space + 1 }
         ensures some { (s i : ℕ) → id_at self.now s ≡ Some i → 0 < length (path_at self.now s) }
         ensures ends { (s : ℕ) → 0 < length (path_at self.now s) → contains (path_at self.now s) 0 ≡ true }
-        ensures fallen { (s j : ℕ) → j < length (path_at self.now s) → has_fallen_at self.now (slice_index_or (path_at self.now s) j 0) ≡ true → has_fallen_at self.now s ≡ true }
+        ensures fallen { (s j : ℕ) → j < length (path_at self.now s)
+            → has_fallen_at self.now (slice_index_or (path_at self.now s) j 0) ≡ true
+            → has_fallen_at self.now s ≡ true }
         ensures held { (s : ℕ) → has_fallen_at self.now s ≡ true → 0 < length (taken_in self.now s) }
         ensures ids { (s t i : ℕ) → id_at self.now s ≡ Some i → id_at self.now t ≡ Some i → s ≡ t }
         ensures listed { (s i : ℕ) → id_at self.now s ≡ Some i → key_of self.now.order i ≡ Some s }
@@ -224,7 +235,8 @@ impl Numbers {
 
     /// The namespace that the one with the key is in; none for the root.
     pub fn parent(&self, space: SpaceKey) -> Option<SpaceKey>
-        ensures { result ≡ if nat_lt 1 (length (path_at self.now space)) then Some (slice_index_or (path_at self.now space) 1 0) else None }
+        ensures { result ≡ if nat_lt 1 (length (path_at self.now space)) then Some
+            (slice_index_or (path_at self.now space) 1 0) else None }
     {
         if levels(&self.spaces, space) > 1 {
             Some(key_at(&self.spaces, space, 1))
@@ -284,8 +296,8 @@ impl Numbers {
         numbers
     }
 
-    /// Writes the identifier's name over another: the id of its namespace, and its numbers, the root's first. It costs a few
-    /// reads and a step for each level.
+    /// Writes the identifier's name over another: the id of its namespace, and its numbers, the root's first. It costs
+    /// a few reads and a step for each level.
     #[inline(always)]
     pub fn write_name(&self, ident: IdentKey, name: &mut Name)
         requires { IsSome (identifier_at self.now ident) }
@@ -369,7 +381,9 @@ impl Numbers {
         ensures fresh { IfOk result (λ i. identifier_at self.old i ≡ None) }
         ensures named { IfOk result (λ i. identifier_at self.new i ≡ Some (new_identifier space numbers.now)) }
         ensures others { IfOk result (λ i. (j : ℕ) → j ≢ i → identifier_at self.new j ≡ identifier_at self.old j) }
-        ensures namespaces { OnOk result ((s : ℕ) → namespace_at self.new s ≡ option_map (moved (path_at self.old space) numbers.now s) (namespace_at self.old s)) }
+        ensures namespaces { OnOk result ((s : ℕ)
+            → namespace_at self.new s ≡ option_map (moved (path_at self.old space) numbers.now s)
+            (namespace_at self.old s)) }
         ensures order { self.new.order ≡ self.old.order }
         ensures err { OnErr result (self.new ≡ self.old) }
         ensures pid_max { self.new.pid_max ≡ self.old.pid_max }
@@ -399,7 +413,8 @@ impl Numbers {
         parent: SpaceKey,
         numbers: &mut ArrayVec<Pid, LEVELS>,
     ) -> Result<(), PlanFault>
-        ensures ok { OnOk result ((length (path_at self.now parent) ≤ deepest_space) × (find (λ s. is_none (draw_in self.now s)) (path_at self.now parent) ≡ None)
+        ensures ok { OnOk result ((length (path_at self.now parent) ≤ deepest_space)
+            × (find (λ s. is_none (draw_in self.now s)) (path_at self.now parent) ≡ None)
             × (numbers.new.items ≡ 1 ∷ map (λ s. unwrap_or (draw_in self.now s) 0) (path_at self.now parent))) }
         ensures err { IfErr result (λ fault. IsPlanFault self.now parent fault) }
     {
@@ -416,7 +431,8 @@ impl Numbers {
 
     /// The numbers of [`plan_new_into`](Numbers::plan_new_into) in a list of their own, of 33 places.
     pub fn plan_new(&self, parent: SpaceKey) -> Result<ArrayVec<Pid, LEVELS>, PlanFault>
-        ensures ok { IfOk result (λ numbers. (length (path_at self.now parent) ≤ deepest_space) × (find (λ s. is_none (draw_in self.now s)) (path_at self.now parent) ≡ None)
+        ensures ok { IfOk result (λ numbers. (length (path_at self.now parent) ≤ deepest_space)
+            × (find (λ s. is_none (draw_in self.now s)) (path_at self.now parent) ≡ None)
             × (numbers.items ≡ 1 ∷ map (λ s. unwrap_or (draw_in self.now s) 0) (path_at self.now parent))) }
         ensures err { IfErr result (λ fault. IsPlanFault self.now parent fault) }
     {
@@ -442,11 +458,16 @@ impl Numbers {
         requires all { find (λ s. is_none (draw_in self.old s)) (path_at self.old parent) ≡ None }
         requires planned { numbers.now ≡ 1 ∷ map (λ s. unwrap_or (draw_in self.old s) 0) (path_at self.old parent) }
         ensures key { IfOk result (λ keys. keys.0 ≡ self.old.next) }
-        ensures fresh { IfOk result (λ keys. (identifier_at self.old keys.0 ≡ None) × (namespace_at self.old keys.1 ≡ None)) }
+        ensures fresh { IfOk result (λ keys. (identifier_at self.old keys.0 ≡ None)
+            × (namespace_at self.old keys.1 ≡ None)) }
         ensures named { IfOk result (λ keys. identifier_at self.new keys.0 ≡ Some (new_identifier keys.1 numbers.now)) }
-        ensures made { IfOk result (λ keys. namespace_at self.new keys.1 ≡ Some (record (new_namespace id (keys.1 ∷ path_at self.old parent)) { cursor = 2 })) }
-        ensures others { IfOk result (λ keys. (j : ℕ) → j ≢ keys.0 → identifier_at self.new j ≡ identifier_at self.old j) }
-        ensures namespaces { IfOk result (λ keys. (s : ℕ) → s ≢ keys.1 → namespace_at self.new s ≡ option_map (moved (path_at self.old parent) (drop 1 numbers.now) s) (namespace_at self.old s)) }
+        ensures made { IfOk result (λ keys. namespace_at self.new keys.1
+            ≡ Some (record (new_namespace id (keys.1 ∷ path_at self.old parent)) { cursor = 2 })) }
+        ensures others { IfOk result (λ keys. (j : ℕ) → j ≢ keys.0
+            → identifier_at self.new j ≡ identifier_at self.old j) }
+        ensures namespaces { IfOk result (λ keys. (s : ℕ) → s ≢ keys.1
+            → namespace_at self.new s ≡ option_map (moved (path_at self.old parent) (drop 1 numbers.now) s)
+            (namespace_at self.old s)) }
         ensures order { IfOk result (λ keys. self.new.order ≡ self.old.order ++ (id, keys.1) ∷ []) }
         ensures err { OnErr result (self.new ≡ self.old) }
         ensures pid_max { self.new.pid_max ≡ self.old.pid_max }
@@ -482,7 +503,8 @@ impl Numbers {
         requires homes { (s : ℕ) → contains (path_at self.old s) space ≡ true → has_fallen_at self.old s ≡ false
             → HasOwnTask (identifier_at self.old) s }
         ensures names { self.new.names ≡ self.old.names }
-        ensures namespaces { (s : ℕ) → namespace_at self.new s ≡ option_map (fallen_within space) (namespace_at self.old s) }
+        ensures namespaces { (s : ℕ) → namespace_at self.new s
+            ≡ option_map (fallen_within space) (namespace_at self.old s) }
         ensures order { self.new.order ≡ self.old.order }
         ensures pid_max { self.new.pid_max ≡ self.old.pid_max }
     {
@@ -494,7 +516,8 @@ impl Numbers {
     pub fn add_use(&mut self, ident: IdentKey, kind: Kind)
         requires there { IsSome (identifier_at self.old ident) }
         requires few { IfSome (identifier_at self.old ident) (λ u. uses kind u + 1 < 2 ^ 32) }
-        ensures here { (u : Identifier) → identifier_at self.old ident ≡ Some u → identifier_at self.new ident ≡ Some (more kind u) }
+        ensures here { (u : Identifier) → identifier_at self.old ident ≡ Some u
+            → identifier_at self.new ident ≡ Some (more kind u) }
         ensures others { (j : ℕ) → j ≢ ident → identifier_at self.new j ≡ identifier_at self.old j }
         ensures namespaces { self.new.namespaces ≡ self.old.namespaces }
         ensures order { self.new.order ≡ self.old.order }
@@ -514,9 +537,11 @@ impl Numbers {
     #[inline(always)]
     pub fn drop_use(&mut self, ident: IdentKey, kind: Kind)
         requires { is_used_as kind (identifier_at self.old ident) ≡ true }
-        ensures here { (u : Identifier) → identifier_at self.old ident ≡ Some u → identifier_at self.new ident ≡ left_of (less kind u) }
+        ensures here { (u : Identifier) → identifier_at self.old ident ≡ Some u
+            → identifier_at self.new ident ≡ left_of (less kind u) }
         ensures others { (j : ℕ) → j ≢ ident → identifier_at self.new j ≡ identifier_at self.old j }
-        ensures namespaces { (s : ℕ) → namespace_at self.new s ≡ swept_at (record self.old { names = self.new.names }) s }
+        ensures namespaces { (s : ℕ) → namespace_at self.new s
+            ≡ swept_at (record self.old { names = self.new.names }) s }
         ensures order { self.new.order ≡ filter (λ p. is_there self.new p.1) self.old.order }
         ensures pid_max { self.new.pid_max ≡ self.old.pid_max }
     {

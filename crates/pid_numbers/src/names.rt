@@ -1,10 +1,12 @@
 //! Identifiers and their uses.
 
-ghost use Rattle.std.specs.Prelude.{◌≡◌, ◌≢◌, ℕ, ◌+◌, ◌<◌, ◌≤◌, [], reverse, take, Some, IsSome, IfSome, true, ◌^◌, length, option_map, slice_index_or};
+ghost use Rattle.std.specs.Prelude.{◌≡◌, ◌≢◌, ℕ, ◌+◌, ◌<◌, ◌≤◌, [], reverse, take, Some, IsSome, IfSome, true, ◌^◌};
+ghost use Rattle.std.specs.Prelude.{length, option_map, slice_index_or};
 ghost use Rattle.std.specs.Option.{option_map_or};
 ghost use Rattle.pid_types.specs.Bounds.{deepest_space};
 ghost use Rattle.pid_numbers.specs.Numbering.{Identifier, uses, less, more, is_used, is_used_as};
-ghost use Rattle.pid_numbers.specs.Slabs.{identifier_of, name_at, way, entry_on, touched, mark_of, namespaces_of, bound_on, IsDistinct, IsPath};
+ghost use Rattle.pid_numbers.specs.Slabs.{identifier_of, name_at, way, entry_on, touched, mark_of, namespaces_of};
+ghost use Rattle.pid_numbers.specs.Slabs.{bound_on, IsDistinct, IsPath};
 ghost use Rattle.index_array.specs.Place.{with_mark};
 ghost use Rattle.pid_types.specs.declared.call.Kind.{Kind};
 
@@ -145,7 +147,8 @@ pub(crate) fn in_use(idents: &Slab<Ident>, ident: IdentKey) -> bool
 /// One use less.
 pub(crate) fn less_use(idents: &mut Slab<Ident>, ident: IdentKey, kind: Kind)
     requires { is_used_as kind (name_at idents.old ident) ≡ true }
-    ensures here { (u : Identifier) → name_at idents.old ident ≡ Some u → name_at idents.new ident ≡ Some (less kind u) }
+    ensures here { (u : Identifier) → name_at idents.old ident ≡ Some u
+        → name_at idents.new ident ≡ Some (less kind u) }
     ensures others { (j : ℕ) → j ≢ ident → name_at idents.new j ≡ name_at idents.old j }
 {
     let Some(x) = idents.get_mut(ident as usize) else {
@@ -158,7 +161,8 @@ pub(crate) fn less_use(idents: &mut Slab<Ident>, ident: IdentKey, kind: Kind)
 pub(crate) fn more_use(idents: &mut Slab<Ident>, ident: IdentKey, kind: Kind)
     requires there { IsSome (name_at idents.old ident) }
     requires few { IfSome (name_at idents.old ident) (λ u. uses kind u + 1 < 2 ^ 32) }
-    ensures here { (u : Identifier) → name_at idents.old ident ≡ Some u → name_at idents.new ident ≡ Some (more kind u) }
+    ensures here { (u : Identifier) → name_at idents.old ident ≡ Some u
+        → name_at idents.new ident ≡ Some (more kind u) }
     ensures others { (j : ℕ) → j ≢ ident → name_at idents.new j ≡ name_at idents.old j }
 {
     let Some(x) = idents.get_mut(ident as usize) else {
@@ -178,7 +182,9 @@ pub(crate) fn mark_numbers(
     requires path { (s : ℕ) → IsPath (way spaces.old.items) (way spaces.old.items s) }
     requires distinct { (s : ℕ) → IsDistinct (way spaces.old.items s) }
     requires full { IfSome (name_at idents.now ident) (λ u. length u.numbers ≡ length (way spaces.old.items u.space)) }
-    ensures entries { IfSome (name_at idents.now ident) (λ u. (s n : ℕ) → entry_on spaces.new.items s n ≡ touched (way spaces.old.items u.space) u.numbers (with_mark (mark_of kind) on) (entry_on spaces.old.items) s n) }
+    ensures entries { IfSome (name_at idents.now ident) (λ u. (s n : ℕ)
+        → entry_on spaces.new.items s n ≡ touched (way spaces.old.items u.space) u.numbers
+        (with_mark (mark_of kind) on) (entry_on spaces.old.items) s n) }
     ensures way { (s : ℕ) → way spaces.new.items s ≡ way spaces.old.items s }
     ensures namespaces { namespaces_of spaces.new.items ≡ namespaces_of spaces.old.items }
     ensures bound { (s : ℕ) → bound_on spaces.new.items s ≡ bound_on spaces.old.items s }

@@ -1,12 +1,18 @@
 //! Namespaces, and walks along their paths.
 
-ghost use Rattle.std.specs.Prelude.{vec_capacity, ◌≡◌, ◌≢◌, ℕ, ◌+◌, ◌<◌, ◌≤◌, length, map, option_map, Some, None, IsSome, IfOk, IfErr, IfSome, OnOk, OnErr, MatchOption, find, is_none, is_some, unwrap_or, slice_index_or, true, false, [], ◌∷◌, ◌++◌, ◌&&◌, ◌==◌, if◌then◌else◌, drop};
+ghost use Rattle.std.specs.Prelude.{vec_capacity, ◌≡◌, ◌≢◌, ℕ, ◌+◌, ◌<◌, ◌≤◌, length, map, option_map, Some, None};
+ghost use Rattle.std.specs.Prelude.{IsSome, IfOk, IfErr, IfSome, OnOk, OnErr, MatchOption, find, is_none, is_some};
+ghost use Rattle.std.specs.Prelude.{unwrap_or, slice_index_or, true, false, [], ◌∷◌, ◌++◌, ◌&&◌, ◌==◌, if◌then◌else◌};
+ghost use Rattle.std.specs.Prelude.{drop};
 ghost use Rattle.index_array.specs.Place.{index_count, Entry, entry_at, indexes, with_mark, is_marked, IsLeastIndex};
 ghost use Rattle.std.specs.List.{filter};
 ghost use Rattle.std.specs.Option.{option_copied};
 ghost use Rattle.id_slab.specs.Ids.{AreBelow};
 ghost use Rattle.pid_types.specs.Bounds.{deepest_space};
-ghost use Rattle.pid_numbers.specs.Slabs.{slot, next_place, AreVacant, IsPath, id_on, AreListed, way, fell, dead_on, goes, left_on, IsHead, entry_on, leads, plan_on, touched, given_to, ready, namespaces_of, namespace_on, bound_on, stepped, mark_of, IsTree, IsDistinct, ArePlanned, AreReady};
+ghost use Rattle.pid_numbers.specs.Slabs.{slot, next_place, AreVacant, IsPath, id_on, AreListed, way, fell, dead_on};
+ghost use Rattle.pid_numbers.specs.Slabs.{goes, left_on, IsHead, entry_on, leads, plan_on, touched, given_to, ready};
+ghost use Rattle.pid_numbers.specs.Slabs.{namespaces_of, namespace_on, bound_on, stepped, mark_of, IsTree, IsDistinct};
+ghost use Rattle.pid_numbers.specs.Slabs.{ArePlanned, AreReady};
 ghost use Rattle.pid_numbers.specs.Numbering.{moved, fallen_within};
 ghost use Rattle.pid_types.specs.Settings.{HasGoodPidMax};
 ghost use Rattle.pid_types.specs.Chains.{contains};
@@ -113,8 +119,10 @@ pub(crate) fn plan_path(
     requires path { IsPath (way spaces.now.items) (way spaces.now.items space) }
     requires room { length numbers.old.items + length (way spaces.now.items space) ≤ deepest_space + 1 }
     ensures ok { OnOk result ((find (λ s. is_none (plan_on spaces.now.items s)) (way spaces.now.items space) ≡ None)
-        × (numbers.new.items ≡ numbers.old.items ++ map (λ s. unwrap_or (plan_on spaces.now.items s) 0) (way spaces.now.items space))) }
-    ensures err { IfErr result (λ s. find (λ s. is_none (plan_on spaces.now.items s)) (way spaces.now.items space) ≡ Some s) }
+        × (numbers.new.items ≡ numbers.old.items ++ map (λ s. unwrap_or (plan_on spaces.now.items s) 0)
+        (way spaces.now.items space))) }
+    ensures err { IfErr result (λ s. find (λ s. is_none (plan_on spaces.now.items s)) (way spaces.now.items space)
+        ≡ Some s) }
 {
     for k in 0..levels(spaces, space) {
         let key = key_at(spaces, space, k);
@@ -189,9 +197,11 @@ pub(crate) fn give_path(spaces: &mut Vec<Space>, space: SpaceKey, numbers: &[Pid
     requires planned { ArePlanned spaces.old.items (way spaces.old.items space) numbers.now }
     requires ready { AreReady spaces.old.items (way spaces.old.items space) numbers.now }
     requires len { length numbers.now ≡ length (way spaces.old.items space) }
-    ensures entries { (s n : ℕ) → entry_on spaces.new.items s n ≡ touched (way spaces.old.items space) numbers.now (λ _. given_to value) (entry_on spaces.old.items) s n }
+    ensures entries { (s n : ℕ) → entry_on spaces.new.items s n
+        ≡ touched (way spaces.old.items space) numbers.now (λ _. given_to value) (entry_on spaces.old.items) s n }
     ensures way { (s : ℕ) → way spaces.new.items s ≡ way spaces.old.items s }
-    ensures namespaces { (s : ℕ) → namespace_on spaces.new.items s ≡ option_map (moved (way spaces.old.items space) numbers.now s) (namespace_on spaces.old.items s) }
+    ensures namespaces { (s : ℕ) → namespace_on spaces.new.items s
+        ≡ option_map (moved (way spaces.old.items space) numbers.now s) (namespace_on spaces.old.items s) }
     ensures bound { (s : ℕ) → bound_on spaces.new.items s ≡ bound_on spaces.old.items s }
     ensures len { length spaces.new.items ≡ length spaces.old.items }
 {
@@ -231,7 +241,9 @@ pub(crate) fn mark_path(
     requires path { IsPath (way spaces.old.items) (way spaces.old.items space) }
     requires distinct { IsDistinct (way spaces.old.items space) }
     requires len { length numbers.now ≡ length (way spaces.old.items space) }
-    ensures entries { (s n : ℕ) → entry_on spaces.new.items s n ≡ touched (way spaces.old.items space) numbers.now (with_mark (mark_of kind) on) (entry_on spaces.old.items) s n }
+    ensures entries { (s n : ℕ) → entry_on spaces.new.items s n
+        ≡ touched (way spaces.old.items space) numbers.now (with_mark (mark_of kind) on)
+        (entry_on spaces.old.items) s n }
     ensures way { (s : ℕ) → way spaces.new.items s ≡ way spaces.old.items s }
     ensures namespaces { namespaces_of spaces.new.items ≡ namespaces_of spaces.old.items }
     ensures bound { (s : ℕ) → bound_on spaces.new.items s ≡ bound_on spaces.old.items s }
@@ -262,7 +274,8 @@ pub(crate) fn release_path(spaces: &mut Vec<Space>, space: SpaceKey, numbers: &L
     requires path { IsPath (way spaces.old.items) (way spaces.old.items space) }
     requires distinct { IsDistinct (way spaces.old.items space) }
     requires len { length numbers.now ≡ length (way spaces.old.items space) }
-    ensures entries { (s n : ℕ) → entry_on spaces.new.items s n ≡ touched (way spaces.old.items space) numbers.now (λ _. None) (entry_on spaces.old.items) s n }
+    ensures entries { (s n : ℕ) → entry_on spaces.new.items s n
+        ≡ touched (way spaces.old.items space) numbers.now (λ _. None) (entry_on spaces.old.items) s n }
     ensures way { (s : ℕ) → way spaces.new.items s ≡ way spaces.old.items s }
     ensures namespaces { namespaces_of spaces.new.items ≡ namespaces_of spaces.old.items }
     ensures bound { (s : ℕ) → bound_on spaces.new.items s ≡ bound_on spaces.old.items s }
@@ -340,7 +353,8 @@ fn drop_dead(
     requires vacant { AreVacant spaces.old.items vacant.old.items (vec_capacity vacant.old) }
     requires listed { AreListed (id_on spaces.old.items) order.old }
     ensures vacant { AreVacant spaces.new.items vacant.new.items (vec_capacity vacant.new) }
-    ensures here { slot spaces.new.items key ≡ if dead_on spaces.old.items key then None else slot spaces.old.items key }
+    ensures here { slot spaces.new.items key
+        ≡ if dead_on spaces.old.items key then None else slot spaces.old.items key }
     ensures others { (s : ℕ) → s ≢ key → slot spaces.new.items s ≡ slot spaces.old.items s }
     ensures order { order.new ≡ filter (λ p. is_some (slot spaces.new.items p.1)) order.old }
 {
@@ -388,8 +402,10 @@ pub(crate) fn sweep_fallen(
     requires listed { AreListed (id_on spaces.old.items) order.old }
     requires distinct { IsDistinct (way spaces.old.items space) }
     requires head { IsHead (way spaces.old.items) space }
-    requires quiet { dead_on spaces.old.items space ≡ false → (s : ℕ) → goes (if fell spaces.old.items space then way spaces.old.items space else []) spaces.old.items s ≡ false }
-    ensures left { (s : ℕ) → slot spaces.new.items s ≡ left_on (if fell spaces.old.items space then way spaces.old.items space else []) spaces.old.items s }
+    requires quiet { dead_on spaces.old.items space ≡ false → (s : ℕ)
+        → goes (if fell spaces.old.items space then way spaces.old.items space else []) spaces.old.items s ≡ false }
+    ensures left { (s : ℕ) → slot spaces.new.items s
+        ≡ left_on (if fell spaces.old.items space then way spaces.old.items space else []) spaces.old.items s }
     ensures order { order.new ≡ filter (λ p. is_some (slot spaces.new.items p.1)) order.old }
     ensures vacant { AreVacant spaces.new.items vacant.new.items (vec_capacity vacant.new) }
     ensures listed { AreListed (id_on spaces.new.items) order.new }
@@ -450,7 +466,8 @@ pub(crate) fn fill_place(spaces: &mut Vec<Space>, vacant: &mut Vec<SpaceKey>, sp
     requires there { 0 < length space.path.items }
     ensures vacant { AreVacant spaces.new.items vacant.new.items (vec_capacity vacant.new) }
     ensures here { slot spaces.new.items (next_place spaces.old.items vacant.old.items) ≡ Some space }
-    ensures others { (s : ℕ) → s ≢ next_place spaces.old.items vacant.old.items → slot spaces.new.items s ≡ slot spaces.old.items s }
+    ensures others { (s : ℕ) → s ≢ next_place spaces.old.items vacant.old.items
+        → slot spaces.new.items s ≡ slot spaces.old.items s }
 {
     match vacant.pop() {
         Some(key) => spaces[key as usize] = space,
@@ -472,7 +489,8 @@ pub(crate) fn add_space(
     requires above { AreBelow order.old id }
     ensures still { AreVacant spaces.new.items vacant.new.items (vec_capacity vacant.new) }
     ensures vacant { IfOk result (λ key. slot spaces.old.items key ≡ None) }
-    ensures here { IfOk result (λ key. namespace_on spaces.new.items key ≡ Some (record { id = id; fallen = false; path = key ∷ way spaces.old.items parent; cursor = ids.cursor })) }
+    ensures here { IfOk result (λ key. namespace_on spaces.new.items key
+        ≡ Some (record { id = id; fallen = false; path = key ∷ way spaces.old.items parent; cursor = ids.cursor })) }
     ensures entries { IfOk result (λ key. (n : ℕ) → entry_on spaces.new.items key n ≡ entry_at ids.places n) }
     ensures bound { IfOk result (λ key. bound_on spaces.new.items key ≡ Some ids.pid_max) }
     ensures way { IfOk result (λ key. way spaces.new.items key ≡ key ∷ way spaces.old.items parent) }
