@@ -41,7 +41,7 @@ IsHeap-grown rs ns w few = record {
 module _ (rs : List ℕ) (ns : List Node) (k p r : ℕ) (w : IsHeap rs ns nil) (key : k < length ns) (free : (node_at ns k).owner ≡ nil) (room : p < length rs) (fits : r ≤ nil)
     (new : (j : ℕ) → ranked (map member_in ns) j ≢ Some (p, r)) where
   abbrev node : Node
-  node = record { owner = p; rank = r; above = nil; next = nil; beside = nil; level = 0 }
+  node = record { owner = p; rank = r; above = k; next = nil; beside = nil; level = 0 }
 
   here : node_at (set ns k node) k ≡ node
   here = get_or-set_same ns k node blank key
@@ -163,31 +163,20 @@ IsHeap-crowned rs ns k p w k_some room mine = record {
       | inr away' ↦ away (sym (other (node_at ns m).owner away') ∙ z)
     ]
 
--- the key that came
-module _ (rs : List ℕ) (ns xs : List Node) (k p r : ℕ) (w : IsHeap rs ns nil) (key : k < length ns) (free : (node_at ns k).owner ≡ nil) (room : p < length rs) (fits : r ≤ nil)
-    (new : (j : ℕ) → ranked (map member_in ns) j ≢ Some (p, r)) (read : xs ≡ set ns k (record { owner = p; rank = r; above = nil; next = nil; beside = nil; level = 0 })) where
-  abbrev ns' : List Node
-  ns' = set ns k (record { owner = p; rank = r; above = nil; next = nil; beside = nil; level = 0 })
+-- a held key goes below a member of the same owner and a lesser rank
+pub sinks_below : (rs : List ℕ) (ns xs : List Node) (at k p : ℕ) → IsHeap rs ns k → p < length rs → (node_at ns k).owner ≡ p → xs ≡ ns
+    → ((node_at xs at).owner ≡ (node_at xs k).owner) × ((node_at xs at).rank < (node_at xs k).rank) → IsSinking rs ns at k
+sinks_below rs ns xs at k p w room mine read elder =
+    let same : (node_at ns at).owner ≡ (node_at ns k).owner = rw read at elder.0 in
+    record {
+      heap = w;
+      owned = λ _ z.
+          let e : p ≡ nil = sym mine ∙ sym same ∙ z in
+          let few = w.ranked.few in let rooms = w.ranked.rooms in omega (arith, room, e, few, rooms);
+      same = λ _. sym same;
+      lower = λ _. rw read at elder.1;
+    }
 
-  pub entered : IsHeap rs ns' k
-  entered = IsHeap-entered rs ns k p r w key free room fits new
-
-  p_there : p ≢ nil
-  p_there = omega (arith, room, w.ranked.few, w.ranked.rooms)
-
-  k_node : node_at ns' k ≡ record { owner = p; rank = r; above = nil; next = nil; beside = nil; level = 0 }
-  k_node = get_or-set_same ns k _ blank key
-
-  pub entered_top : (node_at ns' k).owner ≡ p
-  entered_top = ap (λ (x : Node). x.owner) k_node
-
-  -- below a member of the same owner and a lesser rank
-  pub sinks_below : (at : ℕ) → ((node_at xs at).owner ≡ (node_at xs k).owner) × ((node_at xs at).rank < (node_at xs k).rank) → IsSinking rs ns' at k
-  sinks_below at elder =
-      let same : (node_at ns' at).owner ≡ (node_at ns' k).owner = rw read at elder.0 in
-      record {
-        heap = entered;
-        owned = λ _ z. p_there (sym (ap (λ (x : Node). x.owner) k_node) ∙ sym same ∙ z);
-        same = λ _. sym same;
-        lower = λ _. rw read at elder.1;
-      }
+-- the first member of an owner
+pub IsHeap-first : (rs : List ℕ) (ns : List Node) (k p : ℕ) → IsHeap rs ns k → k ≢ nil → p < length rs → (node_at ns k).owner ≡ p → root_at rs p ≡ nil → IsHeap (set rs p k) ns nil
+IsHeap-first rs ns k p w some room mine none = rw none at (IsHeap-crowned rs ns k p w some room mine)

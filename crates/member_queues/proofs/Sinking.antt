@@ -1,6 +1,6 @@
 -- Joining a tree below a key, one step at a time.
-use Rattle.std.proofs.Common.{◌≡◌, ◌≢◌, ◌⊎◌, inl, inr, ℕ, ◌<◌, List, length, set, map, refl, sym, subst, ap, ◌∙◌, arith, slice_index_or}
-use Rattle.std.proofs.lemmas.Bool.{cases_eq}
+use Rattle.std.proofs.Common.{◌≡◌, ◌≢◌, ◌⊎◌, inl, inr, ℕ, ◌<◌, ◌≤◌, List, length, set, map, refl, sym, subst, ap, ◌∙◌, arith, slice_index_or}
+use Rattle.std.proofs.lemmas.Bool.{cases_eq, cases_lt}
 use Rattle.std.proofs.lemmas.List.{get_or-set_same, get_or-set_other, length-set}
 use Rattle.std.proofs.Math.Seq.{map-set_same}
 use Rattle.member_queues.specs.declared.Node.{Node}
@@ -108,7 +108,7 @@ module _ (rs : List ℕ) (ns ns' : List Node) (s : Side) (at held : ℕ) (w : Is
     | inr differs ↦ elim (cases_eq j held) [ inl same ↦ rw (same, t.below) refl | inr later ↦ ap (λ x. x.owner) (t.others j differs later) ]
   ]
 
-  ranks : (j : ℕ) → (node_at ns' j).rank ≡ (node_at ns j).rank
+  pub ranks : (j : ℕ) → (node_at ns' j).rank ≡ (node_at ns j).rank
   ranks j = elim (cases_eq j at) [
     | inl same ↦ rw (same, t.here) (rank-with s held (node_at ns at))
     | inr differs ↦ elim (cases_eq j held) [ inl same ↦ rw (same, t.below) refl | inr later ↦ ap (λ x. x.rank) (t.others j differs later) ]
@@ -264,6 +264,9 @@ module _ (rs : List ℕ) (ns : List Node) (s : Side) (at held : ℕ) (x z : Node
       → IsSinking rs last held (key_on s (node_at ns at))
   step-hung not = IsSinking-hung rs ns last s at held w some hung (less-hung rs ns last s at held w some hung not)
 
+  pub step-ranks : (j : ℕ) → (node_at last j).rank ≡ (node_at ns j).rank
+  step-ranks = ranks rs ns last s at held w some hung
+
   pub step-higher : (node_at ns at).rank < (node_at last held).rank
   step-higher = higher-hung rs ns last s at held w some hung
 
@@ -272,3 +275,13 @@ module _ (rs : List ℕ) (ns : List Node) (s : Side) (at held : ℕ) (x z : Node
   step-members =
       map-set_same member_in mid held (record { owner = z.owner; rank = z.rank; above = at; next = z.next; beside = z.beside; level = z.level }) blank (ap member_in z_mid)
       ∙ map-set_same member_in ns at x blank (ap member_in ex ∙ member-with s held (node_at ns at))
+
+-- what a rank that was read says: it is the key's, and lower than another only where the key is there
+pub rank_read : (ns xs : List Node) (k rank : ℕ) → xs ≡ ns → k < length ns → (k < length xs → rank ≡ (node_at xs k).rank) → rank ≡ (node_at ns k).rank
+rank_read ns xs k rank same lt there = rw same at there lt
+
+pub rank_there : (ns xs : List Node) (k rank most : ℕ) → xs ≡ ns → length ns ≤ nil → most ≤ nil → rank < most → (length xs ≤ k → rank ≡ nil) → (k ≢ nil) × (k < length ns)
+rank_there ns xs k rank most same few fits lower none =
+    let past : length ns ≤ k → rank ≡ nil = rw same at none in
+    let lt : k < length ns = elim (cases_lt k (length ns)) [ inl lt ↦ lt | inr le ↦ absurd (let e = past le in omega (arith, e, lower, fits)) ] in
+    (λ z. omega (arith, lt, few, z), lt)

@@ -114,24 +114,40 @@ fn is_elder(nodes: &[Node], a: u32, b: u32) -> bool
         && nodes[a as usize].rank < nodes[b as usize].rank
 }
 
-/// Joins a tree below a key one step further. It answers the next key and what is to go below it.
+/// A key's rank, or the highest of all where there is no such key.
 #[inline(always)]
-fn step(forest: &mut Forest, side: Side, at: u32, held: u32) -> (u32, u32)
+fn rank_of(nodes: &[Node], key: u32) -> u32
+    ensures there { key < length nodes.now → result ≡ (node_at nodes.now key).rank }
+    ensures none { length nodes.now ≤ key → result ≡ nil }
+{
+    if (key as usize) < nodes.len() {
+        nodes[key as usize].rank
+    } else {
+        u32::MAX
+    }
+}
+
+/// Joins a tree below a key one step further. It answers the next key, and what is to go below it with its rank.
+#[inline(always)]
+fn step(forest: &mut Forest, side: Side, at: u32, held: u32, rank: u32) -> (u32, u32, u32)
     requires sinking { IsSinking forest.old.roots.items forest.old.nodes.items at held }
     requires some { held ≢ nil }
+    requires rank { rank ≡ (node_at forest.old.nodes.items held).rank }
     ensures sinking { IsSinking forest.new.roots.items forest.new.nodes.items result.0 result.1 }
     ensures on { (node_at forest.old.nodes.items at).rank < (node_at forest.new.nodes.items result.0).rank }
+    ensures rank { result.1 ≢ nil → result.2 ≡ (node_at forest.new.nodes.items result.1).rank }
     ensures members { map member_in forest.new.nodes.items ≡ map member_in forest.old.nodes.items }
     ensures len { length forest.new.nodes.items ≡ length forest.old.nodes.items }
     ensures rooms { length forest.new.roots.items ≡ length forest.old.roots.items }
 {
     let behind = key_on(&forest.nodes[at as usize], side);
-    if is_before(forest.nodes.as_slice(), behind, held) {
-        (behind, held)
+    let lower = rank_of(forest.nodes.as_slice(), behind);
+    if lower < rank {
+        (behind, held, rank)
     } else {
         put_on(&mut forest.nodes[at as usize], side, held);
         forest.nodes[held as usize].above = at;
-        (held, behind)
+        (held, behind, lower)
     }
 }
 
@@ -145,8 +161,9 @@ fn sink(forest: &mut Forest, side: Side, mut at: u32, mut held: u32)
     ensures len { length forest.new.nodes.items ≡ length forest.old.nodes.items }
     ensures rooms { length forest.new.roots.items ≡ length forest.old.roots.items }
 {
+    let mut rank = rank_of(forest.nodes.as_slice(), held);
     while held != NIL {
-        (at, held) = step(forest, side, at, held);
+        (at, held, rank) = step(forest, side, at, held, rank);
     }
 }
 
@@ -373,21 +390,28 @@ fn place(forest: &mut Forest, owner: u32, key: u32)
     }
 }
 
-/// The member of an owner that came last, if it is known, or any key.
-fn latest_of(forest: &Forest, owner: u32) -> u32
-    requires heap { IsHeap forest.now.roots.items forest.now.nodes.items nil }
-    requires owner { owner < length forest.now.roots.items }
+/// Puts a new key to the other members of its owner: behind the one that came last, where that ends a run and ranks
+/// lower, and else among the runs.
+fn add(forest: &mut Forest, owner: u32, key: u32)
+    requires heap { IsHeap forest.old.roots.items forest.old.nodes.items key }
+    requires owner { owner < length forest.old.roots.items }
+    requires mine { (node_at forest.old.nodes.items key).owner ≡ owner }
+    requires some { root_at forest.old.roots.items owner ≢ nil }
+    ensures heap { IsHeap forest.new.roots.items forest.new.nodes.items nil }
+    ensures members { map member_in forest.new.nodes.items ≡ map member_in forest.old.nodes.items }
 {
     let root = forest.roots[owner as usize];
-    if root == NIL {
-        NIL
+    let latest = forest.nodes[root as usize].above;
+    if is_elder(forest.nodes.as_slice(), latest, key) {
+        sink(forest, Side::Next, latest, key);
     } else {
-        forest.nodes[root as usize].above
+        meld(forest, owner, key);
+        place(forest, owner, key);
     }
+    set_latest(forest, owner, key);
 }
 
-/// Puts a key behind the one that came last, where that ends a run and ranks lower, and else among its owner's
-/// runs.
+/// Makes a key one's member: the first of all, or one more.
 fn enter(forest: &mut Forest, key: u32, owner: u32, rank: u32)
     requires heap { IsHeap forest.old.roots.items forest.old.nodes.items nil }
     requires key { key < length forest.old.nodes.items }
@@ -396,22 +420,19 @@ fn enter(forest: &mut Forest, key: u32, owner: u32, rank: u32)
     requires distinct { (k : ℕ) → ranked (map member_in forest.old.nodes.items) k ≢ Some (owner, rank) }
     ensures heap { IsHeap forest.new.roots.items forest.new.nodes.items nil }
     ensures members { map member_in forest.new.nodes.items ≡ slice_set (map member_in forest.old.nodes.items) key (Some (owner, rank)) }
-    ensures rooms { length forest.new.roots.items ≡ length forest.old.roots.items }
 {
-    let latest = latest_of(forest, owner);
     forest.nodes[key as usize] = Node {
         owner,
         rank,
-        above: NIL,
+        above: key,
         next: NIL,
         beside: NIL,
         level: 0,
     };
-    if is_elder(forest.nodes.as_slice(), latest, key) {
-        sink(forest, Side::Next, latest, key);
+    if forest.roots[owner as usize] == NIL {
+        forest.roots[owner as usize] = key;
     } else {
-        meld(forest, owner, key);
-        place(forest, owner, key);
+        add(forest, owner, key);
     }
 }
 
@@ -527,7 +548,6 @@ impl MemberQueues {
         ensures { self.new ≡ slice_set self.old key (Some (owner, rank)) }
     {
         enter(&mut self.forest, key, owner, rank);
-        set_latest(&mut self.forest, owner, key);
     }
 
     /// All members of the one owner become the other's, with their ranks. They are given one after the other, each

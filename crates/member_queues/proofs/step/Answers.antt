@@ -1,58 +1,69 @@
-use Rattle.std.proofs.Common.{◌≡◌, ◌≢◌, ◌<◌, List, Bool, true, false}
+use Rattle.std.proofs.Common.{◌≡◌, ◌≢◌, ◌<◌, List, length, sym, ◌∙◌, arith}
 use Rattle.member_queues.specs.declared.Node.{Node}
 use Rattle.member_queues.specs.Heap.{nil, node_at, key_on}
 use Rattle.member_queues.proofs.Trees as trees
 use Rattle.member_queues.proofs.Sinking as sinking
 use Rattle.member_queues.proofs.step.Goals as goal
 
-pub is_before-requires-clause-a : goal.is_before-requires-clause-a
-is_before-requires-clause-a c =
+pub returns-then-lower-rank-clause-sinking : goal.returns-then-lower-rank-clause-sinking
+returns-then-lower-rank-clause-sinking c =
     let ns : List Node = c.args.forest.now.nodes.items in
     let lt = trees.within ns c.args.at (c.requires.sinking.owned c.requires.some) in
     let is = sinking.on_read ns c.args.side c.args.at c.key_on-behind.result c.index.result.now lt c.key_on-behind.ensures c.index.ensures in
-    rw (c.as_slice.ensures.value, is) (sinking.on_within _ ns c.args.side c.args.at c.args.held c.requires.sinking c.requires.some)
+    let there = sinking.rank_there ns c.as_slice.result.now c.key_on-behind.result c.rank_of-lower.result c.args.rank c.as_slice.ensures.value c.requires.sinking.heap.ranked.few
+    (omega (arith, c.ranges.rank)) c.if-lower-rank.true c.rank_of-lower.ensures.none in
+    let some : key_on c.args.side (node_at ns c.args.at) ≢ nil = rw is at there.0 in
+    let low = sinking.rank_read ns c.as_slice.result.now c.key_on-behind.result c.rank_of-lower.result c.as_slice.ensures.value there.1 c.rank_of-lower.ensures.there in
+    let less : (node_at ns c.key_on-behind.result).rank < (node_at ns c.args.held).rank = let lower = c.if-lower-rank.true in let mine = c.requires.rank in omega (arith, low, lower, mine) in
+    let less' : (node_at ns (key_on c.args.side (node_at ns c.args.at))).rank < (node_at ns c.args.held).rank = rw is at less in
+    rw is (sinking.IsSinking-on _ ns c.args.side c.args.at c.args.held c.requires.sinking c.requires.some some less')
 
-pub returns-then-is_before-clause-sinking : goal.returns-then-is_before-clause-sinking
-returns-then-is_before-clause-sinking c =
+pub returns-then-lower-rank-clause-on : goal.returns-then-lower-rank-clause-on
+returns-then-lower-rank-clause-on c =
     let ns : List Node = c.args.forest.now.nodes.items in
     let lt = trees.within ns c.args.at (c.requires.sinking.owned c.requires.some) in
     let is = sinking.on_read ns c.args.side c.args.at c.key_on-behind.result c.index.result.now lt c.key_on-behind.ensures c.index.ensures in
-    let facts = c.is_before.ensures.0 c.if-is_before.true in
-    let some : key_on c.args.side (node_at ns c.args.at) ≢ nil = rw is at facts.0 in
-    let less : (node_at ns (key_on c.args.side (node_at ns c.args.at))).rank < (node_at ns c.args.held).rank = rw (c.as_slice.ensures.value, is) at (facts.1 c.requires.some) in
-    rw is (sinking.IsSinking-on _ ns c.args.side c.args.at c.args.held c.requires.sinking c.requires.some some less)
-
-pub returns-then-is_before-clause-on : goal.returns-then-is_before-clause-on
-returns-then-is_before-clause-on c =
-    let ns : List Node = c.args.forest.now.nodes.items in
-    let lt = trees.within ns c.args.at (c.requires.sinking.owned c.requires.some) in
-    let is = sinking.on_read ns c.args.side c.args.at c.key_on-behind.result c.index.result.now lt c.key_on-behind.ensures c.index.ensures in
-    let some : key_on c.args.side (node_at ns c.args.at) ≢ nil = rw is at (c.is_before.ensures.0 c.if-is_before.true).0 in
+    let there = sinking.rank_there ns c.as_slice.result.now c.key_on-behind.result c.rank_of-lower.result c.args.rank c.as_slice.ensures.value c.requires.sinking.heap.ranked.few
+    (omega (arith, c.ranges.rank)) c.if-lower-rank.true c.rank_of-lower.ensures.none in
+    let some : key_on c.args.side (node_at ns c.args.at) ≢ nil = rw is at there.0 in
     rw is (sinking.on_higher _ ns c.args.side c.args.at c.args.held c.requires.sinking c.requires.some some)
 
-pub returns-else-is_before-clause-sinking : goal.returns-else-is_before-clause-sinking
-returns-else-is_before-clause-sinking c =
+pub returns-else-lower-rank-clause-sinking : goal.returns-else-lower-rank-clause-sinking
+returns-else-lower-rank-clause-sinking c =
     let ns : List Node = c.args.forest.now.nodes.items in
     let lt = trees.within ns c.args.at (c.requires.sinking.owned c.requires.some) in
     let is = sinking.on_read ns c.args.side c.args.at c.key_on-behind.result c.index.result.now lt c.key_on-behind.ensures c.index.ensures in
     let put = sinking.put_read ns c.args.side c.args.at c.args.held c.put_on.new.node c.index_mut.result.now lt c.put_on.ensures c.index_mut.ensures.value in
-    let higher : key_on c.args.side (node_at ns c.args.at) ≢ nil → (node_at ns (key_on c.args.side (node_at ns c.args.at))).rank < (node_at ns c.args.held).rank → ⊥ = λ some less.
-    not_both c.if-is_before.false (c.is_before.ensures.1 (rw (c.as_slice.ensures.value, is) (some, λ _. less))) in
-    rw is (sinking.step-hung _ ns c.args.side c.args.at c.args.held c.put_on.new.node c.index_mut-else-is_before.result.now c.requires.sinking c.requires.some put c.index_mut-else-is_before.ensures.value higher)
-  where
-    not_both : {b : Bool} → b ≡ false → b ≡ true → ⊥
-    not_both f t = cc
+    let higher : key_on c.args.side (node_at ns c.args.at) ≢ nil → (node_at ns (key_on c.args.side (node_at ns c.args.at))).rank < (node_at ns c.args.held).rank → ⊥ = λ some.
+    rw (← is) (λ less.
+    let here : c.key_on-behind.result < length ns = rw is (sinking.on_within _ ns c.args.side c.args.at c.args.held c.requires.sinking c.requires.some some) in
+    let low = sinking.rank_read ns c.as_slice.result.now c.key_on-behind.result c.rank_of-lower.result c.as_slice.ensures.value here c.rank_of-lower.ensures.there in
+    let not = c.if-lower-rank.false in let mine = c.requires.rank in
+    omega (arith, low, less, not, mine)) in
+    rw is (sinking.step-hung _ ns c.args.side c.args.at c.args.held c.put_on.new.node c.index_mut-else-lower-rank.result.now c.requires.sinking c.requires.some put c.index_mut-else-lower-rank.ensures.value higher)
 
-pub returns-else-is_before-clause-on : goal.returns-else-is_before-clause-on
-returns-else-is_before-clause-on c =
+pub returns-else-lower-rank-clause-on : goal.returns-else-lower-rank-clause-on
+returns-else-lower-rank-clause-on c =
     let ns : List Node = c.args.forest.now.nodes.items in
     let lt = trees.within ns c.args.at (c.requires.sinking.owned c.requires.some) in
     let put = sinking.put_read ns c.args.side c.args.at c.args.held c.put_on.new.node c.index_mut.result.now lt c.put_on.ensures c.index_mut.ensures.value in
-    sinking.step-higher _ ns c.args.side c.args.at c.args.held c.put_on.new.node c.index_mut-else-is_before.result.now c.requires.sinking c.requires.some put c.index_mut-else-is_before.ensures.value
+    sinking.step-higher _ ns c.args.side c.args.at c.args.held c.put_on.new.node c.index_mut-else-lower-rank.result.now c.requires.sinking c.requires.some put c.index_mut-else-lower-rank.ensures.value
 
-pub returns-else-is_before-clause-members : goal.returns-else-is_before-clause-members
-returns-else-is_before-clause-members c =
+pub returns-else-lower-rank-clause-rank : goal.returns-else-lower-rank-clause-rank
+returns-else-lower-rank-clause-rank c more =
+    let ns : List Node = c.args.forest.now.nodes.items in
+    let lt = trees.within ns c.args.at (c.requires.sinking.owned c.requires.some) in
+    let is = sinking.on_read ns c.args.side c.args.at c.key_on-behind.result c.index.result.now lt c.key_on-behind.ensures c.index.ensures in
+    let put = sinking.put_read ns c.args.side c.args.at c.args.held c.put_on.new.node c.index_mut.result.now lt c.put_on.ensures c.index_mut.ensures.value in
+    let some : key_on c.args.side (node_at ns c.args.at) ≢ nil = rw is at more in
+    let within : c.key_on-behind.result < length ns = rw is (sinking.on_within _ ns c.args.side c.args.at c.args.held c.requires.sinking c.requires.some some) in
+    sinking.rank_read ns c.as_slice.result.now c.key_on-behind.result c.rank_of-lower.result c.as_slice.ensures.value within c.rank_of-lower.ensures.there
+    ∙ sym (sinking.step-ranks _ ns c.args.side c.args.at c.args.held c.put_on.new.node c.index_mut-else-lower-rank.result.now c.requires.sinking c.requires.some put c.index_mut-else-lower-rank.ensures.value
+    c.key_on-behind.result)
+
+pub returns-else-lower-rank-clause-members : goal.returns-else-lower-rank-clause-members
+returns-else-lower-rank-clause-members c =
     let ns : List Node = c.args.forest.now.nodes.items in
     let lt = trees.within ns c.args.at (c.requires.sinking.owned c.requires.some) in
     let put = sinking.put_read ns c.args.side c.args.at c.args.held c.put_on.new.node c.index_mut.result.now lt c.put_on.ensures c.index_mut.ensures.value in
-    sinking.step-members _ ns c.args.side c.args.at c.args.held c.put_on.new.node c.index_mut-else-is_before.result.now c.requires.sinking c.requires.some put c.index_mut-else-is_before.ensures.value
+    sinking.step-members _ ns c.args.side c.args.at c.args.held c.put_on.new.node c.index_mut-else-lower-rank.result.now c.requires.sinking c.requires.some put c.index_mut-else-lower-rank.ensures.value
