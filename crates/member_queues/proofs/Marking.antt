@@ -4,7 +4,7 @@ use Rattle.std.proofs.lemmas.Bool.{cases_eq}
 use Rattle.std.proofs.lemmas.List.{get_or_past, get_or-set_same, get_or-set_other, length-set}
 use Rattle.member_queues.specs.declared.Node.{Node}
 use Rattle.member_queues.specs.Heap.{nil, blank, node_at, root_at, IsHeap}
-use Rattle.member_queues.proofs.Trees.{within, node_is, has_room, Marked, IsHeap-marked}
+use Rattle.member_queues.proofs.Trees.{within, node_is, IsHeap-marked}
 
 -- the level of a run
 module _ (rs : List ℕ) (ns : List Node) (at level : ℕ) (z : Node) (w : IsHeap rs ns nil) (lt : at < length ns) (ez : z ≡ slice_index_or ns at z) where

@@ -1,5 +1,5 @@
 -- Joining a tree below a key, one step at a time.
-use Rattle.std.proofs.Common.{◌≡◌, ◌≢◌, ◌⊎◌, inl, inr, ℕ, ◌<◌, ◌≤◌, List, length, set, map, refl, sym, subst, ap, ◌∙◌, arith, slice_index_or}
+use Rattle.std.proofs.Common.{◌≡◌, ◌≢◌, ◌⊎◌, inl, inr, ℕ, ◌<◌, ◌≤◌, List, length, set, map, refl, sym, ap, ◌∙◌, arith, slice_index_or}
 use Rattle.std.proofs.lemmas.Bool.{cases_eq, cases_lt}
 use Rattle.std.proofs.lemmas.List.{get_or-set_same, get_or-set_other, length-set}
 use Rattle.std.proofs.Math.Seq.{map-set_same}
@@ -7,7 +7,7 @@ use Rattle.member_queues.specs.declared.Node.{Node}
 use Rattle.member_queues.specs.declared.Side.{Side}
 use Rattle.member_queues.specs.declared.Side.TheVariants.{Next, Beside}
 use Rattle.member_queues.specs.Heap.{nil, blank, node_at, root_at, member_in, key_on, with_side, IsBelow, IsTree, IsSinking}
-use Rattle.member_queues.proofs.Trees.{within, is_some, node_is, side_after, AreRanked-kept}
+use Rattle.member_queues.proofs.Trees.{within, node_is, side_after, AreRanked-kept}
 
 -- the side that is not this one
 abbrev other : Side → Side

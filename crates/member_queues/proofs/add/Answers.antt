@@ -1,6 +1,6 @@
-use Rattle.std.proofs.Common.{◌≡◌, ◌≢◌, ◌<◌, List, length, sym, ◌∙◌, arith}
+use Rattle.std.proofs.Common.{◌≡◌, ◌≢◌, List, sym, ◌∙◌, arith}
 use Rattle.member_queues.specs.declared.Node.{Node}
-use Rattle.member_queues.specs.Heap.{nil, node_at, root_at, IsHeap}
+use Rattle.member_queues.specs.Heap.{nil, node_at}
 use Rattle.member_queues.proofs.Trees as trees
 use Rattle.member_queues.proofs.Entering as entering
 use Rattle.member_queues.proofs.add.Goals as goal

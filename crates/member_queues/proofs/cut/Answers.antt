@@ -1,7 +1,7 @@
-use Rattle.std.proofs.Common.{◌≡◌, ◌≢◌, inl, inr, ℕ, ◌<◌, length, refl, sym, ap, ◌∙◌, arith, List, set}
+use Rattle.std.proofs.Common.{◌≡◌, inl, inr, ℕ, ◌<◌, length, refl, sym, ap, ◌∙◌, arith, List, set}
 use Rattle.std.proofs.Math.Seq.{map-set_same}
 use Rattle.member_queues.specs.declared.Node.{Node}
-use Rattle.member_queues.specs.Heap.{nil, blank, node_at, member_in, IsBelow}
+use Rattle.member_queues.specs.Heap.{nil, blank, node_at, member_in}
 use Rattle.member_queues.proofs.Trees as trees
 use Rattle.member_queues.proofs.Filling as filling
 use Rattle.member_queues.proofs.cut.Goals as goal

@@ -1,6 +1,6 @@
-use Rattle.std.proofs.Common.{◌≡◌, ◌≢◌, ◌<◌, sym, ◌∙◌, arith, List, length}
+use Rattle.std.proofs.Common.{◌≢◌, sym, ◌∙◌, arith, List}
 use Rattle.member_queues.specs.declared.Node.{Node}
-use Rattle.member_queues.specs.Heap.{nil, node_at, IsSinking}
+use Rattle.member_queues.specs.Heap.{nil, node_at}
 use Rattle.member_queues.proofs.Trees as trees
 use Rattle.member_queues.proofs.join.Goals as goal
 

@@ -1,6 +1,6 @@
-use Rattle.std.proofs.Common.{◌≡◌, ◌≢◌, ◌<◌, ◌≤◌, ◌⊎◌, inr, ℕ, List, length, refl, sym, ap, ◌∙◌, arith, slice_index_or}
+use Rattle.std.proofs.Common.{◌≡◌, ◌≢◌, ◌<◌, inr, ℕ, List, length, refl, sym, ap, ◌∙◌, arith, slice_index_or}
 use Rattle.member_queues.specs.declared.Node.{Node}
-use Rattle.member_queues.specs.Heap.{nil, node_at, root_at, IsHeap}
+use Rattle.member_queues.specs.Heap.{nil, node_at, IsHeap}
 use Rattle.member_queues.proofs.Trees as trees
 use Rattle.member_queues.proofs.Marking as marking
 use Rattle.member_queues.proofs.join_two.Goals as goal

@@ -1,6 +1,3 @@
-use Rattle.std.proofs.Common.{◌≡◌, ℕ, List}
-use Rattle.member_queues.specs.declared.Node.{Node}
-use Rattle.member_queues.specs.Heap.{root_at}
 use Rattle.member_queues.proofs.Trees as trees
 use Rattle.member_queues.proofs.Marking as marking
 use Rattle.member_queues.proofs.set_latest.Goals as goal

@@ -1,4 +1,4 @@
-use Rattle.std.proofs.Common.{◌≡◌, ◌<◌, length, map}
+use Rattle.std.proofs.Common.{◌≡◌, length, map}
 use Rattle.member_queues.specs.Heap.{nil, member_in, IsHeap}
 use Rattle.member_queues.proofs.settle.Given as goal
 

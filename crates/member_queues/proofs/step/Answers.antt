@@ -1,4 +1,4 @@
-use Rattle.std.proofs.Common.{◌≡◌, ◌≢◌, ◌<◌, List, length, sym, ◌∙◌, arith}
+use Rattle.std.proofs.Common.{◌≢◌, ◌<◌, List, length, sym, ◌∙◌, arith}
 use Rattle.member_queues.specs.declared.Node.{Node}
 use Rattle.member_queues.specs.Heap.{nil, node_at, key_on}
 use Rattle.member_queues.proofs.Trees as trees

@@ -1,4 +1,4 @@
-use Rattle.std.proofs.Common.{◌≡◌, ◌≢◌, ◌-◌, ◌==◌, if◌then◌else◌}
+use Rattle.std.proofs.Common.{◌≢◌, ◌-◌, ◌==◌, if◌then◌else◌}
 use Rattle.member_queues.specs.Heap.{nil, node_at}
 use Rattle.member_queues.proofs.top_level.Given as goal
 

@@ -1,4 +1,4 @@
-use Rattle.std.proofs.Common.{◌≡◌, ◌≢◌, ◌<◌, inl, inr, ℕ, IsSome, sym, ap, List, Option, map, Bool, true, false, length, arith}
+use Rattle.std.proofs.Common.{◌≡◌, ◌≢◌, inl, inr, ℕ, IsSome, sym, ap, List, Option, map, Bool, true, false, arith}
 use Rattle.member_queues.specs.declared.Node.{Node}
 use Rattle.member_queues.specs.Ranks.{ranked}
 use Rattle.member_queues.specs.Heap.{nil, node_at, member_in}
