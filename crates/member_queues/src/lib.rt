@@ -299,19 +299,19 @@ fn run_of(forest: &Forest, first: u32, level: u32) -> u32
     at
 }
 
-/// The highest level of the runs from one on.
-fn top_level(forest: &Forest, first: u32) -> u32
-    requires heap { IsHeap forest.now.roots.items forest.now.nodes.items first }
-    requires owned { first ≢ nil → (node_at forest.now.nodes.items first).owner ≢ nil }
+/// Whether an owner has more than `LEVELS` runs.
+fn is_long(forest: &Forest, owner: u32) -> bool
+    requires heap { IsHeap forest.now.roots.items forest.now.nodes.items nil }
+    requires owner { owner < length forest.now.roots.items }
 {
-    let mut top = 0;
-    let mut at = first;
-    while at != NIL {
-        let Node { level, beside, .. } = forest.nodes[at as usize];
-        top = top.max(level);
-        at = beside;
+    let mut at = forest.roots[owner as usize];
+    for _ in 0..LEVELS {
+        if at == NIL {
+            return false;
+        }
+        at = forest.nodes[at as usize].beside;
     }
-    top
+    at != NIL
 }
 
 /// Makes one run of two of a level. It answers whether there are two.
@@ -336,8 +336,8 @@ fn join_two(forest: &mut Forest, owner: u32, level: u32) -> bool
     true
 }
 
-/// Joins runs of one level until each level up to one has no two.
-fn settle(forest: &mut Forest, owner: u32, top: u32)
+/// Makes one run of two of the lowest level, and of each level above it that then has two.
+fn settle(forest: &mut Forest, owner: u32)
     requires heap { IsHeap forest.old.roots.items forest.old.nodes.items nil }
     requires owner { owner < length forest.old.roots.items }
     ensures heap { IsHeap forest.new.roots.items forest.new.nodes.items nil }
@@ -346,9 +346,40 @@ fn settle(forest: &mut Forest, owner: u32, top: u32)
     ensures rooms { length forest.new.roots.items ≡ length forest.old.roots.items }
 {
     for level in 0..LEVELS {
-        if !join_two(forest, owner, level) && level >= top {
+        if !join_two(forest, owner, level) {
             return;
         }
+    }
+}
+
+/// Makes one run of two of a level, as long as it has two.
+fn settle_level(forest: &mut Forest, owner: u32, level: u32)
+    requires heap { IsHeap forest.old.roots.items forest.old.nodes.items nil }
+    requires owner { owner < length forest.old.roots.items }
+    requires level { level < 32 }
+    ensures heap { IsHeap forest.new.roots.items forest.new.nodes.items nil }
+    ensures members { map member_in forest.new.nodes.items ≡ map member_in forest.old.nodes.items }
+    ensures len { length forest.new.nodes.items ≡ length forest.old.nodes.items }
+    ensures rooms { length forest.new.roots.items ≡ length forest.old.roots.items }
+{
+    for _ in 0..LEVELS {
+        if !join_two(forest, owner, level) {
+            return;
+        }
+    }
+}
+
+/// Makes one run of two on each level, as long as it has two.
+fn settle_all(forest: &mut Forest, owner: u32)
+    requires heap { IsHeap forest.old.roots.items forest.old.nodes.items nil }
+    requires owner { owner < length forest.old.roots.items }
+    ensures heap { IsHeap forest.new.roots.items forest.new.nodes.items nil }
+    ensures members { map member_in forest.new.nodes.items ≡ map member_in forest.old.nodes.items }
+    ensures len { length forest.new.nodes.items ≡ length forest.old.nodes.items }
+    ensures rooms { length forest.new.roots.items ≡ length forest.old.roots.items }
+{
+    for level in 0..LEVELS {
+        settle_level(forest, owner, level);
     }
 }
 
@@ -383,7 +414,7 @@ fn place(forest: &mut Forest, owner: u32, key: u32)
 {
     let other = forest.nodes[key as usize].beside;
     if other == NIL {
-        settle(forest, owner, 0);
+        settle(forest, owner);
     } else {
         let level = forest.nodes[other as usize].level;
         join(forest, key, other, level);
@@ -566,10 +597,9 @@ impl MemberQueues {
         ensures keys { length self.new ≡ length self.old }
     {
         let held = detach(&mut self.forest, from, to, members);
-        if held != NIL {
-            let top = top_level(&self.forest, held);
-            meld(&mut self.forest, to, held);
-            settle(&mut self.forest, to, top);
+        meld(&mut self.forest, to, held);
+        if is_long(&self.forest, to) {
+            settle_all(&mut self.forest, to);
         }
     }
 
