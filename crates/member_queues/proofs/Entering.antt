@@ -24,10 +24,9 @@ IsHeap-grown rs ns w few = record {
     distinct = λ j k. rw (same j, same k) (w.ranked.distinct j k);
   };
   tree = record {
-    above = λ k. rw (same k) (λ owned free more. rw (same (node_at ns k).above) (w.tree.above k owned free more));
-    root = λ k. rw (same k) (λ owned free none. rw (same_root (node_at ns k).owner) (w.tree.root k owned free none));
+    above = λ k. rw (same k) (λ owned free away. rw (same (node_at ns k).above) (w.tree.above k owned free (λ z. away (same_root (node_at ns k).owner ∙ z))));
     tops = λ p. rw (same_root p) (λ some. rw (same (root_at rs p)) (w.tree.tops p some));
-    down = λ j k. rw (same j, same k) (w.tree.down j k);
+    down = λ j k. rw (same j, same k) (rw (same_root (node_at ns k).owner) (w.tree.down j k));
     apart = λ j. rw (same j) (w.tree.apart j);
   };
 }
@@ -42,7 +41,7 @@ IsHeap-grown rs ns w few = record {
 module _ (rs : List ℕ) (ns : List Node) (k p r : ℕ) (w : IsHeap rs ns nil) (key : k < length ns) (free : (node_at ns k).owner ≡ nil) (room : p < length rs) (fits : r ≤ nil)
     (new : (j : ℕ) → ranked (map member_in ns) j ≢ Some (p, r)) where
   abbrev node : Node
-  node = record { owner = p; rank = r; above = nil; left = nil; right = nil }
+  node = record { owner = p; rank = r; above = k; next = nil; beside = nil; level = 0 }
 
   here : node_at (set ns k node) k ≡ node
   here = get_or-set_same ns k node blank key
@@ -71,11 +70,11 @@ module _ (rs : List ℕ) (ns : List Node) (k p r : ℕ) (w : IsHeap rs ns nil) (
   some_key : (j : ℕ) → (node_at ns j).owner ≢ nil → j ≢ nil
   some_key j = is_some ns j w.ranked.few
 
-  above_entered : (j : ℕ) → j ≢ k → (node_at ns j).owner ≢ nil → (node_at ns j).above ≢ nil
+  above_entered : (j : ℕ) → j ≢ k → (node_at ns j).owner ≢ nil → root_at rs (node_at ns j).owner ≢ j
       → ((node_at (set ns k node) (node_at (set ns k node) j).above).owner ≡ (node_at (set ns k node) j).owner)
       × ((node_at (set ns k node) (node_at (set ns k node) j).above).rank < (node_at (set ns k node) j).rank) × IsBelow (set ns k node) (node_at (set ns k node) j).above j
-  above_entered j differs owned more =
-      let a = w.tree.above j owned (some_key j owned) more in
+  above_entered j differs owned away =
+      let a = w.tree.above j owned (some_key j owned) away in
       rw (other j differs) (rw (other (node_at ns j).above (not_k (node_at ns j).above (λ z. owned (sym a.0 ∙ z)))) a)
 
   pub IsHeap-entered : IsHeap rs (set ns k node) k
@@ -97,28 +96,27 @@ module _ (rs : List ℕ) (ns : List Node) (k p r : ℕ) (w : IsHeap rs ns nil) (
       ];
     };
     tree = record {
-      above = λ j owned differs more. above_entered j differs (was j differs owned) (λ z. more (ap (λ (x : Node). x.above) (other j differs) ∙ z));
-      root = λ j owned differs none. rw (other j differs) (w.tree.root j (was j differs owned) (some_key j (was j differs owned)) (sym (ap (λ (x : Node). x.above) (other j differs)) ∙ none));
+      above = λ j owned differs away. above_entered j differs (was j differs owned) (λ z. away (ap (root_at rs) (ap (λ (x : Node). x.owner) (other j differs)) ∙ z));
       tops = λ q some.
           let t = w.tree.tops q some in
           let lt = has_room rs q some in
           let differs = not_k (root_at rs q) (λ z. let e : q ≡ nil = sym t.0 ∙ z in omega (arith, lt, e, w.ranked.few, w.ranked.rooms)) in
-          rw (other (root_at rs q) differs) (t.0, t.1, differs);
+          rw (other (root_at rs q) differs) (t.0, differs);
       down = λ j m owned some below. elim (cases_eq j k) [
         | inl e ↦ elim (rw (e, here) at below) [ inl y ↦ absurd (some (sym y)) | inr y ↦ absurd (some (sym y)) ]
         | inr differs ↦
             let d = w.tree.down j m (was j differs owned) some (rw (other j differs) at below) in
             let differs' = not_k m (λ z. was j differs owned (sym d.0 ∙ z)) in
-            rw (other j differs, other m differs') (d.0, d.1, differs')
+            rw (other j differs, other m differs') (d.0, d.1, differs', d.3)
       ];
       apart = λ j. elim (cases_eq j k) [ inl e ↦ rw (e, here) (λ _ some _. some refl) | inr differs ↦ rw (other j differs) (w.tree.apart j) ];
     };
   }
 
 -- the held key becomes its owner's root, and the one that was is held
-pub IsHeap-crowned : (rs : List ℕ) (ns : List Node) (k p : ℕ) → IsHeap rs ns k → k ≢ nil → p < length rs → (node_at ns k).owner ≡ p → (node_at ns k).above ≡ nil
+pub IsHeap-crowned : (rs : List ℕ) (ns : List Node) (k p : ℕ) → IsHeap rs ns k → k ≢ nil → p < length rs → (node_at ns k).owner ≡ p
     → IsHeap (set rs p k) ns (root_at rs p)
-IsHeap-crowned rs ns k p w k_some room mine none = record {
+IsHeap-crowned rs ns k p w k_some room mine = record {
   ranked = record {
     few = w.ranked.few;
     rooms = rw (length-set rs p k) w.ranked.rooms;
@@ -127,22 +125,16 @@ IsHeap-crowned rs ns k p w k_some room mine none = record {
     distinct = w.ranked.distinct;
   };
   tree = record {
-    above = λ j owned free more. w.tree.above j owned (λ e. more (ap (λ i. (node_at ns i).above) e ∙ none)) more;
-    root = λ j owned free top. elim (cases_eq j k) [
-      | inl e ↦ rw (e, mine) here
-      | inr differs ↦
-          let old = w.tree.root j owned differs top in
-          other (node_at ns j).owner (λ z. free (sym old ∙ ap (root_at rs) z)) ∙ old
-    ];
+    above = λ j owned free away. w.tree.above j owned (not_k j away) (old_away j free away);
     tops = λ q. elim (cases_eq q p) [
-      | inl e ↦ rw (e, here) (λ _. (mine, none, λ z. (w.tree.tops p (λ y. k_some (z ∙ y))).2 (sym z)))
+      | inl e ↦ rw (e, here) (λ _. (mine, λ z. (w.tree.tops p (λ y. k_some (z ∙ y))).1 (sym z)))
       | inr differs ↦ rw (other q differs) (λ some.
           let t = w.tree.tops q some in
-          (t.0, t.1, λ z. differs (sym t.0 ∙ ap (λ i. (node_at ns i).owner) z ∙ (w.tree.tops p (λ y. some (z ∙ y))).0)))
+          (t.0, λ z. differs (sym t.0 ∙ ap (λ i. (node_at ns i).owner) z ∙ (w.tree.tops p (λ y. some (z ∙ y))).0)))
     ];
     down = λ j m owned some below.
         let d = w.tree.down j m owned some below in
-        (d.0, d.1, λ z. is_some ns j w.ranked.few owned (sym d.1 ∙ ap (λ i. (node_at ns i).above) z ∙ (w.tree.tops p (λ y. some (z ∙ y))).1));
+        (d.0, d.1, not_root m some d.3, new_away m d.2 d.3);
     apart = w.tree.apart;
   };
 }
@@ -153,31 +145,38 @@ IsHeap-crowned rs ns k p w k_some room mine none = record {
     other : (q : ℕ) → q ≢ p → root_at (set rs p k) q ≡ root_at rs q
     other q differs = get_or-set_other rs p q k nil differs
 
--- the key that came
-module _ (rs : List ℕ) (ns xs : List Node) (k p r : ℕ) (w : IsHeap rs ns nil) (key : k < length ns) (free : (node_at ns k).owner ≡ nil) (room : p < length rs) (fits : r ≤ nil)
-    (new : (j : ℕ) → ranked (map member_in ns) j ≢ Some (p, r)) (read : xs ≡ set ns k (record { owner = p; rank = r; above = nil; left = nil; right = nil })) where
-  abbrev ns' : List Node
-  ns' = set ns k (record { owner = p; rank = r; above = nil; left = nil; right = nil })
+    not_k : (j : ℕ) → root_at (set rs p k) (node_at ns j).owner ≢ j → j ≢ k
+    not_k j away e = away (ap (root_at (set rs p k)) (ap (λ i. (node_at ns i).owner) e ∙ mine) ∙ here ∙ sym e)
 
-  pub entered : IsHeap rs ns' k
-  entered = IsHeap-entered rs ns k p r w key free room fits new
+    old_away : (j : ℕ) → j ≢ root_at rs p → root_at (set rs p k) (node_at ns j).owner ≢ j → root_at rs (node_at ns j).owner ≢ j
+    old_away j free away z = elim (cases_eq (node_at ns j).owner p) [
+      | inl e ↦ free (sym z ∙ ap (root_at rs) e)
+      | inr differs ↦ away (other (node_at ns j).owner differs ∙ z)
+    ]
 
-  p_there : p ≢ nil
-  p_there = omega (arith, room, w.ranked.few, w.ranked.rooms)
+    not_root : (m : ℕ) → m ≢ nil → root_at rs (node_at ns m).owner ≢ m → m ≢ root_at rs p
+    not_root m some away z = away (ap (root_at rs) (ap (λ i. (node_at ns i).owner) z ∙ (w.tree.tops p (λ y. some (z ∙ y))).0) ∙ sym z)
 
-  k_node : node_at ns' k ≡ record { owner = p; rank = r; above = nil; left = nil; right = nil }
-  k_node = get_or-set_same ns k _ blank key
+    new_away : (m : ℕ) → m ≢ k → root_at rs (node_at ns m).owner ≢ m → root_at (set rs p k) (node_at ns m).owner ≢ m
+    new_away m differs away z = elim (cases_eq (node_at ns m).owner p) [
+      | inl e ↦ differs (sym z ∙ ap (root_at (set rs p k)) e ∙ here)
+      | inr away' ↦ away (sym (other (node_at ns m).owner away') ∙ z)
+    ]
 
-  pub entered_top : ((node_at ns' k).owner ≡ p) × ((node_at ns' k).above ≡ nil)
-  entered_top = (ap (λ (x : Node). x.owner) k_node, ap (λ (x : Node). x.above) k_node)
+-- a held key goes below a member of the same owner and a lesser rank
+pub sinks_below : (rs : List ℕ) (ns xs : List Node) (at k p : ℕ) → IsHeap rs ns k → p < length rs → (node_at ns k).owner ≡ p → xs ≡ ns
+    → ((node_at xs at).owner ≡ (node_at xs k).owner) × ((node_at xs at).rank < (node_at xs k).rank) → IsSinking rs ns at k
+sinks_below rs ns xs at k p w room mine read elder =
+    let same : (node_at ns at).owner ≡ (node_at ns k).owner = rw read at elder.0 in
+    record {
+      heap = w;
+      owned = λ _ z.
+          let e : p ≡ nil = sym mine ∙ sym same ∙ z in
+          let few = w.ranked.few in let rooms = w.ranked.rooms in omega (arith, room, e, few, rooms);
+      same = λ _. sym same;
+      lower = λ _. rw read at elder.1;
+    }
 
-  -- below a member of the same owner and a lesser rank
-  pub sinks_below : (at : ℕ) → ((node_at xs at).owner ≡ (node_at xs k).owner) × ((node_at xs at).rank < (node_at xs k).rank) → IsSinking rs ns' at k
-  sinks_below at elder =
-      let same : (node_at ns' at).owner ≡ (node_at ns' k).owner = rw read at elder.0 in
-      record {
-        heap = entered;
-        owned = λ _ z. p_there (sym (ap (λ (x : Node). x.owner) k_node) ∙ sym same ∙ z);
-        same = λ _. sym same;
-        lower = λ _. rw read at elder.1;
-      }
+-- the first member of an owner
+pub IsHeap-first : (rs : List ℕ) (ns : List Node) (k p : ℕ) → IsHeap rs ns k → k ≢ nil → p < length rs → (node_at ns k).owner ≡ p → root_at rs p ≡ nil → IsHeap (set rs p k) ns nil
+IsHeap-first rs ns k p w some room mine none = rw none at (IsHeap-crowned rs ns k p w some room mine)

@@ -2,5 +2,6 @@ pub mod Trees
 pub mod Sinking
 pub mod Filling
 pub mod Entering
-mod Telling
-mod Melding
+pub mod Telling
+pub mod Melding
+pub mod Marking

@@ -1,9 +1,9 @@
 -- Members that go to another owner all at once, and keep their tree.
-use Rattle.std.proofs.Common.{◌≡◌, ◌≢◌, ◌⊎◌, inl, inr, ℕ, ◌+◌, ◌<◌, ◌==◌, Bool, true, false, List, [], ◌∷◌, length, set, map, if◌then◌else◌, Option, Some, None, option_map, refl, sym, ap, ◌∙◌, arith}
+use Rattle.std.proofs.Common.{◌≡◌, ◌≢◌, ◌⊎◌, inl, inr, ℕ, ◌+◌, ◌<◌, ◌≤◌, ◌==◌, Bool, true, false, List, [], ◌∷◌, length, set, map, if◌then◌else◌, Option, Some, None, option_map, refl, sym, ap, ◌∙◌, arith}
 use Rattle.std.specs.List.{AllByRecursion}
 use Rattle.std.specs.Option.{option_map_or}
 use Rattle.std.proofs.lemmas.Bool.{cases_eq, eq-eqb}
-use Rattle.std.proofs.lemmas.List.{get_or-set_same, get_or-set_other, length-set, length-map}
+use Rattle.std.proofs.lemmas.List.{get_or_past, get_or-set_same, get_or-set_other, length-set, length-map}
 use Rattle.std.proofs.lemmas.List.Sums.{sum_by-cons}
 use Rattle.member_lists.specs.Owners.{times, handed}
 use Rattle.member_queues.specs.declared.Node.{Node}
@@ -143,22 +143,22 @@ module _ (rs : List ℕ) (ns ns' : List Node) (from to : ℕ) (w : IsHeap rs ns 
   up : (k : ℕ) → (node_at ns' k).above ≡ (node_at ns k).above
   up k = elim (cases_eq (node_at ns k).owner from) [ inl mine ↦ ap (λ (x : Node). x.above) (t.here k mine) | inr other ↦ ap (λ (x : Node). x.above) (t.others k other) ]
 
-  lefts : (k : ℕ) → (node_at ns' k).left ≡ (node_at ns k).left
-  lefts k = elim (cases_eq (node_at ns k).owner from) [ inl mine ↦ ap (λ (x : Node). x.left) (t.here k mine) | inr other ↦ ap (λ (x : Node). x.left) (t.others k other) ]
+  nexts : (k : ℕ) → (node_at ns' k).next ≡ (node_at ns k).next
+  nexts k = elim (cases_eq (node_at ns k).owner from) [ inl mine ↦ ap (λ (x : Node). x.next) (t.here k mine) | inr other ↦ ap (λ (x : Node). x.next) (t.others k other) ]
 
-  rights : (k : ℕ) → (node_at ns' k).right ≡ (node_at ns k).right
-  rights k = elim (cases_eq (node_at ns k).owner from) [ inl mine ↦ ap (λ (x : Node). x.right) (t.here k mine) | inr other ↦ ap (λ (x : Node). x.right) (t.others k other) ]
+  besides : (k : ℕ) → (node_at ns' k).beside ≡ (node_at ns k).beside
+  besides k = elim (cases_eq (node_at ns k).owner from) [ inl mine ↦ ap (λ (x : Node). x.beside) (t.here k mine) | inr other ↦ ap (λ (x : Node). x.beside) (t.others k other) ]
 
   was : (k : ℕ) → (node_at ns' k).owner ≢ nil → (node_at ns k).owner ≢ nil
   was k owned z = owned (own k ∙ ap (handed from to) z ∙ handed-other from to nil (λ e. from_some (sym e)))
 
   into : (j k : ℕ) → IsBelow ns j k → IsBelow ns' j k
-  into j k (inl e) = inl (lefts j ∙ e)
-  into j k (inr e) = inr (rights j ∙ e)
+  into j k (inl e) = inl (nexts j ∙ e)
+  into j k (inr e) = inr (besides j ∙ e)
 
   back : (j k : ℕ) → IsBelow ns' j k → IsBelow ns j k
-  back j k (inl e) = inl (sym (lefts j) ∙ e)
-  back j k (inr e) = inr (sym (rights j) ∙ e)
+  back j k (inl e) = inl (sym (nexts j) ∙ e)
+  back j k (inr e) = inr (sym (besides j) ∙ e)
 
   same_owner : (j k : ℕ) → (node_at ns j).owner ≡ (node_at ns k).owner → (node_at ns' j).owner ≡ (node_at ns' k).owner
   same_owner j k e = own j ∙ ap (handed from to) e ∙ sym (own k)
@@ -195,21 +195,37 @@ module _ (rs : List ℕ) (ns ns' : List Node) (from to : ℕ) (w : IsHeap rs ns 
     | inr other ↦ let e = own_other k other in let l = length-set rs from nil in let lt = w.ranked.known k (was k owned) in omega (arith, e, l, lt)
   ]
 
-  -- the one's root is of the one, and has no key over it
-  first : root_at rs from ≢ nil → ((node_at ns (root_at rs from)).owner ≡ from) × ((node_at ns (root_at rs from)).above ≡ nil)
-  first some = let o = w.tree.tops from some in (o.0, o.1)
+  -- the one's root is of the one
+  first : root_at rs from ≢ nil → (node_at ns (root_at rs from)).owner ≡ from
+  first some = (w.tree.tops from some).0
 
-  root_told : (k : ℕ) → (node_at ns' k).owner ≢ nil → k ≢ root_at rs from → (node_at ns' k).above ≡ nil → root_at (set rs from nil) (node_at ns' k).owner ≡ k
-  root_told k owned free none =
-      let owned' = was k owned in
-      let old = w.tree.root k owned' (is_some ns k w.ranked.few owned') (sym (up k) ∙ none) in
-      elim (cases_eq (node_at ns k).owner from) [
-        | inl mine ↦ absurd (free (sym old ∙ ap (root_at rs) mine))
-        | inr other ↦ ap (root_at (set rs from nil)) (own_other k other) ∙ kept (node_at ns k).owner other ∙ old
-      ]
+  -- a key that is no root is none, and a key that is neither a root nor held was none
+  away_told : (k : ℕ) → k ≢ nil → root_at rs (node_at ns k).owner ≢ k → root_at (set rs from nil) (node_at ns' k).owner ≢ k
+  away_told k some away z = elim (cases_eq (node_at ns' k).owner from) [
+    | inl same ↦ some (sym z ∙ ap (root_at (set rs from nil)) same ∙ gone)
+    | inr far ↦ elim (cases_eq (node_at ns k).owner from) [
+      | inl mine ↦ to_root k mine (sym (kept (node_at ns' k).owner far) ∙ z)
+      | inr other ↦ away (sym (kept (node_at ns k).owner other) ∙ ap (root_at (set rs from nil)) (sym (own_other k other)) ∙ z)
+    ]
+  ]
+    where
+      -- no member of the one is the root of the other
+      to_root : (k : ℕ) → (node_at ns k).owner ≡ from → root_at rs (node_at ns' k).owner ≡ k → ⊥
+      to_root k mine z =
+          let e : root_at rs to ≡ k = ap (root_at rs) (sym (own_from k mine)) ∙ z in
+          let t = (w.tree.tops to (λ y. from_some (sym mine ∙ ap (λ i. (node_at ns i).owner) (sym e ∙ y) ∙ past nil w.ranked.few))).0 in
+          differ (sym mine ∙ ap (λ i. (node_at ns i).owner) (sym e) ∙ t)
+        where
+          past : (j : ℕ) → length ns ≤ j → (node_at ns j).owner ≡ nil
+          past j few = ap (λ (x : Node). x.owner) (get_or_past ns j blank few)
 
-  tops_told : (p : ℕ) → root_at (set rs from nil) p ≢ nil
-      → ((node_at ns' (root_at (set rs from nil) p)).owner ≡ p) × ((node_at ns' (root_at (set rs from nil) p)).above ≡ nil) × (root_at (set rs from nil) p ≢ root_at rs from)
+  was_away : (k : ℕ) → k ≢ root_at rs from → root_at (set rs from nil) (node_at ns' k).owner ≢ k → root_at rs (node_at ns k).owner ≢ k
+  was_away k free away z = elim (cases_eq (node_at ns k).owner from) [
+    | inl mine ↦ free (sym z ∙ ap (root_at rs) mine)
+    | inr other ↦ away (ap (root_at (set rs from nil)) (own_other k other) ∙ kept (node_at ns k).owner other ∙ z)
+  ]
+
+  tops_told : (p : ℕ) → root_at (set rs from nil) p ≢ nil → ((node_at ns' (root_at (set rs from nil) p)).owner ≡ p) × (root_at (set rs from nil) p ≢ root_at rs from)
   tops_told p some = elim (cases_eq p from) [
     | inl same ↦ absurd (some (ap (root_at (set rs from nil)) same ∙ gone))
     | inr other ↦
@@ -218,31 +234,31 @@ module _ (rs : List ℕ) (ns ns' : List Node) (from to : ℕ) (w : IsHeap rs ns 
         let o = w.tree.tops p there in
         rw is (
           own_other (root_at rs p) (λ z. other (sym o.0 ∙ z)) ∙ o.0,
-          up (root_at rs p) ∙ o.1,
-          λ e. other (sym o.0 ∙ ap (λ i. (node_at ns i).owner) e ∙ (first (λ z. there (e ∙ z))).0),
+          λ e. other (sym o.0 ∙ ap (λ i. (node_at ns i).owner) e ∙ first (λ z. there (e ∙ z))),
         )
   ]
 
   down_told : (j k : ℕ) → (node_at ns' j).owner ≢ nil → k ≢ nil → IsBelow ns' j k
-      → ((node_at ns' k).owner ≡ (node_at ns' j).owner) × ((node_at ns' k).above ≡ j) × (k ≢ root_at rs from)
+      → ((node_at ns' k).owner ≡ (node_at ns' j).owner) × ((node_at ns' k).above ≡ j) × (k ≢ root_at rs from) × (root_at (set rs from nil) (node_at ns' k).owner ≢ k)
   down_told j k owned some b =
       let o = w.tree.down j k (was j owned) some (back j k b) in (
         same_owner k j o.0,
         up k ∙ o.1,
-        λ e. is_some ns j w.ranked.few (was j owned) (sym o.1 ∙ ap (λ i. (node_at ns i).above) e ∙ (first (λ z. some (e ∙ z))).1),
+        λ e. o.3 (ap (root_at rs) (ap (λ i. (node_at ns i).owner) e ∙ first (λ z. some (e ∙ z))) ∙ sym e),
+        away_told k some o.3,
       )
 
-  above_told : (k : ℕ) → (node_at ns' k).owner ≢ nil → (node_at ns' k).above ≢ nil
+  above_told : (k : ℕ) → (node_at ns' k).owner ≢ nil → root_at rs (node_at ns k).owner ≢ k
       → ((node_at ns' (node_at ns' k).above).owner ≡ (node_at ns' k).owner)
       × ((node_at ns' (node_at ns' k).above).rank < (node_at ns' k).rank) × IsBelow ns' (node_at ns' k).above k
-  above_told k owned more =
+  above_told k owned away =
       let owned' = was k owned in
       let m = (node_at ns k).above in
-      let o = w.tree.above k owned' (is_some ns k w.ranked.few owned') (λ z. more (up k ∙ z)) in
+      let o = w.tree.above k owned' (is_some ns k w.ranked.few owned') away in
       rw (up k) (same_owner m k o.0, omega (arith, ranks m, ranks k, o.1), into m k o.2)
 
-  apart_told : (j : ℕ) → (node_at ns' j).owner ≢ nil → (node_at ns' j).left ≢ nil → (node_at ns' j).left ≢ (node_at ns' j).right
-  apart_told j owned some e = w.tree.apart j (was j owned) (λ z. some (lefts j ∙ z)) (sym (lefts j) ∙ e ∙ rights j)
+  apart_told : (j : ℕ) → (node_at ns' j).owner ≢ nil → (node_at ns' j).next ≢ nil → (node_at ns' j).next ≢ (node_at ns' j).beside
+  apart_told j owned some e = w.tree.apart j (was j owned) (λ z. some (nexts j ∙ z)) (sym (nexts j) ∙ e ∙ besides j)
 
   -- the one has no members, and its tree is held
   pub IsHeap-told : IsHeap (set rs from nil) ns' (root_at rs from)
@@ -255,16 +271,15 @@ module _ (rs : List ℕ) (ns ns' : List Node) (from to : ℕ) (w : IsHeap rs ns 
       distinct = distinct_told;
     };
     tree = record {
-      above = λ k owned free more. above_told k owned more;
-      root = root_told;
+      above = λ k owned free away. above_told k owned (was_away k free away);
       tops = tops_told;
       down = down_told;
       apart = apart_told;
     };
   }
 
-  pub top-told : root_at rs from ≢ nil → ((node_at ns' (root_at rs from)).owner ≡ to) × ((node_at ns' (root_at rs from)).above ≡ nil)
-  top-told some = let o = first some in (own_from (root_at rs from) o.0, up (root_at rs from) ∙ o.1)
+  pub top-told : root_at rs from ≢ nil → (node_at ns' (root_at rs from)).owner ≡ to
+  top-told some = own_from (root_at rs from) (first some)
 
   abbrev handed_pair : ℕ × ℕ → ℕ × ℕ
   handed_pair m = (handed from to m.0, m.1)

@@ -5,7 +5,7 @@ use Rattle.std.proofs.lemmas.List.{get_or_past, get_or_default}
 use Rattle.std.proofs.Math.ListN.{get_or-map}
 use Rattle.member_queues.specs.declared.Node.{Node}
 use Rattle.member_queues.specs.Ranks.{ranked, IsLeast}
-use Rattle.member_queues.specs.Heap.{nil, blank, node_at, root_at, member_in, AreRanked, IsHeap}
+use Rattle.member_queues.specs.Heap.{nil, blank, node_at, root_at, member_in, IsBelow, AreRanked, IsHeap}
 
 -- a key with an owner has a node
 pub within : (ns : List Node) (k : ℕ) → (node_at ns k).owner ≢ nil → k < length ns
@@ -64,15 +64,63 @@ pub member_there : (n : Node) → IsSome (member_in n) → n.owner ≢ nil
 member_there n some z = grind arith
 
 -- owners and ranks that are as before keep their bounds
-pub AreRanked-kept : (rs : List ℕ) (ns ns' : List Node) → AreRanked rs ns → ((j : ℕ) → (node_at ns' j).owner ≡ (node_at ns j).owner)
-    → ((j : ℕ) → (node_at ns' j).rank ≡ (node_at ns j).rank) → length ns' ≡ length ns → AreRanked rs ns'
-AreRanked-kept rs ns ns' w own ranks len = record {
+pub AreRanked-kept : (rs rs' : List ℕ) (ns ns' : List Node) → AreRanked rs ns → ((j : ℕ) → (node_at ns' j).owner ≡ (node_at ns j).owner)
+    → ((j : ℕ) → (node_at ns' j).rank ≡ (node_at ns j).rank) → length ns' ≡ length ns → length rs' ≡ length rs → AreRanked rs' ns'
+AreRanked-kept rs rs' ns ns' w own ranks len rooms = record {
   few = omega (arith, len, w.few);
-  rooms = omega (arith, len, w.rooms);
+  rooms = omega (arith, len, rooms, w.rooms);
   fits = λ k. rw (ranks k) (w.fits k);
-  known = λ k owned. rw (own k) (w.known k (λ z. owned (own k ∙ z)));
+  known = λ k owned. rw (own k) (let lt = w.known k (λ z. owned (own k ∙ z)) in omega (arith, rooms, lt));
   distinct = λ j k owned same e. w.distinct j k (λ z. owned (own j ∙ z)) (sym (own j) ∙ same ∙ own k) (sym (ranks j) ∙ e ∙ ranks k);
 }
+
+-- what a node says but for its level, and at a root but for the key over it
+pub record Marked (rs : List ℕ) (ns ns' : List Node) : Type 0 where
+  pub own : (j : ℕ) → (node_at ns' j).owner ≡ (node_at ns j).owner
+  pub ranks : (j : ℕ) → (node_at ns' j).rank ≡ (node_at ns j).rank
+  pub above : (j : ℕ) → root_at rs (node_at ns j).owner ≢ j → (node_at ns' j).above ≡ (node_at ns j).above
+  pub nexts : (j : ℕ) → (node_at ns' j).next ≡ (node_at ns j).next
+  pub besides : (j : ℕ) → (node_at ns' j).beside ≡ (node_at ns j).beside
+  pub len : length ns' ≡ length ns
+
+-- a tree stands by that alone
+pub IsHeap-marked : (rs : List ℕ) (ns ns' : List Node) → IsHeap rs ns nil → Marked rs ns ns' → IsHeap rs ns' nil
+IsHeap-marked rs ns ns' w t = record {
+  ranked = AreRanked-kept rs rs ns ns' w.ranked t.own t.ranks t.len refl;
+  tree = record {
+    above = λ k owned held away.
+        let away' : root_at rs (node_at ns k).owner ≢ k = λ z. away (ap (root_at rs) (t.own k) ∙ z) in
+        let m = (node_at ns k).above in
+        let o = w.tree.above k (was k owned) held away' in
+        rw (t.above k away') (t.own m ∙ o.0 ∙ sym (t.own k), omega (arith, t.ranks m, t.ranks k, o.1), rw (t.nexts m, t.besides m) o.2);
+    tops = λ p some. let o = w.tree.tops p some in (t.own (root_at rs p) ∙ o.0, o.1);
+    down = λ j k owned some b.
+        let o = w.tree.down j k (was j owned) some (rw (t.nexts j, t.besides j) at b) in
+        (t.own k ∙ o.0 ∙ sym (t.own j), t.above k o.3 ∙ o.1, o.2, λ z. o.3 (sym (ap (root_at rs) (t.own k)) ∙ z));
+    apart = λ j owned. rw (t.nexts j, t.besides j) (w.tree.apart j (was j owned));
+  };
+}
+  where
+    was : (j : ℕ) → (node_at ns' j).owner ≢ nil → (node_at ns j).owner ≢ nil
+    was j owned z = owned (t.own j ∙ z)
+
+-- a key's side has its owner and ranks higher
+pub side_after : (rs : List ℕ) (ns : List Node) (held j k : ℕ) → IsHeap rs ns held → (node_at ns j).owner ≢ nil → k ≢ nil → IsBelow ns j k
+    → ((node_at ns k).owner ≡ (node_at ns j).owner) × ((node_at ns j).rank < (node_at ns k).rank)
+side_after rs ns held j k w owned some b =
+    let d = w.tree.down j k owned some b in
+    let a = w.tree.above k (λ z. owned (sym d.0 ∙ z)) d.2 d.3 in
+    let lt : (node_at ns j).rank < (node_at ns k).rank = rw d.1 at a.1 in
+    (d.0, lt)
+
+-- members that are as before keep their owner and rank
+pub same_member : (ns ns' : List Node) (k : ℕ) → map member_in ns' ≡ map member_in ns → (node_at ns k).owner ≢ nil
+    → ((node_at ns' k).owner ≡ (node_at ns k).owner) × ((node_at ns' k).rank ≡ (node_at ns k).rank)
+same_member ns ns' k e owned =
+    let is : member_in (node_at ns' k) ≡ Some ((node_at ns k).owner, (node_at ns k).rank)
+    = sym (ranked-nodes ns' k) ∙ ap (λ l. ranked l k) e ∙ ranked-nodes ns k ∙ some_member (node_at ns k) (node_at ns k).owner refl owned in
+    let m = member_some (node_at ns' k) (node_at ns k).owner (node_at ns k).rank is in
+    (m.0, m.1)
 
 -- the root of an owner that has a member is there, and ranks no higher
 pub top : (rs : List ℕ) (ns : List Node) → IsHeap rs ns nil → (p k : ℕ) → (node_at ns k).owner ≡ p → p ≢ nil → (root_at rs p ≢ nil) × ((node_at ns (root_at rs p)).rank ≤ (node_at ns k).rank)
@@ -83,10 +131,10 @@ top rs ns w p k mine some = climb ((node_at ns k).rank + 1) k mine (omega arith)
     climb (suc most) k mine low =
         let owned : (node_at ns k).owner ≢ nil = λ z. some (sym mine ∙ z) in
         let here = is_some ns k w.ranked.few owned in
-        elim (cases_eq (node_at ns k).above nil) [
-          | inl none ↦ let e : root_at rs p ≡ k = ap (root_at rs) (sym mine) ∙ w.tree.root k owned here none in rw e (here, omega arith)
-          | inr more ↦
-              let t = w.tree.above k owned here more in
+        elim (cases_eq (root_at rs p) k) [
+          | inl e ↦ rw e (here, omega arith)
+          | inr away ↦
+              let t = w.tree.above k owned here (λ z. away (ap (root_at rs) (sym mine) ∙ z)) in
               let up = climb most (node_at ns k).above (t.0 ∙ mine) (omega (arith, t.1, low)) in
               (up.0, omega (arith, up.1, t.1))
         ]

@@ -1,16 +1,17 @@
 //! Members by owner and rank: for each owner the member of least rank.
 //!
-//! The members of an owner are a binary tree in which each key's rank is above that of the key over it, a
-//! skew heap: one tree is joined to another along a path whose keys trade their two sides. That keeps
-//! paths short, so that a call costs a logarithm of the members, taken over many calls. No call but
-//! `grow` takes memory. Keys and owners are numbers below 2^30.
+//! The members of an owner are a few sorted runs. Each key knows the next of its run, and the first of a run knows
+//! the first of the run beside it, which ranks above it. So each key ranks above the key that leads to it, and the
+//! first of all is the least. Two runs that grew to one level become one, as in a binary counter, so that an owner
+//! has at most a logarithm of its members in runs. No call but `grow` takes memory. Keys and owners are numbers
+//! below 2^30.
 #![tactic(auto)]
 
-ghost use Rattle.std.specs.Prelude.{◌≡◌, ◌≢◌, ◌⊎◌, ℕ, ◌+◌, ◌<◌, ◌^◌, length, map, Some, None, MatchOption, OnOk, OnErr, [], ◌∷◌, ◌++◌, IsSome, IsTrue, ◌↔◌, slice_set, option_map};
+ghost use Rattle.std.specs.Prelude.{◌≡◌, ◌≢◌, ◌⊎◌, ℕ, ◌+◌, ◌<◌, ◌≤◌, ◌^◌, length, map, Some, None, MatchOption, OnOk, OnErr, [], ◌∷◌, ◌++◌, IsSome, IsTrue, ◌↔◌, slice_set, option_map};
 ghost use Rattle.std.specs.List.{AllByRecursion};
 ghost use Rattle.member_lists.specs.Owners.{handed};
 ghost use Rattle.member_queues.specs.Ranks.{ranked, IsLeast, AreRankedMembers};
-ghost use Rattle.member_queues.specs.Heap.{nil, node_at, root_at, member_in, told, AreSides, IsHeap, IsSinking};
+ghost use Rattle.member_queues.specs.Heap.{nil, node_at, root_at, member_in, told, key_on, with_side, AreSides, IsHeap, IsSinking};
 
 use member_lists::Members;
 use std::alloc::{AllocError, Global};
@@ -19,17 +20,31 @@ use std::marker::Model;
 /// No key and no owner.
 const NIL: u32 = u32::MAX;
 
+/// How many levels of runs there are at most: a run of each level has twice the keys, and there are below 2^32.
+const LEVELS: u32 = 32;
+
+/// One of the two sides of a key: the next of its run, or the first of the run beside.
+#[derive(Clone, Copy)]
+enum Side {
+    Next,
+    Beside,
+}
+
 /// A key's place among the members of its owner. Where it has no owner the rest means nothing.
+///
+/// `above` is the key that leads to it; of the first of all it is the member that came last, or any key. `level`
+/// counts, at the first of a run, how often two runs became one in it.
 #[derive(Clone, Copy)]
 struct Node {
     owner: u32,
     rank: u32,
     above: u32,
-    left: u32,
-    right: u32,
+    next: u32,
+    beside: u32,
+    level: u32,
 }
 
-/// The trees of all owners, while one of them may be open.
+/// The runs of all owners, while one of them may be open.
 #[derive(Drop)]
 struct Forest {
     roots: Vec<u32>,
@@ -43,7 +58,6 @@ struct Forest {
 #[derive(Drop)]
 pub struct MemberQueues {
     forest: Forest,
-    latest: Vec<u32>,
 }
 
 impl Model for MemberQueues {
@@ -51,11 +65,33 @@ impl Model for MemberQueues {
 
     ghost Value = { List (Option (ℕ × ℕ)) };
 
-    ghost use Rattle.member_queues.specs.Heap.{member_in, IsKept};
+    ghost use Rattle.member_queues.specs.Heap.{nil, member_in, IsHeap};
 
     ghost view = { λ a. map member_in a.forest.nodes.items };
 
-    ghost invariant = { λ a. IsKept a.forest.roots.items a.forest.nodes.items a.latest.items };
+    ghost invariant = { λ a. IsHeap a.forest.roots.items a.forest.nodes.items nil };
+}
+
+/// The key on one side of another.
+#[inline(always)]
+fn key_on(node: &Node, side: Side) -> u32
+    ensures { result ≡ key_on side node.now }
+{
+    match side {
+        Side::Next => node.next,
+        Side::Beside => node.beside,
+    }
+}
+
+/// Puts a key, or none, on one side of another.
+#[inline(always)]
+fn put_on(node: &mut Node, side: Side, key: u32)
+    ensures { node.new ≡ with_side side key node.old }
+{
+    match side {
+        Side::Next => node.next = key,
+        Side::Beside => node.beside = key,
+    }
 }
 
 /// Whether the first key is there and comes before the second, which need not be there.
@@ -67,73 +103,93 @@ fn is_before(nodes: &[Node], a: u32, b: u32) -> bool
     a != NIL && (b == NIL || nodes[a as usize].rank < nodes[b as usize].rank)
 }
 
-/// Whether the first key is there, with the owner of the second, and ranks lower.
+/// Whether the first key ends a run of the second's owner, and ranks lower.
 fn is_elder(nodes: &[Node], a: u32, b: u32) -> bool
     requires { b < length nodes.now }
     ensures { IsTrue result → ((node_at nodes.now a).owner ≡ (node_at nodes.now b).owner) × ((node_at nodes.now a).rank < (node_at nodes.now b).rank) }
 {
     (a as usize) < nodes.len()
         && nodes[a as usize].owner == nodes[b as usize].owner
+        && nodes[a as usize].next == NIL
         && nodes[a as usize].rank < nodes[b as usize].rank
 }
 
-/// Joins a tree below a key one step further. It answers the next key and what is to go below it.
-fn step(forest: &mut Forest, at: u32, held: u32) -> (u32, u32)
+/// A key's rank, or the highest of all where there is no such key.
+#[inline(always)]
+fn rank_of(nodes: &[Node], key: u32) -> u32
+    ensures there { key < length nodes.now → result ≡ (node_at nodes.now key).rank }
+    ensures none { length nodes.now ≤ key → result ≡ nil }
+{
+    if (key as usize) < nodes.len() {
+        nodes[key as usize].rank
+    } else {
+        u32::MAX
+    }
+}
+
+/// Joins a tree below a key one step further. It answers the next key, and what is to go below it with its rank.
+#[inline(always)]
+fn step(forest: &mut Forest, side: Side, at: u32, held: u32, rank: u32) -> (u32, u32, u32)
     requires sinking { IsSinking forest.old.roots.items forest.old.nodes.items at held }
     requires some { held ≢ nil }
+    requires rank { rank ≡ (node_at forest.old.nodes.items held).rank }
     ensures sinking { IsSinking forest.new.roots.items forest.new.nodes.items result.0 result.1 }
     ensures on { (node_at forest.old.nodes.items at).rank < (node_at forest.new.nodes.items result.0).rank }
-    ensures members { map member_in forest.new.nodes.items ≡ map member_in forest.old.nodes.items }
-    ensures len { length forest.new.nodes.items ≡ length forest.old.nodes.items }
-{
-    let Node { left, right, .. } = forest.nodes[at as usize];
-    if is_before(forest.nodes.as_slice(), right, held) {
-        let node = &mut forest.nodes[at as usize];
-        node.left = right;
-        node.right = left;
-        (right, held)
-    } else {
-        let node = &mut forest.nodes[at as usize];
-        node.left = held;
-        node.right = left;
-        forest.nodes[held as usize].above = at;
-        (held, right)
-    }
-}
-
-/// Joins a tree below a key of the same owner and a lesser rank.
-fn sink(forest: &mut Forest, mut at: u32, mut held: u32)
-    requires { IsSinking forest.old.roots.items forest.old.nodes.items at held }
-    ensures heap { IsHeap forest.new.roots.items forest.new.nodes.items nil }
-    ensures members { map member_in forest.new.nodes.items ≡ map member_in forest.old.nodes.items }
-    ensures len { length forest.new.nodes.items ≡ length forest.old.nodes.items }
-{
-    while held != NIL {
-        (at, held) = step(forest, at, held);
-    }
-}
-
-/// Puts a key, or none, where another one is among the roots or on a side of the key over it.
-fn set_child(forest: &mut Forest, owner: u32, above: u32, key: u32, by: u32)
-    requires owner { owner < length forest.old.roots.items }
-    requires above { above ≢ nil → above < length forest.old.nodes.items }
-    ensures root { above ≡ nil → root_at forest.new.roots.items owner ≡ by }
-    ensures roots { (p : ℕ) → (above ≢ nil) ⊎ (p ≢ owner) → root_at forest.new.roots.items p ≡ root_at forest.old.roots.items p }
-    ensures left { above ≢ nil → (node_at forest.old.nodes.items above).left ≡ key
-        → node_at forest.new.nodes.items above ≡ record (node_at forest.old.nodes.items above) { left = by } }
-    ensures right { above ≢ nil → (node_at forest.old.nodes.items above).left ≢ key
-        → node_at forest.new.nodes.items above ≡ record (node_at forest.old.nodes.items above) { right = by } }
-    ensures others { (j : ℕ) → j ≢ above → node_at forest.new.nodes.items j ≡ node_at forest.old.nodes.items j }
+    ensures rank { result.1 ≢ nil → result.2 ≡ (node_at forest.new.nodes.items result.1).rank }
     ensures members { map member_in forest.new.nodes.items ≡ map member_in forest.old.nodes.items }
     ensures len { length forest.new.nodes.items ≡ length forest.old.nodes.items }
     ensures rooms { length forest.new.roots.items ≡ length forest.old.roots.items }
 {
-    if above == NIL {
-        forest.roots[owner as usize] = by;
-    } else if forest.nodes[above as usize].left == key {
-        forest.nodes[above as usize].left = by;
+    let behind = key_on(&forest.nodes[at as usize], side);
+    let lower = rank_of(forest.nodes.as_slice(), behind);
+    if lower < rank {
+        (behind, held, rank)
     } else {
-        forest.nodes[above as usize].right = by;
+        put_on(&mut forest.nodes[at as usize], side, held);
+        forest.nodes[held as usize].above = at;
+        (held, behind, lower)
+    }
+}
+
+/// Joins a tree below a key of the same owner and a lesser rank. What is on one side of the two, and on that side
+/// of that, and so on, becomes one sequence in the order of the ranks.
+#[inline(always)]
+fn sink(forest: &mut Forest, side: Side, mut at: u32, mut held: u32)
+    requires { IsSinking forest.old.roots.items forest.old.nodes.items at held }
+    ensures heap { IsHeap forest.new.roots.items forest.new.nodes.items nil }
+    ensures members { map member_in forest.new.nodes.items ≡ map member_in forest.old.nodes.items }
+    ensures len { length forest.new.nodes.items ≡ length forest.old.nodes.items }
+    ensures rooms { length forest.new.roots.items ≡ length forest.old.roots.items }
+{
+    let mut rank = rank_of(forest.nodes.as_slice(), held);
+    while held != NIL {
+        (at, held, rank) = step(forest, side, at, held, rank);
+    }
+}
+
+/// Puts a key, or none, where another one is the root of its owner or on a side of the key over it.
+fn set_child(forest: &mut Forest, owner: u32, above: u32, key: u32, by: u32)
+    requires owner { owner < length forest.old.roots.items }
+    requires above { root_at forest.old.roots.items owner ≢ key → above < length forest.old.nodes.items }
+    ensures root { root_at forest.old.roots.items owner ≡ key → root_at forest.new.roots.items owner ≡ by }
+    ensures roots { (p : ℕ) → (root_at forest.old.roots.items owner ≢ key) ⊎ (p ≢ owner)
+        → root_at forest.new.roots.items p ≡ root_at forest.old.roots.items p }
+    ensures next { root_at forest.old.roots.items owner ≢ key → (node_at forest.old.nodes.items above).next ≡ key
+        → node_at forest.new.nodes.items above ≡ record (node_at forest.old.nodes.items above) { next = by } }
+    ensures beside { root_at forest.old.roots.items owner ≢ key → (node_at forest.old.nodes.items above).next ≢ key
+        → node_at forest.new.nodes.items above ≡ record (node_at forest.old.nodes.items above) { beside = by } }
+    ensures others { (j : ℕ) → (root_at forest.old.roots.items owner ≡ key) ⊎ (j ≢ above)
+        → node_at forest.new.nodes.items j ≡ node_at forest.old.nodes.items j }
+    ensures members { map member_in forest.new.nodes.items ≡ map member_in forest.old.nodes.items }
+    ensures len { length forest.new.nodes.items ≡ length forest.old.nodes.items }
+    ensures rooms { length forest.new.roots.items ≡ length forest.old.roots.items }
+{
+    if forest.roots[owner as usize] == key {
+        forest.roots[owner as usize] = by;
+    } else if forest.nodes[above as usize].next == key {
+        forest.nodes[above as usize].next = by;
+    } else {
+        forest.nodes[above as usize].beside = by;
     }
 }
 
@@ -150,6 +206,31 @@ fn set_above(nodes: &mut Vec<Node>, at: u32, above: u32)
     }
 }
 
+/// Tells a key, where there is one, its run's level.
+fn set_level(forest: &mut Forest, at: u32, level: u32)
+    requires heap { IsHeap forest.old.roots.items forest.old.nodes.items nil }
+    requires at { at ≢ nil → at < length forest.old.nodes.items }
+    ensures heap { IsHeap forest.new.roots.items forest.new.nodes.items nil }
+    ensures members { map member_in forest.new.nodes.items ≡ map member_in forest.old.nodes.items }
+    ensures len { length forest.new.nodes.items ≡ length forest.old.nodes.items }
+    ensures rooms { length forest.new.roots.items ≡ length forest.old.roots.items }
+{
+    if at != NIL {
+        forest.nodes[at as usize].level = level;
+    }
+}
+
+/// Tells the root of an owner which member came last.
+fn set_latest(forest: &mut Forest, owner: u32, key: u32)
+    requires heap { IsHeap forest.old.roots.items forest.old.nodes.items nil }
+    requires owner { owner < length forest.old.roots.items }
+    ensures heap { IsHeap forest.new.roots.items forest.new.nodes.items nil }
+    ensures members { map member_in forest.new.nodes.items ≡ map member_in forest.old.nodes.items }
+{
+    let root = forest.roots[owner as usize];
+    set_above(&mut forest.nodes, root, key);
+}
+
 /// Takes a key out of its tree: one of those below it comes into its place, and the other one below that.
 fn fill(forest: &mut Forest, key: u32, by: u32, other: u32)
     requires heap { IsHeap forest.old.roots.items forest.old.nodes.items nil }
@@ -164,31 +245,205 @@ fn fill(forest: &mut Forest, key: u32, by: u32, other: u32)
     set_child(forest, owner, above, key, by);
     set_above(&mut forest.nodes, by, above);
     forest.nodes[key as usize].owner = NIL;
-    sink(forest, by, other);
+    sink(forest, Side::Beside, by, other);
 }
 
-/// Joins a tree, if there is one, with its owner's other keys: below their root or over it.
-fn meld(forest: &mut Forest, owner: u32, held: u32)
-    requires heap { IsHeap forest.old.roots.items forest.old.nodes.items held }
-    requires owner { owner < length forest.old.roots.items }
-    requires top { held ≢ nil → ((node_at forest.old.nodes.items held).owner ≡ owner)
-        × ((node_at forest.old.nodes.items held).above ≡ nil) }
+/// Takes a run out of those of its owner, and holds it. The run beside comes into its place.
+fn cut(forest: &mut Forest, key: u32)
+    requires heap { IsHeap forest.old.roots.items forest.old.nodes.items nil }
+    requires owned { (node_at forest.old.nodes.items key).owner ≢ nil }
+    ensures heap { IsHeap forest.new.roots.items forest.new.nodes.items key }
+    ensures members { map member_in forest.new.nodes.items ≡ map member_in forest.old.nodes.items }
+    ensures len { length forest.new.nodes.items ≡ length forest.old.nodes.items }
+    ensures rooms { length forest.new.roots.items ≡ length forest.old.roots.items }
+{
+    let Node {
+        owner,
+        above,
+        beside,
+        ..
+    } = forest.nodes[key as usize];
+    set_child(forest, owner, above, key, beside);
+    set_above(&mut forest.nodes, beside, above);
+    forest.nodes[key as usize].beside = NIL;
+}
+
+/// Makes one run of two, the second of which begins with a higher rank, and tells it its level.
+fn join(forest: &mut Forest, run: u32, other: u32, level: u32)
+    requires heap { IsHeap forest.old.roots.items forest.old.nodes.items nil }
+    requires owned { (node_at forest.old.nodes.items run).owner ≢ nil }
+    requires same { (node_at forest.old.nodes.items other).owner ≡ (node_at forest.old.nodes.items run).owner }
+    requires lower { (node_at forest.old.nodes.items run).rank < (node_at forest.old.nodes.items other).rank }
     ensures heap { IsHeap forest.new.roots.items forest.new.nodes.items nil }
     ensures members { map member_in forest.new.nodes.items ≡ map member_in forest.old.nodes.items }
     ensures len { length forest.new.nodes.items ≡ length forest.old.nodes.items }
+    ensures rooms { length forest.new.roots.items ≡ length forest.old.roots.items }
 {
-    let root = forest.roots[owner as usize];
-    if is_before(forest.nodes.as_slice(), root, held) {
-        sink(forest, root, held);
-    } else if held != NIL {
-        forest.roots[owner as usize] = held;
-        sink(forest, held, root);
+    cut(forest, other);
+    sink(forest, Side::Next, run, other);
+    set_level(forest, run, level);
+}
+
+/// The first run of a level from one on, if there is one.
+fn run_of(forest: &Forest, first: u32, level: u32) -> u32
+    requires heap { IsHeap forest.now.roots.items forest.now.nodes.items nil }
+    requires owned { first ≢ nil → (node_at forest.now.nodes.items first).owner ≢ nil }
+    ensures first { result ≢ nil → first ≢ nil }
+    ensures same { result ≢ nil → (node_at forest.now.nodes.items result).owner ≡ (node_at forest.now.nodes.items first).owner }
+    ensures rank { result ≢ nil → (node_at forest.now.nodes.items first).rank ≤ (node_at forest.now.nodes.items result).rank }
+{
+    let mut at = first;
+    while at != NIL && forest.nodes[at as usize].level != level {
+        at = forest.nodes[at as usize].beside;
+    }
+    at
+}
+
+/// Whether an owner has more than `LEVELS` runs.
+fn is_long(forest: &Forest, owner: u32) -> bool
+    requires heap { IsHeap forest.now.roots.items forest.now.nodes.items nil }
+    requires owner { owner < length forest.now.roots.items }
+{
+    let mut at = forest.roots[owner as usize];
+    for _ in 0..LEVELS {
+        if at == NIL {
+            return false;
+        }
+        at = forest.nodes[at as usize].beside;
+    }
+    at != NIL
+}
+
+/// Makes one run of two of a level. It answers whether there are two.
+fn join_two(forest: &mut Forest, owner: u32, level: u32) -> bool
+    requires heap { IsHeap forest.old.roots.items forest.old.nodes.items nil }
+    requires owner { owner < length forest.old.roots.items }
+    requires level { level < 32 }
+    ensures heap { IsHeap forest.new.roots.items forest.new.nodes.items nil }
+    ensures members { map member_in forest.new.nodes.items ≡ map member_in forest.old.nodes.items }
+    ensures len { length forest.new.nodes.items ≡ length forest.old.nodes.items }
+    ensures rooms { length forest.new.roots.items ≡ length forest.old.roots.items }
+{
+    let run = run_of(forest, forest.roots[owner as usize], level);
+    if run == NIL {
+        return false;
+    }
+    let other = run_of(forest, forest.nodes[run as usize].beside, level);
+    if other == NIL {
+        return false;
+    }
+    join(forest, run, other, level + 1);
+    true
+}
+
+/// Makes one run of two of the lowest level, and of each level above it that then has two.
+fn settle(forest: &mut Forest, owner: u32)
+    requires heap { IsHeap forest.old.roots.items forest.old.nodes.items nil }
+    requires owner { owner < length forest.old.roots.items }
+    ensures heap { IsHeap forest.new.roots.items forest.new.nodes.items nil }
+    ensures members { map member_in forest.new.nodes.items ≡ map member_in forest.old.nodes.items }
+    ensures len { length forest.new.nodes.items ≡ length forest.old.nodes.items }
+    ensures rooms { length forest.new.roots.items ≡ length forest.old.roots.items }
+{
+    for level in 0..LEVELS {
+        if !join_two(forest, owner, level) {
+            return;
+        }
     }
 }
 
-/// Puts a key into its owner's tree: below the one that came last, where that ranks lower, and else below
-/// the root or over it.
-fn enter(forest: &mut Forest, key: u32, owner: u32, rank: u32, latest: u32)
+/// Makes one run of two of a level, as long as it has two.
+fn settle_level(forest: &mut Forest, owner: u32, level: u32)
+    requires heap { IsHeap forest.old.roots.items forest.old.nodes.items nil }
+    requires owner { owner < length forest.old.roots.items }
+    requires level { level < 32 }
+    ensures heap { IsHeap forest.new.roots.items forest.new.nodes.items nil }
+    ensures members { map member_in forest.new.nodes.items ≡ map member_in forest.old.nodes.items }
+    ensures len { length forest.new.nodes.items ≡ length forest.old.nodes.items }
+    ensures rooms { length forest.new.roots.items ≡ length forest.old.roots.items }
+{
+    for _ in 0..LEVELS {
+        if !join_two(forest, owner, level) {
+            return;
+        }
+    }
+}
+
+/// Makes one run of two on each level, as long as it has two.
+fn settle_all(forest: &mut Forest, owner: u32)
+    requires heap { IsHeap forest.old.roots.items forest.old.nodes.items nil }
+    requires owner { owner < length forest.old.roots.items }
+    ensures heap { IsHeap forest.new.roots.items forest.new.nodes.items nil }
+    ensures members { map member_in forest.new.nodes.items ≡ map member_in forest.old.nodes.items }
+    ensures len { length forest.new.nodes.items ≡ length forest.old.nodes.items }
+    ensures rooms { length forest.new.roots.items ≡ length forest.old.roots.items }
+{
+    for level in 0..LEVELS {
+        settle_level(forest, owner, level);
+    }
+}
+
+/// Joins runs, if there are any, with its owner's others: below their root or over it.
+fn meld(forest: &mut Forest, owner: u32, held: u32)
+    requires heap { IsHeap forest.old.roots.items forest.old.nodes.items held }
+    requires owner { owner < length forest.old.roots.items }
+    requires top { held ≢ nil → (node_at forest.old.nodes.items held).owner ≡ owner }
+    ensures heap { IsHeap forest.new.roots.items forest.new.nodes.items nil }
+    ensures members { map member_in forest.new.nodes.items ≡ map member_in forest.old.nodes.items }
+    ensures len { length forest.new.nodes.items ≡ length forest.old.nodes.items }
+    ensures rooms { length forest.new.roots.items ≡ length forest.old.roots.items }
+{
+    let root = forest.roots[owner as usize];
+    if is_before(forest.nodes.as_slice(), root, held) {
+        sink(forest, Side::Beside, root, held);
+    } else if held != NIL {
+        forest.roots[owner as usize] = held;
+        sink(forest, Side::Beside, held, root);
+    }
+}
+
+/// Puts a key that is among its owner's runs before the run that begins above it. Where there is none it is a run.
+fn place(forest: &mut Forest, owner: u32, key: u32)
+    requires heap { IsHeap forest.old.roots.items forest.old.nodes.items nil }
+    requires owner { owner < length forest.old.roots.items }
+    requires mine { (node_at forest.old.nodes.items key).owner ≡ owner }
+    ensures heap { IsHeap forest.new.roots.items forest.new.nodes.items nil }
+    ensures members { map member_in forest.new.nodes.items ≡ map member_in forest.old.nodes.items }
+    ensures len { length forest.new.nodes.items ≡ length forest.old.nodes.items }
+    ensures rooms { length forest.new.roots.items ≡ length forest.old.roots.items }
+{
+    let other = forest.nodes[key as usize].beside;
+    if other == NIL {
+        settle(forest, owner);
+    } else {
+        let level = forest.nodes[other as usize].level;
+        join(forest, key, other, level);
+    }
+}
+
+/// Puts a new key to the other members of its owner: behind the one that came last, where that ends a run and ranks
+/// lower, and else among the runs.
+fn add(forest: &mut Forest, owner: u32, key: u32)
+    requires heap { IsHeap forest.old.roots.items forest.old.nodes.items key }
+    requires owner { owner < length forest.old.roots.items }
+    requires mine { (node_at forest.old.nodes.items key).owner ≡ owner }
+    requires some { root_at forest.old.roots.items owner ≢ nil }
+    ensures heap { IsHeap forest.new.roots.items forest.new.nodes.items nil }
+    ensures members { map member_in forest.new.nodes.items ≡ map member_in forest.old.nodes.items }
+{
+    let root = forest.roots[owner as usize];
+    let latest = forest.nodes[root as usize].above;
+    if is_elder(forest.nodes.as_slice(), latest, key) {
+        sink(forest, Side::Next, latest, key);
+    } else {
+        meld(forest, owner, key);
+        place(forest, owner, key);
+    }
+    set_latest(forest, owner, key);
+}
+
+/// Makes a key one's member: the first of all, or one more.
+fn enter(forest: &mut Forest, key: u32, owner: u32, rank: u32)
     requires heap { IsHeap forest.old.roots.items forest.old.nodes.items nil }
     requires key { key < length forest.old.nodes.items }
     requires owner { owner < length forest.old.roots.items }
@@ -196,19 +451,19 @@ fn enter(forest: &mut Forest, key: u32, owner: u32, rank: u32, latest: u32)
     requires distinct { (k : ℕ) → ranked (map member_in forest.old.nodes.items) k ≢ Some (owner, rank) }
     ensures heap { IsHeap forest.new.roots.items forest.new.nodes.items nil }
     ensures members { map member_in forest.new.nodes.items ≡ slice_set (map member_in forest.old.nodes.items) key (Some (owner, rank)) }
-    ensures len { length forest.new.nodes.items ≡ length forest.old.nodes.items }
 {
     forest.nodes[key as usize] = Node {
         owner,
         rank,
-        above: NIL,
-        left: NIL,
-        right: NIL,
+        above: key,
+        next: NIL,
+        beside: NIL,
+        level: 0,
     };
-    if is_elder(forest.nodes.as_slice(), latest, key) {
-        sink(forest, latest, key);
+    if forest.roots[owner as usize] == NIL {
+        forest.roots[owner as usize] = key;
     } else {
-        meld(forest, owner, key);
+        add(forest, owner, key);
     }
 }
 
@@ -222,8 +477,8 @@ fn tell_owner(nodes: &mut Vec<Node>, keys: Members<'_>, owner: u32)
     }
 }
 
-/// Takes the tree of one owner out of the roots, as a tree of the other's that is to be joined with it. It
-/// answers the key over all others of it, if there is one.
+/// Takes the runs of one owner out, as runs of the other's that are to be joined with its own. It answers the first
+/// of them all, if there is one.
 fn detach(forest: &mut Forest, from: u32, to: u32, members: Members<'_>) -> u32
     requires heap { IsHeap forest.old.roots.items forest.old.nodes.items nil }
     requires differ { from ≢ to }
@@ -233,8 +488,7 @@ fn detach(forest: &mut Forest, from: u32, to: u32, members: Members<'_>) -> u32
     requires apart { (j k r : ℕ) → ranked (map member_in forest.old.nodes.items) j ≡ Some (from, r)
         → ranked (map member_in forest.old.nodes.items) k ≢ Some (to, r) }
     ensures heap { IsHeap forest.new.roots.items forest.new.nodes.items result }
-    ensures top { result ≢ nil → ((node_at forest.new.nodes.items result).owner ≡ to)
-        × ((node_at forest.new.nodes.items result).above ≡ nil) }
+    ensures top { result ≢ nil → (node_at forest.new.nodes.items result).owner ≡ to }
     ensures members { (k : ℕ) → ranked (map member_in forest.new.nodes.items) k
         ≡ option_map (λ (m : ℕ × ℕ). (handed from to m.0, m.1)) (ranked (map member_in forest.old.nodes.items) k) }
     ensures len { length forest.new.nodes.items ≡ length forest.old.nodes.items }
@@ -256,7 +510,6 @@ impl MemberQueues {
                 roots: Vec::new(alloc),
                 nodes: Vec::new(alloc),
             },
-            latest: Vec::new(alloc),
         }
     }
 
@@ -269,16 +522,15 @@ impl MemberQueues {
         ensures err { OnErr result (self.new ≡ self.old) }
     {
         self.forest.roots.try_reserve(1)?;
-        self.latest.try_reserve(1)?;
         self.forest.nodes.push(Node {
             owner: NIL,
             rank: 0,
             above: NIL,
-            left: NIL,
-            right: NIL,
+            next: NIL,
+            beside: NIL,
+            level: 0,
         })?;
         self.forest.roots.push_reserved(NIL);
-        self.latest.push_reserved(NIL);
         Ok(())
     }
 
@@ -316,8 +568,9 @@ impl MemberQueues {
 
     /// Makes a key that has no owner a member of this one, with a rank that no other member has.
     ///
-    /// Where it ranks above the one that came before it, it goes below that one: so members that come in
-    /// the order of their ranks cost a few reads and writes each.
+    /// Where it ranks above the one that came before it and that one ends a run, it goes behind that one: so members
+    /// that come in the order of their ranks cost a few reads and writes each. In any other order a call costs a
+    /// logarithm of the members, taken over many calls.
     pub fn insert(&mut self, key: u32, owner: u32, rank: u32)
         requires key { key < length self.old }
         requires owner { owner < length self.old }
@@ -325,16 +578,14 @@ impl MemberQueues {
         requires distinct { (k : ℕ) → ranked self.old k ≢ Some (owner, rank) }
         ensures { self.new ≡ slice_set self.old key (Some (owner, rank)) }
     {
-        let latest = self.latest[owner as usize];
-        self.latest[owner as usize] = key;
-        enter(&mut self.forest, key, owner, rank, latest);
+        enter(&mut self.forest, key, owner, rank);
     }
 
     /// All members of the one owner become the other's, with their ranks. They are given one after the other, each
     /// once.
     ///
-    /// It costs one read and one write for each of them, and then the trees are joined as they are: a logarithm of
-    /// the members, taken over many calls.
+    /// It costs one read and one write for each of them. Then the runs of the two are joined as they are, which costs
+    /// a logarithm of the members, and those of one level as `insert` joins them.
     pub fn move_all(&mut self, from: u32, to: u32, members: Members<'_>)
         requires differ { from ≢ to }
         requires from { from < length self.old }
@@ -347,19 +598,29 @@ impl MemberQueues {
     {
         let held = detach(&mut self.forest, from, to, members);
         meld(&mut self.forest, to, held);
+        if is_long(&self.forest, to) {
+            settle_all(&mut self.forest, to);
+        }
     }
 
-    /// Takes a key from its owner. A key with none below it costs a few reads and writes.
+    /// Takes a key from its owner. It costs a few reads and writes, and where the key begins a run a read for each run
+    /// that comes before the rest of it: at most a logarithm of the members.
     pub fn remove(&mut self, key: u32)
         requires key { key < length self.old }
         requires owned { IsSome (ranked self.old key) }
         ensures { self.new ≡ slice_set self.old key None }
     {
-        let Node { left, right, .. } = self.forest.nodes[key as usize];
-        if is_before(self.forest.nodes.as_slice(), left, right) {
-            fill(&mut self.forest, key, left, right);
+        let Node {
+            next,
+            beside,
+            level,
+            ..
+        } = self.forest.nodes[key as usize];
+        if is_before(self.forest.nodes.as_slice(), next, beside) {
+            fill(&mut self.forest, key, next, beside);
         } else {
-            fill(&mut self.forest, key, right, left);
+            fill(&mut self.forest, key, beside, next);
         }
+        set_level(&mut self.forest, next, level);
     }
 }

@@ -1,8 +1,8 @@
-use Rattle.std.proofs.Common.{◌≡◌, ◌≢◌, ℕ, ◌<◌, length, Some, None, refl, sym, ◌∙◌, arith, List, set, map}
-use Rattle.std.proofs.lemmas.List.{map-set}
+use Rattle.std.proofs.Common.{◌≡◌, ◌≢◌, ℕ, ◌<◌, ◌≤◌, length, Some, None, refl, sym, ap, ◌∙◌, arith, List, set, map, slice_index_or}
+use Rattle.std.proofs.lemmas.List.{map-set, get_or-set_same}
 use Rattle.member_queues.specs.declared.Node.{Node}
 use Rattle.member_queues.specs.Ranks.{ranked}
-use Rattle.member_queues.specs.Heap.{nil, node_at, member_in, IsHeap}
+use Rattle.member_queues.specs.Heap.{nil, blank, node_at, root_at, member_in, IsHeap}
 use Rattle.member_queues.proofs.Trees as trees
 use Rattle.member_queues.proofs.Entering as entering
 use Rattle.member_queues.proofs.enter.Goals as goal
@@ -11,33 +11,49 @@ use Rattle.member_queues.proofs.enter.Goals as goal
 free : (ns : List Node) (k : ℕ) → ranked (map member_in ns) k ≡ None → (node_at ns k).owner ≡ nil
 free ns k is = trees.member_none (node_at ns k) (sym (trees.ranked-nodes ns k) ∙ is)
 
-written : (ns : List Node) (k p r : ℕ) → p ≢ nil → map member_in (set ns k (record { owner = p; rank = r; above = 4294967295; left = 4294967295; right = 4294967295 })) ≡ set (map member_in ns) k (Some (p, r))
-written ns k p r some =
-    let node : Node = record { owner = p; rank = r; above = 4294967295; left = 4294967295; right = 4294967295 } in
-    map-set member_in ns k node ∙ rw (trees.some_member node p refl some) refl
+-- what the code writes
+module _ (rs : List ℕ) (ns : List Node) (k p r : ℕ) (w : IsHeap rs ns nil) (key : k < length ns) (none : ranked (map member_in ns) k ≡ None) (room : p < length rs) (fits : r ≤ nil)
+    (new : (j : ℕ) → ranked (map member_in ns) j ≢ Some (p, r)) where
+  abbrev ns' : List Node
+  ns' = set ns k (record { owner = p; rank = r; above = k; next = 4294967295; beside = 4294967295; level = 0 })
 
-pub sink-requires : goal.sink-requires
-sink-requires c =
-    entering.sinks_below c.args.forest.now.roots.items c.args.forest.now.nodes.items c.as_slice.result.now c.args.key c.args.owner c.args.rank c.requires.heap c.requires.key (free c.args.forest.now.nodes.items c.args.key c.requires.free) c.requires.owner
-    (omega (arith, c.ranges.rank)) c.requires.distinct c.as_slice.ensures.value c.args.latest (c.is_elder.ensures c.if-is_elder.true)
+  entered : IsHeap rs ns' k
+  entered = entering.IsHeap-entered rs ns k p r w key (free ns k none) room fits new
 
-pub meld-requires-clause-heap : goal.meld-requires-clause-heap
-meld-requires-clause-heap c =
-    entering.entered c.args.forest.now.roots.items c.args.forest.now.nodes.items c.as_slice.result.now c.args.key c.args.owner c.args.rank c.requires.heap c.requires.key (free c.args.forest.now.nodes.items c.args.key c.requires.free) c.requires.owner
-    (omega (arith, c.ranges.rank)) c.requires.distinct c.as_slice.ensures.value
+  mine : (node_at ns' k).owner ≡ p
+  mine = ap (λ (n : Node). n.owner) (get_or-set_same ns k (record { owner = p; rank = r; above = k; next = 4294967295; beside = 4294967295; level = 0 }) blank key)
 
-pub meld-requires-clause-top : goal.meld-requires-clause-top
-meld-requires-clause-top c = λ _.
-    entering.entered_top c.args.forest.now.roots.items c.args.forest.now.nodes.items c.as_slice.result.now c.args.key c.args.owner c.args.rank c.requires.heap c.requires.key (free c.args.forest.now.nodes.items c.args.key c.requires.free) c.requires.owner
-    (omega (arith, c.ranges.rank)) c.requires.distinct c.as_slice.ensures.value
+  some : k ≢ nil
+  some = let few = w.ranked.few in omega (arith, key, few)
 
-an_owner : (rs : List ℕ) (ns : List Node) (p : ℕ) → IsHeap rs ns nil → p < length rs → p ≢ nil
-an_owner rs ns p w room = omega (arith, room, w.ranked.few, w.ranked.rooms)
+  first : (root : ℕ) → root ≡ slice_index_or rs p root → root ≡ nil → IsHeap (set rs p k) ns' nil
+  first root read is = entering.IsHeap-first rs ns' k p entered some room mine (trees.root_is rs p root room read ∙ is)
 
-pub returns-then-is_elder-clause-members : goal.returns-then-is_elder-clause-members
-returns-then-is_elder-clause-members c =
-    c.sink.ensures.members ∙ written c.args.forest.now.nodes.items c.args.key c.args.owner c.args.rank (an_owner _ _ c.args.owner c.requires.heap c.requires.owner)
+  there : (root : ℕ) → root ≡ slice_index_or rs p root → root ≢ nil → root_at rs p ≢ nil
+  there root read more z = more (sym (trees.root_is rs p root room read) ∙ z)
 
-pub returns-else-is_elder-clause-members : goal.returns-else-is_elder-clause-members
-returns-else-is_elder-clause-members c =
-    c.meld.ensures.members ∙ written c.args.forest.now.nodes.items c.args.key c.args.owner c.args.rank (an_owner _ _ c.args.owner c.requires.heap c.requires.owner)
+  written : map member_in ns' ≡ set (map member_in ns) k (Some (p, r))
+  written =
+      let node : Node = record { owner = p; rank = r; above = k; next = 4294967295; beside = 4294967295; level = 0 } in
+      let owner : p ≢ nil = let few = w.ranked.few in let rooms = w.ranked.rooms in omega (arith, room, few, rooms) in
+      map-set member_in ns k node ∙ rw (trees.some_member node p refl owner) refl
+
+pub add-requires-clause-heap : goal.add-requires-clause-heap
+add-requires-clause-heap c =
+    entered c.args.forest.now.roots.items c.args.forest.now.nodes.items c.args.key c.args.owner c.args.rank c.requires.heap c.requires.key c.requires.free c.requires.owner
+    (omega (arith, c.ranges.rank)) c.requires.distinct
+
+pub returns-then-index-clause-heap : goal.returns-then-index-clause-heap
+returns-then-index-clause-heap c =
+    first c.args.forest.now.roots.items c.args.forest.now.nodes.items c.args.key c.args.owner c.args.rank c.requires.heap c.requires.key c.requires.free c.requires.owner
+    (omega (arith, c.ranges.rank)) c.requires.distinct c.index.result.now c.index.ensures c.if-index.true
+
+pub returns-then-index-clause-members : goal.returns-then-index-clause-members
+returns-then-index-clause-members c =
+    written c.args.forest.now.roots.items c.args.forest.now.nodes.items c.args.key c.args.owner c.args.rank c.requires.heap c.requires.key c.requires.free c.requires.owner
+    (omega (arith, c.ranges.rank)) c.requires.distinct
+
+pub returns-else-index-clause-members : goal.returns-else-index-clause-members
+returns-else-index-clause-members c =
+    c.add.ensures.members ∙ written c.args.forest.now.roots.items c.args.forest.now.nodes.items c.args.key c.args.owner c.args.rank c.requires.heap c.requires.key c.requires.free c.requires.owner
+    (omega (arith, c.ranges.rank)) c.requires.distinct

@@ -1,40 +1,69 @@
-use Rattle.std.proofs.Common.{◌≡◌, ◌<◌, length, ap, true, false, Bool}
-use Rattle.std.proofs.Math.Seq.{map-set_same}
-use Rattle.member_queues.specs.Heap.{blank, node_at, member_in}
+use Rattle.std.proofs.Common.{◌≢◌, ◌<◌, List, length, sym, ◌∙◌, arith}
+use Rattle.member_queues.specs.declared.Node.{Node}
+use Rattle.member_queues.specs.Heap.{nil, node_at, key_on}
 use Rattle.member_queues.proofs.Trees as trees
 use Rattle.member_queues.proofs.Sinking as sinking
 use Rattle.member_queues.proofs.step.Goals as goal
 
-at_within : (c : goal.After-as_slice) → c.args.at < length c.args.forest.now.nodes.items
-at_within c = trees.within c.args.forest.now.nodes.items c.args.at (c.requires.sinking.owned c.requires.some)
+pub returns-then-lower-rank-clause-sinking : goal.returns-then-lower-rank-clause-sinking
+returns-then-lower-rank-clause-sinking c =
+    let ns : List Node = c.args.forest.now.nodes.items in
+    let lt = trees.within ns c.args.at (c.requires.sinking.owned c.requires.some) in
+    let is = sinking.on_read ns c.args.side c.args.at c.key_on-behind.result c.index.result.now lt c.key_on-behind.ensures c.index.ensures in
+    let there = sinking.rank_there ns c.as_slice.result.now c.key_on-behind.result c.rank_of-lower.result c.args.rank c.as_slice.ensures.value c.requires.sinking.heap.ranked.few
+    (omega (arith, c.ranges.rank)) c.if-lower-rank.true c.rank_of-lower.ensures.none in
+    let some : key_on c.args.side (node_at ns c.args.at) ≢ nil = rw is at there.0 in
+    let low = sinking.rank_read ns c.as_slice.result.now c.key_on-behind.result c.rank_of-lower.result c.as_slice.ensures.value there.1 c.rank_of-lower.ensures.there in
+    let less : (node_at ns c.key_on-behind.result).rank < (node_at ns c.args.held).rank = let lower = c.if-lower-rank.true in let mine = c.requires.rank in omega (arith, low, lower, mine) in
+    let less' : (node_at ns (key_on c.args.side (node_at ns c.args.at))).rank < (node_at ns c.args.held).rank = rw is at less in
+    rw is (sinking.IsSinking-on _ ns c.args.side c.args.at c.args.held c.requires.sinking c.requires.some some less')
 
-node_is : (c : goal.After-as_slice) → c.index.result.now ≡ node_at c.args.forest.now.nodes.items c.args.at
-node_is c = trees.node_is c.args.forest.now.nodes.items c.args.at c.index.result.now (at_within c) c.index.ensures
+pub returns-then-lower-rank-clause-on : goal.returns-then-lower-rank-clause-on
+returns-then-lower-rank-clause-on c =
+    let ns : List Node = c.args.forest.now.nodes.items in
+    let lt = trees.within ns c.args.at (c.requires.sinking.owned c.requires.some) in
+    let is = sinking.on_read ns c.args.side c.args.at c.key_on-behind.result c.index.result.now lt c.key_on-behind.ensures c.index.ensures in
+    let there = sinking.rank_there ns c.as_slice.result.now c.key_on-behind.result c.rank_of-lower.result c.args.rank c.as_slice.ensures.value c.requires.sinking.heap.ranked.few
+    (omega (arith, c.ranges.rank)) c.if-lower-rank.true c.rank_of-lower.ensures.none in
+    let some : key_on c.args.side (node_at ns c.args.at) ≢ nil = rw is at there.0 in
+    rw is (sinking.on_higher _ ns c.args.side c.args.at c.args.held c.requires.sinking c.requires.some some)
 
-pub is_before-requires-clause-a : goal.is_before-requires-clause-a
-is_before-requires-clause-a c some =
-    rw c.as_slice.ensures.value (rw (node_is c) (sinking.right_within _ c.args.forest.now.nodes.items c.args.at c.args.held c.requires.sinking c.requires.some (rw (node_is c) at some)))
+pub returns-else-lower-rank-clause-sinking : goal.returns-else-lower-rank-clause-sinking
+returns-else-lower-rank-clause-sinking c =
+    let ns : List Node = c.args.forest.now.nodes.items in
+    let lt = trees.within ns c.args.at (c.requires.sinking.owned c.requires.some) in
+    let is = sinking.on_read ns c.args.side c.args.at c.key_on-behind.result c.index.result.now lt c.key_on-behind.ensures c.index.ensures in
+    let put = sinking.put_read ns c.args.side c.args.at c.args.held c.put_on.new.node c.index_mut.result.now lt c.put_on.ensures c.index_mut.ensures.value in
+    let higher : key_on c.args.side (node_at ns c.args.at) ≢ nil → (node_at ns (key_on c.args.side (node_at ns c.args.at))).rank < (node_at ns c.args.held).rank → ⊥ = λ some.
+    rw (← is) (λ less.
+    let here : c.key_on-behind.result < length ns = rw is (sinking.on_within _ ns c.args.side c.args.at c.args.held c.requires.sinking c.requires.some some) in
+    let low = sinking.rank_read ns c.as_slice.result.now c.key_on-behind.result c.rank_of-lower.result c.as_slice.ensures.value here c.rank_of-lower.ensures.there in
+    let not = c.if-lower-rank.false in let mine = c.requires.rank in
+    omega (arith, low, less, not, mine)) in
+    rw is (sinking.step-hung _ ns c.args.side c.args.at c.args.held c.put_on.new.node c.index_mut-else-lower-rank.result.now c.requires.sinking c.requires.some put c.index_mut-else-lower-rank.ensures.value higher)
 
-pub returns-then-is_before-clause-sinking : goal.returns-then-is_before-clause-sinking
-returns-then-is_before-clause-sinking c =
-    sinking.step-traded _ c.args.forest.now.nodes.items c.as_slice.result.now c.args.at c.args.held c.index.result.now c.index_mut-node.result.now c.requires.sinking c.requires.some
-    c.index.ensures c.index_mut-node.ensures.value c.as_slice.ensures.value (let facts = c.is_before.ensures.0 c.if-is_before.true in (facts.0, facts.1 c.requires.some))
+pub returns-else-lower-rank-clause-on : goal.returns-else-lower-rank-clause-on
+returns-else-lower-rank-clause-on c =
+    let ns : List Node = c.args.forest.now.nodes.items in
+    let lt = trees.within ns c.args.at (c.requires.sinking.owned c.requires.some) in
+    let put = sinking.put_read ns c.args.side c.args.at c.args.held c.put_on.new.node c.index_mut.result.now lt c.put_on.ensures c.index_mut.ensures.value in
+    sinking.step-higher _ ns c.args.side c.args.at c.args.held c.put_on.new.node c.index_mut-else-lower-rank.result.now c.requires.sinking c.requires.some put c.index_mut-else-lower-rank.ensures.value
 
-pub returns-then-is_before-clause-members : goal.returns-then-is_before-clause-members
-returns-then-is_before-clause-members c =
-    map-set_same member_in c.args.forest.now.nodes.items c.args.at _ blank
-    (ap member_in (trees.node_is c.args.forest.now.nodes.items c.args.at c.index_mut-node.result.now (trees.within c.args.forest.now.nodes.items c.args.at (c.requires.sinking.owned c.requires.some)) c.index_mut-node.ensures.value))
+pub returns-else-lower-rank-clause-rank : goal.returns-else-lower-rank-clause-rank
+returns-else-lower-rank-clause-rank c more =
+    let ns : List Node = c.args.forest.now.nodes.items in
+    let lt = trees.within ns c.args.at (c.requires.sinking.owned c.requires.some) in
+    let is = sinking.on_read ns c.args.side c.args.at c.key_on-behind.result c.index.result.now lt c.key_on-behind.ensures c.index.ensures in
+    let put = sinking.put_read ns c.args.side c.args.at c.args.held c.put_on.new.node c.index_mut.result.now lt c.put_on.ensures c.index_mut.ensures.value in
+    let some : key_on c.args.side (node_at ns c.args.at) ≢ nil = rw is at more in
+    let within : c.key_on-behind.result < length ns = rw is (sinking.on_within _ ns c.args.side c.args.at c.args.held c.requires.sinking c.requires.some some) in
+    sinking.rank_read ns c.as_slice.result.now c.key_on-behind.result c.rank_of-lower.result c.as_slice.ensures.value within c.rank_of-lower.ensures.there
+    ∙ sym (sinking.step-ranks _ ns c.args.side c.args.at c.args.held c.put_on.new.node c.index_mut-else-lower-rank.result.now c.requires.sinking c.requires.some put c.index_mut-else-lower-rank.ensures.value
+    c.key_on-behind.result)
 
-pub returns-else-is_before-clause-sinking : goal.returns-else-is_before-clause-sinking
-returns-else-is_before-clause-sinking c =
-    sinking.step-hung _ c.args.forest.now.nodes.items c.as_slice.result.now c.args.at c.args.held c.index.result.now c.index_mut-node-else-is_before.result.now c.index_mut.result.now c.requires.sinking c.requires.some
-    c.index.ensures c.index_mut-node-else-is_before.ensures.value c.index_mut.ensures.value c.as_slice.ensures.value (λ facts. not_both c.if-is_before.false (c.is_before.ensures.1 (facts.0, λ _. facts.1)))
-  where
-    not_both : {b : Bool} → b ≡ false → b ≡ true → ⊥
-    not_both f t = cc
-
-pub returns-else-is_before-clause-members : goal.returns-else-is_before-clause-members
-returns-else-is_before-clause-members c =
-    let lt = trees.within c.args.forest.now.nodes.items c.args.at (c.requires.sinking.owned c.requires.some) in
-    let lt' = sinking.held_within _ c.args.forest.now.nodes.items c.args.at c.args.held c.requires.sinking c.requires.some in
-    sinking.members-hung c.args.forest.now.nodes.items c.args.at c.args.held c.index.result.now c.index_mut-node-else-is_before.result.now c.index_mut.result.now lt lt' c.index_mut-node-else-is_before.ensures.value c.index_mut.ensures.value
+pub returns-else-lower-rank-clause-members : goal.returns-else-lower-rank-clause-members
+returns-else-lower-rank-clause-members c =
+    let ns : List Node = c.args.forest.now.nodes.items in
+    let lt = trees.within ns c.args.at (c.requires.sinking.owned c.requires.some) in
+    let put = sinking.put_read ns c.args.side c.args.at c.args.held c.put_on.new.node c.index_mut.result.now lt c.put_on.ensures c.index_mut.ensures.value in
+    sinking.step-members _ ns c.args.side c.args.at c.args.held c.put_on.new.node c.index_mut-else-lower-rank.result.now c.requires.sinking c.requires.some put c.index_mut-else-lower-rank.ensures.value

@@ -1,10 +1,11 @@
-use Rattle.std.proofs.Common.{◌≡◌, ◌≢◌, inl, inr, ℕ, IsSome, sym, ap, List, Option, map, Bool, true, false}
+use Rattle.std.proofs.Common.{◌≡◌, ◌≢◌, inl, inr, ℕ, IsSome, sym, ap, List, Option, map, Bool, true, false, arith}
 use Rattle.member_queues.specs.declared.Node.{Node}
 use Rattle.member_queues.specs.Ranks.{ranked}
 use Rattle.member_queues.specs.Heap.{nil, node_at, member_in}
 use Rattle.member_queues.proofs.Trees as trees
 use Rattle.member_queues.proofs.Filling as filling
 use Rattle.member_queues.proofs.MemberQueues.remove.Goals as goal
+use Rattle.member_queues.proofs.MemberQueues.remove.Goals.{then-is_before, else-is_before}
 
 owned : (ns : List Node) (view : List (Option (ℕ × ℕ))) (k : ℕ) → map member_in ns ≡ view → IsSome (ranked view k) → (node_at ns k).owner ≢ nil
 owned ns view k is some =
@@ -16,22 +17,33 @@ is_before-requires-clause-a c =
     let ns : List Node = c.self.inside.forest.nodes.items in
     let mine = owned ns c.args.self.now c.args.key c.self.view_is c.requires.owned in
     let is = trees.node_is ns c.args.key c.index.result.now (trees.within ns c.args.key mine) c.index.ensures in
-    rw c.as_slice.ensures.value (filling.side_within _ ns c.args.key c.index.result.now.left c.self.invariant.heap mine (inl (sym (ap (λ (x : Node). x.left) is))))
+    rw c.as_slice.ensures.value (filling.side_within _ ns c.args.key c.index.result.now.next c.self.invariant mine (inl (sym (ap (λ (x : Node). x.next) is))))
 
 pub is_before-requires-clause-b : goal.is_before-requires-clause-b
 is_before-requires-clause-b c =
     let ns : List Node = c.self.inside.forest.nodes.items in
     let mine = owned ns c.args.self.now c.args.key c.self.view_is c.requires.owned in
     let is = trees.node_is ns c.args.key c.index.result.now (trees.within ns c.args.key mine) c.index.ensures in
-    rw c.as_slice.ensures.value (filling.side_within _ ns c.args.key c.index.result.now.right c.self.invariant.heap mine (inr (sym (ap (λ (x : Node). x.right) is))))
+    rw c.as_slice.ensures.value (filling.side_within _ ns c.args.key c.index.result.now.beside c.self.invariant mine (inr (sym (ap (λ (x : Node). x.beside) is))))
 
 pub fill-requires-else-is_before-clause-order : goal.fill-requires-else-is_before-clause-order
 fill-requires-else-is_before-clause-order c =
     let ns : List Node = c.self.inside.forest.nodes.items in
     let mine = owned ns c.args.self.now c.args.key c.self.view_is c.requires.owned in
     let is = trees.node_is ns c.args.key c.index.result.now (trees.within ns c.args.key mine) c.index.ensures in
-    filling.after_right _ ns c.args.key c.index.result.now c.self.invariant.heap mine is
+    filling.after_beside _ ns c.args.key c.index.result.now c.self.invariant mine is
     (λ facts. not_both c.if-is_before.false (c.is_before.ensures.1 (facts.0, λ more. rw c.as_slice.ensures.value (facts.1 more))))
   where
     not_both : {b : Bool} → b ≡ false → b ≡ true → ⊥
     not_both f t = cc
+
+pub set_level-requires-clause-at : goal.set_level-requires-clause-at
+set_level-requires-clause-at c some =
+    let ns : List Node = c.self.inside.forest.nodes.items in
+    let mine = owned ns c.args.self.now c.args.key c.self.view_is c.requires.owned in
+    let is = trees.node_is ns c.args.key c.index.result.now (trees.within ns c.args.key mine) c.index.ensures in
+    let lt = filling.side_within _ ns c.args.key c.index.result.now.next c.self.invariant mine (inl (sym (ap (λ (x : Node). x.next) is))) some in
+    elim c.if-is_before.branch [
+      | then-is_before w ↦ rw w.self-inside-is (let len = w.fill.ensures.len in omega (arith, lt, len))
+      | else-is_before w ↦ rw w.self-inside-is (let len = w.fill-else-is_before.ensures.len in omega (arith, lt, len))
+    ]

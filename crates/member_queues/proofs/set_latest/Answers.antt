@@ -1,0 +1,14 @@
+use Rattle.member_queues.proofs.Trees as trees
+use Rattle.member_queues.proofs.Marking as marking
+use Rattle.member_queues.proofs.set_latest.Goals as goal
+
+pub set_above-requires : goal.set_above-requires
+set_above-requires c =
+    marking.root_within c.args.forest.now.roots.items c.args.forest.now.nodes.items c.args.owner c.index-root.result.now c.requires.heap
+    c.requires.owner (trees.root_is c.args.forest.now.roots.items c.args.owner c.index-root.result.now c.requires.owner c.index-root.ensures)
+
+pub returns-clause-heap : goal.returns-clause-heap
+returns-clause-heap c =
+    marking.IsHeap-topped c.args.forest.now.roots.items c.args.forest.now.nodes.items c.set_above.new.nodes.items c.args.owner c.index-root.result.now c.args.key c.requires.heap
+    (trees.root_is c.args.forest.now.roots.items c.args.owner c.index-root.result.now c.requires.owner c.index-root.ensures)
+    c.set_above.ensures.here c.set_above.ensures.others c.set_above.ensures.len
