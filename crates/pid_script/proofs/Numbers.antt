@@ -1,11 +1,11 @@
 -- Numbers, and the words that they are written as.
-use Rattle.std.proofs.Common.{◌≡◌, ◌≢◌, ℕ, ◌+◌, ◌*◌, ◌^◌, ◌<◌, ◌≤◌, Bool, true, false, cond, ◌&&◌, eqb, ltb, List, [], ◌∷◌, length, get_or, Option, Some, None, IfSome, IfNone, Result, Ok, Err, OkIff, decimal, refl, sym, ap, ◌∙◌, subst, arith, bytes_eq, lt-ltb, ltb-true, zero, suc, lit<, lit≤, take, drop, length-take-le, get_or-take, ℤ, pos, neg_ℤ, ◌-ℤ◌, FitsSigned, SomeIff, option_map, eq-eqb, eqb-true, ⊎_elim}
+use Rattle.std.proofs.Common.{◌≡◌, ◌≢◌, ℕ, ◌+◌, ◌*◌, ◌^◌, ◌<◌, ◌≤◌, Bool, true, false, cond, ◌&&◌, eqb, ltb, List, [], ◌∷◌, ◌++◌, length, get_or, Option, Some, None, IfSome, IfNone, Result, Ok, Err, OkIff, decimal, refl, sym, ap, ◌∙◌, subst, arith, bytes_eq, lt-ltb, ltb-true, zero, suc, lit<, lit≤, inl, inr, length-append, take, drop, length-take-le, get_or-take, ℤ, pos, neg_ℤ, ◌-ℤ◌, FitsSigned, SomeIff, option_map, option_and_then, eq-eqb, eqb-true, ⊎_elim}
 use Rattle.std.specs.Result.{result_ok}
 use Rattle.std.specs.Int.{w32}
 use Rattle.std.specs.Fmt.{signed_decimal}
 use Rattle.std.specs.Char.{digit_value}
 use lib.IntN.{negsuc, +ℤ_idl}
-use Rattle.std.proofs.lemmas.List.{take_all}
+use Rattle.std.proofs.lemmas.List.{get_or-append-add, get_or_append_left, take_all, take_at}
 use Rattle.std.proofs.lemmas.Bool.{cases_lt, ne_eqb}
 use Rattle.std.proofs.lemmas.Bool.Decides.{nat_tests}
 use Rattle.std.specs.Str.Parse.{AllDigits, digits_value}
@@ -14,7 +14,7 @@ use Rattle.std.proofs.lemmas.Str.Parse.{IsNumeralModel, numerals_by_value, tells
 use Rattle.std.proofs.lemmas.Int.Digits.{digits_value_more}
 use Rattle.std.proofs.lemmas.Str.{digit_value_digit}
 use Rattle.std.proofs.lemmas.Option.{none-some, same_Some, option_and_then_some}
-use Rattle.pid_script.proofs.Cuts.{cut-found, option_map_some}
+use Rattle.pid_script.proofs.Cuts.{cut-Some, cut-found, option_map_some}
 use Rattle.pid_script.proofs.Search.{found}
 use Rattle.std.proofs.lemmas.Fmt.{digits_decimal, digits_value-decimal, decimal-digits_value, decimal_nonempty, first_decimal, decimal_digit}
 use Rattle.pid_script.specs.Reading.{IsFreeOf, IsFrontOf, IsPlain, cut, number_below, number_then, negative_of, signed_of}
@@ -137,14 +137,62 @@ front_whole word i n front whole plain =
     let all = take_all i word whole in
     sym (short_some word n (omega (arith, front.few, front.within)) plain (subst (AllDigits 10) all front.all) (front.value ∙ ap (digits_value 10) all))
 
+-- a word with a byte that is no digit says no number
+pub short_none : (word : List ℕ) (i : ℕ) → i < length word → (digit_value (get_or word i 0) < 10 → ⊥) → number_below (2 ^ 32) word ≡ None
+short_none word i lt refused =
+    number_below-missing (2 ^ 64) (2 ^ 32) word (lit≤ tt) (lit≤ tt) (sym (number_below-no_digits word (λ digits small. refused (digit_at word i lt digits))))
+
+-- nor does one that is not plain
+pub not_plain_none : (word : List ℕ) → (IsPlain word → ⊥) → number_below (2 ^ 32) word ≡ None
+not_plain_none word not_plain = number_below-missing (2 ^ 64) (2 ^ 32) word (lit≤ tt) (lit≤ tt) (number_below-not_plain word not_plain)
+
+-- a word with few digits in front that is not those digits, or is not plain, says no number
+pub front_none : (word : List ℕ) (i n : ℕ) → IsFrontOf word i n → i < 9 → (length word ≤ i → IsPlain word → ⊥) → number_below (2 ^ 32) word ≡ None
+front_none word i n front few not_it =
+    elim (cases_lt i (length word)) [
+      | inl lt ↦ short_none word i lt (front.ended few lt)
+      | inr whole ↦ not_plain_none word (not_it whole)
+    ]
+
+-- the digits in front have no space among them
+no_space : (words : List ℕ) (i n : ℕ) → IsFrontOf words i n → IsFreeOf 32 i words
+no_space words i n front k below is =
+    not_in_digits numerals (take i words) 32 front.all (λ range. absurd (omega (arith, range))) k (omega (arith, length-take-le i words front.within)) (get_or-take i words k 0 below ∙ is)
+
+abbrev numbered : Option (List ℕ × List ℕ) → Option (ℕ × List ℕ)
+numbered o = option_and_then (λ p. option_and_then (λ m. Some (m, p.1)) (number_below (2 ^ 32) p.0)) o
+
+-- what stands before a space is no number, where it is not the digits in front, or they are not plain
+module _ (words : List ℕ) (i n : ℕ) (front : IsFrontOf words i n) (few : i < 9)
+    (not_it : i < length words → get_or words i 0 ≡ 32 → IsPlain (take i words) → ⊥) where
+  none_before : (w rest : List ℕ) → words ≡ w ++ 32 ∷ rest → number_below (2 ^ 32) w ≡ None
+  none_before w rest parts =
+      let long : length words ≡ length w + suc (length rest) = ap length parts ∙ length-append w (32 ∷ rest) in
+      let here : get_or words (length w + 0) 0 ≡ 32 = ap (λ l. get_or l (length w + 0) 0) parts ∙ get_or-append-add w (32 ∷ rest) 0 0 in
+      elim (cases_lt i (length w)) [
+        | inl lt ↦ short_none w i lt (subst (λ b. digit_value b < 10 → ⊥) (ap (λ l. get_or l i 0) parts ∙ get_or_append_left w (32 ∷ rest) 0 i lt) (front.ended few (omega arith)))
+        | inr ge ↦ elim (cases_lt (length w + 0) i) [
+          | inl lt ↦ absurd (no_space words i n front (length w + 0) lt here)
+          | inr le ↦
+              let same : length w + 0 ≡ i = omega arith in
+              let is : w ≡ take i words = sym (ap (take i) parts ∙ take_at w (32 ∷ rest) i (omega arith)) in
+              not_plain_none w (λ plain. not_it (omega arith) (subst (λ k. get_or words k 0 ≡ 32) same here) (subst IsPlain is plain))
+        ]
+      ]
+
+  pub front_then_none : number_then (2 ^ 32) words ≡ None
+  front_then_none =
+      elim (cut 32 words) as (λ o. cut 32 words ≡ o → numbered o ≡ None) [
+        | None ↦ λ cuts. refl
+        | Some p ↦ λ cuts. (rw (none_before p.0 p.1 (cut-Some 32 words p cuts)))
+      ] refl
+
 -- digits up to a space
 pub front_then : (words : List ℕ) (i n : ℕ) → IsFrontOf words i n → i < length words → get_or words i 0 ≡ 32 → IsPlain (take i words)
     → Some (n, drop (i + 1) words) ≡ number_then (2 ^ 32) words
 front_then words i n front lt space plain =
     let long = length-take-le i words front.within in
-    let free : IsFreeOf 32 i words = λ k below is.
-    not_in_digits numerals (take i words) 32 front.all (λ range. absurd (omega (arith, range))) k (omega (arith, long)) (get_or-take i words k 0 below ∙ is) in
-    let cuts : cut 32 words ≡ Some (take i words, drop (i + 1) words) = cut-found 32 words i (sym (found 32 words i lt free space)) in
+    let cuts : cut 32 words ≡ Some (take i words, drop (i + 1) words) = cut-found 32 words i (sym (found 32 words i lt (no_space words i n front) space)) in
     sym (rw (cuts, short_some (take i words) n (omega (arith, long, front.few)) plain front.all front.value))
 
 -- where there is no number, there is none with a minus sign

@@ -3,6 +3,7 @@ use Rattle.std.specs.Prelude.{ℕ, ◌^◌, ◌+◌, ◌<◌, ◌≤◌, ◌≡�
 use lib.IntN.{neg_ℤ}
 use Rattle.std.specs.Option.{option_map}
 use Rattle.std.specs.Str.{bytes_eq}
+use Rattle.std.specs.Char.{digit_value}
 use Rattle.std.specs.Str.Parse.{AllDigits, digits_value}
 use Rattle.pid_types.specs.declared.call.Call.{Call}
 use Rattle.pid_types.specs.declared.call.Call.TheVariants.{Fork, GetPid, NsPid, Exec, Exit, Wait, GetPpid, SetPgid, SetSid, MakeControl, RemoveControl, SetLimit, Move, Count, GetPgid, GetSid, Next, Join, SetSubreaper}
@@ -40,6 +41,7 @@ pub record IsFrontOf (word : List ℕ) (digits number : ℕ) : Type 0 where
   pub few : digits ≤ 9
   pub all : AllDigits 10 (take digits word)
   pub value : number ≡ digits_value 10 (take digits word)
+  pub ended : digits < 9 → digits < length word → ¬ (digit_value (slice_index word digits) < 10)
 
 -- the number below the bound that is written so
 unfoldable pub number_below : ℕ → List ℕ → Option ℕ

@@ -309,7 +309,7 @@ fn line_of_call(call: Option<Call>) -> Line
 }
 
 /// What `fork` says with the words behind it.
-#[inline(never)]
+#[inline(always)]
 fn fork_line(words: &[u8]) -> Line
     ensures { result ≡ call_or_bad (fork_of words.now) }
 {
@@ -317,7 +317,7 @@ fn fork_line(words: &[u8]) -> Line
 }
 
 /// What `exit` says with the words behind it.
-#[inline(never)]
+#[inline(always)]
 fn exit_line(words: &[u8]) -> Line
     ensures { result ≡ call_or_bad (exit_of words.now) }
 {
@@ -325,7 +325,7 @@ fn exit_line(words: &[u8]) -> Line
 }
 
 /// What `wait` says with the words behind it.
-#[inline(never)]
+#[inline(always)]
 fn wait_line(words: &[u8]) -> Line
     ensures { result ≡ call_or_bad (wait_of words.now) }
 {
@@ -333,7 +333,7 @@ fn wait_line(words: &[u8]) -> Line
 }
 
 /// What `next` says with the words behind it.
-#[inline(never)]
+#[inline(always)]
 fn next_line(words: &[u8]) -> Line
     ensures { result ≡ call_or_bad (next_of words.now) }
 {
@@ -341,7 +341,7 @@ fn next_line(words: &[u8]) -> Line
 }
 
 /// What `setpgid` says with the words behind it.
-#[inline(never)]
+#[inline(always)]
 fn set_pgid_line(words: &[u8]) -> Line
     ensures { result ≡ call_or_bad (set_pgid_of words.now) }
 {
@@ -349,7 +349,7 @@ fn set_pgid_line(words: &[u8]) -> Line
 }
 
 /// What `setsid` says with the words behind it.
-#[inline(never)]
+#[inline(always)]
 fn set_sid_line(words: &[u8]) -> Line
     ensures { result ≡ call_or_bad (by_process calls.SetSid words.now) }
 {
@@ -357,7 +357,7 @@ fn set_sid_line(words: &[u8]) -> Line
 }
 
 /// What `getpid` says with the words behind it.
-#[inline(never)]
+#[inline(always)]
 fn get_pid_line(words: &[u8]) -> Line
     ensures { result ≡ call_or_bad (by_process calls.GetPid words.now) }
 {
@@ -365,7 +365,7 @@ fn get_pid_line(words: &[u8]) -> Line
 }
 
 /// What `getppid` says with the words behind it.
-#[inline(never)]
+#[inline(always)]
 fn get_ppid_line(words: &[u8]) -> Line
     ensures { result ≡ call_or_bad (by_process calls.GetPpid words.now) }
 {
@@ -373,7 +373,7 @@ fn get_ppid_line(words: &[u8]) -> Line
 }
 
 /// What `getpgid` says with the words behind it.
-#[inline(never)]
+#[inline(always)]
 fn get_pgid_line(words: &[u8]) -> Line
     ensures { result ≡ call_or_bad (by_pair calls.GetPgid words.now) }
 {
@@ -381,7 +381,7 @@ fn get_pgid_line(words: &[u8]) -> Line
 }
 
 /// What `getsid` says with the words behind it.
-#[inline(never)]
+#[inline(always)]
 fn get_sid_line(words: &[u8]) -> Line
     ensures { result ≡ call_or_bad (by_pair calls.GetSid words.now) }
 {
@@ -389,7 +389,7 @@ fn get_sid_line(words: &[u8]) -> Line
 }
 
 /// What `nspid` says with the words behind it.
-#[inline(never)]
+#[inline(always)]
 fn ns_pid_line(words: &[u8]) -> Line
     ensures { result ≡ call_or_bad (by_pair calls.NsPid words.now) }
 {
@@ -397,7 +397,7 @@ fn ns_pid_line(words: &[u8]) -> Line
 }
 
 /// What `count` says with the words behind it.
-#[inline(never)]
+#[inline(always)]
 fn count_line(words: &[u8]) -> Line
     ensures { result ≡ call_or_bad (by_control calls.Count words.now) }
 {

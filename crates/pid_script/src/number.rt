@@ -109,6 +109,9 @@ pub fn read_u32(word: &[u8]) -> Option<u32>
     if front.digits == word.len() && is_plain(word) {
         return Some(front.number);
     }
+    if front.digits < 9 {
+        return None;
+    }
     read_long(word)
 }
 
@@ -130,6 +133,9 @@ pub fn read_then(words: &[u8]) -> Option<(u32, &[u8])>
     let end = front.digits;
     if end < words.len() && words[end] == b' ' && is_plain(&words[..end]) {
         return Some((front.number, &words[end + 1..]));
+    }
+    if end < 9 {
+        return None;
     }
     read_long_then(words)
 }
