@@ -1,12 +1,12 @@
 -- Numbers, and the words that they are written as.
-use Rattle.std.proofs.Common.{◌≡◌, ◌≢◌, ℕ, ◌+◌, ◌*◌, ◌^◌, ◌<◌, ◌≤◌, Bool, true, false, cond, ◌&&◌, eqb, ltb, List, [], ◌∷◌, length, get_or, Option, Some, None, IfSome, IfNone, Result, Ok, Err, OkIff, decimal, refl, sym, ap, ◌∙◌, subst, arith, bytes_eq, lt-ltb, ltb-true, zero, suc, lit<, lit≤, take, drop, length-take-le, ℤ, pos, neg_ℤ, ◌-ℤ◌, FitsSigned, SomeIff, option_map, eq-eqb, eqb-true, ⊎_elim}
+use Rattle.std.proofs.Common.{◌≡◌, ◌≢◌, ℕ, ◌+◌, ◌*◌, ◌^◌, ◌<◌, ◌≤◌, Bool, true, false, cond, ◌&&◌, eqb, ltb, List, [], ◌∷◌, ◌++◌, length, get_or, Option, Some, None, IfSome, IfNone, Result, Ok, Err, OkIff, decimal, refl, sym, ap, ◌∙◌, subst, arith, bytes_eq, lt-ltb, ltb-true, zero, suc, lit<, lit≤, inl, inr, length-append, take, drop, length-take-le, get_or-take, ℤ, pos, neg_ℤ, ◌-ℤ◌, FitsSigned, SomeIff, option_map, option_and_then, eq-eqb, eqb-true, ⊎_elim}
 use Rattle.std.specs.Result.{result_ok}
 use Rattle.std.specs.Int.{w32}
 use Rattle.std.specs.Fmt.{signed_decimal}
 use Rattle.std.specs.Char.{digit_value}
 use lib.IntN.{negsuc, +ℤ_idl}
-use Rattle.std.proofs.lemmas.List.{take_all}
-use Rattle.std.proofs.lemmas.Bool.{cases_lt}
+use Rattle.std.proofs.lemmas.List.{get_or-append-add, get_or_append_left, take_all, take_at}
+use Rattle.std.proofs.lemmas.Bool.{cases_lt, ne_eqb}
 use Rattle.std.proofs.lemmas.Bool.Decides.{nat_tests}
 use Rattle.std.specs.Str.Parse.{AllDigits, digits_value}
 use Rattle.std.proofs.lemmas.Slice.Eq.{bytes_eq-Decides}
@@ -14,9 +14,10 @@ use Rattle.std.proofs.lemmas.Str.Parse.{IsNumeralModel, numerals_by_value, tells
 use Rattle.std.proofs.lemmas.Int.Digits.{digits_value_more}
 use Rattle.std.proofs.lemmas.Str.{digit_value_digit}
 use Rattle.std.proofs.lemmas.Option.{none-some, same_Some, option_and_then_some}
-use Rattle.pid_script.proofs.Cuts.{option_map_some}
+use Rattle.pid_script.proofs.Cuts.{cut-Some, cut-found, option_map_some}
+use Rattle.pid_script.proofs.Search.{found}
 use Rattle.std.proofs.lemmas.Fmt.{digits_decimal, digits_value-decimal, decimal-digits_value, decimal_nonempty, first_decimal, decimal_digit}
-use Rattle.pid_script.specs.Reading.{IsPlain, number_below, negative_of, signed_of}
+use Rattle.pid_script.specs.Reading.{IsFreeOf, IsFrontOf, IsPlain, cut, number_below, number_then, negative_of, signed_of}
 
 -- std's words for digits and their value
 pub numerals : IsNumeralModel (AllDigits 10) (digits_value 10)
@@ -119,26 +120,80 @@ module _ (wide bound : ℕ) (word : List ℕ) (fits : wide ≤ 2 ^ 64) (le : bou
   number_below-narrowed E n (Ok x) some is = ap Some is.1 ∙ sym (number_below-within n (sym some) is.0)
   number_below-narrowed E n (Err e) some not_below = sym (number_below-beyond n (sym some) (omega (arith, not_below)))
 
--- the number of a word of few digits, of which these were read
-module _ (word : List ℕ) (short : length word ≤ 9) where
-  -- it does not pass the bound, nor with one more digit
-  pub short_fits : (i n : ℕ) → i < length word → AllDigits 10 (take i word) → n ≡ digits_value 10 (take i word) → n < 10 ^ 8
-  short_fits i n lt digits is =
-      let few : length (take i word) ≤ 8 = omega (arith, length-take-le i word (omega arith)) in
-      rw is (digits_value_short numerals (take i word) 8 digits few)
+-- the number of at most eight digits does not pass the bound with one more
+pub front_fits : (word : List ℕ) (i n : ℕ) → i ≤ 8 → i ≤ length word → AllDigits 10 (take i word) → n ≡ digits_value 10 (take i word) → n < 10 ^ 8
+front_fits word i n few within digits is =
+    rw is (digits_value_short numerals (take i word) 8 digits (omega (arith, length-take-le i word within)))
 
-  -- it is what the word says
-  pub short_some : (i n : ℕ) → length word ≤ i → IsPlain word → AllDigits 10 (take i word) → n ≡ digits_value 10 (take i word) → Some n ≡ number_below (2 ^ 32) word
-  short_some i n whole plain digits_read read =
-      let digits : AllDigits 10 word = subst (AllDigits 10) (take_all i word whole) digits_read in
-      let is : n ≡ digits_value 10 word = read ∙ ap (digits_value 10) (take_all i word whole) in
-      let small : n < 10 ^ 9 = rw is (digits_value_short numerals word 9 digits short) in
-      sym (number_below-within (2 ^ 64) (2 ^ 32) word (lit≤ tt) (lit≤ tt) n (sym (number_below-digits word n plain digits is (omega arith))) (omega arith))
+-- a plain word of at most nine digits says what they write
+pub short_some : (word : List ℕ) (n : ℕ) → length word ≤ 9 → IsPlain word → AllDigits 10 word → n ≡ digits_value 10 word → number_below (2 ^ 32) word ≡ Some n
+short_some word n short plain digits is =
+    let small : n < 10 ^ 9 = rw is (digits_value_short numerals word 9 digits short) in
+    number_below-within (2 ^ 64) (2 ^ 32) word (lit≤ tt) (lit≤ tt) n (sym (number_below-digits word n plain digits is (omega arith))) (omega arith)
+
+-- a word that is its own front
+pub front_whole : (word : List ℕ) (i n : ℕ) → IsFrontOf word i n → length word ≤ i → IsPlain word → Some n ≡ number_below (2 ^ 32) word
+front_whole word i n front whole plain =
+    let all = take_all i word whole in
+    sym (short_some word n (omega (arith, front.few, front.within)) plain (subst (AllDigits 10) all front.all) (front.value ∙ ap (digits_value 10) all))
 
 -- a word with a byte that is no digit says no number
 pub short_none : (word : List ℕ) (i : ℕ) → i < length word → (digit_value (get_or word i 0) < 10 → ⊥) → number_below (2 ^ 32) word ≡ None
 short_none word i lt refused =
     number_below-missing (2 ^ 64) (2 ^ 32) word (lit≤ tt) (lit≤ tt) (sym (number_below-no_digits word (λ digits small. refused (digit_at word i lt digits))))
+
+-- nor does one that is not plain
+pub not_plain_none : (word : List ℕ) → (IsPlain word → ⊥) → number_below (2 ^ 32) word ≡ None
+not_plain_none word not_plain = number_below-missing (2 ^ 64) (2 ^ 32) word (lit≤ tt) (lit≤ tt) (number_below-not_plain word not_plain)
+
+-- a word with few digits in front that is not those digits, or is not plain, says no number
+pub front_none : (word : List ℕ) (i n : ℕ) → IsFrontOf word i n → i < 9 → (length word ≤ i → IsPlain word → ⊥) → number_below (2 ^ 32) word ≡ None
+front_none word i n front few not_it =
+    elim (cases_lt i (length word)) [
+      | inl lt ↦ short_none word i lt (front.ended few lt)
+      | inr whole ↦ not_plain_none word (not_it whole)
+    ]
+
+-- the digits in front have no space among them
+no_space : (words : List ℕ) (i n : ℕ) → IsFrontOf words i n → IsFreeOf 32 i words
+no_space words i n front k below is =
+    not_in_digits numerals (take i words) 32 front.all (λ range. absurd (omega (arith, range))) k (omega (arith, length-take-le i words front.within)) (get_or-take i words k 0 below ∙ is)
+
+abbrev numbered : Option (List ℕ × List ℕ) → Option (ℕ × List ℕ)
+numbered o = option_and_then (λ p. option_and_then (λ m. Some (m, p.1)) (number_below (2 ^ 32) p.0)) o
+
+-- what stands before a space is no number, where it is not the digits in front, or they are not plain
+module _ (words : List ℕ) (i n : ℕ) (front : IsFrontOf words i n) (few : i < 9)
+    (not_it : i < length words → get_or words i 0 ≡ 32 → IsPlain (take i words) → ⊥) where
+  none_before : (w rest : List ℕ) → words ≡ w ++ 32 ∷ rest → number_below (2 ^ 32) w ≡ None
+  none_before w rest parts =
+      let long : length words ≡ length w + suc (length rest) = ap length parts ∙ length-append w (32 ∷ rest) in
+      let here : get_or words (length w + 0) 0 ≡ 32 = ap (λ l. get_or l (length w + 0) 0) parts ∙ get_or-append-add w (32 ∷ rest) 0 0 in
+      elim (cases_lt i (length w)) [
+        | inl lt ↦ short_none w i lt (subst (λ b. digit_value b < 10 → ⊥) (ap (λ l. get_or l i 0) parts ∙ get_or_append_left w (32 ∷ rest) 0 i lt) (front.ended few (omega arith)))
+        | inr ge ↦ elim (cases_lt (length w + 0) i) [
+          | inl lt ↦ absurd (no_space words i n front (length w + 0) lt here)
+          | inr le ↦
+              let same : length w + 0 ≡ i = omega arith in
+              let is : w ≡ take i words = sym (ap (take i) parts ∙ take_at w (32 ∷ rest) i (omega arith)) in
+              not_plain_none w (λ plain. not_it (omega arith) (subst (λ k. get_or words k 0 ≡ 32) same here) (subst IsPlain is plain))
+        ]
+      ]
+
+  pub front_then_none : number_then (2 ^ 32) words ≡ None
+  front_then_none =
+      elim (cut 32 words) as (λ o. cut 32 words ≡ o → numbered o ≡ None) [
+        | None ↦ λ cuts. refl
+        | Some p ↦ λ cuts. (rw (none_before p.0 p.1 (cut-Some 32 words p cuts)))
+      ] refl
+
+-- digits up to a space
+pub front_then : (words : List ℕ) (i n : ℕ) → IsFrontOf words i n → i < length words → get_or words i 0 ≡ 32 → IsPlain (take i words)
+    → Some (n, drop (i + 1) words) ≡ number_then (2 ^ 32) words
+front_then words i n front lt space plain =
+    let long = length-take-le i words front.within in
+    let cuts : cut 32 words ≡ Some (take i words, drop (i + 1) words) = cut-found 32 words i (sym (found 32 words i lt (no_space words i n front) space)) in
+    sym (rw (cuts, short_some (take i words) n (omega (arith, long, front.few)) plain front.all front.value))
 
 -- where there is no number, there is none with a minus sign
 pub negative_of-missing : (digits : List ℕ) → number_below (2 ^ 32) digits ≡ None → negative_of digits ≡ None
@@ -173,9 +228,6 @@ negative_of-some digits (suc m) None some nonzero not_fits =
     (λ past. rw (number_below-beyond (2 ^ 32) (2 ^ 31 + 1) digits (lit≤ tt) (lit≤ tt) (suc m) some past))
     (cases_lt (suc m) (2 ^ 31 + 1))
 
-pub eqb-false_from : (a b : ℕ) → a ≢ b → eqb a b ≡ false
-eqb-false_from a b differ = grind (arith, nat_tests)
-
 negative_of-decimal : (n : ℕ) → n < 2 ^ 31 → negative_of (decimal (suc n)) ≡ Some (negsuc n)
 unfolding negative_of
 negative_of-decimal n small = rw (number_below-decimal (2 ^ 31 + 1) (suc n) (omega arith) (omega arith), not_zero n)
@@ -190,7 +242,7 @@ signed_of-minus (b ∷ bs) long minus = rw (eq-eqb b 45 minus)
 pub signed_of-plain : (word : List ℕ) → (0 < length word → get_or word 0 0 ≢ 45) → signed_of word ≡ option_map pos (number_below (2 ^ 31) word)
 unfolding signed_of
 signed_of-plain [] no_minus = rw (number_below-None (2 ^ 31) [] (λ n below is. let long = decimal_nonempty n (omega arith) in let empty = ap length is in absurd (omega arith)))
-signed_of-plain (b ∷ bs) no_minus = rw (eqb-false_from b 45 (no_minus (omega arith)))
+signed_of-plain (b ∷ bs) no_minus = rw (ne_eqb b 45 (no_minus (omega arith)))
 
 -- a number with no sign
 pub plain_some : (E : Type 0) (word : List ℕ) (n : ℕ) (r : Result ℤ E) → number_below (2 ^ 32) word ≡ Some n → OkIff r (FitsSigned w32 (pos n)) (pos n) → result_ok r ≡ option_map pos (number_below (2 ^ 31) word)

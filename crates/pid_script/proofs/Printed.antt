@@ -1,5 +1,5 @@
 -- Each call's line says that call.
-use Rattle.std.proofs.Common.{◌≡◌, ◌≢◌, ℕ, ◌^◌, ◌<◌, ◌≤◌, Bool, true, false, eqb, List, [], ◌∷◌, ◌++◌, get_or, Some, None, suc, decimal, codes, refl, ap, arith, ℤ, pos, FitsSigned, lit≤, option_map}
+use Rattle.std.proofs.Common.{◌≡◌, ◌≢◌, ℕ, ◌^◌, ◌<◌, ◌≤◌, Bool, true, false, cond, eqb, List, [], ◌∷◌, ◌++◌, get_or, Option, Some, None, suc, decimal, codes, refl, ap, subst, arith, ℤ, pos, FitsSigned, lit≤, option_map, option_and_then}
 use lib.IntN.{negsuc}
 use Rattle.std.specs.Int.{w32}
 use Rattle.std.specs.Fmt.{signed_decimal}
@@ -17,9 +17,9 @@ use Rattle.pid_types.specs.declared.call.Kind.{Kind}
 use Rattle.pid_types.specs.declared.call.Kind.TheVariants as kind
 use Rattle.pid_script.specs.declared.line.Line.TheVariants as says
 use Rattle.pid_script.specs.Lines.{word_of_kind, words_of_which, line_of, Fits, FitsWhich}
-use Rattle.pid_script.specs.Reading.{cut, number_below, signed_of, pair_of, is_word, fork_of, exit_of, numbered_of, which_of, wait_of, set_pgid_of, kind_of, next_of, limit_of, move_of, switch_of, subreaper_of, two_letters_of, four_letters_of, five_letters_of, six_letters_of, seven_letters_of, nine_letters_of, command_of, by_process, by_pair, by_control, call_or_bad, parsed}
+use Rattle.pid_script.specs.Reading.{cut, number_below, signed_of, pair_of, is_word, forked_by, fork_new_of, fork_of, exit_of, numbered_of, which_of, wait_of, set_pgid_of, kind_of, next_of, limit_of, move_of, switch_of, subreaper_of, two_letters_of, four_letters_of, five_letters_of, six_letters_of, seven_letters_of, nine_letters_of, command_of, by_process, by_pair, by_control, call_or_bad, parsed}
 use Rattle.pid_script.proofs.Cuts.{Lacks, cut-append, cut-lacks}
-use Rattle.pid_script.proofs.Numbers.{numerals, number_below-decimal, signed_of-decimal}
+use Rattle.pid_script.proofs.Numbers.{numerals, number_below-decimal, number_below-Some, signed_of-decimal}
 
 lacks_space : (ds : List ℕ) → AllDigits 10 ds → Lacks 32 ds
 lacks_space [] digits = tt
@@ -65,6 +65,30 @@ fork_new : (n : ℕ) → n < 2 ^ 32 → fork_of (decimal n ++ 32 ∷ codes "new"
 unfolding fork_of
 fork_new n below = rw (cut-decimal n (codes "new") (omega arith), pid n below)
 
+-- no number has a space in it
+pub fork_alone : (words : List ℕ) (n : ℕ) → number_below (2 ^ 32) words ≡ Some n → fork_of words ≡ Some (Fork n false)
+fork_alone words n is =
+    let a = number_below-Some (2 ^ 32) words n is in subst (λ w. fork_of w ≡ Some (Fork n false)) a.1 (fork_same n a.0)
+
+new_or_none : (t : Bool) (o : Option ℕ) (rest : List ℕ) → is_word (codes "new") rest ≡ t
+    → cond t (option_map (λ caller. Fork caller true) o) None
+    ≡ option_and_then (λ (q : ℕ × List ℕ). cond (is_word (codes "new") q.1) (Some (Fork q.0 true)) None) (option_and_then (λ n. Some (n, rest)) o)
+new_or_none true None rest is = refl
+new_or_none false None rest is = refl
+new_or_none true (Some n) rest is = rw is
+new_or_none false (Some n) rest is = rw is
+
+-- what is no number alone may be one before the word `new`
+pub fork_more : (words : List ℕ) → number_below (2 ^ 32) words ≡ None → fork_of words ≡ fork_new_of words
+unfolding fork_of fork_new_of
+fork_more words none =
+    elim (cut 32 words) as (λ o. forked_by words o
+    ≡ option_and_then (λ (q : ℕ × List ℕ). cond (is_word (codes "new") q.1) (Some (Fork q.0 true)) None)
+    (option_and_then (λ (p : List ℕ × List ℕ). option_and_then (λ n. Some (n, p.1)) (number_below (2 ^ 32) p.0)) o)) [
+      | None ↦ (rw none)
+      | Some p ↦ new_or_none (is_word (codes "new") p.1) (number_below (2 ^ 32) p.0) p.1 refl
+    ]
+
 exited : (n status : ℕ) → n < 2 ^ 32 → status < 2 ^ 8 → exit_of (decimal n ++ 32 ∷ decimal status) ≡ Some (Exit n status)
 unfolding exit_of
 exited n status below fits = rw (cut-decimal n (decimal status) (omega arith), pid n below, number (2 ^ 8) status fits (lit≤ tt))
@@ -84,7 +108,7 @@ regrouped : (n : ℕ) (p q : ℤ) → n < 2 ^ 32 → FitsSigned w32 p → FitsSi
     → set_pgid_of (decimal n ++ 32 ∷ (signed_decimal p ++ 32 ∷ signed_decimal q)) ≡ Some (SetPgid n p q)
 unfolding set_pgid_of
 regrouped n p q below fits_p fits_q =
-    rw (cut-decimal n (signed_decimal p ++ 32 ∷ signed_decimal q) (omega arith), cut-signed p (signed_decimal q) fits_p, pid n below, signed p fits_p, signed q fits_q)
+    rw (cut-decimal n (signed_decimal p ++ 32 ∷ signed_decimal q) (omega arith), pid n below, cut-signed p (signed_decimal q) fits_p, signed p fits_p, signed q fits_q)
 
 kinds : (k : Kind) → kind_of (word_of_kind k) ≡ Some k
 unfolding kind_of
@@ -101,7 +125,7 @@ followed : (n : ℕ) (k : Kind) (from : ℕ) → n < 2 ^ 32 → from < 2 ^ 32
     → next_of (decimal n ++ 32 ∷ (word_of_kind k ++ 32 ∷ decimal from)) ≡ Some (Next n k from)
 unfolding next_of
 followed n k from below fits =
-    rw (cut-decimal n (word_of_kind k ++ 32 ∷ decimal from) (omega arith), cut-append 32 (word_of_kind k) (decimal from) (lacks_kind k), pid n below, kinds k, pid from fits)
+    rw (cut-decimal n (word_of_kind k ++ 32 ∷ decimal from) (omega arith), pid n below, cut-append 32 (word_of_kind k) (decimal from) (lacks_kind k), kinds k, pid from fits)
 
 false_from : (b : Bool) → (b ≡ true → ⊥) → b ≡ false
 false_from true never = absurd (never refl)

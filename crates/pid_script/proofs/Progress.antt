@@ -1,5 +1,6 @@
 -- How far a script has come.
 use Rattle.std.proofs.Common.{◌≡◌, ℕ, ◌+◌, ◌-◌, ◌^◌, Bool, true, false, cond, eqb, List, [], ◌∷◌, ◌++◌, length-append, map, Option, Result, Ok, Err, is_ok, refl, sym, ap, ◌∙◌, subst, append_assoc, append-nil, codes, arith, fold, eq-eqb}
+use Rattle.std.proofs.lemmas.Bool.{ne_eqb}
 use Rattle.std.proofs.lemmas.List.Sums.{fold-append}
 use Rattle.std.proofs.lemmas.List.{map-append}
 use Rattle.pid_types.specs.declared.call.Call.{Call}
@@ -15,7 +16,6 @@ use Rattle.pid_script.specs.Script.{Progress, begun, with_newline, told, stepped
 use Rattle.pid_script.specs.Session.{Acts, made_by, Leads, progress_of, Answers, StopsShort}
 use Rattle.pid_types.specs.Devices.{Event}
 use Rattle.pid_script.specs.Dialogue.{Sends, Stalls, Queues, Stops}
-use Rattle.pid_script.proofs.Numbers.{eqb-false_from}
 
 -- two ways are as far if each of their parts is
 same_progress : (s s' : State) (n n' : ℕ) (t t' : List ℕ) (c c' : List (Call × Reply)) (l l' r r' b b' : ℕ) → s ≡ s' → n ≡ n' → t ≡ t' → c ≡ c' → l ≡ l' → r ≡ r' → b ≡ b'
@@ -30,13 +30,13 @@ pub call_leads : (state : State) (stamp : ℕ) (tally : Tally) (call : Call) (ma
 unfolding after_call
 call_leads state stamp tally call (Ok done) reply state' stamp' tally' acts lines recorded bad = (
   false,
-  λ held. (rw (eqb-false_from stamp (2 ^ 64 - 1) acts.0)
+  λ held. (rw (ne_eqb stamp (2 ^ 64 - 1) acts.0)
       (same_progress _ _ _ _ _ _ _ _ _ _ _ _ _ _ (sym acts.2) (sym acts.3) (ap (λ reply. held ++ with_newline (reply_text reply)) (sym acts.1))
       (ap (λ reply. (call, reply) ∷ []) (sym acts.1)) (sym lines) (sym recorded) (sym bad))),
 )
 call_leads state stamp tally call (Err NoMemory) reply state' stamp' tally' acts lines recorded bad = (
   true,
-  λ held. (rw (eqb-false_from stamp (2 ^ 64 - 1) acts.0) (same_progress _ _ _ _ _ _ _ _ _ _ _ _ _ _ (sym acts.1) (sym acts.2) refl refl (sym lines) (sym recorded) (sym bad))),
+  λ held. (rw (ne_eqb stamp (2 ^ 64 - 1) acts.0) (same_progress _ _ _ _ _ _ _ _ _ _ _ _ _ _ (sym acts.1) (sym acts.2) refl refl (sym lines) (sym recorded) (sym bad))),
 )
 call_leads state stamp tally call (Err Spent) reply state' stamp' tally' acts lines recorded bad = (
   false,

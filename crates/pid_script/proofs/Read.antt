@@ -11,7 +11,7 @@ use Rattle.pid_types.specs.declared.call.Which.TheVariants.{Any, Pid, OwnGroup, 
 use Rattle.pid_types.specs.declared.call.Kind.{Kind}
 use Rattle.pid_script.specs.declared.line.Line.TheVariants as says
 use Rattle.pid_script.specs.Lines.{word_of_kind, words_of_which, line_of, Fits, FitsWhich, IsLineOf, Says}
-use Rattle.pid_script.specs.Reading.{cut, number_below, signed_of, pair_of, is_word, forked_by, fork_of, exit_of, numbered_of, which_of, wait_of, set_pgid_of, kind_of, next_of, limit_of, move_of, switch_of, subreaper_of, two_letters_of, four_letters_of, five_letters_of, six_letters_of, seven_letters_of, nine_letters_of, command_of, by_pair, call_of, call_or_bad, parsed}
+use Rattle.pid_script.specs.Reading.{cut, number_below, number_then, signed_of, pair_of, is_word, forked_by, fork_of, exit_of, numbered_of, which_of, wait_of, set_pgid_of, kind_of, next_of, limit_of, move_of, switch_of, subreaper_of, two_letters_of, four_letters_of, five_letters_of, six_letters_of, seven_letters_of, nine_letters_of, command_of, by_pair, call_of, call_or_bad, parsed}
 use Rattle.pid_script.proofs.Cuts.{cut-Some, option_map_some}
 use Rattle.pid_script.proofs.Printed.{parsed-line_of}
 use Rattle.pid_script.proofs.Numbers.{number_below-Some, signed_of-Some}
@@ -29,14 +29,15 @@ branch word bytes x y z P then otherwise = go (is_word word bytes) refl
     go false other is = otherwise is
 
 -- a number, and what stands behind it and a space
-number_first : {A : Type 0} (most : ℕ) (words : List ℕ) (then : ℕ → List ℕ → Option A) (x : A) (P : Type 0)
-    → ((n : ℕ) (rest : List ℕ) → words ≡ decimal n ++ 32 ∷ rest → n < most → then n rest ≡ Some x → P)
-    → option_and_then (λ (p : List ℕ × List ℕ). option_and_then (λ n. then n p.1) (number_below most p.0)) (cut 32 words) ≡ Some x → P
+number_first : {A : Type 0} (most : ℕ) (words : List ℕ) (then : ℕ × List ℕ → Option A) (x : A) (P : Type 0)
+    → ((n : ℕ) (rest : List ℕ) → words ≡ decimal n ++ 32 ∷ rest → n < most → then (n, rest) ≡ Some x → P)
+    → option_and_then then (number_then most words) ≡ Some x → P
 number_first most words then x P found is =
-    option_and_then_some _ (cut 32 words) x is (λ p cuts rest.
-    option_and_then_some _ (number_below most p.0) x rest (λ n number last.
+    option_and_then_some then (number_then most words) x is (λ q first last.
+    option_and_then_some _ (cut 32 words) q first (λ p cuts rest.
+    option_and_then_some _ (number_below most p.0) q rest (λ n number same.
     let a = number_below-Some most p.0 n number in
-    found n p.1 (cut-Some 32 words p cuts ∙ ap (λ w. w ++ 32 ∷ p.1) (sym a.1)) a.0 last))
+    found n p.1 (cut-Some 32 words p cuts ∙ ap (λ w. w ++ 32 ∷ p.1) (sym a.1)) a.0 (subst (λ r. then r ≡ Some x) (sym (same_Some _ q same)) last))))
 
 read_exit : (words : List ℕ) (c : Call) → exit_of words ≡ Some c → Spells (codes "exit") words c
 unfolding exit_of line_of
@@ -107,20 +108,18 @@ read_wait words c is =
 read_set_pgid : (words : List ℕ) (c : Call) → set_pgid_of words ≡ Some c → Spells (codes "setpgid") words c
 unfolding set_pgid_of line_of
 read_set_pgid words c is =
-    option_and_then_some _ (cut 32 words) c is (λ p cuts rest.
-    option_and_then_some _ (cut 32 p.1) c rest (λ q cuts_again rest.
-    option_and_then_some _ (number_below (2 ^ 32) p.0) c rest (λ caller first rest.
+    number_first (2 ^ 32) words _ c _ (λ caller ids front below then.
+    option_and_then_some _ (cut 32 ids) c then (λ q cuts rest.
     option_and_then_some _ (signed_of q.0) c rest (λ process second rest.
     option_and_then_some _ (signed_of q.1) c rest (λ group third last.
-    let a = number_below-Some (2 ^ 32) p.0 caller first in
     let b = signed_of-Some q.0 process second in
     let d = signed_of-Some q.1 group third in
     subst (Spells (codes "setpgid") words) (same_Some _ c last) (record {
-      written = ap (λ ws. codes "setpgid" ++ 32 ∷ ws) (cut-Some 32 words p cuts ∙ ap (λ w. p.0 ++ 32 ∷ w) (cut-Some 32 p.1 q cuts_again)
-          ∙ ap (λ w. w ++ 32 ∷ (q.0 ++ 32 ∷ q.1)) (sym a.1) ∙ ap (λ w. decimal caller ++ 32 ∷ (w ++ 32 ∷ q.1)) (sym b.1)
+      written = ap (λ ws. codes "setpgid" ++ 32 ∷ ws) (front ∙ ap (λ w. decimal caller ++ 32 ∷ w) (cut-Some 32 ids q cuts)
+          ∙ ap (λ w. decimal caller ++ 32 ∷ (w ++ 32 ∷ q.1)) (sym b.1)
           ∙ ap (λ w. decimal caller ++ 32 ∷ (signed_decimal process ++ 32 ∷ w)) (sym d.1));
-      fits = (a.0, b.0, d.0);
-    }))))))
+      fits = (below, b.0, d.0);
+    }))))) is
 
 read_kind : (word : List ℕ) (k : Kind) → kind_of word ≡ Some k → word ≡ word_of_kind k
 unfolding kind_of
@@ -134,19 +133,17 @@ read_kind word k is =
 read_next : (words : List ℕ) (c : Call) → next_of words ≡ Some c → Spells (codes "next") words c
 unfolding next_of line_of
 read_next words c is =
-    option_and_then_some _ (cut 32 words) c is (λ p cuts rest.
-    option_and_then_some _ (cut 32 p.1) c rest (λ q cuts_again rest.
-    option_and_then_some _ (number_below (2 ^ 32) p.0) c rest (λ caller first rest.
+    number_first (2 ^ 32) words _ c _ (λ caller place front below then.
+    option_and_then_some _ (cut 32 place) c then (λ q cuts rest.
     option_and_then_some _ (kind_of q.0) c rest (λ k second rest.
     option_and_then_some _ (number_below (2 ^ 32) q.1) c rest (λ from third last.
-    let a = number_below-Some (2 ^ 32) p.0 caller first in
     let d = number_below-Some (2 ^ 32) q.1 from third in
     subst (Spells (codes "next") words) (same_Some _ c last) (record {
-      written = ap (λ ws. codes "next" ++ 32 ∷ ws) (cut-Some 32 words p cuts ∙ ap (λ w. p.0 ++ 32 ∷ w) (cut-Some 32 p.1 q cuts_again)
-          ∙ ap (λ w. w ++ 32 ∷ (q.0 ++ 32 ∷ q.1)) (sym a.1) ∙ ap (λ w. decimal caller ++ 32 ∷ (w ++ 32 ∷ q.1)) (read_kind q.0 k second)
+      written = ap (λ ws. codes "next" ++ 32 ∷ ws) (front ∙ ap (λ w. decimal caller ++ 32 ∷ w) (cut-Some 32 place q cuts)
+          ∙ ap (λ w. decimal caller ++ 32 ∷ (w ++ 32 ∷ q.1)) (read_kind q.0 k second)
           ∙ ap (λ w. decimal caller ++ 32 ∷ (word_of_kind k ++ 32 ∷ w)) (sym d.1));
-      fits = (a.0, d.0);
-    }))))))
+      fits = (below, d.0);
+    }))))) is
 
 read_limit : (words : List ℕ) (c : Call) → limit_of words ≡ Some c → Spells (codes "limit") words c
 unfolding limit_of line_of

@@ -1,9 +1,10 @@
 -- What a line of a script says.
-use Rattle.std.specs.Prelude.{ℕ, ◌^◌, ◌+◌, ◌<◌, ◌≡◌, ◌≢◌, length, slice_index, Bool, true, false, ◌&&◌, List, [], ◌∷◌, codes, decimal, Option, Some, None, if◌then◌else◌, ◌==◌, nat_lt, option_and_then, ℤ, pos}
+use Rattle.std.specs.Prelude.{ℕ, ◌^◌, ◌+◌, ◌<◌, ◌≤◌, ◌≡◌, take, ◌≢◌, length, slice_index, Bool, true, false, ◌&&◌, List, [], ◌∷◌, codes, decimal, Option, Some, None, if◌then◌else◌, ◌==◌, nat_lt, option_and_then, ℤ, pos}
 use lib.IntN.{neg_ℤ}
 use Rattle.std.specs.Option.{option_map}
 use Rattle.std.specs.Str.{bytes_eq}
-use Rattle.std.specs.Str.Parse.{digits_value}
+use Rattle.std.specs.Char.{digit_value}
+use Rattle.std.specs.Str.Parse.{AllDigits, digits_value}
 use Rattle.pid_types.specs.declared.call.Call.{Call}
 use Rattle.pid_types.specs.declared.call.Call.TheVariants.{Fork, GetPid, NsPid, Exec, Exit, Wait, GetPpid, SetPgid, SetSid, MakeControl, RemoveControl, SetLimit, Move, Count, GetPgid, GetSid, Next, Join, SetSubreaper}
 use Rattle.pid_types.specs.declared.call.Which.{Which}
@@ -34,6 +35,14 @@ cut byte (b ∷ bs) = if b == byte then Some ([], bs) else option_map (λ p. (b 
 abbrev pub IsPlain : List ℕ → Type 0
 IsPlain word = (0 < length word) × (slice_index word 0 ≡ 48 → length word ≡ 1)
 
+-- the word begins with so many digits, at most nine, and they write this number
+pub record IsFrontOf (word : List ℕ) (digits number : ℕ) : Type 0 where
+  pub within : digits ≤ length word
+  pub few : digits ≤ 9
+  pub all : AllDigits 10 (take digits word)
+  pub value : number ≡ digits_value 10 (take digits word)
+  pub ended : digits < 9 → digits < length word → ¬ (digit_value (slice_index word digits) < 10)
+
 -- the number below the bound that is written so
 unfoldable pub number_below : ℕ → List ℕ → Option ℕ
 number_below bound word =
@@ -48,19 +57,31 @@ unfoldable pub signed_of : List ℕ → Option ℤ
 signed_of [] = None
 signed_of (b ∷ bs) = if b == 45 then negative_of bs else option_map pos (number_below (2 ^ 31) (b ∷ bs))
 
+-- the number below the bound before the first space, and what stands after that space
+abbrev pub number_then : ℕ → List ℕ → Option (ℕ × List ℕ)
+number_then bound words = do
+  p ← cut 32 words
+  number ← number_below bound p.0
+  Some (number, p.1)
+
 -- two process numbers
 unfoldable pub pair_of : List ℕ → Option (ℕ × ℕ)
 pair_of words = do
-  p ← cut 32 words
-  first ← number_below (2 ^ 32) p.0
-  second ← number_below (2 ^ 32) p.1
-  Some (first, second)
+  first ← number_then (2 ^ 32) words
+  second ← number_below (2 ^ 32) first.1
+  Some (first.0, second)
 
 -- a caller, and whether the word `new` follows it
 abbrev pub forked_by : List ℕ → Option (List ℕ × List ℕ) → Option Call
 forked_by words None = option_map (λ caller. Fork caller false) (number_below (2 ^ 32) words)
 forked_by words (Some p) =
     if is_word (codes "new") p.1 then option_map (λ caller. Fork caller true) (number_below (2 ^ 32) p.0) else None
+
+-- a caller and the word `new`
+unfoldable pub fork_new_of : List ℕ → Option Call
+fork_new_of words = do
+  caller ← number_then (2 ^ 32) words
+  if is_word (codes "new") caller.1 then Some (Fork caller.0 true) else None
 
 -- a caller, and whether its child gets a new namespace
 unfoldable pub fork_of : List ℕ → Option Call
@@ -69,10 +90,9 @@ fork_of words = forked_by words (cut 32 words)
 -- a caller and its status
 unfoldable pub exit_of : List ℕ → Option Call
 exit_of words = do
-  p ← cut 32 words
-  caller ← number_below (2 ^ 32) p.0
-  status ← number_below (2 ^ 8) p.1
-  Some (Exit caller status)
+  caller ← number_then (2 ^ 32) words
+  status ← number_below (2 ^ 8) caller.1
+  Some (Exit caller.0 status)
 
 -- the children that the selector and the number name
 abbrev pub selected_by : List ℕ → ℕ → Option Which
@@ -96,20 +116,18 @@ which_of words =
 -- a caller, and which children it waits for
 unfoldable pub wait_of : List ℕ → Option Call
 wait_of words = do
-  p ← cut 32 words
-  caller ← number_below (2 ^ 32) p.0
-  which ← which_of p.1
-  Some (Wait caller which)
+  caller ← number_then (2 ^ 32) words
+  which ← which_of caller.1
+  Some (Wait caller.0 which)
 
 -- a caller, a process and a group
 unfoldable pub set_pgid_of : List ℕ → Option Call
 set_pgid_of words = do
-  p ← cut 32 words
-  q ← cut 32 p.1
-  caller ← number_below (2 ^ 32) p.0
-  pid ← signed_of q.0
-  pgid ← signed_of q.1
-  Some (SetPgid caller pid pgid)
+  caller ← number_then (2 ^ 32) words
+  ids ← cut 32 caller.1
+  pid ← signed_of ids.0
+  pgid ← signed_of ids.1
+  Some (SetPgid caller.0 pid pgid)
 
 -- a kind of number
 unfoldable pub kind_of : List ℕ → Option Kind
@@ -121,27 +139,24 @@ kind_of word =
 -- a caller, a kind and the number to begin at
 unfoldable pub next_of : List ℕ → Option Call
 next_of words = do
-  p ← cut 32 words
-  q ← cut 32 p.1
-  caller ← number_below (2 ^ 32) p.0
-  kind ← kind_of q.0
-  from ← number_below (2 ^ 32) q.1
-  Some (Next caller kind from)
+  caller ← number_then (2 ^ 32) words
+  place ← cut 32 caller.1
+  kind ← kind_of place.0
+  from ← number_below (2 ^ 32) place.1
+  Some (Next caller.0 kind from)
 
 -- a control group and its limit
 unfoldable pub limit_of : List ℕ → Option Call
 limit_of words = do
-  p ← cut 32 words
-  id ← number_below (2 ^ 64) p.0
-  if is_word (codes "max") p.1 then Some (SetLimit id None) else option_map (λ limit. SetLimit id (Some limit)) (number_below (2 ^ 32) p.1)
+  id ← number_then (2 ^ 64) words
+  if is_word (codes "max") id.1 then Some (SetLimit id.0 None) else option_map (λ limit. SetLimit id.0 (Some limit)) (number_below (2 ^ 32) id.1)
 
 -- a task and a control group
 unfoldable pub move_of : List ℕ → Option Call
 move_of words = do
-  p ← cut 32 words
-  task ← number_below (2 ^ 32) p.0
-  id ← number_below (2 ^ 64) p.1
-  Some (Move task id)
+  task ← number_then (2 ^ 32) words
+  id ← number_below (2 ^ 64) task.1
+  Some (Move task.0 id)
 
 -- a switch
 unfoldable pub switch_of : List ℕ → Option Bool
@@ -152,10 +167,9 @@ switch_of word =
 -- a caller and its mark
 unfoldable pub subreaper_of : List ℕ → Option Call
 subreaper_of words = do
-  p ← cut 32 words
-  caller ← number_below (2 ^ 32) p.0
-  on ← switch_of p.1
-  Some (SetSubreaper caller on)
+  caller ← number_then (2 ^ 32) words
+  on ← switch_of caller.1
+  Some (SetSubreaper caller.0 on)
 
 -- the call of a command about one process
 abbrev pub by_process : (ℕ → Call) → List ℕ → Option Call

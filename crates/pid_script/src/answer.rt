@@ -14,6 +14,7 @@ use pid_types::reply::{CallFault, Refusal, Reply};
 /// The length of the longest answer: 33 numbers of ten digits, and a space between.
 pub const LONGEST_ANSWER: usize = 362;
 
+#[inline(always)]
 pub(crate) fn push_bytes<const N: usize>(text: &mut ArrayVec<u8, N>, bytes: &[u8])
     requires { length text.old.items + length bytes.now ≤ N }
     ensures items { text.new.items ≡ text.old.items ++ bytes.now }
@@ -119,6 +120,7 @@ fn push_number<const N: usize>(text: &mut ArrayVec<u8, N>, number: u64)
 
 /// The label, and the number behind it.
 #[tactic(auto, using(crate::proofs::Room::room))]
+#[inline(always)]
 pub(crate) fn push_labelled<const N: usize>(text: &mut ArrayVec<u8, N>, label: &[u8], number: u64)
     requires { length text.old.items + length label.now + 20 ≤ N }
     ensures items { text.new.items ≡ text.old.items ++ label.now ++ decimal number }

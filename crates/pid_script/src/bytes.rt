@@ -1,8 +1,13 @@
 //! Bytes cut at a byte.
-ghost use Rattle.std.specs.Prelude.{◌≡◌, ◌≤◌, ◌==◌, length};
-ghost use Rattle.std.specs.List.{position};
+ghost use Rattle.std.specs.Prelude.{◌≡◌, ◌+◌, ◌≤◌, ◌==◌, not, length, take, drop};
+ghost use Rattle.std.specs.List.{position, prefix_len};
 ghost use Rattle.std.specs.Option.{option_map};
 ghost use Rattle.pid_script.specs.Reading.{IsFreeOf, cut};
+
+use std::simd::prelude::*;
+
+/// How many bytes are looked at together.
+const LANES: usize = 16;
 
 /// The index of the first such byte, where none stands before this index.
 fn first_index_from(bytes: &[u8], byte: u8, from: usize) -> Option<usize>
@@ -18,25 +23,32 @@ fn first_index_from(bytes: &[u8], byte: u8, from: usize) -> Option<usize>
     None
 }
 
-/// The index of the first such byte. It is looked for four bytes at a time, which costs less.
+/// How many of the bytes from the index on, of as many as there are lanes, come before the first such byte.
+#[inline(always)]
+fn run_without(bytes: &[u8], byte: u8, index: usize) -> usize
+    requires { index + LANES ≤ length bytes.now }
+    ensures { result ≡ prefix_len (λ b. not (b == byte)) (take LANES (drop index bytes.now)) }
+{
+    let lanes = u8x16::from_slice(&bytes[index..]);
+    let equal = lanes.simd_eq(u8x16::splat(byte)).to_bitmask();
+    if equal == 0 {
+        return LANES;
+    }
+    equal.trailing_zeros() as usize
+}
+
+/// The index of the first such byte. As many bytes as there are lanes are looked at together, which costs less.
+#[inline(always)]
 fn first_index(bytes: &[u8], byte: u8) -> Option<usize>
     ensures { result ≡ position (λ b. b == byte) bytes.now }
 {
     let mut index = 0;
-    while bytes.len() - index >= 4 {
-        if bytes[index] == byte {
-            return Some(index);
+    while bytes.len() - index >= LANES {
+        let run = run_without(bytes, byte, index);
+        if run < LANES {
+            return Some(index + run);
         }
-        if bytes[index + 1] == byte {
-            return Some(index + 1);
-        }
-        if bytes[index + 2] == byte {
-            return Some(index + 2);
-        }
-        if bytes[index + 3] == byte {
-            return Some(index + 3);
-        }
-        index += 4;
+        index += LANES;
     }
     first_index_from(bytes, byte, index)
 }

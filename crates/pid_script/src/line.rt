@@ -1,12 +1,12 @@
 //! Lines to calls: [`parse_line`] is the table of all lines. Below it stands a reader for the words
 //! of each command; each answers `None` for words that are no such command's.
-ghost use Rattle.std.specs.Prelude.{◌≡◌};
+ghost use Rattle.std.specs.Prelude.{◌≡◌, ◌<◌, length};
 ghost use Rattle.pid_types.specs.declared.call.Call.TheVariants as calls;
-ghost use Rattle.pid_script.specs.Reading.{pair_of, fork_of, exit_of, numbered_of, which_of, wait_of, set_pgid_of, kind_of, next_of, limit_of, move_of, switch_of, subreaper_of, by_process, two_letters_of, four_letters_of, five_letters_of, six_letters_of, seven_letters_of, nine_letters_of, command_of, call_of, call_or_bad, parsed};
+ghost use Rattle.pid_script.specs.Reading.{pair_of, fork_new_of, fork_of, exit_of, numbered_of, which_of, wait_of, set_pgid_of, kind_of, next_of, limit_of, move_of, switch_of, subreaper_of, by_process, by_pair, by_control, two_letters_of, four_letters_of, five_letters_of, six_letters_of, seven_letters_of, nine_letters_of, command_of, call_of, call_or_bad, parsed};
 ghost use Rattle.pid_script.specs.Lines.{Says};
 
 use crate::bytes::split_at_first;
-use crate::number::{read_i32, read_u8, read_u32, read_u64};
+use crate::number::{read_i32, read_then, read_u8, read_u32, read_u64};
 use pid_types::call::{Call, Kind, Which};
 
 /// What a line of a script says.
@@ -22,28 +22,41 @@ pub enum Line {
 
 /// Two numbers.
 #[tactic(auto, unfolding(crate::specs::Reading::pair_of))]
+#[inline(always)]
 fn read_pair(words: &[u8]) -> Option<(u32, u32)>
     ensures { result ≡ pair_of words.now }
 {
-    let (first, second) = split_at_first(words, b' ')?;
-    Some((read_u32(first)?, read_u32(second)?))
+    let (first, rest) = read_then(words)?;
+    Some((first, read_u32(rest)?))
+}
+
+/// `P new`.
+#[tactic(auto, unfolding(crate::specs::Reading::fork_new_of))]
+fn read_fork_new(words: &[u8]) -> Option<Call>
+    ensures { result ≡ fork_new_of words.now }
+{
+    let (caller, word) = read_then(words)?;
+    match word {
+        b"new" => Some(Call::Fork {
+            caller,
+            new_space: true,
+        }),
+        _ => None,
+    }
 }
 
 /// `P` or `P new`.
-#[tactic(auto, unfolding(crate::specs::Reading::fork_of))]
 #[inline(always)]
 fn read_fork(words: &[u8]) -> Option<Call>
     ensures { result ≡ fork_of words.now }
 {
-    let (caller, new_space) = match split_at_first(words, b' ') {
-        None => (words, false),
-        Some((caller, b"new")) => (caller, true),
-        Some(_) => return None,
-    };
-    Some(Call::Fork {
-        caller: read_u32(caller)?,
-        new_space,
-    })
+    match read_u32(words) {
+        Some(caller) => Some(Call::Fork {
+            caller,
+            new_space: false,
+        }),
+        None => read_fork_new(words),
+    }
 }
 
 /// `P S`.
@@ -52,9 +65,9 @@ fn read_fork(words: &[u8]) -> Option<Call>
 fn read_exit(words: &[u8]) -> Option<Call>
     ensures { result ≡ exit_of words.now }
 {
-    let (caller, status) = split_at_first(words, b' ')?;
+    let (caller, status) = read_then(words)?;
     Some(Call::Exit {
-        caller: read_u32(caller)?,
+        caller,
         status: read_u8(status)?,
     })
 }
@@ -75,6 +88,7 @@ fn read_numbered(words: &[u8]) -> Option<Which>
 
 /// Which children a wait selects.
 #[tactic(auto, unfolding(crate::specs::Reading::which_of))]
+#[inline(always)]
 fn read_which(words: &[u8]) -> Option<Which>
     ensures { result ≡ which_of words.now }
 {
@@ -91,9 +105,9 @@ fn read_which(words: &[u8]) -> Option<Which>
 fn read_wait(words: &[u8]) -> Option<Call>
     ensures { result ≡ wait_of words.now }
 {
-    let (caller, which) = split_at_first(words, b' ')?;
+    let (caller, which) = read_then(words)?;
     Some(Call::Wait {
-        caller: read_u32(caller)?,
+        caller,
         which: read_which(which)?,
     })
 }
@@ -103,10 +117,10 @@ fn read_wait(words: &[u8]) -> Option<Call>
 fn read_set_pgid(words: &[u8]) -> Option<Call>
     ensures { result ≡ set_pgid_of words.now }
 {
-    let (caller, ids) = split_at_first(words, b' ')?;
+    let (caller, ids) = read_then(words)?;
     let (pid, pgid) = split_at_first(ids, b' ')?;
     Some(Call::SetPgid {
-        caller: read_u32(caller)?,
+        caller,
         pid: read_i32(pid)?,
         pgid: read_i32(pgid)?,
     })
@@ -130,10 +144,10 @@ fn read_kind(word: &[u8]) -> Option<Kind>
 fn read_next(words: &[u8]) -> Option<Call>
     ensures { result ≡ next_of words.now }
 {
-    let (caller, place) = split_at_first(words, b' ')?;
+    let (caller, place) = read_then(words)?;
     let (kind, from) = split_at_first(place, b' ')?;
     Some(Call::Next {
-        caller: read_u32(caller)?,
+        caller,
         kind: read_kind(kind)?,
         from: read_u32(from)?,
     })
@@ -158,9 +172,9 @@ fn read_limit(words: &[u8]) -> Option<Call>
 fn read_move(words: &[u8]) -> Option<Call>
     ensures { result ≡ move_of words.now }
 {
-    let (task, id) = split_at_first(words, b' ')?;
+    let (task, id) = read_then(words)?;
     Some(Call::Move {
-        task: read_u32(task)?,
+        task,
         id: read_u64(id)?,
     })
 }
@@ -182,9 +196,9 @@ fn read_switch(word: &[u8]) -> Option<bool>
 fn read_subreaper(words: &[u8]) -> Option<Call>
     ensures { result ≡ subreaper_of words.now }
 {
-    let (caller, on) = split_at_first(words, b' ')?;
+    let (caller, on) = read_then(words)?;
     Some(Call::SetSubreaper {
-        caller: read_u32(caller)?,
+        caller,
         on: read_switch(on)?,
     })
 }
@@ -294,16 +308,8 @@ fn line_of_call(call: Option<Call>) -> Line
     }
 }
 
-/// What `getpid` says with the words behind it.
-#[inline(never)]
-fn get_pid_line(words: &[u8]) -> Line
-    ensures { result ≡ call_or_bad (by_process calls.GetPid words.now) }
-{
-    line_of_call(read_u32(words).map(|caller| Call::GetPid { caller }))
-}
-
 /// What `fork` says with the words behind it.
-#[inline(never)]
+#[inline(always)]
 fn fork_line(words: &[u8]) -> Line
     ensures { result ≡ call_or_bad (fork_of words.now) }
 {
@@ -311,7 +317,7 @@ fn fork_line(words: &[u8]) -> Line
 }
 
 /// What `exit` says with the words behind it.
-#[inline(never)]
+#[inline(always)]
 fn exit_line(words: &[u8]) -> Line
     ensures { result ≡ call_or_bad (exit_of words.now) }
 {
@@ -319,11 +325,83 @@ fn exit_line(words: &[u8]) -> Line
 }
 
 /// What `wait` says with the words behind it.
-#[inline(never)]
+#[inline(always)]
 fn wait_line(words: &[u8]) -> Line
     ensures { result ≡ call_or_bad (wait_of words.now) }
 {
     line_of_call(read_wait(words))
+}
+
+/// What `next` says with the words behind it.
+#[inline(always)]
+fn next_line(words: &[u8]) -> Line
+    ensures { result ≡ call_or_bad (next_of words.now) }
+{
+    line_of_call(read_next(words))
+}
+
+/// What `setpgid` says with the words behind it.
+#[inline(always)]
+fn set_pgid_line(words: &[u8]) -> Line
+    ensures { result ≡ call_or_bad (set_pgid_of words.now) }
+{
+    line_of_call(read_set_pgid(words))
+}
+
+/// What `setsid` says with the words behind it.
+#[inline(always)]
+fn set_sid_line(words: &[u8]) -> Line
+    ensures { result ≡ call_or_bad (by_process calls.SetSid words.now) }
+{
+    line_of_call(read_u32(words).map(|caller| Call::SetSid { caller }))
+}
+
+/// What `getpid` says with the words behind it.
+#[inline(always)]
+fn get_pid_line(words: &[u8]) -> Line
+    ensures { result ≡ call_or_bad (by_process calls.GetPid words.now) }
+{
+    line_of_call(read_u32(words).map(|caller| Call::GetPid { caller }))
+}
+
+/// What `getppid` says with the words behind it.
+#[inline(always)]
+fn get_ppid_line(words: &[u8]) -> Line
+    ensures { result ≡ call_or_bad (by_process calls.GetPpid words.now) }
+{
+    line_of_call(read_u32(words).map(|caller| Call::GetPpid { caller }))
+}
+
+/// What `getpgid` says with the words behind it.
+#[inline(always)]
+fn get_pgid_line(words: &[u8]) -> Line
+    ensures { result ≡ call_or_bad (by_pair calls.GetPgid words.now) }
+{
+    line_of_call(read_pair(words).map(|(caller, pid)| Call::GetPgid { caller, pid }))
+}
+
+/// What `getsid` says with the words behind it.
+#[inline(always)]
+fn get_sid_line(words: &[u8]) -> Line
+    ensures { result ≡ call_or_bad (by_pair calls.GetSid words.now) }
+{
+    line_of_call(read_pair(words).map(|(caller, pid)| Call::GetSid { caller, pid }))
+}
+
+/// What `nspid` says with the words behind it.
+#[inline(always)]
+fn ns_pid_line(words: &[u8]) -> Line
+    ensures { result ≡ call_or_bad (by_pair calls.NsPid words.now) }
+{
+    line_of_call(read_pair(words).map(|(caller, target)| Call::NsPid { caller, target }))
+}
+
+/// What `count` says with the words behind it.
+#[inline(always)]
+fn count_line(words: &[u8]) -> Line
+    ensures { result ≡ call_or_bad (by_control calls.Count words.now) }
+{
+    line_of_call(read_u64(words).map(|id| Call::Count { id }))
 }
 
 /// What a line says that has a byte, whatever its command.
@@ -335,28 +413,43 @@ fn any_line(line: &[u8]) -> Line
     line_of_call(call)
 }
 
-/// What a line says that has a byte. `fork`, `exit` and `wait` are told by its first bytes, before any space is looked for.
+/// What a line of few bytes says, but of one or more.
 #[inline(always)]
-fn life_line(line: &[u8]) -> Line
-    ensures { result ≡ call_or_bad (call_of line.now) }
+fn short_line(line: &[u8]) -> Line
+    requires { 0 < length line.now }
+    ensures { result ≡ parsed line.now }
 {
     match line {
         [b'f', b'o', b'r', b'k', b' ', words @ ..] => fork_line(words),
-        [b'e', b'x', b'i', b't', b' ', words @ ..] => exit_line(words),
-        [b'w', b'a', b'i', b't', b' ', words @ ..] => wait_line(words),
         _ => any_line(line),
     }
 }
 
-/// What the line says. `getpid` is told by its first bytes too.
+/// What the line says. Frequent commands are told by its first bytes, before any space is looked for.
 #[inline(always)]
 fn read_line(line: &[u8]) -> Line
     ensures { result ≡ parsed line.now }
 {
-    match line {
-        [] => Line::Empty,
-        [b'g', b'e', b't', b'p', b'i', b'd', b' ', words @ ..] => get_pid_line(words),
-        _ => life_line(line),
+    if line.is_empty() {
+        return Line::Empty;
+    }
+    let Some(front) = line.first_chunk::<8>() else {
+        return short_line(line);
+    };
+    match front {
+        [b'f', b'o', b'r', b'k', b' ', ..] => fork_line(&line[5..]),
+        [b'e', b'x', b'i', b't', b' ', ..] => exit_line(&line[5..]),
+        [b'w', b'a', b'i', b't', b' ', ..] => wait_line(&line[5..]),
+        [b'n', b'e', b'x', b't', b' ', ..] => next_line(&line[5..]),
+        [b'n', b's', b'p', b'i', b'd', b' ', ..] => ns_pid_line(&line[6..]),
+        [b'c', b'o', b'u', b'n', b't', b' ', ..] => count_line(&line[6..]),
+        [b's', b'e', b't', b's', b'i', b'd', b' ', ..] => set_sid_line(&line[7..]),
+        [b'g', b'e', b't', b'p', b'i', b'd', b' ', ..] => get_pid_line(&line[7..]),
+        [b'g', b'e', b't', b's', b'i', b'd', b' ', ..] => get_sid_line(&line[7..]),
+        b"setpgid " => set_pgid_line(&line[8..]),
+        b"getppid " => get_ppid_line(&line[8..]),
+        b"getpgid " => get_pgid_line(&line[8..]),
+        _ => any_line(line),
     }
 }
 

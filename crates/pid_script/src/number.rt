@@ -2,7 +2,10 @@
 ghost use Rattle.std.specs.Prelude.{◌≡◌, ◌+◌, ◌*◌, ◌^◌, ◌<◌, ◌≤◌, ◌↔◌, length, IsTrue, IfSome, IfNone};
 ghost use Rattle.std.specs.Char.{digit_value};
 ghost use Rattle.std.specs.Str.Parse.{AllDigits, digits_value};
-ghost use Rattle.pid_script.specs.Reading.{IsPlain, number_below, negative_of, signed_of};
+ghost use Rattle.std.specs.Option.{option_map};
+ghost use Rattle.pid_script.specs.Reading.{IsFrontOf, IsPlain, number_below, number_then, negative_of, signed_of};
+
+use crate::bytes::split_at_first;
 
 /// Whether the word is not empty and has no leading zero.
 fn is_plain(word: &[u8]) -> bool
@@ -60,29 +63,81 @@ pub fn read_u64(word: &[u8]) -> Option<u64>
     read_digits(word)
 }
 
-/// The number of a word of at most nine bytes. So few digits write a number below 2^32.
-fn read_short(word: &[u8]) -> Option<u32>
-    requires plain { IsPlain word.now }
-    requires short { length word.now ≤ 9 }
-    ensures { result ≡ number_below (2 ^ 32) word.now }
+/// The digits that a word begins with, up to nine: how many they are, and what they write.
+#[derive(Clone, Copy)]
+struct Front {
+    digits: usize,
+    number: u32,
+}
+
+/// What the word begins with. So few digits write a number below 2^32, and are read without a test that it fits.
+#[inline(always)]
+fn read_front(word: &[u8]) -> Front
+    ensures { IsFrontOf word.now result.digits result.number }
 {
+    let most = word.len().min(9);
     let mut number = 0_u32;
-    for byte in word {
-        let digit = digit_of(*byte)?;
+    for index in 0..most {
+        let Some(digit) = digit_of(word[index]) else {
+            return Front {
+                digits: index,
+                number,
+            };
+        };
         number = number * 10 + u32::from(digit);
     }
-    Some(number)
+    Front {
+        digits: most,
+        number,
+    }
+}
+
+/// The number of a word of any length, where it is one below 2^32.
+#[inline(never)]
+fn read_long(word: &[u8]) -> Option<u32>
+    ensures { result ≡ number_below (2 ^ 32) word.now }
+{
+    u32::try_from(read_u64(word)?).ok()
 }
 
 /// The number of a word, where it is one below 2^32.
+#[inline(always)]
 pub fn read_u32(word: &[u8]) -> Option<u32>
     ensures { result ≡ number_below (2 ^ 32) word.now }
 {
-    // Most words are short, and are read without a test at each digit that the number fits.
-    if word.len() < 10 && is_plain(word) {
-        return read_short(word);
+    let front = read_front(word);
+    if front.digits == word.len() && is_plain(word) {
+        return Some(front.number);
     }
-    u32::try_from(read_u64(word)?).ok()
+    if front.digits < 9 {
+        return None;
+    }
+    read_long(word)
+}
+
+/// The number before the first space, of a word of any length, and what stands after that space.
+#[inline(never)]
+fn read_long_then(words: &[u8]) -> Option<(u32, &[u8])>
+    ensures { option_map (λ p. (p.0, p.1.now)) result ≡ number_then (2 ^ 32) words.now }
+{
+    let (word, rest) = split_at_first(words, b' ')?;
+    Some((read_long(word)?, rest))
+}
+
+/// The number before the first space, where it is one below 2^32, and what stands after that space.
+#[inline(always)]
+pub fn read_then(words: &[u8]) -> Option<(u32, &[u8])>
+    ensures { option_map (λ p. (p.0, p.1.now)) result ≡ number_then (2 ^ 32) words.now }
+{
+    let front = read_front(words);
+    let end = front.digits;
+    if end < words.len() && words[end] == b' ' && is_plain(&words[..end]) {
+        return Some((front.number, &words[end + 1..]));
+    }
+    if end < 9 {
+        return None;
+    }
+    read_long_then(words)
 }
 
 /// The number of a word, where it is one below 2^8.

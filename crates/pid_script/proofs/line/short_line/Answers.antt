@@ -1,0 +1,11 @@
+use Rattle.std.proofs.Common.{◌∙◌, ap, sym, arith}
+use Rattle.std.proofs.lemmas.Slice.{between_to_end}
+use Rattle.pid_script.specs.Reading.{fork_of, call_or_bad}
+use Rattle.pid_script.proofs.Prefixes.{says_fork}
+use Rattle.pid_script.proofs.line.short_line.Goals as goal
+
+pub returns-in-102 : goal.returns-in-102
+returns-in-102 c =
+    let line = c.args.line.now in
+    c.fork_line.ensures ∙ ap (λ words. call_or_bad (fork_of words)) (between_to_end line 5 _ (omega arith))
+    ∙ sym (says_fork line (omega arith) (cc, (cc, (cc, (cc, ((cc), tt))))))
