@@ -2,9 +2,9 @@
 //!
 //! The members of an owner are a few sorted runs. Each key knows the next of its run, and the first of a run knows
 //! the first of the run beside it, which ranks above it. So each key ranks above the key that leads to it, and the
-//! first of all is the least. Two runs that grew to one level become one, as in a binary counter, so that an owner
-//! has at most a logarithm of its members in runs. No call but `grow` takes memory. Keys and owners are numbers
-//! below 2^30.
+//! first of all is the least. Two runs of one level become one of the next level, as in a binary counter. So members
+//! that came in any order are in at most a logarithm of their number of runs, and up to 32 runs more may have been
+//! handed on. No call but `grow` takes memory. Keys and owners are numbers below 2^30.
 #![tactic(auto)]
 
 ghost use Rattle.std.specs.Prelude.{◌≡◌, ◌≢◌, ◌⊎◌, ℕ, ◌+◌, ◌<◌, ◌≤◌, ◌^◌, length, map, Some, None, MatchOption, OnOk, OnErr, [], ◌∷◌, ◌++◌, IsSome, IsTrue, ◌↔◌, slice_set, option_map};
@@ -584,8 +584,9 @@ impl MemberQueues {
     /// All members of the one owner become the other's, with their ranks. They are given one after the other, each
     /// once.
     ///
-    /// It costs one read and one write for each of them. Then the runs of the two are joined as they are, which costs
-    /// a logarithm of the members, and those of one level as `insert` joins them.
+    /// It costs one read and one write for each of them, and then a read for each run of the two, which are put in
+    /// order. Where there are more than 32, those of one level become one: a logarithm of the members, taken over many
+    /// calls.
     pub fn move_all(&mut self, from: u32, to: u32, members: Members<'_>)
         requires differ { from ≢ to }
         requires from { from < length self.old }
@@ -598,13 +599,13 @@ impl MemberQueues {
     {
         let held = detach(&mut self.forest, from, to, members);
         meld(&mut self.forest, to, held);
-        if is_long(&self.forest, to) {
+        if held != NIL && is_long(&self.forest, to) {
             settle_all(&mut self.forest, to);
         }
     }
 
     /// Takes a key from its owner. It costs a few reads and writes, and where the key begins a run a read for each run
-    /// that comes before the rest of it: at most a logarithm of the members.
+    /// that begins below the rest of it.
     pub fn remove(&mut self, key: u32)
         requires key { key < length self.old }
         requires owned { IsSome (ranked self.old key) }

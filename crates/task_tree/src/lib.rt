@@ -1,7 +1,7 @@
 //! Tasks, their parents, and the children that have ended and wait to be reaped.
 //!
 //! Tasks stand at keys, numbers below 2^30 that the caller picks. Each task has its children in a list and
-//! those of them that have ended in a list and in a heap by rank, so that the one that `waitpid(2)` reaps is found by
+//! those of them that have ended in a list and in a queue by rank, so that the one that `waitpid(2)` reaps is found by
 //! one read and no live child is touched. Each call but `grow` takes no memory.
 //!
 //! A task may be removed while it has children; they keep its key as their parent's.
