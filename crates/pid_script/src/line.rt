@@ -414,7 +414,7 @@ fn any_line(line: &[u8]) -> Line
 }
 
 /// What a line of few bytes says, but of one or more.
-#[inline(never)]
+#[inline(always)]
 fn short_line(line: &[u8]) -> Line
     requires { 0 < length line.now }
     ensures { result ≡ parsed line.now }
