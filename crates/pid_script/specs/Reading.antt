@@ -35,7 +35,7 @@ cut byte (b ∷ bs) = if b == byte then Some ([], bs) else option_map (λ p. (b 
 abbrev pub IsPlain : List ℕ → Type 0
 IsPlain word = (0 < length word) × (slice_index word 0 ≡ 48 → length word ≡ 1)
 
--- the word begins with so many digits, at most nine, and they write this number
+-- the word begins with so many digits, at most nine, and they write this number; after fewer than nine comes no digit
 pub record IsFrontOf (word : List ℕ) (digits number : ℕ) : Type 0 where
   pub within : digits ≤ length word
   pub few : digits ≤ 9
