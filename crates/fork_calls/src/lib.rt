@@ -5,7 +5,9 @@
 //! group around the caller's.
 #![tactic(auto)]
 
-ghost use Rattle.std.specs.Prelude.{◌≡◌, ℕ, Some, None, true, false, map, find, is_none, option_map, unwrap_or, IfOk, IfErr, IfSome, OnOk, OnErr, IsSome, nat_le, ◌∷◌, ◌==◌, ◌<◌, length, reverse, slice_index};
+ghost use Rattle.std.specs.Prelude.{◌≡◌, ℕ, Some, None, true, false, map, find, is_none, option_map, unwrap_or, IfOk};
+ghost use Rattle.std.specs.Prelude.{IfErr, IfSome, OnOk, OnErr, IsSome, nat_le, ◌∷◌, ◌==◌, ◌<◌, length, reverse};
+ghost use Rattle.std.specs.Prelude.{slice_index};
 ghost use Rattle.pid_types.specs.Bounds.{deepest_space};
 ghost use Rattle.pid_types.specs.Outcome.{unless_found};
 ghost use Rattle.pid_types.specs.Names.{level, number_or_zero, root_number};
@@ -17,7 +19,8 @@ ghost use Rattle.pid_types.specs.Fork.{fork as fork_of, forked, is_gone, with_sp
 ghost use Rattle.pid_types.specs.Sound.{IsBelow};
 ghost use Rattle.pid_types.specs.declared.reply.Refusal.{Refusal};
 ghost use Rattle.pid_types.specs.Short.{reply_of};
-ghost use Rattle.pid_numbers.specs.Numbering.{id_at, path_at, draw_in, has_fallen_at, namespace_at, number_of, identifier_at, Identifier};
+ghost use Rattle.pid_numbers.specs.Numbering.{id_at, path_at, draw_in, has_fallen_at, namespace_at, number_of};
+ghost use Rattle.pid_numbers.specs.Numbering.{identifier_at, Identifier};
 ghost use Rattle.task_tree.specs.declared.Task.{Task};
 ghost use Rattle.task_tree.specs.Tree.{task_at, lives};
 ghost use Rattle.task_table.specs.View.{name_at, row_of, state_of};
@@ -37,7 +40,8 @@ use task_tree::Task;
 fn passed_limit(store: &Tasks, found: &Found) -> Option<Refusal>
     requires there { task_at store.now.tree found.now.key ≡ Some found.now.task }
     requires live { lives found.now.task ≡ true }
-    ensures { result ≡ option_map Refusal.PidsLimit (passed_limit_of (state_of store.now) (row_of store.now found.now.key found.now.task).home) }
+    ensures { result ≡ option_map Refusal.PidsLimit (passed_limit_of (state_of store.now)
+        (row_of store.now found.now.key found.now.task).home) }
 {
     laws(store);
     match store.controls().may_charge(found.task.home) {
@@ -59,7 +63,8 @@ fn id_of(store: &Tasks, space: SpaceKey) -> u64
 
 /// A child of the task, before it has executed, whose own children go into the namespace with the id.
 fn child_of(found: &Found, children_space: u64) -> Task
-    ensures { result ≡ record { children_space = children_space; home = found.now.task.home; executed = false; subreaper = false; life = Life.Live } }
+    ensures { result ≡ record { children_space = children_space; home = found.now.task.home; executed = false;
+        subreaper = false; life = Life.Live } }
 {
     Task {
         children_space,
@@ -102,7 +107,8 @@ fn reply_for(store: &Tasks, key: TaskKey, own: SpaceKey, numbers: &[Pid]) -> Sho
     requires there { IsSome (task_at store.now.tree key) }
     requires numbers { (u : Identifier) → identifier_at store.now.numbering key ≡ Some u → u.numbers ≡ numbers.now }
     ensures { (i : ℕ) → id_at store.now.numbering own ≡ Some i
-        → reply_of result ≡ Reply.Forked (number_or_zero (state_of store.now).spaces (name_at store.now.numbering key) i) (root_number (name_at store.now.numbering key)) }
+        → reply_of result ≡ Reply.Forked (number_or_zero (state_of store.now).spaces
+        (name_at store.now.numbering key) i) (root_number (name_at store.now.numbering key)) }
 {
     laws(store);
     let root = outermost(numbers);
@@ -124,9 +130,14 @@ fn fork_planned(
     requires own { id_at store.old.numbering own ≡ Some (name_at store.old.numbering found.now.key).space }
     requires id { id_at store.old.numbering space ≡ Some found.now.task.children_space }
     requires all { find (λ s. is_none (draw_in store.old.numbering s)) (path_at store.old.numbering space) ≡ None }
-    requires planned { numbers.now ≡ map (λ s. unwrap_or (draw_in store.old.numbering s) 0) (path_at store.old.numbering space) }
-    ensures state { OnOk result (state_of store.new ≡ (forked_into (state_of store.old) (state_of store.old) (row_of store.old found.now.key found.now.task) found.now.task.children_space).state) }
-    ensures reply { IfOk result (λ reply. reply_of reply ≡ (forked_into (state_of store.old) (state_of store.old) (row_of store.old found.now.key found.now.task) found.now.task.children_space).reply) }
+    requires planned { numbers.now ≡ map (λ s. unwrap_or (draw_in store.old.numbering s) 0)
+        (path_at store.old.numbering space) }
+    ensures state { OnOk result (state_of store.new
+        ≡ (forked_into (state_of store.old) (state_of store.old)
+        (row_of store.old found.now.key found.now.task) found.now.task.children_space).state) }
+    ensures reply { IfOk result (λ reply. reply_of reply
+        ≡ (forked_into (state_of store.old) (state_of store.old)
+        (row_of store.old found.now.key found.now.task) found.now.task.children_space).reply) }
     ensures err { OnErr result (state_of store.new ≡ state_of store.old) }
     ensures parents { HasParents store.new }
 {
@@ -152,8 +163,12 @@ fn fork_into(
     requires live { lives found.now.task ≡ true }
     requires own { id_at store.old.numbering own ≡ Some (name_at store.old.numbering found.now.key).space }
     requires id { id_at store.old.numbering space ≡ Some found.now.task.children_space }
-    ensures state { OnOk result (state_of store.new ≡ (forked_into (state_of store.old) (state_of store.old) (row_of store.old found.now.key found.now.task) found.now.task.children_space).state) }
-    ensures reply { IfOk result (λ reply. reply_of reply ≡ (forked_into (state_of store.old) (state_of store.old) (row_of store.old found.now.key found.now.task) found.now.task.children_space).reply) }
+    ensures state { OnOk result (state_of store.new
+        ≡ (forked_into (state_of store.old) (state_of store.old)
+        (row_of store.old found.now.key found.now.task) found.now.task.children_space).state) }
+    ensures reply { IfOk result (λ reply. reply_of reply
+        ≡ (forked_into (state_of store.old) (state_of store.old)
+        (row_of store.old found.now.key found.now.task) found.now.task.children_space).reply) }
     ensures err { OnErr result (state_of store.new ≡ state_of store.old) }
     ensures parents { HasParents store.new }
 {
@@ -165,15 +180,20 @@ fn fork_into(
     }
 }
 
-/// The caller's child in the root namespace, where one number is planned and no list of them. The error is want of memory.
+/// The caller's child in the root namespace, where one number is planned and no list of them. The error is want of
+/// memory.
 fn fork_into_root(store: &mut Tasks, found: &Found, own: SpaceKey) -> Result<ShortReply, AllocError>
     requires whole { IsWhole store.old }
     requires there { task_at store.old.tree found.now.key ≡ Some found.now.task }
     requires live { lives found.now.task ≡ true }
     requires own { id_at store.old.numbering own ≡ Some (name_at store.old.numbering found.now.key).space }
     requires id { id_at store.old.numbering 0 ≡ Some found.now.task.children_space }
-    ensures state { OnOk result (state_of store.new ≡ (forked_into (state_of store.old) (state_of store.old) (row_of store.old found.now.key found.now.task) found.now.task.children_space).state) }
-    ensures reply { IfOk result (λ reply. reply_of reply ≡ (forked_into (state_of store.old) (state_of store.old) (row_of store.old found.now.key found.now.task) found.now.task.children_space).reply) }
+    ensures state { OnOk result (state_of store.new
+        ≡ (forked_into (state_of store.old) (state_of store.old)
+        (row_of store.old found.now.key found.now.task) found.now.task.children_space).state) }
+    ensures reply { IfOk result (λ reply. reply_of reply
+        ≡ (forked_into (state_of store.old) (state_of store.old)
+        (row_of store.old found.now.key found.now.task) found.now.task.children_space).reply) }
     ensures err { OnErr result (state_of store.new ≡ state_of store.old) }
     ensures parents { HasParents store.new }
 {
@@ -202,9 +222,14 @@ fn fork_new_planned(
     requires stands { is_gone (state_of store.old) found.now.task.children_space ≡ false }
     requires shallow { nat_le deepest_space (level (state_of store.old).spaces found.now.task.children_space) ≡ false }
     requires all { find (λ s. is_none (draw_in store.old.numbering s)) (path_at store.old.numbering own) ≡ None }
-    requires planned { numbers.now ≡ 1 ∷ map (λ s. unwrap_or (draw_in store.old.numbering s) 0) (path_at store.old.numbering own) }
-    ensures state { OnOk result (state_of store.new ≡ (forked_into (state_of store.old) (with_space (state_of store.old) found.now.task.children_space stamp) (row_of store.old found.now.key found.now.task) stamp).state) }
-    ensures reply { IfOk result (λ reply. reply_of reply ≡ (forked_into (state_of store.old) (with_space (state_of store.old) found.now.task.children_space stamp) (row_of store.old found.now.key found.now.task) stamp).reply) }
+    requires planned { numbers.now ≡ 1 ∷ map (λ s. unwrap_or (draw_in store.old.numbering s) 0)
+        (path_at store.old.numbering own) }
+    ensures state { OnOk result (state_of store.new
+        ≡ (forked_into (state_of store.old) (with_space (state_of store.old) found.now.task.children_space stamp)
+        (row_of store.old found.now.key found.now.task) stamp).state) }
+    ensures reply { IfOk result (λ reply. reply_of reply
+        ≡ (forked_into (state_of store.old) (with_space (state_of store.old) found.now.task.children_space stamp)
+        (row_of store.old found.now.key found.now.task) stamp).reply) }
     ensures err { OnErr result (state_of store.new ≡ state_of store.old) }
     ensures parents { HasParents store.new }
 {
@@ -234,8 +259,12 @@ fn fork_inside(
     requires id { id_at store.old.numbering own ≡ Some found.now.task.children_space }
     requires stands { is_gone (state_of store.old) found.now.task.children_space ≡ false }
     requires shallow { nat_le deepest_space (level (state_of store.old).spaces found.now.task.children_space) ≡ false }
-    ensures state { OnOk result (state_of store.new ≡ (forked_into (state_of store.old) (with_space (state_of store.old) found.now.task.children_space stamp) (row_of store.old found.now.key found.now.task) stamp).state) }
-    ensures reply { IfOk result (λ reply. reply_of reply ≡ (forked_into (state_of store.old) (with_space (state_of store.old) found.now.task.children_space stamp) (row_of store.old found.now.key found.now.task) stamp).reply) }
+    ensures state { OnOk result (state_of store.new
+        ≡ (forked_into (state_of store.old) (with_space (state_of store.old) found.now.task.children_space stamp)
+        (row_of store.old found.now.key found.now.task) stamp).state) }
+    ensures reply { IfOk result (λ reply. reply_of reply
+        ≡ (forked_into (state_of store.old) (with_space (state_of store.old) found.now.task.children_space stamp)
+        (row_of store.old found.now.key found.now.task) stamp).reply) }
     ensures err { OnErr result (state_of store.new ≡ state_of store.old) }
     ensures parents { HasParents store.new }
 {
@@ -255,7 +284,8 @@ fn fork_inside(
 /// Whether the namespace, if it is there, has the deepest level.
 fn is_deepest(store: &Tasks, space: Option<SpaceKey>) -> bool
     requires { IfSome space (λ s. IsSome (id_at store.now.numbering s)) }
-    ensures { (id : ℕ) → IsKeyOf store.now.numbering id space → result ≡ nat_le deepest_space (level (state_of store.now).spaces id) }
+    ensures { (id : ℕ) → IsKeyOf store.now.numbering id space
+        → result ≡ nat_le deepest_space (level (state_of store.now).spaces id) }
 {
     laws(store);
     match space {
@@ -274,7 +304,8 @@ fn has_fallen(store: &Tasks, space: SpaceKey) -> bool
 
 /// Whether the namespace is the caller's own.
 fn is_own(store: &Tasks, space: Option<SpaceKey>, own: SpaceKey) -> bool
-    ensures { (id i : ℕ) → IsKeyOf store.now.numbering id space → id_at store.now.numbering own ≡ Some i → result ≡ (id == i) }
+    ensures { (id i : ℕ) → IsKeyOf store.now.numbering id space → id_at store.now.numbering own ≡ Some i
+        → result ≡ (id == i) }
 {
     laws(store);
     match space {
@@ -286,7 +317,8 @@ fn is_own(store: &Tasks, space: Option<SpaceKey>, own: SpaceKey) -> bool
 /// Why the caller can have no new namespace in the namespace for its children.
 fn nest_refusal(store: &Tasks, space: Option<SpaceKey>, own: SpaceKey) -> Option<Refusal>
     requires { IfSome space (λ s. IsSome (id_at store.now.numbering s)) }
-    ensures { (id i : ℕ) → IsKeyOf store.now.numbering id space → id_at store.now.numbering own ≡ Some i → result ≡ nest_refusal_of (state_of store.now) id i }
+    ensures { (id i : ℕ) → IsKeyOf store.now.numbering id space → id_at store.now.numbering own ≡ Some i
+        → result ≡ nest_refusal_of (state_of store.now) id i }
 {
     if is_deepest(store, space) {
         return Some(Refusal::TooDeep);
@@ -300,8 +332,10 @@ fn nest_refusal(store: &Tasks, space: Option<SpaceKey>, own: SpaceKey) -> Option
 /// The namespace for the caller's children, or why it can have none there.
 fn standing(store: &Tasks, found: &Found, space: Option<SpaceKey>) -> Result<SpaceKey, Refusal>
     requires { IsKeyOf store.now.numbering found.now.task.children_space space }
-    ensures ok { IfOk result (λ space. (is_gone (state_of store.now) found.now.task.children_space ≡ false) × (id_at store.now.numbering space ≡ Some found.now.task.children_space)) }
-    ensures err { IfErr result (λ r. (is_gone (state_of store.now) found.now.task.children_space ≡ true) × (r ≡ Refusal.SpaceFallen)) }
+    ensures ok { IfOk result (λ space. (is_gone (state_of store.now) found.now.task.children_space ≡ false)
+        × (id_at store.now.numbering space ≡ Some found.now.task.children_space)) }
+    ensures err { IfErr result (λ r. (is_gone (state_of store.now) found.now.task.children_space ≡ true)
+        × (r ≡ Refusal.SpaceFallen)) }
 {
     laws(store);
     let Some(key) = space else {
@@ -332,8 +366,11 @@ fn namespace_for(
 ) -> Result<SpaceKey, Refusal>
     requires there { task_at store.now.tree found.now.key ≡ Some found.now.task }
     requires own { id_at store.now.numbering own ≡ Some (name_at store.now.numbering found.now.key).space }
-    ensures ok { IfOk result (λ space. (space_refusal (state_of store.now) (row_of store.now found.now.key found.now.task) new_space ≡ None) × (id_at store.now.numbering space ≡ Some found.now.task.children_space)) }
-    ensures err { IfErr result (λ r. space_refusal (state_of store.now) (row_of store.now found.now.key found.now.task) new_space ≡ Some r) }
+    ensures ok { IfOk result (λ space. (space_refusal (state_of store.now)
+        (row_of store.now found.now.key found.now.task) new_space ≡ None)
+        × (id_at store.now.numbering space ≡ Some found.now.task.children_space)) }
+    ensures err { IfErr result (λ r. space_refusal (state_of store.now)
+        (row_of store.now found.now.key found.now.task) new_space ≡ Some r) }
 {
     let space = find_space(store, found.task.children_space, own);
     if !new_space {
@@ -358,7 +395,8 @@ pub fn fork(
     requires whole { IsWhole store.old }
     requires below { IsBelow stamp (state_of store.old) }
     ensures state { OnOk result (state_of store.new ≡ (fork_of (state_of store.old) stamp caller new_space).state) }
-    ensures reply { IfOk result (λ reply. reply_of reply ≡ (fork_of (state_of store.old) stamp caller new_space).reply) }
+    ensures reply { IfOk result (λ reply. reply_of reply
+        ≡ (fork_of (state_of store.old) stamp caller new_space).reply) }
     ensures err { OnErr result (state_of store.new ≡ state_of store.old) }
     ensures parents { HasParents store.new }
 {

@@ -5,10 +5,13 @@
 //! below 2^30 and share one room. A zombie is a task too: it is in its group until it is reaped, and leaves.
 #![tactic(auto)]
 
-ghost use Rattle.std.specs.Prelude.{◌≡◌, ◌≢◌, ℕ, ◌<◌, ◌≤◌, ◌^◌, ◌↔◌, [], length, option_map, Some, None, IsSome, IsTrue, OnOk, MatchResult, slice_set};
+ghost use Rattle.std.specs.Prelude.{◌≡◌, ◌≢◌, ℕ, ◌<◌, ◌≤◌, ◌^◌, ◌↔◌, [], length, option_map, Some, None, IsSome};
+ghost use Rattle.std.specs.Prelude.{IsTrue, OnOk, MatchResult, slice_set};
 ghost use Rattle.member_lists.specs.Owners.{AreMembers};
-ghost use Rattle.groups_sessions.specs.Membership.{Membership, membership_at, group_of, session_of, groups_of, HasMembers, AreInSession, IsSessionOf};
-ghost use Rattle.groups_sessions.specs.Setpgid.{session_group as session_group_of, group_for as group_for_of, setpgid_answer};
+ghost use Rattle.groups_sessions.specs.Membership.{Membership, membership_at, group_of, session_of, groups_of};
+ghost use Rattle.groups_sessions.specs.Membership.{HasMembers, AreInSession, IsSessionOf};
+ghost use Rattle.groups_sessions.specs.Setpgid.{session_group as session_group_of, group_for as group_for_of};
+ghost use Rattle.groups_sessions.specs.Setpgid.{setpgid_answer};
 
 mod ask;
 mod room;
@@ -99,7 +102,8 @@ impl Members {
         requires group { ident < length self.old }
         requires there { IsSome (membership_at self.old task) }
         requires together { (s : ℕ) → session_of self.old task ≡ Some s → AreInSession self.old ident s }
-        ensures { self.new ≡ slice_set self.old task (option_map (λ (m : Membership). record m { group = ident }) (membership_at self.old task)) }
+        ensures { self.new ≡ slice_set self.old task (option_map (λ (m : Membership). record m { group = ident })
+            (membership_at self.old task)) }
     {
         let session = self.session(task);
         self.sessions[ident as usize] = session;
@@ -222,7 +226,8 @@ impl Members {
     /// Whether the task with the identifier may lead a new session: `IsLeader` where somebody, the task
     /// itself or a zombie too, is in a group of that name (`setsid(2)`, `EPERM`).
     pub fn may_setsid(&self, ident: IdentKey) -> Result<(), Refusal>
-        ensures { MatchResult result (λ _. (k : ℕ) → group_of self.now k ≢ Some ident) (λ refusal. (refusal ≡ Refusal.IsLeader) × HasMembers self.now ident) }
+        ensures { MatchResult result (λ _. (k : ℕ) → group_of self.now k ≢ Some ident)
+            (λ refusal. (refusal ≡ Refusal.IsLeader) × HasMembers self.now ident) }
     {
         if self.any_in_group(ident) {
             Err(Refusal::IsLeader)
@@ -234,7 +239,8 @@ impl Members {
     /// What is true at any time; the call does nothing. The tasks of one group are in one session, there
     /// is room for each group's key, and there are at most 2^30 keys.
     pub fn laws(&self)
-        ensures together { (k : ℕ) (m : Membership) → membership_at self.now k ≡ Some m → AreInSession self.now m.group m.session }
+        ensures together { (k : ℕ) (m : Membership) → membership_at self.now k ≡ Some m
+            → AreInSession self.now m.group m.session }
         ensures room { (k : ℕ) (m : Membership) → membership_at self.now k ≡ Some m → m.group < length self.now }
         ensures few { length self.now ≤ 2 ^ 30 }
     {

@@ -371,7 +371,8 @@ fn copy_opening(copy: &mut Option<Opening>, table: &PidTable) -> Result<(), Allo
     Ok(())
 }
 
-/// Makes a copy of the table the opening. The error is want of memory. It is not inlined, since a call rarely comes here.
+/// Makes a copy of the table the opening. The error is want of memory. It is not inlined, since a call rarely comes
+/// here.
 #[inline(never)]
 fn put_opening(copy: &mut Option<Opening>, table: &PidTable) -> Result<(), AllocError>
     ensures ok { OnOk result (copy.new ≡ Some table.now) }

@@ -4,7 +4,8 @@
 //! each but `grow` takes no memory; the members of an owner come in no order that a caller may rely on.
 #![tactic(auto)]
 
-ghost use Rattle.std.specs.Prelude.{◌≡◌, ◌≢◌, ℕ, ◌+◌, ◌<◌, ◌≤◌, ◌^◌, length, map, Some, None, MatchOption, OnOk, OnErr, slice_set, option_map, IsSome, [], ◌∷◌, ◌++◌};
+ghost use Rattle.std.specs.Prelude.{◌≡◌, ◌≢◌, ℕ, ◌+◌, ◌<◌, ◌≤◌, ◌^◌, length, map, Some, None, MatchOption, OnOk, OnErr};
+ghost use Rattle.std.specs.Prelude.{slice_set, option_map, IsSome, [], ◌∷◌, ◌++◌};
 ghost use Rattle.member_lists.specs.Owners.{owner_of, AreMembers, handed};
 ghost use Rattle.member_lists.specs.Links.{nil, lone, link_at, head_at, owner_in, chain, AreTold, Ends, IsLinked};
 
@@ -207,7 +208,8 @@ impl MemberLists {
     /// Some member of an owner, if it has any.
     pub fn first(&self, owner: u32) -> Option<u32>
         requires { owner < length self.now }
-        ensures { MatchOption result ((k : ℕ) → owner_of self.now k ≢ Some owner) (λ k. owner_of self.now k ≡ Some owner) }
+        ensures { MatchOption result ((k : ℕ) → owner_of self.now k ≢ Some owner)
+            (λ k. owner_of self.now k ≡ Some owner) }
     {
         let key = self.heads[owner as usize];
         if key == NIL { None } else { Some(key) }

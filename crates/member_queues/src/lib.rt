@@ -7,11 +7,13 @@
 //! handed on. No call but `grow` takes memory. Keys and owners are numbers below 2^30.
 #![tactic(auto)]
 
-ghost use Rattle.std.specs.Prelude.{◌≡◌, ◌≢◌, ◌⊎◌, ℕ, ◌+◌, ◌<◌, ◌≤◌, ◌^◌, length, map, Some, None, MatchOption, OnOk, OnErr, [], ◌∷◌, ◌++◌, IsSome, IsTrue, ◌↔◌, slice_set, option_map};
+ghost use Rattle.std.specs.Prelude.{◌≡◌, ◌≢◌, ◌⊎◌, ℕ, ◌+◌, ◌<◌, ◌≤◌, ◌^◌, length, map, Some, None, MatchOption, OnOk};
+ghost use Rattle.std.specs.Prelude.{OnErr, [], ◌∷◌, ◌++◌, IsSome, IsTrue, ◌↔◌, slice_set, option_map};
 ghost use Rattle.std.specs.List.{AllByRecursion};
 ghost use Rattle.member_lists.specs.Owners.{handed};
 ghost use Rattle.member_queues.specs.Ranks.{ranked, IsLeast, AreRankedMembers};
-ghost use Rattle.member_queues.specs.Heap.{nil, node_at, root_at, member_in, told, key_on, with_side, AreSides, IsHeap, IsSinking};
+ghost use Rattle.member_queues.specs.Heap.{nil, node_at, root_at, member_in, told, key_on, with_side, AreSides, IsHeap};
+ghost use Rattle.member_queues.specs.Heap.{IsSinking};
 
 use member_lists::Members;
 use std::alloc::{AllocError, Global};
@@ -106,7 +108,8 @@ fn is_before(nodes: &[Node], a: u32, b: u32) -> bool
 /// Whether the first key ends a run of the second's owner, and ranks lower.
 fn is_elder(nodes: &[Node], a: u32, b: u32) -> bool
     requires { b < length nodes.now }
-    ensures { IsTrue result → ((node_at nodes.now a).owner ≡ (node_at nodes.now b).owner) × ((node_at nodes.now a).rank < (node_at nodes.now b).rank) }
+    ensures { IsTrue result → ((node_at nodes.now a).owner ≡ (node_at nodes.now b).owner)
+        × ((node_at nodes.now a).rank < (node_at nodes.now b).rank) }
 {
     (a as usize) < nodes.len()
         && nodes[a as usize].owner == nodes[b as usize].owner
@@ -236,7 +239,8 @@ fn fill(forest: &mut Forest, key: u32, by: u32, other: u32)
     requires heap { IsHeap forest.old.roots.items forest.old.nodes.items nil }
     requires owned { (node_at forest.old.nodes.items key).owner ≢ nil }
     requires sides { AreSides (node_at forest.old.nodes.items key) by other }
-    requires order { other ≢ nil → (by ≢ nil) × ((node_at forest.old.nodes.items by).rank < (node_at forest.old.nodes.items other).rank) }
+    requires order { other ≢ nil → (by ≢ nil) × ((node_at forest.old.nodes.items by).rank <
+        (node_at forest.old.nodes.items other).rank) }
     ensures heap { IsHeap forest.new.roots.items forest.new.nodes.items nil }
     ensures members { map member_in forest.new.nodes.items ≡ slice_set (map member_in forest.old.nodes.items) key None }
     ensures len { length forest.new.nodes.items ≡ length forest.old.nodes.items }
@@ -289,8 +293,10 @@ fn run_of(forest: &Forest, first: u32, level: u32) -> u32
     requires heap { IsHeap forest.now.roots.items forest.now.nodes.items nil }
     requires owned { first ≢ nil → (node_at forest.now.nodes.items first).owner ≢ nil }
     ensures first { result ≢ nil → first ≢ nil }
-    ensures same { result ≢ nil → (node_at forest.now.nodes.items result).owner ≡ (node_at forest.now.nodes.items first).owner }
-    ensures rank { result ≢ nil → (node_at forest.now.nodes.items first).rank ≤ (node_at forest.now.nodes.items result).rank }
+    ensures same { result ≢ nil → (node_at forest.now.nodes.items result).owner
+        ≡ (node_at forest.now.nodes.items first).owner }
+    ensures rank { result ≢ nil → (node_at forest.now.nodes.items first).rank
+        ≤ (node_at forest.now.nodes.items result).rank }
 {
     let mut at = first;
     while at != NIL && forest.nodes[at as usize].level != level {
@@ -450,7 +456,8 @@ fn enter(forest: &mut Forest, key: u32, owner: u32, rank: u32)
     requires free { ranked (map member_in forest.old.nodes.items) key ≡ None }
     requires distinct { (k : ℕ) → ranked (map member_in forest.old.nodes.items) k ≢ Some (owner, rank) }
     ensures heap { IsHeap forest.new.roots.items forest.new.nodes.items nil }
-    ensures members { map member_in forest.new.nodes.items ≡ slice_set (map member_in forest.old.nodes.items) key (Some (owner, rank)) }
+    ensures members { map member_in forest.new.nodes.items
+        ≡ slice_set (map member_in forest.old.nodes.items) key (Some (owner, rank)) }
 {
     forest.nodes[key as usize] = Node {
         owner,

@@ -41,8 +41,8 @@ fn climb_to_subreaper(store: &Tasks, space: SpaceKey, key: TaskKey) -> Option<Ta
     None
 }
 
-/// The nearest ancestor of a task of the namespace that is a subreaper there. It costs one read where no task of the table
-/// is a subreaper, and else the climb.
+/// The nearest ancestor of a task of the namespace that is a subreaper there. It costs one read where no task of the
+/// table is a subreaper, and else the climb.
 pub fn nearest_subreaper(store: &Tasks, space: SpaceKey, key: TaskKey) -> Option<TaskKey>
     requires good { HasGoodTasks store.now }
     requires there { IsSome (task_at store.now.tree key) }

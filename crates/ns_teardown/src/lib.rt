@@ -35,8 +35,12 @@ fn end_task(store: &mut Tasks, key: TaskKey, task: Task, status: u8)
     requires whole { IsWhole store.old }
     requires there { task_at store.old.tree key ≡ Some task }
     requires live { lives task ≡ true }
-    requires inner { (u : Identifier) → identifier_at store.old.numbering key ≡ Some u → number_of store.old.numbering key u.space ≢ Some 1 }
-    ensures state { state_of store.new ≡ sweep (record (state_of store.old) { rows = rows_after_exit (state_of store.old) (row_of store.old key task) status }) }
+    requires inner { (u : Identifier) → identifier_at store.old.numbering key ≡ Some u
+        → number_of store.old.numbering key u.space ≢ Some 1 }
+    ensures state { state_of store.new ≡ sweep (record (state_of store.old) {
+      rows = rows_after_exit
+          (state_of store.old) (row_of store.old key task) status;
+    }) }
     ensures parents { HasParents store.new }
 {
     laws(store);
@@ -49,7 +53,8 @@ fn end_init(store: &mut Tasks, init: TaskKey, task: Task, status: u8)
     requires whole { IsWhole store.old }
     requires there { task_at store.old.tree init ≡ Some task }
     requires live { lives task ≡ true }
-    requires top { (u : Identifier) → identifier_at store.old.numbering init ≡ Some u → (number_of store.old.numbering init u.space ≡ Some 1) × (u.space ≢ 0) }
+    requires top { (u : Identifier) → identifier_at store.old.numbering init ≡ Some u
+        → (number_of store.old.numbering init u.space ≡ Some 1) × (u.space ≢ 0) }
     ensures state { state_of store.new ≡ sweep (fall_of (state_of store.old) (row_of store.old init task) status) }
     ensures parents { HasParents store.new }
 {
@@ -66,9 +71,9 @@ fn end_init(store: &mut Tasks, init: TaskKey, task: Task, status: u8)
 /// It is refused where no live task has the caller's number, and to the init of the root namespace. It takes
 /// no memory.
 ///
-/// It costs one search for the caller, and a few writes for each child. If there is a child and some task is a subreaper,
-/// it also costs a step for each ancestor up to the nearest one, or else up to the first in another namespace. A teardown
-/// costs a search for each member and each level of its identifier.
+/// It costs one search for the caller, and a few writes for each child. If there is a child and some task is a
+/// subreaper, it also costs a step for each ancestor up to the nearest one, or else up to the first in another
+/// namespace. A teardown costs a search for each member and each level of its identifier.
 #[tactic(auto, unfolding(pid_types::specs::Exit::exit))]
 #[inline(never)]
 pub fn exit(store: &mut Tasks, caller: Pid, status: u8) -> ShortReply

@@ -33,7 +33,9 @@ fn parent_falls(store: &Tasks, space: SpaceKey, key: TaskKey) -> bool
 fn finish_member(store: &mut Tasks, is_init: bool, status: u8, key: TaskKey, task: Task)
     requires there { task_at store.old.tree key ≡ Some task }
     requires live { is_init ≡ true → lives task ≡ true }
-    requires visible { (p : ℕ) → parent_of store.old.tree key ≡ Some p → (u : Identifier) × (identifier_at store.old.numbering p ≡ Some u) × IsSome (number_of store.old.numbering key u.space) }
+    requires visible { (p : ℕ) → parent_of store.old.tree key ≡ Some p
+        → (u : Identifier) × (identifier_at store.old.numbering p ≡ Some u)
+        × IsSome (number_of store.old.numbering key u.space) }
     ensures here { slot_at store.new key ≡ member_after_fall false is_init status (slot_at store.old key) }
     ensures others { (k : ℕ) → k ≢ key → slot_at store.new k ≡ slot_at store.old k }
     ensures numbers { store.new.numbering ≡ store.old.numbering }
@@ -54,8 +56,11 @@ fn finish_member(store: &mut Tasks, is_init: bool, status: u8, key: TaskKey, tas
 fn end_member(store: &mut Tasks, space: SpaceKey, init: TaskKey, status: u8, key: TaskKey)
     requires there { IsSome (task_at store.old.tree key) }
     requires live { key ≡ init → option_map_or lives (task_at store.old.tree key) false ≡ true }
-    requires visible { (p : ℕ) → parent_of store.old.tree key ≡ Some p → IsSome (task_at store.old.tree p) → (u : Identifier) × (identifier_at store.old.numbering p ≡ Some u) × IsSome (number_of store.old.numbering key u.space) }
-    ensures here { slot_at store.new key ≡ member_after_fall (parent_falls_at store.old space key) (key == init) status (slot_at store.old key) }
+    requires visible { (p : ℕ) → parent_of store.old.tree key ≡ Some p → IsSome (task_at store.old.tree p)
+        → (u : Identifier) × (identifier_at store.old.numbering p ≡ Some u)
+        × IsSome (number_of store.old.numbering key u.space) }
+    ensures here { slot_at store.new key ≡ member_after_fall (parent_falls_at store.old space key) (key == init) status
+        (slot_at store.old key) }
     ensures others { (k : ℕ) → k ≢ key → slot_at store.new k ≡ slot_at store.old k }
     ensures numbers { IsLess store.old.numbering store.new.numbering }
     ensures homes { KeepsHomes store.old.charges store.new.charges }
@@ -77,7 +82,8 @@ pub fn end_members(store: &mut Tasks, space: SpaceKey, init: TaskKey, status: u8
     requires bound { HasGoodPidMax store.old.numbering.pid_max }
     requires live { option_map_or lives (task_at store.old.tree init) false ≡ true }
     requires parents { HasParents store.old }
-    requires visible { (k p : ℕ) (u : Identifier) → parent_of store.old.tree k ≡ Some p → identifier_at store.old.numbering p ≡ Some u → IsSome (number_of store.old.numbering k u.space) }
+    requires visible { (k p : ℕ) (u : Identifier) → parent_of store.old.tree k ≡ Some p
+        → identifier_at store.old.numbering p ≡ Some u → IsSome (number_of store.old.numbering k u.space) }
     ensures slots { (k : ℕ) → slot_at store.new k ≡ slot_after_fall store.old space init status k }
     ensures numbers { IsLess store.old.numbering store.new.numbering }
     ensures homes { KeepsHomes store.old.charges store.new.charges }

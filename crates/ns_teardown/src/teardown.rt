@@ -34,8 +34,8 @@ use task_tree::Task;
 
 /// Who takes the children of a live task when it ends: the nearest subreaper of its own namespace among its
 /// ancestors (`PR_SET_CHILD_SUBREAPER(2const)`), or else the init there. Ancestors in other namespaces take
-/// no children. It costs a few reads where no task is a subreaper, or else a step for each ancestor up to the first such
-/// subreaper, or up to the first in another namespace.
+/// no children. It costs a few reads where no task is a subreaper, or else a step for each ancestor up to the first
+/// such subreaper, or up to the first in another namespace.
 pub fn new_parent(store: &Tasks, key: TaskKey) -> TaskKey
     requires good { HasGoodTasks store.now }
     requires live { option_map_or lives (task_at store.now.tree key) false ≡ true }
@@ -59,8 +59,10 @@ pub fn new_parent(store: &Tasks, key: TaskKey) -> TaskKey
 fn hand_children(store: &mut Tasks, key: TaskKey)
     requires good { HasGoodTasks store.old }
     requires live { option_map_or lives (task_at store.old.tree key) false ≡ true }
-    requires inner { (u : Identifier) → identifier_at store.old.numbering key ≡ Some u → number_of store.old.numbering key u.space ≢ Some 1 }
-    ensures parents { (heir : ℕ) × IsHeir store.old key heir × ((k : ℕ) → parent_of store.new.tree k ≡ option_map (handed key heir) (parent_of store.old.tree k)) }
+    requires inner { (u : Identifier) → identifier_at store.old.numbering key ≡ Some u
+        → number_of store.old.numbering key u.space ≢ Some 1 }
+    ensures parents { (heir : ℕ) × IsHeir store.old key heir
+        × ((k : ℕ) → parent_of store.new.tree k ≡ option_map (handed key heir) (parent_of store.old.tree k)) }
     ensures tasks { store.new.tree.tasks ≡ store.old.tree.tasks }
     ensures rest { store.new ≡ record store.old { tree = store.new.tree } }
 {
@@ -78,10 +80,15 @@ pub fn exit(store: &mut Tasks, key: TaskKey, task: Task, status: u8)
     requires good { HasGoodTasks store.old }
     requires there { task_at store.old.tree key ≡ Some task }
     requires live { lives task ≡ true }
-    requires inner { (u : Identifier) → identifier_at store.old.numbering key ≡ Some u → number_of store.old.numbering key u.space ≢ Some 1 }
-    ensures tasks { store.new.tree.tasks ≡ slice_set store.old.tree.tasks key (Some (record task { life = Life.Zombie (Ended.Exited status) })) }
-    ensures parents { (heir : ℕ) × IsHeir store.old key heir × ((k : ℕ) → parent_of store.new.tree k ≡ option_map (handed key heir) (parent_of store.old.tree k)) }
-    ensures home { ChangesHome store.old.charges store.new.charges task.home (option_map (λ (h : Home). record h { live = h.live - 1; zombies = h.zombies + 1 }) (home_at store.old.charges task.home)) }
+    requires inner { (u : Identifier) → identifier_at store.old.numbering key ≡ Some u
+        → number_of store.old.numbering key u.space ≢ Some 1 }
+    ensures tasks { store.new.tree.tasks ≡ slice_set store.old.tree.tasks key
+        (Some (record task { life = Life.Zombie (Ended.Exited status) })) }
+    ensures parents { (heir : ℕ) × IsHeir store.old key heir
+        × ((k : ℕ) → parent_of store.new.tree k ≡ option_map (handed key heir) (parent_of store.old.tree k)) }
+    ensures home { ChangesHome store.old.charges store.new.charges task.home
+        (option_map (λ (h : Home). record h { live = h.live - 1; zombies = h.zombies + 1 })
+        (home_at store.old.charges task.home)) }
     ensures rest { (store.new.numbering ≡ store.old.numbering) × (store.new.members ≡ store.old.members) }
     ensures tree { HasParents store.new }
 {
@@ -95,16 +102,19 @@ pub fn exit(store: &mut Tasks, key: TaskKey, task: Task, status: u8)
 /// and who is the child of a member is gone, zombies too. A namespace that has fallen is dropped when no
 /// identifier with a number in it is left.
 ///
-/// It costs a search for each member and each level of its identifier, and looks at no namespace but those inside, where
-/// there are more than a few.
+/// It costs a search for each member and each level of its identifier, and looks at no namespace but those inside,
+/// where there are more than a few.
 pub fn fall(store: &mut Tasks, init: TaskKey, status: u8)
     requires good { HasGoodTasks store.old }
     requires bound { HasGoodPidMax store.old.numbering.pid_max }
     requires live { option_map_or lives (task_at store.old.tree init) false ≡ true }
-    requires top { (u : Identifier) → identifier_at store.old.numbering init ≡ Some u → (number_of store.old.numbering init u.space ≡ Some 1) × (u.space ≢ 0) }
-    ensures slots { (u : Identifier) → identifier_at store.old.numbering init ≡ Some u → (k : ℕ) → slot_at store.new k ≡ slot_after_fall store.old u.space init status k }
+    requires top { (u : Identifier) → identifier_at store.old.numbering init ≡ Some u
+        → (number_of store.old.numbering init u.space ≡ Some 1) × (u.space ≢ 0) }
+    ensures slots { (u : Identifier) → identifier_at store.old.numbering init ≡ Some u → (k : ℕ)
+        → slot_at store.new k ≡ slot_after_fall store.old u.space init status k }
     ensures init { slot_at store.new init ≡ member_after_fall false true status (slot_at store.old init) }
-    ensures numbers { (u : Identifier) → identifier_at store.old.numbering init ≡ Some u → (b : Numbering) × FallsWithin u.space store.old.numbering b × HasLaws b × IsLess b store.new.numbering }
+    ensures numbers { (u : Identifier) → identifier_at store.old.numbering init ≡ Some u
+        → (b : Numbering) × FallsWithin u.space store.old.numbering b × HasLaws b × IsLess b store.new.numbering }
     ensures homes { KeepsHomes store.old.charges store.new.charges }
     ensures tree { HasParents store.new }
 {

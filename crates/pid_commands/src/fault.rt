@@ -118,7 +118,8 @@ impl From<RunFault> for Fault {
 /// Writes the line of the fault and its newline. It takes no memory, and the only error is that of the
 /// writer.
 pub fn write_fault_line<W: Write>(writer: &mut W, fault: &Fault) -> io::Result<()>
-    ensures { OnOk result (Appends (W.contents writer.old) (W.contents writer.new) (with_newline (fault_line fault.now))) }
+    ensures { OnOk result (Appends (W.contents writer.old) (W.contents writer.new)
+        (with_newline (fault_line fault.now))) }
 {
     writeln!(writer, "{fault}")
 }

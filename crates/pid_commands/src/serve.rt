@@ -1,6 +1,7 @@
 //! The commands `run`, `list` and `work`, over a reader and writers of the caller's. [`run_answer`]
 //! is the one door; a fault of any command is one line on `errors` and the status 1.
-ghost use Rattle.std.specs.Prelude.{◌≡◌, ◌<◌, ◌≤◌, ⊤, Option, List, ℕ, None, false, length, OnOk, IfOk, IfErr, Result, refl};
+ghost use Rattle.std.specs.Prelude.{◌≡◌, ◌<◌, ◌≤◌, ⊤, Option, List, ℕ, None, false, length, OnOk, IfOk, IfErr, Result};
+ghost use Rattle.std.specs.Prelude.{refl};
 ghost use Rattle.std.specs.Io.KnownBytes.{Appends};
 ghost use Rattle.pid_script.specs.Script.{with_newline};
 ghost use Rattle.pid_words.specs.declared.words.Command.{Command};
@@ -8,7 +9,9 @@ ghost use Rattle.pid_words.specs.declared.words.WordsFault.{WordsFault};
 ghost use Rattle.pid_workers.specs.declared.threads.RunFault.{RunFault};
 ghost use Rattle.pid_commands.specs.Faults.{of_run};
 ghost use Rattle.pid_commands.specs.Output.{ListsScript, FailsToList, ShowsRun};
-ghost use Rattle.pid_commands.specs.Commands.{RunsScript, FailsToRun, RunsInput, FailsToRunInput, WritesList, FailsToWriteList, WritesRun, FailsToWriteRun, Does, Stops, Fails, Ends, IsSomeFile};
+ghost use Rattle.pid_commands.specs.Commands.{RunsScript, FailsToRun, RunsInput, FailsToRunInput, WritesList};
+ghost use Rattle.pid_commands.specs.Commands.{FailsToWriteList, WritesRun, FailsToWriteRun, Does, Stops, Fails, Ends};
+ghost use Rattle.pid_commands.specs.Commands.{IsSomeFile};
 
 use crate::fault::{Fault, write_fault_line};
 use crate::jobs::{Opens, read_jobs};
@@ -51,7 +54,8 @@ where
     I: Read + Drop,
     O: Write,
     E: Write,
-    ensures { Ends MOST_READS (λ _. IsSomeFile R.File.remaining) answer (I.remaining input) (O.contents output.old) (O.contents output.new)
+    ensures { Ends MOST_READS (λ _. IsSomeFile R.File.remaining) answer (I.remaining input) (O.contents output.old)
+        (O.contents output.new)
         (E.contents errors.new ≡ E.contents errors.old) (λ _. ⊤) result }
 {
     let (status, _) = run_over(rt, rt, answer, input, output, errors);
@@ -74,7 +78,8 @@ where
     I: Read + Drop,
     O: Write,
     E: Write,
-    ensures { Ends MOST_READS (D.holds disk.now) answer (I.remaining input) (O.contents output.old) (O.contents output.new)
+    ensures { Ends MOST_READS (D.holds disk.now) answer (I.remaining input) (O.contents output.old)
+        (O.contents output.new)
         (E.contents errors.new ≡ E.contents errors.old)
         (λ line. OnOk result.1 (Appends (E.contents errors.old) (E.contents errors.new) (with_newline line))) result.0 }
 {
@@ -103,8 +108,10 @@ where
     D: Opens,
     I: Read + Drop,
     O: Write,
-    ensures ok { OnOk result (Does (D.holds disk.now) command (I.remaining input) (O.contents output.old) (O.contents output.new)) }
-    ensures fault { IfErr result (Fails MOST_READS (D.holds disk.now) command (I.remaining input) (O.contents output.old) (O.contents output.new)) }
+    ensures ok { OnOk result (Does (D.holds disk.now) command (I.remaining input) (O.contents output.old)
+        (O.contents output.new)) }
+    ensures fault { IfErr result (Fails MOST_READS (D.holds disk.now) command (I.remaining input)
+        (O.contents output.old) (O.contents output.new)) }
 {
     do_command(rt, disk, command, input, output)?;
     match output.flush() {
@@ -126,8 +133,10 @@ where
     D: Opens,
     I: Read + Drop,
     O: Write,
-    ensures ok { OnOk result (Does (D.holds disk.now) command (I.remaining input) (O.contents output.old) (O.contents output.new)) }
-    ensures fault { IfErr result (Stops MOST_READS (D.holds disk.now) command (I.remaining input) (O.contents output.old) (O.contents output.new)) }
+    ensures ok { OnOk result (Does (D.holds disk.now) command (I.remaining input) (O.contents output.old)
+        (O.contents output.new)) }
+    ensures fault { IfErr result (Stops MOST_READS (D.holds disk.now) command (I.remaining input)
+        (O.contents output.old) (O.contents output.new)) }
 {
     match command {
         Command::Run(config) => run_script(rt.alloc(), &config, input, output),
@@ -143,8 +152,10 @@ fn run_script<I: Read + Drop, O: Write>(
     input: I,
     output: &mut O,
 ) -> Result<(), Fault>
-    ensures ok { OnOk result (RunsInput config.now (I.remaining input) (O.contents output.old) (O.contents output.new)) }
-    ensures fault { IfErr result (FailsToRunInput MOST_READS config.now (I.remaining input) (O.contents output.old) (O.contents output.new)) }
+    ensures ok { OnOk result (RunsInput config.now (I.remaining input) (O.contents output.old)
+        (O.contents output.new)) }
+    ensures fault { IfErr result (FailsToRunInput MOST_READS config.now (I.remaining input) (O.contents output.old)
+        (O.contents output.new)) }
 {
     let mut source = FromReader::new(input);
     let mut sink = ToWriter::new(output);
@@ -180,8 +191,10 @@ fn list_script<R: Threads + AllocGlobal, I: Read + Drop, O: Write>(
     input: I,
     output: &mut O,
 ) -> Result<(), Fault>
-    ensures ok { OnOk result (WritesList config.now (I.remaining input) (O.contents output.old) (O.contents output.new)) }
-    ensures fault { IfErr result (FailsToWriteList MOST_READS config.now (I.remaining input) (O.contents output.old) (O.contents output.new)) }
+    ensures ok { OnOk result (WritesList config.now (I.remaining input) (O.contents output.old)
+        (O.contents output.new)) }
+    ensures fault { IfErr result (FailsToWriteList MOST_READS config.now (I.remaining input) (O.contents output.old)
+        (O.contents output.new)) }
 {
     let mut source = FromReader::new(input);
     let list = list_of_script::<Brand, _, _>(rt, Blank::new(1), &mut source, config)?;
@@ -200,8 +213,10 @@ fn list_of_script<L: Ledger, R: Threads + AllocGlobal, S: Source>(
 ) -> Result<Vec<u8>, Fault>
     requires name { blank.name ≡ L.name }
     requires parts { (blank.parts ≡ L.parts) × (L.parts ≡ 1) }
-    ensures ok { IfOk result (λ list. ListsScript config.now (S.remaining source.old) (S.remaining source.new) list.items) }
-    ensures fault { IfErr result (FailsToList MOST_READS config.now (S.remaining source.old) (S.remaining source.new) (S.has_failed source.new)) }
+    ensures ok { IfOk result (λ list. ListsScript config.now (S.remaining source.old)
+        (S.remaining source.new) list.items) }
+    ensures fault { IfErr result (FailsToList MOST_READS config.now (S.remaining source.old) (S.remaining source.new)
+        (S.has_failed source.new)) }
 {
     let left = run_for_table::<L, _, _>(rt.alloc(), blank, source, &mut Discard, config)?;
     if !left.is_whole {
@@ -223,8 +238,10 @@ where
     R: Threads + Wait + Clock + Sync + AllocGlobal,
     D: Opens,
     O: Write,
-    ensures ok { OnOk result (WritesRun (D.holds disk.now) config.now files.names.items (O.contents output.old) (O.contents output.new)) }
-    ensures fault { IfErr result (FailsToWriteRun (D.holds disk.now) config.now files.names.items (O.contents output.old) (O.contents output.new)) }
+    ensures ok { OnOk result (WritesRun (D.holds disk.now) config.now files.names.items (O.contents output.old)
+        (O.contents output.new)) }
+    ensures fault { IfErr result (FailsToWriteRun (D.holds disk.now) config.now files.names.items
+        (O.contents output.old) (O.contents output.new)) }
 {
     let jobs = read_jobs(rt.alloc(), disk, files)?;
     let blank = Blank::new(jobs.len() as u64);

@@ -39,7 +39,8 @@ pub(crate) fn finished_text<L: Ledger, R: Threads + AllocGlobal, const N: usize>
 
 /// Writes the lines of the workers, and then the list.
 fn write_shown<W: Write>(writer: &mut W, works: Vec<Work>, list: &[u8]) -> io::Result<()>
-    ensures { OnOk result (Appends (W.contents writer.old) (W.contents writer.new) (works_text 0 works.items ++ list.now)) }
+    ensures { OnOk result (Appends (W.contents writer.old) (W.contents writer.new)
+        (works_text 0 works.items ++ list.now)) }
 {
     write_works(writer, works)?;
     writer.write_all(list)
@@ -70,7 +71,8 @@ fn write_work<W: Write>(writer: &mut W, worker: usize, work: Work) -> io::Result
 
 /// Writes the line of each receipt.
 fn write_receipts<W: Write>(writer: &mut W, receipts: Vec<Receipt>) -> io::Result<()>
-    ensures { OnOk result (Appends (W.contents writer.old) (W.contents writer.new) (flat_map receipt_line receipts.items)) }
+    ensures { OnOk result (Appends (W.contents writer.old) (W.contents writer.new)
+        (flat_map receipt_line receipts.items)) }
 {
     for receipt in receipts {
         write_receipt(writer, receipt)?;
@@ -89,7 +91,8 @@ fn write_receipt<W: Write>(writer: &mut W, receipt: Receipt) -> io::Result<()>
 
 /// Writes the answer that the receipt has, and a newline.
 fn write_answer<W: Write>(writer: &mut W, receipt: Receipt) -> io::Result<()>
-    ensures { OnOk result (Appends (W.contents writer.old) (W.contents writer.new) (with_newline (reply_text receipt.reply))) }
+    ensures { OnOk result (Appends (W.contents writer.old) (W.contents writer.new)
+        (with_newline (reply_text receipt.reply))) }
 {
     writer.write_all(answer_text(&Ok(receipt)).as_slice())?;
     writer.write_all(b"\n")

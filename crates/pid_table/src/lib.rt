@@ -1,6 +1,7 @@
 //! The process table: any call of the model, on tasks whose state is sound before and after it.
 //!
-//! A [`Tasks`] holds what its calls leave in it; the table holds one in which every call finds and leaves a sound state.
+//! A [`Tasks`] holds what its calls leave in it; the table holds one in which every call finds and leaves a sound
+//! state.
 #![tactic(auto)]
 
 ghost use Rattle.std.specs.Prelude.{◌≡◌, IfOk, IfSome, OnOk, is_some, length};
@@ -98,9 +99,9 @@ impl PidTable {
         self.store.controls().count(root) as usize
     }
 
-    /// How many tasks the control group with the id and those below it have, ended ones too; none where there is no such
-    /// group. It is the number that the table keeps with the group (`pids.current`): a search for the id and one read, and no
-    /// task is looked at.
+    /// How many tasks the control group with the id and those below it have, ended ones too; none where there is no
+    /// such group. It is the number that the table keeps with the group (`pids.current`): a search for the id and one
+    /// read, and no task is looked at.
     pub fn count(&self, control: u64) -> Option<u64>
         ensures there { is_some result ≡ is_some (control_at self.now.controls control) }
         ensures value { IfSome result (λ n. n ≡ count_of self.now control) }

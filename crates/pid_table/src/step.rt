@@ -19,8 +19,8 @@ use task_table::Tasks;
 use translate::{get_pgid, get_pid, get_ppid, get_sid, next, ns_pid};
 use wait_calls::wait;
 
-/// Makes the call on a store, and writes the reply in place. Only the reply to `NSpid` is made as a whole, by a function that
-/// is not inlined, so that no other call has room for it.
+/// Makes the call on a store, and writes the reply in place. Only the reply to `NSpid` is made as a whole, by a
+/// function that is not inlined, so that no other call has room for it.
 #[tactic(auto, unfolding(pid_types::specs::Step::step))]
 #[inline(always)]
 fn make(store: &mut Tasks, stamp: u64, call: Call, reply: &mut Reply) -> Result<(), AllocError>
@@ -62,10 +62,11 @@ fn make(store: &mut Tasks, stamp: u64, call: Call, reply: &mut Reply) -> Result<
 
 impl PidTable {
     /// Makes the call, of which the stamp is the id of what it makes; so the stamp is above all ids that
-    /// stand. The reply is written in place. The error is want of memory, and then what the reply holds is of no account.
+    /// stand. The reply is written in place. The error is want of memory, and then what the reply holds is of no
+    /// account.
     ///
-    /// It costs a search on each level of the namespaces that the call names, a step for each control group around the task,
-    /// and for a fall one for each member and for each namespace that there is. A wait for a group walks at
+    /// It costs a search on each level of the namespaces that the call names, a step for each control group around the
+    /// task, and for a fall one for each member and for each namespace that there is. A wait for a group walks at
     /// most four times the shorter of two lists: the caller's children, and the members of the group.
     #[inline(always)]
     pub fn step(&mut self, stamp: u64, call: Call, reply: &mut Reply) -> Result<(), AllocError>

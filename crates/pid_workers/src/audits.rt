@@ -1,5 +1,6 @@
 //! Receipts against the kept history: what a worker was told, and what was recorded of it.
-ghost use Rattle.std.specs.Prelude.{◌≡◌, ◌≢◌, true, false, ℕ, ◌<◌, ◌≤◌, length, take, vec_len, slice_index_or, MatchOption, OnOk, IfErr};
+ghost use Rattle.std.specs.Prelude.{◌≡◌, ◌≢◌, true, false, ℕ, ◌<◌, ◌≤◌, length, take, vec_len, slice_index_or};
+ghost use Rattle.std.specs.Prelude.{MatchOption, OnOk, IfErr};
 ghost use Rattle.pid_workers.specs.Receipts.{receipt, receipts_kept, owed, DiffersAt, IsAudited, IsFirstFault};
 
 use crate::difference::Audit;
@@ -44,7 +45,8 @@ fn first_difference<L: Ledger, const N: usize>(
     worker: usize,
     receipts: &[Receipt],
 ) -> Option<usize>
-    ensures { MatchOption result (receipts_kept kept.now.first_kept receipts.now ≡ owed kept.now worker) (λ p. DiffersAt p (receipts_kept kept.now.first_kept receipts.now) (owed kept.now worker)) }
+    ensures { MatchOption result (receipts_kept kept.now.first_kept receipts.now ≡ owed kept.now worker)
+        (λ p. DiffersAt p (receipts_kept kept.now.first_kept receipts.now) (owed kept.now worker)) }
 {
     let first = kept.first_kept();
     let mut place = 0usize;

@@ -21,8 +21,10 @@ pub fn work<D: Desk, G: Gate, R: Wait + Clock>(
     calls: &[Call],
 ) -> Result<Work, AllocError>
     ensures done { IfOk result (λ w. Fulfils calls.now w.receipts.items w.refused) }
-    ensures made { IfOk result (λ w. (answers : List Answered) × D.made desk.old desk.new answers × IsAnswered calls.now answers w.receipts.items) }
-    ensures told { OnOk result ((i : ℕ) → i < length calls.now → G.was_before gate.now worker (i + 1) × G.was_after gate.now worker (i + 1)) }
+    ensures made { IfOk result (λ w. (answers : List Answered) × D.made desk.old desk.new answers
+        × IsAnswered calls.now answers w.receipts.items) }
+    ensures told { OnOk result ((i : ℕ) → i < length calls.now
+        → G.was_before gate.now worker (i + 1) × G.was_after gate.now worker (i + 1)) }
     ensures worker { D.worker desk.new ≡ D.worker desk.old }
     ensures untouched { OnErr result (desk.new ≡ desk.old) }
 {

@@ -6,8 +6,8 @@
 //! library crate starts threads but [`list_text_split`], and all workers wait for one lock.
 //!
 //! [`run`] answers a script on a new table, [`run_limited`] with a bound on reads, and [`run_state`] and
-//! [`run_for_table`] hand back the record too. They wait for nobody but the reader and the writer. [`run_state`] keeps the whole
-//! history of the run, 184 bytes a call; the others cut each call away at once, so that they take the memory
+//! [`run_for_table`] hand back the record too. They wait for nobody but the reader and the writer. [`run_state`] keeps
+//! the whole history of the run, 184 bytes a call; the others cut each call away at once, so that they take the memory
 //! of the table. [`list_record`] writes a record's list.
 #![tactic(auto)]
 

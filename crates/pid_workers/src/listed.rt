@@ -44,7 +44,9 @@ pub fn list_text_split<R: Threads>(
             ensures { IfOk result (λ text. text.items ≡ flat_map task_line front.entry.now) }
         { tasks_text(alloc, front) },
         || -> Result<Vec<u8>, AllocError>
-            ensures { IfOk result (λ text. text.items ≡ flat_map task_line back.entry.now ++ (flat_map space_line plain.entry.now.spaces.items ++ flat_map control_line plain.entry.now.controls.items)) }
+            ensures { IfOk result (λ text. text.items
+                ≡ flat_map task_line back.entry.now ++ (flat_map space_line plain.entry.now.spaces.items
+        ++ flat_map control_line plain.entry.now.controls.items)) }
         { rest_text(alloc, back, plain) },
     );
     let mut text = first?;
@@ -63,7 +65,8 @@ fn tasks_text(alloc: Global, rows: &[Row]) -> Result<Vec<u8>, AllocError>
 
 /// The lines of the tasks, and then those of the snapshot's namespaces and control groups.
 fn rest_text(alloc: Global, rows: &[Row], plain: &Plain) -> Result<Vec<u8>, AllocError>
-    ensures { IfOk result (λ text. text.items ≡ flat_map task_line rows.now ++ (flat_map space_line plain.now.spaces.items ++ flat_map control_line plain.now.controls.items)) }
+    ensures { IfOk result (λ text. text.items ≡ flat_map task_line rows.now ++
+        (flat_map space_line plain.now.spaces.items ++ flat_map control_line plain.now.controls.items)) }
 {
     let mut text = tasks_text(alloc, rows)?;
     push_spaces(&mut text, &plain.spaces)?;

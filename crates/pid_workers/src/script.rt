@@ -43,9 +43,12 @@ fn run_table<L: Ledger, S: Source, K: Sink>(
     ensures config { IfOk result (λ r. r.1.record.config ≡ config.now) }
     ensures history { IfOk result (λ r. r.1.record.first_kept ≡ 0) }
     ensures err { IfErr result (Leaves turns (start_of config.now)
-        (S.remaining source.old) (S.remaining source.new) (K.contents sink.old) (K.contents sink.new) (S.has_failed source.new)) }
-    ensures talk { Converses turns (start_of config.now) (DidBoth (S.did source.old source.new) (K.did sink.old sink.new)) result }
-    ensures whole { OnOk result ((S.has_failed source.new ≡ S.has_failed source.old) × (K.has_failed sink.new ≡ K.has_failed sink.old) × (K.is_full sink.new ≡ K.is_full sink.old)) }
+        (S.remaining source.old) (S.remaining source.new) (K.contents sink.old) (K.contents sink.new)
+        (S.has_failed source.new)) }
+    ensures talk { Converses turns (start_of config.now) (DidBoth (S.did source.old source.new)
+        (K.did sink.old sink.new)) result }
+    ensures whole { OnOk result ((S.has_failed source.new ≡ S.has_failed source.old)
+        × (K.has_failed sink.new ≡ K.has_failed sink.old) × (K.is_full sink.new ≡ K.is_full sink.old)) }
     ensures stopped { result ≡ Err Write → HasStopped (K.has_failed sink.new) (K.is_full sink.new) }
 {
     let mut table = match OneSeat::<L>::new(alloc, blank, config) {
@@ -74,13 +77,17 @@ pub fn run_limited<L: Ledger, S: Source, K: Sink>(
 ) -> Result<Tally, RunScriptFault>
     requires name { blank.name ≡ L.name }
     requires parts { (blank.parts ≡ L.parts) × (L.parts ≡ 1) }
-    ensures ok { IfOk result (λ tally. (present : State) × (stamp : ℕ) × (text : List ℕ) × (calls : List (Call × Reply)) × Finishes (start_of config.now)
+    ensures ok { IfOk result (λ tally. (present : State) × (stamp : ℕ) × (text : List ℕ) × (calls : List (Call × Reply))
+        × Finishes (start_of config.now)
         (ended_at present stamp tally text calls)
         (S.remaining source.old) (S.remaining source.new) (K.contents sink.old) (K.contents sink.new)) }
     ensures err { IfErr result (Leaves turns (start_of config.now)
-        (S.remaining source.old) (S.remaining source.new) (K.contents sink.old) (K.contents sink.new) (S.has_failed source.new)) }
-    ensures talk { Converses turns (start_of config.now) (DidBoth (S.did source.old source.new) (K.did sink.old sink.new)) result }
-    ensures whole { OnOk result ((S.has_failed source.new ≡ S.has_failed source.old) × (K.has_failed sink.new ≡ K.has_failed sink.old) × (K.is_full sink.new ≡ K.is_full sink.old)) }
+        (S.remaining source.old) (S.remaining source.new) (K.contents sink.old) (K.contents sink.new)
+        (S.has_failed source.new)) }
+    ensures talk { Converses turns (start_of config.now) (DidBoth (S.did source.old source.new)
+        (K.did sink.old sink.new)) result }
+    ensures whole { OnOk result ((S.has_failed source.new ≡ S.has_failed source.old)
+        × (K.has_failed sink.new ≡ K.has_failed sink.old) × (K.is_full sink.new ≡ K.is_full sink.old)) }
     ensures stopped { result ≡ Err Write → HasStopped (K.has_failed sink.new) (K.is_full sink.new) }
 {
     let mut table = match ShortSeat::<L>::new(alloc, blank, config) {
@@ -100,20 +107,25 @@ pub fn run<L: Ledger, S: Source, K: Sink>(
 ) -> Result<Tally, RunScriptFault>
     requires name { blank.name ≡ L.name }
     requires parts { (blank.parts ≡ L.parts) × (L.parts ≡ 1) }
-    ensures ok { IfOk result (λ tally. (present : State) × (stamp : ℕ) × (text : List ℕ) × (calls : List (Call × Reply)) × Finishes (start_of config.now)
+    ensures ok { IfOk result (λ tally. (present : State) × (stamp : ℕ) × (text : List ℕ) × (calls : List (Call × Reply))
+        × Finishes (start_of config.now)
         (ended_at present stamp tally text calls)
         (S.remaining source.old) (S.remaining source.new) (K.contents sink.old) (K.contents sink.new)) }
     ensures err { IfErr result (Leaves MOST_READS (start_of config.now)
-        (S.remaining source.old) (S.remaining source.new) (K.contents sink.old) (K.contents sink.new) (S.has_failed source.new)) }
-    ensures talk { Converses MOST_READS (start_of config.now) (DidBoth (S.did source.old source.new) (K.did sink.old sink.new)) result }
-    ensures whole { OnOk result ((S.has_failed source.new ≡ S.has_failed source.old) × (K.has_failed sink.new ≡ K.has_failed sink.old) × (K.is_full sink.new ≡ K.is_full sink.old)) }
+        (S.remaining source.old) (S.remaining source.new) (K.contents sink.old) (K.contents sink.new)
+        (S.has_failed source.new)) }
+    ensures talk { Converses MOST_READS (start_of config.now)
+        (DidBoth (S.did source.old source.new) (K.did sink.old sink.new)) result }
+    ensures whole { OnOk result ((S.has_failed source.new ≡ S.has_failed source.old)
+        × (K.has_failed sink.new ≡ K.has_failed sink.old) × (K.is_full sink.new ≡ K.is_full sink.old)) }
     ensures stopped { result ≡ Err Write → HasStopped (K.has_failed sink.new) (K.is_full sink.new) }
 {
     run_limited::<L, S, K>(alloc, blank, source, sink, config, MOST_READS)
 }
 
 /// Runs a script on a new table, as [`run`] does, and hands back the record that the lines leave, with
-/// the whole history: the calls of the script that were recorded, in their order, each with its reply. An entry takes 184 bytes.
+/// the whole history: the calls of the script that were recorded, in their order, each with its reply. An entry takes
+/// 184 bytes.
 pub fn run_state<L: Ledger, S: Source, K: Sink>(
     alloc: Global,
     blank: Blank,
@@ -129,9 +141,12 @@ pub fn run_state<L: Ledger, S: Source, K: Sink>(
     ensures config { IfOk result (λ r. r.1.config ≡ config.now) }
     ensures history { IfOk result (λ r. r.1.first_kept ≡ 0) }
     ensures err { IfErr result (Leaves MOST_READS (start_of config.now)
-        (S.remaining source.old) (S.remaining source.new) (K.contents sink.old) (K.contents sink.new) (S.has_failed source.new)) }
-    ensures talk { Converses MOST_READS (start_of config.now) (DidBoth (S.did source.old source.new) (K.did sink.old sink.new)) result }
-    ensures whole { OnOk result ((S.has_failed source.new ≡ S.has_failed source.old) × (K.has_failed sink.new ≡ K.has_failed sink.old) × (K.is_full sink.new ≡ K.is_full sink.old)) }
+        (S.remaining source.old) (S.remaining source.new) (K.contents sink.old) (K.contents sink.new)
+        (S.has_failed source.new)) }
+    ensures talk { Converses MOST_READS (start_of config.now)
+        (DidBoth (S.did source.old source.new) (K.did sink.old sink.new)) result }
+    ensures whole { OnOk result ((S.has_failed source.new ≡ S.has_failed source.old)
+        × (K.has_failed sink.new ≡ K.has_failed sink.old) × (K.is_full sink.new ≡ K.is_full sink.old)) }
     ensures stopped { result ≡ Err Write → HasStopped (K.has_failed sink.new) (K.is_full sink.new) }
 {
     let (tally, table) = run_table::<L, S, K>(alloc, blank, source, sink, config, MOST_READS)?;
@@ -142,7 +157,8 @@ pub fn run_state<L: Ledger, S: Source, K: Sink>(
     Ok((tally, record))
 }
 
-/// What a script leaves: the record, which has no history, and whether each of its calls found the memory that it needed.
+/// What a script leaves: the record, which has no history, and whether each of its calls found the memory that it
+/// needed.
 #[derive(Drop)]
 pub struct Left<L: Ledger> {
     pub record: Record<L, 1>,
@@ -163,7 +179,8 @@ pub fn run_for_table<L: Ledger, S: Source, K: Sink>(
         × Finishes (start_of config.now) (ended_at left.record.present stamp tally text calls)
         (S.remaining source.old) (S.remaining source.new) (K.contents sink.old) (K.contents sink.new)) }
     ensures err { IfErr result (Leaves MOST_READS (start_of config.now)
-        (S.remaining source.old) (S.remaining source.new) (K.contents sink.old) (K.contents sink.new) (S.has_failed source.new)) }
+        (S.remaining source.old) (S.remaining source.new) (K.contents sink.old) (K.contents sink.new)
+        (S.has_failed source.new)) }
 {
     let mut table = match WholeSeat::<L>::new(alloc, blank, config) {
         Ok(table) => table,

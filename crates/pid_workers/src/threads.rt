@@ -70,7 +70,8 @@ struct DoneOf<'a> {
 }
 
 impl<'a, L: Ledger, const N: usize> Promise<Done<L, N>> for DoneOf<'a> {
-    ghost kept_by = { λ p r. (r.seat.worker ≡ p.worker) × IfOk r.work (λ w. Fulfils p.calls.now w.receipts.items w.refused) };
+    ghost kept_by = { λ p r. (r.seat.worker ≡ p.worker)
+        × IfOk r.work (λ w. Fulfils p.calls.now w.receipts.items w.refused) };
 }
 
 /// One worker's whole job.
@@ -109,14 +110,21 @@ fn serve_all<
     requires seats { AreSeats N seats.items }
     requires jobs { length jobs.now ≡ N }
     ensures len { IfOk result (λ dones. vec_len dones ≡ N) }
-    ensures each { IfOk result (λ dones. (w : ℕ) (d : _) (j : _) → w < N → ((slice_index_or dones.items w d).seat.worker ≡ w) × IfOk (slice_index_or dones.items w d).work (λ x. Fulfils (slice_index_or jobs.now w j).items x.receipts.items x.refused)) }
+    ensures each { IfOk result (λ dones. (w : ℕ) (d : _) (j : _) → w < N
+        → ((slice_index_or dones.items w d).seat.worker ≡ w)
+        × IfOk (slice_index_or dones.items w d).work (λ x. Fulfils
+        (slice_index_or jobs.now w j).items x.receipts.items x.refused)) }
 {
     thread::scope(
         thread::scope_env(),
         rt,
         |scope| -> Result<Vec<Done<L, N>>, RunFault>
             requires { AreSeats N seats.items × (length jobs.now ≡ N) }
-            ensures { IfOk result (λ dones. (vec_len dones ≡ N) × ((w : ℕ) (d : _) (j : _) → w < N → ((slice_index_or dones.items w d).seat.worker ≡ w) × IfOk (slice_index_or dones.items w d).work (λ x. Fulfils (slice_index_or jobs.entry.now w j).items x.receipts.items x.refused))) }
+            ensures { IfOk result (λ dones. (vec_len dones ≡ N)
+                × ((w : ℕ) (d : _) (j : _) → w < N
+                → ((slice_index_or dones.items w d).seat.worker ≡ w)
+                × IfOk (slice_index_or dones.items w d).work
+                (λ x. Fulfils (slice_index_or jobs.entry.now w j).items x.receipts.items x.refused))) }
         {
             let mut handles = Vec::with_capacity(alloc, jobs.len())?;
             let mut worker = 0usize;
@@ -124,7 +132,8 @@ fn serve_all<
                 let calls = jobs[worker].as_slice();
                 let promise = DoneOf { worker, calls };
                 let job = move || -> Done<L, N>
-                    ensures { (result.seat.worker ≡ seat.worker) × IfOk result.work (λ w. Fulfils calls.entry.now w.receipts.items w.refused) }
+                    ensures { (result.seat.worker ≡ seat.worker)
+                        × IfOk result.work (λ w. Fulfils calls.entry.now w.receipts.items w.refused) }
                 { serve(rt, alloc, shared, gate, seat, calls) };
                 let Ok(child) = scope.spawn_with(promise, job) else {
                     return Err(RunFault::Start);
@@ -147,8 +156,10 @@ fn part<L: Ledger, const N: usize>(
     dones: Vec<Done<L, N>>,
 ) -> Result<(Vec<Seat<L, N>>, Vec<Work>), AllocError>
     ensures len { IfOk result (λ r. (vec_len r.0 ≡ vec_len dones) × (vec_len r.1 ≡ vec_len dones)) }
-    ensures seats { IfOk result (λ r. (w : ℕ) (d : _) (e : _) → w < vec_len dones → slice_index_or r.0.items w d ≡ (slice_index_or dones.items w e).seat) }
-    ensures works { IfOk result (λ r. (w : ℕ) (d : _) (e : _) → w < vec_len dones → (slice_index_or dones.items w e).work ≡ Ok (slice_index_or r.1.items w d)) }
+    ensures seats { IfOk result (λ r. (w : ℕ) (d : _) (e : _) → w < vec_len dones
+        → slice_index_or r.0.items w d ≡ (slice_index_or dones.items w e).seat) }
+    ensures works { IfOk result (λ r. (w : ℕ) (d : _) (e : _) → w < vec_len dones
+        → (slice_index_or dones.items w e).work ≡ Ok (slice_index_or r.1.items w d)) }
 {
     let mut seats = Vec::with_capacity(alloc, dones.len())?;
     let mut works = Vec::with_capacity(alloc, dones.len())?;
@@ -180,7 +191,9 @@ fn finish_all<
     requires parts { (blank.parts ≡ L.parts) × (L.parts ≡ N) × (0 < N) }
     requires jobs { length jobs.now ≡ N }
     ensures works { IfOk result (λ f. vec_len f.works ≡ N) }
-    ensures jobs { IfOk result (λ f. (w : ℕ) (d : _) (j : _) → w < N → Fulfils (slice_index_or jobs.now w j).items (slice_index_or f.works.items w d).receipts.items (slice_index_or f.works.items w d).refused) }
+    ensures jobs { IfOk result (λ f. (w : ℕ) (d : _) (j : _) → w < N
+        → Fulfils (slice_index_or jobs.now w j).items (slice_index_or f.works.items w d).receipts.items
+        (slice_index_or f.works.items w d).refused) }
 {
     let (shared, seats) = Shared::<L, N>::open(alloc, blank, config)?;
     let dones = serve_all(rt, alloc, &shared, gate, seats, jobs)?;
@@ -248,7 +261,9 @@ pub fn run_workers<
     ensures config { IfOk result (λ f. f.kept.config ≡ config.now) }
     ensures kept { IfOk result (λ f. f.kept.first_kept ≡ 0) }
     ensures works { IfOk result (λ f. vec_len f.works ≡ N) }
-    ensures jobs { IfOk result (λ f. (w : ℕ) (d : _) (j : _) → w < N → Fulfils (slice_index_or jobs.now w j).items (slice_index_or f.works.items w d).receipts.items (slice_index_or f.works.items w d).refused) }
+    ensures jobs { IfOk result (λ f. (w : ℕ) (d : _) (j : _) → w < N
+        → Fulfils (slice_index_or jobs.now w j).items (slice_index_or f.works.items w d).receipts.items
+        (slice_index_or f.works.items w d).refused) }
     ensures audited { IfOk result (λ f. IsAudited N f.kept f.works.items) }
 {
     let finished = finish_all::<L, G, R, N>(rt, alloc, blank, config, jobs, gate)?;

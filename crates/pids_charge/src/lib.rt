@@ -5,14 +5,18 @@
 //! were in it, so that none of them is told of the removal: they count for the parent from then on.
 #![tactic(auto)]
 
-ghost use Rattle.std.specs.Prelude.{◌≡◌, ◌≢◌, ℕ, ◌+◌, ◌-◌, ◌<◌, ◌≤◌, ◌^◌, ◌==◌, ◌↔◌, not, true, false, [], ◌∷◌, ◌++◌, length, map, filter, option_map, option_and_then, Some, None, IsSome, MatchOption, OnOk, OnErr, IfOk, IfSome, Err};
+ghost use Rattle.std.specs.Prelude.{◌≡◌, ◌≢◌, ℕ, ◌+◌, ◌-◌, ◌<◌, ◌≤◌, ◌^◌, ◌==◌, ◌↔◌, not, true, false, [], ◌∷◌, ◌++◌};
+ghost use Rattle.std.specs.Prelude.{length, map, filter, option_map, option_and_then, Some, None, IsSome, MatchOption};
+ghost use Rattle.std.specs.Prelude.{OnOk, OnErr, IfOk, IfSome, Err};
 ghost use Rattle.std.specs.Result.{result_err};
 ghost use Rattle.std.specs.List.{AllByRecursion};
 ghost use Rattle.pid_types.specs.Bounds.{deepest_control};
 ghost use Rattle.pid_types.specs.Controls.{control_at, parent_control, control_path};
 ghost use Rattle.pid_types.specs.Changes.{limited};
 ghost use Rattle.pids_charge.specs.declared.ControlFault.{ControlFault};
-ghost use Rattle.pids_charge.specs.Charges.{Home, home_at, stands, id_at, live_at, zombies_at, tasks_of, count as count_of, all_tasks, limit_of, charge_refusal, remove_refusal, limit_refusal, kept, handed_on, moved, ChangesHome};
+ghost use Rattle.pids_charge.specs.Charges.{Home, home_at, stands, id_at, live_at, zombies_at, tasks_of};
+ghost use Rattle.pids_charge.specs.Charges.{count as count_of, all_tasks, limit_of, charge_refusal, remove_refusal};
+ghost use Rattle.pids_charge.specs.Charges.{limit_refusal, kept, handed_on, moved, ChangesHome};
 
 mod limits;
 mod node;
@@ -125,12 +129,15 @@ impl Controls {
     pub fn make(&mut self, parent: ControlKey, stamp: u64) -> Result<ControlKey, ControlFault>
         requires stands { stands self.old parent ≡ true }
         requires above { AllByRecursion (λ g. g.id < stamp) self.old.controls }
-        ensures controls { OnOk result (self.new.controls ≡ self.old.controls ++ record { id = stamp; parent = Some (id_at self.old parent); limit = None } ∷ []) }
+        ensures controls { OnOk result (self.new.controls
+            ≡ self.old.controls ++ record { id = stamp; parent = Some (id_at self.old parent); limit = None } ∷ []) }
         ensures fresh { IfOk result (λ key. home_at self.old key ≡ None) }
-        ensures here { IfOk result (λ key. home_at self.new key ≡ Some (record { id = stamp; stands = true; live = 0; zombies = 0 })) }
+        ensures here { IfOk result (λ key. home_at self.new key
+            ≡ Some (record { id = stamp; stands = true; live = 0; zombies = 0 })) }
         ensures others { IfOk result (λ key. (k : ℕ) → k ≢ key → home_at self.new k ≡ home_at self.old k) }
         ensures tasks { OnOk result (all_tasks self.new ≡ all_tasks self.old) }
-        ensures deep { (result ≡ Err ControlFault.ControlDepth) ↔ (deepest_control < length (control_path self.old.controls (id_at self.old parent))) }
+        ensures deep { (result ≡ Err ControlFault.ControlDepth)
+            ↔ (deepest_control < length (control_path self.old.controls (id_at self.old parent))) }
         ensures err { OnErr result (self.new ≡ self.old) }
     {
         let level = node_at(&self.nodes, parent).level + 1;
@@ -152,9 +159,11 @@ impl Controls {
     pub fn remove(&mut self, c: ControlKey) -> Result<(), Refusal>
         requires { stands self.old c ≡ true }
         ensures refusal { result_err result ≡ remove_refusal self.old c }
-        ensures controls { OnOk result (self.new.controls ≡ filter (λ g. not (g.id == id_at self.old c)) self.old.controls) }
+        ensures controls { OnOk result (self.new.controls
+            ≡ filter (λ g. not (g.id == id_at self.old c)) self.old.controls) }
         ensures homes { OnOk result ((parent : ℕ) → parent_control self.old.controls (id_at self.old c) ≡ Some parent
-            → (k : ℕ) → home_at self.new k ≡ option_and_then (handed_on (id_at self.old c) parent) (home_at self.old k)) }
+            → (k : ℕ) → home_at self.new k ≡ option_and_then (handed_on (id_at self.old c) parent)
+            (home_at self.old k)) }
         ensures tasks { all_tasks self.new ≡ all_tasks self.old }
         ensures err { OnErr result (self.new ≡ self.old) }
     {
@@ -219,7 +228,8 @@ impl Controls {
 
     /// The key of the control group with an id.
     pub fn find(&self, id: u64) -> Option<ControlKey>
-        ensures there { MatchOption result (control_at self.now.controls id ≡ None) (λ c. IsSome (control_at self.now.controls id)) }
+        ensures there { MatchOption result (control_at self.now.controls id ≡ None)
+            (λ c. IsSome (control_at self.now.controls id)) }
         ensures stands { IfSome result (λ c. stands self.now c ≡ true) }
         ensures id { IfSome result (λ c. id_at self.now c ≡ id) }
         ensures only { IfSome result (λ c. (k : ℕ) → stands self.now k ≡ true → id_at self.now k ≡ id → k ≡ c) }
@@ -280,7 +290,8 @@ impl Controls {
     /// was removed, and a group that stands has an id of its own, by which it is listed.
     pub fn laws(&self)
         ensures ended { (k : ℕ) → stands self.now k ≡ false → live_at self.now k ≡ 0 }
-        ensures ids { (j k : ℕ) → stands self.now j ≡ true → stands self.now k ≡ true → id_at self.now j ≡ id_at self.now k → j ≡ k }
+        ensures ids { (j k : ℕ) → stands self.now j ≡ true → stands self.now k ≡ true
+            → id_at self.now j ≡ id_at self.now k → j ≡ k }
         ensures listed { (k : ℕ) → stands self.now k ≡ true → IsSome (control_at self.now.controls (id_at self.now k)) }
     {
         let _ = self.ids.iter();
@@ -290,7 +301,8 @@ impl Controls {
     pub fn charge(&mut self, home: ControlKey)
         requires stands { stands self.old home ≡ true }
         requires few { all_tasks self.old + 1 < 2 ^ 64 }
-        ensures home { ChangesHome self.old self.new home (option_map (λ (h : Home). record h { live = h.live + 1 }) (home_at self.old home)) }
+        ensures home { ChangesHome self.old self.new home (option_map (λ (h : Home). record h { live = h.live + 1 })
+            (home_at self.old home)) }
         ensures tasks { all_tasks self.new ≡ all_tasks self.old + 1 }
     {
         put_live(&mut self.nodes, &mut self.totals, home);
@@ -299,7 +311,8 @@ impl Controls {
     /// A live task became a zombie.
     pub fn died(&mut self, home: ControlKey)
         requires { 0 < live_at self.old home }
-        ensures home { ChangesHome self.old self.new home (option_map (λ (h : Home). record h { live = h.live - 1; zombies = h.zombies + 1 }) (home_at self.old home)) }
+        ensures home { ChangesHome self.old self.new home (option_map
+            (λ (h : Home). record h { live = h.live - 1; zombies = h.zombies + 1 }) (home_at self.old home)) }
         ensures tasks { all_tasks self.new ≡ all_tasks self.old }
     {
         end_live(&mut self.nodes, &self.totals, home);
@@ -308,7 +321,8 @@ impl Controls {
     /// A zombie is gone. With the last task of a removed group its key is gone too.
     pub fn uncharge(&mut self, home: ControlKey)
         requires { 0 < zombies_at self.old home }
-        ensures home { ChangesHome self.old self.new home (option_and_then (λ (h : Home). kept (record h { zombies = h.zombies - 1 })) (home_at self.old home)) }
+        ensures home { ChangesHome self.old self.new home (option_and_then
+            (λ (h : Home). kept (record h { zombies = h.zombies - 1 })) (home_at self.old home)) }
         ensures tasks { all_tasks self.new + 1 ≡ all_tasks self.old }
     {
         take_zombie(&mut self.nodes, &mut self.totals, home);

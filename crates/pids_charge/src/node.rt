@@ -26,7 +26,15 @@ pub(crate) struct Node {
 impl Node {
     /// A control group without limit and tasks.
     pub(crate) fn new(id: u64, parent: Option<ControlKey>, level: u32) -> Self
-        ensures { result ≡ record { id = id; parent = parent; limit = None; level = level; standing = true; live = 0; zombies = 0 } }
+        ensures { result ≡ record {
+          id = id;
+          parent = parent;
+          limit = None;
+          level = level;
+          standing = true;
+          live = 0;
+          zombies = 0;
+        } }
     {
         Node {
             id,

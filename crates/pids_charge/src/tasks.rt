@@ -68,7 +68,8 @@ pub(crate) fn end_live(nodes: &mut Slab<Node>, totals: &Vec<u64>, home: ControlK
     requires tree { IsTree (tree_of nodes.old) }
     requires counted { IsCounted nodes.old totals.now.items None }
     requires some { 0 < live_in nodes.old home }
-    ensures changes { ChangesTasks nodes.old nodes.new home (λ (n : Node). record n { live = n.live - 1; zombies = n.zombies + 1 }) }
+    ensures changes { ChangesTasks nodes.old nodes.new home (λ
+        (n : Node). record n { live = n.live - 1; zombies = n.zombies + 1 }) }
     ensures all { all_in nodes.new ≡ all_in nodes.old }
     ensures counted { IsCounted nodes.new totals.now.items None }
 {

@@ -14,7 +14,8 @@ pub(crate) fn raise(nodes: &Slab<Node>, totals: &mut Vec<u64>, home: ControlKey)
     requires home { ContainsKey nodes.now home }
     requires room { (k : ℕ) → ContainsKey nodes.now k → k < length totals.old.items }
     requires few { (k : ℕ) → is_under (tree_of nodes.now) home k ≡ true → slice_index totals.old.items k + 1 < 2 ^ 64 }
-    ensures totals { (k : ℕ) → slice_index totals.new.items k ≡ slice_index totals.old.items k + weight (tree_of nodes.now) home k }
+    ensures totals { (k : ℕ) → slice_index totals.new.items k
+        ≡ slice_index totals.old.items k + weight (tree_of nodes.now) home k }
     ensures len { length totals.new.items ≡ length totals.old.items }
 {
     let mut at = Some(home);
@@ -30,7 +31,8 @@ pub(crate) fn lower(nodes: &Slab<Node>, totals: &mut Vec<u64>, home: ControlKey)
     requires home { ContainsKey nodes.now home }
     requires room { (k : ℕ) → ContainsKey nodes.now k → k < length totals.old.items }
     requires some { (k : ℕ) → is_under (tree_of nodes.now) home k ≡ true → 0 < slice_index totals.old.items k }
-    ensures totals { (k : ℕ) → slice_index totals.new.items k + weight (tree_of nodes.now) home k ≡ slice_index totals.old.items k }
+    ensures totals { (k : ℕ) → slice_index totals.new.items k + weight (tree_of nodes.now) home k
+        ≡ slice_index totals.old.items k }
     ensures len { length totals.new.items ≡ length totals.old.items }
 {
     let mut at = Some(home);

@@ -62,11 +62,11 @@ pub(crate) fn write_text(text: &[u8], room: &mut [u8], size: &mut usize) -> u32
     DONE
 }
 
-/// Puts the line of the script language that says the call at the front of the room, without a newline; `size` is the line's
-/// length.
+/// Puts the line of the script language that says the call at the front of the room, without a newline; `size` is the
+/// line's length.
 ///
-/// `OUT_OF_RANGE` where the numbers say no call; then `NO_ROOM` where the room is shorter than the line, and then too `size`
-/// is the line's length. The longest line has 42 bytes. It needs no table and no memory.
+/// `OUT_OF_RANGE` where the numbers say no call; then `NO_ROOM` where the room is shorter than the line, and then too
+/// `size` is the line's length. The longest line has 42 bytes. It needs no table and no memory.
 #[unsafe(no_mangle)]
 pub extern "C" fn pidtab_call_line(call: &CallNumbers, room: &mut [u8], size: &mut usize) -> u32
     ensures done { result ≡ DONE
@@ -76,7 +76,8 @@ pub extern "C" fn pidtab_call_line(call: &CallNumbers, room: &mut [u8], size: &m
     ensures not_done { result ≢ DONE → room.new ≡ room.old }
     ensures out_of_range { (result ≡ OUT_OF_RANGE) ↔ (call_of call.now ≡ None) }
     ensures no_room { result ≡ NO_ROOM
-        → (said : Call) × (call_of call.now ≡ Some said) × (size.new ≡ length (line_of said)) × (length room.old < size.new) }
+        → (said : Call) × (call_of call.now ≡ Some said) × (size.new ≡ length (line_of said))
+        × (length room.old < size.new) }
     ensures same_size { result ≡ OUT_OF_RANGE → size.new ≡ size.old }
     ensures statuses { (result ≡ DONE) ⊎ ((result ≡ OUT_OF_RANGE) ⊎ (result ≡ NO_ROOM)) }
 {

@@ -5,7 +5,8 @@
 //! at a task. Only making one takes memory.
 
 ghost use Rattle.std.specs.Prelude.{◌≡◌, IfOk, OnErr, OnOk};
-ghost use Rattle.pid_types.specs.Changes.{count_tasks, make_control as make_control_of, remove_control as remove_control_of, set_limit as set_limit_of};
+ghost use Rattle.pid_types.specs.Changes.{count_tasks, make_control as make_control_of};
+ghost use Rattle.pid_types.specs.Changes.{remove_control as remove_control_of, set_limit as set_limit_of};
 ghost use Rattle.pid_types.specs.Sound.{IsBelow};
 ghost use Rattle.pid_types.specs.Short.{reply_of};
 ghost use Rattle.task_table.specs.View.{state_of};

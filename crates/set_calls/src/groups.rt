@@ -37,7 +37,8 @@ fn find_target(store: &Tasks, caller: &Found, space: SpaceKey, pid: i32) -> Opti
     requires there { task_at store.now.tree caller.now.key ≡ Some caller.now.task }
     requires own { id_at store.now.numbering space ≡ Some (name_at store.now.numbering caller.now.key).space }
     ensures there { IfSome result (λ f. task_at store.now.tree f.key ≡ Some f.task) }
-    ensures row { target_of (state_of store.now) (row_of store.now caller.now.key caller.now.task) pid ≡ option_map (λ (f : Found). row_of store.now f.key f.task) result }
+    ensures row { target_of (state_of store.now) (row_of store.now caller.now.key caller.now.task) pid
+        ≡ option_map (λ (f : Found). row_of store.now f.key f.task) result }
 {
     match u32::try_from(pid) {
         Ok(0) => Some(*caller),
@@ -75,7 +76,9 @@ fn named_target(store: &Tasks, caller: &Found, space: SpaceKey, pid: i32) -> Opt
 fn choose(store: &Tasks, caller: Pid, pid: i32, pgid: i32) -> Result<Move, Refusal>
     requires { IsWhole store.now }
     ensures outcome { MatchResult result
-        (λ m. set_pgid_of (state_of store.now) caller pid pgid ≡ changed (with_row (state_of store.now) (name_at store.now.numbering m.task) (set_group (name_at store.now.numbering m.group))) Reply.Done)
+        (λ m. set_pgid_of (state_of store.now) caller pid pgid
+        ≡ changed (with_row (state_of store.now) (name_at store.now.numbering m.task)
+        (set_group (name_at store.now.numbering m.group))) Reply.Done)
         (λ r. set_pgid_of (state_of store.now) caller pid pgid ≡ refused (state_of store.now) r) }
     ensures may { IfOk result (λ m. MayJoin store.now m.task m.group) }
 {
@@ -135,7 +138,8 @@ pub fn set_pgid(store: &mut Tasks, caller: Pid, pid: i32, pgid: i32) -> ShortRep
 /// The number of a task in its own namespace.
 fn own_number(store: &Tasks, key: TaskKey) -> Pid
     requires { IsSome (task_at store.now.tree key) }
-    ensures { result ≡ number_or_zero (state_of store.now).spaces (name_at store.now.numbering key) (name_at store.now.numbering key).space }
+    ensures { result ≡ number_or_zero (state_of store.now).spaces (name_at store.now.numbering key)
+        (name_at store.now.numbering key).space }
 {
     laws(store);
     let space = own_space(store, key);

@@ -6,7 +6,8 @@
 
 ghost use Rattle.std.specs.Prelude.{◌≡◌, IsSome};
 ghost use Rattle.task_tree.specs.Tree.{task_at};
-ghost use Rattle.pid_types.specs.Changes.{exec as exec_of, join as join_of, set_subreaper as set_subreaper_of, move_task as move_of};
+ghost use Rattle.pid_types.specs.Changes.{exec as exec_of, join as join_of, set_subreaper as set_subreaper_of};
+ghost use Rattle.pid_types.specs.Changes.{move_task as move_of};
 ghost use Rattle.pid_types.specs.Short.{reply_of};
 ghost use Rattle.task_table.specs.View.{name_at, state_of};
 ghost use Rattle.task_table.specs.Whole.{IsWhole, HasParents};

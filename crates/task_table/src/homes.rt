@@ -14,7 +14,8 @@ use task_tree::Task;
 pub(crate) fn leave_home(controls: &mut Controls, task: &Task)
     requires live { lives task.now ≡ true → 0 < live_at controls.old task.now.home }
     requires ended { lives task.now ≡ false → 0 < zombies_at controls.old task.now.home }
-    ensures home { ChangesHome controls.old controls.new task.now.home (option_and_then (λ (h : Home). kept (home_without task.now h)) (home_at controls.old task.now.home)) }
+    ensures home { ChangesHome controls.old controls.new task.now.home
+        (option_and_then (λ (h : Home). kept (home_without task.now h)) (home_at controls.old task.now.home)) }
     ensures tasks { all_tasks controls.new + 1 ≡ all_tasks controls.old }
 {
     if matches!(task.life, Life::Live) {

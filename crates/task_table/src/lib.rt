@@ -5,7 +5,8 @@
 //! refuse nothing and decide nothing: each makes one change that a call of the table is made of.
 #![tactic(auto)]
 
-ghost use Rattle.std.specs.Prelude.{◌≡◌, ◌≢◌, ℕ, ◌+◌, ◌-◌, ◌<◌, ◌≤◌, ◌^◌, length, option_map, option_and_then, Some, None, true, false, IsSome, IfOk, OnOk, OnErr, [], ◌∷◌, slice_set};
+ghost use Rattle.std.specs.Prelude.{◌≡◌, ◌≢◌, ℕ, ◌+◌, ◌-◌, ◌<◌, ◌≤◌, ◌^◌, length, option_map, option_and_then, Some};
+ghost use Rattle.std.specs.Prelude.{None, true, false, IsSome, IfOk, OnOk, OnErr, [], ◌∷◌, slice_set};
 ghost use Rattle.std.specs.Prelude.{◌==◌, ◌↔◌, ◌++◌, not, map, filter, find, is_none, unwrap_or, drop, Err};
 ghost use Rattle.std.specs.List.{AllByRecursion};
 ghost use Rattle.std.specs.Result.{result_err};
@@ -19,8 +20,11 @@ ghost use Rattle.pid_types.specs.Controls.{control_path, parent_control};
 ghost use Rattle.pid_types.specs.Changes.{limited};
 ghost use Rattle.pids_charge.specs.declared.ControlFault.{ControlFault};
 ghost use Rattle.pid_types.specs.declared.plain.Life.{Life};
-ghost use Rattle.pid_numbers.specs.Numbering.{namespace_at, identifier_at, number_of, path_at, has_fallen_at, HasOwnTask, fallen_within, draw_in, moved as cursor_moved, new_namespace, new_identifier, Identifier};
-ghost use Rattle.pids_charge.specs.Charges.{Charges, Home, home_at, id_at, stands, kept, moved, handed_on, remove_refusal, limit_refusal, ChangesHome};
+ghost use Rattle.pid_numbers.specs.Numbering.{namespace_at, identifier_at, number_of, path_at, has_fallen_at};
+ghost use Rattle.pid_numbers.specs.Numbering.{HasOwnTask, fallen_within, draw_in, moved as cursor_moved, new_namespace};
+ghost use Rattle.pid_numbers.specs.Numbering.{new_identifier, Identifier};
+ghost use Rattle.pids_charge.specs.Charges.{Charges, Home, home_at, id_at, stands, kept, moved, handed_on};
+ghost use Rattle.pids_charge.specs.Charges.{remove_refusal, limit_refusal, ChangesHome};
 ghost use Rattle.task_tree.specs.Tree.{task_at, parent_of, rank_of, lives, handed};
 ghost use Rattle.groups_sessions.specs.Membership.{Membership, membership_at, group_of, session_of, AreInSession};
 ghost use Rattle.task_table.specs.Store.{IsStore, IsLess, IsSame, Begins, home_without};
@@ -62,7 +66,8 @@ impl Model for Tasks {
 
     ghost view = { λ a. record { numbering = a.numbers; tree = a.tree; members = a.members; charges = a.controls } };
 
-    ghost invariant = { λ a. IsStore (record { numbering = a.numbers; tree = a.tree; members = a.members; charges = a.controls }) };
+    ghost invariant = { λ a. IsStore (record { numbering = a.numbers; tree = a.tree; members = a.members;
+      charges = a.controls }) };
 }
 
 impl Tasks {
@@ -138,8 +143,11 @@ impl Tasks {
         requires stands { stands self.old.charges to ≡ true }
         ensures tasks { self.new.tree.tasks ≡ slice_set self.old.tree.tasks key (Some (record task { home = to })) }
         ensures controls { self.new.charges.controls ≡ self.old.charges.controls }
-        ensures homes { (k : ℕ) → home_at self.new.charges k ≡ option_map (moved task.home to k) (home_at self.old.charges k) }
-        ensures rest { self.new ≡ record self.old { tree = record self.old.tree { tasks = self.new.tree.tasks }; charges = self.new.charges } }
+        ensures homes { (k : ℕ) → home_at self.new.charges k
+            ≡ option_map (moved task.home to k) (home_at self.old.charges k) }
+        ensures rest { self.new
+            ≡ record self.old { tree = record self.old.tree { tasks = self.new.tree.tasks };
+                charges = self.new.charges } }
     {
         self.controls.transfer(task.home, to);
         self.tree.update(key, Task { home: to, ..task });
@@ -150,10 +158,15 @@ impl Tasks {
     pub fn finish(&mut self, key: TaskKey, task: Task, end: Ended)
         requires there { task_at self.old.tree key ≡ Some task }
         requires live { lives task ≡ true }
-        requires visible { (p : ℕ) → parent_of self.old.tree key ≡ Some p → (u : Identifier) × (identifier_at self.old.numbering p ≡ Some u) × IsSome (number_of self.old.numbering key u.space) }
-        ensures tasks { self.new.tree.tasks ≡ slice_set self.old.tree.tasks key (Some (record task { life = Life.Zombie end })) }
+        requires visible { (p : ℕ) → parent_of self.old.tree key ≡ Some p
+            → (u : Identifier) × (identifier_at self.old.numbering p ≡ Some u)
+            × IsSome (number_of self.old.numbering key u.space) }
+        ensures tasks { self.new.tree.tasks ≡ slice_set self.old.tree.tasks key
+            (Some (record task { life = Life.Zombie end })) }
         ensures parents { self.new.tree.parents ≡ self.old.tree.parents }
-        ensures home { ChangesHome self.old.charges self.new.charges task.home (option_map (λ (h : Home). record h { live = h.live - 1; zombies = h.zombies + 1 }) (home_at self.old.charges task.home)) }
+        ensures home { ChangesHome self.old.charges self.new.charges task.home
+            (option_map (λ (h : Home). record h { live = h.live - 1; zombies = h.zombies + 1 })
+            (home_at self.old.charges task.home)) }
         ensures rest { (self.new.numbering ≡ self.old.numbering) × (self.new.members ≡ self.old.members) }
     {
         self.numbers.laws();
@@ -167,8 +180,11 @@ impl Tasks {
     #[inline(always)]
     fn rank_for(&self, key: TaskKey) -> Pid
         requires key { key < length self.now.tree.tasks }
-        requires visible { (p : ℕ) → parent_of self.now.tree key ≡ Some p → (u : Identifier) × (identifier_at self.now.numbering p ≡ Some u) × IsSome (number_of self.now.numbering key u.space) }
-        ensures { (p : ℕ) → parent_of self.now.tree key ≡ Some p → (u : Identifier) → identifier_at self.now.numbering p ≡ Some u → number_of self.now.numbering key u.space ≡ Some result }
+        requires visible { (p : ℕ) → parent_of self.now.tree key ≡ Some p
+            → (u : Identifier) × (identifier_at self.now.numbering p ≡ Some u)
+            × IsSome (number_of self.now.numbering key u.space) }
+        ensures { (p : ℕ) → parent_of self.now.tree key ≡ Some p → (u : Identifier)
+            → identifier_at self.now.numbering p ≡ Some u → number_of self.now.numbering key u.space ≡ Some result }
     {
         let Some(parent) = self.tree.parent(key) else {
             return 0;
@@ -184,9 +200,11 @@ impl Tasks {
         requires differ { from ≢ to }
         requires from { from < length self.old.tree.tasks }
         requires to { to < length self.old.tree.tasks }
-        requires beside { (u : Identifier) × (v : Identifier) × (identifier_at self.old.numbering from ≡ Some u) × (identifier_at self.old.numbering to ≡ Some v) × (u.space ≡ v.space) }
+        requires beside { (u : Identifier) × (v : Identifier) × (identifier_at self.old.numbering from ≡ Some u)
+            × (identifier_at self.old.numbering to ≡ Some v) × (u.space ≡ v.space) }
         ensures tasks { self.new.tree.tasks ≡ self.old.tree.tasks }
-        ensures parents { (k : ℕ) → parent_of self.new.tree k ≡ option_map (handed from to) (parent_of self.old.tree k) }
+        ensures parents { (k : ℕ) → parent_of self.new.tree k
+            ≡ option_map (handed from to) (parent_of self.old.tree k) }
         ensures rest { self.new ≡ record self.old { tree = self.new.tree } }
     {
         self.numbers.laws();
@@ -199,7 +217,8 @@ impl Tasks {
         requires group { IsSome (identifier_at self.old.numbering group) }
         requires room { group < length self.old.members }
         requires together { (s : ℕ) → session_of self.old.members key ≡ Some s → AreInSession self.old.members group s }
-        ensures members { self.new.members ≡ slice_set self.old.members key (option_map (λ (m : Membership). record m { group = group }) (membership_at self.old.members key)) }
+        ensures members { self.new.members ≡ slice_set self.old.members key
+            (option_map (λ (m : Membership). record m { group = group }) (membership_at self.old.members key)) }
         ensures numbers { IsLess self.old.numbering self.new.numbering }
         ensures rest { (self.new.tree ≡ self.old.tree) × (self.new.charges ≡ self.old.charges) }
     {
@@ -217,7 +236,8 @@ impl Tasks {
     pub fn start_session(&mut self, key: TaskKey)
         requires there { IsSome (membership_at self.old.members key) }
         requires free { (k : ℕ) → group_of self.old.members k ≢ Some key }
-        ensures members { self.new.members ≡ slice_set self.old.members key (Some (record { group = key; session = key })) }
+        ensures members { self.new.members ≡ slice_set self.old.members key
+            (Some (record { group = key; session = key })) }
         ensures numbers { IsLess self.old.numbering self.new.numbering }
         ensures rest { (self.new.tree ≡ self.old.tree) × (self.new.charges ≡ self.old.charges) }
     {
@@ -239,7 +259,8 @@ impl Tasks {
         ensures parent { parent_of self.new.tree key ≡ None }
         ensures parents { (k : ℕ) → k ≢ key → parent_of self.new.tree k ≡ parent_of self.old.tree k }
         ensures members { self.new.members ≡ slice_set self.old.members key None }
-        ensures home { ChangesHome self.old.charges self.new.charges task.home (option_and_then (λ (h : Home). kept (home_without task h)) (home_at self.old.charges task.home)) }
+        ensures home { ChangesHome self.old.charges self.new.charges task.home
+            (option_and_then (λ (h : Home). kept (home_without task h)) (home_at self.old.charges task.home)) }
         ensures numbers { IsLess self.old.numbering self.new.numbering }
     {
         self.numbers.laws();
@@ -261,11 +282,20 @@ impl Tasks {
     ) -> Result<ControlKey, ControlFault>
         requires stands { stands self.old.charges parent ≡ true }
         requires above { AllByRecursion (λ g. g.id < stamp) self.old.charges.controls }
-        ensures controls { OnOk result (self.new.charges.controls ≡ self.old.charges.controls ++ record { id = stamp; parent = Some (id_at self.old.charges parent); limit = None } ∷ []) }
+        ensures controls { OnOk result (self.new.charges.controls
+            ≡ self.old.charges.controls ++ record {
+              id = stamp;
+              parent = Some
+                  (id_at self.old.charges parent);
+              limit = None;
+            } ∷ []) }
         ensures fresh { IfOk result (λ key. home_at self.old.charges key ≡ None) }
-        ensures here { IfOk result (λ key. home_at self.new.charges key ≡ Some (record { id = stamp; stands = true; live = 0; zombies = 0 })) }
-        ensures others { IfOk result (λ key. (k : ℕ) → k ≢ key → home_at self.new.charges k ≡ home_at self.old.charges k) }
-        ensures deep { (result ≡ Err ControlFault.ControlDepth) ↔ (deepest_control < length (control_path self.old.charges.controls (id_at self.old.charges parent))) }
+        ensures here { IfOk result (λ key. home_at self.new.charges key
+            ≡ Some (record { id = stamp; stands = true; live = 0; zombies = 0 })) }
+        ensures others { IfOk result (λ key. (k : ℕ) → k ≢ key
+            → home_at self.new.charges k ≡ home_at self.old.charges k) }
+        ensures deep { (result ≡ Err ControlFault.ControlDepth)
+            ↔ (deepest_control < length (control_path self.old.charges.controls (id_at self.old.charges parent))) }
         ensures err { OnErr result (self.new ≡ self.old) }
         ensures rest { self.new ≡ record self.old { charges = self.new.charges } }
     {
@@ -276,9 +306,12 @@ impl Tasks {
     pub fn remove_control(&mut self, c: ControlKey) -> Result<(), Refusal>
         requires { stands self.old.charges c ≡ true }
         ensures refusal { result_err result ≡ remove_refusal self.old.charges c }
-        ensures controls { OnOk result (self.new.charges.controls ≡ filter (λ g. not (g.id == id_at self.old.charges c)) self.old.charges.controls) }
-        ensures homes { OnOk result ((parent : ℕ) → parent_control self.old.charges.controls (id_at self.old.charges c) ≡ Some parent
-            → (k : ℕ) → home_at self.new.charges k ≡ option_and_then (handed_on (id_at self.old.charges c) parent) (home_at self.old.charges k)) }
+        ensures controls { OnOk result (self.new.charges.controls
+            ≡ filter (λ g. not (g.id == id_at self.old.charges c)) self.old.charges.controls) }
+        ensures homes { OnOk result ((parent : ℕ)
+            → parent_control self.old.charges.controls (id_at self.old.charges c) ≡ Some parent
+            → (k : ℕ) → home_at self.new.charges k
+            ≡ option_and_then (handed_on (id_at self.old.charges c) parent) (home_at self.old.charges k)) }
         ensures err { OnErr result (self.new ≡ self.old) }
         ensures rest { self.new ≡ record self.old { charges = self.new.charges } }
     {
@@ -289,7 +322,8 @@ impl Tasks {
     pub fn set_limit(&mut self, c: ControlKey, limit: Option<u32>) -> Result<(), Refusal>
         requires { stands self.old.charges c ≡ true }
         ensures refusal { result_err result ≡ limit_refusal self.old.charges c limit }
-        ensures controls { OnOk result (self.new.charges.controls ≡ map (limited (id_at self.old.charges c) limit) self.old.charges.controls) }
+        ensures controls { OnOk result (self.new.charges.controls
+            ≡ map (limited (id_at self.old.charges c) limit) self.old.charges.controls) }
         ensures homes { (k : ℕ) → home_at self.new.charges k ≡ home_at self.old.charges k }
         ensures err { OnErr result (self.new ≡ self.old) }
         ensures rest { self.new ≡ record self.old { charges = self.new.charges } }
@@ -300,11 +334,13 @@ impl Tasks {
     /// The namespace and all inside it have fallen: [`Numbers::fell`].
     pub fn fell(&mut self, space: SpaceKey)
         requires inner { space ≢ 0 }
-        requires homes { (s : ℕ) → contains (path_at self.old.numbering s) space ≡ true → has_fallen_at self.old.numbering s ≡ false
+        requires homes { (s : ℕ) → contains (path_at self.old.numbering s) space ≡ true
+            → has_fallen_at self.old.numbering s ≡ false
             → HasOwnTask (identifier_at self.old.numbering) s }
         ensures names { self.new.numbering.names ≡ self.old.numbering.names }
         ensures order { self.new.numbering.order ≡ self.old.numbering.order }
-        ensures namespaces { (s : ℕ) → namespace_at self.new.numbering s ≡ option_map (fallen_within space) (namespace_at self.old.numbering s) }
+        ensures namespaces { (s : ℕ) → namespace_at self.new.numbering s
+            ≡ option_map (fallen_within space) (namespace_at self.old.numbering s) }
         ensures bound { self.new.numbering.pid_max ≡ self.old.numbering.pid_max }
         ensures rest { self.new ≡ record self.old { numbering = self.new.numbering } }
     {
@@ -344,10 +380,13 @@ impl Tasks {
         requires home { stands self.old.charges task.home ≡ true }
         requires there { IsSome (namespace_at self.old.numbering space) }
         requires all { find (λ s. is_none (draw_in self.old.numbering s)) (path_at self.old.numbering space) ≡ None }
-        requires planned { numbers.now ≡ map (λ s. unwrap_or (draw_in self.old.numbering s) 0) (path_at self.old.numbering space) }
+        requires planned { numbers.now ≡ map (λ s. unwrap_or (draw_in self.old.numbering s) 0)
+            (path_at self.old.numbering space) }
         ensures begun { IfOk result (λ key. Begins self.old self.new key from task (new_identifier space numbers.now)) }
         ensures order { self.new.numbering.order ≡ self.old.numbering.order }
-        ensures namespaces { OnOk result ((s : ℕ) → namespace_at self.new.numbering s ≡ option_map (cursor_moved (path_at self.old.numbering space) numbers.now s) (namespace_at self.old.numbering s)) }
+        ensures namespaces { OnOk result ((s : ℕ)
+            → namespace_at self.new.numbering s ≡ option_map
+            (cursor_moved (path_at self.old.numbering space) numbers.now s) (namespace_at self.old.numbering s)) }
         ensures err { OnErr result (IsSame self.old self.new) }
     {
         let key = self.make_room()?;
@@ -387,11 +426,17 @@ impl Tasks {
         requires shallow { length (path_at self.old.numbering outer) ≤ deepest_space }
         requires above { AreBelow self.old.numbering.order id }
         requires all { find (λ s. is_none (draw_in self.old.numbering s)) (path_at self.old.numbering outer) ≡ None }
-        requires planned { numbers.now ≡ 1 ∷ map (λ s. unwrap_or (draw_in self.old.numbering s) 0) (path_at self.old.numbering outer) }
-        ensures begun { IfOk result (λ keys. Begins self.old self.new keys.0 (Some from) task (new_identifier keys.1 numbers.now)) }
+        requires planned { numbers.now ≡ 1 ∷ map (λ s. unwrap_or (draw_in self.old.numbering s) 0)
+            (path_at self.old.numbering outer) }
+        ensures begun { IfOk result (λ keys. Begins self.old self.new keys.0 (Some from) task
+            (new_identifier keys.1 numbers.now)) }
         ensures fresh { IfOk result (λ keys. namespace_at self.old.numbering keys.1 ≡ None) }
-        ensures made { IfOk result (λ keys. namespace_at self.new.numbering keys.1 ≡ Some (record (new_namespace id (keys.1 ∷ path_at self.old.numbering outer)) { cursor = 2 })) }
-        ensures namespaces { IfOk result (λ keys. (s : ℕ) → s ≢ keys.1 → namespace_at self.new.numbering s ≡ option_map (cursor_moved (path_at self.old.numbering outer) (drop 1 numbers.now) s) (namespace_at self.old.numbering s)) }
+        ensures made { IfOk result (λ keys. namespace_at self.new.numbering keys.1
+            ≡ Some (record (new_namespace id (keys.1 ∷ path_at self.old.numbering outer)) { cursor = 2 })) }
+        ensures namespaces { IfOk result (λ keys. (s : ℕ) → s ≢ keys.1
+            → namespace_at self.new.numbering s ≡ option_map
+            (cursor_moved (path_at self.old.numbering outer) (drop 1 numbers.now) s)
+            (namespace_at self.old.numbering s)) }
         ensures order { IfOk result (λ keys. self.new.numbering.order ≡ self.old.numbering.order ++ (id, keys.1) ∷ []) }
         ensures err { OnErr result (IsSame self.old self.new) }
     {

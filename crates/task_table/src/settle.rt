@@ -1,6 +1,7 @@
 //! A new task takes its place in each part.
 
-ghost use Rattle.std.specs.Prelude.{◌≡◌, ◌≢◌, ℕ, ◌+◌, ◌<◌, ◌≤◌, ◌^◌, ◌==◌, ◌&&◌, length, option_map, Some, None, true, IsSome, slice_set};
+ghost use Rattle.std.specs.Prelude.{◌≡◌, ◌≢◌, ℕ, ◌+◌, ◌<◌, ◌≤◌, ◌^◌, ◌==◌, ◌&&◌, length, option_map, Some, None, true};
+ghost use Rattle.std.specs.Prelude.{IsSome, slice_set};
 ghost use Rattle.pid_types.specs.declared.call.Kind.{Kind};
 ghost use Rattle.pid_numbers.specs.Numbering.{identifier_at};
 ghost use Rattle.pids_charge.specs.Charges.{Home, home_at, stands, all_tasks, ChangesHome};
@@ -42,12 +43,14 @@ pub(crate) fn settle(
     requires from { (p : ℕ) → from ≡ Some p → IsSome (membership_at members.old p) × (p < length tree.old.tasks) }
     requires live { lives task ≡ true }
     requires own { IsSome (identifier_at numbers.old key) }
-    requires named { (k : ℕ) (m : Membership) → membership_at members.old k ≡ Some m → IsSome (identifier_at numbers.old m.group) × IsSome (identifier_at numbers.old m.session) }
+    requires named { (k : ℕ) (m : Membership) → membership_at members.old k ≡ Some m
+        → IsSome (identifier_at numbers.old m.group) × IsSome (identifier_at numbers.old m.session) }
     requires free { (k : ℕ) → group_of members.old k ≢ Some key }
     requires few { (k : Kind) (i : ℕ) → uses_at numbers.old k i ≤ 2 ^ 30 }
     requires home { stands controls.old task.home ≡ true }
     requires all { all_tasks controls.old + 1 < 2 ^ 64 }
-    ensures uses { (k : Kind) (i : ℕ) → uses_at numbers.new k i ≡ uses_at numbers.old k i + use_of (joins members.old from key) k i }
+    ensures uses { (k : Kind) (i : ℕ) → uses_at numbers.new k i
+        ≡ uses_at numbers.old k i + use_of (joins members.old from key) k i }
     ensures bare { (i : ℕ) → bare_at numbers.new i ≡ bare_at numbers.old i }
     ensures namespaces { numbers.new.namespaces ≡ numbers.old.namespaces }
     ensures order { numbers.new.order ≡ numbers.old.order }
@@ -57,7 +60,8 @@ pub(crate) fn settle(
     ensures parents { (k : ℕ) → k ≢ key → parent_of tree.new k ≡ parent_of tree.old k }
     ensures ranks { tree.new.ended ≡ tree.old.ended }
     ensures members { members.new ≡ slice_set members.old key (joins members.old from key) }
-    ensures charged { ChangesHome controls.old controls.new task.home (option_map (λ (h : Home). record h { live = h.live + 1 }) (home_at controls.old task.home)) }
+    ensures charged { ChangesHome controls.old controls.new task.home
+        (option_map (λ (h : Home). record h { live = h.live + 1 }) (home_at controls.old task.home)) }
     ensures count { all_tasks controls.new ≡ all_tasks controls.old + 1 }
 {
     members.laws();

@@ -13,7 +13,8 @@ use pid_types::keys::IdentKey;
 #[inline(always)]
 pub(crate) fn take_use(numbers: &mut Numbers, ident: IdentKey, kind: Kind)
     requires { 0 < uses_at numbers.old kind ident }
-    ensures uses { (k : Kind) (i : ℕ) → uses_at numbers.new k i + one_if ((i == ident) && is_kind k kind) ≡ uses_at numbers.old k i }
+    ensures uses { (k : Kind) (i : ℕ) → uses_at numbers.new k i + one_if ((i == ident) && is_kind k kind)
+        ≡ uses_at numbers.old k i }
     ensures less { IsLess numbers.old numbers.new }
 {
     numbers.drop_use(ident, kind);
@@ -24,7 +25,9 @@ pub(crate) fn take_use(numbers: &mut Numbers, ident: IdentKey, kind: Kind)
 pub(crate) fn take_uses(numbers: &mut Numbers, group: IdentKey, session: IdentKey)
     requires group { 0 < uses_at numbers.old Kind.Group group }
     requires session { 0 < uses_at numbers.old Kind.Session session }
-    ensures uses { (k : Kind) (i : ℕ) → uses_at numbers.new k i + one_if ((i == group) && is_kind k Kind.Group) + one_if ((i == session) && is_kind k Kind.Session) ≡ uses_at numbers.old k i }
+    ensures uses { (k : Kind) (i : ℕ) → uses_at numbers.new k i + one_if
+        ((i == group) && is_kind k Kind.Group) + one_if ((i == session) && is_kind k Kind.Session)
+        ≡ uses_at numbers.old k i }
     ensures less { IsLess numbers.old numbers.new }
 {
     numbers.laws();
@@ -38,7 +41,9 @@ pub(crate) fn add_uses(numbers: &mut Numbers, group: IdentKey, session: IdentKey
     requires group { IsSome (identifier_at numbers.old group) }
     requires session { IsSome (identifier_at numbers.old session) }
     requires few { (k : Kind) (i : ℕ) → uses_at numbers.old k i ≤ 2 ^ 30 }
-    ensures uses { (k : Kind) (i : ℕ) → uses_at numbers.new k i ≡ uses_at numbers.old k i + one_if ((i == group) && is_kind k Kind.Group) + one_if ((i == session) && is_kind k Kind.Session) }
+    ensures uses { (k : Kind) (i : ℕ) → uses_at numbers.new k i
+        ≡ uses_at numbers.old k i + one_if ((i == group) && is_kind k Kind.Group) + one_if
+        ((i == session) && is_kind k Kind.Session) }
     ensures bare { (i : ℕ) → bare_at numbers.new i ≡ bare_at numbers.old i }
     ensures namespaces { numbers.new.namespaces ≡ numbers.old.namespaces }
     ensures order { numbers.new.order ≡ numbers.old.order }

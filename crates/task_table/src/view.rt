@@ -59,9 +59,12 @@ pub fn is_live(task: &Task) -> bool
 /// The task with the number in the namespace, zombies among them. It costs one search in the namespace's
 /// tree of numbers.
 pub fn find_task(store: &Tasks, space: SpaceKey, number: Pid) -> Option<Found>
-    ensures there { IfSome result (λ f. (task_at store.now.tree f.key ≡ Some f.task) × (number_of store.now.numbering f.key space ≡ Some number)) }
-    ensures nobody { result ≡ None → (k : ℕ) → (t : Task) → task_at store.now.tree k ≡ Some t → number_of store.now.numbering k space ≢ Some number }
-    ensures row { (i : ℕ) → id_at store.now.numbering space ≡ Some i → task_in (state_of store.now) i number ≡ option_map (λ (f : Found). row_of store.now f.key f.task) result }
+    ensures there { IfSome result (λ f. (task_at store.now.tree f.key ≡ Some f.task)
+        × (number_of store.now.numbering f.key space ≡ Some number)) }
+    ensures nobody { result ≡ None → (k : ℕ) → (t : Task) → task_at store.now.tree k ≡ Some t
+        → number_of store.now.numbering k space ≢ Some number }
+    ensures row { (i : ℕ) → id_at store.now.numbering space ≡ Some i
+        → task_in (state_of store.now) i number ≡ option_map (λ (f : Found). row_of store.now f.key f.task) result }
 {
     laws(store);
     let Some(key) = store.numbers().find(space, number) else {
@@ -76,7 +79,8 @@ pub fn find_task(store: &Tasks, space: SpaceKey, number: Pid) -> Option<Found>
 /// The live task with the number in the root namespace. It costs one search in the root's tree of numbers.
 pub fn find_live(store: &Tasks, number: Pid) -> Option<Found>
     ensures there { IfSome result (λ f. (task_at store.now.tree f.key ≡ Some f.task) × (lives f.task ≡ true)) }
-    ensures row { live_row (state_of store.now).rows number ≡ option_map (λ (f : Found). row_of store.now f.key f.task) result }
+    ensures row { live_row (state_of store.now).rows number
+        ≡ option_map (λ (f : Found). row_of store.now f.key f.task) result }
 {
     laws(store);
     match find_task(store, 0, number) {

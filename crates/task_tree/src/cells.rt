@@ -1,5 +1,6 @@
 //! Tasks by key, and how many of them are subreapers.
-ghost use Rattle.std.specs.Prelude.{◌≡◌, ℕ, ◌<◌, ◌≤◌, ◌^◌, length, None, true, false, OnOk, OnErr, [], ◌∷◌, ◌++◌, slice_set, slice_index_or};
+ghost use Rattle.std.specs.Prelude.{◌≡◌, ℕ, ◌<◌, ◌≤◌, ◌^◌, length, None, true, false, OnOk, OnErr, [], ◌∷◌, ◌++◌};
+ghost use Rattle.std.specs.Prelude.{slice_set, slice_index_or};
 ghost use Rattle.task_tree.specs.Tree.{is_subreaper};
 
 use crate::Task;

@@ -1,5 +1,6 @@
 //! Children that have ended: by rank, and one after the other.
-ghost use Rattle.std.specs.Prelude.{◌≡◌, ◌≢◌, ℕ, ◌<◌, ◌^◌, length, option_map, Some, None, IsSome, MatchOption, OnOk, OnErr, [], ◌∷◌, ◌++◌, slice_set};
+ghost use Rattle.std.specs.Prelude.{◌≡◌, ◌≢◌, ℕ, ◌<◌, ◌^◌, length, option_map, Some, None, IsSome, MatchOption, OnOk};
+ghost use Rattle.std.specs.Prelude.{OnErr, [], ◌∷◌, ◌++◌, slice_set};
 ghost use Rattle.member_queues.specs.Ranks.{ranked, IsLeast};
 ghost use Rattle.task_tree.specs.Ended.{AreEnded};
 ghost use Rattle.task_tree.specs.Tree.{handed};
@@ -39,8 +40,8 @@ impl EndedChildren {
         }
     }
 
-    /// Makes room for one more key, which has no parent. The error is want of memory, and then nothing has changed that another call
-    /// shows.
+    /// Makes room for one more key, which has no parent. The error is want of memory, and then nothing has changed that
+    /// another call shows.
     #[inline(always)]
     pub(crate) fn grow(&mut self) -> Result<(), AllocError>
         requires { length self.old < 2 ^ 30 }
@@ -71,7 +72,8 @@ impl EndedChildren {
     /// The ended child that has the least rank. It costs one read.
     pub(crate) fn least(&self, parent: TaskKey) -> Option<TaskKey>
         requires { parent < length self.now }
-        ensures { MatchOption result ((k r : ℕ) → ranked self.now k ≢ Some (parent, r)) (λ k. IsLeast self.now parent k) }
+        ensures { MatchOption result ((k r : ℕ) → ranked self.now k ≢ Some (parent, r))
+            (λ k. IsLeast self.now parent k) }
     {
         self.queues.least(parent)
     }

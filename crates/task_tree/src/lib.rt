@@ -7,7 +7,8 @@
 //! A task may be removed while it has children; they keep its key as their parent's.
 #![tactic(auto)]
 
-ghost use Rattle.std.specs.Prelude.{◌≡◌, ◌≢◌, ℕ, ◌+◌, ◌<◌, ◌≤◌, ◌^◌, length, option_map, Some, None, true, false, IsSome, MatchOption, OnOk, OnErr, [], ◌∷◌, ◌++◌, slice_set};
+ghost use Rattle.std.specs.Prelude.{◌≡◌, ◌≢◌, ℕ, ◌+◌, ◌<◌, ◌≤◌, ◌^◌, length, option_map, Some, None, true, false};
+ghost use Rattle.std.specs.Prelude.{IsSome, MatchOption, OnOk, OnErr, [], ◌∷◌, ◌++◌, slice_set};
 ghost use Rattle.pid_types.specs.declared.plain.Life.{Life};
 ghost use Rattle.member_lists.specs.Owners.{AreMembers};
 ghost use Rattle.member_queues.specs.Ranks.{IsLeast};
@@ -134,7 +135,8 @@ impl TaskTree {
     /// Some child of the task, if it has any.
     pub fn first_child(&self, parent: TaskKey) -> Option<TaskKey>
         requires { parent < length self.now.tasks }
-        ensures { MatchOption result ((k : ℕ) → parent_of self.now k ≢ Some parent) (λ k. parent_of self.now k ≡ Some parent) }
+        ensures { MatchOption result ((k : ℕ) → parent_of self.now k ≢ Some parent)
+            (λ k. parent_of self.now k ≡ Some parent) }
     {
         self.children.first(parent)
     }
@@ -159,7 +161,8 @@ impl TaskTree {
     /// reaps.
     pub fn least_ended(&self, parent: TaskKey) -> Option<TaskKey>
         requires { parent < length self.now.tasks }
-        ensures least { MatchOption result ((k r : ℕ) → rank_of self.now k ≢ Some (parent, r)) (λ k. IsLeast self.now.ended parent k) }
+        ensures least { MatchOption result ((k r : ℕ) → rank_of self.now k ≢ Some (parent, r))
+            (λ k. IsLeast self.now.ended parent k) }
     {
         self.ended.least(parent)
     }
@@ -175,7 +178,8 @@ impl TaskTree {
     /// What is true of all tasks at any time; the call does nothing. Those that have ended, and no others, wait
     /// for their parent, and no parent has two with one rank. Who has a parent is a task.
     pub fn laws(&self)
-        ensures waiting { (k : ℕ) → option_map (λ (m : ℕ × ℕ). m.0) (rank_of self.now k) ≡ waits_for (task_at self.now k) (parent_of self.now k) }
+        ensures waiting { (k : ℕ) → option_map (λ (m : ℕ × ℕ). m.0) (rank_of self.now k)
+            ≡ waits_for (task_at self.now k) (parent_of self.now k) }
         ensures apart { (j k p r : ℕ) → rank_of self.now j ≡ Some (p, r) → rank_of self.now k ≡ Some (p, r) → j ≡ k }
         ensures absent { (k : ℕ) → task_at self.now k ≡ None → parent_of self.now k ≡ None }
         ensures known { (k p : ℕ) → parent_of self.now k ≡ Some p → p < length self.now.tasks }
@@ -236,7 +240,8 @@ impl TaskTree {
         requires apart { (j k r : ℕ) → rank_of self.old j ≡ Some (from, r) → rank_of self.old k ≢ Some (to, r) }
         ensures tasks { self.new.tasks ≡ self.old.tasks }
         ensures parents { (k : ℕ) → parent_of self.new k ≡ option_map (handed from to) (parent_of self.old k) }
-        ensures ranks { (k : ℕ) → rank_of self.new k ≡ option_map (λ (m : ℕ × ℕ). (handed from to m.0, m.1)) (rank_of self.old k) }
+        ensures ranks { (k : ℕ) → rank_of self.new k
+            ≡ option_map (λ (m : ℕ × ℕ). (handed from to m.0, m.1)) (rank_of self.old k) }
     {
         hand_all(&mut self.children, &mut self.ended, from, to);
     }

@@ -115,7 +115,8 @@ pub(crate) fn hand_all(
     requires waiting { IsWaiting children.old ended.old }
     requires apart { (j k r : ℕ) → ranked ended.old j ≡ Some (from, r) → ranked ended.old k ≢ Some (to, r) }
     ensures parents { (k : ℕ) → owner_of children.new k ≡ option_map (handed from to) (owner_of children.old k) }
-    ensures ranks { (k : ℕ) → ranked ended.new k ≡ option_map (λ (m : ℕ × ℕ). (handed from to m.0, m.1)) (ranked ended.old k) }
+    ensures ranks { (k : ℕ) → ranked ended.new k
+        ≡ option_map (λ (m : ℕ × ℕ). (handed from to m.0, m.1)) (ranked ended.old k) }
     ensures keys { (length children.new ≡ length children.old) × (length ended.new ≡ length ended.old) }
 {
     children.move_all(from, to);

@@ -1,12 +1,13 @@
-//! Queries over the tasks of a table: `getpid(2)`, `getppid(2)`, `getpgid(2)`, `getsid(2)`, `NSpid` of `proc_pid_status(5)`, and the
-//! next number in use. In `shown` is the plain state as a whole.
+//! Queries over the tasks of a table: `getpid(2)`, `getppid(2)`, `getpgid(2)`, `getsid(2)`, `NSpid` of
+//! `proc_pid_status(5)`, and the next number in use. In `shown` is the plain state as a whole.
 //!
 //! Each query costs a search or two in a tree of numbers and a few reads, `NSpid` a read for each level. They take no
 //! memory and change nothing.
 #![tactic(auto)]
 
 ghost use Rattle.std.specs.Prelude.{◌≡◌};
-ghost use Rattle.pid_types.specs.Queries.{get_pid as get_pid_of, get_ppid as get_ppid_of, get_pgid as get_pgid_of, get_sid as get_sid_of, ns_pid as ns_pid_of, next as next_of};
+ghost use Rattle.pid_types.specs.Queries.{get_pid as get_pid_of, get_ppid as get_ppid_of, get_pgid as get_pgid_of};
+ghost use Rattle.pid_types.specs.Queries.{get_sid as get_sid_of, ns_pid as ns_pid_of, next as next_of};
 ghost use Rattle.pid_types.specs.Short.{reply_of};
 ghost use Rattle.pid_types.specs.declared.call.Call.TheVariants as calls;
 ghost use Rattle.task_table.specs.View.{state_of};

@@ -1,7 +1,8 @@
 //! The queries, each as the model answers it.
 ghost use Rattle.std.specs.Prelude.{◌≡◌, ℕ, Some, IsSome, IfSome, option_map};
 ghost use Rattle.pid_types.specs.Names.{number_or_zero};
-ghost use Rattle.pid_types.specs.Queries.{get_pid as get_pid_of, get_ppid as get_ppid_of, get_pgid as get_pgid_of, get_sid as get_sid_of, ns_pid as ns_pid_of, next as next_of, self_or_task};
+ghost use Rattle.pid_types.specs.Queries.{get_pid as get_pid_of, get_ppid as get_ppid_of, get_pgid as get_pgid_of};
+ghost use Rattle.pid_types.specs.Queries.{get_sid as get_sid_of, ns_pid as ns_pid_of, next as next_of, self_or_task};
 ghost use Rattle.pid_types.specs.Short.{reply_of};
 ghost use Rattle.pid_numbers.specs.Numbering.{id_at, identifier_at};
 ghost use Rattle.task_tree.specs.declared.Task.{Task};
@@ -20,7 +21,8 @@ use task_table::view::{Found, find_live, find_task, laws, own_space};
 /// The number of an identifier in a namespace, 0 where it is not visible there.
 fn seen(store: &Tasks, space: SpaceKey, key: IdentKey) -> Pid
     requires { IsSome (identifier_at store.now.numbering key) }
-    ensures { (i : ℕ) → id_at store.now.numbering space ≡ Some i → result ≡ number_or_zero (state_of store.now).spaces (name_at store.now.numbering key) i }
+    ensures { (i : ℕ) → id_at store.now.numbering space ≡ Some i
+        → result ≡ number_or_zero (state_of store.now).spaces (name_at store.now.numbering key) i }
 {
     laws(store);
     store.numbers().number_in(key, space).unwrap_or(0)
@@ -29,7 +31,8 @@ fn seen(store: &Tasks, space: SpaceKey, key: IdentKey) -> Pid
 /// The number of a task in a namespace.
 fn seen_task(store: &Tasks, space: SpaceKey, key: IdentKey) -> Pid
     requires { IsSome (task_at store.now.tree key) }
-    ensures { (i : ℕ) → id_at store.now.numbering space ≡ Some i → result ≡ number_or_zero (state_of store.now).spaces (name_at store.now.numbering key) i }
+    ensures { (i : ℕ) → id_at store.now.numbering space ≡ Some i
+        → result ≡ number_or_zero (state_of store.now).spaces (name_at store.now.numbering key) i }
 {
     laws(store);
     seen(store, space, key)
@@ -38,7 +41,8 @@ fn seen_task(store: &Tasks, space: SpaceKey, key: IdentKey) -> Pid
 /// The number of a task's group in a namespace.
 pub(crate) fn seen_group(store: &Tasks, space: SpaceKey, found: &Found) -> Pid
     requires { task_at store.now.tree found.now.key ≡ Some found.now.task }
-    ensures { (i : ℕ) → id_at store.now.numbering space ≡ Some i → result ≡ number_or_zero (state_of store.now).spaces (row_of store.now found.now.key found.now.task).group i }
+    ensures { (i : ℕ) → id_at store.now.numbering space ≡ Some i
+        → result ≡ number_or_zero (state_of store.now).spaces (row_of store.now found.now.key found.now.task).group i }
 {
     laws(store);
     let group = store.members().group(found.key);
@@ -48,7 +52,9 @@ pub(crate) fn seen_group(store: &Tasks, space: SpaceKey, found: &Found) -> Pid
 /// The number of a task's session in a namespace.
 pub(crate) fn seen_session(store: &Tasks, space: SpaceKey, found: &Found) -> Pid
     requires { task_at store.now.tree found.now.key ≡ Some found.now.task }
-    ensures { (i : ℕ) → id_at store.now.numbering space ≡ Some i → result ≡ number_or_zero (state_of store.now).spaces (row_of store.now found.now.key found.now.task).session i }
+    ensures { (i : ℕ) → id_at store.now.numbering space ≡ Some i
+        → result ≡ number_or_zero (state_of store.now).spaces
+        (row_of store.now found.now.key found.now.task).session i }
 {
     laws(store);
     let session = store.members().session(found.key);
@@ -106,7 +112,8 @@ pub(crate) fn self_or_task(
     requires there { task_at store.now.tree caller.now.key ≡ Some caller.now.task }
     requires own { id_at store.now.numbering space ≡ Some (name_at store.now.numbering caller.now.key).space }
     ensures there { IfSome result (λ f. task_at store.now.tree f.key ≡ Some f.task) }
-    ensures row { option_map (λ (f : Found). row_of store.now f.key f.task) result ≡ self_or_task (state_of store.now) (row_of store.now caller.now.key caller.now.task) pid }
+    ensures row { option_map (λ (f : Found). row_of store.now f.key f.task) result
+        ≡ self_or_task (state_of store.now) (row_of store.now caller.now.key caller.now.task) pid }
 {
     if pid == 0 {
         Some(*caller)

@@ -84,8 +84,8 @@ fn no_row() -> Row {
     }
 }
 
-/// Adds the row of a task, which is written where it stands: a row has room for four names of 33 numbers. The error is want of
-/// memory.
+/// Adds the row of a task, which is written where it stands: a row has room for four names of 33 numbers. The error is
+/// want of memory.
 fn push_row(store: &Tasks, found: &Found, rows: &mut Vec<Row>) -> Result<(), AllocError>
     requires parents { HasParents store.now }
     requires there { task_at store.now.tree found.now.key ≡ Some found.now.task }

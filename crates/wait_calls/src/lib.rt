@@ -26,7 +26,8 @@ use task_tree::Task;
 /// By which key the wait selects; none where it names a number that nobody has in the caller's namespace.
 fn selected(store: &Tasks, caller: TaskKey, space: SpaceKey, which: Which) -> Option<Selected>
     requires { IsSome (task_at store.now.tree caller) }
-    ensures { MatchOption result (IsUnknown store.now space which) (λ selected. Means store.now caller space which selected) }
+    ensures { MatchOption result (IsUnknown store.now space which)
+        (λ selected. Means store.now caller space which selected) }
 {
     store.laws();
     match which {
@@ -41,7 +42,8 @@ fn selected(store: &Tasks, caller: TaskKey, space: SpaceKey, which: Which) -> Op
 fn choose_child(store: &Tasks, caller: TaskKey, which: Which) -> Choice
     requires parents { HasParents store.now }
     requires caller { IsSome (task_at store.now.tree caller) }
-    ensures { (t : Task) → task_at store.now.tree caller ≡ Some t → IsTold store.now (row_of store.now caller t) which result }
+    ensures { (t : Task) → task_at store.now.tree caller ≡ Some t
+        → IsTold store.now (row_of store.now caller t) which result }
 {
     laws(store);
     store.tree().laws();

@@ -87,7 +87,8 @@ fn look_at_children(
     requires { AllByRecursion (λ k. parent_of store.now.tree k ≡ Some caller) children.old }
     ensures children { AllByRecursion (λ k. parent_of store.now.tree k ≡ Some caller) children.new }
     ensures some { result ≡ Looked.Match → (k : ℕ) × IsMatch store.now caller (Group group) k }
-    ensures left { result ≢ Looked.Match → (k : ℕ) → group_of store.now.members k ≡ Some group → times k children.new ≡ times k children.old }
+    ensures left { result ≢ Looked.Match → (k : ℕ) → group_of store.now.members k ≡ Some group
+        → times k children.new ≡ times k children.old }
     ensures end { result ≡ Looked.End → children.new ≡ [] }
 {
     for _ in 0..CHILDREN_A_MEMBER {
@@ -115,8 +116,8 @@ fn any_member_is_child(store: &Tasks, caller: TaskKey, group: IdentKey) -> bool
     false
 }
 
-/// Whether some child is in the group. Each of the two lists alone has all such children. The walk is over the children, and
-/// passes a member for each few of them; it is over the members instead where these end first.
+/// Whether some child is in the group. Each of the two lists alone has all such children. The walk is over the
+/// children, and passes a member for each few of them; it is over the members instead where these end first.
 fn has_match(store: &Tasks, caller: TaskKey, group: IdentKey) -> bool
     requires caller { IsSome (task_at store.now.tree caller) }
     requires group { group < length store.now.members }
