@@ -1,4 +1,4 @@
-use Rattle.std.proofs.Common.{◌≡◌, ◌≢◌}
+use Rattle.std.proofs.Common.{◌≢◌}
 use Rattle.member_queues.specs.Heap.{nil, node_at}
 use Rattle.member_queues.proofs.is_long.Given as goal
 
