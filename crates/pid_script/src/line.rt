@@ -413,7 +413,7 @@ fn any_line(line: &[u8]) -> Line
     line_of_call(call)
 }
 
-/// What a line of few bytes says, but of one or more.
+/// What a short line says that has a byte. Of the commands that fit into seven bytes, `fork` is the frequent one.
 #[inline(always)]
 fn short_line(line: &[u8]) -> Line
     requires { 0 < length line.now }
