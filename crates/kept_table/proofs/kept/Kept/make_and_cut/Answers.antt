@@ -28,9 +28,7 @@ cut_with-requires-clause-others c = λ bare w lt other.
 pub invariant_of-self-2 : goal.invariant_of-self-2
 invariant_of-self-2 c =
     let e : Entry = record { worker = c.args.worker; call = c.args.call; reply = (step c.self.inside.table c.in-Some.stamp c.args.call).reply } in
-    let calls = c.count_call.new.calls.items in
-    subst (λ copy. IsKeptWhole copy calls (told _ copy _ c.cut_with.new.cut.items c.cut_with.new.history.items _ calls _)) (sym c.forget.ensures)
-    (whole-cut c.soundness_is_kept.ensures.run c.bound_stays.ensures _ calls c.cut_with.new.cut.items _ e c.cut_with.new.history.items _ _ 0 c.self.invariant.counted
+    rw c.forget.ensures (whole-cut c.soundness_is_kept.ensures.run c.bound_stays.ensures _ _ _ _ e _ _ _ _ c.self.invariant.counted
     refl
     (search rules)
     (search rules)
