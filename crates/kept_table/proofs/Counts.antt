@@ -1,5 +1,6 @@
 -- Counts of workers, of which one rises.
-use Rattle.std.proofs.Common.{◌≡◌, ℕ, ◌+◌, ◌^◌, ◌<◌, ◌≤◌, List, [], ◌∷◌, ◌++◌, length, length-append, length-set, set, replicate, Option, Some, None, sum, cond, Bool, true, false, eqb, refl, sym, ap, ◌∙◌, subst, arith, inl, inr}
+use Rattle.std.proofs.Common.{◌≡◌, ◌≢◌, ℕ, ◌+◌, ◌^◌, ◌<◌, ◌≤◌, List, [], ◌∷◌, ◌++◌, length, length-append, length-set, set, replicate, Option, Some, None, sum, cond, Bool, true, false, eqb, refl, sym, ap, ◌∙◌, subst, arith, inl, inr}
+use Rattle.std.proofs.lemmas.Bool.{ne_eqb}
 use Rattle.std.proofs.lemmas.Bool.Decides.{eqb_tells}
 use Rattle.std.proofs.lemmas.List.Sums.{sum_by-set, sum_by_push}
 use Rattle.std.proofs.lemmas.List.{get_or-set_same, get_or-set_other}
@@ -111,6 +112,14 @@ whole-push (Some copy) config first cut calls calls' before entries old present 
   counted = counted-push calls calls' (told config (Some copy) first cut before old calls r) e entries present room k.counted refl are known fits is each all len;
   bare = λ none. absurd (cc);
 }
+
+-- where no copy was taken, a call more leaves all counts but its worker's as they were cut
+pub cut_by_one : (copy : Option State) (calls calls' : List ℕ) (c : Chronicle) (worker : ℕ) → IsKeptWhole copy calls c → copy ≡ None
+    → ((w : ℕ) → slice_index calls' w ≡ slice_index calls w + one_of worker w) → (w : ℕ) → w < length calls → w ≢ worker → slice_index calls' w ≡ slice_index c.cut w
+cut_by_one copy calls calls' c worker k none each w lt other =
+    let none_of : by_worker w c.entries ≡ 0 = ap (by_worker w) (k.bare none) in
+    let same : one_of worker w ≡ 0 = one_no worker w (ne_eqb worker w (λ e. other (sym e))) in
+    omega (arith, each w, same, none_of, k.counted.each w (omega (arith, lt, k.counted.len)))
 
 -- one recorded call more, which is cut away at once: the state that it leaves becomes the opening
 pub whole-cut : RunsKeepSoundness → BoundStays → (calls calls' cut : List ℕ) (c : Chronicle) (e : Entry) (entries : List Entry) (present : State) (first room : ℕ) → IsKeptCounted calls c → c.booked ≡ sum calls → e.worker < length c.cut → (next_stamp c + 1) < 2 ^ 64

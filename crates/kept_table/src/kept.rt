@@ -351,8 +351,14 @@ impl Kept {
         self.table.step(stamp, call, reply)?;
         count_call(&mut self.calls, worker);
         self.first_kept += self.history.len() as u64 + 1;
-        cut_away(&mut self.history, &mut self.cut, self.calls.as_slice());
-        self.copy = None;
+        cut_with(
+            &mut self.history,
+            &mut self.cut,
+            self.calls.as_slice(),
+            worker,
+            self.copy.is_none(),
+        );
+        forget(&mut self.copy);
         Ok(())
     }
 }
@@ -413,6 +419,42 @@ fn enter_call(
         history.truncate(place);
     }
     made
+}
+
+/// Forgets the copy, which mostly is not there.
+#[inline(always)]
+fn forget(copy: &mut Option<Opening>)
+    ensures { copy.new ≡ None }
+{
+    if copy.is_some() {
+        *copy = None;
+    }
+}
+
+/// Cuts all entries away, and keeps how many calls of each worker there were by then. Where there are no entries, only
+/// the count of the worker who made the last call differs, and no other is copied.
+#[inline(always)]
+fn cut_with(
+    history: &mut Vec<Entry>,
+    cut: &mut Vec<u64>,
+    calls: &[u64],
+    worker: usize,
+    is_bare: bool,
+)
+    requires known { worker < length calls.now }
+    requires len { length cut.old.items ≡ length calls.now }
+    requires bare { IsTrue is_bare → history.old.items ≡ [] }
+    requires others { IsTrue is_bare
+        → (w : ℕ) → w < length calls.now → w ≢ worker → slice_index calls.now w ≡ slice_index cut.old.items w }
+    ensures entries { history.new.items ≡ [] }
+    ensures capacity { vec_capacity history.new ≡ vec_capacity history.old }
+    ensures counts { cut.new.items ≡ calls.now }
+{
+    if is_bare {
+        cut[worker] = calls[worker];
+    } else {
+        cut_away(history, cut, calls);
+    }
 }
 
 /// Cuts all entries away, and keeps how many calls of each worker there were by then.
