@@ -63,8 +63,13 @@ fn id_of(store: &Tasks, space: SpaceKey) -> u64
 
 /// A child of the task, before it has executed, whose own children go into the namespace with the id.
 fn child_of(found: &Found, children_space: u64) -> Task
-    ensures { result ≡ record { children_space = children_space; home = found.now.task.home; executed = false;
-        subreaper = false; life = Life.Live } }
+    ensures { result ≡ record {
+      children_space = children_space;
+      home = found.now.task.home;
+      executed = false;
+      subreaper = false;
+      life = Life.Live;
+    } }
 {
     Task {
         children_space,

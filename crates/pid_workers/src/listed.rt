@@ -46,7 +46,7 @@ pub fn list_text_split<R: Threads>(
         || -> Result<Vec<u8>, AllocError>
             ensures { IfOk result (λ text. text.items
                 ≡ flat_map task_line back.entry.now ++ (flat_map space_line plain.entry.now.spaces.items
-        ++ flat_map control_line plain.entry.now.controls.items)) }
+                ++ flat_map control_line plain.entry.now.controls.items)) }
         { rest_text(alloc, back, plain) },
     );
     let mut text = first?;

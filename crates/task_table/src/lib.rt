@@ -66,8 +66,12 @@ impl Model for Tasks {
 
     ghost view = { λ a. record { numbering = a.numbers; tree = a.tree; members = a.members; charges = a.controls } };
 
-    ghost invariant = { λ a. IsStore (record { numbering = a.numbers; tree = a.tree; members = a.members;
-      charges = a.controls }) };
+    ghost invariant = { λ a. IsStore (record {
+      numbering = a.numbers;
+      tree = a.tree;
+      members = a.members;
+      charges = a.controls;
+    }) };
 }
 
 impl Tasks {
@@ -146,8 +150,10 @@ impl Tasks {
         ensures homes { (k : ℕ) → home_at self.new.charges k
             ≡ option_map (moved task.home to k) (home_at self.old.charges k) }
         ensures rest { self.new
-            ≡ record self.old { tree = record self.old.tree { tasks = self.new.tree.tasks };
-                charges = self.new.charges } }
+            ≡ record self.old {
+              tree = record self.old.tree { tasks = self.new.tree.tasks };
+              charges = self.new.charges;
+            } }
     {
         self.controls.transfer(task.home, to);
         self.tree.update(key, Task { home: to, ..task });
