@@ -162,7 +162,7 @@ func placesOf(saved []byte) []int {
 		if levels := int(saved[at+6]); saved[at+3] == 3 && levels > 4 {
 			blocks += (levels - 4 + 9) / 10
 		}
-		at += blocks * block
+		at += blocks * blockSize
 		places = append(places, at)
 	}
 	return places
