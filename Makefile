@@ -246,9 +246,9 @@ bindings-c:
 bindings-rust:
 	$(call tested,cargo,out/libpidtab.a,cd bindings/rust && cargo test --offline --quiet)
 
-# Go does not see that a header or an archive outside of its package has changed: so the header's sum is a flag, and no result is kept.
+# Go does not see that a header or an archive outside of its package has changed: so the headers' sum is a flag, and no result is kept.
 bindings-go:
-	$(call tested,go,out/libpidtab.a,export CGO_CFLAGS="-DHEADER_$$(cksum < out/pidtab.h | cut -d ' ' -f 1)" && \
+	$(call tested,go,out/libpidtab.a,export CGO_CFLAGS="-DHEADER_$$(cat $(HEADERS:%=out/%) | cksum | cut -d ' ' -f 1)" && \
 		cd bindings/go && go vet ./... && { ! gofmt -l . | grep .; } && go test -count=1 ./...)
 
 .PHONY: replicated

@@ -12,7 +12,7 @@ import (
 func unbuilt(t *testing.T) string {
 	t.Helper()
 	root := t.TempDir()
-	for _, pattern := range []string{"bindings/go/*.go", "bindings/go/go.mod", "bindings/c/pidtab.h"} {
+	for _, pattern := range []string{"bindings/go/*.go", "bindings/go/go.mod", "bindings/c/*.h"} {
 		files, err := filepath.Glob("../../" + pattern)
 		if err != nil || len(files) == 0 {
 			t.Fatal(pattern, err)

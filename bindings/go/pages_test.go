@@ -133,7 +133,7 @@ func ran(t *testing.T, code string) string {
 
 func TestTheExamplesOfThePage(t *testing.T) {
 	page := read(t, "bindings/go/README.md")
-	for _, title := range []string{"Example", "A table for many goroutines, with its history"} {
+	for _, title := range []string{"Example", "A table for many goroutines, with its history", "A saved history"} {
 		if said := ran(t, block(t, page, title, "go")); said != block(t, page, title, "text") {
 			t.Errorf("%s: %s", title, said)
 		}

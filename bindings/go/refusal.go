@@ -1,6 +1,6 @@
 package pidtab
 
-// #include <pidtab.h>
+// #include <pidtab_saved.h>
 import "C"
 
 import (
@@ -104,6 +104,14 @@ func faultOf(status uint32) error {
 		return ErrAgain
 	case C.PIDTAB_DIFFERS:
 		return ErrDiffers
+	case C.PIDTAB_TORN:
+		return ErrTorn
+	case C.PIDTAB_NOT_SAVED:
+		return ErrNotSaved
+	case C.PIDTAB_OTHER_VERSION:
+		return ErrOtherVersion
+	case C.PIDTAB_WRONG_BYTE:
+		return ErrWrongByte
 	}
 	return fmt.Errorf("pidtab: the library answers with the status %d", status)
 }

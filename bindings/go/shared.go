@@ -34,11 +34,10 @@ type Shared struct {
 
 // A heldRecord is a record of the library, with its lock. It stays where it is, and is never copied.
 type heldRecord struct {
-	lock    sync.Mutex
-	raw     C.struct_pidtab_record
-	keep    uint64
-	workers uint32
-	seated  uint32
+	lock     sync.Mutex
+	raw      C.struct_pidtab_record
+	settings Settings
+	seated   uint32
 }
 
 // OpenShared makes a table with the root init alone. ErrOutOfRange for settings outside their ranges, ErrNoMemory.
@@ -49,7 +48,7 @@ func OpenShared(settings Settings) (*Shared, error) {
 	if settings.FirstStamp == 0 {
 		settings.FirstStamp = 1
 	}
-	held := &heldRecord{keep: settings.Keep, workers: settings.Workers}
+	held := &heldRecord{settings: settings}
 	status := C.pidtab_record_open(&held.raw, C.uint32_t(settings.PidMax), C.uint64_t(settings.FirstStamp), C.uint32_t(settings.Workers))
 	if err := faultOf(uint32(status)); err != nil {
 		return nil, err
@@ -64,6 +63,11 @@ func (shared *Shared) Close() {
 	shared.held().close()
 }
 
+// Settings are those that the table was opened with; behind a load, Keep is 0.
+func (shared *Shared) Settings() Settings {
+	return shared.held().settings
+}
+
 // Seat is a seat for the next worker. Each worker's number is given once, from 0 on. ErrOutOfRange where all are given.
 func (shared *Shared) Seat() (*Seat, error) {
 	held := shared.held()
@@ -72,7 +76,7 @@ func (shared *Shared) Seat() (*Seat, error) {
 	if !held.raw.is_open {
 		return nil, ErrClosed
 	}
-	if held.seated == held.workers {
+	if held.seated == held.settings.Workers {
 		return nil, ErrOutOfRange
 	}
 	own := &seated{held: held, worker: held.seated}
@@ -262,10 +266,11 @@ func (held *heldRecord) counts() (Counts, error) {
 // cutWhereLong cuts a history that is to cut itself, where it is long enough. A cut that finds no memory is tried again behind the next call.
 // The lock is held.
 func (held *heldRecord) cutWhereLong() {
-	if held.keep == 0 {
+	keep := held.settings.Keep
+	if keep == 0 {
 		return
 	}
-	if counts, err := held.counts(); err == nil && counts.Recorded-counts.FirstKept >= held.keep {
+	if counts, err := held.counts(); err == nil && counts.Recorded-counts.FirstKept >= keep {
 		C.pidtab_record_checkpoint(&held.raw)
 	}
 }

@@ -1,11 +1,16 @@
-//! That `raw.rs` is `bindings/c/pidtab.h`: its numbers, structs and functions.
+//! That `raw.rs` is `bindings/c/pidtab.h`, and what it has of `pidtab_saved.h`: numbers, structs and functions.
 use crate::raw::*;
 use crate::Refusal;
 use std::fs;
 
-/// The header without its comments, each run of white space one space.
+/// `pidtab.h`.
 fn header() -> String {
-    let path = concat!(env!("CARGO_MANIFEST_DIR"), "/../c/pidtab.h");
+    bare("pidtab.h")
+}
+
+/// A header without its comments, each run of white space one space.
+fn bare(name: &str) -> String {
+    let path = format!("{}/../c/{name}", env!("CARGO_MANIFEST_DIR"));
     let text = fs::read_to_string(path).expect("the header");
     let mut parts = text.split("/*");
     let mut bare = parts.next().expect("a first part").to_owned();
@@ -228,5 +233,39 @@ fn the_functions_on_a_record_are_those_of_the_header() {
     ] {
         let name = format!("record_{name}");
         same_function(&header, &name, "pidtab_record *record", others);
+    }
+}
+
+/// The header has the status with this number.
+fn same_status(header: &str, name: &str, number: u32) {
+    let enumerated = body(header, "enum pidtab_saved_status");
+    let mut words = enumerated.split(", ").map(|it| it.trim());
+    assert!(
+        words.any(|it| it == format!("PIDTAB_{name} = {number}")),
+        "{name}"
+    );
+}
+
+#[test]
+fn what_is_used_of_a_saved_history_is_that_of_its_header() {
+    let header = bare("pidtab_saved.h");
+    same_status(&header, "NOT_SAVED", NOT_SAVED);
+    same_status(&header, "TORN", TORN);
+    same_status(&header, "WRONG_BYTE", WRONG_BYTE);
+    same_status(&header, "OTHER_VERSION", OTHER_VERSION);
+    for (name, number) in [("BLOCK", SAVED_BLOCK), ("LONGEST", SAVED_LONGEST)] {
+        let defined = format!("#define PIDTAB_SAVED_{name} {number} ");
+        assert!(header.contains(&defined), "{name}");
+    }
+    let head = "uint32_t pid_max; uint32_t workers; uint64_t first_stamp;";
+    same_struct(&header, "pidtab_saved_head", head);
+    let behind = "size_t *size, uint64_t *sum);";
+    for declared in [
+        "uint32_t pidtab_saved_put_head(const struct pidtab_saved_head *head, void *bytes, size_t room, ",
+        "uint32_t pidtab_saved_put(const struct pidtab_entry *entry, void *bytes, size_t room, ",
+        "uint32_t pidtab_saved_take_head(const void *bytes, size_t length, struct pidtab_saved_head *head, ",
+        "uint32_t pidtab_saved_take(const void *bytes, size_t length, struct pidtab_entry *entry, ",
+    ] {
+        assert!(header.contains(&format!("{declared}{behind}")), "{declared}");
     }
 }

@@ -15,7 +15,8 @@
 //! # Ok::<(), Error>(())
 //! ```
 //!
-//! A [`Shared`] is such a table for many threads, with its history. The calls are those of [`Calls`] for both.
+//! A [`Shared`] is such a table for many threads, with its history, which [`Shared::save`] writes and [`Shared::load`] reads. The calls are
+//! those of [`Calls`] for both.
 //!
 //! The library's functions are proved to be the steps of a model. This crate is not proved; it keeps the rules at the head of
 //! `pidtab.h`, which the library leaves to its callers.
@@ -28,12 +29,14 @@ mod header;
 mod listing;
 mod numbers;
 mod raw;
+mod saved;
 mod shared;
 mod texts;
 
 pub use calls::{Call, Calls, Kind, Reply, Which};
 pub use fault::{Error, LineError, Refusal, ReplayError};
 pub use listing::{BadList, Control, Listing, Space, Task};
+pub use saved::{Saved, SavedError, SavedFault};
 pub use shared::{Counts, Entry, Locked, Options, Record, Seat, Shared, Turn};
 
 use std::fmt;
@@ -77,6 +80,13 @@ pub struct Reaped {
 /// ```compile_fail,E0004
 /// use pidtab::LineError::*;
 /// fn all(it: pidtab::LineError) { match it { Empty | Bad | NoMemory | Spent | Busy => {} } }
+/// ```
+///
+/// ```compile_fail,E0004
+/// use pidtab::SavedFault::*;
+/// fn all(it: pidtab::SavedFault) {
+///     match it { Io(_) | Torn | NotSaved | OtherVersion | WrongByte | Settings | OtherTable | Table(_) => {} }
+/// }
 /// ```
 ///
 /// ```compile_fail,E0004

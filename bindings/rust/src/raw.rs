@@ -1,5 +1,5 @@
-//! `bindings/c/pidtab.h` by hand: its numbers, structs and functions, and an owner for each struct that is opened and closed. All unsafe code
-//! of the crate is here. `header.rs` compares the first part with the header.
+//! `bindings/c/pidtab.h` by hand, and what of `pidtab_saved.h` works in memory: numbers, structs and functions, and an owner for each struct
+//! that is opened and closed. All unsafe code of the crate is here. `header.rs` compares the first part with the headers.
 #![allow(unsafe_code)]
 
 use std::ffi::c_void;
@@ -20,6 +20,11 @@ pub(crate) const SPENT: u32 = 75;
 pub(crate) const NOT_KEPT: u32 = 2;
 pub(crate) const AGAIN: u32 = 11;
 pub(crate) const DIFFERS: u32 = 74;
+
+pub(crate) const NOT_SAVED: u32 = 8;
+pub(crate) const TORN: u32 = 42;
+pub(crate) const WRONG_BYTE: u32 = 84;
+pub(crate) const OTHER_VERSION: u32 = 93;
 
 pub(crate) const FORK: u32 = 0;
 pub(crate) const GETPID: u32 = 1;
@@ -66,6 +71,8 @@ pub(crate) const LEVELS_MAX: usize = 33;
 pub(crate) const LONGEST_ANSWER: usize = 362;
 #[cfg(test)]
 pub(crate) const MOST_WORKERS: u32 = 16;
+pub(crate) const SAVED_BLOCK: usize = 48;
+pub(crate) const SAVED_LONGEST: usize = 192;
 
 /// A table, or none, or a record, or none: it begins as zeroes. The two structs of the header are alike.
 #[repr(C)]
@@ -145,6 +152,15 @@ impl Entry {
     }
 }
 
+/// The settings that a record is opened with, as the head of a saved history has them.
+#[repr(C)]
+#[derive(Clone, Copy, Debug, Default, PartialEq)]
+pub(crate) struct SavedHead {
+    pub(crate) pid_max: u32,
+    pub(crate) workers: u32,
+    pub(crate) first_stamp: u64,
+}
+
 const _: () = {
     assert!(size_of::<Held>() == 16);
     assert!(offset_of!(Held, at) == 0 && offset_of!(Held, is_open) == 8);
@@ -161,6 +177,8 @@ const _: () = {
     assert!(offset_of!(Reply, levels) == 32);
     assert!(size_of::<Entry>() == 208 && offset_of!(Entry, worker) == 0);
     assert!(offset_of!(Entry, call) == 8 && offset_of!(Entry, reply) == 40);
+    assert!(size_of::<SavedHead>() == 16 && offset_of!(SavedHead, pid_max) == 0);
+    assert!(offset_of!(SavedHead, workers) == 4 && offset_of!(SavedHead, first_stamp) == 8);
 };
 
 extern "C" {
@@ -233,6 +251,34 @@ extern "C" {
         bytes: *mut c_void,
         room: usize,
         size: *mut usize,
+    ) -> u32;
+    fn pidtab_saved_put_head(
+        head: *const SavedHead,
+        bytes: *mut c_void,
+        room: usize,
+        size: *mut usize,
+        sum: *mut u64,
+    ) -> u32;
+    fn pidtab_saved_put(
+        entry: *const Entry,
+        bytes: *mut c_void,
+        room: usize,
+        size: *mut usize,
+        sum: *mut u64,
+    ) -> u32;
+    fn pidtab_saved_take_head(
+        bytes: *const c_void,
+        length: usize,
+        head: *mut SavedHead,
+        size: *mut usize,
+        sum: *mut u64,
+    ) -> u32;
+    fn pidtab_saved_take(
+        bytes: *const c_void,
+        length: usize,
+        entry: *mut Entry,
+        size: *mut usize,
+        sum: *mut u64,
     ) -> u32;
 }
 
@@ -433,4 +479,36 @@ impl Drop for Record {
         // SAFETY: the record is lent to this call alone; one that is not open stays so. No other thread is in it, so it is closed.
         unsafe { pidtab_record_close(&mut *self.held) };
     }
+}
+
+/// Writes the head of a saved history: how many bytes it has. It begins the running checksum.
+pub(crate) fn put_head(head: &SavedHead, bytes: &mut [u8], sum: &mut u64) -> Result<usize, u32> {
+    let (at, room, mut size) = (bytes.as_mut_ptr().cast(), bytes.len(), 0);
+    // SAFETY: the bytes are a slice with this length; the function keeps no pointer, and no two of the four overlap.
+    let status = unsafe { pidtab_saved_put_head(head, at, room, &mut size, sum) };
+    done(status, size)
+}
+
+/// Writes an entry of a saved history: how many bytes it has.
+pub(crate) fn put_entry(entry: &Entry, bytes: &mut [u8], sum: &mut u64) -> Result<usize, u32> {
+    let (at, room, mut size) = (bytes.as_mut_ptr().cast(), bytes.len(), 0);
+    // SAFETY: as above.
+    let status = unsafe { pidtab_saved_put(entry, at, room, &mut size, sum) };
+    done(status, size)
+}
+
+/// Reads the head of a saved history from the front of the bytes, with the place for its size.
+pub(crate) fn take_head(bytes: &[u8], size: &mut usize, sum: &mut u64) -> Result<SavedHead, u32> {
+    let (at, length, mut head) = (bytes.as_ptr().cast(), bytes.len(), SavedHead::default());
+    // SAFETY: as above.
+    let status = unsafe { pidtab_saved_take_head(at, length, &mut head, size, sum) };
+    done(status, head)
+}
+
+/// Reads an entry of a saved history from the front of the bytes, with the place for its size, or for that of its first wrong block.
+pub(crate) fn take_entry(bytes: &[u8], size: &mut usize, sum: &mut u64) -> Result<Entry, u32> {
+    let (at, length, mut entry) = (bytes.as_ptr().cast(), bytes.len(), Entry::blank());
+    // SAFETY: as above.
+    let status = unsafe { pidtab_saved_take(at, length, &mut entry, size, sum) };
+    done(status, entry)
 }

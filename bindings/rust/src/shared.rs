@@ -6,7 +6,7 @@ use crate::calls::sealed::Sealed;
 use crate::{raw, texts, Call, Calls, Error, LineError, Listing, ReplayError, Reply};
 use std::fmt;
 use std::ops::{Deref, DerefMut};
-use std::sync::atomic::{AtomicU32, Ordering};
+use std::sync::atomic::{AtomicU32, AtomicU64, Ordering};
 use std::sync::{Mutex, MutexGuard, PoisonError};
 
 /// A recorded call with its reply.
@@ -38,7 +38,7 @@ pub struct Options {
     pid_max: u32,
     workers: u32,
     first_stamp: u64,
-    keep: u64,
+    pub(crate) keep: u64,
 }
 
 impl Options {
@@ -71,11 +71,19 @@ impl Options {
         };
         Ok(Shared {
             record: Mutex::new(record),
-            workers: self.workers,
+            head: raw::SavedHead {
+                pid_max: self.pid_max,
+                workers: self.workers,
+                first_stamp: self.first_stamp,
+            },
+            number: NEXT_NUMBER.fetch_add(1, Ordering::Relaxed),
             seated: AtomicU32::new(0),
         })
     }
 }
+
+/// Each table of this process has a number of its own, from 1 on, by which a [`Saved`](crate::Saved) knows it.
+static NEXT_NUMBER: AtomicU64 = AtomicU64::new(1);
 
 /// A table of processes for many threads at once, with its history. It is closed when it is dropped.
 ///
@@ -106,7 +114,8 @@ impl Options {
 /// A thread that panics harms no other: each function of the record ends first, and the lock is given back.
 pub struct Shared {
     record: Mutex<Record>,
-    workers: u32,
+    pub(crate) head: raw::SavedHead,
+    pub(crate) number: u64,
     seated: AtomicU32,
 }
 
@@ -133,12 +142,27 @@ impl Shared {
         }
     }
 
+    /// Below which all its numbers are.
+    pub fn pid_max(&self) -> u32 {
+        self.head.pid_max
+    }
+
+    /// How many workers it has.
+    pub fn workers(&self) -> u32 {
+        self.head.workers
+    }
+
+    /// The stamp of its first call.
+    pub fn first_stamp(&self) -> u64 {
+        self.head.first_stamp
+    }
+
     /// A seat for the next worker. Each worker's number is given once, from 0 on; a seat that is dropped is not given again.
     ///
     /// # Errors
     /// `OutOfRange` where all are given.
     pub fn seat(&self) -> Result<Seat<'_>, Error> {
-        let next = |seated| (seated < self.workers).then_some(seated + 1);
+        let next = |seated| (seated < self.head.workers).then_some(seated + 1);
         let given = self
             .seated
             .fetch_update(Ordering::Relaxed, Ordering::Relaxed, next);
@@ -323,13 +347,21 @@ impl Record {
         loop {
             let wanted = BATCH.min(most - entries.len());
             let next = from + entries.len() as u64;
-            let read = self.raw.read(next, &mut room[..wanted]);
-            let read = read.map_err(Error::of)?;
+            let read = self.read_numbers(next, &mut room[..wanted])?;
             entries.extend((next..).zip(&room[..read]).map(|it| Entry::of(it.0, it.1)));
             if read < BATCH {
                 return Ok(entries);
             }
         }
+    }
+
+    /// Reads the kept entries from the ordinal on, as numbers: how many.
+    pub(crate) fn read_numbers(
+        &mut self,
+        from: u64,
+        room: &mut [raw::Entry],
+    ) -> Result<usize, Error> {
+        self.raw.read(from, room).map_err(Error::of)
     }
 
     /// Cuts the history: the present state is the opening from now on, and ordinals go on. It costs a copy of the whole table.
@@ -387,15 +419,26 @@ impl Record {
             for (numbers, entry) in room.iter_mut().zip(entries) {
                 *numbers = entry.numbers();
             }
-            let mut place = 0;
-            let status = self.raw.replay(&room[..entries.len()], &mut place);
-            self.cut_where_long();
-            Error::unless_done(status).map_err(|error| ReplayError {
-                place: batch * BATCH + place,
-                error,
+            let made = self.make_again(&room[..entries.len()]);
+            made.map_err(|stopped| ReplayError {
+                place: batch * BATCH + stopped.place,
+                ..stopped
             })?;
         }
         Ok(())
+    }
+
+    /// The same of entries as numbers.
+    pub(crate) fn make_again(&mut self, saved: &[raw::Entry]) -> Result<(), ReplayError> {
+        let mut place = 0;
+        let status = self.raw.replay(saved, &mut place);
+        self.cut_where_long();
+        Error::unless_done(status).map_err(|error| ReplayError { place, error })
+    }
+
+    /// From here on the history does not cut itself.
+    pub(crate) fn never_cut(&mut self) {
+        self.keep = 0;
     }
 
     /// Makes a call of the worker: its reply and its ordinal.
@@ -586,6 +629,7 @@ impl DerefMut for Turn<'_> {
 #[cfg(test)]
 mod tests {
     use super::*;
+    use crate::{Saved, SavedFault};
 
     /// As in a forked child, where the thread whose call was under way is not.
     #[test]
@@ -604,6 +648,9 @@ mod tests {
         assert_eq!(shared.checkpoint_at(0), Err(Error::Busy));
         assert_eq!(shared.list(), Err(Error::Busy));
         assert_eq!(shared.opening(), Err(Error::Busy));
+        let (mut saved, mut bytes) = (Saved::new(), Vec::new());
+        let busy = shared.save(&mut saved, &mut bytes).expect_err("busy").fault;
+        assert!(matches!(busy, SavedFault::Table(Error::Busy)) && bytes.is_empty());
         shared.lock().raw.mark(false);
         assert_eq!((seat.ordinal(), seat.getpid(1)), (None, Ok(1)));
     }

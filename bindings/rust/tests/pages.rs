@@ -62,7 +62,9 @@ fn same_example(name: &str, title: &str) {
     let code = read(&format!("bindings/rust/examples/{name}.rs"));
     let (_, code) = code.split_once('\n').expect("a head");
     assert_eq!(code, block(title, "rust"));
-    let done = Command::new(built(name)).output().expect("the example");
+    let mut example = Command::new(built(name));
+    let done = example.current_dir(env!("CARGO_TARGET_TMPDIR")).output();
+    let done = done.expect("the example");
     let said = String::from_utf8(done.stdout).expect("text");
     assert_eq!((done.status.success(), said), (true, block(title, "text")));
 }
@@ -71,4 +73,5 @@ fn same_example(name: &str, title: &str) {
 fn the_examples_of_the_page() {
     same_example("containers", "Example");
     same_example("shared", "A table for many threads, with its history");
+    same_example("saved", "A saved history");
 }

@@ -1,0 +1,410 @@
+package pidtab
+
+// #include <pidtab_saved.h>
+import "C"
+
+import (
+	"errors"
+	"fmt"
+	"io"
+	"os"
+	"sync"
+	"unsafe"
+)
+
+// Why a saved history was not loaded, or a history not saved, beside what a table answers: errors.Is finds them in a SavedError.
+var (
+	ErrTorn         = errors.New("pidtab: the bytes end within the head or an entry")
+	ErrNotSaved     = errors.New("pidtab: the bytes are no saved history")
+	ErrOtherVersion = errors.New("pidtab: the saved history is of another version")
+	ErrWrongByte    = errors.New("pidtab: a byte is not the one that was written")
+	ErrBadSettings  = errors.New("pidtab: no table has the settings of the head")
+	ErrOtherTable   = errors.New("pidtab: what is saved is of another table")
+)
+
+// SavedError is why a history was not saved or not loaded, and where. A reader's or a writer's own error is wrapped as it is.
+type SavedError struct {
+	Calls uint64 // how many calls came before the fault, each whole: the ordinal of the call at fault
+	Bytes uint64 // where its entry begins; 0 is the head. Where it is not 0, the first so many bytes alone load as what came before
+	Err   error  // which errors.Is and errors.As find
+}
+
+// Error tells the place and what is the matter.
+func (fault SavedError) Error() string {
+	if fault.Bytes == 0 {
+		return fmt.Sprintf("%v: head", fault.Err)
+	}
+	return fmt.Sprintf("%v: call %d, saved at byte %d", fault.Err, fault.Calls, fault.Bytes)
+}
+
+// Unwrap is what is the matter.
+func (fault SavedError) Unwrap() error {
+	return fault.Err
+}
+
+// Saved is how far a history is saved, for Shared.Save: what a writer was given, and the running checksum. Each writer has its own. The zero value
+// is a history of which nothing is saved; LoadShared and ResumeShared give one too. Goroutines may share it, and it is never copied. Its methods
+// wait for a save that is under way.
+type Saved struct {
+	lock    sync.Mutex
+	held    *heldRecord // the table whose history it is; none before the first save
+	calls   uint64
+	bytes   uint64
+	leftOut uint64
+	sum     C.uint64_t
+	part    int // so many bytes a write that failed has left behind the last whole call
+	isTorn  bool
+}
+
+// Calls is how many calls are saved, each whole: the ordinal of the next one.
+func (saved *Saved) Calls() uint64 {
+	saved.lock.Lock()
+	defer saved.lock.Unlock()
+	return saved.calls
+}
+
+// Bytes is how many bytes they have, with the head; 0 where there is no head yet.
+func (saved *Saved) Bytes() uint64 {
+	saved.lock.Lock()
+	defer saved.lock.Unlock()
+	return saved.bytes
+}
+
+// LeftOut is how many bytes of a torn end a load has left out behind them.
+func (saved *Saved) LeftOut() uint64 {
+	saved.lock.Lock()
+	defer saved.lock.Unlock()
+	return saved.leftOut
+}
+
+// Trim cuts off the file what is behind the last whole call: a torn end that a load has left out, or what a write that failed has left. Then the
+// file's offset is its end, and a save goes on there. ResumeShared does so.
+func (saved *Saved) Trim(file *os.File) error {
+	saved.lock.Lock()
+	defer saved.lock.Unlock()
+	if saved.isTorn || saved.part != 0 {
+		if err := file.Truncate(int64(saved.bytes)); err != nil {
+			return err
+		}
+	}
+	saved.isTorn, saved.part = false, 0
+	_, err := file.Seek(0, io.SeekEnd)
+	return err
+}
+
+// Save writes the calls that were recorded since, and perhaps some that are recorded meanwhile; to a zero Saved the head comes first. So what is
+// saved is always the history up to one moment. Other goroutines make calls meanwhile: the lock of the table is held for sixteen entries at a time,
+// and for no write. Goroutines that save to one Saved take turns.
+//
+// What an *os.File was given survives the process, and behind its Sync the machine. A call that is saved may be cut, by CheckpointAt with
+// Saved.Calls.
+//
+// Each error is a SavedError. Behind that of the writer, the next Save to the same writer goes on with the byte that is missing, so nothing is lost
+// or doubled. ErrNotKept where the next call to be saved was cut away; ErrOtherTable; ErrTorn where a load has left out a torn end that is not
+// trimmed; ErrClosed, ErrBusy.
+func (shared *Shared) Save(to io.Writer, saved *Saved) error {
+	saved.lock.Lock()
+	defer saved.lock.Unlock()
+	return saved.at(shared.save(to, saved))
+}
+
+// LoadShared makes a table of a saved history, which is read to its end. It has the settings of the head, no seat is given, and each call is made
+// again, and its reply compared with the saved one. It costs what the calls cost.
+//
+// A torn end, which is that of a writer that was stopped, is left out: Saved.LeftOut is its length. Where keep is not 0, the history is cut
+// whenever it has so many entries; later it is not.
+//
+// Each error is a SavedError, with the place of the call at fault: ErrTorn where there is no whole head, ErrNotSaved, ErrOtherVersion, ErrWrongByte,
+// ErrBadSettings; ErrDiffers where its reply is another one; ErrOutOfRange, ErrSpent or ErrNoMemory where it was not made; or that of the reader.
+func LoadShared(from io.Reader, keep uint64) (*Shared, *Saved, error) {
+	saved := new(Saved)
+	shared, err := loadInto(saved, from, keep)
+	if err != nil {
+		return nil, nil, saved.at(err)
+	}
+	return shared, saved, nil
+}
+
+// ResumeShared is LoadShared from the beginning of a file, which then goes on: a torn end is cut off, and the file's offset is its end.
+//
+// A file that is empty, or ends within its head, is begun, and the table has these settings. Those of another file are its own. Behind this,
+// Settings.Keep is never used: no call is cut unasked that is not saved.
+//
+// The file is opened to be read and to be written, as by os.O_RDWR|os.O_CREATE. One process at a time has it. The errors are those of LoadShared but
+// for ErrTorn, ErrOutOfRange for settings outside their ranges, and those of the file.
+func ResumeShared(file *os.File, settings Settings) (*Shared, *Saved, error) {
+	saved := new(Saved)
+	shared, err := resumeInto(saved, file, settings)
+	if err != nil {
+		return nil, nil, saved.at(err)
+	}
+	return shared, saved, nil
+}
+
+// save saves. The lock of what is saved is held, here and below.
+func (shared *Shared) save(to io.Writer, saved *Saved) error {
+	held := shared.held()
+	if saved.held != nil && saved.held != held {
+		return ErrOtherTable
+	}
+	if saved.isTorn {
+		return ErrTorn
+	}
+	counts, err := shared.Counts()
+	if err == nil && saved.calls < counts.FirstKept {
+		err = ErrNotKept
+	}
+	if err != nil {
+		return err
+	}
+	saved.held = held
+	if saved.bytes == 0 {
+		err = saved.writeHead(to, held.settings)
+	}
+	for err == nil && saved.calls < counts.Recorded {
+		err = shared.saveSome(to, saved)
+	}
+	return err
+}
+
+// How many entries are read under the lock at a time.
+const atOnce = 16
+
+// saveSome writes the next entries.
+func (shared *Shared) saveSome(to io.Writer, saved *Saved) error {
+	var entries [atOnce]C.struct_pidtab_entry
+	var count C.size_t
+	err := shared.alone(func(raw *C.struct_pidtab_record) C.uint32_t {
+		return C.pidtab_record_read(raw, C.uint64_t(saved.calls), &entries[0], atOnce, &count)
+	})
+	if err != nil {
+		return err
+	}
+	return saved.writeEntries(to, entries[:count])
+}
+
+// at is a fault at the next call, and nothing where there is none.
+func (saved *Saved) at(fault error) error {
+	if fault == nil {
+		return nil
+	}
+	return SavedError{saved.calls, saved.bytes, fault}
+}
+
+func (saved *Saved) writeHead(to io.Writer, settings Settings) error {
+	head := C.struct_pidtab_saved_head{
+		pid_max:     C.uint32_t(settings.PidMax),
+		workers:     C.uint32_t(settings.Workers),
+		first_stamp: C.uint64_t(settings.FirstStamp),
+	}
+	var room [C.PIDTAB_SAVED_BLOCK]byte
+	var size C.size_t
+	var sum C.uint64_t
+	status := C.pidtab_saved_put_head(&head, unsafe.Pointer(&room[0]), C.size_t(len(room)), &size, &sum)
+	if err := faultOf(uint32(status)); err != nil {
+		return err
+	}
+	if err := saved.write(to, room[:size]); err != nil {
+		return err
+	}
+	saved.sum = sum
+	return nil
+}
+
+// writeEntries writes the next entries. Behind a write that failed they are the same ones, and perhaps more, so the same bytes come first.
+func (saved *Saved) writeEntries(to io.Writer, entries []C.struct_pidtab_entry) error {
+	var room [atOnce * C.PIDTAB_SAVED_LONGEST]byte
+	used, sum := 0, saved.sum
+	for i := range entries {
+		var size C.size_t
+		status := C.pidtab_saved_put(&entries[i], unsafe.Pointer(&room[used]), C.size_t(len(room)-used), &size, &sum)
+		if err := faultOf(uint32(status)); err != nil {
+			return err
+		}
+		used += int(size)
+	}
+	if err := saved.write(to, room[:used]); err != nil {
+		return err
+	}
+	saved.calls += uint64(len(entries))
+	saved.sum = sum
+	return nil
+}
+
+// write writes what of the bytes is not written yet. A write that is short without an error is gone on with.
+func (saved *Saved) write(to io.Writer, bytes []byte) error {
+	for saved.part < len(bytes) {
+		count, err := to.Write(bytes[saved.part:])
+		if count < 0 || count > len(bytes)-saved.part {
+			return errors.New("pidtab: the writer says that it wrote more or less than it can have")
+		}
+		saved.part += count
+		if err != nil {
+			return err
+		}
+		if count == 0 {
+			return io.ErrShortWrite
+		}
+	}
+	saved.part = 0
+	saved.bytes += uint64(len(bytes))
+	return nil
+}
+
+// leaveOut leaves out what is behind the last whole call.
+func (saved *Saved) leaveOut(count int64) {
+	saved.leftOut, saved.isTorn = uint64(count), count != 0
+}
+
+// loadInto opens a table by the head, and makes the calls behind it.
+func loadInto(saved *Saved, from io.Reader, keep uint64) (*Shared, error) {
+	in := &input{from: from, room: make([]byte, 1<<13)}
+	settings, err := in.takeHead(saved)
+	if err != nil {
+		return nil, err
+	}
+	settings.Keep = keep
+	shared, err := OpenShared(settings)
+	if err != nil {
+		return nil, err
+	}
+	if err := shared.own.makeAgain(saved, in); err != nil {
+		shared.Close()
+		return nil, err
+	}
+	saved.held, shared.own.settings.Keep = shared.own, 0
+	return shared, nil
+}
+
+// makeAgain makes the calls of the entries to the end. No other goroutine has the record yet.
+func (held *heldRecord) makeAgain(saved *Saved, in *input) error {
+	var entry C.struct_pidtab_entry
+	for {
+		size, err := in.takeEntry(saved, &entry)
+		if size == 0 || err != nil {
+			return err
+		}
+		var place C.size_t
+		status := C.pidtab_record_replay(&held.raw, &entry, 1, &place)
+		if err := faultOf(uint32(status)); err != nil {
+			return err
+		}
+		held.cutWhereLong()
+		saved.calls++
+		saved.bytes += uint64(size)
+	}
+}
+
+func resumeInto(saved *Saved, file *os.File, settings Settings) (*Shared, error) {
+	if _, err := file.Seek(0, io.SeekStart); err != nil {
+		return nil, err
+	}
+	shared, err := loadInto(saved, file, settings.Keep)
+	if err == ErrTorn {
+		settings.Keep = 0
+		shared, err = OpenShared(settings)
+	}
+	if err != nil {
+		return nil, err
+	}
+	if err = saved.Trim(file); err == nil {
+		err = shared.save(file, saved)
+	}
+	if err != nil {
+		shared.Close()
+		return nil, err
+	}
+	return shared, nil
+}
+
+// An input is what was read of a saved history, from start to end of the room, and is not taken yet.
+type input struct {
+	from       io.Reader
+	room       []byte
+	start, end int
+	hasEnded   bool
+}
+
+// fill reads on where there may be less in hand than the longest entry.
+func (in *input) fill() error {
+	if in.end-in.start >= C.PIDTAB_SAVED_LONGEST {
+		return nil
+	}
+	in.start, in.end = 0, copy(in.room, in.room[in.start:in.end])
+	for !in.hasEnded && in.end < len(in.room) {
+		count, err := in.from.Read(in.room[in.end:])
+		in.end += count
+		if err != nil && err != io.EOF {
+			return err
+		}
+		in.hasEnded = err == io.EOF
+	}
+	return nil
+}
+
+func (in *input) takeHead(saved *Saved) (Settings, error) {
+	if err := in.fill(); err != nil {
+		return Settings{}, err
+	}
+	var head C.struct_pidtab_saved_head
+	var size C.size_t
+	length := in.end - in.start
+	status := C.pidtab_saved_take_head(unsafe.Pointer(&in.room[in.start]), C.size_t(length), &head, &size, &saved.sum)
+	switch status {
+	case C.PIDTAB_DONE:
+		in.start += int(size)
+		saved.bytes = uint64(size)
+		return Settings{PidMax: uint32(head.pid_max), Workers: uint32(head.workers), FirstStamp: uint64(head.first_stamp)}, nil
+	case C.PIDTAB_OUT_OF_RANGE:
+		return Settings{}, ErrBadSettings
+	case C.PIDTAB_TORN:
+		saved.leaveOut(int64(length))
+	}
+	return Settings{}, faultOf(uint32(status))
+}
+
+// takeEntry takes the next entry, with its size. That is 0 at the end, of which what is torn is left out.
+func (in *input) takeEntry(saved *Saved, entry *C.struct_pidtab_entry) (int, error) {
+	if err := in.fill(); err != nil {
+		return 0, err
+	}
+	if in.start == in.end {
+		return 0, nil
+	}
+	var size C.size_t
+	length := in.end - in.start
+	status := C.pidtab_saved_take(unsafe.Pointer(&in.room[in.start]), C.size_t(length), entry, &size, &saved.sum)
+	switch status {
+	case C.PIDTAB_DONE:
+		in.start += int(size)
+		return int(size), nil
+	case C.PIDTAB_TORN:
+		saved.leaveOut(int64(length))
+		return 0, nil
+	}
+	count, err := in.zeroesBehind(int(size))
+	saved.leaveOut(count)
+	return 0, err
+}
+
+// zeroesBehind is how many bytes there are to the end, where the checksum of the wrong block and all behind it are 0: a file may have its length
+// before its bytes. Else there is a wrong byte.
+func (in *input) zeroesBehind(place int) (int64, error) {
+	const sum = 8
+	before := place + C.PIDTAB_SAVED_BLOCK - sum
+	in.start += before
+	count := int64(before)
+	for in.start < in.end {
+		for _, it := range in.room[in.start:in.end] {
+			if it != 0 {
+				return 0, ErrWrongByte
+			}
+		}
+		count += int64(in.end - in.start)
+		in.start = in.end
+		if err := in.fill(); err != nil {
+			return 0, err
+		}
+	}
+	return count, nil
+}

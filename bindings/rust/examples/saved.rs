@@ -1,0 +1,40 @@
+//! The example of README.md on a saved history: `cargo run --offline --example saved`. A test compares both.
+use pidtab::{Calls, Shared};
+use std::fs::{self, File};
+use std::io;
+
+/// A supervisor's life: it goes on where the file ends, forks, and saves that.
+fn live(path: &str) -> io::Result<()> {
+    let mut options = File::options();
+    let file = options
+        .read(true)
+        .write(true)
+        .create(true)
+        .truncate(false)
+        .open(path)?;
+    let (shared, mut saved) = Shared::options(32768, 4).resume(&file)?;
+    println!(
+        "calls: {}, bytes left out: {}",
+        saved.calls(),
+        saved.left_out()
+    );
+    let child = shared.seat()?.fork(1, false)?;
+    shared.save(&mut saved, &file)?;
+    file.sync_data()?;
+    println!("child {}", child.number);
+    Ok(())
+}
+
+fn main() -> io::Result<()> {
+    let path = "history";
+    live(path)?;
+    let mut bytes = fs::read(path)?;
+    bytes.extend(b"torn"); // as a writer leaves it that was stopped
+    fs::write(path, &bytes)?;
+    live(path)?;
+    bytes[60] ^= 1;
+    if let Err(fault) = Shared::load(&bytes[..], 0) {
+        println!("{fault}");
+    }
+    fs::remove_file(path)
+}

@@ -1,0 +1,458 @@
+//! A saved history: the calls of a `Shared` with their replies, as bytes. `docs/SAVED.md` has their form, and the functions of
+//! `pidtab_saved.h` that work in memory write and read it. No lock is held while a writer is waited for.
+use crate::{raw, Error, Options, Shared};
+use std::fs::File;
+use std::io::{self, Read, Seek, SeekFrom, Write};
+use std::{fmt, slice};
+
+/// How far a history is saved, for [`Shared::save`]: what a writer was given, and the running checksum. Each writer has its own.
+///
+/// It begins as [`Saved::new`], or as what a load has found. It cannot be cloned, so no call is saved twice to one writer.
+#[derive(Debug, Default)]
+pub struct Saved {
+    // The number of the table whose history it is; 0 before the first save.
+    table: u64,
+    calls: u64,
+    bytes: u64,
+    left_out: u64,
+    sum: u64,
+    // So many bytes a write that failed has left behind the last whole call.
+    part: usize,
+    is_torn: bool,
+}
+
+impl Saved {
+    /// A history of which nothing is saved.
+    pub fn new() -> Saved {
+        Saved::default()
+    }
+
+    /// How many calls are saved, each whole: the ordinal of the next one.
+    pub fn calls(&self) -> u64 {
+        self.calls
+    }
+
+    /// How many bytes they have, with the head. 0 where there is no head yet.
+    pub fn bytes(&self) -> u64 {
+        self.bytes
+    }
+
+    /// How many bytes of a torn end a load has left out behind them.
+    pub fn left_out(&self) -> u64 {
+        self.left_out
+    }
+
+    /// Cuts off the file what is behind the last whole call: a torn end that a load has left out, or what a write that failed has left. Then
+    /// the file's position is its end, and a save goes on there. [`Options::resume`] does so.
+    ///
+    /// # Errors
+    /// Those of the file, of which nothing is known then but that it was cut or was not.
+    pub fn trim(&mut self, mut file: &File) -> io::Result<()> {
+        if self.is_torn || self.part != 0 {
+            file.set_len(self.bytes)?;
+        }
+        (self.is_torn, self.part) = (false, 0);
+        file.seek(SeekFrom::End(0)).map(|_| ())
+    }
+
+    /// Writes what of the bytes is not written yet.
+    fn write(&mut self, bytes: &[u8], to: &mut impl Write) -> io::Result<()> {
+        while self.part < bytes.len() {
+            match to.write(&bytes[self.part..]) {
+                Ok(0) => return Err(io::ErrorKind::WriteZero.into()),
+                Ok(count) => self.part += count,
+                Err(fault) if fault.kind() == io::ErrorKind::Interrupted => {}
+                Err(fault) => return Err(fault),
+            }
+        }
+        self.part = 0;
+        self.bytes += bytes.len() as u64;
+        Ok(())
+    }
+
+    fn write_head(&mut self, head: &raw::SavedHead, to: &mut impl Write) -> Result<(), SavedFault> {
+        let (mut bytes, mut sum) = ([0; raw::SAVED_BLOCK], 0);
+        let size = raw::put_head(head, &mut bytes, &mut sum).map_err(Error::of)?;
+        self.write(&bytes[..size], to)?;
+        self.sum = sum;
+        Ok(())
+    }
+
+    /// Writes the next entries. Behind a write that failed they are the same ones, and perhaps more, so the same bytes come first.
+    fn write_entries(
+        &mut self,
+        entries: &[raw::Entry],
+        to: &mut impl Write,
+    ) -> Result<(), SavedFault> {
+        let mut bytes = [0; raw::SAVED_LONGEST * BATCH];
+        let (mut size, mut sum) = (0, self.sum);
+        for entry in entries {
+            size += raw::put_entry(entry, &mut bytes[size..], &mut sum).map_err(Error::of)?;
+        }
+        self.write(&bytes[..size], to)?;
+        self.calls += entries.len() as u64;
+        self.sum = sum;
+        Ok(())
+    }
+
+    /// What is behind the last whole call is left out.
+    fn leave_out(&mut self, count: u64) {
+        self.left_out = count;
+        self.is_torn = count != 0;
+    }
+
+    /// The fault at the next call.
+    fn error(&self, fault: SavedFault) -> SavedError {
+        SavedError {
+            calls: self.calls,
+            bytes: self.bytes,
+            fault,
+        }
+    }
+}
+
+/// How many entries are read under the lock at a time.
+const BATCH: usize = 16;
+
+impl Shared {
+    /// Writes the calls that were recorded since, and perhaps some that are recorded meanwhile; to a new [`Saved`] the head comes first. So what
+    /// is saved is always the history up to one moment. Other threads make calls meanwhile: the lock is held for sixteen entries at a time, and
+    /// for no write. At the end it flushes the writer.
+    ///
+    /// ```
+    /// use pidtab::{Calls, Saved, Shared};
+    ///
+    /// let shared = Shared::open(32768, 1)?;
+    /// let (mut saved, mut bytes) = (Saved::new(), Vec::new());
+    /// shared.seat()?.fork(1, true)?;
+    /// shared.save(&mut saved, &mut bytes)?;
+    /// let (again, loaded) = Shared::load(&bytes[..], 0)?;
+    /// assert_eq!((loaded.calls(), loaded.bytes()), (1, 96));
+    /// assert_eq!(again.list()?, shared.list()?);
+    /// # Ok::<(), std::io::Error>(())
+    /// ```
+    ///
+    /// What a `File` was given survives the process, and behind `File::sync_data` the machine. A call that is saved may be cut, by
+    /// [`Shared::checkpoint_at`] with [`Saved::calls`].
+    ///
+    /// # Errors
+    /// `Io`: behind it, the next save to the same writer goes on with the byte that is missing, so nothing is lost or doubled. Short and
+    /// interrupted writes are gone on with. `Table(NotKept)` where the next call to be saved was cut away. `OtherTable`; `Torn` where a load
+    /// has left out a torn end that is not trimmed; `Table(Busy)`.
+    pub fn save<W: Write>(&self, saved: &mut Saved, mut to: W) -> Result<(), SavedError> {
+        let done = self.save_on(saved, &mut to);
+        done.map_err(|fault| saved.error(fault))
+    }
+
+    /// Makes a table of a saved history, which is read to its end. It is opened with the settings of the head, no seat is given, and each call
+    /// is made again, and its reply compared with the saved one. It costs what the calls cost.
+    ///
+    /// A torn end, which is that of a writer that was stopped, is left out: [`Saved::left_out`] has its length. Where `keep` is not 0, the
+    /// history is cut whenever it has so many entries; later it is not.
+    ///
+    /// # Errors
+    /// With the place of the call at fault: `Torn`, `NotSaved`, `OtherVersion`, `WrongByte`, `Settings`; `Table(Differs)` where its reply is
+    /// another one, and `Table` with `OutOfRange`, `Spent` or `NoMemory` where it was not made; `Io` where a read failed.
+    ///
+    /// # Panics
+    /// As [`Shared::open`].
+    pub fn load<R: Read>(from: R, keep: u64) -> Result<(Shared, Saved), SavedError> {
+        let mut saved = Saved::new();
+        match load_into(&mut saved, from, keep) {
+            Ok(shared) => Ok((shared, saved)),
+            Err(fault) => Err(saved.error(fault)),
+        }
+    }
+
+    fn save_on(&self, saved: &mut Saved, to: &mut impl Write) -> Result<(), SavedFault> {
+        if saved.table != 0 && saved.table != self.number {
+            return Err(SavedFault::OtherTable);
+        }
+        if saved.is_torn {
+            return Err(SavedFault::Torn);
+        }
+        let counts = self.counts()?;
+        if saved.calls < counts.first_kept {
+            return Err(Error::NotKept.into());
+        }
+        saved.table = self.number;
+        if saved.bytes == 0 {
+            saved.write_head(&self.head, to)?;
+        }
+        while saved.calls < counts.recorded {
+            let mut entries = [raw::Entry::blank(); BATCH];
+            let read = self.lock().read_numbers(saved.calls, &mut entries)?;
+            saved.write_entries(&entries[..read], to)?;
+        }
+        Ok(to.flush()?)
+    }
+}
+
+impl Options {
+    /// As [`Shared::load`], from the beginning of a file, which then goes on: a torn end is cut off, and the file's position is its end.
+    ///
+    /// A file that is empty, or ends within its head, is begun, and the table has these options. Those of another file are its own. Behind
+    /// this, [`Options::keep`] is never used: no call is cut unasked that is not saved.
+    ///
+    /// The file is opened to be read and to be written. One process at a time has it.
+    ///
+    /// ```no_run
+    /// use pidtab::{Calls, Shared};
+    /// use std::fs::OpenOptions;
+    ///
+    /// let mut options = OpenOptions::new();
+    /// let file = options.read(true).write(true).create(true).truncate(false).open("history")?;
+    /// let (shared, mut saved) = Shared::options(32768, 4).resume(&file)?;
+    /// shared.seat()?.fork(1, true)?;
+    /// shared.save(&mut saved, &file)?;
+    /// # Ok::<(), std::io::Error>(())
+    /// ```
+    ///
+    /// # Errors
+    /// Those of a load but for `Torn`; `Table(OutOfRange)` for options outside their ranges; `Io` where the file cannot be written or cut too.
+    ///
+    /// # Panics
+    /// As [`Options::open`].
+    pub fn resume(self, file: &File) -> Result<(Shared, Saved), SavedError> {
+        let mut saved = Saved::new();
+        match self.resume_into(&mut saved, file) {
+            Ok(shared) => Ok((shared, saved)),
+            Err(fault) => Err(saved.error(fault)),
+        }
+    }
+
+    fn resume_into(self, saved: &mut Saved, mut file: &File) -> Result<Shared, SavedFault> {
+        file.rewind()?;
+        let shared = match load_into(saved, file, self.keep) {
+            Err(SavedFault::Torn) => self.keep(0).open()?,
+            loaded => loaded?,
+        };
+        saved.trim(file)?;
+        shared.save_on(saved, &mut file)?;
+        Ok(shared)
+    }
+}
+
+/// Opens a table by the head, and makes the calls behind it.
+fn load_into(saved: &mut Saved, from: impl Read, keep: u64) -> Result<Shared, SavedFault> {
+    let mut input = Input::of(from);
+    let head = input.take_head(saved)?;
+    let options = Shared::options(head.pid_max, head.workers).first_stamp(head.first_stamp);
+    let shared = options.keep(keep).open()?;
+    saved.table = shared.number;
+    let mut record = shared.lock();
+    while let Some((entry, size)) = input.take_entry(saved)? {
+        let made = record.make_again(slice::from_ref(&entry));
+        made.map_err(|stopped| stopped.error)?;
+        saved.calls += 1;
+        saved.bytes += size as u64;
+    }
+    record.never_cut();
+    drop(record);
+    Ok(shared)
+}
+
+/// The bytes of a saved history that were read, of which so many are taken.
+struct Input<R> {
+    from: R,
+    bytes: Vec<u8>,
+    taken: usize,
+    has_ended: bool,
+}
+
+/// How many bytes are in hand at most.
+const ROOM: usize = 1 << 13;
+
+/// How many bytes a checksum has, at the end of its block.
+const SUM: usize = 8;
+
+impl<R: Read> Input<R> {
+    fn of(from: R) -> Input<R> {
+        Input {
+            from,
+            bytes: Vec::with_capacity(ROOM),
+            taken: 0,
+            has_ended: false,
+        }
+    }
+
+    fn rest(&self) -> &[u8] {
+        &self.bytes[self.taken..]
+    }
+
+    /// Reads on where there may be less in hand than the longest entry. Interrupted reads are gone on with.
+    fn fill(&mut self) -> io::Result<()> {
+        if self.has_ended || self.rest().len() >= raw::SAVED_LONGEST {
+            return Ok(());
+        }
+        self.bytes.drain(..self.taken);
+        self.taken = 0;
+        let room = (ROOM - self.bytes.len()) as u64;
+        let read = self.from.by_ref().take(room).read_to_end(&mut self.bytes)?;
+        self.has_ended = (read as u64) < room;
+        Ok(())
+    }
+
+    fn take_head(&mut self, saved: &mut Saved) -> Result<raw::SavedHead, SavedFault> {
+        self.fill()?;
+        let mut size = 0;
+        match raw::take_head(self.rest(), &mut size, &mut saved.sum) {
+            Ok(head) => {
+                self.taken += size;
+                saved.bytes = size as u64;
+                Ok(head)
+            }
+            Err(raw::TORN) => {
+                saved.leave_out(self.rest().len() as u64);
+                Err(SavedFault::Torn)
+            }
+            Err(status) => Err(SavedFault::of(status)),
+        }
+    }
+
+    /// The next entry with its size; none at the end, of which what is torn is left out.
+    fn take_entry(&mut self, saved: &mut Saved) -> Result<Option<(raw::Entry, usize)>, SavedFault> {
+        self.fill()?;
+        let mut size = 0;
+        match raw::take_entry(self.rest(), &mut size, &mut saved.sum) {
+            Ok(entry) => {
+                self.taken += size;
+                return Ok(Some((entry, size)));
+            }
+            Err(raw::TORN) => saved.leave_out(self.rest().len() as u64),
+            Err(_) => saved.leave_out(self.zeroes_behind(size)?),
+        }
+        Ok(None)
+    }
+
+    /// How many bytes there are to the end, where the checksum of the wrong block and all behind it are 0: a file may have its length before its
+    /// bytes. Else there is a wrong byte.
+    fn zeroes_behind(&mut self, place: usize) -> Result<u64, SavedFault> {
+        let before = place + raw::SAVED_BLOCK - SUM;
+        let mut count = before as u64;
+        self.taken += before;
+        while !self.rest().is_empty() {
+            if self.rest().iter().any(|byte| *byte != 0) {
+                return Err(SavedFault::WrongByte);
+            }
+            count += self.rest().len() as u64;
+            self.taken = self.bytes.len();
+            self.fill()?;
+        }
+        Ok(count)
+    }
+}
+
+/// Why a history was not saved or not loaded, and where.
+///
+/// As an [`io::Error`] it is that of the device, or else one that holds this, so that `?` takes it there.
+#[derive(Debug)]
+#[non_exhaustive]
+pub struct SavedError {
+    /// How many calls came before the fault, each whole: the ordinal of the call at fault.
+    pub calls: u64,
+    /// Where its entry begins in the bytes; 0 is the head. Where it is not 0, the first so many bytes alone load as what came before.
+    pub bytes: u64,
+    /// What is the matter.
+    pub fault: SavedFault,
+}
+
+/// What is the matter with a saved history. More faults may come.
+#[derive(Debug)]
+#[non_exhaustive]
+pub enum SavedFault {
+    /// A read or a write failed, or the cut of a torn end. `WriteZero` is a writer that takes no byte.
+    Io(io::Error),
+    /// The bytes end within the head: there is no history yet. Of a save: a torn end is behind the last whole call yet.
+    Torn,
+    /// The bytes are no saved history.
+    NotSaved,
+    /// The saved history is of a version that this library does not know.
+    OtherVersion,
+    /// A byte is not the one that was written.
+    WrongByte,
+    /// No table has the settings of the head.
+    Settings,
+    /// The [`Saved`] is that of another table.
+    OtherTable,
+    /// Of a load: `Differs` where the reply is not the saved one; `OutOfRange` where there is no such call or worker, `Spent`, `NoMemory`. Of
+    /// a save: `NotKept` where the call was cut away before it was saved. `Busy`.
+    Table(Error),
+}
+
+impl SavedFault {
+    /// What a status says other than that it was done.
+    fn of(status: u32) -> SavedFault {
+        match status {
+            raw::NOT_SAVED => SavedFault::NotSaved,
+            raw::OTHER_VERSION => SavedFault::OtherVersion,
+            raw::WRONG_BYTE => SavedFault::WrongByte,
+            raw::OUT_OF_RANGE => SavedFault::Settings,
+            _ => unreachable!("the library answers the status {status}"),
+        }
+    }
+}
+
+impl From<io::Error> for SavedFault {
+    fn from(error: io::Error) -> SavedFault {
+        SavedFault::Io(error)
+    }
+}
+
+impl From<Error> for SavedFault {
+    fn from(error: Error) -> SavedFault {
+        SavedFault::Table(error)
+    }
+}
+
+impl fmt::Display for SavedFault {
+    fn fmt(&self, to: &mut fmt::Formatter<'_>) -> fmt::Result {
+        match self {
+            SavedFault::Io(error) => error.fmt(to),
+            SavedFault::Torn => to.write_str("the bytes end within the head or an entry"),
+            SavedFault::NotSaved => to.write_str("the bytes are no saved history"),
+            SavedFault::OtherVersion => to.write_str("the saved history is of another version"),
+            SavedFault::WrongByte => to.write_str("a byte is not the one that was written"),
+            SavedFault::Settings => to.write_str("no table has the settings of the head"),
+            SavedFault::OtherTable => to.write_str("what is saved is of another table"),
+            SavedFault::Table(error) => error.fmt(to),
+        }
+    }
+}
+
+impl fmt::Display for SavedError {
+    fn fmt(&self, to: &mut fmt::Formatter<'_>) -> fmt::Result {
+        let SavedError {
+            calls,
+            bytes,
+            fault,
+        } = self;
+        match bytes {
+            0 => write!(to, "head: {fault}"),
+            _ => write!(to, "call {calls}, saved at byte {bytes}: {fault}"),
+        }
+    }
+}
+
+impl std::error::Error for SavedError {
+    fn source(&self) -> Option<&(dyn std::error::Error + 'static)> {
+        match &self.fault {
+            SavedFault::Io(error) => Some(error),
+            SavedFault::Table(error) => Some(error),
+            _ => None,
+        }
+    }
+}
+
+impl From<SavedError> for io::Error {
+    fn from(error: SavedError) -> io::Error {
+        let kind = match error.fault {
+            SavedFault::Io(fault) => return fault,
+            SavedFault::Torn => io::ErrorKind::UnexpectedEof,
+            SavedFault::OtherTable => io::ErrorKind::InvalidInput,
+            SavedFault::Table(fault) => io::Error::from(fault).kind(),
+            _ => io::ErrorKind::InvalidData,
+        };
+        io::Error::new(kind, error)
+    }
+}
