@@ -32,8 +32,10 @@ EXAMPLES = [
     ("bindings/c/README.md", "## A saved history", "c"),
     ("bindings/rust/README.md", "## Example", "rust"),
     ("bindings/rust/README.md", "## A table for many threads, with its history", "rust"),
+    ("bindings/rust/README.md", "## A saved history", "rust"),
     ("bindings/go/README.md", "## Example", "go"),
     ("bindings/go/README.md", "## A table for many goroutines, with its history", "go"),
+    ("bindings/go/README.md", "## A saved history", "go"),
 ]
 
 # The pages of the library's functions.
