@@ -81,12 +81,24 @@ module _ (spaces : List Space) (keys : List ℕ) (room key : ℕ) (v : AreVacant
           let e = last j lt past in
           (omega (arith, b, e, len), ap (way new) e ∙ ap (λ o. option_map_or (λ t. t.path.items) o []) gone)
     ];
+    all = λ s lt none. elim (cases_eq s key) [
+      | inl same ↦
+          let l = length-append keys (key ∷ []) in
+          (length keys, omega (arith, l), last (length keys) (omega (arith, l)) (omega arith) ∙ sym same)
+      | inr differs ↦
+          let old : way spaces s ≡ [] = ap (λ o. option_map_or (λ t. t.path.items) o []) (sym (others s differs)) ∙ none in
+          let r = v.all s (omega (arith, lt, len)) old in
+          let inside = r.1 in
+          let l = length-append keys (key ∷ []) in
+          (r.0, omega (arith, l, inside), at r.0 inside ∙ r.2)
+    ];
     distinct = distinct;
     rooms = let r = v.rooms in omega (arith, r, len);
   }
 
 -- a namespace comes to the last of them
-module _ (spaces : List Space) (keys rest : List ℕ) (room key : ℕ) (space : Space) (v : AreVacant spaces keys room) (is : keys ≡ rest ++ key ∷ []) where
+module _ (spaces : List Space) (keys rest : List ℕ) (room key : ℕ) (space : Space) (v : AreVacant spaces keys room)
+    (is : keys ≡ rest ++ key ∷ []) (there : 0 < length space.path.items) where
   long : length keys ≡ length rest + 1
   long = ap length is ∙ length-append rest (key ∷ [])
 
@@ -115,6 +127,24 @@ module _ (spaces : List Space) (keys rest : List ℕ) (room key : ℕ) (space : 
         let differs : get_or rest j 0 ≢ key = λ z. v.distinct j (length rest) lt (omega (arith, long)) (same ∙ z ∙ sym end) in
         let b = e.0 in
         (omega (arith, b, n, same), ap (λ o. option_map_or (λ t. t.path.items) o []) (places.slot-set_other spaces key (get_or rest j 0) space differs) ∙ ap (way spaces) (sym same) ∙ e.1);
+    all = λ s lt none. elim (cases_eq s key) [
+      | inl same ↦
+          let in_range = vacant-last.0 in
+          let here : way (set spaces key space) s ≡ space.path.items =
+          ap (way (set spaces key space)) same ∙ ap (λ o. option_map_or (λ t. t.path.items) o []) (places.slot-set_same spaces key space in_range ∙ places.shown-some space there) in
+          absurd (let l = ap length (sym here ∙ none) in omega (arith, l, there))
+      | inr differs ↦
+          let n = length-set spaces key space in
+          let old : way spaces s ≡ [] = ap (λ o. option_map_or (λ t. t.path.items) o []) (sym (places.slot-set_other spaces key s space differs)) ∙ none in
+          let r = v.all s (omega (arith, lt, n)) old in
+          let inside : r.0 < length rest = elim (cases_lt r.0 (length rest)) [
+            | inl below ↦ below
+            | inr past ↦
+                let at_end : r.0 ≡ length rest = let lt = r.1 in omega (arith, past, lt, long) in
+                absurd (differs (sym r.2 ∙ ap (λ j. get_or keys j 0) at_end ∙ end))
+          ] in
+          (r.0, inside, sym (before r.0 inside) ∙ r.2)
+    ];
     distinct = λ i j lo lt.
         (λ e. v.distinct i j lo (omega (arith, lt, long)) (before i (omega (arith, lo, lt)) ∙ e ∙ sym (before j lt)));
     rooms = let n = length-set spaces key space in let r = v.rooms in omega (arith, n, r);
@@ -138,12 +168,40 @@ module _ (spaces : List Space) (space : Space) where
     | inr past ↦ (let l = length-append spaces (space ∷ []) in places.slot-past (spaces ++ space ∷ []) s (omega (arith, past, l, differs)) ∙ sym (places.slot-past spaces s past))
   ]
 
-  pub none-vacant : (keys : List ℕ) (room : ℕ) → keys ≡ [] → length spaces < room → AreVacant (spaces ++ space ∷ []) keys room
-  none-vacant keys room none more = record {
+  -- no place was vacant, and none is
+  pub none-vacant : (keys : List ℕ) (room room' : ℕ) → AreVacant spaces keys room → keys ≡ [] → length spaces < room' → 0 < length space.path.items
+      → AreVacant (spaces ++ space ∷ []) keys room'
+  none-vacant keys room room' v none more there = record {
     each = λ j lt. absurd (let l = ap length none in omega (arith, l, lt));
+    all = λ s lt empty. absurd (elim (cases_eq s (length spaces)) [
+      | inl same ↦
+          let here : way (spaces ++ space ∷ []) s ≡ space.path.items =
+          ap (way (spaces ++ space ∷ [])) same ∙ ap (λ o. option_map_or (λ t. t.path.items) o []) (slot-new ∙ places.shown-some space there) in
+          let l = ap length (sym here ∙ empty) in
+          omega (arith, l, there)
+      | inr differs ↦
+          let n = length-append spaces (space ∷ []) in
+          let old : way spaces s ≡ [] = ap (λ o. option_map_or (λ t. t.path.items) o []) (sym (slot-old s differs)) ∙ empty in
+          let r = v.all s (omega (arith, lt, n, differs)) old in
+          let lt = r.1 in
+          let l = ap length none in
+          omega (arith, l, lt)
+    ]);
     distinct = λ i j lo lt e. (let l = ap length none in omega (arith, l, lt));
     rooms = let l = length-append spaces (space ∷ []) in omega (arith, l, more);
   }
+
+-- a namespace alone
+pub lone-vacant : (space : Space) (room : ℕ) → 0 < room → 0 < length space.path.items → AreVacant (space ∷ []) [] room
+lone-vacant space room more there = none-vacant [] space [] 0 room nothing refl more there
+  where
+    nothing : AreVacant [] [] 0
+    nothing = record {
+      each = λ j lt. absurd (omega (arith, lt));
+      all = λ s lt none. absurd (omega (arith, lt));
+      distinct = λ i j lo lt e. (omega (arith, lt));
+      rooms = omega arith;
+    }
 
 -- no namespace has the key of the next one
 pub next-vacant : (spaces : List Space) (keys : List ℕ) (room : ℕ) → AreVacant spaces keys room → slot spaces (next_place spaces keys) ≡ None
@@ -158,6 +216,7 @@ next-vacant spaces keys room v = elim (cases_lt 0 (length keys)) [
 pub vacant-same : (old new : List Space) (keys : List ℕ) (room : ℕ) → AreVacant old keys room → length new ≡ length old → ((s : ℕ) → way new s ≡ way old s) → AreVacant new keys room
 vacant-same old new keys room v len ways = record {
   each = λ j lt. let e = v.each j lt in let b = e.0 in (omega (arith, b, len), ways (get_or keys j 0) ∙ e.1);
+  all = λ s lt none. v.all s (omega (arith, lt, len)) (sym (ways s) ∙ none);
   distinct = v.distinct;
   rooms = let r = v.rooms in omega (arith, r, len);
 }

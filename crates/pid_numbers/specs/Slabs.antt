@@ -147,9 +147,11 @@ pub record AreListed (id : ℕ → Option ℕ) (order : List (ℕ × ℕ)) : Typ
 abbrev pub IsDistinct : List ℕ → Type 0
 IsDistinct path = (i j : ℕ) → i < j → j < length path → slice_index_or path i 0 ≢ slice_index_or path j 0
 
--- each of the keys is that of a vacant place, none comes twice, and there is room for the keys of all places
+-- the keys are those of the vacant places: each of them is, all of these are among them, none comes twice, and there is room for the keys
+-- of all places
 pub record AreVacant (spaces : List Space) (keys : List ℕ) (room : ℕ) : Type 0 where
   pub each : (j : ℕ) → j < length keys → (slice_index_or keys j 0 < length spaces) × (way spaces (slice_index_or keys j 0) ≡ [])
+  pub all : (s : ℕ) → s < length spaces → way spaces s ≡ [] → (j : ℕ) × (j < length keys) × (slice_index_or keys j 0 ≡ s)
   pub distinct : IsDistinct keys
   pub rooms : length spaces ≤ room
 

@@ -11,8 +11,8 @@ returns-in-Some-clause-here c =
     let keys = c.args.vacant.now.items in
     let key = c.in-Some.key in
     let is : keys ≡ c.pop.new.self.items ++ key ∷ [] = c.in-Some.ensures.items in
-    let next = vacancy.next-last spaces keys c.pop.new.self.items (vec_capacity c.args.vacant.now) key c.args.space c.requires.vacant is in
-    let last = vacancy.vacant-last spaces keys c.pop.new.self.items (vec_capacity c.args.vacant.now) key c.args.space c.requires.vacant is in
+    let next = vacancy.next-last spaces keys c.pop.new.self.items (vec_capacity c.args.vacant.now) key c.args.space c.requires.vacant is c.requires.there in
+    let last = vacancy.vacant-last spaces keys c.pop.new.self.items (vec_capacity c.args.vacant.now) key c.args.space c.requires.vacant is c.requires.there in
     ap (slot (set spaces key c.args.space)) next ∙ places.slot-set_same spaces key c.args.space last.0 ∙ places.shown-some c.args.space c.requires.there
 
 pub returns-in-Some-clause-others : goal.returns-in-Some-clause-others
@@ -21,7 +21,7 @@ returns-in-Some-clause-others c s differs =
     let keys = c.args.vacant.now.items in
     let key = c.in-Some.key in
     let is : keys ≡ c.pop.new.self.items ++ key ∷ [] = c.in-Some.ensures.items in
-    let next = vacancy.next-last spaces keys c.pop.new.self.items (vec_capacity c.args.vacant.now) key c.args.space c.requires.vacant is in
+    let next = vacancy.next-last spaces keys c.pop.new.self.items (vec_capacity c.args.vacant.now) key c.args.space c.requires.vacant is c.requires.there in
     places.slot-set_other spaces key s c.args.space (λ e. differs (e ∙ sym next))
 
 pub returns-in-Some-clause-vacant : goal.returns-in-Some-clause-vacant
@@ -29,4 +29,4 @@ returns-in-Some-clause-vacant c =
     let spaces = c.args.spaces.now.items in
     let key = c.in-Some.key in
     subst (AreVacant (set spaces key c.args.space) c.pop.new.self.items) (sym c.pop.ensures.capacity)
-    (vacancy.one-less spaces c.args.vacant.now.items c.pop.new.self.items (vec_capacity c.args.vacant.now) key c.args.space c.requires.vacant c.in-Some.ensures.items)
+    (vacancy.one-less spaces c.args.vacant.now.items c.pop.new.self.items (vec_capacity c.args.vacant.now) key c.args.space c.requires.vacant c.in-Some.ensures.items c.requires.there)
