@@ -45,7 +45,7 @@ pub struct Task {
 
 /// Tasks by key, in a tree.
 ///
-/// It takes some 90 bytes for each key.
+/// It takes some 80 bytes for each key.
 pub struct TaskTree {
     tasks: Cells,
     children: MemberLists,

@@ -1,21 +1,30 @@
 //! Tasks by key, as they lie in memory.
-ghost use Rattle.std.specs.Prelude.{◌≡◌, ◌<◌, length, None, OnOk, OnErr, [], ◌∷◌, ◌++◌, slice_set, slice_index_or};
-ghost use Rattle.task_tree.specs.Places.{task_in};
+ghost use Rattle.std.specs.Prelude.{◌≡◌, ◌<◌, length, None, Some, OnOk, OnErr, [], ◌∷◌, ◌++◌, slice_set, slice_index_or};
+ghost use Rattle.task_tree.specs.Places.{task_in, life_in};
 
 use crate::Task;
 use pid_types::keys::{ControlKey, TaskKey};
-use pid_types::plain::Life;
+use pid_types::plain::{Ended, Life};
 use std::alloc::{AllocError, Global};
 use std::marker::Model;
 
-/// What a key has: a task, or none where there is no life. It takes 24 bytes, and an `Option<Task>` 32.
+/// Whether a key has a task, and whether that has ended. It takes two bytes, and an `Option<Life>` four.
+#[derive(Clone, Copy)]
+enum Standing {
+    Vacant,
+    Alive,
+    Exited(u8),
+    Killed,
+}
+
+/// What a key has: a task, or none where it is vacant. It takes 16 bytes, and an `Option<Task>` 32.
 #[derive(Clone, Copy)]
 struct Place {
     children_space: u64,
     home: ControlKey,
     executed: bool,
     subreaper: bool,
-    life: Option<Life>,
+    standing: Standing,
 }
 
 /// At each key a task or none.
@@ -43,7 +52,32 @@ fn vacant() -> Place
         home: 0,
         executed: false,
         subreaper: false,
-        life: None,
+        standing: Standing::Vacant,
+    }
+}
+
+/// How a task with the life stands.
+#[inline(always)]
+fn standing_of(life: Life) -> Standing
+    ensures { life_in result ≡ Some life }
+{
+    match life {
+        Life::Live => Standing::Alive,
+        Life::Zombie(Ended::Exited(status)) => Standing::Exited(status),
+        Life::Zombie(Ended::Killed) => Standing::Killed,
+    }
+}
+
+/// The life of a task that stands so; none where the key is vacant.
+#[inline(always)]
+fn life_of(standing: Standing) -> Option<Life>
+    ensures { result ≡ life_in standing }
+{
+    match standing {
+        Standing::Vacant => None,
+        Standing::Alive => Some(Life::Live),
+        Standing::Exited(status) => Some(Life::Zombie(Ended::Exited(status))),
+        Standing::Killed => Some(Life::Zombie(Ended::Killed)),
     }
 }
 
@@ -58,7 +92,7 @@ fn place_of(task: Option<Task>) -> Place
             home: task.home,
             executed: task.executed,
             subreaper: task.subreaper,
-            life: Some(task.life),
+            standing: standing_of(task.life),
         },
         None => vacant(),
     }
@@ -69,7 +103,7 @@ fn place_of(task: Option<Task>) -> Place
 fn read_task(place: Place) -> Option<Task>
     ensures { result ≡ task_in place }
 {
-    let life = place.life?;
+    let life = life_of(place.standing)?;
     Some(Task {
         children_space: place.children_space,
         home: place.home,

@@ -1,4 +1,4 @@
-use Rattle.std.proofs.Common.{◌≡◌, ◌<◌, None, arith}
+use Rattle.std.proofs.Common.{◌<◌, None, arith}
 use Rattle.task_tree.specs.Tree.{is_subreaper}
 use Rattle.task_tree.proofs.Counts.{some-counted}
 use Rattle.task_tree.proofs.cells.Cells.any_subreaper.Goals as goal

@@ -1,4 +1,4 @@
-use Rattle.std.proofs.Common.{◌≡◌, ◌∙◌, ap, map, slice_set}
+use Rattle.std.proofs.Common.{◌∙◌, ap, map, slice_set}
 use Rattle.std.proofs.lemmas.List.{map-set}
 use Rattle.task_tree.specs.Places.{task_in}
 use Rattle.task_tree.proofs.places.Places.set.Goals as goal
