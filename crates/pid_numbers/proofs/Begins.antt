@@ -7,7 +7,8 @@ use Rattle.index_array.specs.Place.{entry_at, is_prepared}
 use Rattle.cyclic_ids.specs.Ids.{planned}
 use Rattle.pid_numbers.specs.declared.spaces.Space.{Space}
 use Rattle.pid_numbers.specs.Numbering.{Identifier, Namespace, moved, new_identifier}
-use Rattle.pid_numbers.specs.Slabs.{slot, namespace_of, way, entry_on, bound_on, plan_on, fell, touched, given_to, ArePlanned, AreReady, IsDistinct, IsNumbering, IsWhole}
+use Rattle.pid_numbers.specs.Slabs.{slot, namespace_of, way, entry_on, bound_on, plan_on, fell, touched, given_to, ArePlanned, AreReady, IsNumbering, IsWhole}
+use Rattle.pid_numbers.specs.Vacancy.{IsDistinct}
 use Rattle.pid_numbers.proofs.Ties as ties
 use Rattle.pid_numbers.proofs.Views as views
 use Rattle.pid_numbers.proofs.Adds as adds

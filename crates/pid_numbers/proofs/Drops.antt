@@ -1,14 +1,14 @@
 -- The sweep after an identifier went.
 use Rattle.std.proofs.Common.{◌≡◌, ◌≢◌, inl, inr, ℕ, ◌<◌, ◌-◌, Bool, true, false, ◌==◌, ◌&&◌, List, [], ◌∷◌, length, get_or, Option, Some, None, is_some, if◌then◌else◌, refl, sym, ap, subst, arith, ◌∙◌, option_map, option_and_then}
 use Rattle.std.specs.Option.{option_map_or}
-use Rattle.slab.specs.Slab.{Slab}
+use Rattle.pid_numbers.specs.Table.{Table}
 use Rattle.pid_types.specs.Chains.{contains}
 use Rattle.index_array.specs.Place.{Entry, entry_at, indexes}
 use Rattle.index_array.proofs.Indexes.{contains_indexes}
 use Rattle.pid_numbers.specs.declared.spaces.Space.{Space}
-use Rattle.pid_numbers.specs.declared.names.Ident.{Ident}
 use Rattle.pid_numbers.specs.Numbering.{Identifier, Numbering, namespace_at, identifier_at, is_used_as, less, uses, number_in, number_of, path_at, taken_in, is_dead, swept_at}
-use Rattle.pid_numbers.specs.Slabs.{slot, slots, AreFallen, namespace_of, namespaces_of, numbering_of, name_at, way, entry_on, bound_on, leads, fell, dead_on, goes, left_on, touched, IsTied, IsNumbering, IsWhole}
+use Rattle.pid_numbers.specs.Slabs.{slot, slots, AreFallen, namespace_of, namespaces_of, numbering_of, way, entry_on, bound_on, leads, fell, dead_on, goes, left_on, touched, IsTied, IsNumbering, IsWhole}
+use Rattle.pid_numbers.specs.Table.{name_at}
 use Rattle.std.specs.Prelude.{filter_map}
 use Rattle.pid_numbers.proofs.Ties.{get_or-map_option, at_key, listed_from, listed}
 use Rattle.std.proofs.lemmas.Bool.Decides.{nat_tests}
@@ -152,7 +152,7 @@ module _ (pid_max : ℕ) (spaces spaces1 : List Space) (names names' : ℕ → O
     }
 
     -- where the look-ups are those of the identifiers, the dead ones are the model's
-    module _ (idents : Slab Ident) (order : List (ℕ × ℕ)) (b' : IsNumbering pid_max (way spaces1) (entry_on spaces1) (bound_on spaces1) (name_at idents)) where
+    module _ (idents : Table) (order : List (ℕ × ℕ)) (b' : IsNumbering pid_max (way spaces1) (entry_on spaces1) (bound_on spaces1) (name_at idents)) where
       abbrev mid : Numbering
       mid = numbering_of pid_max spaces1 idents order
 
@@ -197,7 +197,7 @@ unfolding taken_in
 swept-next b next s = refl
 
 -- between two calls none is dead
-pub nothing-dead : (pid_max : ℕ) (spaces : List Space) (idents : Slab Ident) (order : List (ℕ × ℕ)) → IsWhole pid_max (way spaces) (entry_on spaces) (bound_on spaces) (name_at idents) (fell spaces)
+pub nothing-dead : (pid_max : ℕ) (spaces : List Space) (idents : Table) (order : List (ℕ × ℕ)) → IsWhole pid_max (way spaces) (entry_on spaces) (bound_on spaces) (name_at idents) (fell spaces)
     → (s : ℕ) → namespace_at (numbering_of pid_max spaces idents order) s ≡ swept_at (numbering_of pid_max spaces idents order) s
 nothing-dead pid_max spaces idents order b s =
     get_or-map_option namespace_of (slots spaces) s ∙ go (slot spaces s) refl
@@ -221,7 +221,7 @@ nothing-dead pid_max spaces idents order b s =
     go (Some z) at = sym (ap (λ g. if g then None else Some (namespace_of z)) (lives z at))
 
 -- the identifier that lost its last use
-pub last_one : (pid_max : ℕ) (spaces : List Space) (idents : Slab Ident) (order : List (ℕ × ℕ)) (idents1 : Slab Ident) (b : Numbering) → numbering_of pid_max spaces idents order ≡ b → (i : ℕ) (kind : Kind) → is_used_as kind (identifier_at b i) ≡ true
+pub last_one : (pid_max : ℕ) (spaces : List Space) (idents : Table) (order : List (ℕ × ℕ)) (idents1 : Table) (b : Numbering) → numbering_of pid_max spaces idents order ≡ b → (i : ℕ) (kind : Kind) → is_used_as kind (identifier_at b i) ≡ true
     → ((u : Identifier) → name_at idents i ≡ Some u → name_at idents1 i ≡ Some (less kind u)) → (gone : Identifier) → name_at idents1 i ≡ Some gone
     → (v : Identifier) × (name_at idents i ≡ Some v) × (gone.space ≡ v.space) × (gone.numbers ≡ v.numbers)
 last_one pid_max spaces idents order idents1 b view i kind used here gone is =
@@ -248,7 +248,7 @@ module _ (pid_max : ℕ) (spaces spaces1 : List Space) (names names' : ℕ → O
   off-release s n out = entries s n ∙ ties.touched-miss (way spaces gone.space) gone.numbers (λ _. None) (entry_on spaces) s n (sweeps.off-path s (way spaces gone.space) gone.numbers (gone-len (way spaces) names (leads (entry_on spaces)) b.tied i gone one) out n)
 
 -- a namespace with a number in use holds one that leads to its identifier
-pub taken-held : (pid_max : ℕ) (spaces : List Space) (idents : Slab Ident) (order : List (ℕ × ℕ)) → IsNumbering pid_max (way spaces) (entry_on spaces) (bound_on spaces) (name_at idents) → (s : ℕ)
+pub taken-held : (pid_max : ℕ) (spaces : List Space) (idents : Table) (order : List (ℕ × ℕ)) → IsNumbering pid_max (way spaces) (entry_on spaces) (bound_on spaces) (name_at idents) → (s : ℕ)
     → 0 < length (taken_in (numbering_of pid_max spaces idents order) s) → (n : ℕ) × (i : ℕ) × (leads (entry_on spaces) s n ≡ Some i)
 unfolding taken_in
 taken-held pid_max spaces idents order b s some =
@@ -266,7 +266,7 @@ taken-some b i s n e = some (filter_map (number_in (path_at b) s) b.names) (list
     some (m ∷ ms) on = omega arith
 
 -- and a fallen one has a number in use
-pub held-taken : (pid_max : ℕ) (spaces : List Space) (idents : Slab Ident) (order : List (ℕ × ℕ)) (b : Numbering) → numbering_of pid_max spaces idents order ≡ b
+pub held-taken : (pid_max : ℕ) (spaces : List Space) (idents : Table) (order : List (ℕ × ℕ)) (b : Numbering) → numbering_of pid_max spaces idents order ≡ b
     → IsNumbering pid_max (way spaces) (entry_on spaces) (bound_on spaces) (name_at idents) → AreFallen (way spaces) (entry_on spaces) (fell spaces) → (s : ℕ) → fell spaces s ≡ true → 0 < length (taken_in b s)
 held-taken pid_max spaces idents order b view w fallen s on =
     let r = fallen.held s on in

@@ -2,21 +2,22 @@
 use Rattle.std.proofs.Common.{◌≡◌, ◌≢◌, ℕ, ◌<◌, ◌≤◌, true, false, List, [], ◌∷◌, length, get_or, Option, Some, None, refl, sym, ap, subst, ◌∙◌, arith, lit≤, inl, inr, option_map, option_and_then}
 use Rattle.std.specs.Option.{option_map_or}
 use Rattle.std.proofs.lemmas.Bool.{cases_eq, false≢true}
-use Rattle.slab.specs.Slab.{Slab}
+use Rattle.pid_numbers.specs.Table.{Table}
 use Rattle.index_array.specs.Place.{Entry, entry_at}
 use Rattle.pid_types.specs.Chains.{contains}
 use Rattle.pid_types.specs.Settings.{HasGoodPidMax}
 use Rattle.id_slab.specs.Ids.{key_of}
 use Rattle.pid_numbers.specs.declared.spaces.Space.{Space}
-use Rattle.pid_numbers.specs.declared.names.Ident.{Ident}
 use Rattle.pid_numbers.specs.Numbering.{number_in}
-use Rattle.pid_numbers.specs.Slabs.{slot, namespace_of, name_at, way, entry_on, leads, bound_on, fell, id_on, IsPath, IsTree, IsTied, IsWhole, AreListed, AreVacant, IsKept}
+use Rattle.pid_numbers.specs.Slabs.{slot, slots, namespace_of, way, entry_on, leads, bound_on, fell, id_on, IsPath, IsTree, IsTied, IsWhole, AreListed, IsKept}
+use Rattle.pid_numbers.specs.Table.{name_at}
+use Rattle.pid_numbers.specs.Vacancy.{AreVacant}
 
 -- nothing is no value
 no_value : {X : Type 0} {o : Option X} {x : X} → o ≡ None → o ≡ Some x → ⊥
 no_value {X} {o} {x} none some = let e : None ≡ Some x = sym none ∙ some in cc
 
-module _ (pid_max : ℕ) (good : HasGoodPidMax pid_max) (spaces : List Space) (idents : Slab Ident) (space : Space) (here : slot spaces 0 ≡ Some space) (others : (s : ℕ) → s ≢ 0 → slot spaces s ≡ None) (path : space.path.items ≡ 0 ∷ []) (empty : (n : ℕ) → entry_at space.ids.places n ≡ None) (bound : space.ids.pid_max ≡ pid_max) (id : space.id ≡ 0) (stands : space.fallen ≡ false) (names : (i : ℕ) → name_at idents i ≡ None) where
+module _ (pid_max : ℕ) (good : HasGoodPidMax pid_max) (spaces : List Space) (idents : Table) (space : Space) (here : slot spaces 0 ≡ Some space) (others : (s : ℕ) → s ≢ 0 → slot spaces s ≡ None) (path : space.path.items ≡ 0 ∷ []) (empty : (n : ℕ) → entry_at space.ids.places n ≡ None) (bound : space.ids.pid_max ≡ pid_max) (id : space.id ≡ 0) (stands : space.fallen ≡ false) (names : (i : ℕ) → name_at idents i ≡ None) where
   way_root : way spaces 0 ≡ 0 ∷ []
   way_root = ap (λ o. option_map_or (λ t. t.path.items) o []) here ∙ path
 
@@ -110,5 +111,5 @@ module _ (pid_max : ℕ) (good : HasGoodPidMax pid_max) (spaces : List Space) (i
     ];
   }
 
-  pub founded : (order : List (ℕ × ℕ)) → order ≡ (0, 0) ∷ [] → (vacant : List ℕ) (room : ℕ) → AreVacant spaces vacant room → IsKept pid_max spaces vacant room idents order
+  pub founded : (order : List (ℕ × ℕ)) → order ≡ (0, 0) ∷ [] → (vacant : List ℕ) (room : ℕ) → AreVacant (slots spaces) vacant room → IsKept pid_max spaces vacant room idents order
   founded order e vacant room v = subst (λ o. IsKept pid_max spaces vacant room idents o) (sym e) (record { whole = whole; listed = listed; places = v })

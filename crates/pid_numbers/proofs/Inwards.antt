@@ -6,7 +6,7 @@ use Rattle.std.proofs.lemmas.List.{length-reverse, reverse-append}
 use Rattle.std.proofs.lemmas.List.Sorted.{list_any-IsPermutation, IsPermutation-reverse}
 use Rattle.pid_types.specs.Chains.{contains}
 use Rattle.pid_types.specs.Names.{beside_from}
-use Rattle.pid_numbers.specs.Slabs.{IsDistinct}
+use Rattle.pid_numbers.specs.Vacancy.{IsDistinct}
 use Rattle.pid_numbers.proofs.Sweeps.{cases, contains_at, place_of}
 
 contains-reverse : (ts : List ℕ) (s : ℕ) → contains (reverse ts) s ≡ contains ts s

@@ -1,5 +1,7 @@
-pub mod Places
 pub mod Vacancy
+pub mod Filled
+pub mod Places
+pub mod Seats
 pub mod Ties
 pub mod Sweeps
 pub mod Views

@@ -1,7 +1,7 @@
 -- The places of namespaces: what is seen of one that is written.
-use Rattle.std.proofs.Common.{inl, inr, zero, suc, ◌≡◌, ◌≢◌, ℕ, ◌<◌, ◌≤◌, ◌==◌, ◌&&◌, ◌||◌, List, [], ◌∷◌, length, map, get_or, set, Option, Some, None, if◌then◌else◌, Bool, true, false, refl, sym, ap, ◌∙◌, arith, option_map, option_and_then}
+use Rattle.std.proofs.Common.{inl, inr, zero, suc, ◌≡◌, ◌≢◌, ℕ, ◌<◌, ◌≤◌, ◌++◌, ◌==◌, ◌&&◌, ◌||◌, List, [], ◌∷◌, length, map, get_or, set, Option, Some, None, if◌then◌else◌, Bool, true, false, refl, sym, ap, ◌∙◌, arith, option_map, option_and_then}
 use Rattle.std.specs.Option.{option_map_or}
-use Rattle.std.proofs.lemmas.List.{get_or_past, get_or-set_same, get_or-set_other, length-map, map-set}
+use Rattle.std.proofs.lemmas.List.{length-map, map-set}
 use Rattle.std.proofs.Math.Seq.{map-set_same}
 use Rattle.std.proofs.lemmas.Bool.{cases_lt, cases_eq}
 use Rattle.std.proofs.lemmas.Bool.Decides.{nat_tests}
@@ -10,34 +10,32 @@ use Rattle.pid_numbers.specs.declared.spaces.Space.{Space}
 use Rattle.index_array.specs.Place.{indexes}
 use Rattle.cyclic_ids.specs.Ids.{planned}
 use Rattle.pid_numbers.specs.Slabs.{shown, slots, slot, way, plan_on, dead_on, namespace_of, namespaces_of}
+use Rattle.pid_numbers.specs.Vacancy.{AreVacant}
+use Rattle.pid_numbers.proofs.Filled as filled
+use Rattle.pid_numbers.proofs.Vacancy as vacancy
+
+-- how long its path is
+abbrev pub path_len : Space → ℕ
+path_len s = length s.path.items
 
 -- one with a path is seen
 pub shown-some : (y : Space) → 0 < length y.path.items → shown y ≡ Some y
-shown-some y some = go (length y.path.items) some
-  where
-    go : (n : ℕ) → 0 < n → (if n == 0 then None else Some y) ≡ Some y
-    go n up = grind (arith, nat_tests, up)
+shown-some y some = filled.show-some path_len y some
 
 -- and one without is not
 pub shown-none : (y : Space) → y.path.items ≡ [] → shown y ≡ None
-shown-none y none = ap (λ (l : List ℕ). if length l == 0 then None else Some y) none
+shown-none y none = filled.show-none path_len y (ap length none)
 
 -- what is seen is the place
 pub seen : (y z : Space) → shown y ≡ Some z → (y ≡ z) × (0 < length y.path.items)
-seen y z e = go (length y.path.items) e
-  where
-    go : (n : ℕ) → (if n == 0 then None else Some y) ≡ Some z → (y ≡ z) × (0 < n)
-    go zero e = absurd (cc)
-    go (suc n) e = let off : (suc n == 0) ≡ false = grind (arith, nat_tests) in let is : Some y ≡ Some z = rw off at e in (cc, omega arith)
+seen y z e = filled.seen path_len y z e
 
 -- a place in range
 pub slot-in : (spaces : List Space) (s : ℕ) (y : Space) → s < length spaces → y ≡ get_or spaces s y → slot spaces s ≡ shown y
-slot-in (z ∷ zs) zero y lt e = ap shown (sym e)
-slot-in (z ∷ zs) (suc s) y lt e = slot-in zs s y (omega (arith, lt)) e
-slot-in [] s y lt e = absurd (omega (arith, lt))
+slot-in spaces s y lt e = filled.slot-in path_len spaces s y lt e
 
 pub slot-past : (spaces : List Space) (s : ℕ) → length spaces ≤ s → slot spaces s ≡ None
-slot-past spaces s past = let l = length-map spaces shown in get_or_past (slots spaces) s None (omega (arith, l, past))
+slot-past spaces s past = filled.slot-past path_len spaces s past
 
 -- a place with a path is in range
 pub way-in : (spaces : List Space) (s : ℕ) → 0 < length (way spaces s) → s < length spaces
@@ -60,10 +58,10 @@ way-at spaces s y lt e = ap (λ o. option_map_or (λ t. t.path.items) o []) (slo
 
 -- a place that is written, and the others
 pub slot-set_same : (spaces : List Space) (k : ℕ) (y : Space) → k < length spaces → slot (set spaces k y) k ≡ shown y
-slot-set_same spaces k y lt = let l = length-map spaces shown in ap (λ l. get_or l k None) (map-set shown spaces k y) ∙ get_or-set_same (slots spaces) k (shown y) None (omega (arith, lt, l))
+slot-set_same spaces k y lt = filled.slot-set_same path_len spaces k y lt
 
 pub slot-set_other : (spaces : List Space) (k s : ℕ) (y : Space) → s ≢ k → slot (set spaces k y) s ≡ slot spaces s
-slot-set_other spaces k s y differs = ap (λ l. get_or l s None) (map-set shown spaces k y) ∙ get_or-set_other (slots spaces) k s (shown y) None differs
+slot-set_other spaces k s y differs = filled.slot-set_other path_len spaces k s y differs
 
 -- a namespace with a path is there
 pub there-at : (spaces : List Space) (s : ℕ) (y : Space) → 0 < length (way spaces s) → y ≡ get_or spaces s y → slot spaces s ≡ Some y
@@ -155,3 +153,29 @@ dead-there spaces s e = go (slot spaces s) refl e
     go : (o : Option Space) → slot spaces s ≡ o → option_map_or (λ t. t.fallen && (length (indexes t.ids.places) == 0)) o false ≡ true → 0 < length (way spaces s)
     go None at e = absurd (cc)
     go (Some z) at e = let l = ap (λ o. length (option_map_or (λ t. t.path.items) o [])) at in let up = path-some spaces s z at in omega (arith, l, up)
+
+-- as many places as there are
+pub slots-len : (spaces : List Space) → length (slots spaces) ≡ length spaces
+slots-len spaces = length-map spaces shown
+
+-- where the paths stay, the same places are vacant
+pub vacant-same : (old new : List Space) (keys : List ℕ) (room : ℕ) → AreVacant (slots old) keys room → length new ≡ length old → ((s : ℕ) → way new s ≡ way old s) → AreVacant (slots new) keys room
+vacant-same old new keys room v len ways =
+    vacancy.vacant-as (slots old) (slots new) keys room v (slots-len new ∙ len ∙ sym (slots-len old))
+    (λ s none. no-path new s (ways s ∙ ap (λ o. option_map_or (λ t. t.path.items) o []) none))
+    (λ s none. no-path old s (sym (ways s) ∙ ap (λ o. option_map_or (λ t. t.path.items) o []) none))
+
+-- and so they are as many where the namespaces are the same
+pub as-many : (old new : List Space) → namespaces_of new ≡ namespaces_of old → length new ≡ length old
+as-many old new same = sym (count new) ∙ ap length same ∙ count old
+  where
+    count : (spaces : List Space) → length (namespaces_of spaces) ≡ length spaces
+    count spaces = length-map (slots spaces) (option_map namespace_of) ∙ slots-len spaces
+
+-- a place that is written, among all of them
+pub slots-set : (spaces : List Space) (k : ℕ) (y : Space) (o : Option Space) → shown y ≡ o → slots (set spaces k y) ≡ set (slots spaces) k o
+slots-set spaces k y o is = filled.slots-set path_len spaces k y o is
+
+-- and a new one
+pub slots-new : (spaces : List Space) (y : Space) → 0 < length y.path.items → slots (spaces ++ y ∷ []) ≡ slots spaces ++ Some y ∷ []
+slots-new spaces y there = filled.slots-new path_len spaces y there

@@ -11,7 +11,8 @@ use Rattle.pid_numbers.specs.declared.spaces.Space.{Space}
 use Rattle.index_array.specs.Place.{Entry, Place, entry_at, indexes}
 use Rattle.index_array.proofs.Indexes.{contains_indexes}
 use Rattle.pid_numbers.specs.Numbering.{Identifier, number_in}
-use Rattle.pid_numbers.specs.Slabs.{slot, IsPath, IsTree, IsNumbering, AreFallen, leads, dead_on, left_on, IsDistinct}
+use Rattle.pid_numbers.specs.Slabs.{slot, IsPath, IsTree, IsNumbering, AreFallen, leads, dead_on, left_on}
+use Rattle.pid_numbers.specs.Vacancy.{IsDistinct}
 use Rattle.pid_numbers.proofs.Ties.{at-path, distinct-path}
 
 -- the namespaces that have fallen stay, where none loses its last number

@@ -11,7 +11,8 @@ use Rattle.index_array.specs.Place.{Entry, with_mark}
 use Rattle.pid_types.specs.declared.call.Kind.{Kind}
 use Rattle.pid_types.specs.declared.call.Kind.TheVariants.{Task, Group, Session}
 use Rattle.pid_numbers.specs.Numbering.{Identifier, Namespace, moved, number_in, is_used, is_used_as, with_uses}
-use Rattle.pid_numbers.specs.Slabs.{stepped, IsDistinct, IsPath, IsTree, IsTied, IsNumbering, touched, leads, given_to, mark_of, marks_of, AreMarked, AreInRange}
+use Rattle.pid_numbers.specs.Slabs.{stepped, IsPath, IsTree, IsTied, IsNumbering, touched, leads, given_to, mark_of, marks_of, AreMarked, AreInRange}
+use Rattle.pid_numbers.specs.Vacancy.{IsDistinct}
 
 -- where each draws, each number is the one drawn
 pub planned_each : (d : ℕ → Option ℕ) (path : List ℕ) → find (λ s. is_none (d s)) path ≡ None → (k : ℕ) → k < length path → d (get_or path k 0) ≡ Some (get_or (map (λ s. unwrap_or (d s) 0) path) k 0)

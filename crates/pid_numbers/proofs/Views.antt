@@ -10,19 +10,19 @@ use Rattle.pid_types.specs.Chains.{contains}
 use Rattle.pid_types.specs.Draw.{cyclic_draw, restart}
 use Rattle.pid_types.proofs.LeastFree.{draw-Some}
 use Rattle.cyclic_ids.specs.Ids.{Ids, planned}
-use Rattle.slab.specs.Slab.{Slab}
+use Rattle.pid_numbers.specs.Table.{Table}
 use Rattle.index_array.specs.Place.{Entry, entry_at, indexes, is_marked, IsLeastIndex}
 use Rattle.index_array.proofs.Indexes.{contains_indexes}
 use Rattle.cyclic_ids.proofs.Draws.{cyclic_draw-same}
 use Rattle.pid_numbers.specs.declared.spaces.Space.{Space}
-use Rattle.pid_numbers.specs.declared.names.Ident.{Ident}
 use Rattle.pid_numbers.specs.Numbering.{Numbering, Identifier, Namespace, moved, levels_of, namespace_at, identifier_at, path_at, number_in, number_of, taken_in, draw_in, is_used_as, is_used, with_uses, uses, more, IsNumberUsedAs, IsNextUsed}
 use Rattle.pid_types.specs.declared.call.Kind.{Kind}
 use Rattle.pid_types.specs.declared.call.Kind.TheVariants.{Task, Group, Session}
-use Rattle.pid_numbers.specs.Slabs.{slot, slots, fell, numbering_of, namespace_of, identifier_of, way, entry_on, leads, plan_on, name_at, namespaces_of, marks_of, mark_of, bound_on, ArePlanned, IsNumbering}
+use Rattle.pid_numbers.specs.Slabs.{slot, slots, fell, numbering_of, namespace_of, way, entry_on, leads, plan_on, namespaces_of, marks_of, mark_of, bound_on, ArePlanned, IsNumbering}
+use Rattle.pid_numbers.specs.Table.{identifier_of, name_at}
 use Rattle.pid_numbers.proofs.Ties.{at_key, get_or-map_option, listed_from, listed, planned_each}
 
-module _ (pid_max : ℕ) (spaces : List Space) (idents : Slab Ident) (order : List (ℕ × ℕ)) where
+module _ (pid_max : ℕ) (spaces : List Space) (idents : Table) (order : List (ℕ × ℕ)) where
   abbrev numbering : Numbering
   numbering = numbering_of pid_max spaces idents order
 
@@ -126,7 +126,7 @@ pub below_bound : (ids : Ids ℕ) (n : ℕ) → planned ids ≡ Some n → n < i
 below_bound ids n e = (draw-Some ids.pid_max ids.cursor (indexes ids.places) n e).2
 
 -- a namespace that is there has a path
-pub there : (pid_max : ℕ) (spaces : List Space) (idents : Slab Ident) (order : List (ℕ × ℕ)) → IsNumbering pid_max (way spaces) (entry_on spaces) (bound_on spaces) (name_at idents) → (b : Numbering) → numbering_of pid_max spaces idents order ≡ b → (s : ℕ) → IsSome (namespace_at b s) → 0 < length (way spaces s)
+pub there : (pid_max : ℕ) (spaces : List Space) (idents : Table) (order : List (ℕ × ℕ)) → IsNumbering pid_max (way spaces) (entry_on spaces) (bound_on spaces) (name_at idents) → (b : Numbering) → numbering_of pid_max spaces idents order ≡ b → (s : ℕ) → IsSome (namespace_at b s) → 0 < length (way spaces s)
 there pid_max spaces idents order inv b view s some = go (slot spaces s) refl (subst IsSome (ap (λ z. namespace_at z s) (sym view) ∙ get_or-map_option namespace_of (slots spaces) s) some)
   where
     go : (o : Option Space) → slot spaces s ≡ o → IsSome (option_map namespace_of o) → 0 < length (way spaces s)
@@ -134,7 +134,7 @@ there pid_max spaces idents order inv b view s some = go (slot spaces s) refl (s
     go (Some z) is h = (inv.bounds s z.ids.pid_max (ap (option_map (λ t. t.ids.pid_max)) is)).1
 
 -- the identifier with a key is that of the slab
-pub identifier_is : (pid_max : ℕ) (spaces : List Space) (idents : Slab Ident) (order : List (ℕ × ℕ)) (b : Numbering) → numbering_of pid_max spaces idents order ≡ b → (k : ℕ) → identifier_at b k ≡ name_at idents k
+pub identifier_is : (pid_max : ℕ) (spaces : List Space) (idents : Table) (order : List (ℕ × ℕ)) (b : Numbering) → numbering_of pid_max spaces idents order ≡ b → (k : ℕ) → identifier_at b k ≡ name_at idents k
 identifier_is pid_max spaces idents order b view k = ap (λ z. identifier_at z k) (sym view) ∙ name_is pid_max spaces idents order k
 
 -- an identifier that is there
@@ -189,7 +189,7 @@ get_mark Task o = refl
 get_mark Group o = refl
 get_mark Session o = refl
 
-module _ (pid_max : ℕ) (spaces : List Space) (idents : Slab Ident) (order : List (ℕ × ℕ)) (b : IsNumbering pid_max (way spaces) (entry_on spaces) (bound_on spaces) (name_at idents)) (kind : Kind) (s : ℕ) where
+module _ (pid_max : ℕ) (spaces : List Space) (idents : Table) (order : List (ℕ × ℕ)) (b : IsNumbering pid_max (way spaces) (entry_on spaces) (bound_on spaces) (name_at idents)) (kind : Kind) (s : ℕ) where
   abbrev whole : Numbering
   whole = numbering_of pid_max spaces idents order
 
@@ -244,11 +244,11 @@ fell-moved path numbers s None = refl
 fell-moved path numbers s (Some t) = refl
 
 -- a namespace with a key is that of the slab
-pub namespace_is : (pid_max : ℕ) (spaces : List Space) (idents : Slab Ident) (order : List (ℕ × ℕ)) (b : Numbering) → numbering_of pid_max spaces idents order ≡ b → (s : ℕ) → namespace_at b s ≡ option_map namespace_of (slot spaces s)
+pub namespace_is : (pid_max : ℕ) (spaces : List Space) (idents : Table) (order : List (ℕ × ℕ)) (b : Numbering) → numbering_of pid_max spaces idents order ≡ b → (s : ℕ) → namespace_at b s ≡ option_map namespace_of (slot spaces s)
 namespace_is pid_max spaces idents order b view s = ap (λ z. namespace_at z s) (sym view) ∙ get_or-map_option namespace_of (slots spaces) s
 
 -- and its path
-pub path-of : (pid_max : ℕ) (spaces : List Space) (idents : Slab Ident) (order : List (ℕ × ℕ)) (b : Numbering) → numbering_of pid_max spaces idents order ≡ b → (s : ℕ) → path_at b s ≡ way spaces s
+pub path-of : (pid_max : ℕ) (spaces : List Space) (idents : Table) (order : List (ℕ × ℕ)) (b : Numbering) → numbering_of pid_max spaces idents order ≡ b → (s : ℕ) → path_at b s ≡ way spaces s
 path-of pid_max spaces idents order b view s = ap (λ z. path_at z s) (sym view) ∙ path_is pid_max spaces idents order s
 
 -- the identifier whose namespace was found
@@ -257,7 +257,7 @@ home None own e = absurd (cc)
 home (Some u) own e = (u, refl, ap (λ o. unwrap_or o 0) (sym e))
 
 -- its numbers from a namespace inwards
-pub levels-of : (pid_max : ℕ) (spaces : List Space) (idents : Slab Ident) (order : List (ℕ × ℕ)) (b : Numbering) → numbering_of pid_max spaces idents order ≡ b → (i s own : ℕ) (u : Identifier) → name_at idents i ≡ Some u → u.space ≡ own
+pub levels-of : (pid_max : ℕ) (spaces : List Space) (idents : Table) (order : List (ℕ × ℕ)) (b : Numbering) → numbering_of pid_max spaces idents order ≡ b → (i s own : ℕ) (u : Identifier) → name_at idents i ≡ Some u → u.space ≡ own
     → levels_of b i s ≡ beside_from s (reverse (way spaces own)) (reverse u.numbers)
 levels-of pid_max spaces idents order b view i s own u is at =
     ap (λ z. levels_of z i s) (sym view)

@@ -1,2 +1,5 @@
 pub mod Numbering
+pub mod Blocks
+pub mod Vacancy
+pub mod Table
 pub mod Slabs

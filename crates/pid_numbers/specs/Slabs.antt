@@ -1,8 +1,7 @@
--- The places of namespaces, the slab of identifiers, and what ties them.
-use Rattle.std.specs.Prelude.{◌≡◌, ◌≢◌, ◌⊎◌, ℕ, ◌+◌, ◌-◌, ◌<◌, ◌≤◌, ◌==◌, ◌&&◌, Bool, true, false, List, [], ◌∷◌, length, map, Option, Some, None, option_map, option_and_then, if◌then◌else◌, slice_index_or}
+-- The places of namespaces and those of identifiers, and what ties them.
+use Rattle.std.specs.Prelude.{◌≡◌, ◌⊎◌, ℕ, ◌+◌, ◌<◌, ◌≤◌, ◌==◌, ◌&&◌, Bool, true, false, List, [], ◌∷◌, length, map, Option, Some, None, option_map, option_and_then, if◌then◌else◌, slice_index_or}
 use Rattle.std.specs.Option.{option_map_or, option_eq}
 use Rattle.std.specs.List.{AllByRecursion}
-use Rattle.slab.specs.Slab.{Slab, get}
 use Rattle.id_slab.specs.Ids.{key_of}
 use Rattle.index_array.specs.Place.{Entry, entry_at, index_count, is_prepared, indexes}
 use Rattle.cyclic_ids.specs.Ids.{planned}
@@ -12,14 +11,12 @@ use Rattle.pid_types.specs.Settings.{HasGoodPidMax}
 use Rattle.pid_types.specs.declared.call.Kind.{Kind}
 use Rattle.pid_types.specs.declared.call.Kind.TheVariants.{Task, Group, Session}
 use Rattle.pid_numbers.specs.declared.spaces.Space.{Space}
-use Rattle.pid_numbers.specs.declared.names.Ident.{Ident}
+use Rattle.pid_numbers.specs.Vacancy.{AreVacant}
+use Rattle.pid_numbers.specs.Table.{Table, identifier_of, name_at}
 use Rattle.pid_numbers.specs.Numbering.{Namespace, Identifier, Numbering, number_in, is_used_as, is_used, HasOwnTask}
 
 abbrev pub namespace_of : Space → Namespace
 namespace_of s = record { id = s.id; fallen = s.fallen; path = s.path.items; cursor = s.ids.cursor }
-
-abbrev pub identifier_of : Ident → Identifier
-identifier_of x = record { space = x.space; numbers = x.numbers; tasks = x.tasks; groups = x.groups; sessions = x.sessions }
 
 -- the namespace at a place, none where the place is vacant: then its path is empty
 abbrev pub shown : Space → Option Space
@@ -36,14 +33,11 @@ slot spaces s = slice_index_or (slots spaces) s None
 abbrev pub namespaces_of : List Space → List (Option Namespace)
 namespaces_of spaces = map (option_map namespace_of) (slots spaces)
 
-abbrev pub numbering_of : ℕ → List Space → Slab Ident → List (ℕ × ℕ) → Numbering
+abbrev pub numbering_of : ℕ → List Space → Table → List (ℕ × ℕ) → Numbering
 numbering_of pid_max spaces idents order = record { pid_max = pid_max; next = idents.vacant_key; namespaces = namespaces_of spaces; names = map (option_map identifier_of) idents.slots; order = order }
 
 abbrev pub namespace_on : List Space → ℕ → Option Namespace
 namespace_on spaces s = option_map namespace_of (slot spaces s)
-
-abbrev pub name_at : Slab Ident → ℕ → Option Identifier
-name_at idents i = option_map identifier_of (get idents i)
 
 -- the path of a namespace, none where there is no such namespace
 abbrev pub way : List Space → ℕ → List ℕ
@@ -143,34 +137,18 @@ pub record AreListed (id : ℕ → Option ℕ) (order : List (ℕ × ℕ)) : Typ
   pub each : AllByRecursion (λ p. id p.1 ≡ Some p.0) order
   pub listed : (s i : ℕ) → id s ≡ Some i → key_of order i ≡ Some s
 
--- each key is another than those before
-abbrev pub IsDistinct : List ℕ → Type 0
-IsDistinct path = (i j : ℕ) → i < j → j < length path → slice_index_or path i 0 ≢ slice_index_or path j 0
-
--- the keys are those of the vacant places: each of them is, all of these are among them, none comes twice, and there is room for the keys
--- of all places
-pub record AreVacant (spaces : List Space) (keys : List ℕ) (room : ℕ) : Type 0 where
-  pub each : (j : ℕ) → j < length keys → (slice_index_or keys j 0 < length spaces) × (way spaces (slice_index_or keys j 0) ≡ [])
-  pub all : (s : ℕ) → s < length spaces → way spaces s ≡ [] → (j : ℕ) × (j < length keys) × (slice_index_or keys j 0 ≡ s)
-  pub distinct : IsDistinct keys
-  pub rooms : length spaces ≤ room
-
--- the key of the next namespace: the last of the vacant ones, or else a new one
-abbrev pub next_place : List Space → List ℕ → ℕ
-next_place spaces vacant = slice_index_or vacant (length vacant - 1) (length spaces)
-
 -- all of that, the order, and the vacant places
-pub record IsKept (pid_max : ℕ) (spaces : List Space) (vacant : List ℕ) (room : ℕ) (idents : Slab Ident) (order : List (ℕ × ℕ)) : Type 0 where
+pub record IsKept (pid_max : ℕ) (spaces : List Space) (vacant : List ℕ) (room : ℕ) (idents : Table) (order : List (ℕ × ℕ)) : Type 0 where
   pub whole : IsWhole pid_max (way spaces) (entry_on spaces) (bound_on spaces) (name_at idents) (fell spaces)
   pub listed : AreListed (id_on spaces) order
-  pub places : AreVacant spaces vacant room
+  pub places : AreVacant (slots spaces) vacant room
 
 -- the own namespace of an identifier
-abbrev pub home_at : Slab Ident → ℕ → Option ℕ
+abbrev pub home_at : Table → ℕ → Option ℕ
 home_at idents i = option_map (λ u. u.space) (name_at idents i)
 
 -- the numbers that tasks have in the namespace lead to each namespace inside that has not fallen
-pub record LeadsInside (spaces : List Space) (idents : Slab Ident) (outer : ℕ) : Type 0 where
+pub record LeadsInside (spaces : List Space) (idents : Table) (outer : ℕ) : Type 0 where
   pub tied : IsTied (way spaces) (name_at idents) (leads (entry_on spaces))
   pub marks : AreMarked (entry_on spaces) (name_at idents)
   pub range : (n i : ℕ) → leads (entry_on spaces) outer n ≡ Some i → n < index_count

@@ -5,12 +5,12 @@ ghost use Rattle.pid_numbers.specs.Slabs.{slot, id_on, AreListed, LeadsInside, I
 ghost use Rattle.pid_numbers.specs.Slabs.{namespace_on, bound_on};
 ghost use Rattle.pid_numbers.specs.Numbering.{fallen_within, felled};
 
-use crate::names::{Ident, home_of};
+use crate::idents::Idents;
+use crate::names::home_of;
 use crate::spaces::{Space, is_inside, look, next_at};
 use id_slab::RisingIds;
 use pid_types::call::Kind;
 use pid_types::keys::{IdentKey, Pid, SpaceKey};
-use slab::Slab;
 
 /// Up to so many namespaces are looked at one after the other. Where there are more, the tasks of the one that
 /// falls lead to those inside it.
@@ -50,12 +50,7 @@ fn fall_among(spaces: &mut Vec<Space>, order: &RisingIds, outer: SpaceKey)
 }
 
 /// The own namespace of the identifier that has the number.
-fn home_behind(
-    spaces: &Vec<Space>,
-    idents: &Slab<Ident>,
-    space: SpaceKey,
-    n: Pid,
-) -> Option<SpaceKey>
+fn home_behind(spaces: &Vec<Space>, idents: &Idents, space: SpaceKey, n: Pid) -> Option<SpaceKey>
     ensures { result ≡ option_and_then (home_at idents.now) (leads (entry_on spaces.now.items) space n) }
 {
     home_of(idents, look(spaces, space, n)?)
@@ -76,7 +71,7 @@ fn mark_fallen(spaces: &mut Vec<Space>, key: SpaceKey)
 
 /// The namespace and all inside it have fallen. It costs a search for each task that has a number in it, and looks at
 /// no namespace but those inside.
-fn fall_by_tasks(spaces: &mut Vec<Space>, idents: &Slab<Ident>, outer: SpaceKey)
+fn fall_by_tasks(spaces: &mut Vec<Space>, idents: &Idents, outer: SpaceKey)
     requires { LeadsInside spaces.old.items idents.now outer }
     ensures namespaces { (s : ℕ) → namespace_on spaces.new.items s
         ≡ option_map (fallen_within outer) (namespace_on spaces.old.items s) }
@@ -97,12 +92,7 @@ fn fall_by_tasks(spaces: &mut Vec<Space>, idents: &Slab<Ident>, outer: SpaceKey)
 
 /// The namespace and all inside it have fallen. It costs a step for each namespace that is there, if they are few, or
 /// else a search for each task that has a number in the one that falls.
-pub(crate) fn fall_all(
-    spaces: &mut Vec<Space>,
-    idents: &Slab<Ident>,
-    order: &RisingIds,
-    outer: SpaceKey,
-)
+pub(crate) fn fall_all(spaces: &mut Vec<Space>, idents: &Idents, order: &RisingIds, outer: SpaceKey)
     requires tree { IsTree (way spaces.old.items) }
     requires listed { AreListed (id_on spaces.old.items) order.now }
     requires leads { LeadsInside spaces.old.items idents.now outer }

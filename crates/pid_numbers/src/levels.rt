@@ -1,7 +1,8 @@
 //! The numbers of one identifier.
 
 ghost use Rattle.pid_types.specs.Bounds.{deepest_space};
-ghost use Rattle.std.specs.Prelude.{◌≡◌, ◌<◌, ◌≤◌, length, reverse, take, IfOk, slice_index_or, ◌+◌};
+ghost use Rattle.std.specs.Prelude.{◌≡◌, ◌<◌, ◌≤◌, length, reverse, take, IfOk, slice_index_or, ◌+◌, [], ◌==◌};
+ghost use Rattle.pid_numbers.specs.Blocks.{numbers_in, IsFilled};
 
 use arrayvec::ArrayVec;
 use pid_types::keys::Pid;
@@ -9,63 +10,158 @@ use pid_types::plain::LEVELS;
 use std::alloc::{AllocError, Global};
 use std::marker::Model;
 
-/// The numbers of one identifier, one for each level, innermost first.
-///
-/// An identifier of the root namespace takes no memory beside this record.
+/// A few numbers, and room for more up to `N` in all.
 #[derive(Drop)]
-pub(crate) struct LevelNumbers {
-    inner: Vec<Pid>,
-    root: Pid,
+struct Block<const N: usize> {
+    count: u32,
+    numbers: [Pid; N],
 }
 
-impl Model for LevelNumbers {
-    ghost use Rattle.std.specs.Prelude.{List, ℕ, ◌++◌, [], ◌∷◌};
+impl<const N: usize> Model for Block<N> {
+    ghost use Rattle.std.specs.Prelude.{List, ℕ, ◌≤◌, take};
 
     ghost Value = { List ℕ };
 
-    ghost view = { λ a. a.inner.items ++ a.root ∷ [] };
+    ghost view = { λ a. take a.count a.numbers };
+
+    ghost invariant = { λ a. a.count ≤ N };
+}
+
+impl<const N: usize> Block<N> {
+    /// A block with the numbers. The error is want of memory.
+    fn new(alloc: Global, numbers: &[Pid]) -> Result<Box<Self>, AllocError>
+        requires room { length numbers.now ≤ N }
+        requires few { length numbers.now ≤ deepest_space + 1 }
+        ensures { IfOk result (λ block. block.value ≡ numbers.now) }
+    {
+        let empty = Block {
+            count: 0,
+            numbers: [0; N],
+        };
+        let mut block = Box::new(alloc, empty)?;
+        block.fill(numbers);
+        Ok(block)
+    }
+
+    /// Writes the numbers over those that it has.
+    #[inline(always)]
+    fn fill(&mut self, numbers: &[Pid])
+        requires room { length numbers.now ≤ N }
+        requires few { length numbers.now ≤ deepest_space + 1 }
+        ensures { self.new ≡ numbers.now }
+    {
+        self.numbers[..numbers.len()].copy_from_slice(numbers);
+        self.count = numbers.len() as u32;
+    }
+
+    /// The numbers.
+    #[inline(always)]
+    fn as_slice(&self) -> &[Pid]
+        ensures { result.now ≡ self.now }
+    {
+        &self.numbers[..self.count as usize]
+    }
+}
+
+/// Where the numbers are: one in place, and more of them in a block of memory that they about fill, with what the
+/// allocator adds: 32, 64 or 144 bytes.
+#[derive(Drop)]
+enum Place {
+    Nowhere,
+    Here([Pid; 1]),
+    Small(Box<Block<5>>),
+    Middle(Box<Block<13>>),
+    Large(Box<Block<LEVELS>>),
+}
+
+/// The numbers of one identifier, one for each level, innermost first.
+///
+/// It takes 16 bytes, and an identifier of the root namespace no memory beside them.
+#[derive(Drop)]
+pub(crate) struct LevelNumbers {
+    place: Place,
+}
+
+impl Model for LevelNumbers {
+    ghost use Rattle.std.specs.Prelude.{List, ℕ};
+    ghost use Rattle.pid_numbers.specs.Blocks.{numbers_in, IsFilled};
+
+    ghost Value = { List ℕ };
+
+    ghost view = { λ a. numbers_in a.place };
+
+    ghost invariant = { λ a. IsFilled a.place };
+}
+
+/// Where numbers go, so that they take little more memory than they need. The error is want of memory.
+#[inline(always)]
+fn place_for(alloc: Global, numbers: &[Pid]) -> Result<Place, AllocError>
+    requires { length numbers.now ≤ deepest_space + 1 }
+    ensures numbers { IfOk result (λ place. numbers_in place ≡ numbers.now) }
+    ensures filled { IfOk result IsFilled }
+{
+    Ok(match numbers {
+        [] => Place::Nowhere,
+        [number] => Place::Here([*number]),
+        _ if numbers.len() <= 5 => Place::Small(Block::new(alloc, numbers)?),
+        _ if numbers.len() <= 13 => Place::Middle(Block::new(alloc, numbers)?),
+        _ => Place::Large(Block::new(alloc, numbers)?),
+    })
 }
 
 impl LevelNumbers {
+    /// No numbers.
+    pub(crate) fn none() -> Self
+        ensures { result ≡ [] }
+    {
+        LevelNumbers {
+            place: Place::Nowhere,
+        }
+    }
+
     /// Keeps the numbers. The error is want of memory.
+    #[inline(always)]
     pub(crate) fn from(alloc: Global, numbers: &[Pid]) -> Result<Self, AllocError>
-        requires { 0 < length numbers.now }
+        requires { length numbers.now ≤ deepest_space + 1 }
         ensures { IfOk result (λ r. r ≡ numbers.now) }
     {
-        let last = numbers.len() - 1;
-        let root = numbers[last];
-        if last == 0 {
-            let inner = Vec::new(alloc);
-            return Ok(LevelNumbers { inner, root });
-        }
-        let mut inner = Vec::with_capacity(alloc, last)?;
-        inner.extend_from_slice(&numbers[..last])?;
-        Ok(LevelNumbers { inner, root })
+        let place = place_for(alloc, numbers)?;
+        Ok(LevelNumbers { place })
     }
 
-    /// The number at a level, counted from the innermost.
-    pub(crate) fn at(&self, k: usize) -> Pid
-        requires { k < length self.now }
-        ensures { result ≡ slice_index_or self.now k 0 }
-    {
-        if k < self.inner.len() {
-            self.inner[k]
-        } else {
-            self.root
-        }
-    }
-
-    /// Writes the innermost numbers, so many, the outermost of them first.
+    /// The numbers.
     #[inline(always)]
-    pub(crate) fn write_inwards(&self, count: usize, numbers: &mut ArrayVec<Pid, LEVELS>)
-        requires there { count ≤ length self.now }
-        requires few { count ≤ deepest_space + 1 }
-        ensures { numbers.new.items ≡ reverse (take count self.now) }
+    pub(crate) fn as_slice(&self) -> &[Pid]
+        ensures { result.now ≡ self.now }
     {
-        numbers.clear();
-        for k in 0..count {
-            numbers.push(self.at(k));
+        match &self.place {
+            Place::Here(number) => number,
+            Place::Nowhere => &[],
+            Place::Small(block) => block.as_slice(),
+            Place::Middle(block) => block.as_slice(),
+            Place::Large(block) => block.as_slice(),
         }
-        numbers.as_mut_slice().reverse();
     }
+
+    /// Whether there are none.
+    #[inline(always)]
+    pub(crate) fn is_none(&self) -> bool
+        ensures { result ≡ (length self.now == 0) }
+    {
+        matches!(self.place, Place::Nowhere)
+    }
+}
+
+/// Writes the innermost numbers, so many, the outermost of them first.
+#[inline(always)]
+pub(crate) fn write_inwards(numbers: &[Pid], count: usize, into: &mut ArrayVec<Pid, LEVELS>)
+    requires there { count ≤ length numbers.now }
+    requires few { count ≤ deepest_space + 1 }
+    ensures { into.new.items ≡ reverse (take count numbers.now) }
+{
+    into.clear();
+    for k in 0..count {
+        into.push(numbers[k]);
+    }
+    into.as_mut_slice().reverse();
 }

@@ -24,6 +24,7 @@ ghost use Rattle.std.specs.Option.{option_map_or};
 ghost use Rattle.pid_types.specs.Settings.{HasGoodPidMax};
 
 mod fall;
+mod idents;
 mod levels;
 mod names;
 mod plan;
@@ -32,17 +33,14 @@ mod spaces;
 use arrayvec::ArrayVec;
 use cyclic_ids::CyclicIds;
 use fall::fall_all;
-use id_slab::{Iter, RisingIds, make_room};
+use id_slab::{Iter, RisingIds};
+use idents::{Ident, Idents};
 use levels::LevelNumbers;
-use names::{
-    Ident, count_at, has_use, home_of, in_use, less_use, mark_numbers, more_use, number_at,
-    write_numbers_inwards,
-};
+use names::{count_at, has_use, home_of, in_use, mark_numbers, number_at, write_numbers_inwards};
 use pid_types::call::Kind;
 use pid_types::keys::{IdentKey, Pid, SpaceKey};
 use pid_types::plain::{DEEPEST_SPACE, LEVELS, Name};
 pub use plan::PlanFault;
-use slab::Slab;
 use spaces::{
     Space, add_space, cursor_at, first_ids, give_path, has_fallen, id_at, is_inside, key_at,
     levels, look, next_at, path_below, plan_at, plan_path, prepare_path, release_path,
@@ -57,7 +55,7 @@ pub struct Numbers {
     spaces: Vec<Space>,
     /// The keys of vacant places among the namespaces.
     vacant: Vec<SpaceKey>,
-    idents: Slab<Ident>,
+    idents: Idents,
     order: RisingIds,
     pid_max: u32,
 }
@@ -115,7 +113,7 @@ impl Numbers {
             alloc,
             spaces,
             vacant,
-            idents: Slab::new(alloc),
+            idents: Idents::new(alloc),
             order,
             pid_max,
         })
@@ -367,7 +365,7 @@ impl Numbers {
         ensures same { self.new ≡ self.old }
         ensures next { IfOk result (λ key. (key ≡ self.new.next) × (key < 2 ^ 30)) }
     {
-        make_room(&mut self.idents)
+        self.idents.make_room()
     }
 
     /// Gives the planned numbers to a new identifier, which one task uses, and answers its key. The
@@ -388,7 +386,7 @@ impl Numbers {
         ensures err { OnErr result (self.new ≡ self.old) }
         ensures pid_max { self.new.pid_max ≡ self.old.pid_max }
     {
-        let key = make_room(&mut self.idents)?;
+        let key = self.idents.make_room()?;
         let stored = LevelNumbers::from(self.alloc, numbers)?;
         prepare_path(&mut self.spaces, space, numbers)?;
         give_path(&mut self.spaces, space, numbers, key);
@@ -472,7 +470,7 @@ impl Numbers {
         ensures err { OnErr result (self.new ≡ self.old) }
         ensures pid_max { self.new.pid_max ≡ self.old.pid_max }
     {
-        let ident = make_room(&mut self.idents)?;
+        let ident = self.idents.make_room()?;
         let stored = LevelNumbers::from(self.alloc, numbers)?;
         let ids = first_ids(self.alloc, self.pid_max, ident)?;
         let around = &numbers[1..];
@@ -524,7 +522,7 @@ impl Numbers {
         ensures pid_max { self.new.pid_max ≡ self.old.pid_max }
     {
         let had = has_use(&self.idents, ident, kind);
-        more_use(&mut self.idents, ident, kind);
+        self.idents.more_use(ident, kind);
         if had {
             return;
         }
@@ -545,7 +543,7 @@ impl Numbers {
         ensures order { self.new.order ≡ filter (λ p. is_there self.new p.1) self.old.order }
         ensures pid_max { self.new.pid_max ≡ self.old.pid_max }
     {
-        less_use(&mut self.idents, ident, kind);
+        self.idents.less_use(ident, kind);
         if has_use(&self.idents, ident, kind) {
             return;
         }
@@ -553,10 +551,8 @@ impl Numbers {
             mark_numbers(&mut self.spaces, &self.idents, ident, kind, false);
             return;
         }
-        let Some(gone) = self.idents.try_remove(ident as usize) else {
-            unreachable!()
-        };
-        release_path(&mut self.spaces, gone.space, &gone.numbers);
+        let gone = self.idents.remove(ident);
+        release_path(&mut self.spaces, gone.space, gone.numbers.as_slice());
         sweep_fallen(
             &mut self.spaces,
             &mut self.vacant,

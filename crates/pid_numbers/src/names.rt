@@ -5,93 +5,38 @@ ghost use Rattle.std.specs.Prelude.{length, option_map, slice_index_or};
 ghost use Rattle.std.specs.Option.{option_map_or};
 ghost use Rattle.pid_types.specs.Bounds.{deepest_space};
 ghost use Rattle.pid_numbers.specs.Numbering.{Identifier, uses, less, more, is_used, is_used_as};
-ghost use Rattle.pid_numbers.specs.Slabs.{identifier_of, name_at, way, entry_on, touched, mark_of, namespaces_of};
-ghost use Rattle.pid_numbers.specs.Slabs.{bound_on, IsDistinct, IsPath};
+ghost use Rattle.pid_numbers.specs.Slabs.{way, entry_on, touched, mark_of, namespaces_of};
+ghost use Rattle.pid_numbers.specs.Table.{identifier_of, name_at};
+ghost use Rattle.pid_numbers.specs.Slabs.{bound_on, IsPath};
+ghost use Rattle.pid_numbers.specs.Vacancy.{IsDistinct};
 ghost use Rattle.index_array.specs.Place.{with_mark};
 ghost use Rattle.pid_types.specs.declared.call.Kind.{Kind};
 
-use crate::levels::LevelNumbers;
+use crate::idents::{Idents, count};
+use crate::levels::write_inwards;
 use crate::spaces::{Space, mark_path};
 use arrayvec::ArrayVec;
 use pid_types::call::Kind;
 use pid_types::keys::{IdentKey, Pid, SpaceKey};
 use pid_types::plain::LEVELS;
-use slab::Slab;
-
-/// An identifier, and how many use it as what.
-#[derive(Drop)]
-pub(crate) struct Ident {
-    pub numbers: LevelNumbers,
-    pub space: SpaceKey,
-    pub tasks: u32,
-    pub groups: u32,
-    pub sessions: u32,
-}
-
-/// How many uses of the kind.
-fn count(x: &Ident, kind: Kind) -> u32
-    ensures { result ≡ uses kind (identifier_of x.now) }
-{
-    match kind {
-        Kind::Task => x.tasks,
-        Kind::Group => x.groups,
-        Kind::Session => x.sessions,
-    }
-}
-
-/// One use less.
-fn lessen(x: &mut Ident, kind: Kind)
-    requires { 0 < uses kind (identifier_of x.old) }
-    ensures { identifier_of x.new ≡ less kind (identifier_of x.old) }
-{
-    match kind {
-        Kind::Task => {
-            x.tasks -= 1;
-        }
-        Kind::Group => {
-            x.groups -= 1;
-        }
-        Kind::Session => {
-            x.sessions -= 1;
-        }
-    }
-}
-
-/// One use more.
-fn raise(x: &mut Ident, kind: Kind)
-    requires { uses kind (identifier_of x.old) + 1 < 2 ^ 32 }
-    ensures { identifier_of x.new ≡ more kind (identifier_of x.old) }
-{
-    match kind {
-        Kind::Task => {
-            x.tasks += 1;
-        }
-        Kind::Group => {
-            x.groups += 1;
-        }
-        Kind::Session => {
-            x.sessions += 1;
-        }
-    }
-}
 
 /// The namespace of the identifier.
-pub(crate) fn home_of(idents: &Slab<Ident>, ident: IdentKey) -> Option<SpaceKey>
+pub(crate) fn home_of(idents: &Idents, ident: IdentKey) -> Option<SpaceKey>
     ensures { result ≡ option_map (λ u. u.space) (name_at idents.now ident) }
 {
-    match idents.get(ident as usize) {
+    match idents.get(ident) {
         Some(x) => Some(x.space),
         None => None,
     }
 }
 
 /// The identifier's number at a place of its path.
-pub(crate) fn number_at(idents: &Slab<Ident>, ident: IdentKey, place: usize) -> Option<Pid>
+pub(crate) fn number_at(idents: &Idents, ident: IdentKey, place: usize) -> Option<Pid>
     requires { IfSome (name_at idents.now ident) (λ u. place < length u.numbers) }
     ensures { result ≡ option_map (λ u. slice_index_or u.numbers place 0) (name_at idents.now ident) }
 {
-    match idents.get(ident as usize) {
-        Some(x) => Some(x.numbers.at(place)),
+    match idents.get(ident) {
+        Some(x) => Some(x.numbers.as_slice()[place]),
         None => None,
     }
 }
@@ -99,7 +44,7 @@ pub(crate) fn number_at(idents: &Slab<Ident>, ident: IdentKey, place: usize) -> 
 /// Writes the identifier's innermost numbers, so many, the outermost of them first.
 #[inline(always)]
 pub(crate) fn write_numbers_inwards(
-    idents: &Slab<Ident>,
+    idents: &Idents,
     ident: IdentKey,
     count: usize,
     numbers: &mut ArrayVec<Pid, LEVELS>,
@@ -108,73 +53,46 @@ pub(crate) fn write_numbers_inwards(
     requires few { count ≤ deepest_space + 1 }
     ensures { numbers.new.items ≡ option_map_or (λ u. reverse (take count u.numbers)) (name_at idents.now ident) [] }
 {
-    match idents.get(ident as usize) {
-        Some(x) => x.numbers.write_inwards(count, numbers),
+    match idents.get(ident) {
+        Some(x) => write_inwards(x.numbers.as_slice(), count, numbers),
         None => numbers.clear(),
     }
 }
 
 /// How many uses of the kind the identifier has.
-pub(crate) fn count_at(idents: &Slab<Ident>, ident: IdentKey, kind: Kind) -> u64
+pub(crate) fn count_at(idents: &Idents, ident: IdentKey, kind: Kind) -> u64
     ensures { result ≡ option_map_or (uses kind) (name_at idents.now ident) 0 }
 {
-    match idents.get(ident as usize) {
+    match idents.get(ident) {
         Some(x) => u64::from(count(x, kind)),
         None => 0,
     }
 }
 
 /// Whether the identifier has a use of the kind.
-pub(crate) fn has_use(idents: &Slab<Ident>, ident: IdentKey, kind: Kind) -> bool
+pub(crate) fn has_use(idents: &Idents, ident: IdentKey, kind: Kind) -> bool
     ensures { result ≡ is_used_as kind (name_at idents.now ident) }
 {
-    match idents.get(ident as usize) {
+    match idents.get(ident) {
         Some(x) => count(x, kind) != 0,
         None => false,
     }
 }
 
 /// Whether the identifier has a use.
-pub(crate) fn in_use(idents: &Slab<Ident>, ident: IdentKey) -> bool
+pub(crate) fn in_use(idents: &Idents, ident: IdentKey) -> bool
     ensures { (u : Identifier) → name_at idents.now ident ≡ Some u → result ≡ is_used u }
 {
-    match idents.get(ident as usize) {
+    match idents.get(ident) {
         Some(x) => !(x.tasks == 0 && x.groups == 0 && x.sessions == 0),
         None => false,
     }
 }
 
-/// One use less.
-pub(crate) fn less_use(idents: &mut Slab<Ident>, ident: IdentKey, kind: Kind)
-    requires { is_used_as kind (name_at idents.old ident) ≡ true }
-    ensures here { (u : Identifier) → name_at idents.old ident ≡ Some u
-        → name_at idents.new ident ≡ Some (less kind u) }
-    ensures others { (j : ℕ) → j ≢ ident → name_at idents.new j ≡ name_at idents.old j }
-{
-    let Some(x) = idents.get_mut(ident as usize) else {
-        unreachable!()
-    };
-    lessen(x, kind);
-}
-
-/// One use more.
-pub(crate) fn more_use(idents: &mut Slab<Ident>, ident: IdentKey, kind: Kind)
-    requires there { IsSome (name_at idents.old ident) }
-    requires few { IfSome (name_at idents.old ident) (λ u. uses kind u + 1 < 2 ^ 32) }
-    ensures here { (u : Identifier) → name_at idents.old ident ≡ Some u
-        → name_at idents.new ident ≡ Some (more kind u) }
-    ensures others { (j : ℕ) → j ≢ ident → name_at idents.new j ≡ name_at idents.old j }
-{
-    let Some(x) = idents.get_mut(ident as usize) else {
-        unreachable!()
-    };
-    raise(x, kind);
-}
-
 /// Gives the numbers of an identifier the mark of a kind, or takes it away.
 pub(crate) fn mark_numbers(
     spaces: &mut Vec<Space>,
-    idents: &Slab<Ident>,
+    idents: &Idents,
     ident: IdentKey,
     kind: Kind,
     on: bool,
@@ -189,8 +107,8 @@ pub(crate) fn mark_numbers(
     ensures namespaces { namespaces_of spaces.new.items ≡ namespaces_of spaces.old.items }
     ensures bound { (s : ℕ) → bound_on spaces.new.items s ≡ bound_on spaces.old.items s }
 {
-    let Some(x) = idents.get(ident as usize) else {
+    let Some(x) = idents.get(ident) else {
         return;
     };
-    mark_path(spaces, x.space, &x.numbers, kind, on);
+    mark_path(spaces, x.space, x.numbers.as_slice(), kind, on);
 }

@@ -9,15 +9,16 @@ ghost use Rattle.std.specs.List.{filter};
 ghost use Rattle.std.specs.Option.{option_copied};
 ghost use Rattle.id_slab.specs.Ids.{AreBelow};
 ghost use Rattle.pid_types.specs.Bounds.{deepest_space};
-ghost use Rattle.pid_numbers.specs.Slabs.{slot, next_place, AreVacant, IsPath, id_on, AreListed, way, fell, dead_on};
+ghost use Rattle.pid_numbers.specs.Slabs.{slot, slots, IsPath, id_on, AreListed, way, fell, dead_on};
+ghost use Rattle.pid_numbers.specs.Vacancy.{next_place, AreVacant};
 ghost use Rattle.pid_numbers.specs.Slabs.{goes, left_on, IsHead, entry_on, leads, plan_on, touched, given_to, ready};
-ghost use Rattle.pid_numbers.specs.Slabs.{namespaces_of, namespace_on, bound_on, stepped, mark_of, IsTree, IsDistinct};
+ghost use Rattle.pid_numbers.specs.Slabs.{namespaces_of, namespace_on, bound_on, stepped, mark_of, IsTree};
+ghost use Rattle.pid_numbers.specs.Vacancy.{IsDistinct};
 ghost use Rattle.pid_numbers.specs.Slabs.{ArePlanned, AreReady};
 ghost use Rattle.pid_numbers.specs.Numbering.{moved, fallen_within};
 ghost use Rattle.pid_types.specs.Settings.{HasGoodPidMax};
 ghost use Rattle.pid_types.specs.Chains.{contains};
 
-use crate::levels::LevelNumbers;
 use arrayvec::ArrayVec;
 use cyclic_ids::{CyclicIds, GROUP_MARK, SESSION_MARK, TASK_MARK};
 use id_slab::RisingIds;
@@ -90,6 +91,17 @@ pub(crate) fn key_at(spaces: &Vec<Space>, space: SpaceKey, k: usize) -> SpaceKey
     spaces[space as usize].path[k]
 }
 
+/// The keys of the namespace and of those around it, innermost first; none where it is not there.
+#[inline(always)]
+fn path_of(spaces: &Vec<Space>, space: SpaceKey) -> &[SpaceKey]
+    ensures { result.now ≡ way spaces.now.items space }
+{
+    match spaces.get(space as usize) {
+        Some(s) => s.path.as_slice(),
+        None => &[],
+    }
+}
+
 /// The number that the namespace gives next.
 pub(crate) fn plan_at(spaces: &Vec<Space>, space: SpaceKey) -> Option<Pid>
     ensures { result ≡ plan_on spaces.now.items space }
@@ -124,8 +136,9 @@ pub(crate) fn plan_path(
     ensures err { IfErr result (λ s. find (λ s. is_none (plan_on spaces.now.items s)) (way spaces.now.items space)
         ≡ Some s) }
 {
-    for k in 0..levels(spaces, space) {
-        let key = key_at(spaces, space, k);
+    let path = path_of(spaces, space);
+    for k in 0..path.len() {
+        let key = path[k];
         match plan_there(spaces, key) {
             Some(n) => numbers.push(n),
             None => return Err(key),
@@ -234,7 +247,7 @@ pub(crate) fn mark_at(spaces: &mut Vec<Space>, key: SpaceKey, n: Pid, kind: Kind
 pub(crate) fn mark_path(
     spaces: &mut Vec<Space>,
     space: SpaceKey,
-    numbers: &LevelNumbers,
+    numbers: &[Pid],
     kind: Kind,
     on: bool,
 )
@@ -250,7 +263,7 @@ pub(crate) fn mark_path(
 {
     for k in 0..levels(spaces, space) {
         let key = key_at(spaces, space, k);
-        mark_at(spaces, key, numbers.at(k), kind, on);
+        mark_at(spaces, key, numbers[k], kind, on);
     }
 }
 
@@ -270,7 +283,7 @@ pub(crate) fn release_at(spaces: &mut Vec<Space>, key: SpaceKey, n: Pid)
 
 /// Makes the numbers along a path free.
 #[inline(always)]
-pub(crate) fn release_path(spaces: &mut Vec<Space>, space: SpaceKey, numbers: &LevelNumbers)
+pub(crate) fn release_path(spaces: &mut Vec<Space>, space: SpaceKey, numbers: &[Pid])
     requires path { IsPath (way spaces.old.items) (way spaces.old.items space) }
     requires distinct { IsDistinct (way spaces.old.items space) }
     requires len { length numbers.now ≡ length (way spaces.old.items space) }
@@ -282,7 +295,7 @@ pub(crate) fn release_path(spaces: &mut Vec<Space>, space: SpaceKey, numbers: &L
 {
     for k in 0..levels(spaces, space) {
         let key = key_at(spaces, space, k);
-        release_at(spaces, key, numbers.at(k));
+        release_at(spaces, key, numbers[k]);
     }
 }
 
@@ -350,9 +363,9 @@ fn drop_dead(
     order: &mut RisingIds,
     key: SpaceKey,
 )
-    requires vacant { AreVacant spaces.old.items vacant.old.items (vec_capacity vacant.old) }
+    requires vacant { AreVacant (slots spaces.old.items) vacant.old.items (vec_capacity vacant.old) }
     requires listed { AreListed (id_on spaces.old.items) order.old }
-    ensures vacant { AreVacant spaces.new.items vacant.new.items (vec_capacity vacant.new) }
+    ensures vacant { AreVacant (slots spaces.new.items) vacant.new.items (vec_capacity vacant.new) }
     ensures here { slot spaces.new.items key
         ≡ if dead_on spaces.old.items key then None else slot spaces.old.items key }
     ensures others { (s : ℕ) → s ≢ key → slot spaces.new.items s ≡ slot spaces.old.items s }
@@ -374,13 +387,13 @@ fn sweep_path(
     order: &mut RisingIds,
     space: SpaceKey,
 )
-    requires vacant { AreVacant spaces.old.items vacant.old.items (vec_capacity vacant.old) }
+    requires vacant { AreVacant (slots spaces.old.items) vacant.old.items (vec_capacity vacant.old) }
     requires listed { AreListed (id_on spaces.old.items) order.old }
     requires distinct { IsDistinct (way spaces.old.items space) }
     requires head { IsHead (way spaces.old.items) space }
     ensures left { (s : ℕ) → slot spaces.new.items s ≡ left_on (way spaces.old.items space) spaces.old.items s }
     ensures order { order.new ≡ filter (λ p. is_some (slot spaces.new.items p.1)) order.old }
-    ensures vacant { AreVacant spaces.new.items vacant.new.items (vec_capacity vacant.new) }
+    ensures vacant { AreVacant (slots spaces.new.items) vacant.new.items (vec_capacity vacant.new) }
     ensures listed { AreListed (id_on spaces.new.items) order.new }
 {
     let end = levels(spaces, space);
@@ -398,7 +411,7 @@ pub(crate) fn sweep_fallen(
     order: &mut RisingIds,
     space: SpaceKey,
 )
-    requires vacant { AreVacant spaces.old.items vacant.old.items (vec_capacity vacant.old) }
+    requires vacant { AreVacant (slots spaces.old.items) vacant.old.items (vec_capacity vacant.old) }
     requires listed { AreListed (id_on spaces.old.items) order.old }
     requires distinct { IsDistinct (way spaces.old.items space) }
     requires head { IsHead (way spaces.old.items) space }
@@ -407,7 +420,7 @@ pub(crate) fn sweep_fallen(
     ensures left { (s : ℕ) → slot spaces.new.items s
         ≡ left_on (if fell spaces.old.items space then way spaces.old.items space else []) spaces.old.items s }
     ensures order { order.new ≡ filter (λ p. is_some (slot spaces.new.items p.1)) order.old }
-    ensures vacant { AreVacant spaces.new.items vacant.new.items (vec_capacity vacant.new) }
+    ensures vacant { AreVacant (slots spaces.new.items) vacant.new.items (vec_capacity vacant.new) }
     ensures listed { AreListed (id_on spaces.new.items) order.new }
 {
     if is_dead_at(spaces, space) {
@@ -438,8 +451,8 @@ pub(crate) fn reserve_place(
     spaces: &mut Vec<Space>,
     vacant: &mut Vec<SpaceKey>,
 ) -> Result<SpaceKey, AllocError>
-    requires { AreVacant spaces.old.items vacant.old.items (vec_capacity vacant.old) }
-    ensures vacant { AreVacant spaces.new.items vacant.new.items (vec_capacity vacant.new) }
+    requires { AreVacant (slots spaces.old.items) vacant.old.items (vec_capacity vacant.old) }
+    ensures vacant { AreVacant (slots spaces.new.items) vacant.new.items (vec_capacity vacant.new) }
     ensures spaces { spaces.new.items ≡ spaces.old.items }
     ensures keys { vacant.new.items ≡ vacant.old.items }
     ensures key { IfOk result (λ key. key ≡ next_place spaces.old.items vacant.old.items) }
@@ -460,11 +473,11 @@ pub(crate) fn reserve_place(
 
 /// Puts a namespace into the place that was reserved for it.
 pub(crate) fn fill_place(spaces: &mut Vec<Space>, vacant: &mut Vec<SpaceKey>, space: Space)
-    requires vacant { AreVacant spaces.old.items vacant.old.items (vec_capacity vacant.old) }
+    requires vacant { AreVacant (slots spaces.old.items) vacant.old.items (vec_capacity vacant.old) }
     requires room { vacant.old.items ≡ [] → length spaces.old.items < vec_capacity spaces.old }
     requires rooms { vacant.old.items ≡ [] → length spaces.old.items < vec_capacity vacant.old }
     requires there { 0 < length space.path.items }
-    ensures vacant { AreVacant spaces.new.items vacant.new.items (vec_capacity vacant.new) }
+    ensures vacant { AreVacant (slots spaces.new.items) vacant.new.items (vec_capacity vacant.new) }
     ensures here { slot spaces.new.items (next_place spaces.old.items vacant.old.items) ≡ Some space }
     ensures others { (s : ℕ) → s ≢ next_place spaces.old.items vacant.old.items
         → slot spaces.new.items s ≡ slot spaces.old.items s }
@@ -484,10 +497,10 @@ pub(crate) fn add_space(
     id: u64,
     ids: CyclicIds,
 ) -> Result<SpaceKey, AllocError>
-    requires vacant { AreVacant spaces.old.items vacant.old.items (vec_capacity vacant.old) }
+    requires vacant { AreVacant (slots spaces.old.items) vacant.old.items (vec_capacity vacant.old) }
     requires few { length (way spaces.old.items parent) < deepest_space + 1 }
     requires above { AreBelow order.old id }
-    ensures still { AreVacant spaces.new.items vacant.new.items (vec_capacity vacant.new) }
+    ensures still { AreVacant (slots spaces.new.items) vacant.new.items (vec_capacity vacant.new) }
     ensures vacant { IfOk result (λ key. slot spaces.old.items key ≡ None) }
     ensures here { IfOk result (λ key. namespace_on spaces.new.items key
         ≡ Some (record { id = id; fallen = false; path = key ∷ way spaces.old.items parent; cursor = ids.cursor })) }

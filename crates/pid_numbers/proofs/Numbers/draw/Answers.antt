@@ -1,9 +1,11 @@
 use Rattle.std.proofs.Common.{false, List, ◌≡◌, ◌≢◌, ◌∙◌, sym, ap, subst, refl, arith, ℕ, ◌<◌, length, get_or, find, is_none, Some, None, map, option_map, unwrap_or}
 use Rattle.std.specs.Prelude.{vec_capacity}
 use Rattle.pid_numbers.specs.Numbering.{Numbering, namespace_at, identifier_at, path_at, draw_in, moved, new_identifier}
-use Rattle.pid_numbers.specs.Slabs.{slots, numbering_of, namespace_of, identifier_of, way, entry_on, plan_on, bound_on, name_at, namespace_on, id_on, fell, touched, given_to, ArePlanned, AreReady, IsDistinct}
+use Rattle.pid_numbers.specs.Slabs.{slots, numbering_of, namespace_of, way, entry_on, plan_on, bound_on, namespace_on, id_on, fell, touched, given_to, ArePlanned, AreReady}
+use Rattle.pid_numbers.specs.Table.{identifier_of, name_at}
+use Rattle.pid_numbers.specs.Vacancy.{IsDistinct}
 use Rattle.pid_numbers.proofs.Views as views
-use Rattle.pid_numbers.proofs.Vacancy as vacancy
+use Rattle.pid_numbers.proofs.Places as places
 use Rattle.pid_numbers.proofs.Ties as ties
 use Rattle.pid_numbers.proofs.Sweeps as sweeps
 use Rattle.pid_numbers.proofs.Orders as orders
@@ -12,10 +14,17 @@ use Rattle.pid_numbers.proofs.Numbers.draw.Goals as goal
 
 pub from-requires : goal.from-requires
 from-requires c =
+    let few = c.self.invariant.whole.numbering.tree.few c.args.space in
+    let len : length c.args.numbers.now ≡ length (way c.self.inside.spaces.items c.args.space) = views.planned_len c.self.inside.pid_max c.self.inside.spaces.items c.self.inside.idents c.self.inside.order c.self.invariant.whole.numbering c.args.space c.args.numbers.now
+    (subst (λ b. c.args.numbers.now ≡ map (λ s. unwrap_or (draw_in b s) 0) (path_at b c.args.space)) (sym c.self.view_is) c.requires.planned) in
+    omega (arith, few, len)
+
+pub insert_reserved-requires : goal.insert_reserved-requires
+insert_reserved-requires c =
     let r = views.there c.self.inside.pid_max c.self.inside.spaces.items c.self.inside.idents c.self.inside.order c.self.invariant.whole.numbering c.args.self.now c.self.view_is c.args.space c.requires.there in
     let len : length c.args.numbers.now ≡ length (way c.self.inside.spaces.items c.args.space) = views.planned_len c.self.inside.pid_max c.self.inside.spaces.items c.self.inside.idents c.self.inside.order c.self.invariant.whole.numbering c.args.space c.args.numbers.now
     (subst (λ b. c.args.numbers.now ≡ map (λ s. unwrap_or (draw_in b s) 0) (path_at b c.args.space)) (sym c.self.view_is) c.requires.planned) in
-    omega (arith, r, len)
+    record { room = c.in_ok-key.ensures.room; some = let l = ap length c.in_ok-stored.ensures in omega (arith, r, len, l) }
 
 planned-in : (a b : Numbering) → a ≡ b → (space : ℕ) (numbers : List ℕ) → numbers ≡ map (λ s. unwrap_or (draw_in b s) 0) (path_at b space) → numbers ≡ map (λ s. unwrap_or (draw_in a s) 0) (path_at a space)
 planned-in a b view space numbers h = subst (λ b. numbers ≡ map (λ s. unwrap_or (draw_in b s) 0) (path_at b space)) (sym view) h
@@ -39,12 +48,12 @@ invariant_of-self-in_err-prepare_path c =
     let e = c.in_err-prepare_path.ensures in
     record {
       whole = record {
-        numbering = ties.numbering-same c.self.inside.pid_max (way c.self.inside.spaces.items) (way c.prepare_path.new.spaces.items) (entry_on c.self.inside.spaces.items) (entry_on c.prepare_path.new.spaces.items) (bound_on c.self.inside.spaces.items) (bound_on c.prepare_path.new.spaces.items) (name_at c.self.inside.idents) (name_at c.make_room.new.slab) c.self.invariant.whole.numbering e.way e.bound e.entries
+        numbering = ties.numbering-same c.self.inside.pid_max (way c.self.inside.spaces.items) (way c.prepare_path.new.spaces.items) (entry_on c.self.inside.spaces.items) (entry_on c.prepare_path.new.spaces.items) (bound_on c.self.inside.spaces.items) (bound_on c.prepare_path.new.spaces.items) (name_at c.self.inside.idents) (name_at c.make_room.new.self) c.self.invariant.whole.numbering e.way e.bound e.entries
             (λ i. ap (λ z. name_at z i) c.in_ok-key.ensures.same);
         fallen = sweeps.fallen-kept (way c.self.inside.spaces.items) (way c.prepare_path.new.spaces.items) (entry_on c.self.inside.spaces.items) (entry_on c.prepare_path.new.spaces.items) (fell c.self.inside.spaces.items) (fell c.prepare_path.new.spaces.items) c.self.invariant.whole.fallen e.way (views.fell-same c.prepare_path.new.spaces.items c.self.inside.spaces.items e.namespaces)
             (λ s n i led. (i, ap (option_map (λ e. e.value)) (e.entries s n) ∙ led));
       };
-      places = vacancy.vacant-same c.self.inside.spaces.items c.prepare_path.new.spaces.items c.self.inside.vacant.items (vec_capacity c.self.inside.vacant) c.self.invariant.places (vacancy.as-many c.self.inside.spaces.items c.prepare_path.new.spaces.items c.in_err-prepare_path.ensures.namespaces) c.in_err-prepare_path.ensures.way;
+      places = places.vacant-same c.self.inside.spaces.items c.prepare_path.new.spaces.items c.self.inside.vacant.items (vec_capacity c.self.inside.vacant) c.self.invariant.places (places.as-many c.self.inside.spaces.items c.prepare_path.new.spaces.items c.in_err-prepare_path.ensures.namespaces) c.in_err-prepare_path.ensures.way;
       listed = orders.listed-same (id_on c.self.inside.spaces.items) (id_on c.prepare_path.new.spaces.items) c.self.inside.order c.self.invariant.listed (orders.ids-same c.prepare_path.new.spaces.items c.self.inside.spaces.items e.namespaces);
     }
 
@@ -103,7 +112,7 @@ invariant_of-self-2 c =
             (λ s. ap (λ o. option_map_or (λ t. t.fallen) o false) (c.give_path.ensures.namespaces s) ∙ views.fell-moved (way c.prepare_path.new.spaces.items c.args.space) stored s (namespace_on c.prepare_path.new.spaces.items s) ∙ views.fell-same c.prepare_path.new.spaces.items spaces prep.namespaces s)
             (ties.leads-given path numbers key (entry_on spaces) (entry_on c.give_path.new.spaces.items) is);
       };
-      places = vacancy.vacant-same c.self.inside.spaces.items c.give_path.new.spaces.items c.self.inside.vacant.items (vec_capacity c.self.inside.vacant) c.self.invariant.places (c.give_path.ensures.len ∙ vacancy.as-many spaces c.prepare_path.new.spaces.items prep.namespaces) ways;
+      places = places.vacant-same c.self.inside.spaces.items c.give_path.new.spaces.items c.self.inside.vacant.items (vec_capacity c.self.inside.vacant) c.self.invariant.places (c.give_path.ensures.len ∙ places.as-many spaces c.prepare_path.new.spaces.items prep.namespaces) ways;
       listed = orders.listed-same (id_on spaces) (id_on c.give_path.new.spaces.items) c.self.inside.order c.self.invariant.listed
           (λ s. ap (option_map (λ t. t.id)) (c.give_path.ensures.namespaces s) ∙ orders.id-moved (way c.prepare_path.new.spaces.items c.args.space) stored s (namespace_on c.prepare_path.new.spaces.items s) ∙ orders.ids-same c.prepare_path.new.spaces.items spaces prep.namespaces s);
     }

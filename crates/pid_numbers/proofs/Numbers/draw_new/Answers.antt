@@ -5,9 +5,10 @@ use Rattle.std.specs.Prelude.{vec_capacity}
 use Rattle.pid_numbers.specs.declared.spaces.Space.{Space}
 use Rattle.pid_numbers.specs.Numbering.{Numbering, namespace_at, identifier_at, path_at, draw_in, moved, new_identifier}
 use Rattle.id_slab.specs.Ids.{AreBelow}
-use Rattle.pid_numbers.specs.Slabs.{slot, slots, id_on, AreListed, numbering_of, namespace_of, identifier_of, way, entry_on, bound_on, name_at, namespace_on, fell, ArePlanned, namespaces_of}
+use Rattle.pid_numbers.specs.Slabs.{slot, slots, id_on, AreListed, numbering_of, namespace_of, way, entry_on, bound_on, namespace_on, fell, ArePlanned, namespaces_of}
+use Rattle.pid_numbers.specs.Table.{identifier_of, name_at}
 use Rattle.pid_numbers.proofs.Views as views
-use Rattle.pid_numbers.proofs.Vacancy as vacancy
+use Rattle.pid_numbers.proofs.Places as places
 use Rattle.pid_numbers.proofs.Ties as ties
 use Rattle.pid_numbers.proofs.Sweeps as sweeps
 use Rattle.pid_numbers.proofs.Orders as orders
@@ -44,12 +45,12 @@ invariant_of-self-in_err-prepare_path c =
     let e = c.in_err-prepare_path.ensures in
     record {
       whole = record {
-        numbering = ties.numbering-same c.self.inside.pid_max (way c.self.inside.spaces.items) (way c.prepare_path.new.spaces.items) (entry_on c.self.inside.spaces.items) (entry_on c.prepare_path.new.spaces.items) (bound_on c.self.inside.spaces.items) (bound_on c.prepare_path.new.spaces.items) (name_at c.self.inside.idents) (name_at c.make_room.new.slab) c.self.invariant.whole.numbering e.way e.bound e.entries
+        numbering = ties.numbering-same c.self.inside.pid_max (way c.self.inside.spaces.items) (way c.prepare_path.new.spaces.items) (entry_on c.self.inside.spaces.items) (entry_on c.prepare_path.new.spaces.items) (bound_on c.self.inside.spaces.items) (bound_on c.prepare_path.new.spaces.items) (name_at c.self.inside.idents) (name_at c.make_room.new.self) c.self.invariant.whole.numbering e.way e.bound e.entries
             (λ i. ap (λ z. name_at z i) c.in_ok-ident.ensures.same);
         fallen = sweeps.fallen-kept (way c.self.inside.spaces.items) (way c.prepare_path.new.spaces.items) (entry_on c.self.inside.spaces.items) (entry_on c.prepare_path.new.spaces.items) (fell c.self.inside.spaces.items) (fell c.prepare_path.new.spaces.items) c.self.invariant.whole.fallen e.way (views.fell-same c.prepare_path.new.spaces.items c.self.inside.spaces.items e.namespaces)
             (λ s n i led. (i, ap (option_map (λ e. e.value)) (e.entries s n) ∙ led));
       };
-      places = vacancy.vacant-same c.self.inside.spaces.items c.prepare_path.new.spaces.items c.self.inside.vacant.items (vec_capacity c.self.inside.vacant) c.self.invariant.places (vacancy.as-many c.self.inside.spaces.items c.prepare_path.new.spaces.items e.namespaces) e.way;
+      places = places.vacant-same c.self.inside.spaces.items c.prepare_path.new.spaces.items c.self.inside.vacant.items (vec_capacity c.self.inside.vacant) c.self.invariant.places (places.as-many c.self.inside.spaces.items c.prepare_path.new.spaces.items e.namespaces) e.way;
       listed = orders.listed-same (id_on c.self.inside.spaces.items) (id_on c.prepare_path.new.spaces.items) c.self.inside.order c.self.invariant.listed (orders.ids-same c.prepare_path.new.spaces.items c.self.inside.spaces.items e.namespaces);
     }
 
@@ -63,7 +64,7 @@ invariant_of-self-in_err-key c =
     let ways : (s : ℕ) → way new s ≡ way old s = λ s. ap (λ o. option_map_or (λ t. t.path.items) o []) (same s) ∙ e.way s in
     record {
       whole = record {
-        numbering = ties.numbering-same c.self.inside.pid_max (way old) (way new) (entry_on old) (entry_on new) (bound_on old) (bound_on new) (name_at c.self.inside.idents) (name_at c.make_room.new.slab) c.self.invariant.whole.numbering ways
+        numbering = ties.numbering-same c.self.inside.pid_max (way old) (way new) (entry_on old) (entry_on new) (bound_on old) (bound_on new) (name_at c.self.inside.idents) (name_at c.make_room.new.self) c.self.invariant.whole.numbering ways
             (λ s. ap (option_map (λ t. t.ids.pid_max)) (same s) ∙ e.bound s) entries (λ i. ap (λ z. name_at z i) c.in_ok-ident.ensures.same);
         fallen = sweeps.fallen-kept (way old) (way new) (entry_on old) (entry_on new) (fell old) (fell new) c.self.invariant.whole.fallen ways
             (views.fell-same new old (ap namespaces_of c.in_err-key.ensures.err ∙ e.namespaces))
@@ -78,7 +79,7 @@ add_space-requires c =
     let l = ap length (ap (λ b. path_at b c.args.parent) (sym c.self.view_is) ∙ views.path_is c.self.inside.pid_max c.self.inside.spaces.items c.self.inside.idents c.self.inside.order c.args.parent) in
     let s = c.requires.shallow in
     let w = ap length (c.in_ok-prepare_path.ensures.way c.args.parent) in
-    record { vacant = vacancy.vacant-same c.self.inside.spaces.items c.prepare_path.new.spaces.items c.self.inside.vacant.items (vec_capacity c.self.inside.vacant) c.self.invariant.places (vacancy.as-many c.self.inside.spaces.items c.prepare_path.new.spaces.items c.in_ok-prepare_path.ensures.namespaces) c.in_ok-prepare_path.ensures.way; few = omega (arith, l, s, w); above = subst (λ (b : Numbering). AreBelow b.order c.args.id) (sym c.self.view_is) c.requires.above }
+    record { vacant = places.vacant-same c.self.inside.spaces.items c.prepare_path.new.spaces.items c.self.inside.vacant.items (vec_capacity c.self.inside.vacant) c.self.invariant.places (places.as-many c.self.inside.spaces.items c.prepare_path.new.spaces.items c.in_ok-prepare_path.ensures.namespaces) c.in_ok-prepare_path.ensures.way; few = omega (arith, l, s, w); above = subst (λ (b : Numbering). AreBelow b.order c.args.id) (sym c.self.view_is) c.requires.above }
 
 pub give_path-requires : goal.give_path-requires
 give_path-requires c =
@@ -139,7 +140,7 @@ invariant_of-self-2 c =
           c.give_path.ensures.entries c.give_path.ensures.way c.give_path.ensures.bound
           (λ s. ap (λ o. option_map_or (λ t. t.fallen) o false) (c.give_path.ensures.namespaces s) ∙ views.fell-moved (way c.add_space.new.spaces.items c.args.parent) around s (namespace_on c.add_space.new.spaces.items s))
           (name_at c.insert_reserved.new.self) (ap (option_map identifier_of) c.in_ok-ident.ensures.vacant) named rest;
-      places = vacancy.vacant-same c.add_space.new.spaces.items c.give_path.new.spaces.items c.add_space.new.vacant.items (vec_capacity c.add_space.new.vacant) add.still c.give_path.ensures.len c.give_path.ensures.way;
+      places = places.vacant-same c.add_space.new.spaces.items c.give_path.new.spaces.items c.add_space.new.vacant.items (vec_capacity c.add_space.new.vacant) add.still c.give_path.ensures.len c.give_path.ensures.way;
       listed = subst (AreListed (id_on end)) (sym add.order) (orders.listed-made (id_on spaces) (id_on end) c.self.inside.order c.self.invariant.listed c.args.id key (subst (λ (b : Numbering). AreBelow b.order c.args.id) (sym c.self.view_is) c.requires.above)
           (sym (kept key) ∙ ap (λ o. option_map (λ t. t.id) (option_map namespace_of o)) add.vacant) (moves key ∙ ap (option_map (λ t. t.id)) add.here)
           (λ s m. moves s ∙ ap (λ o. option_map (λ t. t.id) (option_map namespace_of o)) (add.others s m) ∙ kept s));

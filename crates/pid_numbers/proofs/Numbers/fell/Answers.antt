@@ -1,15 +1,15 @@
 use Rattle.std.proofs.Common.{List, [], ◌∷◌, ◌≡◌, ◌∙◌, sym, ap, ℕ, ◌<◌, Bool, true, false, ◌||◌, length, Option, Some, None, option_map, refl, arith}
 use Rattle.std.specs.Option.{option_map_or}
 use Rattle.pid_types.specs.Chains.{contains}
-use Rattle.slab.specs.Slab.{Slab}
+use Rattle.pid_numbers.specs.Table.{Table}
 use Rattle.index_array.specs.Place.{Entry}
 use Rattle.std.specs.Prelude.{vec_capacity}
-use Rattle.pid_numbers.specs.declared.names.Ident.{Ident}
 use Rattle.pid_numbers.specs.declared.spaces.Space.{Space}
 use Rattle.pid_numbers.specs.Numbering.{Numbering, Identifier, Namespace, HasOwnTask, namespace_at, identifier_at, path_at, has_fallen_at, fallen_within}
-use Rattle.pid_numbers.specs.Slabs.{slot, slots, AreFallen, IsTree, IsTied, id_on, namespace_of, namespace_on, numbering_of, way, entry_on, bound_on, name_at, leads, fell}
+use Rattle.pid_numbers.specs.Slabs.{slot, slots, AreFallen, IsTree, IsTied, id_on, namespace_of, namespace_on, numbering_of, way, entry_on, bound_on, leads, fell}
+use Rattle.pid_numbers.specs.Table.{name_at}
 use Rattle.pid_numbers.proofs.Views as views
-use Rattle.pid_numbers.proofs.Vacancy as vacancy
+use Rattle.pid_numbers.proofs.Places as places
 use Rattle.pid_numbers.proofs.Ties as ties
 use Rattle.pid_numbers.proofs.Sweeps as sweeps
 use Rattle.pid_numbers.proofs.Orders as orders
@@ -29,7 +29,7 @@ falls_id outer (Some t) = refl
 same_fall : (spaces : List Space) (b : Numbering) (s : ℕ) → namespace_at b s ≡ option_map namespace_of (slot spaces s) → has_fallen_at b s ≡ fell spaces s
 same_fall spaces b s is = ap (λ o. option_map_or (λ t. t.fallen) o false) is
 
-homes : (pid_max : ℕ) (spaces : List Space) (idents : Slab Ident) (order : List (ℕ × ℕ)) (b : Numbering) (view : numbering_of pid_max spaces idents order ≡ b) (space : ℕ)
+homes : (pid_max : ℕ) (spaces : List Space) (idents : Table) (order : List (ℕ × ℕ)) (b : Numbering) (view : numbering_of pid_max spaces idents order ≡ b) (space : ℕ)
     → ((s : ℕ) → contains (path_at b s) space ≡ true → has_fallen_at b s ≡ false → HasOwnTask (identifier_at b) s)
     → (s : ℕ) → contains (way spaces s) space ≡ true → fell spaces s ≡ false → HasOwnTask (name_at idents) s
 homes pid_max spaces idents order b view space all s inside stands =
@@ -77,7 +77,7 @@ invariant_of-self c =
         numbering = ties.numbering-same c.self.inside.pid_max (way old) (way new) (entry_on old) (entry_on new) (bound_on old) (bound_on new) (name_at idents) (name_at idents) b c.fall_all.ensures.way c.fall_all.ensures.bound c.fall_all.ensures.entries (λ i. refl);
         fallen = sweeps.fallen-kept (way old) (way new) (entry_on old) (entry_on new) (fell new) (fell new) fallen c.fall_all.ensures.way (λ s. refl) (λ s n i led. (i, ap (option_map (λ e. e.value)) (c.fall_all.ensures.entries s n) ∙ led));
       };
-      places = vacancy.vacant-same c.self.inside.spaces.items new c.self.inside.vacant.items (vec_capacity c.self.inside.vacant) c.self.invariant.places c.fall_all.ensures.len c.fall_all.ensures.way;
+      places = places.vacant-same c.self.inside.spaces.items new c.self.inside.vacant.items (vec_capacity c.self.inside.vacant) c.self.invariant.places c.fall_all.ensures.len c.fall_all.ensures.way;
       listed = orders.listed-same (id_on old) (id_on new) c.self.inside.order c.self.invariant.listed (λ s. ap (option_map (λ t. t.id)) (c.fall_all.ensures.namespaces s) ∙ falls_id c.args.space (namespace_on old s));
     }
 

@@ -3,10 +3,10 @@ use Rattle.std.specs.Option.{option_map_or}
 use Rattle.std.specs.List.{AllByRecursion}
 use Rattle.id_slab.specs.Ids.{key_of, AreRising}
 use Rattle.pid_numbers.specs.Numbering.{Numbering, id_at, number_of, path_at, has_fallen_at}
-use Rattle.slab.specs.Slab.{Slab}
+use Rattle.pid_numbers.specs.Table.{Table}
 use Rattle.pid_numbers.specs.declared.spaces.Space.{Space}
-use Rattle.pid_numbers.specs.declared.names.Ident.{Ident}
-use Rattle.pid_numbers.specs.Slabs.{slot, IsNumbering, numbering_of, namespace_of, id_on, way, entry_on, bound_on, name_at, leads, fell}
+use Rattle.pid_numbers.specs.Slabs.{slot, IsNumbering, numbering_of, namespace_of, id_on, way, entry_on, bound_on, leads, fell}
+use Rattle.pid_numbers.specs.Table.{name_at}
 use Rattle.pid_numbers.proofs.Views as views
 use Rattle.pid_numbers.proofs.Ties as ties
 use Rattle.pid_numbers.proofs.Orders as orders
@@ -21,7 +21,7 @@ own_first s path (inl none) some = absurd (let l = ap length none in omega (arit
 own_first s path (inr way) some = ap (λ l. get_or l 0 0) way.1
 
 -- a namespace that is there has a path
-filled : (pid_max : ℕ) (spaces : List Space) (idents : Slab Ident) → IsNumbering pid_max (way spaces) (entry_on spaces) (bound_on spaces) (name_at idents) → (o : Option Space) (s : ℕ) → slot spaces s ≡ o → (i : ℕ)
+filled : (pid_max : ℕ) (spaces : List Space) (idents : Table) → IsNumbering pid_max (way spaces) (entry_on spaces) (bound_on spaces) (name_at idents) → (o : Option Space) (s : ℕ) → slot spaces s ≡ o → (i : ℕ)
     → id_on spaces s ≡ Some i → 0 < length (way spaces s)
 filled pid_max spaces idents b None s is i e = absurd (let z : None ≡ Some i = sym (ap (λ o. option_map (λ t. t.id) (option_map namespace_of o)) is) ∙ e in cc)
 filled pid_max spaces idents b (Some t) s is i e = (b.bounds s t.ids.pid_max (ap (option_map (λ t. t.ids.pid_max)) is)).1

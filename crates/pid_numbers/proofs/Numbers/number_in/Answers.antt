@@ -1,7 +1,8 @@
 use Rattle.std.proofs.Common.{◌≡◌, ◌∙◌, sym, ap, subst, arith, ◌<◌, ◌-◌, length, get_or, IfSome, option_map}
 use Rattle.pid_types.specs.Names.{beside}
 use Rattle.pid_numbers.specs.Numbering.{number_of, number_in}
-use Rattle.pid_numbers.specs.Slabs.{way, name_at}
+use Rattle.pid_numbers.specs.Slabs.{way}
+use Rattle.pid_numbers.specs.Table.{name_at}
 use Rattle.pid_numbers.proofs.Views as views
 use Rattle.pid_numbers.proofs.Sweeps as sweeps
 use Rattle.pid_numbers.proofs.Numbers.number_in.Goals as goal

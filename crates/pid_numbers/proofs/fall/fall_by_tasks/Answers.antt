@@ -3,7 +3,8 @@ use Rattle.std.specs.Option.{option_map_or}
 use Rattle.index_array.specs.Place.{Entry, is_marked}
 use Rattle.pid_numbers.specs.declared.spaces.Space.{Space}
 use Rattle.pid_numbers.specs.Numbering.{felled, number_in}
-use Rattle.pid_numbers.specs.Slabs.{slot, way, entry_on, home_at, name_at, namespace_of, namespace_on}
+use Rattle.pid_numbers.specs.Slabs.{slot, way, entry_on, home_at, namespace_of, namespace_on}
+use Rattle.pid_numbers.specs.Table.{name_at}
 use Rattle.pid_numbers.proofs.Falling as falling
 use Rattle.pid_numbers.proofs.Ties as ties
 use Rattle.pid_numbers.proofs.fall.fall_by_tasks.Goals as goal

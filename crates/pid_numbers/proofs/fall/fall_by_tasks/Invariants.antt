@@ -1,6 +1,7 @@
 use Rattle.std.proofs.Common.{length, ◌≡◌, ◌≤◌, ◌-◌, ℕ}
 use Rattle.index_array.specs.Place.{index_count}
-use Rattle.pid_numbers.specs.Slabs.{way, entry_on, bound_on, name_at, namespace_on}
+use Rattle.pid_numbers.specs.Slabs.{way, entry_on, bound_on, namespace_on}
+use Rattle.pid_numbers.specs.Table.{name_at}
 use Rattle.pid_numbers.proofs.Falling.{IsFalling}
 use Rattle.pid_numbers.proofs.fall.fall_by_tasks.Given as goal
 

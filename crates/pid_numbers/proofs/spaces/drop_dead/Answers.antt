@@ -1,8 +1,8 @@
-use Rattle.std.proofs.Common.{◌≡◌, ◌∙◌, sym, ap, Some, None, is_some, option_map, set, true, arith, if◌then◌else◌}
+use Rattle.std.proofs.Common.{◌≡◌, ◌++◌, ◌∷◌, [], subst, ◌∙◌, sym, ap, Some, None, is_some, option_map, set, true, arith, if◌then◌else◌}
 use Rattle.std.specs.Prelude.{vec_capacity}
-use Rattle.std.proofs.lemmas.List.{length-set}
 use Rattle.pid_numbers.specs.declared.spaces.Space.{Space}
-use Rattle.pid_numbers.specs.Slabs.{slot, namespace_of, id_on, dead_on}
+use Rattle.pid_numbers.specs.Slabs.{slot, slots, namespace_of, id_on, dead_on}
+use Rattle.pid_numbers.specs.Vacancy.{AreVacant}
 use Rattle.pid_numbers.proofs.Orders as orders
 use Rattle.pid_numbers.proofs.Places as places
 use Rattle.pid_numbers.proofs.Vacancy as vacancy
@@ -15,8 +15,10 @@ returns-then-not-is_dead_at-clause-order c =
 
 pub push_reserved-requires : goal.push_reserved-requires
 push_reserved-requires c =
-    let some = places.dead-there c.args.spaces.now.items c.args.key (sym c.is_dead_at.ensures ∙ c.if-not-is_dead_at.false) in
-    let more = vacancy.room-more c.args.spaces.now.items c.args.vacant.now.items (vec_capacity c.args.vacant.now) c.args.key c.requires.vacant some in
+    let spaces = c.args.spaces.now.items in
+    let some = places.dead-there spaces c.args.key (sym c.is_dead_at.ensures ∙ c.if-not-is_dead_at.false) in
+    let at = places.there-at spaces c.args.key c.index_mut-space.result.now some c.index_mut-space.ensures.value in
+    let more = vacancy.room-more (slots spaces) c.args.vacant.now.items (vec_capacity c.args.vacant.now) c.args.key c.index_mut-space.result.now c.requires.vacant at in
     omega (arith, more, c.args.vacant.now.ok.0)
 
 pub returns-clause-vacant : goal.returns-clause-vacant
@@ -27,9 +29,10 @@ returns-clause-vacant c =
     let z : Space = record y { path = c.clear.new.self } in
     let dead : dead_on spaces key ≡ true = sym c.is_dead_at.ensures ∙ c.if-not-is_dead_at.false in
     let some = places.dead-there spaces key dead in
-    let gone : slot (set spaces key z) key ≡ None = places.slot-set_same spaces key z (places.way-in spaces key some) ∙ places.shown-none z c.clear.ensures in
-    let v = vacancy.one-more spaces c.args.vacant.now.items (vec_capacity c.args.vacant.now) key c.requires.vacant some (set spaces key z) (length-set spaces key z) gone (λ s m. places.slot-set_other spaces key s z m) in
-    rw (← c.push_reserved.ensures.items, ← c.push_reserved.ensures.capacity) at v
+    let at = places.there-at spaces key y some c.index_mut-space.ensures.value in
+    let v = vacancy.one-more (slots spaces) c.args.vacant.now.items (vec_capacity c.args.vacant.now) key y c.requires.vacant at in
+    let w = subst (λ l. AreVacant l (c.args.vacant.now.items ++ key ∷ []) (vec_capacity c.args.vacant.now)) (sym (places.slots-set spaces key z None (places.shown-none z c.clear.ensures))) v in
+    rw (← c.push_reserved.ensures.items, ← c.push_reserved.ensures.capacity) at w
 
 pub returns-clause-here : goal.returns-clause-here
 returns-clause-here c =

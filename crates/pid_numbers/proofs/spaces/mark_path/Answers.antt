@@ -1,4 +1,4 @@
-use Rattle.std.proofs.Common.{option_map, ◌≡◌, ◌<◌, length, ◌∙◌, ap, arith, get_or, option_and_then}
+use Rattle.std.proofs.Common.{refl, option_map, ◌≡◌, ◌<◌, length, ◌∙◌, ap, arith, get_or, option_and_then}
 use Rattle.index_array.specs.Place.{entry_at, with_mark}
 use Rattle.pid_numbers.specs.Slabs.{bound_on, way, entry_on, mark_of}
 use Rattle.pid_numbers.proofs.Ties as ties
@@ -21,7 +21,7 @@ loop-k-preserved c =
     let below : k < length path = omega (arith, c.loop-k-test.true, c.levels-k-end.ensures.value) in
     let at : c.key_at-key.result ≡ get_or path k 0 = c.key_at-key.ensures ∙ ap (λ p. get_or p k 0) (c.loop-k.invariant.way c.args.space) in
     record {
-      entries = λ s n. ties.touched-more path numbers c.requires.distinct c.requires.len k below c.key_at-key.result c.at.result at c.at.ensures (with_mark (mark_of c.args.kind) c.args.on) (entry_on c.loop-k.spaces.items) (entry_on c.mark_at.new.spaces.items) c.mark_at.ensures.here c.mark_at.ensures.same (λ s m n. ap (option_and_then (λ t. entry_at t.ids.places n)) (c.mark_at.ensures.others s m)) s n ∙ c.loop-k.invariant.entries s n;
+      entries = λ s n. ties.touched-more path numbers c.requires.distinct c.requires.len k below c.key_at-key.result (get_or numbers k 0) at refl (with_mark (mark_of c.args.kind) c.args.on) (entry_on c.loop-k.spaces.items) (entry_on c.mark_at.new.spaces.items) c.mark_at.ensures.here c.mark_at.ensures.same (λ s m n. ap (option_and_then (λ t. entry_at t.ids.places n)) (c.mark_at.ensures.others s m)) s n ∙ c.loop-k.invariant.entries s n;
       bound = λ s. ties.everywhere (bound_on c.mark_at.new.spaces.items) (bound_on c.loop-k.spaces.items) c.key_at-key.result c.mark_at.ensures.bound (λ s m. ap (option_map (λ t. t.ids.pid_max)) (c.mark_at.ensures.others s m)) s ∙ c.loop-k.invariant.bound s;
       way = λ s. c.mark_at.ensures.way s ∙ c.loop-k.invariant.way s;
       namespaces = c.mark_at.ensures.namespaces ∙ c.loop-k.invariant.namespaces;

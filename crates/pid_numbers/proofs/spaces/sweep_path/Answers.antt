@@ -3,7 +3,8 @@ use Rattle.pid_types.specs.Chains.{contains}
 use Rattle.std.specs.List.{filter}
 use Rattle.std.specs.Option.{option_map_or}
 use Rattle.std.proofs.lemmas.List.{take_all}
-use Rattle.pid_numbers.specs.Slabs.{slot, left_on, id_on, way, AreListed, IsHead, IsDistinct}
+use Rattle.pid_numbers.specs.Slabs.{slot, left_on, id_on, way, AreListed, IsHead}
+use Rattle.pid_numbers.specs.Vacancy.{IsDistinct}
 use Rattle.pid_numbers.proofs.Sweeps as sweeps
 use Rattle.pid_numbers.proofs.Orders as orders
 use Rattle.pid_numbers.proofs.spaces.sweep_path.Goals as goal

@@ -1,7 +1,8 @@
 use Rattle.std.proofs.Common.{◌≡◌, ℕ, ◌<◌, ◌-◌, take, is_some}
 use Rattle.std.specs.List.{filter}
 use Rattle.std.specs.Prelude.{vec_capacity}
-use Rattle.pid_numbers.specs.Slabs.{slot, AreVacant, left_on, id_on, way, AreListed}
+use Rattle.pid_numbers.specs.Slabs.{slot, slots, left_on, id_on, way, AreListed}
+use Rattle.pid_numbers.specs.Vacancy.{AreVacant}
 use Rattle.pid_numbers.proofs.spaces.sweep_path.Given as goal
 
 abbrev pub invariant-loop-k : goal.invariant-loop-k
@@ -10,5 +11,5 @@ invariant-loop-k l = record {
   walked : l.k < l.end → way l.spaces.items l.space ≡ way l.initial.spaces.items l.space;
   order : l.order ≡ filter (λ p. is_some (slot l.spaces.items p.1)) l.initial.order;
   listed : AreListed (id_on l.spaces.items) l.order;
-  vacant : AreVacant l.spaces.items l.vacant.items (vec_capacity l.vacant);
+  vacant : AreVacant (slots l.spaces.items) l.vacant.items (vec_capacity l.vacant);
 }

@@ -1,0 +1,48 @@
+-- Identifiers in their places.
+use Rattle.std.proofs.Common.{inl, inr, ◌≡◌, ◌≢◌, ℕ, ◌<◌, List, length, map, get_or, set, Option, Some, None, IsSome, refl, sym, ap, ◌∙◌, arith, rules, option_map}
+use Rattle.std.proofs.lemmas.List.{length-map, length-set}
+use Rattle.std.proofs.lemmas.Bool.{cases_eq}
+use Rattle.pid_numbers.specs.declared.idents.Ident.{Ident}
+use Rattle.pid_numbers.specs.Numbering.{Identifier}
+use Rattle.pid_numbers.specs.Table.{identifier_of, shown, IsTable}
+use Rattle.pid_numbers.proofs.Filled as filled
+use Rattle.pid_numbers.proofs.Vacancy as vacancy
+
+-- how many numbers it has
+abbrev pub numbers_of : Ident → ℕ
+numbers_of x = length x.numbers
+
+-- who has a name is there
+pub named : (o : Option Ident) (u : Identifier) → option_map identifier_of o ≡ Some u → (x : Ident) × (o ≡ Some x) × (identifier_of x ≡ u)
+named None u e = absurd (cc)
+named (Some x) u e = (x, refl, cc)
+
+pub some-named : (o : Option Ident) → IsSome (option_map identifier_of o) → (x : Ident) × (o ≡ Some x)
+some-named None e = absurd (search rules)
+some-named (Some x) e = (x, refl)
+
+-- an identifier is written over, and keeps its numbers
+module _ (places : List Ident) (key : ℕ) (y z : Ident) (lt : key < length places) (some : 0 < length y.numbers) (at : get_or (map shown places) key None ≡ Some y) (same : z.numbers ≡ y.numbers) where
+  shows : shown z ≡ Some z
+  shows = filled.show-some numbers_of z (let l = ap length same in omega (arith, l, some))
+
+  pub rewritten : get_or (map shown (set places key z)) key None ≡ Some z
+  rewritten = filled.slot-set_same numbers_of places key z lt ∙ shows
+
+  pub others : (j : ℕ) → j ≢ key → get_or (map shown (set places key z)) j None ≡ get_or (map shown places) j None
+  others j differs = filled.slot-set_other numbers_of places key j z differs
+
+  pub still-table : (vacant : List ℕ) (rooms : ℕ) → IsTable places vacant rooms → IsTable (set places key z) vacant rooms
+  still-table vacant rooms t = record {
+    vacancies =
+        vacancy.vacant-as (map shown places) (map shown (set places key z)) vacant rooms t.vacancies (length-map (set places key z) shown ∙ length-set places key z ∙ sym (length-map places shown))
+        (λ s none. elim (cases_eq s key) [
+          | inl is ↦ absurd (let e : None ≡ Some y = sym none ∙ ap (λ k. get_or (map shown places) k None) is ∙ at in cc)
+          | inr differs ↦ others s differs ∙ none
+        ])
+        (λ s none. elim (cases_eq s key) [
+          | inl is ↦ absurd (let e : None ≡ Some z = sym none ∙ ap (λ k. get_or (map shown (set places key z)) k None) is ∙ rewritten in cc)
+          | inr differs ↦ sym (others s differs) ∙ none
+        ]);
+    few = let n = length-set places key z in let f = t.few in omega (arith, n, f);
+  }
