@@ -6,7 +6,7 @@
 //! it).
 //!
 //! A draw is made in three steps: `plan` says which number is next, `prepare` takes the memory for
-//! it, and `commit` gives it. Only `prepare` takes memory.
+//! it, and `commit` gives it. Only `prepare` takes memory that it cannot do without.
 #![tactic(auto)]
 
 ghost use Rattle.std.specs.Prelude.{◌≡◌, ℕ, ◌+◌, ◌*◌, ◌/◌, ◌<◌, ◌≤◌, Option, Some, None, OnOk, IfSome, MatchBool, true, false, not, is_some, [], ◌∷◌};
@@ -34,8 +34,8 @@ pub const SESSION_MARK: usize = 2;
 ///
 /// The 64 numbers of one block, where draws go on, stand in a leaf beside the tree. A call for one of them is a
 /// call for that leaf, and a call for another is one of an `IndexArray`; a search may make both, and `plan` at
-/// most four. `prepare` exchanges the leaf for another, so draws in turn do so once in 64. The cost hardly grows
-/// with the numbers in use.
+/// most four. `prepare` exchanges the leaf for another, so draws in turn do so once in 64. Releases in turn exchange it
+/// too, as in the teardown of a namespace. The cost hardly grows with the numbers in use.
 pub struct CyclicIds {
     ids: IndexArray,
     leaf: Leaf,
@@ -47,9 +47,23 @@ pub struct CyclicIds {
     is_backed: bool,
     /// The block in which a number was last prepared that was not in the leaf's.
     last: u32,
+    turn: Turn,
     pid_max: u32,
     cursor: Pid,
 }
+
+/// Releases of numbers in one block that is not the leaf's, one after the other, with no draw between them.
+#[derive(Clone, Copy)]
+struct Turn {
+    block: u32,
+    /// The cursor at the first of them, which a draw would have moved.
+    cursor: Pid,
+    count: u32,
+}
+
+/// After so many releases in turn their block comes into the leaf. An exchange costs what some eight releases in the
+/// tree do, and draws may have the leaf exchanged again.
+const LONG_TURN: u32 = 8;
 
 // Written out, and not derived: so the crates above cite this drop, and do not prove it anew.
 impl Drop for CyclicIds {
@@ -61,6 +75,7 @@ impl Drop for CyclicIds {
             is_ready: _,
             is_backed: _,
             last: _,
+            turn: _,
             pid_max: _,
             cursor: _,
         } = self;
@@ -147,6 +162,11 @@ impl CyclicIds {
             is_ready: false,
             is_backed: false,
             last: 0,
+            turn: Turn {
+                block: 0,
+                cursor: 0,
+                count: 0,
+            },
             pid_max,
             cursor: 0,
         }
@@ -315,9 +335,51 @@ impl CyclicIds {
         }
     }
 
-    /// Makes a number free and answers its value, none where it was not in use. The cursor stays.
+    /// Makes a number free and answers its value, none where it was not in use. The cursor stays. It may take memory
+    /// for nodes, where many numbers of one block are released in turn, and does without where there is none.
     #[inline(always)]
     pub fn release(&mut self, n: Pid) -> Option<u32>
+        ensures writes { WritesEntry self.old.places self.new.places n None }
+        ensures answer { result ≡ value_at self.old.places n }
+        ensures pid_max { self.new.pid_max ≡ self.old.pid_max }
+        ensures cursor { self.new.cursor ≡ self.old.cursor }
+    {
+        if n / 64 != self.block {
+            self.come_near(n);
+        }
+        self.free(n)
+    }
+
+    /// Brings a number's block into the leaf, if it is the next of many releases there.
+    #[inline(never)]
+    fn come_near(&mut self, n: Pid)
+        ensures entries { KeepsEntries self.old.places self.new.places }
+        ensures pid_max { self.new.pid_max ≡ self.old.pid_max }
+        ensures cursor { self.new.cursor ≡ self.old.cursor }
+    {
+        let block = n / 64;
+        let cursor = self.cursor;
+        if self.turn.block != block || self.turn.cursor != cursor {
+            self.turn = Turn {
+                block,
+                cursor,
+                count: 1,
+            };
+            return;
+        }
+        if self.turn.count < LONG_TURN {
+            self.turn.count += 1;
+            return;
+        }
+        self.turn.count = 1;
+        if n < self.pid_max {
+            let _ = self.change_leaf(n);
+        }
+    }
+
+    /// Makes a number free, where it is, and answers its value.
+    #[inline(always)]
+    fn free(&mut self, n: Pid) -> Option<u32>
         ensures writes { WritesEntry self.old.places self.new.places n None }
         ensures answer { result ≡ value_at self.old.places n }
         ensures pid_max { self.new.pid_max ≡ self.old.pid_max }

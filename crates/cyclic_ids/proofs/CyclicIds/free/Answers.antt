@@ -2,7 +2,7 @@ use Rattle.std.proofs.Common.{sym, ap, ◌∙◌, not, refl}
 use Rattle.std.proofs.Math.Bool.{not-not}
 use Rattle.cyclic_ids.proofs.Draws.{range_written}
 use Rattle.cyclic_ids.proofs.Beside.{entry_in_leaf, entry_in_tree, written_leaf, written_tree, apart_written, empty_if, then_kept}
-use Rattle.cyclic_ids.proofs.CyclicIds.release.Goals as goal
+use Rattle.cyclic_ids.proofs.CyclicIds.free.Goals as goal
 
 pub invariant_of-self : goal.invariant_of-self
 invariant_of-self c = record {
