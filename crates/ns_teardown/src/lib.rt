@@ -68,7 +68,7 @@ fn end_init(store: &mut Tasks, init: TaskKey, task: Task, status: u8)
 /// The exit of a namespace's init ends all its members, and the namespace falls with all inside it
 /// (`pid_namespaces(7)`).
 ///
-/// It is refused where no live task has the caller's number, and to the init of the root namespace. It takes
+/// It is refused where no live task has the caller's number, and to the init of the root namespace. It needs
 /// no memory.
 ///
 /// It costs one search for the caller, and a few writes for each child. If there is a child and some task is a

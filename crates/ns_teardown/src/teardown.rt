@@ -7,7 +7,7 @@
 //! has ended by its exit, and every other member is gone, but for those whose parent is outside: they are
 //! killed, and their parent can still wait for them.
 //!
-//! No call here takes memory, and none refuses: who calls has seen that the task lives.
+//! No call here needs memory, and none refuses: who calls has seen that the task lives.
 
 ghost use Rattle.std.specs.Prelude.{◌≡◌, ◌≢◌, ℕ, ◌+◌, ◌-◌, option_map, Some, true, false, slice_set};
 ghost use Rattle.std.specs.Option.{option_map_or};
