@@ -1,7 +1,7 @@
 //! Loads to measure the parts of a table with.
 //!
-//! A family is `numbers`, `members` or `layers`. `bench names FAMILY` prints the names of its loads. `bench FAMILY NAME OPS`
-//! prepares the load, does OPS operations of it and prints a checksum: the difference of two runs is the operations
+//! A family is `numbers`, `members` or `layers`. `bench names FAMILY` prints the names of its loads. `bench FAMILY NAME
+//! OPS` prepares the load, does OPS operations of it and prints a checksum: the difference of two runs is the operations
 //! alone. A load of `members` has COUNT keys: `bench members NAME OPS COUNT`. `bench small` does each load at a small
 //! size, those of `numbers` and `members` once more with plain lists, and prints the checksums, where the two agree.
 #![tactic(auto)]
@@ -43,7 +43,8 @@ fn print_names(rt: &HostRuntime, family: &str) -> Result<()> {
     }
 }
 
-/// Runs all loads at a small size, and prints their names and checksums. The error is want of memory, or two ways that differ.
+/// Runs all loads at a small size, and prints their names and checksums. The error is want of memory, or two ways that
+/// differ.
 fn run_small(rt: &HostRuntime) -> Result<()> {
     numbers::run_small(rt, 1000)?;
     members::run_small(rt, 400)?;
@@ -56,8 +57,8 @@ fn next_number(args: &mut Args) -> Result<u32> {
     Ok(word.parse::<u32>().context("no number")?)
 }
 
-/// Runs one load, and prints its checksum. The error is an unknown family or name, a word that is missing or no number, or
-/// want of memory.
+/// Runs one load, and prints its checksum. The error is an unknown family or name, a word that is missing or no number,
+/// or want of memory.
 fn run_one(rt: &HostRuntime, family: &str, args: &mut Args) -> Result<()> {
     let name = args.next().context(USAGE)?;
     let ops = next_number(args)?;

@@ -1,5 +1,6 @@
 //! What changes a control group's count.
-ghost use Rattle.model_laws.specs.CountLaws.{FallCountsTaken, ForkCountsOne, MoveCountsBoth, NothingElseCounts, ReapingCountsOneLess};
+ghost use Rattle.model_laws.specs.CountLaws.{FallCountsTaken, ForkCountsOne, MoveCountsBoth, NothingElseCounts};
+ghost use Rattle.model_laws.specs.CountLaws.{ReapingCountsOneLess};
 
 /// A fork counts one more in each control group from the caller's home to the root.
 pub fn fork_counts_one()

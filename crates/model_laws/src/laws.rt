@@ -1,8 +1,10 @@
 //! Laws of single calls: numbers, refusals, limits, and that no number is handed out twice.
 ghost use Rattle.model_laws.specs.Draws.{DrawIsLeast};
 ghost use Rattle.model_laws.specs.LimitLaws.{ForkKeepsLimits, RunsKeepLimits};
-ghost use Rattle.model_laws.specs.NumberLaws.{LevelsAreBounded, NamesHaveNumbers, NoNumberNamesTwo, NumberIsAtLevel, NumbersFromLevel, SoundNeedsNoSweep, SweepKeepsNumbered};
-ghost use Rattle.model_laws.specs.Refusals.{FirstRefusalAnswers, NoneYetChangesNothing, QueryChangesNothing, RefusalChangesNothing};
+ghost use Rattle.model_laws.specs.NumberLaws.{LevelsAreBounded, NamesHaveNumbers, NoNumberNamesTwo, NumberIsAtLevel};
+ghost use Rattle.model_laws.specs.NumberLaws.{NumbersFromLevel, SoundNeedsNoSweep, SweepKeepsNumbered};
+ghost use Rattle.model_laws.specs.Refusals.{FirstRefusalAnswers, NoneYetChangesNothing, QueryChangesNothing};
+ghost use Rattle.model_laws.specs.Refusals.{RefusalChangesNothing};
 ghost use Rattle.model_laws.specs.ReuseLaws.{NoReuse};
 
 /// A namespace gives the least free number from its cursor on, or else from the restart on.

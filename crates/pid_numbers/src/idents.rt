@@ -1,6 +1,7 @@
 //! Identifiers by key, in places of a vector.
 
-ghost use Rattle.std.specs.Prelude.{◌≡◌, ◌≢◌, ℕ, ◌<◌, ◌^◌, ◌+◌, ◌==◌, [], length, None, Some, IfOk, OnOk, IfSome, IsSome, true, false};
+ghost use Rattle.std.specs.Prelude.{◌≡◌, ◌≢◌, ℕ, ◌<◌, ◌^◌, ◌+◌, ◌==◌, [], length, None, Some, IfOk, OnOk, IfSome};
+ghost use Rattle.std.specs.Prelude.{IsSome, true, false};
 ghost use Rattle.std.specs.Option.{option_copied};
 ghost use Rattle.pid_numbers.specs.Numbering.{Identifier, uses, less, more, is_used_as};
 ghost use Rattle.pid_numbers.specs.Table.{get, identifier_of, name_at, ChangesPlace};

@@ -1,5 +1,6 @@
 //! Where scripts come from and where answers go.
-ghost use Rattle.std.specs.Prelude.{◌≡◌, ◌↔◌, ◌<◌, ◌≤◌, ◌++◌, Bool, false, Option, List, [], ◌∷◌, ℕ, length, IfOk, OnOk, OnErr, IsTrue};
+ghost use Rattle.std.specs.Prelude.{◌≡◌, ◌↔◌, ◌<◌, ◌≤◌, ◌++◌, Bool, false, Option, List, [], ◌∷◌, ℕ, length, IfOk};
+ghost use Rattle.std.specs.Prelude.{OnOk, OnErr, IsTrue};
 ghost use Rattle.std.specs.Io.KnownBytes.{Appends, Consumes, ReadConsumes, WriteAppends};
 ghost use Rattle.pid_types.specs.Devices.{AreWell, Event, heard, reading, readings, said, writing};
 
@@ -78,7 +79,8 @@ pub trait Sink {
 
     ghost appended: { (a b : Self) (xs : List Event) → did a b xs → Appends (contents a) (contents b) (said xs) };
 
-    ghost kept: { (a b : Self) (xs : List Event) → did a b xs → AreWell xs → (has_failed b ≡ has_failed a) × (is_full b ≡ is_full a) };
+    ghost kept: { (a b : Self) (xs : List Event) → did a b xs → AreWell xs
+        → (has_failed b ≡ has_failed a) × (is_full b ≡ is_full a) };
 }
 
 /// A source and a sink in one, which knows the order of reads and writes.
@@ -88,7 +90,8 @@ pub trait Dialogue: Source + Sink {
 
     ghost one: { (a b : Self) (xs : List Event) → Self.Source.did a b xs ↔ Self.Sink.did a b xs };
 
-    ghost apart: { (a b : Self) (xs : List Event) → Self.Sink.did a b xs → readings xs ≡ [] → Self.remaining b ≡ Self.remaining a };
+    ghost apart: { (a b : Self) (xs : List Event) → Self.Sink.did a b xs → readings xs ≡ []
+        → Self.remaining b ≡ Self.remaining a };
 
     ghost same: { (a b : Self) (xs : List Event) → Self.Source.did a b xs → is_same a b };
 }
@@ -118,14 +121,17 @@ impl<S: Source, K: Sink> Source for Both<'_, S, K> {
     ghost more = { λ a b c xs ys first second. (
       (second.0.0 ∙ first.0.0, second.0.1 ∙ first.0.1),
       (
-        subst (S.did a.source.now c.source.now) (readings-more xs ys) (S.more a.source.now b.source.now c.source.now (readings xs) (readings ys) first.1.0 second.1.0),
-        subst (K.did a.sink.now c.sink.now) (writings-more xs ys) (K.more a.sink.now b.sink.now c.sink.now (writings xs) (writings ys) first.1.1 second.1.1),
+        subst (S.did a.source.now c.source.now) (readings-more xs ys)
+            (S.more a.source.now b.source.now c.source.now (readings xs) (readings ys) first.1.0 second.1.0),
+        subst (K.did a.sink.now c.sink.now) (writings-more xs ys)
+            (K.more a.sink.now b.sink.now c.sink.now (writings xs) (writings ys) first.1.1 second.1.1),
       ),
     ) };
 
     ghost still = { λ a b did. S.still a.source.now b.source.now did.1.0 };
 
-    ghost consumed = { λ a b xs did. subst (Consumes (S.remaining a.source.now) (S.remaining b.source.now)) (readings_heard xs) (S.consumed a.source.now b.source.now (readings xs) did.1.0) };
+    ghost consumed = { λ a b xs did. subst (Consumes (S.remaining a.source.now) (S.remaining b.source.now))
+        (readings_heard xs) (S.consumed a.source.now b.source.now (readings xs) did.1.0) };
 
     ghost kept = { λ a b xs did well. S.kept a.source.now b.source.now (readings xs) did.1.0 (readings_well xs well) };
 
@@ -157,12 +163,15 @@ impl<S: Source, K: Sink> Sink for Both<'_, S, K> {
     ghost more = { λ a b c xs ys first second. (
       (second.0.0 ∙ first.0.0, second.0.1 ∙ first.0.1),
       (
-        subst (S.did a.source.now c.source.now) (readings-more xs ys) (S.more a.source.now b.source.now c.source.now (readings xs) (readings ys) first.1.0 second.1.0),
-        subst (K.did a.sink.now c.sink.now) (writings-more xs ys) (K.more a.sink.now b.sink.now c.sink.now (writings xs) (writings ys) first.1.1 second.1.1),
+        subst (S.did a.source.now c.source.now) (readings-more xs ys)
+            (S.more a.source.now b.source.now c.source.now (readings xs) (readings ys) first.1.0 second.1.0),
+        subst (K.did a.sink.now c.sink.now) (writings-more xs ys)
+            (K.more a.sink.now b.sink.now c.sink.now (writings xs) (writings ys) first.1.1 second.1.1),
       ),
     ) };
 
-    ghost appended = { λ a b xs did. subst (Appends (K.contents a.sink.now) (K.contents b.sink.now)) (writings_said xs) (K.appended a.sink.now b.sink.now (writings xs) did.1.1) };
+    ghost appended = { λ a b xs did. subst (Appends (K.contents a.sink.now) (K.contents b.sink.now))
+        (writings_said xs) (K.appended a.sink.now b.sink.now (writings xs) did.1.1) };
 
     ghost kept = { λ a b xs did well. K.kept a.sink.now b.sink.now (writings xs) did.1.1 (writings_well xs well) };
 
@@ -182,7 +191,8 @@ impl<S: Source, K: Sink> Dialogue for Both<'_, S, K> {
 
     ghost one = { λ a b xs. (λ did. did, λ did. did) };
 
-    ghost apart = { λ a b xs did none. S.still a.source.now b.source.now (subst (S.did a.source.now b.source.now) none did.1.0) };
+    ghost apart = { λ a b xs did none. S.still a.source.now b.source.now
+        (subst (S.did a.source.now b.source.now) none did.1.0) };
 
     ghost same = { λ a b xs did. did.0 };
 }
@@ -285,7 +295,8 @@ impl<W: Write> Sink for ToWriter<'_, W> {
 
     ghost nothing = { λ a. (refl, Gave-nothing _ _ _) };
 
-    ghost more = { λ a b c xs ys first second. (second.0 ∙ first.0, Gave-more _ _ _ _ _ _ _ _ _ xs ys first.1 second.1) };
+    ghost more = { λ a b c xs ys first second.
+        (second.0 ∙ first.0, Gave-more _ _ _ _ _ _ _ _ _ xs ys first.1 second.1) };
 
     ghost appended = { λ a b es did. did.1.appended };
 

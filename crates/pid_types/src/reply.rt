@@ -77,8 +77,8 @@ pub enum Reply {
     Refused(Refusal),
 }
 
-/// A reply that is no list of numbers: what each call but `NSpid` answers. It takes 24 bytes, where a [`Reply`] has room
-/// for the numbers of 33 levels.
+/// A reply that is no list of numbers: what each call but `NSpid` answers. It takes 24 bytes, where a [`Reply`] has
+/// room for the numbers of 33 levels.
 #[derive(Clone, Copy, Debug, PartialEq, Eq)]
 pub enum ShortReply {
     /// As [`Reply::Forked`].
@@ -102,7 +102,7 @@ pub enum ShortReply {
 }
 
 impl ShortReply {
-    /// Writes the reply that it stands for. It costs a few writes, and no copy of the room for numbers that are not there.
+    /// Writes the reply that it stands for. It costs a few writes, and no copy of the room for numbers that it lacks.
     pub fn tell(self, reply: &mut Reply)
         ensures { reply.new ≡ reply_of self }
     {

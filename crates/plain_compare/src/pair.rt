@@ -68,7 +68,11 @@ impl Model for Pair {
 impl Pair {
     /// Both tables as they begin. The error is want of memory.
     pub fn new(alloc: Global, config: &Config) -> Result<Pair, AllocError>
-        ensures { IfOk result (λ pair. pair ≡ record { fast = root_state config.now.pid_max; plain = root_state config.now.pid_max; stamp = config.now.first_stamp }) }
+        ensures { IfOk result (λ pair. pair ≡ record {
+          fast = root_state config.now.pid_max;
+          plain = root_state config.now.pid_max;
+          stamp = config.now.first_stamp;
+        }) }
     {
         root_state_is_sound();
         prove!(config.pid_max() >= 301 && config.pid_max() <= 4_194_304);
@@ -82,10 +86,13 @@ impl Pair {
     /// Makes the call on both tables, and answers what both do. After an error the tables may be two
     /// states, so the pair is of no more use.
     pub fn make(&mut self, call: Call) -> Result<Reply, Fault>
-        ensures fast { IfOk result (λ reply. record { state = self.new.fast; reply = reply } ≡ step self.old.fast self.old.stamp call) }
-        ensures plain { IfOk result (λ reply. record { state = self.new.plain; reply = reply } ≡ step self.old.plain self.old.stamp call) }
+        ensures fast { IfOk result (λ reply. record { state = self.new.fast; reply = reply }
+            ≡ step self.old.fast self.old.stamp call) }
+        ensures plain { IfOk result (λ reply. record { state = self.new.plain; reply = reply }
+            ≡ step self.old.plain self.old.stamp call) }
         ensures stamp { OnOk result (self.new.stamp ≡ self.old.stamp + 1) }
-        ensures replies { (fast plain : Reply) → result ≡ Err (Fault.Replies fast plain) → self.old.fast ≡ self.old.plain → ⊥ }
+        ensures replies { (fast plain : Reply) → result ≡ Err (Fault.Replies fast plain)
+            → self.old.fast ≡ self.old.plain → ⊥ }
     {
         let Some(next) = self.stamp.checked_add(1) else {
             return Err(Fault::Spent);

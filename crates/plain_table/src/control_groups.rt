@@ -4,7 +4,9 @@ ghost use Rattle.std.specs.Prelude.{◌≡◌, ◌==◌, ◌&&◌, Some, OnErr, 
 ghost use Rattle.std.specs.Option.{option_eq};
 ghost use Rattle.std.specs.List.{list_any};
 ghost use Rattle.pid_types.specs.Names.{is_live as is_live_row};
-ghost use Rattle.pid_types.specs.Changes.{without_control, with_limit, with_control, is_busy as is_busy_of, make_control as make_control_of, remove_control as remove_control_of, set_limit as set_limit_of, count_tasks};
+ghost use Rattle.pid_types.specs.Changes.{without_control, with_limit, with_control, is_busy as is_busy_of};
+ghost use Rattle.pid_types.specs.Changes.{make_control as make_control_of, remove_control as remove_control_of};
+ghost use Rattle.pid_types.specs.Changes.{set_limit as set_limit_of, count_tasks};
 
 use crate::edit::{AllButControl, Limits, Rehome, edit_all, keep};
 use crate::table::PlainTable;

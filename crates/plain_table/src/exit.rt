@@ -1,7 +1,10 @@
 //! Exit (`_exit(2)`), new parents (`PR_SET_CHILD_SUBREAPER(2const)`), and the fall of a namespace
 //! (`pid_namespaces(7)`). They look through all tasks, and take no memory.
 ghost use Rattle.std.specs.Prelude.{◌≡◌, ◌≤◌, [], length, map, filter, not, vec_capacity};
-ghost use Rattle.pid_types.specs.Exit.{parent_number as parent_number_of, is_subreaper_in as is_subreaper_of, nearest_subreaper as nearest_subreaper_of, new_parent as new_parent_of, rows_after_exit, rows_after_fall, row_after_fall, goes_in_fall, fallen_below, fall as fall_of, exit as exit_of};
+ghost use Rattle.pid_types.specs.Exit.{parent_number as parent_number_of, is_subreaper_in as is_subreaper_of};
+ghost use Rattle.pid_types.specs.Exit.{nearest_subreaper as nearest_subreaper_of, new_parent as new_parent_of};
+ghost use Rattle.pid_types.specs.Exit.{rows_after_exit, rows_after_fall, row_after_fall, goes_in_fall, fallen_below};
+ghost use Rattle.pid_types.specs.Exit.{fall as fall_of, exit as exit_of};
 
 use crate::edit::{Ends, Falls, Stays, edit_all, keep};
 use crate::table::PlainTable;
@@ -53,7 +56,8 @@ fn push_fallen(kept: &mut Vec<Space>, view: &View<'_>, spaces: &[Space], fallen:
 
 /// Ends the members of the init's namespace, of which only those whose parent is outside stay.
 fn end_in_fall(rows: &mut Vec<Row>, view: &View<'_>, init: &Row, status: u8)
-    ensures { rows.new.items ≡ map (row_after_fall view.now init.now status) (filter (λ row. not (goes_in_fall view.now init.now row)) rows.old.items) }
+    ensures { rows.new.items ≡ map (row_after_fall view.now init.now status)
+        (filter (λ row. not (goes_in_fall view.now init.now row)) rows.old.items) }
 {
     keep(rows, &Stays { view, init });
     edit_all(rows, &Falls { view, init, status });

@@ -4,13 +4,16 @@
 //! neither a refusal nor want of memory changes anything. A draw looks through all tasks for each
 //! number that it tries. That is one number or a few as long as most are free, and all of them, up
 //! to twice, where none is.
-ghost use Rattle.std.specs.Prelude.{◌≡◌, ◌≤◌, ◌<◌, ◌+◌, ◌++◌, map, find, is_none, nat_lt, position, length, Some, None, MatchResult, OnOk, OnErr, IfOk, IfSome, unwrap_or, vec_len, vec_capacity, option_to_list};
+ghost use Rattle.std.specs.Prelude.{◌≡◌, ◌≤◌, ◌<◌, ◌+◌, ◌++◌, map, find, is_none, nat_lt, position, length, Some, None};
+ghost use Rattle.std.specs.Prelude.{MatchResult, OnOk, OnErr, IfOk, IfSome, unwrap_or, vec_len, vec_capacity};
+ghost use Rattle.std.specs.Prelude.{option_to_list};
 ghost use Rattle.pid_types.specs.State.{State};
 ghost use Rattle.pid_types.specs.Names.{root_number as root_of, path_up};
 ghost use Rattle.plain_table.specs.Planned.{with_planned, after_plan};
 ghost use Rattle.pid_types.specs.Draw.{draw};
 ghost use Rattle.pid_types.specs.Outcome.{refused, changed};
-ghost use Rattle.pid_types.specs.Fork.{drawn, insert_row, child_of as child_row, no_room, forked, with_space, fork as fork_of};
+ghost use Rattle.pid_types.specs.Fork.{drawn, insert_row, child_of as child_row, no_room, forked, with_space};
+ghost use Rattle.pid_types.specs.Fork.{fork as fork_of};
 
 use crate::edit::{MovesCursors, edit_all};
 use crate::find::copy_row;
@@ -47,7 +50,9 @@ struct Draws {
 fn draw_along(view: &View<'_>, path: &[u64]) -> Result<Draws, u64>
     requires { length path.now ≤ 33 }
     ensures { MatchResult result
-        (λ d. (find (λ s. is_none (draw view.now s)) path.now ≡ None) × (d.numbers.items ≡ map (drawn view.now) path.now) × (d.cursors.items ≡ map (λ s. drawn view.now s + 1) path.now))
+        (λ d. (find (λ s. is_none (draw view.now s)) path.now ≡ None)
+        × (d.numbers.items ≡ map (drawn view.now) path.now)
+        × (d.cursors.items ≡ map (λ s. drawn view.now s + 1) path.now))
         (λ s. find (λ s. is_none (draw view.now s)) path.now ≡ Some s) }
 {
     let mut numbers = ArrayVec::new();
@@ -64,7 +69,8 @@ fn draw_along(view: &View<'_>, path: &[u64]) -> Result<Draws, u64>
 
 /// The caller's child in the namespace, with these numbers, innermost first.
 fn child_of(caller: &Row, space: u64, mut numbers: ArrayVec<u32, LEVELS>) -> Row
-    ensures { (state : State) → numbers.items ≡ map (drawn state) (path_up state.spaces space) → result ≡ child_row state caller.now space }
+    ensures { (state : State) → numbers.items ≡ map (drawn state) (path_up state.spaces space)
+        → result ≡ child_row state caller.now space }
 {
     numbers.as_mut_slice().reverse();
     Row {
@@ -83,7 +89,8 @@ fn child_of(caller: &Row, space: u64, mut numbers: ArrayVec<u32, LEVELS>) -> Row
 /// Plans the caller's child in the namespace, or says why there can be none.
 fn plan(view: &View<'_>, caller: &Row, space: u64) -> Result<ForkPlan, Refusal>
     ensures { MatchResult result
-        (λ p. (p.added ≡ None) × (no_room view.now caller.now space ≡ None) × (forked view.now caller.now space ≡ changed (with_planned view.now p) p.reply))
+        (λ p. (p.added ≡ None) × (no_room view.now caller.now space ≡ None)
+        × (forked view.now caller.now space ≡ changed (with_planned view.now p) p.reply))
         (λ r. no_room view.now caller.now space ≡ Some r) }
 {
     let path = view.path_up(space);
@@ -181,7 +188,8 @@ impl PlainTable {
     fn plan_inside_new(&self, caller: &Row, stamp: u64) -> Result<ForkPlan, Refusal>
         ensures { MatchResult result
             (λ p. let planned = with_space self.now caller.now.children_space stamp in
-            (no_room planned caller.now stamp ≡ None) × (forked planned caller.now stamp ≡ changed (after_plan self.now p) p.reply))
+            (no_room planned caller.now stamp ≡ None)
+            × (forked planned caller.now stamp ≡ changed (after_plan self.now p) p.reply))
             (λ r. no_room (with_space self.now caller.now.children_space stamp) caller.now stamp ≡ Some r) }
     {
         let added = Space {

@@ -1,7 +1,9 @@
 //! Process groups and sessions: `setpgid(2)` and `setsid(2)`. They look through all tasks, and take
 //! no memory.
 ghost use Rattle.std.specs.Prelude.{◌≡◌, OnOk, IfErr, MatchResult};
-ghost use Rattle.pid_types.specs.Groups.{set_group, has_members as has_members_of, session_group as session_group_of, group_for as group_for_of, target_of as target_number, set_group_of, set_pgid as set_pgid_of, set_sid as set_sid_of};
+ghost use Rattle.pid_types.specs.Groups.{set_group, has_members as has_members_of, session_group as session_group_of};
+ghost use Rattle.pid_types.specs.Groups.{group_for as group_for_of, target_of as target_number, set_group_of};
+ghost use Rattle.pid_types.specs.Groups.{set_pgid as set_pgid_of, set_sid as set_sid_of};
 ghost use Rattle.pid_types.specs.Names.{with_row};
 ghost use Rattle.pid_types.specs.Outcome.{refused, changed};
 
@@ -66,7 +68,8 @@ impl PlainTable {
     #[tactic(auto, unfolding(pid_types::specs::Groups::set_group_of))]
     fn new_group(&self, caller: &Row, target: &Row, pgid: i32) -> Result<Name, Refusal>
         ensures { MatchResult result
-            (λ group. set_group_of self.now caller.now target.now pgid ≡ changed (with_row self.now target.now.name (set_group group)) Reply.Done)
+            (λ group. set_group_of self.now caller.now target.now pgid
+            ≡ changed (with_row self.now target.now.name (set_group group)) Reply.Done)
             (λ r. set_group_of self.now caller.now target.now pgid ≡ refused self.now r) }
     {
         let is_child = is_parent(&caller.name, target);

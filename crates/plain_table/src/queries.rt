@@ -2,7 +2,8 @@
 //! `proc_pid_status(5)`, and the next number in use. They look through all tasks, take no memory
 //! and change nothing.
 ghost use Rattle.std.specs.Prelude.{◌≡◌};
-ghost use Rattle.pid_types.specs.Queries.{get_pid as get_pid_of, get_ppid as get_ppid_of, get_pgid as get_pgid_of, get_sid as get_sid_of, ns_pid as ns_pid_of, next as next_of, self_or_task};
+ghost use Rattle.pid_types.specs.Queries.{get_pid as get_pid_of, get_ppid as get_ppid_of, get_pgid as get_pgid_of};
+ghost use Rattle.pid_types.specs.Queries.{get_sid as get_sid_of, ns_pid as ns_pid_of, next as next_of, self_or_task};
 
 use crate::table::PlainTable;
 use pid_types::plain::Row;

@@ -1,5 +1,6 @@
 //! The table, its making, its sweep and its snapshot.
-ghost use Rattle.std.specs.Prelude.{◌≡◌, ◌≤◌, ◌∷◌, [], length, vec_len, vec_capacity, filter, map, not, IfOk, OnOk, OnErr};
+ghost use Rattle.std.specs.Prelude.{◌≡◌, ◌≤◌, ◌∷◌, [], length, vec_len, vec_capacity, filter, map, not, IfOk, OnOk};
+ghost use Rattle.std.specs.Prelude.{OnErr};
 ghost use Rattle.pid_types.specs.State.{root_state, root_name as root_name_of, root_init as root_init_of};
 ghost use Rattle.pid_types.specs.Names.{with_row};
 ghost use Rattle.pid_types.specs.Outcome.{sweep, is_dead};
@@ -32,7 +33,12 @@ impl Model for PlainTable {
 
     ghost Value = { State };
 
-    ghost view = { λ t. record { rows = t.rows.items; spaces = t.spaces.items; controls = t.controls.items; pid_max = t.pid_max } };
+    ghost view = { λ t. record {
+      rows = t.rows.items;
+      spaces = t.spaces.items;
+      controls = t.controls.items;
+      pid_max = t.pid_max;
+    } };
 
     ghost invariant = { λ t. (t.kept.items ≡ []) × (vec_len t.spaces ≤ vec_capacity t.kept) };
 }

@@ -1,7 +1,8 @@
 //! Changes of one task: exec (`execve(2)`), join (`setns(2)`), the subreaper's mark (`prctl(2)`),
 //! and moves between control groups (a write to `cgroup.procs`). They take no memory.
 ghost use Rattle.std.specs.Prelude.{◌≡◌};
-ghost use Rattle.pid_types.specs.Changes.{exec as exec_of, join as join_of, set_subreaper as set_subreaper_of, move_task as move_of};
+ghost use Rattle.pid_types.specs.Changes.{exec as exec_of, join as join_of, set_subreaper as set_subreaper_of};
+ghost use Rattle.pid_types.specs.Changes.{move_task as move_of};
 
 use crate::edit::{SetChildrenSpace, SetExecuted, SetHome, SetMark};
 use crate::table::PlainTable;

@@ -75,7 +75,8 @@ impl View<'_> {
 
     /// The least number from the given one on that is below the bound and not in use.
     fn find_free(&self, space: u64, from: u32) -> Option<u32>
-        ensures value { result ≡ (if nat_lt (least_free (taken self.now space) from) self.now.pid_max then Some (least_free (taken self.now space) from) else None) }
+        ensures value { result ≡ (if nat_lt (least_free (taken self.now space) from) self.now.pid_max
+            then Some (least_free (taken self.now space) from) else None) }
         ensures below { IfSome result (λ n. n < self.now.pid_max) }
         ensures fits { IfSome result (λ n. n + 1 < 2 ^ 32) }
     {

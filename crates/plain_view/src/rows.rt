@@ -1,6 +1,7 @@
 //! The tasks that a number names.
 ghost use Rattle.std.specs.Prelude.{◌≡◌, option_copied};
-ghost use Rattle.pid_types.specs.Names.{row_at as row_with, live_row as live_row_with, task_at as task_with, is_member as is_member_of};
+ghost use Rattle.pid_types.specs.Names.{row_at as row_with, live_row as live_row_with, task_at as task_with};
+ghost use Rattle.pid_types.specs.Names.{is_member as is_member_of};
 
 use crate::names::{is_live, root_number};
 use crate::view::View;

@@ -21,7 +21,12 @@ impl<'a> Model for View<'a> {
 
     ghost Value = { State };
 
-    ghost view = { λ v. record { rows = v.rows.now; spaces = v.spaces.now ++ option_to_list v.added; controls = v.controls.now; pid_max = v.pid_max } };
+    ghost view = { λ v. record {
+      rows = v.rows.now;
+      spaces = v.spaces.now ++ option_to_list v.added;
+      controls = v.controls.now;
+      pid_max = v.pid_max;
+    } };
 }
 
 impl<'a> View<'a> {
@@ -32,7 +37,12 @@ impl<'a> View<'a> {
         controls: &'a [Control],
         pid_max: u32,
     ) -> View<'a>
-        ensures { result ≡ record { rows = rows.entry.now; spaces = spaces.entry.now; controls = controls.entry.now; pid_max = pid_max } }
+        ensures { result ≡ record {
+          rows = rows.entry.now;
+          spaces = spaces.entry.now;
+          controls = controls.entry.now;
+          pid_max = pid_max;
+        } }
     {
         View {
             rows,
@@ -51,7 +61,12 @@ impl<'a> View<'a> {
         controls: &'a [Control],
         pid_max: u32,
     ) -> View<'a>
-        ensures { result ≡ record { rows = rows.entry.now; spaces = spaces.entry.now ++ added ∷ []; controls = controls.entry.now; pid_max = pid_max } }
+        ensures { result ≡ record {
+          rows = rows.entry.now;
+          spaces = spaces.entry.now ++ added ∷ [];
+          controls = controls.entry.now;
+          pid_max = pid_max;
+        } }
     {
         View {
             rows,
