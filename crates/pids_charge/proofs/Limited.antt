@@ -1,16 +1,19 @@
 -- Another limit at one node.
-use Rattle.std.proofs.Common.{◌≡◌, ◌≢◌, inl, inr, ℕ, ◌<◌, nat_lt, Bool, true, false, if◌then◌else◌, Option, Some, None, option_map, option_and_then, is_some, List, [], ◌∷◌, map, refl, sym, ap, subst, ◌∙◌, arith}
+use Rattle.std.proofs.Common.{◌≡◌, ◌≢◌, inl, inr, ℕ, ◌<◌, nat_lt, Bool, true, false, if◌then◌else◌, Option, Some, None, option_map, option_and_then, is_some, List, [], ◌∷◌, length, set, map, refl, sym, ap, subst, ◌∙◌, arith}
 use Rattle.std.proofs.lemmas.Bool.{cases_eq, eq-eqb}
-use Rattle.slab.specs.Slab.{Slab, get, with_value}
+use Rattle.slab.specs.Slab.{Slab, get, with_value, Updates}
+use Rattle.slab.proofs.SlabLemmas.{Updates-with_value}
 use Rattle.pid_types.specs.Controls.{parent_control}
 use Rattle.pid_types.specs.Changes.{limited}
 use Rattle.pid_types.specs.Bounds.{greatest_limit}
 use Rattle.pid_types.specs.declared.reply.Refusal.TheVariants.{RootControl, ControlBusy, BadLimit}
 use Rattle.std.specs.Option.{option_map_or}
 use Rattle.pids_charge.specs.declared.node.Node.{Node}
+use Rattle.pids_charge.specs.declared.counter.Counter.{Counter}
+use Rattle.pids_charge.proofs.Linked as linked
 use Rattle.pids_charge.specs.Nodes.{Tree, tree_of, total_in, IsTree}
 use Rattle.pids_charge.specs.Charges.{Charges, home_at, stands, id_at, is_busy, limit_refusal, remove_refusal}
-use Rattle.pids_charge.specs.Kept.{control_in, charges_of, limit_in, seen, IsEntry, IsListed, IsKept}
+use Rattle.pids_charge.specs.Kept.{control_in, charges_of, limit_in, seen, IsEntry, IsListed, IsKept, counter_at, total_at}
 use Rattle.pids_charge.proofs.Climbs.{eqb-apart, up-is}
 use Rattle.pids_charge.proofs.Views.{home_at-is, same_key, stand_in, id_in, parent-is}
 use Rattle.pids_charge.proofs.Dropped.{map-where}
@@ -33,19 +36,31 @@ module _ (nodes new : Slab Node) (c : ℕ) (n : Node) (limit : Option ℕ) (foun
   tree : tree_of new ≡ tree_of nodes
   tree = written.tree-same nodes new c n (record n { limit = limit }) found refl is
 
-  module _ (totals : List ℕ) (children : List (Option ℕ)) (ids : List (ℕ × ℕ)) (w : IsKept nodes totals children ids) where
-    pub IsKept-limited : IsKept new totals children ids
-    IsKept-limited = record {
+  module _ (counters : List Counter) (children : List (Option ℕ)) (ids : List (ℕ × ℕ)) (w : IsKept nodes counters children ids) where
+    pub IsKept-limited : (counter : Counter) → counter ≡ counter_at counters c → IsKept new (set counters c (record counter { limit = limit })) children ids
+    IsKept-limited counter was = record {
       tree = subst IsTree (sym tree) w.tree;
-      counted = written.IsCounted-written nodes new c n (record n { limit = limit }) found refl is None totals totals w.counted None
-          (λ j on. w.counted.counts j on ∙ sym (equal j)) (λ j on lies past. subst (λ x. 0 < x) (sym (equal j)) (w.counted.filled j on lies refl))
-          (λ lies. written.none_live nodes c n found totals None w.counted lies)
+      counted = written.IsCounted-written nodes new c n (record n { limit = limit }) found refl is None (total_at counters) (total_at (set counters c (record counter { limit = limit }))) w.counted None
+          (λ j on. total j ∙ w.counted.counts j on ∙ sym (equal j)) (λ j on lies past. subst (λ x. 0 < x) (sym (equal j)) (w.counted.filled j on lies refl))
+          (λ lies. written.none_live nodes c n found (total_at counters) None w.counted lies)
           (let all = written.all-changed nodes new c n (record n { limit = limit }) found refl is in omega (arith, all, w.counted.few));
+      linked = linked.linked-both counters c (record counter { limit = limit }) room nodes new counters w.linked (λ k. refl) (omega arith) (record n { limit = limit })
+          (subst (λ x. Updates nodes x c (Some (record n { limit = limit }))) (sym is) (Updates-with_value nodes c (record n { limit = limit }) (ap is_some found))) refl
+          (ap (λ (x : Counter). x.parent) was ∙ (w.linked c (ap is_some found)).parent ∙ up-is nodes c n found);
       listed = subst (λ x. IsListed x children ids) (sym tree) w.listed;
       room = λ j on. w.room j (sym (ap (λ (x : Tree). x.there j) tree) ∙ on);
       small = w.small;
     }
       where
+        room : c < length counters
+        room = (w.linked c (ap is_some found)).room
+
+        total : (j : ℕ) → total_at (set counters c (record counter { limit = limit })) j ≡ total_at counters j
+        total j = elim (cases_eq j c) [
+          | inl e ↦ ap (total_at (set counters c (record counter { limit = limit }))) e ∙ ap (λ (x : Counter). x.total) (linked.counter-here counters c (record counter { limit = limit }) room) ∙ ap (λ (x : Counter). x.total) was ∙ sym (ap (total_at counters) e)
+          | inr d ↦ ap (λ (x : Counter). x.total) (linked.counter-others counters c (record counter { limit = limit }) room j d)
+        ]
+
         equal : (j : ℕ) → total_in new j ≡ total_in nodes j
         equal j = written.total-equal nodes new c n (record n { limit = limit }) found refl is refl j
 

@@ -113,7 +113,7 @@ module _ (nodes new : Slab Node) (c p : ℕ) (n : Node) (found : get nodes c ≡
       ];
     }
 
-    pub IsCounted-unstood : (totals : List ℕ) → IsCounted nodes totals None → n.live ≡ 0 → IsCounted new totals (Some c)
+    pub IsCounted-unstood : (totals : ℕ → ℕ) → IsCounted nodes totals None → n.live ≡ 0 → IsCounted new totals (Some c)
     IsCounted-unstood totals counted none = record {
       counts = λ k on. counted.counts k (sym (there_same k) ∙ on) ∙ sym (total-same k);
       filled = λ k on lies past. elim (cases_eq k c) [

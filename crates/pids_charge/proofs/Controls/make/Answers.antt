@@ -10,6 +10,7 @@ use Rattle.pids_charge.specs.Nodes.{tree_of}
 use Rattle.pids_charge.specs.Charges.{Charges, home_at, id_at, all_tasks}
 use Rattle.pids_charge.specs.Kept.{charges_of, control_in, limit_in, IsKept}
 use Rattle.pids_charge.proofs.Views as views
+use Rattle.pids_charge.proofs.Linked as linked
 use Rattle.pids_charge.proofs.Made as made
 use Rattle.pids_charge.proofs.Controls.make.Goals as goal
 
@@ -27,7 +28,7 @@ returns-then-level-gt-DEEPEST_CONTROL-clause-deep c =
     (λ e. omega (arith, long, level, c.if-level-gt-DEEPEST_CONTROL.true), λ h. refl)
 
 pub invariant_of-self : goal.invariant_of-self
-invariant_of-self c = made.IsKept-room c.self.inside.nodes c.make_room.new.nodes c.make_room.new.nodes.capacity c.in_err-key.ensures.nodes c.self.inside.totals.items c.make_room.new.totals.items c.self.inside.children c.make_room.new.children c.self.inside.ids c.self.invariant c.in_err-key.ensures.totals c.in_err-key.ensures.children c.in_err-key.ensures.longer c.in_err-key.ensures.more c.in_err-key.ensures.small
+invariant_of-self c = made.IsKept-room c.self.inside.nodes c.make_room.new.nodes c.make_room.new.nodes.capacity c.in_err-key.ensures.nodes c.self.inside.counters.items c.make_room.new.counters.items c.self.inside.children c.make_room.new.children c.self.inside.ids c.self.invariant c.in_err-key.ensures.counters c.in_err-key.ensures.children c.in_err-key.ensures.longer c.in_err-key.ensures.more c.in_err-key.ensures.small
 
 pub returns-in_err-key-clause-err : goal.returns-in_err-key-clause-err
 returns-in_err-key-clause-err c =
@@ -49,7 +50,7 @@ pub push-requires : goal.push-requires
 push-requires c = made.below-ids (tree_of c.self.inside.nodes) (limit_in c.self.inside.nodes) c.args.stamp c.self.inside.ids (subst (λ (v : Charges). AllByRecursion (λ (g : Control). g.id < c.args.stamp) v.controls) (sym c.self.view_is) c.requires.above)
 
 pub invariant_of-self-in_err-push : goal.invariant_of-self-in_err-push
-invariant_of-self-in_err-push c = rw c.in_err-push.ensures.err (made.IsKept-room c.self.inside.nodes c.make_room.new.nodes c.make_room.new.nodes.capacity c.in_ok-key.ensures.nodes c.self.inside.totals.items c.make_room.new.totals.items c.self.inside.children c.make_room.new.children c.self.inside.ids c.self.invariant c.in_ok-key.ensures.totals c.in_ok-key.ensures.children c.in_ok-key.ensures.longer c.in_ok-key.ensures.more c.in_ok-key.ensures.small)
+invariant_of-self-in_err-push c = rw c.in_err-push.ensures.err (made.IsKept-room c.self.inside.nodes c.make_room.new.nodes c.make_room.new.nodes.capacity c.in_ok-key.ensures.nodes c.self.inside.counters.items c.make_room.new.counters.items c.self.inside.children c.make_room.new.children c.self.inside.ids c.self.invariant c.in_ok-key.ensures.counters c.in_ok-key.ensures.children c.in_ok-key.ensures.longer c.in_ok-key.ensures.more c.in_ok-key.ensures.small)
 
 pub returns-in_err-push-clause-err : goal.returns-in_err-push-clause-err
 returns-in_err-push-clause-err c =
@@ -89,18 +90,19 @@ invariant_of-self-2 c =
     let old : get c.self.inside.nodes c.in_ok-key.key ≡ None = ap (get c.self.inside.nodes) (sym kv) ∙ sym (ap (λ (s : Slab Node). get s c.insert_reserved.result) c.in_ok-key.ensures.nodes) ∙ c.insert_reserved.ensures.was_vacant in
     let next : c.node_at-level.result.level + 1 ≡ (tree_of c.self.inside.nodes).level c.args.parent + 1 = omega (arith, level) in
     let low : c.node_at-level.result.level + 1 ≤ 64 = omega (arith, c.if-level-gt-DEEPEST_CONTROL.false) in
-    let r = made.IsKept-room c.self.inside.nodes c.make_room.new.nodes c.make_room.new.nodes.capacity c.in_ok-key.ensures.nodes c.self.inside.totals.items c.make_room.new.totals.items c.self.inside.children c.make_room.new.children c.self.inside.ids c.self.invariant c.in_ok-key.ensures.totals c.in_ok-key.ensures.children c.in_ok-key.ensures.longer c.in_ok-key.ensures.more c.in_ok-key.ensures.small in
-    subst (λ ids. IsKept c.insert_reserved.new.self (set c.make_room.new.totals.items c.in_ok-key.key 0) c.add.new.self ids) (sym c.in_ok-push.ensures.ok)
-    (subst (λ children. IsKept c.insert_reserved.new.self (set c.make_room.new.totals.items c.in_ok-key.key 0) children (c.self.inside.ids ++ (c.args.stamp, c.in_ok-key.key) ∷ [])) (sym c.add.ensures)
+    subst (λ x. IsKept c.insert_reserved.new.self (set c.make_room.new.counters.items c.in_ok-key.key x) c.add.new.self c.push.new.self) (sym c.new-2.ensures)
+    (subst (λ ids. IsKept c.insert_reserved.new.self (set c.make_room.new.counters.items c.in_ok-key.key (record { total = 0; limit = None; parent = Some c.args.parent })) c.add.new.self ids) (sym c.in_ok-push.ensures.ok)
+    (subst (λ children. IsKept c.insert_reserved.new.self (set c.make_room.new.counters.items c.in_ok-key.key (record { total = 0; limit = None; parent = Some c.args.parent })) children (c.self.inside.ids ++ (c.args.stamp, c.in_ok-key.key) ∷ [])) (sym c.add.ensures)
     (record {
       tree = made.IsTree-made c.self.inside.nodes c.insert_reserved.new.self c.in_ok-key.key c.args.parent c.args.stamp (c.node_at-level.result.level + 1) old u c.self.invariant.tree s next low;
-      counted = made.IsCounted-made c.self.inside.nodes c.insert_reserved.new.self c.in_ok-key.key c.args.parent c.args.stamp (c.node_at-level.result.level + 1) old u c.self.invariant.tree s next low c.self.inside.totals.items c.self.invariant.counted c.make_room.new.totals.items c.in_ok-key.ensures.totals c.in_ok-key.ensures.room;
+      counted = made.IsCounted-made c.self.inside.nodes c.insert_reserved.new.self c.in_ok-key.key c.args.parent c.args.stamp (c.node_at-level.result.level + 1) old u c.self.invariant.tree s next low c.self.inside.counters.items c.self.invariant.counted c.make_room.new.counters.items c.in_ok-key.ensures.counters (record { total = 0; limit = None; parent = Some c.args.parent }) refl c.in_ok-key.ensures.room;
+      linked = linked.linked-both c.make_room.new.counters.items c.in_ok-key.key (record { total = 0; limit = None; parent = Some c.args.parent }) c.in_ok-key.ensures.room c.self.inside.nodes c.insert_reserved.new.self c.self.inside.counters.items c.self.invariant.linked c.in_ok-key.ensures.counters c.in_ok-key.ensures.longer _ u refl refl;
       listed = made.IsListed-made c.self.inside.nodes c.insert_reserved.new.self c.in_ok-key.key c.args.parent c.args.stamp (c.node_at-level.result.level + 1) old u c.self.invariant.tree s next low c.self.inside.children c.self.inside.ids c.self.invariant.listed (made.below-ids (tree_of c.self.inside.nodes) (limit_in c.self.inside.nodes) c.args.stamp c.self.inside.ids (subst (λ (v : Charges). AllByRecursion (λ (g : Control). g.id < c.args.stamp) v.controls) (sym c.self.view_is) c.requires.above)) c.make_room.new.children c.in_ok-key.ensures.children c.in_ok-key.ensures.lists;
       room = λ k on. let some : Option ℕ = Some c.args.parent in
-          let within = made.room-made c.self.inside.nodes c.insert_reserved.new.self c.in_ok-key.key c.args.parent c.args.stamp (c.node_at-level.result.level + 1) old u c.self.invariant.tree s next low c.self.inside.totals.items c.self.inside.children c.self.invariant.room c.make_room.new.totals.items c.make_room.new.children c.in_ok-key.ensures.longer c.in_ok-key.ensures.more c.in_ok-key.ensures.room c.in_ok-key.ensures.lists k on in
-          (omega (arith, within.0, length-set c.make_room.new.totals.items c.in_ok-key.key 0), omega (arith, within.1, length-set c.make_room.new.children c.in_ok-key.key some));
+          let within = made.room-made c.self.inside.nodes c.insert_reserved.new.self c.in_ok-key.key c.args.parent c.args.stamp (c.node_at-level.result.level + 1) old u c.self.invariant.tree s next low c.self.inside.children c.self.invariant.room c.make_room.new.children c.in_ok-key.ensures.more c.in_ok-key.ensures.lists k on in
+          omega (arith, within, length-set c.make_room.new.children c.in_ok-key.key some);
       small = let some : Option ℕ = Some c.args.parent in omega (arith, c.in_ok-key.ensures.small, length-set c.make_room.new.children c.in_ok-key.key some);
-    }))
+    })))
 
 pub returns-clause-controls : goal.returns-clause-controls
 returns-clause-controls c =
