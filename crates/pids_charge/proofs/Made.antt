@@ -74,11 +74,40 @@ module _ (nodes : Slab Node) (children : List (Option ℕ)) (ids : List (ℕ × 
   unfolding control_path
   length-path s up = length-climb 64 s up (w.deep s)
 
-module _ (nodes new : Slab Node) (a q id level : ℕ) (old : get nodes a ≡ None)
-    (updates : Updates nodes new a (Some (record { id = id; parent = Some q; limit = None; level = level; standing = true; live = 0; zombies = 0 })))
-    (w : IsTree (tree_of nodes)) (q_up : (tree_of nodes).stand q ≡ true) (next : level ≡ (tree_of nodes).level q + 1) (low : level ≤ 64) where
+-- the node of a new control group
+abbrev pub node : ℕ → ℕ → ℕ → Node
+node id q level = record { id = id; parent = Some q; limit = None; level = level; standing = true; live = 0; zombies = 0 }
+
+-- a control group with the id is made at key a, below that of key q
+pub record Makes (nodes new : Slab Node) (a q id level : ℕ) : Type 0 where
+  pub old : get nodes a ≡ None
+  pub updates : Updates nodes new a (Some (node id q level))
+  pub tree : IsTree (tree_of nodes)
+  pub stands : (tree_of nodes).stand q ≡ true
+  pub next : level ≡ (tree_of nodes).level q + 1
+  pub low : level ≤ 64
+
+module _ {nodes new : Slab Node} {a q id level : ℕ} (makes : Makes nodes new a q id level) where
   m : Node
-  m = record { id = id; parent = Some q; limit = None; level = level; standing = true; live = 0; zombies = 0 }
+  m = node id q level
+
+  old : get nodes a ≡ None
+  old = makes.old
+
+  updates : Updates nodes new a (Some (node id q level))
+  updates = makes.updates
+
+  w : IsTree (tree_of nodes)
+  w = makes.tree
+
+  q_up : (tree_of nodes).stand q ≡ true
+  q_up = makes.stands
+
+  next : level ≡ (tree_of nodes).level q + 1
+  next = makes.next
+
+  low : level ≤ 64
+  low = makes.low
 
   q_apart : q ≢ a
   q_apart e = let h = ap (tree_of nodes).stand e ∙ ap (λ o. option_map_or (λ (x : Node). x.standing) o false) old in cc
