@@ -97,7 +97,22 @@ module _ (nodes : Slab Node) (k : ℕ) (n : Node) (found : get nodes k ≡ Some 
   none_live totals at w gone =
       sym (ap (λ o. option_map_or (λ (x : Node). x.live) o 0) found) ∙ w.ended k (ap (λ o. option_map_or (λ (x : Node). x.standing) o false) found ∙ gone)
 
-module _ (nodes new : Slab Node) (k : ℕ) (n m : Node) (found : get nodes k ≡ Some n) (shape : bare m ≡ bare n) (is : new ≡ with_value nodes k m) where
+-- the node of key k is written, and keeps all but its tasks and its limit
+pub record Writes (nodes new : Slab Node) (k : ℕ) (n m : Node) : Type 0 where
+  pub found : get nodes k ≡ Some n
+  pub shape : bare m ≡ bare n
+  pub is : new ≡ with_value nodes k m
+
+module _ {nodes new : Slab Node} {k : ℕ} {n m : Node} (writes : Writes nodes new k n m) where
+  found : get nodes k ≡ Some n
+  found = writes.found
+
+  shape : bare m ≡ bare n
+  shape = writes.shape
+
+  is : new ≡ with_value nodes k m
+  is = writes.is
+
   updates : Updates nodes new k (Some m)
   updates = subst (λ x. Updates nodes x k (Some m)) (sym is) (Updates-with_value nodes k m (ap is_some found))
 

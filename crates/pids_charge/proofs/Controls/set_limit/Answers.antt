@@ -48,5 +48,5 @@ pub returns-clause-tasks : goal.returns-clause-tasks
 returns-clause-tasks c =
     let old = sym (views.all-is c.self.inside.nodes c.self.inside.ids) ∙ ap (λ (v : Charges). all_tasks v) c.self.view_is in
     let new = views.all-is c.set_node.new.nodes c.self.inside.ids in
-    let all = written.all-changed c.self.inside.nodes c.set_node.new.nodes c.args.c c.node_at-node.result _ c.node_at-node.ensures refl c.set_node.ensures in
+    let all = written.all-changed (record { found = c.node_at-node.ensures; shape = refl; is = c.set_node.ensures }) in
     omega (arith, old, new, all)
