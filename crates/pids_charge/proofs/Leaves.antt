@@ -173,7 +173,26 @@ up_there nodes j p above = go (get nodes j) above
     go None e = absurd (cc)
     go (Some n) e = refl
 
-module _ (nodes : Slab Node) (totals : ℕ → ℕ) (at : Option ℕ) (a : ℕ) (n : Node) (w : IsTree (tree_of nodes)) (counted : IsCounted nodes totals at) (is : at ≡ Some a) (found : get nodes a ≡ Some n) where
+-- a walk up that drops what is empty comes to a node
+pub record Visits (nodes : Slab Node) (totals : ℕ → ℕ) (at : Option ℕ) (a : ℕ) (n : Node) : Type 0 where
+  pub tree : IsTree (tree_of nodes)
+  pub counted : IsCounted nodes totals at
+  pub is : at ≡ Some a
+  pub found : get nodes a ≡ Some n
+
+module _ {nodes : Slab Node} {totals : ℕ → ℕ} {at : Option ℕ} {a : ℕ} {n : Node} (visits : Visits nodes totals at a n) where
+  w : IsTree (tree_of nodes)
+  w = visits.tree
+
+  counted : IsCounted nodes totals at
+  counted = visits.counted
+
+  is : at ≡ Some a
+  is = visits.is
+
+  found : get nodes a ≡ Some n
+  found = visits.found
+
   standing_is : (tree_of nodes).stand a ≡ n.standing
   standing_is = ap (λ o. option_map_or (λ (x : Node). x.standing) o false) found
 

@@ -70,7 +70,7 @@ impl From<AllocError> for ControlFault {
 ///
 /// `find` and `remove` cost a logarithm of the groups. A task that comes or goes costs a step for each group
 /// from its own to the root, 65 at most. All else costs a few reads. Only `new` and `make` take memory: some
-/// 100 bytes for each group.
+/// 120 bytes for each group.
 pub struct Controls {
     nodes: Slab<Node>,
     counters: Vec<Counter>,

@@ -1,4 +1,4 @@
-//! The walk from a node to the root that asks the limits.
+//! The walk from a node to the root that asks the limits. It reads counters alone, as those of `walk` do.
 
 ghost use Rattle.std.specs.Prelude.{◌≡◌, nat_lt, false};
 ghost use Rattle.std.specs.Option.{option_map_or};

@@ -1,4 +1,5 @@
-//! The walks from a node to the root, which keep the totals of subtrees.
+//! The walks from a node to the root, which keep the totals of subtrees. They read counters alone: the nodes are told for
+//! the contracts, which speak of their tree.
 
 ghost use Rattle.std.specs.Prelude.{◌≡◌, ℕ, ◌+◌, ◌<◌, ◌^◌, true};
 ghost use Rattle.slab.specs.Slab.{ContainsKey};
