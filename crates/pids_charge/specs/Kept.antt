@@ -68,6 +68,7 @@ pub record IsLinked (nodes : Slab Node) (counters : List Counter) (k : ℕ) : Ty
   pub limit : (counter_at counters k).limit ≡ limit_in nodes k
   pub parent : (counter_at counters k).parent ≡ (tree_of nodes).up k
 
+-- each node that is there has its counter
 abbrev pub AreLinked : Slab Node → List Counter → Type 0
 AreLinked nodes counters = (k : ℕ) → ContainsKey nodes k → IsLinked nodes counters k
 
