@@ -1,5 +1,5 @@
 -- The limits and parents that the counters have of the nodes: kept where nodes and counters change.
-use Rattle.std.proofs.Common.{◌≡◌, ◌≢◌, inl, inr, ℕ, zero, suc, ◌<◌, ◌≤◌, List, [], ◌∷◌, ◌++◌, set, length, Some, None, option_and_then, is_some, refl, sym, ap, subst, ◌∙◌, arith}
+use Rattle.std.proofs.Common.{◌≡◌, ◌≢◌, inl, inr, ℕ, ◌<◌, ◌≤◌, List, set, length, Some, None, option_and_then, is_some, refl, sym, ap, subst, ◌∙◌, arith}
 use Rattle.std.proofs.lemmas.Bool.{cases_eq}
 use Rattle.std.proofs.lemmas.List.{get_or-set_same, get_or-set_other, length-set}
 use Rattle.slab.specs.Slab.{Slab, get, ContainsKey, with_value, Updates}
@@ -65,10 +65,3 @@ module _ (counters : List Counter) (a : ℕ) (c : Counter) (room : a < length co
         limit = ap (λ (x : Counter). x.limit) counter-here ∙ limit ∙ sym (ap (option_and_then (λ (x : Node). x.limit)) u.changed);
         parent = ap (λ (x : Counter). x.parent) counter-here ∙ parent ∙ sym (ap (option_and_then (λ (x : Node). x.parent)) u.changed);
       })
-
--- room for more keys
-pub counter-pushed : (counters : List Counter) (k : ℕ) → counter_at (counters ++ record { total = 0; limit = None; parent = None } ∷ []) k ≡ counter_at counters k
-counter-pushed [] zero = refl
-counter-pushed [] (suc k) = refl
-counter-pushed (c ∷ cs) zero = refl
-counter-pushed (c ∷ cs) (suc k) = counter-pushed cs k

@@ -88,9 +88,6 @@ pub record Makes (nodes new : Slab Node) (a q id level : ℕ) : Type 0 where
   pub low : level ≤ 64
 
 module _ {nodes new : Slab Node} {a q id level : ℕ} (makes : Makes nodes new a q id level) where
-  m : Node
-  m = node id q level
-
   old : get nodes a ≡ None
   old = makes.old
 
