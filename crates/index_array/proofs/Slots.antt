@@ -55,6 +55,23 @@ slots_set p p' vs i o n b here others =
               ap (λ t. slot_if t (get_or (set vs i (unwrap_or o 0)) j 0)) (others j below ne) ∙ ap (slot_if (has_bit p j)) (get_or-set_other vs i j (unwrap_or o 0) 0 ne) ∙ sym (slot_is p vs j (omega (arith, n, below))) ∙ sym (get_or-set_other (slots_from p 0 vs) i j o None ne)
         ]
 
+-- a slot of which the bit is cleared
+pub slots_cleared : (p p' : ℕ) (vs : List ℕ) (i : ℕ) → length vs ≡ 64 → i < 64 → has_bit p' i ≡ false → ((j : ℕ) → j < 64 → j ≢ i → has_bit p' j ≡ has_bit p j) → slots_from p' 0 vs ≡ set (slots_from p 0 vs) i None
+slots_cleared p p' vs i n b off others =
+    ext_get_or None (slots_from p' 0 vs) (set (slots_from p 0 vs) i None) (length-slots_from p' 0 vs ∙ sym old) (λ j within. each j (omega (arith, length-slots_from p' 0 vs, n, within)))
+  where
+    old : length (set (slots_from p 0 vs) i None) ≡ length vs
+    old = length-set (slots_from p 0 vs) i None ∙ length-slots_from p 0 vs
+
+    each : (j : ℕ) → j < 64 → get_or (slots_from p' 0 vs) j None ≡ get_or (set (slots_from p 0 vs) i None) j None
+    each j below =
+        slot_is p' vs j (omega (arith, n, below)) ∙ elim (cases_eq j i) [
+          | inl same ↦
+              ap (λ m. slot_if (has_bit p' m) (get_or vs m 0)) same ∙ ap (λ t. slot_if t (get_or vs i 0)) off ∙ sym (ap (λ m. get_or (set (slots_from p 0 vs) i None) m None) same ∙ get_or-set_same (slots_from p 0 vs) i None None (omega (arith, length-slots_from p 0 vs, n, b)))
+          | inr ne ↦
+              ap (λ t. slot_if t (get_or vs j 0)) (others j below ne) ∙ sym (slot_is p vs j (omega (arith, n, below))) ∙ sym (get_or-set_other (slots_from p 0 vs) i j None None ne)
+        ]
+
 -- where no bit is set nothing stands in a slot
 pub slots_empty : (p k n : ℕ) → ((j : ℕ) → j < 64 → has_bit p j ≡ false) → k + n ≤ 64 → slots_from p k (replicate n 0) ≡ replicate n None
 slots_empty p k zero off fits = refl

@@ -1,14 +1,14 @@
 -- The root control group alone.
 use Rattle.std.proofs.Common.{◌≡◌, ◌≢◌, inl, inr, ℕ, zero, suc, ◌+◌, Bool, true, false, if◌then◌else◌, Option, Some, None, option_and_then, is_some, List, [], ◌∷◌, get_or, length, refl, sym, ap, ◌∙◌, arith}
-use Rattle.std.specs.Prelude.{slice_index}
 use Rattle.std.specs.Option.{option_map_or}
 use Rattle.std.proofs.lemmas.Bool.{cases_eq}
 use Rattle.slab.specs.Slab.{Slab, get, ContainsKey, Updates}
 use Rattle.id_slab.specs.Ids.{key_of}
 use Rattle.member_lists.specs.Owners.{owner_of}
 use Rattle.pids_charge.specs.declared.node.Node.{Node}
+use Rattle.pids_charge.specs.declared.counter.Counter.{Counter}
 use Rattle.pids_charge.specs.Nodes.{tree_of, is_under, tasks_in, total_in, all_in}
-use Rattle.pids_charge.specs.Kept.{IsKept}
+use Rattle.pids_charge.specs.Kept.{IsKept, counter_at}
 use Rattle.pids_charge.proofs.Sums.{sum-zero}
 
 module _ (nodes : Slab Node) (root : get nodes 0 ≡ Some (record { id = 0; parent = None; limit = None; level = 0; standing = true; live = 0; zombies = 0 })) (rest : (j : ℕ) → j ≢ 0 → get nodes j ≡ None) where
@@ -46,7 +46,7 @@ module _ (nodes : Slab Node) (root : get nodes 0 ≡ Some (record { id = 0; pare
       go true j = no_tasks j
       go false j = refl
 
-  single : (k : ℕ) → slice_index (0 ∷ []) k ≡ 0
+  single : (k : ℕ) → counter_at (record { total = 0; limit = None; parent = None } ∷ []) k ≡ record { total = 0; limit = None; parent = None }
   single zero = refl
   single (suc k) = refl
 
@@ -54,7 +54,7 @@ module _ (nodes : Slab Node) (root : get nodes 0 ≡ Some (record { id = 0; pare
   nobody zero = refl
   nobody (suc k) = refl
 
-  pub IsKept-begun : IsKept nodes (0 ∷ []) (None ∷ []) ((0, 0) ∷ [])
+  pub IsKept-begun : IsKept nodes (record { total = 0; limit = None; parent = None } ∷ []) (None ∷ []) ((0, 0) ∷ [])
   IsKept-begun = record {
     tree = record {
       levels = λ j p above. absurd (let h = no_up j in cc);
@@ -64,17 +64,22 @@ module _ (nodes : Slab Node) (root : get nodes 0 ≡ Some (record { id = 0; pare
       rooted = λ j on lies. absurd (let h = ap (tree_of nodes).stand (at_root j on) ∙ stands_root in cc);
     };
     counted = record {
-      counts = λ k on. single k ∙ sym (no_total k);
+      counts = λ k on. ap (λ (c : Counter). c.total) (single k) ∙ sym (no_total k);
       filled = λ k on lies past. absurd (let h = ap (tree_of nodes).stand (at_root k on) ∙ stands_root in cc);
       ended = λ k lies. same (λ o. option_map_or (λ (n : Node). n.live) o 0) 0 refl refl k;
       few = let h : all_in nodes ≡ 0 = sum-zero (length nodes.slots) (tasks_in nodes) no_tasks in omega (arith, h);
+    };
+    linked = λ k on. record {
+      room = let e = at_root k on in omega (arith, e);
+      limit = ap (λ (c : Counter). c.limit) (single k) ∙ sym (same (option_and_then (λ (n : Node). n.limit)) None refl refl k);
+      parent = ap (λ (c : Counter). c.parent) (single k) ∙ sym (no_up k);
     };
     listed = record {
       owners = λ k. nobody k ∙ sym (go k ((tree_of nodes).stand k));
       entries = ((stands_root, ap (λ o. option_map_or (λ (n : Node). n.id) o 0) root), tt);
       listed = λ k s. ap (key_of ((0, 0) ∷ [])) (ap (tree_of nodes).id (stands_there k s) ∙ ap (λ o. option_map_or (λ (n : Node). n.id) o 0) root) ∙ sym (ap Some (stands_there k s));
     };
-    room = λ k on. let e = at_root k on in (omega (arith, e), omega (arith, e));
+    room = λ k on. let e = at_root k on in omega (arith, e);
     small = omega arith;
   }
     where

@@ -1,10 +1,12 @@
 -- The way up from a key: what a step leaves of it.
-use Rattle.std.proofs.Common.{◌≡◌, ◌≢◌, inl, inr, ℕ, zero, suc, ◌+◌, ◌-◌, ◌<◌, ◌≤◌, ◌==◌, Bool, true, false, ◌||◌, if◌then◌else◌, Option, Some, None, option_and_then, refl, sym, ap, ◌∙◌, arith, List, get_or, set, length}
+use Rattle.std.proofs.Common.{◌≡◌, ◌≢◌, inl, inr, ℕ, zero, suc, ◌+◌, ◌-◌, ◌<◌, ◌≤◌, ◌==◌, Bool, true, false, ◌||◌, if◌then◌else◌, Option, Some, None, option_and_then, refl, sym, ap, subst, ◌∙◌, arith, List, set, length}
 use Rattle.std.specs.Option.{option_map_or}
 use Rattle.std.proofs.lemmas.Bool.{eq-eqb, eqb-true, ne_eqb, cases_eq}
 use Rattle.std.proofs.lemmas.List.{get_or-set_same, get_or-set_other}
-use Rattle.slab.specs.Slab.{Slab, get, ContainsKey}
+use Rattle.slab.specs.Slab.{Slab, get}
 use Rattle.pids_charge.specs.declared.node.Node.{Node}
+use Rattle.pids_charge.specs.declared.counter.Counter.{Counter}
+use Rattle.pids_charge.specs.Kept.{counter_at, total_at}
 use Rattle.pids_charge.specs.Nodes.{reaches, Tree, tree_of, is_under, weight, left, HasLevels}
 
 abbrev pub one_if : Bool → ℕ
@@ -71,36 +73,45 @@ weight-self t k w = reaches-self t.up t.level (up_levels t w) (t.level k) k
 pub up-is : (nodes : Slab Node) (a : ℕ) (n : Node) → get nodes a ≡ Some n → (tree_of nodes).up a ≡ n.parent
 up-is nodes a n is = ap (option_and_then (λ (x : Node). x.parent)) is
 
-pub parent_there : (nodes : Slab Node) → HasLevels (tree_of nodes) → (k : ℕ) (n : Node) → get nodes k ≡ Some n → (a : ℕ) → n.parent ≡ Some a → ContainsKey nodes a
-parent_there nodes w k n is a has = (w k a (up-is nodes k n is ∙ has)).0
-
 -- a walk visits a key and goes on from its parent
-pub left-step : (nodes : Slab Node) → HasLevels (tree_of nodes) → (at : Option ℕ) (a : ℕ) (n : Node) → at ≡ Some a → get nodes a ≡ Some n
-    → (k : ℕ) → left (tree_of nodes) at k ≡ one_if (a == k) + left (tree_of nodes) n.parent k
-left-step nodes w at a n is found k =
-    ap (λ o. left (tree_of nodes) o k) is ∙ one-step (tree_of nodes).up (tree_of nodes).level (up_levels (tree_of nodes) w) a k
-    ∙ ap (λ o. one_if (a == k) + left (tree_of nodes) o k) (up-is nodes a n found)
+pub left-step : (t : Tree) → HasLevels t → (at : Option ℕ) (a : ℕ) (next : Option ℕ) → at ≡ Some a → next ≡ t.up a → (k : ℕ) → left t at k ≡ one_if (a == k) + left t next k
+left-step t w at a next is above k =
+    ap (λ o. left t o k) is ∙ one-step t.up t.level (up_levels t w) a k ∙ ap (λ o. one_if (a == k) + left t o k) (sym above)
 
 -- the walk comes nearer to the root
-pub left_smaller : (nodes : Slab Node) → HasLevels (tree_of nodes) → (at : Option ℕ) (a : ℕ) (n : Node) → at ≡ Some a → get nodes a ≡ Some n
-    → option_map_or (λ p. suc ((tree_of nodes).level p)) n.parent 0 < option_map_or (λ p. suc ((tree_of nodes).level p)) at 0
-left_smaller nodes w at a n is found = rw is (go n.parent refl)
+pub left_smaller : (t : Tree) → HasLevels t → (at : Option ℕ) (a : ℕ) (next : Option ℕ) → at ≡ Some a → next ≡ t.up a
+    → option_map_or (λ p. suc (t.level p)) next 0 < option_map_or (λ p. suc (t.level p)) at 0
+left_smaller t w at a next is above = rw is (go next above)
   where
-    go : (o : Option ℕ) → n.parent ≡ o → option_map_or (λ p. suc ((tree_of nodes).level p)) o 0 < suc ((tree_of nodes).level a)
+    go : (o : Option ℕ) → o ≡ t.up a → option_map_or (λ p. suc (t.level p)) o 0 < suc (t.level a)
     go None none = omega arith
-    go (Some p) above = let h = up_levels (tree_of nodes) w a p (up-is nodes a n found ∙ above) in omega (arith, h)
+    go (Some p) above = let h = up_levels t w a p (sym above) in omega (arith, h)
 
--- a number written at one key, by look-ups
-pub set-plus : (xs : List ℕ) (a x k : ℕ) → a < length xs → x ≡ get_or xs a 0 → get_or (set xs a (x + 1)) k 0 ≡ get_or xs k 0 + one_if (a == k)
-set-plus xs a x k lt is = elim (cases_eq a k) [
-  | inl same ↦ rw (← same, eqb-self a, get_or-set_same xs a (x + 1) 0 lt) (omega (arith, is))
-  | inr differ ↦ rw (eqb-apart a k differ, get_or-set_other xs a k (x + 1) 0 (λ e. differ (sym e))) (omega arith)
+-- another total at one key
+pub set-plus : (xs : List Counter) (a k : ℕ) (x : Counter) → a < length xs → x ≡ counter_at xs a → total_at (set xs a (record x { total = x.total + 1 })) k ≡ total_at xs k + one_if (a == k)
+set-plus xs a k x lt is = elim (cases_eq a k) [
+  | inl same ↦ subst (λ i. total_at (set xs a (record x { total = x.total + 1 })) i ≡ total_at xs i + one_if (a == i)) same
+      (let here : total_at (set xs a (record x { total = x.total + 1 })) a ≡ x.total + 1 = ap (λ (c : Counter). c.total) (get_or-set_same xs a (record x { total = x.total + 1 }) (record { total = 0; limit = None; parent = None }) lt) in
+      let was = ap (λ (c : Counter). c.total) is in
+      let one = ap one_if (eqb-self a) in
+      omega (arith, here, was, one))
+  | inr differ ↦
+      let other : total_at (set xs a (record x { total = x.total + 1 })) k ≡ total_at xs k = ap (λ (c : Counter). c.total) (get_or-set_other xs a k (record x { total = x.total + 1 }) (record { total = 0; limit = None; parent = None }) (λ e. differ (sym e))) in
+      let none = ap one_if (eqb-apart a k differ) in
+      omega (arith, other, none)
 ]
 
-pub set-minus : (xs : List ℕ) (a x k : ℕ) → a < length xs → x ≡ get_or xs a 0 → 0 < x → get_or (set xs a (x - 1)) k 0 + one_if (a == k) ≡ get_or xs k 0
-set-minus xs a x k lt is some = elim (cases_eq a k) [
-  | inl same ↦ rw (← same, eqb-self a, get_or-set_same xs a (x - 1) 0 lt) (omega (arith, is, some))
-  | inr differ ↦ rw (eqb-apart a k differ, get_or-set_other xs a k (x - 1) 0 (λ e. differ (sym e))) (omega arith)
+pub set-minus : (xs : List Counter) (a k : ℕ) (x : Counter) → a < length xs → x ≡ counter_at xs a → 0 < x.total → total_at (set xs a (record x { total = x.total - 1 })) k + one_if (a == k) ≡ total_at xs k
+set-minus xs a k x lt is some = elim (cases_eq a k) [
+  | inl same ↦ subst (λ i. total_at (set xs a (record x { total = x.total - 1 })) i + one_if (a == i) ≡ total_at xs i) same
+      (let here : total_at (set xs a (record x { total = x.total - 1 })) a ≡ x.total - 1 = ap (λ (c : Counter). c.total) (get_or-set_same xs a (record x { total = x.total - 1 }) (record { total = 0; limit = None; parent = None }) lt) in
+      let was = ap (λ (c : Counter). c.total) is in
+      let one = ap one_if (eqb-self a) in
+      omega (arith, here, was, one, some))
+  | inr differ ↦
+      let other : total_at (set xs a (record x { total = x.total - 1 })) k ≡ total_at xs k = ap (λ (c : Counter). c.total) (get_or-set_other xs a k (record x { total = x.total - 1 }) (record { total = 0; limit = None; parent = None }) (λ e. differ (sym e))) in
+      let none = ap one_if (eqb-apart a k differ) in
+      omega (arith, other, none)
 ]
 
 pub one-own : (t : Tree) → HasLevels t → (at : Option ℕ) (a : ℕ) → at ≡ Some a → left t at a ≡ 1

@@ -6,9 +6,10 @@ use Rattle.std.proofs.lemmas.Bool.{cases_eq, eq-eqb}
 use Rattle.slab.specs.Slab.{Slab, ContainsKey}
 use Rattle.id_slab.specs.Ids.{key_of}
 use Rattle.pids_charge.specs.declared.node.Node.{Node}
+use Rattle.pids_charge.specs.declared.counter.Counter.{Counter}
 use Rattle.pids_charge.specs.Nodes.{tree_of, IsTree}
 use Rattle.pids_charge.specs.Charges.{Home, Charges, home_at, moved, ChangesHome}
-use Rattle.pids_charge.specs.Kept.{control_in, charges_of, child_of, limit_in, IsEntry, IsListed, IsCounted, IsKept, DropsEmpty}
+use Rattle.pids_charge.specs.Kept.{control_in, charges_of, child_of, limit_in, IsEntry, IsListed, IsCounted, IsKept, DropsEmpty, total_at, AreLinked}
 use Rattle.pids_charge.proofs.Climbs.{eqb-apart}
 use Rattle.pids_charge.proofs.Views.{home_at-is}
 
@@ -37,10 +38,10 @@ module _ (old new : Slab Node) (d : DropsEmpty old new) where
           ∙ sym (ap (λ (b : Bool). if b then (tree_of new).up k else None) (d.stand k ∙ e))
       go k false e = ap (λ (b : Bool). if b then (tree_of old).up k else None) e ∙ sym (ap (λ (b : Bool). if b then (tree_of new).up k else None) (d.stand k ∙ e))
 
-  pub IsKept-dropped : (totals : List ℕ) (children : List (Option ℕ)) (ids : List (ℕ × ℕ)) → IsTree (tree_of new) → IsCounted new totals None → IsListed (tree_of old) children ids
-      → ((k : ℕ) → ContainsKey old k → (k < length totals) × (k < length children)) → length children ≤ 1073741824 → IsKept new totals children ids
-  IsKept-dropped totals children ids tree counted listed room small =
-      record { tree = tree; counted = counted; listed = IsListed-dropped children ids listed; room = λ k on. room k (d.there k on); small = small }
+  pub IsKept-dropped : (counters : List Counter) (children : List (Option ℕ)) (ids : List (ℕ × ℕ)) → IsTree (tree_of new) → IsCounted new (total_at counters) None → AreLinked new counters → IsListed (tree_of old) children ids
+      → ((k : ℕ) → ContainsKey old k → k < length children) → length children ≤ 1073741824 → IsKept new counters children ids
+  IsKept-dropped counters children ids tree counted linked listed room small =
+      record { tree = tree; counted = counted; linked = linked; listed = IsListed-dropped children ids listed; room = λ k on. room k (d.there k on); small = small }
 
   -- the control groups are the same
   pub controls-dropped : (children : List (Option ℕ)) (ids : List (ℕ × ℕ)) → IsTree (tree_of old) → IsListed (tree_of old) children ids

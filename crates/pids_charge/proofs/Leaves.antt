@@ -1,6 +1,5 @@
 -- Nodes with one that nothing is below, and without it.
-use Rattle.std.proofs.Common.{◌≡◌, ◌≢◌, ◌⊎◌, inl, inr, ℕ, zero, suc, ◌+◌, ◌<◌, ◌≤◌, ◌==◌, nat_lt, Bool, true, false, ◌||◌, if◌then◌else◌, Option, Some, None, option_and_then, is_some, List, length, refl, sym, ap, subst, ◌∙◌, arith}
-use Rattle.std.specs.Prelude.{slice_index}
+use Rattle.std.proofs.Common.{◌≡◌, ◌≢◌, ◌⊎◌, inl, inr, ℕ, zero, suc, ◌+◌, ◌<◌, ◌≤◌, ◌==◌, nat_lt, Bool, true, false, ◌||◌, if◌then◌else◌, Option, Some, None, option_and_then, is_some, length, refl, sym, ap, subst, ◌∙◌, arith}
 use Rattle.std.specs.Option.{option_map_or}
 use Rattle.std.proofs.lemmas.Bool.{cases_eq, eqb-true, or_right, or_from, le-ltb}
 use Rattle.std.proofs.lemmas.List.{get_or_past}
@@ -9,7 +8,7 @@ use Rattle.pids_charge.specs.declared.node.Node.{Node}
 use Rattle.pids_charge.specs.Nodes.{Tree, tree_of, reaches, is_under, weight, left, HasLevels, live_in, tasks_in, total_in, all_in, IsTree}
 use Rattle.pids_charge.specs.Charges.{Home, kept}
 use Rattle.pids_charge.specs.Kept.{nearest, standing_key, seen, IsCounted, DropsEmpty}
-use Rattle.pids_charge.proofs.Climbs.{one_if, up_levels, reaches-step, reaches-self, reaches_low, eqb-apart, left-step}
+use Rattle.pids_charge.proofs.Climbs.{one_if, up_levels, reaches-step, reaches-self, reaches_low, eqb-apart, left-step, up-is}
 use Rattle.pids_charge.proofs.Sums.{sum-ext, sum-bounds, sum_le}
 use Rattle.pids_charge.proofs.Views.{home_in, kept_cases}
 use Rattle.pids_charge.proofs.Written.{reaches_stand, own_total}
@@ -174,7 +173,26 @@ up_there nodes j p above = go (get nodes j) above
     go None e = absurd (cc)
     go (Some n) e = refl
 
-module _ (nodes : Slab Node) (totals : List ℕ) (at : Option ℕ) (a : ℕ) (n : Node) (w : IsTree (tree_of nodes)) (counted : IsCounted nodes totals at) (is : at ≡ Some a) (found : get nodes a ≡ Some n) where
+-- a walk up that drops what is empty comes to a node
+pub record Visits (nodes : Slab Node) (totals : ℕ → ℕ) (at : Option ℕ) (a : ℕ) (n : Node) : Type 0 where
+  pub tree : IsTree (tree_of nodes)
+  pub counted : IsCounted nodes totals at
+  pub is : at ≡ Some a
+  pub found : get nodes a ≡ Some n
+
+module _ {nodes : Slab Node} {totals : ℕ → ℕ} {at : Option ℕ} {a : ℕ} {n : Node} (visits : Visits nodes totals at a n) where
+  w : IsTree (tree_of nodes)
+  w = visits.tree
+
+  counted : IsCounted nodes totals at
+  counted = visits.counted
+
+  is : at ≡ Some a
+  is = visits.is
+
+  found : get nodes a ≡ Some n
+  found = visits.found
+
   standing_is : (tree_of nodes).stand a ≡ n.standing
   standing_is = ap (λ o. option_map_or (λ (x : Node). x.standing) o false) found
 
@@ -182,10 +200,10 @@ module _ (nodes : Slab Node) (totals : List ℕ) (at : Option ℕ) (a : ℕ) (n 
   left_is k = ap (λ o. left (tree_of nodes) o k) is
 
   -- the walk may stop where a node stands or has tasks
-  pub settled : (n.standing ≡ true) ⊎ (0 < slice_index totals a) → IsCounted nodes totals None
+  pub settled : (n.standing ≡ true) ⊎ (0 < totals a) → IsCounted nodes totals None
   settled why = record { counts = counted.counts; filled = λ k on lies none. go k on lies (is_under (tree_of nodes) a k) refl; ended = counted.ended; few = counted.few }
     where
-      above : (k : ℕ) → (tree_of nodes).stand k ≡ false → is_under (tree_of nodes) a k ≡ true → (n.standing ≡ true) ⊎ (0 < slice_index totals a) → 0 < total_in nodes k
+      above : (k : ℕ) → (tree_of nodes).stand k ≡ false → is_under (tree_of nodes) a k ≡ true → (n.standing ≡ true) ⊎ (0 < totals a) → 0 < total_in nodes k
       above k lies under (inl up) = absurd (let h = reaches_stand (tree_of nodes) w ((tree_of nodes).level a) a k (standing_is ∙ up) under in cc)
       above k lies under (inr some) =
           let t = counted.counts a (ap is_some found) in
@@ -196,7 +214,7 @@ module _ (nodes : Slab Node) (totals : List ℕ) (at : Option ℕ) (a : ℕ) (n 
       go k on lies true e = above k lies e why
       go k on lies false e = counted.filled k on lies (left_is k ∙ ap one_if e)
 
-  module _ (lies : n.standing ≡ false) (none : slice_index totals a ≡ 0) where
+  module _ (lies : n.standing ≡ false) (none : totals a ≡ 0) where
     no_total : total_in nodes a ≡ 0
     no_total = sym (counted.counts a (ap is_some found)) ∙ none
 
@@ -267,7 +285,7 @@ module _ (nodes : Slab Node) (totals : List ℕ) (at : Option ℕ) (a : ℕ) (n 
         where
           passed : (k : ℕ) → k ≢ a → left (tree_of new) n.parent k ≡ 0 → left (tree_of nodes) at k ≡ 0
           passed k differs past =
-              left-step nodes w.levels at a n is found k
+              left-step (tree_of nodes) w.levels at a n.parent is (sym (up-is nodes a n found)) k
               ∙ ap (λ b. one_if b + left (tree_of nodes) n.parent k) (eqb-apart a k (λ e. differs (sym e))) ∙ onward n.parent refl past
             where
               onward : (o : Option ℕ) → n.parent ≡ o → left (tree_of new) o k ≡ 0 → 0 + left (tree_of nodes) o k ≡ 0

@@ -1,4 +1,5 @@
 pub mod Climbs
+pub mod Linked
 pub mod Sums
 pub mod Views
 pub mod Bridges

@@ -1,6 +1,5 @@
 -- One more control group.
 use Rattle.std.proofs.Common.{◌≡◌, ◌≢◌, inl, inr, ℕ, zero, suc, ◌+◌, ◌<◌, ◌≤◌, ◌==◌, Bool, true, false, if◌then◌else◌, Option, Some, None, option_map, option_and_then, is_some, List, [], ◌∷◌, ◌++◌, length, set, map, refl, sym, ap, subst, ◌∙◌, arith}
-use Rattle.std.specs.Prelude.{slice_index}
 use Rattle.std.specs.Option.{option_map_or}
 use Rattle.std.specs.List.{AllByRecursion}
 use Rattle.std.proofs.lemmas.Bool.{cases_eq, eq-eqb}
@@ -12,9 +11,11 @@ use Rattle.pid_types.specs.Chains.{climb}
 use Rattle.pid_types.specs.declared.plain.Control.{Control}
 use Rattle.pid_types.specs.Controls.{parent_control, control_path}
 use Rattle.pids_charge.specs.declared.node.Node.{Node}
+use Rattle.pids_charge.specs.declared.counter.Counter.{Counter}
+use Rattle.pids_charge.proofs.Linked as linked
 use Rattle.pids_charge.specs.Nodes.{Tree, tree_of, is_under, tasks_in, total_in, all_in, IsTree}
 use Rattle.pids_charge.specs.Charges.{Home}
-use Rattle.pids_charge.specs.Kept.{control_in, child_of, limit_in, seen, standing_key, IsEntry, IsListed, IsCounted, IsKept}
+use Rattle.pids_charge.specs.Kept.{control_in, child_of, limit_in, seen, standing_key, IsEntry, IsListed, IsCounted, IsKept, counter_at, total_at}
 use Rattle.pids_charge.proofs.Climbs.{up_levels, eqb-apart}
 use Rattle.pids_charge.proofs.Sums.{sum-zero}
 use Rattle.pids_charge.proofs.Views.{home_in, parent-is, there, nearest-self, kept_standing}
@@ -31,14 +32,19 @@ below-ids t limits bound [] all = tt
 below-ids t limits bound (p ∷ ids) all = (all.0, below-ids t limits bound ids all.1)
 
 -- memory alone
-pub IsKept-room : (nodes mid : Slab Node) (x : ℕ) → mid ≡ record nodes { capacity = x } → (totals after : List ℕ) (children more : List (Option ℕ)) (ids : List (ℕ × ℕ)) → IsKept nodes totals children ids
-    → ((k : ℕ) → slice_index after k ≡ slice_index totals k) → ((k : ℕ) → owner_of more k ≡ owner_of children k) → length totals ≤ length after → length children ≤ length more → length more ≤ 1073741824
+pub IsKept-room : (nodes mid : Slab Node) (x : ℕ) → mid ≡ record nodes { capacity = x } → (counters after : List Counter) (children more : List (Option ℕ)) (ids : List (ℕ × ℕ)) → IsKept nodes counters children ids
+    → ((k : ℕ) → counter_at after k ≡ counter_at counters k) → ((k : ℕ) → owner_of more k ≡ owner_of children k) → length counters ≤ length after → length children ≤ length more → length more ≤ 1073741824
     → IsKept mid after more ids
-IsKept-room nodes mid x e totals after children more ids w same owners longer bigger small = subst (λ s. IsKept s after more ids) (sym e) (record {
+IsKept-room nodes mid x e counters after children more ids w same owners longer bigger small = subst (λ s. IsKept s after more ids) (sym e) (record {
   tree = w.tree;
-  counted = record { counts = λ k on. same k ∙ w.counted.counts k on; filled = w.counted.filled; ended = w.counted.ended; few = w.counted.few };
+  counted = record { counts = λ k on. ap (λ (c : Counter). c.total) (same k) ∙ w.counted.counts k on; filled = w.counted.filled; ended = w.counted.ended; few = w.counted.few };
+  linked = linked.linked-changed nodes (record nodes { capacity = x }) counters after 0 w.linked (λ k d. refl) (λ k d. same k) longer (λ on. let r = w.linked 0 on in record {
+    room = (let l = r.room in omega (arith, l, longer));
+    limit = ap (λ (c : Counter). c.limit) (same 0) ∙ r.limit;
+    parent = ap (λ (c : Counter). c.parent) (same 0) ∙ r.parent;
+  });
   listed = record { owners = λ k. owners k ∙ w.listed.owners k; entries = w.listed.entries; listed = w.listed.listed };
-  room = λ k on. let r = w.room k on in (omega (arith, r.0, longer), omega (arith, r.1, bigger));
+  room = λ k on. let r = w.room k on in omega (arith, r, bigger);
   small = small;
 })
 
@@ -68,11 +74,37 @@ module _ (nodes : Slab Node) (children : List (Option ℕ)) (ids : List (ℕ × 
   unfolding control_path
   length-path s up = length-climb 64 s up (w.deep s)
 
-module _ (nodes new : Slab Node) (a q id level : ℕ) (old : get nodes a ≡ None)
-    (updates : Updates nodes new a (Some (record { id = id; parent = Some q; limit = None; level = level; standing = true; live = 0; zombies = 0 })))
-    (w : IsTree (tree_of nodes)) (q_up : (tree_of nodes).stand q ≡ true) (next : level ≡ (tree_of nodes).level q + 1) (low : level ≤ 64) where
-  m : Node
-  m = record { id = id; parent = Some q; limit = None; level = level; standing = true; live = 0; zombies = 0 }
+-- the node of a new control group
+abbrev pub node : ℕ → ℕ → ℕ → Node
+node id q level = record { id = id; parent = Some q; limit = None; level = level; standing = true; live = 0; zombies = 0 }
+
+-- a control group with the id is made at key a, below that of key q
+pub record Makes (nodes new : Slab Node) (a q id level : ℕ) : Type 0 where
+  pub old : get nodes a ≡ None
+  pub updates : Updates nodes new a (Some (node id q level))
+  pub tree : IsTree (tree_of nodes)
+  pub stands : (tree_of nodes).stand q ≡ true
+  pub next : level ≡ (tree_of nodes).level q + 1
+  pub low : level ≤ 64
+
+module _ {nodes new : Slab Node} {a q id level : ℕ} (makes : Makes nodes new a q id level) where
+  old : get nodes a ≡ None
+  old = makes.old
+
+  updates : Updates nodes new a (Some (node id q level))
+  updates = makes.updates
+
+  w : IsTree (tree_of nodes)
+  w = makes.tree
+
+  q_up : (tree_of nodes).stand q ≡ true
+  q_up = makes.stands
+
+  next : level ≡ (tree_of nodes).level q + 1
+  next = makes.next
+
+  low : level ≤ 64
+  low = makes.low
 
   q_apart : q ≢ a
   q_apart e = let h = ap (tree_of nodes).stand e ∙ ap (λ o. option_map_or (λ (x : Node). x.standing) o false) old in cc
@@ -156,11 +188,12 @@ module _ (nodes new : Slab Node) (a q id level : ℕ) (old : get nodes a ≡ Non
     ];
   }
 
-  pub IsCounted-made : (totals : List ℕ) → IsCounted nodes totals None → (after : List ℕ) → ((k : ℕ) → slice_index after k ≡ slice_index totals k) → a < length after → IsCounted new (set after a 0) None
-  IsCounted-made totals counted after kept_at room = record {
+  pub IsCounted-made : (counters : List Counter) → IsCounted nodes (total_at counters) None → (after : List Counter) → ((k : ℕ) → counter_at after k ≡ counter_at counters k) → (c : Counter) → c.total ≡ 0 → a < length after
+      → IsCounted new (total_at (set after a c)) None
+  IsCounted-made counters counted after kept_at c zero_is room = record {
     counts = λ k on. elim (cases_eq k a) [
-      | inl e ↦ ap (λ i. slice_index (set after a 0) i) e ∙ get_or-set_same after a 0 0 room ∙ sym (ap (total_in new) e ∙ total-made a ∙ none_below)
-      | inr d ↦ get_or-set_other after a k 0 0 d ∙ kept_at k ∙ counted.counts k (sym (same is_some k d) ∙ on) ∙ sym (total-made k)
+      | inl e ↦ ap (total_at (set after a c)) e ∙ ap (λ (x : Counter). x.total) (linked.counter-here after a c room) ∙ zero_is ∙ sym (ap (total_in new) e ∙ total-made a ∙ none_below)
+      | inr d ↦ ap (λ (x : Counter). x.total) (linked.counter-others after a c room k d ∙ kept_at k) ∙ counted.counts k (sym (same is_some k d) ∙ on) ∙ sym (total-made k)
     ];
     filled = λ k on lies past. elim (cases_eq k a) [
       | inl e ↦ absurd (let h = sym stand_a ∙ sym (ap (tree_of new).stand e) ∙ lies in cc)
@@ -243,11 +276,10 @@ module _ (nodes new : Slab Node) (a q id level : ℕ) (old : get nodes a ≡ Non
   pub home-others : (k : ℕ) → k ≢ a → home_in new k ≡ home_in nodes k
   home-others k d = sym (leaves.seen-leaf new nodes a back old leaf k d)
 
-  pub room-made : (totals : List ℕ) (children : List (Option ℕ)) → ((k : ℕ) → ContainsKey nodes k → (k < length totals) × (k < length children)) → (after : List ℕ) (more : List (Option ℕ))
-      → length totals ≤ length after → length children ≤ length more → a < length after → a < length more → (k : ℕ) → ContainsKey new k → (k < length after) × (k < length more)
-  room-made totals children rooms after more longer bigger here lists k on = elim (cases_eq k a) [
-    | inl e ↦ (omega (arith, e, here), omega (arith, e, lists))
-    | inr d ↦ let r = rooms k (sym (same is_some k d) ∙ on) in (omega (arith, r.0, longer), omega (arith, r.1, bigger))
+  pub room-made : (children : List (Option ℕ)) → ((k : ℕ) → ContainsKey nodes k → k < length children) → (more : List (Option ℕ)) → length children ≤ length more → a < length more → (k : ℕ) → ContainsKey new k → k < length more
+  room-made children rooms more bigger lists k on = elim (cases_eq k a) [
+    | inl e ↦ omega (arith, e, lists)
+    | inr d ↦ let r = rooms k (sym (same is_some k d) ∙ on) in omega (arith, r, bigger)
   ]
 
 pub home-none : (nodes : Slab Node) (k : ℕ) → get nodes k ≡ None → home_in nodes k ≡ None

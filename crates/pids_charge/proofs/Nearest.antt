@@ -1,6 +1,6 @@
 -- The nearest limit that one task more would pass, by ids and by keys.
 use Rattle.std.proofs.Common.{◌≡◌, inl, inr, ℕ, zero, suc, ◌+◌, ◌≤◌, nat_lt, nat_le, Bool, true, false, cond, if◌then◌else◌, Option, Some, None, option_map, option_and_then, is_some, List, [], map, refl, sym, ap, ◌∙◌, arith}
-use Rattle.std.specs.Prelude.{slice_index, find}
+use Rattle.std.specs.Prelude.{find}
 use Rattle.std.specs.Option.{option_map_or}
 use Rattle.std.proofs.lemmas.Bool.{cases_lt, lt-ltb, le-ltb, le-leb, lt-leb}
 use Rattle.slab.specs.Slab.{Slab, get, ContainsKey}
@@ -21,8 +21,8 @@ lt-suc a b = elim (cases_lt b a) [
   | inr le ↦ lt-ltb a (b + 1) (omega (arith, le)) ∙ sym (le-leb a b le)
 ]
 
-module _ (nodes : Slab Node) (totals : List ℕ) (children : List (Option ℕ)) (ids : List (ℕ × ℕ)) (w : IsTree (tree_of nodes)) (l : IsListed (tree_of nodes) children ids)
-    (counts : (k : ℕ) → ContainsKey nodes k → slice_index totals k ≡ total_in nodes k) where
+module _ (nodes : Slab Node) (totals : ℕ → ℕ) (children : List (Option ℕ)) (ids : List (ℕ × ℕ)) (w : IsTree (tree_of nodes)) (l : IsListed (tree_of nodes) children ids)
+    (counts : (k : ℕ) → ContainsKey nodes k → totals k ≡ total_in nodes k) where
   full-is : (s : ℕ) → (tree_of nodes).stand s ≡ true → is_full (charges_of nodes ids) ((tree_of nodes).id s) ≡ is_at_limit nodes totals s
   full-is s up =
       let c = count-is nodes children ids w l s up ∙ sym (counts s (there nodes s up)) in
@@ -30,9 +30,9 @@ module _ (nodes : Slab Node) (totals : List ℕ) (children : List (Option ℕ)) 
       ∙ ap (λ (n : ℕ). option_map_or (λ limit. nat_lt limit (n + 1)) (limit_in nodes s) false) c
       ∙ go (limit_in nodes s)
     where
-      go : (o : Option ℕ) → option_map_or (λ limit. nat_lt limit (slice_index totals s + 1)) o false ≡ option_map_or (λ limit. nat_le limit (slice_index totals s)) o false
+      go : (o : Option ℕ) → option_map_or (λ limit. nat_lt limit (totals s + 1)) o false ≡ option_map_or (λ limit. nat_le limit (totals s)) o false
       go None = refl
-      go (Some limit) = lt-suc limit (slice_index totals s)
+      go (Some limit) = lt-suc limit (totals s)
 
   abbrev above_id : ℕ → Option ℕ
   above_id = parent_control (map (control_in (tree_of nodes) (limit_in nodes)) ids)
@@ -79,13 +79,13 @@ module _ (nodes : Slab Node) (totals : List ℕ) (children : List (Option ℕ)) 
   unfolding control_path
   charge-is s up = ap (option_map PidsLimit) (find-climb 64 s up ∙ ap (option_map (tree_of nodes).id) (first-more 64 s (w.deep s)))
 
-pub first_there : (nodes : Slab Node) (totals : List ℕ) (n s k : ℕ) → first_full nodes totals n s ≡ Some k → ContainsKey nodes k
+pub first_there : (nodes : Slab Node) (totals : ℕ → ℕ) (n s k : ℕ) → first_full nodes totals n s ≡ Some k → ContainsKey nodes k
 first_there nodes totals n s k is = go n s is
   where
     here : (s : ℕ) → is_at_limit nodes totals s ≡ true → ContainsKey nodes s
     here s e = look (get nodes s) e
       where
-        look : (o : Option Node) → option_map_or (λ limit. nat_le limit (slice_index totals s)) (option_and_then (λ (n : Node). n.limit) o) false ≡ true → is_some o ≡ true
+        look : (o : Option Node) → option_map_or (λ limit. nat_le limit (totals s)) (option_and_then (λ (n : Node). n.limit) o) false ≡ true → is_some o ≡ true
         look None e = absurd (cc)
         look (Some n) e = refl
 

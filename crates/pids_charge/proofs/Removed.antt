@@ -20,7 +20,34 @@ use Rattle.pids_charge.proofs.Views.{home_in, same_key, live-is, kept_cases, kep
 use Rattle.pids_charge.proofs.Sums.{sum-ext}
 use Rattle.pids_charge.proofs.Bridges.{nearest_stands}
 
-module _ (nodes new : Slab Node) (c p : ℕ) (n : Node) (found : get nodes c ≡ Some n) (up : n.standing ≡ true) (parent : n.parent ≡ Some p) (is : new ≡ with_value nodes c (record n { standing = false })) where
+-- the control group of key c, below that of key p, is removed: its node stands no more, and nothing that stands is below it
+pub record Removes (nodes new : Slab Node) (c p : ℕ) (n : Node) : Type 0 where
+  pub found : get nodes c ≡ Some n
+  pub up : n.standing ≡ true
+  pub parent : n.parent ≡ Some p
+  pub is : new ≡ with_value nodes c (record n { standing = false })
+  pub tree : IsTree (tree_of nodes)
+  pub childless : (k : ℕ) → child_of (tree_of nodes) k ≢ Some c
+
+module _ {nodes new : Slab Node} {c p : ℕ} {n : Node} (removes : Removes nodes new c p n) where
+  found : get nodes c ≡ Some n
+  found = removes.found
+
+  up : n.standing ≡ true
+  up = removes.up
+
+  parent : n.parent ≡ Some p
+  parent = removes.parent
+
+  is : new ≡ with_value nodes c (record n { standing = false })
+  is = removes.is
+
+  w : IsTree (tree_of nodes)
+  w = removes.tree
+
+  childless : (k : ℕ) → child_of (tree_of nodes) k ≢ Some c
+  childless = removes.childless
+
   updates : Updates nodes new c (Some (record n { standing = false }))
   updates = subst (λ x. Updates nodes x c (Some (record n { standing = false }))) (sym is) (Updates-with_value nodes c (record n { standing = false }) (ap is_some found))
 
@@ -84,104 +111,103 @@ module _ (nodes new : Slab Node) (c p : ℕ) (n : Node) (found : get nodes c ≡
   pub all-same : all_in new ≡ all_in nodes
   all-same = ap (λ i. sum_below i (tasks_in new)) slots ∙ ap (λ f. sum_below (length nodes.slots) f) tasks
 
-  module _ (w : IsTree (tree_of nodes)) (childless : (k : ℕ) → child_of (tree_of nodes) k ≢ Some c) where
-    no_child : (j : ℕ) → (tree_of nodes).stand j ≡ true → (tree_of nodes).up j ≢ Some c
-    no_child j s e = childless j (ap (λ (b : Bool). if b then (tree_of nodes).up j else None) s ∙ e)
+  no_child : (j : ℕ) → (tree_of nodes).stand j ≡ true → (tree_of nodes).up j ≢ Some c
+  no_child j s e = childless j (ap (λ (b : Bool). if b then (tree_of nodes).up j else None) s ∙ e)
 
-    p_apart : p ≢ c
-    p_apart e = let h = up_levels (tree_of nodes) w.levels c p up_c in let l = ap (tree_of nodes).level e in omega (arith, h, l)
+  p_apart : p ≢ c
+  p_apart e = let h = up_levels (tree_of nodes) w.levels c p up_c in let l = ap (tree_of nodes).level e in omega (arith, h, l)
 
-    p_stands : (tree_of nodes).stand p ≡ true
-    p_stands = w.upright c p stood up_c
+  p_stands : (tree_of nodes).stand p ≡ true
+  p_stands = w.upright c p stood up_c
 
-    pub IsTree-unstood : IsTree (tree_of new)
-    IsTree-unstood = record {
-      levels = λ j q above.
-          let h = w.levels j q (sym (ap (λ f. f j) ups) ∙ above) in
-          (there_same q ∙ h.0, ap (λ f. f j) levels ∙ h.1 ∙ ap suc (sym (ap (λ f. f q) levels)));
-      deep = λ j. subst (λ f. f j ≤ 64) (sym levels) (w.deep j);
-      top = λ j none. ap (λ f. f j) levels ∙ w.top j (sym (ap (λ f. f j) ups) ∙ none);
-      upright = λ j q s above.
-          let d = apart j s in
-          let old = sym (stand_others j d) ∙ s in
-          let a = sym (ap (λ f. f j) ups) ∙ above in
-          let q_apart : q ≢ c = λ e. no_child j old (a ∙ ap Some e) in
-          stand_others q q_apart ∙ w.upright j q old a;
-      rooted = λ j on lies. elim (cases_eq j c) [
-        | inl e ↦ ap is_some (ap (λ f. f j) ups) ∙ ap (λ i. is_some ((tree_of nodes).up i)) e ∙ ap is_some up_c
-        | inr d ↦ ap is_some (ap (λ f. f j) ups) ∙ w.rooted j (sym (there_same j) ∙ on) (sym (stand_others j d) ∙ lies)
+  pub IsTree-unstood : IsTree (tree_of new)
+  IsTree-unstood = record {
+    levels = λ j q above.
+        let h = w.levels j q (sym (ap (λ f. f j) ups) ∙ above) in
+        (there_same q ∙ h.0, ap (λ f. f j) levels ∙ h.1 ∙ ap suc (sym (ap (λ f. f q) levels)));
+    deep = λ j. subst (λ f. f j ≤ 64) (sym levels) (w.deep j);
+    top = λ j none. ap (λ f. f j) levels ∙ w.top j (sym (ap (λ f. f j) ups) ∙ none);
+    upright = λ j q s above.
+        let d = apart j s in
+        let old = sym (stand_others j d) ∙ s in
+        let a = sym (ap (λ f. f j) ups) ∙ above in
+        let q_apart : q ≢ c = λ e. no_child j old (a ∙ ap Some e) in
+        stand_others q q_apart ∙ w.upright j q old a;
+    rooted = λ j on lies. elim (cases_eq j c) [
+      | inl e ↦ ap is_some (ap (λ f. f j) ups) ∙ ap (λ i. is_some ((tree_of nodes).up i)) e ∙ ap is_some up_c
+      | inr d ↦ ap is_some (ap (λ f. f j) ups) ∙ w.rooted j (sym (there_same j) ∙ on) (sym (stand_others j d) ∙ lies)
+    ];
+  }
+
+  pub IsCounted-unstood : (totals : ℕ → ℕ) → IsCounted nodes totals None → n.live ≡ 0 → IsCounted new totals (Some c)
+  IsCounted-unstood totals counted none = record {
+    counts = λ k on. counted.counts k (sym (there_same k) ∙ on) ∙ sym (total-same k);
+    filled = λ k on lies past. elim (cases_eq k c) [
+      | inl e ↦ absurd (let s = weight_one (tree_of new) c c (weight-self (tree_of new) c IsTree-unstood.levels) in let q = ap (weight (tree_of new) c) e in omega (arith, s, q, past))
+      | inr d ↦ subst (λ x. 0 < x) (sym (total-same k)) (counted.filled k (sym (there_same k) ∙ on) (sym (stand_others k d) ∙ lies) refl)
+    ];
+    ended = λ k lies. elim (cases_eq k c) [
+      | inl e ↦ ap (live_in new) e ∙ ap (λ o. option_map_or (λ (x : Node). x.live) o 0) updates.changed ∙ none
+      | inr d ↦ ap (λ o. option_map_or (λ (x : Node). x.live) o 0) (updates.others k d) ∙ counted.ended k (sym (stand_others k d) ∙ lies)
+    ];
+    few = subst (λ x. x < 18446744073709551616) (sym all-same) counted.few;
+  }
+
+  module _ (children : List (Option ℕ)) (ids : List (ℕ × ℕ)) (l : IsListed (tree_of nodes) children ids) where
+    key_of-without : (ps : List (ℕ × ℕ)) (i j : ℕ) → i ≢ j → key_of (without ps j) i ≡ key_of ps i
+    key_of-without [] i j d = refl
+    key_of-without (q ∷ ps) i j d = go (q.0 == j) refl (key_of-without ps i j d)
+      where
+        go : (b : Bool) → (q.0 == j) ≡ b → key_of (without ps j) i ≡ key_of ps i → key_of (cond (not b) (q ∷ without ps j) (without ps j)) i ≡ (if q.0 == i then Some q.1 else key_of ps i)
+        go true e rest = rest ∙ sym (ap (λ (b : Bool). if b then Some q.1 else key_of ps i) (eqb-apart q.0 i (λ s. d (sym s ∙ eqb-true q.0 j e))))
+        go false e rest = ap (λ o. if q.0 == i then Some q.1 else o) rest
+
+    all-without : (ps : List (ℕ × ℕ)) → AllByRecursion (IsEntry (tree_of nodes)) ps → AllByRecursion (IsEntry (tree_of new)) (without ps ((tree_of nodes).id c))
+    all-without [] all = tt
+    all-without (q ∷ ps) all = go (q.0 == (tree_of nodes).id c) refl (all-without ps all.1)
+      where
+        go : (b : Bool) → (q.0 == (tree_of nodes).id c) ≡ b → AllByRecursion (IsEntry (tree_of new)) (without ps ((tree_of nodes).id c))
+            → AllByRecursion (IsEntry (tree_of new)) (cond (not b) (q ∷ without ps ((tree_of nodes).id c)) (without ps ((tree_of nodes).id c)))
+        go true e rest = rest
+        go false e rest =
+            let d : q.1 ≢ c = λ s. let t = eq-eqb q.0 ((tree_of nodes).id c) (sym all.0.1 ∙ ap (tree_of nodes).id s) in cc in
+            ((stand_others q.1 d ∙ all.0.0, ap (λ f. f q.1) ids_same ∙ all.0.1), rest)
+
+    pub IsListed-unstood : c < length children → IsListed (tree_of new) (set children c None) (without ids ((tree_of nodes).id c))
+    IsListed-unstood room = record {
+      owners = λ k. elim (cases_eq k c) [
+        | inl e ↦ ap (λ i. owner_of (set children c None) i) e ∙ get_or-set_same children c None None room
+            ∙ sym (ap (child_of (tree_of new)) e ∙ ap (λ (b : Bool). if b then (tree_of new).up c else None) stand_here)
+        | inr d ↦ get_or-set_other children c k None None d ∙ l.owners k
+            ∙ sym (ap (λ (b : Bool). if b then (tree_of new).up k else None) (stand_others k d) ∙ ap (λ f. if (tree_of nodes).stand k then f k else None) ups)
       ];
+      entries = all-without ids l.entries;
+      listed = λ k s.
+          let d = apart k s in
+          let old = sym (stand_others k d) ∙ s in
+          let i : (tree_of nodes).id k ≢ (tree_of nodes).id c = λ e. d (same_key (tree_of nodes) (limit_in nodes) children ids l k c old stood e) in
+          ap (λ f. key_of (without ids ((tree_of nodes).id c)) (f k)) ids_same ∙ key_of-without ids ((tree_of nodes).id k) ((tree_of nodes).id c) i ∙ l.listed k old;
     }
 
-    pub IsCounted-unstood : (totals : List ℕ) → IsCounted nodes totals None → n.live ≡ 0 → IsCounted new totals (Some c)
-    IsCounted-unstood totals counted none = record {
-      counts = λ k on. counted.counts k (sym (there_same k) ∙ on) ∙ sym (total-same k);
-      filled = λ k on lies past. elim (cases_eq k c) [
-        | inl e ↦ absurd (let s = weight_one (tree_of new) c c (weight-self (tree_of new) c IsTree-unstood.levels) in let q = ap (weight (tree_of new) c) e in omega (arith, s, q, past))
-        | inr d ↦ subst (λ x. 0 < x) (sym (total-same k)) (counted.filled k (sym (there_same k) ∙ on) (sym (stand_others k d) ∙ lies) refl)
-      ];
-      ended = λ k lies. elim (cases_eq k c) [
-        | inl e ↦ ap (live_in new) e ∙ ap (λ o. option_map_or (λ (x : Node). x.live) o 0) updates.changed ∙ none
-        | inr d ↦ ap (λ o. option_map_or (λ (x : Node). x.live) o 0) (updates.others k d) ∙ counted.ended k (sym (stand_others k d) ∙ lies)
-      ];
-      few = subst (λ x. x < 18446744073709551616) (sym all-same) counted.few;
-    }
+    pub controls-unstood : map (control_in (tree_of new) (limit_in new)) (without ids ((tree_of nodes).id c)) ≡ filter (λ g. not (g.id == (tree_of nodes).id c)) (map (control_in (tree_of nodes) (limit_in nodes)) ids)
+    controls-unstood =
+        ap (λ f. map f (without ids ((tree_of nodes).id c))) same ∙ go ids
+      where
+        same : control_in (tree_of new) (limit_in new) ≡ control_in (tree_of nodes) (limit_in nodes)
+        same =
+            ap (λ u. λ (q : ℕ × ℕ). let g : Control = record { id = q.0; parent = option_map (tree_of new).id (u q.1); limit = limit_in new q.1 } in g) ups
+            ∙ ap (λ i. λ (q : ℕ × ℕ). let g : Control = record { id = q.0; parent = option_map i ((tree_of nodes).up q.1); limit = limit_in new q.1 } in g) ids_same
+            ∙ ap (λ m. λ (q : ℕ × ℕ). let g : Control = record { id = q.0; parent = option_map (tree_of nodes).id ((tree_of nodes).up q.1); limit = m q.1 } in g) limits
 
-    module _ (children : List (Option ℕ)) (ids : List (ℕ × ℕ)) (l : IsListed (tree_of nodes) children ids) where
-      key_of-without : (ps : List (ℕ × ℕ)) (i j : ℕ) → i ≢ j → key_of (without ps j) i ≡ key_of ps i
-      key_of-without [] i j d = refl
-      key_of-without (q ∷ ps) i j d = go (q.0 == j) refl (key_of-without ps i j d)
-        where
-          go : (b : Bool) → (q.0 == j) ≡ b → key_of (without ps j) i ≡ key_of ps i → key_of (cond (not b) (q ∷ without ps j) (without ps j)) i ≡ (if q.0 == i then Some q.1 else key_of ps i)
-          go true e rest = rest ∙ sym (ap (λ (b : Bool). if b then Some q.1 else key_of ps i) (eqb-apart q.0 i (λ s. d (sym s ∙ eqb-true q.0 j e))))
-          go false e rest = ap (λ o. if q.0 == i then Some q.1 else o) rest
-
-      all-without : (ps : List (ℕ × ℕ)) → AllByRecursion (IsEntry (tree_of nodes)) ps → AllByRecursion (IsEntry (tree_of new)) (without ps ((tree_of nodes).id c))
-      all-without [] all = tt
-      all-without (q ∷ ps) all = go (q.0 == (tree_of nodes).id c) refl (all-without ps all.1)
-        where
-          go : (b : Bool) → (q.0 == (tree_of nodes).id c) ≡ b → AllByRecursion (IsEntry (tree_of new)) (without ps ((tree_of nodes).id c))
-              → AllByRecursion (IsEntry (tree_of new)) (cond (not b) (q ∷ without ps ((tree_of nodes).id c)) (without ps ((tree_of nodes).id c)))
-          go true e rest = rest
-          go false e rest =
-              let d : q.1 ≢ c = λ s. let t = eq-eqb q.0 ((tree_of nodes).id c) (sym all.0.1 ∙ ap (tree_of nodes).id s) in cc in
-              ((stand_others q.1 d ∙ all.0.0, ap (λ f. f q.1) ids_same ∙ all.0.1), rest)
-
-      pub IsListed-unstood : c < length children → IsListed (tree_of new) (set children c None) (without ids ((tree_of nodes).id c))
-      IsListed-unstood room = record {
-        owners = λ k. elim (cases_eq k c) [
-          | inl e ↦ ap (λ i. owner_of (set children c None) i) e ∙ get_or-set_same children c None None room
-              ∙ sym (ap (child_of (tree_of new)) e ∙ ap (λ (b : Bool). if b then (tree_of new).up c else None) stand_here)
-          | inr d ↦ get_or-set_other children c k None None d ∙ l.owners k
-              ∙ sym (ap (λ (b : Bool). if b then (tree_of new).up k else None) (stand_others k d) ∙ ap (λ f. if (tree_of nodes).stand k then f k else None) ups)
-        ];
-        entries = all-without ids l.entries;
-        listed = λ k s.
-            let d = apart k s in
-            let old = sym (stand_others k d) ∙ s in
-            let i : (tree_of nodes).id k ≢ (tree_of nodes).id c = λ e. d (same_key (tree_of nodes) (limit_in nodes) children ids l k c old stood e) in
-            ap (λ f. key_of (without ids ((tree_of nodes).id c)) (f k)) ids_same ∙ key_of-without ids ((tree_of nodes).id k) ((tree_of nodes).id c) i ∙ l.listed k old;
-      }
-
-      pub controls-unstood : map (control_in (tree_of new) (limit_in new)) (without ids ((tree_of nodes).id c)) ≡ filter (λ g. not (g.id == (tree_of nodes).id c)) (map (control_in (tree_of nodes) (limit_in nodes)) ids)
-      controls-unstood =
-          ap (λ f. map f (without ids ((tree_of nodes).id c))) same ∙ go ids
-        where
-          same : control_in (tree_of new) (limit_in new) ≡ control_in (tree_of nodes) (limit_in nodes)
-          same =
-              ap (λ u. λ (q : ℕ × ℕ). let g : Control = record { id = q.0; parent = option_map (tree_of new).id (u q.1); limit = limit_in new q.1 } in g) ups
-              ∙ ap (λ i. λ (q : ℕ × ℕ). let g : Control = record { id = q.0; parent = option_map i ((tree_of nodes).up q.1); limit = limit_in new q.1 } in g) ids_same
-              ∙ ap (λ m. λ (q : ℕ × ℕ). let g : Control = record { id = q.0; parent = option_map (tree_of nodes).id ((tree_of nodes).up q.1); limit = m q.1 } in g) limits
-
-          go : (ps : List (ℕ × ℕ)) → map (control_in (tree_of nodes) (limit_in nodes)) (without ps ((tree_of nodes).id c)) ≡ filter (λ g. not (g.id == (tree_of nodes).id c)) (map (control_in (tree_of nodes) (limit_in nodes)) ps)
-          go [] = refl
-          go (q ∷ ps) = pick (q.0 == (tree_of nodes).id c) (go ps)
-            where
-              pick : (b : Bool) → map (control_in (tree_of nodes) (limit_in nodes)) (without ps ((tree_of nodes).id c)) ≡ filter (λ g. not (g.id == (tree_of nodes).id c)) (map (control_in (tree_of nodes) (limit_in nodes)) ps)
-                  → map (control_in (tree_of nodes) (limit_in nodes)) (cond (not b) (q ∷ without ps ((tree_of nodes).id c)) (without ps ((tree_of nodes).id c)))
-                  ≡ cond (not b) (control_in (tree_of nodes) (limit_in nodes) q ∷ filter (λ g. not (g.id == (tree_of nodes).id c)) (map (control_in (tree_of nodes) (limit_in nodes)) ps)) (filter (λ g. not (g.id == (tree_of nodes).id c)) (map (control_in (tree_of nodes) (limit_in nodes)) ps))
-              pick true rest = rest
-              pick false rest = ap (λ cs. control_in (tree_of nodes) (limit_in nodes) q ∷ cs) rest
+        go : (ps : List (ℕ × ℕ)) → map (control_in (tree_of nodes) (limit_in nodes)) (without ps ((tree_of nodes).id c)) ≡ filter (λ g. not (g.id == (tree_of nodes).id c)) (map (control_in (tree_of nodes) (limit_in nodes)) ps)
+        go [] = refl
+        go (q ∷ ps) = pick (q.0 == (tree_of nodes).id c) (go ps)
+          where
+            pick : (b : Bool) → map (control_in (tree_of nodes) (limit_in nodes)) (without ps ((tree_of nodes).id c)) ≡ filter (λ g. not (g.id == (tree_of nodes).id c)) (map (control_in (tree_of nodes) (limit_in nodes)) ps)
+                → map (control_in (tree_of nodes) (limit_in nodes)) (cond (not b) (q ∷ without ps ((tree_of nodes).id c)) (without ps ((tree_of nodes).id c)))
+                ≡ cond (not b) (control_in (tree_of nodes) (limit_in nodes) q ∷ filter (λ g. not (g.id == (tree_of nodes).id c)) (map (control_in (tree_of nodes) (limit_in nodes)) ps)) (filter (λ g. not (g.id == (tree_of nodes).id c)) (map (control_in (tree_of nodes) (limit_in nodes)) ps))
+            pick true rest = rest
+            pick false rest = ap (λ cs. control_in (tree_of nodes) (limit_in nodes) q ∷ cs) rest
 
 pub kept-id : (h : Home) (i : ℕ) → kept (record h { id = i }) ≡ option_map (λ (x : Home). record x { id = i }) (kept h)
 kept-id h i = go (h.stands || nat_lt 0 (h.live + h.zombies))
@@ -190,8 +216,7 @@ kept-id h i = go (h.stands || nat_lt 0 (h.live + h.zombies))
     go true = refl
     go false = refl
 
-module _ (nodes new : Slab Node) (c p : ℕ) (n : Node) (found : get nodes c ≡ Some n) (up : n.standing ≡ true) (parent : n.parent ≡ Some p) (is : new ≡ with_value nodes c (record n { standing = false }))
-    (w : IsTree (tree_of nodes)) (childless : (k : ℕ) → child_of (tree_of nodes) k ≢ Some c) (children : List (Option ℕ)) (ids : List (ℕ × ℕ)) (l : IsListed (tree_of nodes) children ids) where
+module _ {nodes new : Slab Node} {c p : ℕ} {n : Node} (removes : Removes nodes new c p n) (children : List (Option ℕ)) (ids : List (ℕ × ℕ)) (l : IsListed (tree_of nodes) children ids) where
   old_near : ℕ → ℕ → ℕ
   old_near = nearest (tree_of nodes).stand (tree_of nodes).up
 
@@ -201,59 +226,59 @@ module _ (nodes new : Slab Node) (c p : ℕ) (n : Node) (found : get nodes c ≡
   nearest-unstood : (m j : ℕ) → (tree_of nodes).level j ≡ m → nearest (tree_of new).stand (tree_of nodes).up m j ≡ redirect (old_near m j)
   unfolding old_near redirect
   nearest-unstood zero j low =
-      let d : j ≢ c = λ e. let h = up_levels (tree_of nodes) w.levels c p (up_c nodes new c p n found up parent is) in let q = ap (tree_of nodes).level e in omega (arith, h, q, low) in
+      let d : j ≢ c = λ e. let h = up_levels (tree_of nodes) removes.tree.levels c p (up_c removes) in let q = ap (tree_of nodes).level e in omega (arith, h, q, low) in
       sym (ap (λ (b : Bool). if b then p else j) (eqb-apart j c d))
   nearest-unstood (suc m) j low = elim (cases_eq j c) [
     | inl e ↦
         ap (λ i. nearest (tree_of new).stand (tree_of nodes).up (suc m) i) e
-        ∙ ap (λ (b : Bool). if b then c else option_map_or (nearest (tree_of new).stand (tree_of nodes).up m) ((tree_of nodes).up c) c) (stand_here nodes new c p n found up parent is)
-        ∙ ap (λ o. option_map_or (nearest (tree_of new).stand (tree_of nodes).up m) o c) (up_c nodes new c p n found up parent is)
+        ∙ ap (λ (b : Bool). if b then c else option_map_or (nearest (tree_of new).stand (tree_of nodes).up m) ((tree_of nodes).up c) c) (stand_here removes)
+        ∙ ap (λ o. option_map_or (nearest (tree_of new).stand (tree_of nodes).up m) o c) (up_c removes)
         ∙ p_itself m
-        ∙ sym (ap (λ i. redirect (old_near (suc m) i)) e ∙ ap (λ (b : Bool). redirect (if b then c else option_map_or (old_near m) ((tree_of nodes).up c) c)) (stood nodes new c p n found up parent is)
+        ∙ sym (ap (λ i. redirect (old_near (suc m) i)) e ∙ ap (λ (b : Bool). redirect (if b then c else option_map_or (old_near m) ((tree_of nodes).up c) c)) (stood removes)
         ∙ ap (λ (b : Bool). if b then p else c) (eq-eqb c c refl))
     | inr d ↦
-        ap (λ (b : Bool). if b then j else option_map_or (nearest (tree_of new).stand (tree_of nodes).up m) ((tree_of nodes).up j) j) (stand_others nodes new c p n found up parent is j d)
+        ap (λ (b : Bool). if b then j else option_map_or (nearest (tree_of new).stand (tree_of nodes).up m) ((tree_of nodes).up j) j) (stand_others removes j d)
         ∙ go (λ q e. nearest-unstood m q e) d ((tree_of nodes).stand j) ((tree_of nodes).up j) refl
   ]
     where
       p_itself : (m : ℕ) → nearest (tree_of new).stand (tree_of nodes).up m p ≡ p
       p_itself zero = refl
       p_itself (suc m) = ap (λ (b : Bool). if b then p else option_map_or (nearest (tree_of new).stand (tree_of nodes).up m) ((tree_of nodes).up p) p)
-          (stand_others nodes new c p n found up parent is p (p_apart nodes new c p n found up parent is w childless) ∙ p_stands nodes new c p n found up parent is w childless)
+          (stand_others removes p (p_apart removes) ∙ p_stands removes)
 
       go : ((q : ℕ) → (tree_of nodes).level q ≡ m → nearest (tree_of new).stand (tree_of nodes).up m q ≡ redirect (old_near m q)) → j ≢ c → (b : Bool) (o : Option ℕ) → (tree_of nodes).up j ≡ o
           → (if b then j else option_map_or (nearest (tree_of new).stand (tree_of nodes).up m) o j) ≡ redirect (if b then j else option_map_or (old_near m) o j)
       go rest d true o e = sym (ap (λ (b : Bool). if b then p else j) (eqb-apart j c d))
       go rest d false None e = sym (ap (λ (b : Bool). if b then p else j) (eqb-apart j c d))
-      go rest d false (Some q) e = rest q (let h = up_levels (tree_of nodes) w.levels j q e in omega (arith, h, low))
+      go rest d false (Some q) e = rest q (let h = up_levels (tree_of nodes) removes.tree.levels j q e in omega (arith, h, low))
 
   key-unstood : (k : ℕ) → standing_key (tree_of new) k ≡ redirect (standing_key (tree_of nodes) k)
   unfolding old_near
   key-unstood k =
-      ap (λ u. nearest (tree_of new).stand u ((tree_of new).level k) k) (ups nodes new c p n found up parent is)
-      ∙ ap (λ f. nearest (tree_of new).stand (tree_of nodes).up (f k) k) (levels nodes new c p n found up parent is)
+      ap (λ u. nearest (tree_of new).stand u ((tree_of new).level k) k) (ups removes)
+      ∙ ap (λ f. nearest (tree_of new).stand (tree_of nodes).up (f k) k) (levels removes)
       ∙ nearest-unstood ((tree_of nodes).level k) k refl
 
   pub home-unstood : (k : ℕ) → home_in new k ≡ option_and_then (handed_on ((tree_of nodes).id c) ((tree_of nodes).id p)) (home_in nodes k)
   unfolding redirect
   home-unstood k = elim (cases_eq k c) [
     | inl e ↦ ap (home_in new) e ∙ at_c ∙ sym (ap (λ i. option_and_then (handed_on ((tree_of nodes).id c) ((tree_of nodes).id p)) (home_in nodes i)) e)
-    | inr d ↦ ap (option_and_then (seen (tree_of new) k)) (others nodes new c p n found up parent is k d) ∙ other k d (get nodes k) refl
+    | inr d ↦ ap (option_and_then (seen (tree_of new) k)) (others removes k d) ∙ other k d (get nodes k) refl
   ]
     where
       id_k : (k : ℕ) → (tree_of new).id (standing_key (tree_of new) k) ≡ (tree_of nodes).id (redirect (standing_key (tree_of nodes) k))
-      id_k k = ap (λ f. f (standing_key (tree_of new) k)) (ids_same nodes new c p n found up parent is) ∙ ap (tree_of nodes).id (key-unstood k)
+      id_k k = ap (λ f. f (standing_key (tree_of new) k)) (ids_same removes) ∙ ap (tree_of nodes).id (key-unstood k)
 
       c_key : standing_key (tree_of nodes) c ≡ c
-      c_key = nearest-self (tree_of nodes) ((tree_of nodes).level c) c (stood nodes new c p n found up parent is)
+      c_key = nearest-self (tree_of nodes) ((tree_of nodes).level c) c (stood removes)
 
       at_c : home_in new c ≡ option_and_then (handed_on ((tree_of nodes).id c) ((tree_of nodes).id p)) (home_in nodes c)
       at_c =
           let h : Home = record { id = (tree_of nodes).id (standing_key (tree_of nodes) c); stands = n.standing; live = n.live; zombies = n.zombies } in
-          ap (option_and_then (seen (tree_of new) c)) (here nodes new c p n found up parent is)
+          ap (option_and_then (seen (tree_of new) c)) (here removes)
           ∙ ap (λ i. kept (record { id = i; stands = false; live = n.live; zombies = n.zombies })) (id_k c ∙ ap (λ s. (tree_of nodes).id (redirect s)) c_key ∙ ap (λ (b : Bool). (tree_of nodes).id (if b then p else c)) (eq-eqb c c refl))
-          ∙ sym (ap (λ o. option_and_then (handed_on ((tree_of nodes).id c) ((tree_of nodes).id p)) (option_and_then (seen (tree_of nodes) c) o)) found
-          ∙ ap (option_and_then (handed_on ((tree_of nodes).id c) ((tree_of nodes).id p))) (kept_standing h up)
+          ∙ sym (ap (λ o. option_and_then (handed_on ((tree_of nodes).id c) ((tree_of nodes).id p)) (option_and_then (seen (tree_of nodes) c) o)) removes.found
+          ∙ ap (option_and_then (handed_on ((tree_of nodes).id c) ((tree_of nodes).id p))) (kept_standing h removes.up)
           ∙ ap (λ (b : Bool). if b then kept (record h { id = (tree_of nodes).id p; stands = false }) else Some h) (eq-eqb h.id ((tree_of nodes).id c) (ap (tree_of nodes).id c_key)))
 
       other : (k : ℕ) → k ≢ c → (o : Option Node) → get nodes k ≡ o → option_and_then (seen (tree_of new) k) o ≡ option_and_then (handed_on ((tree_of nodes).id c) ((tree_of nodes).id p)) (option_and_then (seen (tree_of nodes) k) o)
@@ -272,7 +297,7 @@ module _ (nodes new : Slab Node) (c p : ℕ) (n : Node) (found : get nodes c ≡
             ]
         | inr s ↦
             let far : (tree_of nodes).id (standing_key (tree_of nodes) k) ≢ (tree_of nodes).id c = λ q. s (same_key (tree_of nodes) (limit_in nodes) children ids l (standing_key (tree_of nodes) k) c
-            (nearest_stands (tree_of nodes) w ((tree_of nodes).level k) k refl (ap is_some e)) (stood nodes new c p n found up parent is) q) in
+            (nearest_stands (tree_of nodes) removes.tree ((tree_of nodes).level k) k refl (ap is_some e)) (stood removes) q) in
             ap (λ i. kept (record h { id = i })) (id_k k ∙ ap (λ (b : Bool). (tree_of nodes).id (if b then p else standing_key (tree_of nodes) k)) (eqb-apart (standing_key (tree_of nodes) k) c s))
             ∙ elim (kept_cases h) [
               | inl some ↦ some

@@ -1,6 +1,5 @@
 -- What other numbers of tasks at one node change.
 use Rattle.std.proofs.Common.{◌≡◌, ◌≢◌, inl, inr, ℕ, zero, suc, ◌+◌, ◌<◌, ◌≤◌, ◌^◌, ◌==◌, Bool, true, false, ◌||◌, if◌then◌else◌, Option, Some, None, option_map, option_and_then, is_some, List, length, map, refl, sym, ap, subst, ◌∙◌, arith}
-use Rattle.std.specs.Prelude.{slice_index}
 use Rattle.std.specs.Option.{option_map_or}
 use Rattle.std.proofs.Math.Path.{fun_ext}
 use Rattle.std.proofs.lemmas.Bool.{cases_eq, eqb-true}
@@ -11,7 +10,7 @@ use Rattle.pids_charge.specs.declared.node.Node.{Node}
 use Rattle.pids_charge.specs.Sums.{sum_below}
 use Rattle.pids_charge.specs.Nodes.{Tree, tree_of, reaches, is_under, weight, left, HasLevels, live_in, tasks_in, total_in, all_in, IsTree}
 use Rattle.pids_charge.specs.Charges.{Home, Charges, home_at, ChangesHome}
-use Rattle.pids_charge.specs.Kept.{seen, control_in, charges_of, IsListed, IsCounted, IsKept, ChangesTasks, limit_in}
+use Rattle.pids_charge.specs.Kept.{seen, control_in, charges_of, IsCounted, ChangesTasks, limit_in}
 use Rattle.pids_charge.proofs.Climbs.{one_if}
 use Rattle.pids_charge.proofs.Sums.{sum-at, sum_le, sum_ge}
 use Rattle.pids_charge.proofs.Views.{home_at-is}
@@ -86,7 +85,7 @@ module _ (nodes : Slab Node) (k : ℕ) (n : Node) (found : get nodes k ≡ Some 
       omega (arith, e, a, own_tasks)
 
   -- one with a live task stands
-  pub live_stands : (totals : List ℕ) (at : Option ℕ) → IsCounted nodes totals at → 0 < n.live → (tree_of nodes).stand k ≡ true
+  pub live_stands : (totals : ℕ → ℕ) (at : Option ℕ) → IsCounted nodes totals at → 0 < n.live → (tree_of nodes).stand k ≡ true
   live_stands totals at w some = go n.standing (ap (λ o. option_map_or (λ (x : Node). x.standing) o false) found)
     where
       go : (b : Bool) → (tree_of nodes).stand k ≡ b → (tree_of nodes).stand k ≡ true
@@ -94,11 +93,26 @@ module _ (nodes : Slab Node) (k : ℕ) (n : Node) (found : get nodes k ≡ Some 
       go false e = absurd (let h = w.ended k e in let l = ap (λ o. option_map_or (λ (x : Node). x.live) o 0) found in omega (arith, h, l, some))
 
   -- one that was removed has no live task
-  pub none_live : (totals : List ℕ) (at : Option ℕ) → IsCounted nodes totals at → n.standing ≡ false → n.live ≡ 0
+  pub none_live : (totals : ℕ → ℕ) (at : Option ℕ) → IsCounted nodes totals at → n.standing ≡ false → n.live ≡ 0
   none_live totals at w gone =
       sym (ap (λ o. option_map_or (λ (x : Node). x.live) o 0) found) ∙ w.ended k (ap (λ o. option_map_or (λ (x : Node). x.standing) o false) found ∙ gone)
 
-module _ (nodes new : Slab Node) (k : ℕ) (n m : Node) (found : get nodes k ≡ Some n) (shape : bare m ≡ bare n) (is : new ≡ with_value nodes k m) where
+-- the node of key k is written, and keeps all but its tasks and its limit
+pub record Writes (nodes new : Slab Node) (k : ℕ) (n m : Node) : Type 0 where
+  pub found : get nodes k ≡ Some n
+  pub shape : bare m ≡ bare n
+  pub is : new ≡ with_value nodes k m
+
+module _ {nodes new : Slab Node} {k : ℕ} {n m : Node} (writes : Writes nodes new k n m) where
+  found : get nodes k ≡ Some n
+  found = writes.found
+
+  shape : bare m ≡ bare n
+  shape = writes.shape
+
+  is : new ≡ with_value nodes k m
+  is = writes.is
+
   updates : Updates nodes new k (Some m)
   updates = subst (λ x. Updates nodes x k (Some m)) (sym is) (Updates-with_value nodes k m (ap is_some found))
 
@@ -175,9 +189,9 @@ module _ (nodes new : Slab Node) (k : ℕ) (n m : Node) (found : get nodes k ≡
       go true e = omega (arith, e, equal)
       go false e = omega (arith, e)
 
-  module _ (at : Option ℕ) (totals : List ℕ) (w : IsTree (tree_of nodes)) (counted : IsCounted nodes totals at) where
+  module _ (at : Option ℕ) (totals : ℕ → ℕ) (w : IsTree (tree_of nodes)) (counted : IsCounted nodes totals at) where
     -- the totals on the way up have room
-    pub has_room : all_in nodes + 1 < 2 ^ 64 → (j : ℕ) → is_under (tree_of new) k j ≡ true → slice_index totals j + 1 < 2 ^ 64
+    pub has_room : all_in nodes + 1 < 2 ^ 64 → (j : ℕ) → is_under (tree_of new) k j ≡ true → totals j + 1 < 2 ^ 64
     has_room few j under =
         let u = sym (ap (λ (x : Tree). is_under x k j) tree-same) ∙ under in
         let on = reaches_there (tree_of nodes) w.levels ((tree_of nodes).level k) k j (ap is_some found) u in
@@ -185,7 +199,7 @@ module _ (nodes new : Slab Node) (k : ℕ) (n m : Node) (found : get nodes k ≡
         omega (arith, t, few, total_le nodes j)
 
     -- and something to take
-    pub has_some : 0 < n.live + n.zombies → (j : ℕ) → is_under (tree_of new) k j ≡ true → 0 < slice_index totals j
+    pub has_some : 0 < n.live + n.zombies → (j : ℕ) → is_under (tree_of new) k j ≡ true → 0 < totals j
     has_some some j under =
         let u = sym (ap (λ (x : Tree). is_under x k j) tree-same) ∙ under in
         let on = reaches_there (tree_of nodes) w.levels ((tree_of nodes).level k) k j (ap is_some found) u in
@@ -195,10 +209,10 @@ module _ (nodes new : Slab Node) (k : ℕ) (n m : Node) (found : get nodes k ≡
     pub weight-same : (j : ℕ) → weight (tree_of new) k j ≡ weight (tree_of nodes) k j
     weight-same j = ap (λ (x : Tree). weight x k j) tree-same
 
-  module _ (at : Option ℕ) (totals after : List ℕ) (w : IsCounted nodes totals at) where
+  module _ (at : Option ℕ) (totals after : ℕ → ℕ) (w : IsCounted nodes totals at) where
     -- totals that follow the change are the counts again
     pub IsCounted-written : (later : Option ℕ)
-        → ((j : ℕ) → ContainsKey nodes j → slice_index after j ≡ total_in new j)
+        → ((j : ℕ) → ContainsKey nodes j → after j ≡ total_in new j)
         → ((j : ℕ) → ContainsKey nodes j → (tree_of nodes).stand j ≡ false → left (tree_of nodes) later j ≡ 0 → 0 < total_in new j)
         → (n.standing ≡ false → m.live ≡ 0) → all_in new < 2 ^ 64 → IsCounted new after later
     IsCounted-written later counts filled ended few = record {
@@ -221,17 +235,6 @@ ChangesHome-tasks nodes new home change w ids after same = record {
   controls = ap (λ (x : Tree). map (control_in x (limit_in new)) ids) w.tree ∙ ap (λ (f : ℕ → Option ℕ). map (control_in (tree_of nodes) f) ids) (fun_ext w.limits);
   here = home_at-is new ids home ∙ ap (λ (x : Tree). option_and_then (seen x home) (get new home)) w.tree ∙ ap (option_and_then (seen (tree_of nodes) home)) w.here ∙ same;
   others = λ j differs. home_at-is new ids j ∙ ap (λ (x : Tree). option_and_then (seen x j) (get new j)) w.tree ∙ ap (option_and_then (seen (tree_of nodes) j)) (w.others j differs) ∙ sym (home_at-is nodes ids j);
-}
-
--- the invariant after it
-pub IsKept-tasks : (nodes new : Slab Node) (home : ℕ) (change : Node → Node) → ChangesTasks nodes new home change → (totals after : List ℕ) (children : List (Option ℕ)) (ids : List (ℕ × ℕ))
-    → IsKept nodes totals children ids → IsCounted new after None → length after ≡ length totals → IsKept new after children ids
-IsKept-tasks nodes new home change c totals after children ids w counted same = record {
-  tree = subst IsTree (sym c.tree) w.tree;
-  counted = counted;
-  listed = subst (λ x. IsListed x children ids) (sym c.tree) w.listed;
-  room = λ j on. let r = w.room j (sym (ap (λ (x : Tree). x.there j) c.tree) ∙ on) in (omega (arith, r.0, same), r.1);
-  small = w.small;
 }
 
 -- the same, told of the value that a contract sees

@@ -1,5 +1,5 @@
--- The view of the nodes, and what ties them to the totals, the lists of children and the ids.
-use Rattle.std.specs.Prelude.{◌≡◌, ◌≢◌, ℕ, zero, suc, ◌<◌, ◌≤◌, ◌^◌, nat_le, Bool, true, false, List, [], ◌∷◌, length, map, Option, Some, None, option_map, option_and_then, if◌then◌else◌, slice_index}
+-- The view of the nodes, and what ties them to the counters, the lists of children and the ids.
+use Rattle.std.specs.Prelude.{◌≡◌, ◌≢◌, ℕ, zero, suc, ◌<◌, ◌≤◌, ◌^◌, nat_le, Bool, true, false, List, [], ◌∷◌, length, map, Option, Some, None, option_map, option_and_then, if◌then◌else◌, slice_index_or}
 use Rattle.std.specs.Option.{option_map_or}
 use Rattle.std.specs.List.{AllByRecursion}
 use Rattle.slab.specs.Slab.{Slab, get, ContainsKey}
@@ -7,6 +7,7 @@ use Rattle.member_lists.specs.Owners.{owner_of}
 use Rattle.id_slab.specs.Ids.{key_of}
 use Rattle.pid_types.specs.declared.plain.Control.{Control}
 use Rattle.pids_charge.specs.declared.node.Node.{Node}
+use Rattle.pids_charge.specs.declared.counter.Counter.{Counter}
 use Rattle.pids_charge.specs.Nodes.{Tree, tree_of, left, live_in, total_in, all_in, IsTree}
 use Rattle.pids_charge.specs.Charges.{Home, Charges, kept}
 
@@ -54,19 +55,37 @@ pub record IsListed (t : Tree) (children : List (Option ℕ)) (ids : List (ℕ �
   pub entries : AllByRecursion (IsEntry t) ids
   pub listed : (k : ℕ) → t.stand k ≡ true → key_of ids (t.id k) ≡ Some k
 
+-- the counter at a key
+abbrev pub counter_at : List Counter → ℕ → Counter
+counter_at counters k = slice_index_or counters k (record { total = 0; limit = None; parent = None })
+
+abbrev pub total_at : List Counter → ℕ → ℕ
+total_at counters k = (counter_at counters k).total
+
+-- a node's counter has its limit and its parent
+pub record IsLinked (nodes : Slab Node) (counters : List Counter) (k : ℕ) : Type 0 where
+  pub room : k < length counters
+  pub limit : (counter_at counters k).limit ≡ limit_in nodes k
+  pub parent : (counter_at counters k).parent ≡ (tree_of nodes).up k
+
+-- each node that is there has its counter
+abbrev pub AreLinked : Slab Node → List Counter → Type 0
+AreLinked nodes counters = (k : ℕ) → ContainsKey nodes k → IsLinked nodes counters k
+
 -- each total is the count of the subtree, and what does not stand has zombies in it or below it, but perhaps what a walk is still
 -- to visit
-pub record IsCounted (nodes : Slab Node) (totals : List ℕ) (at : Option ℕ) : Type 0 where
-  pub counts : (k : ℕ) → ContainsKey nodes k → slice_index totals k ≡ total_in nodes k
+pub record IsCounted (nodes : Slab Node) (totals : ℕ → ℕ) (at : Option ℕ) : Type 0 where
+  pub counts : (k : ℕ) → ContainsKey nodes k → totals k ≡ total_in nodes k
   pub filled : (k : ℕ) → ContainsKey nodes k → (tree_of nodes).stand k ≡ false → left (tree_of nodes) at k ≡ 0 → 0 < total_in nodes k
   pub ended : (k : ℕ) → (tree_of nodes).stand k ≡ false → live_in nodes k ≡ 0
   pub few : all_in nodes < 2 ^ 64
 
-pub record IsKept (nodes : Slab Node) (totals : List ℕ) (children : List (Option ℕ)) (ids : List (ℕ × ℕ)) : Type 0 where
+pub record IsKept (nodes : Slab Node) (counters : List Counter) (children : List (Option ℕ)) (ids : List (ℕ × ℕ)) : Type 0 where
   pub tree : IsTree (tree_of nodes)
-  pub counted : IsCounted nodes totals None
+  pub counted : IsCounted nodes (total_at counters) None
+  pub linked : AreLinked nodes counters
   pub listed : IsListed (tree_of nodes) children ids
-  pub room : (k : ℕ) → ContainsKey nodes k → (k < length totals) × (k < length children)
+  pub room : (k : ℕ) → ContainsKey nodes k → k < length children
   pub small : length children ≤ 2 ^ 30
 
 -- the tasks of one node changed, and no group
@@ -84,11 +103,11 @@ pub record DropsEmpty (old new : Slab Node) : Type 0 where
   pub there : (k : ℕ) → ContainsKey new k → ContainsKey old k
 
 -- whether one task more would pass the limit of a node
-abbrev pub is_at_limit : Slab Node → List ℕ → ℕ → Bool
-is_at_limit nodes totals k = option_map_or (λ limit. nat_le limit (slice_index totals k)) (limit_in nodes k) false
+abbrev pub is_at_limit : Slab Node → (ℕ → ℕ) → ℕ → Bool
+is_at_limit nodes totals k = option_map_or (λ limit. nat_le limit (totals k)) (limit_in nodes k) false
 
 -- the nearest node from one up, at most so many steps, whose limit one task more would pass
-abbrev pub first_full : Slab Node → List ℕ → ℕ → ℕ → Option ℕ
+abbrev pub first_full : Slab Node → (ℕ → ℕ) → ℕ → ℕ → Option ℕ
 first_full nodes totals zero k = if is_at_limit nodes totals k then Some k else None
 first_full nodes totals (suc most) k =
     if is_at_limit nodes totals k then Some k else option_map_or (first_full nodes totals most) ((tree_of nodes).up k) None

@@ -18,6 +18,7 @@ ghost use Rattle.pids_charge.specs.Charges.{Home, home_at, stands, id_at, live_a
 ghost use Rattle.pids_charge.specs.Charges.{count as count_of, all_tasks, limit_of, charge_refusal, remove_refusal};
 ghost use Rattle.pids_charge.specs.Charges.{limit_refusal, kept, handed_on, moved, ChangesHome};
 
+mod counter;
 mod limits;
 mod node;
 mod room;
@@ -25,6 +26,7 @@ mod standing;
 mod tasks;
 mod walk;
 
+use counter::Counter;
 use id_slab::{Iter, RisingIds};
 use limits::{full_above, is_too_high};
 use member_lists::MemberLists;
@@ -68,10 +70,10 @@ impl From<AllocError> for ControlFault {
 ///
 /// `find` and `remove` cost a logarithm of the groups. A task that comes or goes costs a step for each group
 /// from its own to the root, 65 at most. All else costs a few reads. Only `new` and `make` take memory: some
-/// 100 bytes for each group.
+/// 120 bytes for each group.
 pub struct Controls {
     nodes: Slab<Node>,
-    totals: Vec<u64>,
+    counters: Vec<Counter>,
     children: MemberLists,
     ids: RisingIds,
 }
@@ -81,7 +83,7 @@ impl Drop for Controls {
     fn drop(self) {
         let Controls {
             nodes: _,
-            totals: _,
+            counters: _,
             children: _,
             ids: _,
         } = self;
@@ -97,7 +99,7 @@ impl Model for Controls {
 
     ghost view = { λ a. charges_of a.nodes a.ids };
 
-    ghost invariant = { λ a. IsKept a.nodes a.totals.items a.children a.ids };
+    ghost invariant = { λ a. IsKept a.nodes a.counters.items a.children a.ids };
 }
 
 impl Controls {
@@ -108,16 +110,16 @@ impl Controls {
         ensures none { IfOk result (λ v. all_tasks v ≡ 0) }
     {
         let mut nodes = Slab::new(alloc);
-        let mut totals = Vec::new(alloc);
+        let mut counters = Vec::new(alloc);
         let mut children = MemberLists::new(alloc);
         let mut ids = RisingIds::new(alloc);
-        totals.push(0)?;
+        counters.push(Counter::new(None))?;
         children.grow()?;
         ids.push(0, 0)?;
         nodes.insert(Node::new(0, None, 0))?;
         Ok(Controls {
             nodes,
-            totals,
+            counters,
             children,
             ids,
         })
@@ -144,11 +146,11 @@ impl Controls {
         if level > DEEPEST_CONTROL {
             return Err(ControlFault::ControlDepth);
         }
-        let key = make_room(&mut self.nodes, &mut self.totals, &mut self.children)?;
+        let key = make_room(&mut self.nodes, &mut self.counters, &mut self.children)?;
         self.ids.push(stamp, key)?;
         self.nodes
             .insert_reserved(Node::new(stamp, Some(parent), level));
-        self.totals[key as usize] = 0;
+        self.counters[key as usize] = Counter::new(Some(parent));
         self.children.add(key, parent);
         Ok(key)
     }
@@ -181,7 +183,7 @@ impl Controls {
         self.children.remove(c);
         let standing = false;
         set_node(&mut self.nodes, c, Node { standing, ..node });
-        drop_empty(&mut self.nodes, &self.totals, c);
+        drop_empty(&mut self.nodes, &self.counters, c);
         Ok(())
     }
 
@@ -203,6 +205,7 @@ impl Controls {
             return Err(Refusal::BadLimit);
         }
         set_node(&mut self.nodes, c, Node { limit, ..node });
+        self.counters[c as usize].limit = limit;
         Ok(())
     }
 
@@ -212,7 +215,7 @@ impl Controls {
         requires { stands self.now home ≡ true }
         ensures { result_err result ≡ charge_refusal self.now (id_at self.now home) }
     {
-        match full_above(&self.nodes, self.totals.as_slice(), home) {
+        match full_above(&self.nodes, self.counters.as_slice(), home) {
             Some(key) => Err(Refusal::PidsLimit(node_at(&self.nodes, key).id)),
             None => Ok(()),
         }
@@ -276,7 +279,7 @@ impl Controls {
         requires { stands self.now c ≡ true }
         ensures { result ≡ count_of self.now (id_at self.now c) }
     {
-        self.totals[c as usize]
+        self.counters[c as usize].total
     }
 
     /// How many control groups there are, the root group too. It costs one read.
@@ -305,7 +308,7 @@ impl Controls {
             (home_at self.old home)) }
         ensures tasks { all_tasks self.new ≡ all_tasks self.old + 1 }
     {
-        put_live(&mut self.nodes, &mut self.totals, home);
+        put_live(&mut self.nodes, &mut self.counters, home);
     }
 
     /// A live task became a zombie.
@@ -315,7 +318,7 @@ impl Controls {
             (λ (h : Home). record h { live = h.live - 1; zombies = h.zombies + 1 }) (home_at self.old home)) }
         ensures tasks { all_tasks self.new ≡ all_tasks self.old }
     {
-        end_live(&mut self.nodes, &self.totals, home);
+        end_live(&mut self.nodes, &self.counters, home);
     }
 
     /// A zombie is gone. With the last task of a removed group its key is gone too.
@@ -325,8 +328,8 @@ impl Controls {
             (λ (h : Home). kept (record h { zombies = h.zombies - 1 })) (home_at self.old home)) }
         ensures tasks { all_tasks self.new + 1 ≡ all_tasks self.old }
     {
-        take_zombie(&mut self.nodes, &mut self.totals, home);
-        drop_empty(&mut self.nodes, &self.totals, home);
+        take_zombie(&mut self.nodes, &mut self.counters, home);
+        drop_empty(&mut self.nodes, &self.counters, home);
     }
 
     /// A live task goes to another control group, or to the one that it is in. No limit blocks it: the
@@ -338,7 +341,7 @@ impl Controls {
         ensures homes { (k : ℕ) → home_at self.new k ≡ option_map (moved from to k) (home_at self.old k) }
         ensures tasks { all_tasks self.new ≡ all_tasks self.old }
     {
-        take_live(&mut self.nodes, &mut self.totals, from);
-        put_live(&mut self.nodes, &mut self.totals, to);
+        take_live(&mut self.nodes, &mut self.counters, from);
+        put_live(&mut self.nodes, &mut self.counters, to);
     }
 }

@@ -1,77 +1,80 @@
 //! Tasks that come to a node and go: its own numbers, and the totals above it.
 
-ghost use Rattle.std.specs.Prelude.{◌≡◌, ℕ, ◌+◌, ◌-◌, ◌<◌, ◌^◌, length, Some, None, true};
+ghost use Rattle.std.specs.Prelude.{◌≡◌, ◌+◌, ◌-◌, ◌<◌, ◌^◌, Some, None, true};
 ghost use Rattle.slab.specs.Slab.{ContainsKey};
 ghost use Rattle.pids_charge.specs.declared.node.Node.{Node};
 ghost use Rattle.pids_charge.specs.Nodes.{Tree, tree_of, all_in, live_in, zombies_in, IsTree};
-ghost use Rattle.pids_charge.specs.Kept.{IsCounted, ChangesTasks, DropsEmpty};
+ghost use Rattle.pids_charge.specs.Kept.{IsCounted, ChangesTasks, DropsEmpty, total_at, AreLinked};
 
+use crate::counter::Counter;
 use crate::node::{Node, node_at, set_node};
 use crate::walk::{lower, raise};
 use pid_types::keys::ControlKey;
 use slab::Slab;
 
 /// A live task comes.
-pub(crate) fn put_live(nodes: &mut Slab<Node>, totals: &mut Vec<u64>, home: ControlKey)
+pub(crate) fn put_live(nodes: &mut Slab<Node>, counters: &mut Vec<Counter>, home: ControlKey)
     requires tree { IsTree (tree_of nodes.old) }
-    requires counted { IsCounted nodes.old totals.old.items None }
-    requires room { (k : ℕ) → ContainsKey nodes.old k → k < length totals.old.items }
+    requires counted { IsCounted nodes.old (total_at counters.old.items) None }
+    requires linked { AreLinked nodes.old counters.old.items }
     requires stands { (tree_of nodes.old).stand home ≡ true }
     requires few { all_in nodes.old + 1 < 2 ^ 64 }
     ensures changes { ChangesTasks nodes.old nodes.new home (λ (n : Node). record n { live = n.live + 1 }) }
     ensures all { all_in nodes.new ≡ all_in nodes.old + 1 }
-    ensures counted { IsCounted nodes.new totals.new.items None }
-    ensures len { length totals.new.items ≡ length totals.old.items }
+    ensures counted { IsCounted nodes.new (total_at counters.new.items) None }
+    ensures linked { AreLinked nodes.new counters.new.items }
 {
     let node = node_at(nodes, home);
     let live = node.live + 1;
     set_node(nodes, home, Node { live, ..node });
-    raise(nodes, totals, home);
+    raise(nodes, counters, home);
 }
 
 /// A live task goes.
-pub(crate) fn take_live(nodes: &mut Slab<Node>, totals: &mut Vec<u64>, home: ControlKey)
+pub(crate) fn take_live(nodes: &mut Slab<Node>, counters: &mut Vec<Counter>, home: ControlKey)
     requires tree { IsTree (tree_of nodes.old) }
-    requires counted { IsCounted nodes.old totals.old.items None }
-    requires room { (k : ℕ) → ContainsKey nodes.old k → k < length totals.old.items }
+    requires counted { IsCounted nodes.old (total_at counters.old.items) None }
+    requires linked { AreLinked nodes.old counters.old.items }
     requires some { 0 < live_in nodes.old home }
     ensures changes { ChangesTasks nodes.old nodes.new home (λ (n : Node). record n { live = n.live - 1 }) }
-    ensures counted { IsCounted nodes.new totals.new.items None }
+    ensures counted { IsCounted nodes.new (total_at counters.new.items) None }
     ensures all { all_in nodes.new + 1 ≡ all_in nodes.old }
-    ensures len { length totals.new.items ≡ length totals.old.items }
+    ensures linked { AreLinked nodes.new counters.new.items }
 {
     let node = node_at(nodes, home);
     let live = node.live - 1;
     set_node(nodes, home, Node { live, ..node });
-    lower(nodes, totals, home);
+    lower(nodes, counters, home);
 }
 
 /// A zombie goes. What does not stand may then have no tasks, on the way up from there.
-pub(crate) fn take_zombie(nodes: &mut Slab<Node>, totals: &mut Vec<u64>, home: ControlKey)
+pub(crate) fn take_zombie(nodes: &mut Slab<Node>, counters: &mut Vec<Counter>, home: ControlKey)
     requires tree { IsTree (tree_of nodes.old) }
-    requires counted { IsCounted nodes.old totals.old.items None }
-    requires room { (k : ℕ) → ContainsKey nodes.old k → k < length totals.old.items }
+    requires counted { IsCounted nodes.old (total_at counters.old.items) None }
+    requires linked { AreLinked nodes.old counters.old.items }
     requires some { 0 < zombies_in nodes.old home }
     ensures changes { ChangesTasks nodes.old nodes.new home (λ (n : Node). record n { zombies = n.zombies - 1 }) }
     ensures all { all_in nodes.new + 1 ≡ all_in nodes.old }
-    ensures counted { IsCounted nodes.new totals.new.items (Some home) }
-    ensures len { length totals.new.items ≡ length totals.old.items }
+    ensures counted { IsCounted nodes.new (total_at counters.new.items) (Some home) }
+    ensures linked { AreLinked nodes.new counters.new.items }
 {
     let node = node_at(nodes, home);
     let zombies = node.zombies - 1;
     set_node(nodes, home, Node { zombies, ..node });
-    lower(nodes, totals, home);
+    lower(nodes, counters, home);
 }
 
 /// A live task becomes a zombie.
-pub(crate) fn end_live(nodes: &mut Slab<Node>, totals: &Vec<u64>, home: ControlKey)
+pub(crate) fn end_live(nodes: &mut Slab<Node>, counters: &Vec<Counter>, home: ControlKey)
     requires tree { IsTree (tree_of nodes.old) }
-    requires counted { IsCounted nodes.old totals.now.items None }
+    requires counted { IsCounted nodes.old (total_at counters.now.items) None }
+    requires linked { AreLinked nodes.old counters.now.items }
     requires some { 0 < live_in nodes.old home }
     ensures changes { ChangesTasks nodes.old nodes.new home (λ
         (n : Node). record n { live = n.live - 1; zombies = n.zombies + 1 }) }
     ensures all { all_in nodes.new ≡ all_in nodes.old }
-    ensures counted { IsCounted nodes.new totals.now.items None }
+    ensures counted { IsCounted nodes.new (total_at counters.now.items) None }
+    ensures linked { AreLinked nodes.new counters.now.items }
 {
     let node = node_at(nodes, home);
     let live = node.live - 1;
@@ -88,20 +91,21 @@ pub(crate) fn end_live(nodes: &mut Slab<Node>, totals: &Vec<u64>, home: ControlK
 }
 
 /// Drops what does not stand and has no tasks left, from a node up.
-pub(crate) fn drop_empty(nodes: &mut Slab<Node>, totals: &Vec<u64>, from: ControlKey)
+pub(crate) fn drop_empty(nodes: &mut Slab<Node>, counters: &Vec<Counter>, from: ControlKey)
     requires tree { IsTree (tree_of nodes.old) }
-    requires counted { IsCounted nodes.old totals.now.items (Some from) }
-    requires room { (k : ℕ) → ContainsKey nodes.old k → k < length totals.now.items }
+    requires counted { IsCounted nodes.old (total_at counters.now.items) (Some from) }
+    requires linked { AreLinked nodes.old counters.now.items }
     requires there { ContainsKey nodes.old from }
     ensures drops { DropsEmpty nodes.old nodes.new }
     ensures all { all_in nodes.new ≡ all_in nodes.old }
     ensures tree { IsTree (tree_of nodes.new) }
-    ensures counted { IsCounted nodes.new totals.now.items None }
+    ensures counted { IsCounted nodes.new (total_at counters.now.items) None }
+    ensures linked { AreLinked nodes.new counters.now.items }
 {
     let mut at = Some(from);
     while let Some(key) = at {
         let node = node_at(nodes, key);
-        if node.standing || totals[key as usize] > 0 {
+        if node.standing || counters[key as usize].total > 0 {
             return;
         }
         nodes.try_remove(key as usize);

@@ -1,5 +1,6 @@
-use Rattle.std.proofs.Common.{arith, sym, ap, ◌∙◌}
+use Rattle.std.proofs.Common.{None, arith, sym, ap, ◌∙◌}
 use Rattle.std.proofs.lemmas.List.{get_or_read}
+use Rattle.pids_charge.specs.declared.counter.Counter.{Counter}
 use Rattle.pids_charge.specs.Nodes.{tree_of}
 use Rattle.pids_charge.specs.Charges.{Charges, count}
 use Rattle.pids_charge.proofs.Views as views
@@ -9,13 +10,14 @@ use Rattle.pids_charge.proofs.Controls.count.Goals as goal
 pub index-requires : goal.index-requires
 index-requires c =
     let s = views.stand_in c.self.inside.nodes c.self.inside.ids c.args.self.now c.self.view_is c.args.c c.requires in
-    omega (arith, (c.self.invariant.room c.args.c (views.there c.self.inside.nodes c.args.c s)).0)
+    let room = (c.self.invariant.linked c.args.c (views.there c.self.inside.nodes c.args.c s)).room in
+    omega (arith, room)
 
 pub returns : goal.returns
 returns c =
     let s = views.stand_in c.self.inside.nodes c.self.inside.ids c.args.self.now c.self.view_is c.args.c c.requires in
     let on = views.there c.self.inside.nodes c.args.c s in
-    get_or_read c.self.inside.totals.items c.args.c c.index.result.now (c.self.invariant.room c.args.c on).0 c.index.ensures 0
+    ap (λ (x : Counter). x.total) (get_or_read c.self.inside.counters.items c.args.c c.index.result.now (c.self.invariant.linked c.args.c on).room c.index.ensures (record { total = 0; limit = None; parent = None }))
     ∙ c.self.invariant.counted.counts c.args.c on
     ∙ sym (ap (count c.args.self.now) (views.id_in c.self.inside.nodes c.self.inside.ids c.args.self.now c.self.view_is c.args.c c.requires)
     ∙ sym (ap (λ (v : Charges). count v ((tree_of c.self.inside.nodes).id c.args.c)) c.self.view_is)

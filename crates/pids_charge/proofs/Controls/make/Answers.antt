@@ -1,4 +1,4 @@
-use Rattle.std.proofs.Common.{◌≡◌, ◌+◌, ◌<◌, ◌≤◌, ℕ, suc, true, Some, None, Option, [], ◌∷◌, ◌++◌, length, set, map, refl, sym, ap, subst, ◌∙◌, arith}
+use Rattle.std.proofs.Common.{◌≡◌, ◌+◌, ◌<◌, ℕ, suc, Some, None, Option, [], ◌∷◌, ◌++◌, length, set, map, refl, sym, ap, subst, ◌∙◌, arith}
 use Rattle.std.specs.List.{AllByRecursion}
 use Rattle.std.proofs.lemmas.Result.{err_from_is_err_and}
 use Rattle.std.proofs.lemmas.List.{length-set}
@@ -10,24 +10,51 @@ use Rattle.pids_charge.specs.Nodes.{tree_of}
 use Rattle.pids_charge.specs.Charges.{Charges, home_at, id_at, all_tasks}
 use Rattle.pids_charge.specs.Kept.{charges_of, control_in, limit_in, IsKept}
 use Rattle.pids_charge.proofs.Views as views
+use Rattle.pids_charge.proofs.Linked as linked
+use Rattle.pids_charge.proofs.Made.{Makes, node}
 use Rattle.pids_charge.proofs.Made as made
 use Rattle.pids_charge.proofs.Controls.make.Goals as goal
+use Rattle.pids_charge.proofs.Controls.make.Goals.{After-node_at-level, After-insert_reserved}
+
+-- the path of the control group above is as long as its level says
+long : (c : After-node_at-level) → length (control_path c.args.self.now.controls (id_at c.args.self.now c.args.parent)) ≡ suc ((tree_of c.self.inside.nodes).level c.args.parent)
+long c =
+    let s = views.stand_in c.self.inside.nodes c.self.inside.ids c.args.self.now c.self.view_is c.args.parent c.requires.stands in
+    ap (λ i. length (control_path c.args.self.now.controls i)) (views.id_in c.self.inside.nodes c.self.inside.ids c.args.self.now c.self.view_is c.args.parent c.requires.stands)
+    ∙ sym (ap (λ (v : Charges). length (control_path v.controls ((tree_of c.self.inside.nodes).id c.args.parent))) c.self.view_is)
+    ∙ made.length-path c.self.inside.nodes c.self.inside.children c.self.inside.ids c.self.invariant.tree c.self.invariant.listed c.args.parent s
+
+-- and its level is read
+level : (c : After-node_at-level) → (tree_of c.self.inside.nodes).level c.args.parent ≡ c.node_at-level.result.level
+level c = views.field-is (λ (n : Node). n.level) 0 c.self.inside.nodes c.args.parent c.node_at-level.result c.node_at-level.ensures
+
+-- the new control group
+makes : (c : After-insert_reserved) → Makes c.self.inside.nodes c.insert_reserved.new.self c.in_ok-key.key c.args.parent c.args.stamp (c.node_at-level.result.level + 1)
+makes c =
+    let level = views.field-is (λ (n : Node). n.level) 0 c.self.inside.nodes c.args.parent c.node_at-level.result c.node_at-level.ensures in
+    let kv : c.insert_reserved.result ≡ c.in_ok-key.key = c.insert_reserved.ensures.key ∙ sym c.in_ok-key.ensures.key in
+    record {
+      old = ap (get c.self.inside.nodes) (sym kv) ∙ sym (ap (λ (s : Slab Node). get s c.insert_reserved.result) c.in_ok-key.ensures.nodes) ∙ c.insert_reserved.ensures.was_vacant;
+      updates = subst (λ k. Updates c.self.inside.nodes c.insert_reserved.new.self k (Some (node c.args.stamp c.args.parent (c.node_at-level.result.level + 1)))) kv
+          (made.updates-from c.self.inside.nodes c.make_room.new.nodes c.insert_reserved.new.self c.make_room.new.nodes.capacity c.insert_reserved.result _ c.in_ok-key.ensures.nodes
+          (subst (λ n. Updates c.make_room.new.nodes c.insert_reserved.new.self c.insert_reserved.result (Some n)) c.new.ensures c.insert_reserved.ensures.updates));
+      tree = c.self.invariant.tree;
+      stands = views.stand_in c.self.inside.nodes c.self.inside.ids c.args.self.now c.self.view_is c.args.parent c.requires.stands;
+      next = omega (arith, level);
+      low = omega (arith, c.if-level-gt-DEEPEST_CONTROL.false);
+    }
 
 pub node_at-level-requires : goal.node_at-level-requires
 node_at-level-requires c = views.there c.self.inside.nodes c.args.parent (views.stand_in c.self.inside.nodes c.self.inside.ids c.args.self.now c.self.view_is c.args.parent c.requires.stands)
 
 pub returns-then-level-gt-DEEPEST_CONTROL-clause-deep : goal.returns-then-level-gt-DEEPEST_CONTROL-clause-deep
 returns-then-level-gt-DEEPEST_CONTROL-clause-deep c =
-    let s = views.stand_in c.self.inside.nodes c.self.inside.ids c.args.self.now c.self.view_is c.args.parent c.requires.stands in
-    let long : length (control_path c.args.self.now.controls (id_at c.args.self.now c.args.parent)) ≡ suc ((tree_of c.self.inside.nodes).level c.args.parent) =
-    ap (λ i. length (control_path c.args.self.now.controls i)) (views.id_in c.self.inside.nodes c.self.inside.ids c.args.self.now c.self.view_is c.args.parent c.requires.stands)
-    ∙ sym (ap (λ (v : Charges). length (control_path v.controls ((tree_of c.self.inside.nodes).id c.args.parent))) c.self.view_is)
-    ∙ made.length-path c.self.inside.nodes c.self.inside.children c.self.inside.ids c.self.invariant.tree c.self.invariant.listed c.args.parent s in
-    let level = views.field-is (λ (n : Node). n.level) 0 c.self.inside.nodes c.args.parent c.node_at-level.result c.node_at-level.ensures in
+    let long = long (goal.at.returns-then-level-gt-DEEPEST_CONTROL-clause-deep c).After-node_at-level in
+    let level = level (goal.at.returns-then-level-gt-DEEPEST_CONTROL-clause-deep c).After-node_at-level in
     (λ e. omega (arith, long, level, c.if-level-gt-DEEPEST_CONTROL.true), λ h. refl)
 
 pub invariant_of-self : goal.invariant_of-self
-invariant_of-self c = made.IsKept-room c.self.inside.nodes c.make_room.new.nodes c.make_room.new.nodes.capacity c.in_err-key.ensures.nodes c.self.inside.totals.items c.make_room.new.totals.items c.self.inside.children c.make_room.new.children c.self.inside.ids c.self.invariant c.in_err-key.ensures.totals c.in_err-key.ensures.children c.in_err-key.ensures.longer c.in_err-key.ensures.more c.in_err-key.ensures.small
+invariant_of-self c = made.IsKept-room c.self.inside.nodes c.make_room.new.nodes c.make_room.new.nodes.capacity c.in_err-key.ensures.nodes c.self.inside.counters.items c.make_room.new.counters.items c.self.inside.children c.make_room.new.children c.self.inside.ids c.self.invariant c.in_err-key.ensures.counters c.in_err-key.ensures.children c.in_err-key.ensures.longer c.in_err-key.ensures.more c.in_err-key.ensures.small
 
 pub returns-in_err-key-clause-err : goal.returns-in_err-key-clause-err
 returns-in_err-key-clause-err c =
@@ -36,12 +63,8 @@ returns-in_err-key-clause-err c =
 
 pub returns-in_err-key-clause-deep : goal.returns-in_err-key-clause-deep
 returns-in_err-key-clause-deep c =
-    let s = views.stand_in c.self.inside.nodes c.self.inside.ids c.args.self.now c.self.view_is c.args.parent c.requires.stands in
-    let long : length (control_path c.args.self.now.controls (id_at c.args.self.now c.args.parent)) ≡ suc ((tree_of c.self.inside.nodes).level c.args.parent) =
-    ap (λ i. length (control_path c.args.self.now.controls i)) (views.id_in c.self.inside.nodes c.self.inside.ids c.args.self.now c.self.view_is c.args.parent c.requires.stands)
-    ∙ sym (ap (λ (v : Charges). length (control_path v.controls ((tree_of c.self.inside.nodes).id c.args.parent))) c.self.view_is)
-    ∙ made.length-path c.self.inside.nodes c.self.inside.children c.self.inside.ids c.self.invariant.tree c.self.invariant.listed c.args.parent s in
-    let level = views.field-is (λ (n : Node). n.level) 0 c.self.inside.nodes c.args.parent c.node_at-level.result c.node_at-level.ensures in
+    let long = long (goal.at.returns-in_err-key-clause-deep c).After-node_at-level in
+    let level = level (goal.at.returns-in_err-key-clause-deep c).After-node_at-level in
     let p = err_from_is_err_and c.from_residual.result c.from_residual.ensures.1 in
     rw (p.1, p.2) (λ e. absurd (cc), λ h. absurd (omega (arith, h, long, level, c.if-level-gt-DEEPEST_CONTROL.false)))
 
@@ -49,7 +72,7 @@ pub push-requires : goal.push-requires
 push-requires c = made.below-ids (tree_of c.self.inside.nodes) (limit_in c.self.inside.nodes) c.args.stamp c.self.inside.ids (subst (λ (v : Charges). AllByRecursion (λ (g : Control). g.id < c.args.stamp) v.controls) (sym c.self.view_is) c.requires.above)
 
 pub invariant_of-self-in_err-push : goal.invariant_of-self-in_err-push
-invariant_of-self-in_err-push c = rw c.in_err-push.ensures.err (made.IsKept-room c.self.inside.nodes c.make_room.new.nodes c.make_room.new.nodes.capacity c.in_ok-key.ensures.nodes c.self.inside.totals.items c.make_room.new.totals.items c.self.inside.children c.make_room.new.children c.self.inside.ids c.self.invariant c.in_ok-key.ensures.totals c.in_ok-key.ensures.children c.in_ok-key.ensures.longer c.in_ok-key.ensures.more c.in_ok-key.ensures.small)
+invariant_of-self-in_err-push c = rw c.in_err-push.ensures.err (made.IsKept-room c.self.inside.nodes c.make_room.new.nodes c.make_room.new.nodes.capacity c.in_ok-key.ensures.nodes c.self.inside.counters.items c.make_room.new.counters.items c.self.inside.children c.make_room.new.children c.self.inside.ids c.self.invariant c.in_ok-key.ensures.counters c.in_ok-key.ensures.children c.in_ok-key.ensures.longer c.in_ok-key.ensures.more c.in_ok-key.ensures.small)
 
 pub returns-in_err-push-clause-err : goal.returns-in_err-push-clause-err
 returns-in_err-push-clause-err c =
@@ -58,12 +81,8 @@ returns-in_err-push-clause-err c =
 
 pub returns-in_err-push-clause-deep : goal.returns-in_err-push-clause-deep
 returns-in_err-push-clause-deep c =
-    let s = views.stand_in c.self.inside.nodes c.self.inside.ids c.args.self.now c.self.view_is c.args.parent c.requires.stands in
-    let long : length (control_path c.args.self.now.controls (id_at c.args.self.now c.args.parent)) ≡ suc ((tree_of c.self.inside.nodes).level c.args.parent) =
-    ap (λ i. length (control_path c.args.self.now.controls i)) (views.id_in c.self.inside.nodes c.self.inside.ids c.args.self.now c.self.view_is c.args.parent c.requires.stands)
-    ∙ sym (ap (λ (v : Charges). length (control_path v.controls ((tree_of c.self.inside.nodes).id c.args.parent))) c.self.view_is)
-    ∙ made.length-path c.self.inside.nodes c.self.inside.children c.self.inside.ids c.self.invariant.tree c.self.invariant.listed c.args.parent s in
-    let level = views.field-is (λ (n : Node). n.level) 0 c.self.inside.nodes c.args.parent c.node_at-level.result c.node_at-level.ensures in
+    let long = long (goal.at.returns-in_err-push-clause-deep c).After-node_at-level in
+    let level = level (goal.at.returns-in_err-push-clause-deep c).After-node_at-level in
     let p = err_from_is_err_and c.from_residual-in_err-push.result c.from_residual-in_err-push.ensures.1 in
     rw (p.1, p.2) (λ e. absurd (cc), λ h. absurd (omega (arith, h, long, level, c.if-level-gt-DEEPEST_CONTROL.false)))
 
@@ -75,135 +94,54 @@ add-requires-clause-free c =
 
 pub invariant_of-self-2 : goal.invariant_of-self-2
 invariant_of-self-2 c =
-    let s = views.stand_in c.self.inside.nodes c.self.inside.ids c.args.self.now c.self.view_is c.args.parent c.requires.stands in
-    let long : length (control_path c.args.self.now.controls (id_at c.args.self.now c.args.parent)) ≡ suc ((tree_of c.self.inside.nodes).level c.args.parent) =
-    ap (λ i. length (control_path c.args.self.now.controls i)) (views.id_in c.self.inside.nodes c.self.inside.ids c.args.self.now c.self.view_is c.args.parent c.requires.stands)
-    ∙ sym (ap (λ (v : Charges). length (control_path v.controls ((tree_of c.self.inside.nodes).id c.args.parent))) c.self.view_is)
-    ∙ made.length-path c.self.inside.nodes c.self.inside.children c.self.inside.ids c.self.invariant.tree c.self.invariant.listed c.args.parent s in
-    let level = views.field-is (λ (n : Node). n.level) 0 c.self.inside.nodes c.args.parent c.node_at-level.result c.node_at-level.ensures in
-    let kv : c.insert_reserved.result ≡ c.in_ok-key.key = c.insert_reserved.ensures.key ∙ sym c.in_ok-key.ensures.key in
-    let u : Updates c.self.inside.nodes c.insert_reserved.new.self c.in_ok-key.key (Some (record { id = c.args.stamp; parent = Some c.args.parent; limit = None; level = c.node_at-level.result.level + 1; standing = true; live = 0; zombies = 0 })) =
-    subst (λ k. Updates c.self.inside.nodes c.insert_reserved.new.self k (Some (record { id = c.args.stamp; parent = Some c.args.parent; limit = None; level = c.node_at-level.result.level + 1; standing = true; live = 0; zombies = 0 }))) kv
-    (made.updates-from c.self.inside.nodes c.make_room.new.nodes c.insert_reserved.new.self c.make_room.new.nodes.capacity c.insert_reserved.result _ c.in_ok-key.ensures.nodes
-    (subst (λ n. Updates c.make_room.new.nodes c.insert_reserved.new.self c.insert_reserved.result (Some n)) c.new.ensures c.insert_reserved.ensures.updates)) in
-    let old : get c.self.inside.nodes c.in_ok-key.key ≡ None = ap (get c.self.inside.nodes) (sym kv) ∙ sym (ap (λ (s : Slab Node). get s c.insert_reserved.result) c.in_ok-key.ensures.nodes) ∙ c.insert_reserved.ensures.was_vacant in
-    let next : c.node_at-level.result.level + 1 ≡ (tree_of c.self.inside.nodes).level c.args.parent + 1 = omega (arith, level) in
-    let low : c.node_at-level.result.level + 1 ≤ 64 = omega (arith, c.if-level-gt-DEEPEST_CONTROL.false) in
-    let r = made.IsKept-room c.self.inside.nodes c.make_room.new.nodes c.make_room.new.nodes.capacity c.in_ok-key.ensures.nodes c.self.inside.totals.items c.make_room.new.totals.items c.self.inside.children c.make_room.new.children c.self.inside.ids c.self.invariant c.in_ok-key.ensures.totals c.in_ok-key.ensures.children c.in_ok-key.ensures.longer c.in_ok-key.ensures.more c.in_ok-key.ensures.small in
-    subst (λ ids. IsKept c.insert_reserved.new.self (set c.make_room.new.totals.items c.in_ok-key.key 0) c.add.new.self ids) (sym c.in_ok-push.ensures.ok)
-    (subst (λ children. IsKept c.insert_reserved.new.self (set c.make_room.new.totals.items c.in_ok-key.key 0) children (c.self.inside.ids ++ (c.args.stamp, c.in_ok-key.key) ∷ [])) (sym c.add.ensures)
+    let m = makes (goal.at.invariant_of-self-2 c).After-insert_reserved in
+    subst (λ x. IsKept c.insert_reserved.new.self (set c.make_room.new.counters.items c.in_ok-key.key x) c.add.new.self c.push.new.self) (sym c.new-2.ensures)
+    (subst (λ ids. IsKept c.insert_reserved.new.self (set c.make_room.new.counters.items c.in_ok-key.key (record { total = 0; limit = None; parent = Some c.args.parent })) c.add.new.self ids) (sym c.in_ok-push.ensures.ok)
+    (subst (λ children. IsKept c.insert_reserved.new.self (set c.make_room.new.counters.items c.in_ok-key.key (record { total = 0; limit = None; parent = Some c.args.parent })) children (c.self.inside.ids ++ (c.args.stamp, c.in_ok-key.key) ∷ [])) (sym c.add.ensures)
     (record {
-      tree = made.IsTree-made c.self.inside.nodes c.insert_reserved.new.self c.in_ok-key.key c.args.parent c.args.stamp (c.node_at-level.result.level + 1) old u c.self.invariant.tree s next low;
-      counted = made.IsCounted-made c.self.inside.nodes c.insert_reserved.new.self c.in_ok-key.key c.args.parent c.args.stamp (c.node_at-level.result.level + 1) old u c.self.invariant.tree s next low c.self.inside.totals.items c.self.invariant.counted c.make_room.new.totals.items c.in_ok-key.ensures.totals c.in_ok-key.ensures.room;
-      listed = made.IsListed-made c.self.inside.nodes c.insert_reserved.new.self c.in_ok-key.key c.args.parent c.args.stamp (c.node_at-level.result.level + 1) old u c.self.invariant.tree s next low c.self.inside.children c.self.inside.ids c.self.invariant.listed (made.below-ids (tree_of c.self.inside.nodes) (limit_in c.self.inside.nodes) c.args.stamp c.self.inside.ids (subst (λ (v : Charges). AllByRecursion (λ (g : Control). g.id < c.args.stamp) v.controls) (sym c.self.view_is) c.requires.above)) c.make_room.new.children c.in_ok-key.ensures.children c.in_ok-key.ensures.lists;
+      tree = made.IsTree-made m;
+      counted = made.IsCounted-made m c.self.inside.counters.items c.self.invariant.counted c.make_room.new.counters.items c.in_ok-key.ensures.counters (record { total = 0; limit = None; parent = Some c.args.parent }) refl c.in_ok-key.ensures.room;
+      linked = linked.linked-both c.make_room.new.counters.items c.in_ok-key.key (record { total = 0; limit = None; parent = Some c.args.parent }) c.in_ok-key.ensures.room c.self.inside.nodes c.insert_reserved.new.self c.self.inside.counters.items c.self.invariant.linked c.in_ok-key.ensures.counters c.in_ok-key.ensures.longer _ m.updates refl refl;
+      listed = made.IsListed-made m c.self.inside.children c.self.inside.ids c.self.invariant.listed (made.below-ids (tree_of c.self.inside.nodes) (limit_in c.self.inside.nodes) c.args.stamp c.self.inside.ids (subst (λ (v : Charges). AllByRecursion (λ (g : Control). g.id < c.args.stamp) v.controls) (sym c.self.view_is) c.requires.above)) c.make_room.new.children c.in_ok-key.ensures.children c.in_ok-key.ensures.lists;
       room = λ k on. let some : Option ℕ = Some c.args.parent in
-          let within = made.room-made c.self.inside.nodes c.insert_reserved.new.self c.in_ok-key.key c.args.parent c.args.stamp (c.node_at-level.result.level + 1) old u c.self.invariant.tree s next low c.self.inside.totals.items c.self.inside.children c.self.invariant.room c.make_room.new.totals.items c.make_room.new.children c.in_ok-key.ensures.longer c.in_ok-key.ensures.more c.in_ok-key.ensures.room c.in_ok-key.ensures.lists k on in
-          (omega (arith, within.0, length-set c.make_room.new.totals.items c.in_ok-key.key 0), omega (arith, within.1, length-set c.make_room.new.children c.in_ok-key.key some));
+          let within = made.room-made m c.self.inside.children c.self.invariant.room c.make_room.new.children c.in_ok-key.ensures.more c.in_ok-key.ensures.lists k on in
+          omega (arith, within, length-set c.make_room.new.children c.in_ok-key.key some);
       small = let some : Option ℕ = Some c.args.parent in omega (arith, c.in_ok-key.ensures.small, length-set c.make_room.new.children c.in_ok-key.key some);
-    }))
+    })))
 
 pub returns-clause-controls : goal.returns-clause-controls
 returns-clause-controls c =
-    let s = views.stand_in c.self.inside.nodes c.self.inside.ids c.args.self.now c.self.view_is c.args.parent c.requires.stands in
-    let long : length (control_path c.args.self.now.controls (id_at c.args.self.now c.args.parent)) ≡ suc ((tree_of c.self.inside.nodes).level c.args.parent) =
-    ap (λ i. length (control_path c.args.self.now.controls i)) (views.id_in c.self.inside.nodes c.self.inside.ids c.args.self.now c.self.view_is c.args.parent c.requires.stands)
-    ∙ sym (ap (λ (v : Charges). length (control_path v.controls ((tree_of c.self.inside.nodes).id c.args.parent))) c.self.view_is)
-    ∙ made.length-path c.self.inside.nodes c.self.inside.children c.self.inside.ids c.self.invariant.tree c.self.invariant.listed c.args.parent s in
-    let level = views.field-is (λ (n : Node). n.level) 0 c.self.inside.nodes c.args.parent c.node_at-level.result c.node_at-level.ensures in
-    let kv : c.insert_reserved.result ≡ c.in_ok-key.key = c.insert_reserved.ensures.key ∙ sym c.in_ok-key.ensures.key in
-    let u : Updates c.self.inside.nodes c.insert_reserved.new.self c.in_ok-key.key (Some (record { id = c.args.stamp; parent = Some c.args.parent; limit = None; level = c.node_at-level.result.level + 1; standing = true; live = 0; zombies = 0 })) =
-    subst (λ k. Updates c.self.inside.nodes c.insert_reserved.new.self k (Some (record { id = c.args.stamp; parent = Some c.args.parent; limit = None; level = c.node_at-level.result.level + 1; standing = true; live = 0; zombies = 0 }))) kv
-    (made.updates-from c.self.inside.nodes c.make_room.new.nodes c.insert_reserved.new.self c.make_room.new.nodes.capacity c.insert_reserved.result _ c.in_ok-key.ensures.nodes
-    (subst (λ n. Updates c.make_room.new.nodes c.insert_reserved.new.self c.insert_reserved.result (Some n)) c.new.ensures c.insert_reserved.ensures.updates)) in
-    let old : get c.self.inside.nodes c.in_ok-key.key ≡ None = ap (get c.self.inside.nodes) (sym kv) ∙ sym (ap (λ (s : Slab Node). get s c.insert_reserved.result) c.in_ok-key.ensures.nodes) ∙ c.insert_reserved.ensures.was_vacant in
-    let next : c.node_at-level.result.level + 1 ≡ (tree_of c.self.inside.nodes).level c.args.parent + 1 = omega (arith, level) in
-    let low : c.node_at-level.result.level + 1 ≤ 64 = omega (arith, c.if-level-gt-DEEPEST_CONTROL.false) in
+    let m = makes (goal.at.returns-clause-controls c).After-insert_reserved in
     ap (map (control_in (tree_of c.insert_reserved.new.self) (limit_in c.insert_reserved.new.self))) c.in_ok-push.ensures.ok
-    ∙ made.controls-made c.self.inside.nodes c.insert_reserved.new.self c.in_ok-key.key c.args.parent c.args.stamp (c.node_at-level.result.level + 1) old u c.self.invariant.tree s next low c.self.inside.children c.self.inside.ids c.self.invariant.listed
+    ∙ made.controls-made m c.self.inside.children c.self.inside.ids c.self.invariant.listed
     ∙ ap (λ i. map (control_in (tree_of c.self.inside.nodes) (limit_in c.self.inside.nodes)) c.self.inside.ids ++ (let g : Control = record { id = c.args.stamp; parent = Some i; limit = None } in g) ∷ []) (sym (views.id_in c.self.inside.nodes c.self.inside.ids c.args.self.now c.self.view_is c.args.parent c.requires.stands))
     ∙ ap (λ (v : Charges). v.controls ++ (let g : Control = record { id = c.args.stamp; parent = Some (id_at c.args.self.now c.args.parent); limit = None } in g) ∷ []) c.self.view_is
 
 pub returns-clause-fresh : goal.returns-clause-fresh
 returns-clause-fresh c =
-    let s = views.stand_in c.self.inside.nodes c.self.inside.ids c.args.self.now c.self.view_is c.args.parent c.requires.stands in
-    let long : length (control_path c.args.self.now.controls (id_at c.args.self.now c.args.parent)) ≡ suc ((tree_of c.self.inside.nodes).level c.args.parent) =
-    ap (λ i. length (control_path c.args.self.now.controls i)) (views.id_in c.self.inside.nodes c.self.inside.ids c.args.self.now c.self.view_is c.args.parent c.requires.stands)
-    ∙ sym (ap (λ (v : Charges). length (control_path v.controls ((tree_of c.self.inside.nodes).id c.args.parent))) c.self.view_is)
-    ∙ made.length-path c.self.inside.nodes c.self.inside.children c.self.inside.ids c.self.invariant.tree c.self.invariant.listed c.args.parent s in
-    let level = views.field-is (λ (n : Node). n.level) 0 c.self.inside.nodes c.args.parent c.node_at-level.result c.node_at-level.ensures in
-    let kv : c.insert_reserved.result ≡ c.in_ok-key.key = c.insert_reserved.ensures.key ∙ sym c.in_ok-key.ensures.key in
-    let u : Updates c.self.inside.nodes c.insert_reserved.new.self c.in_ok-key.key (Some (record { id = c.args.stamp; parent = Some c.args.parent; limit = None; level = c.node_at-level.result.level + 1; standing = true; live = 0; zombies = 0 })) =
-    subst (λ k. Updates c.self.inside.nodes c.insert_reserved.new.self k (Some (record { id = c.args.stamp; parent = Some c.args.parent; limit = None; level = c.node_at-level.result.level + 1; standing = true; live = 0; zombies = 0 }))) kv
-    (made.updates-from c.self.inside.nodes c.make_room.new.nodes c.insert_reserved.new.self c.make_room.new.nodes.capacity c.insert_reserved.result _ c.in_ok-key.ensures.nodes
-    (subst (λ n. Updates c.make_room.new.nodes c.insert_reserved.new.self c.insert_reserved.result (Some n)) c.new.ensures c.insert_reserved.ensures.updates)) in
-    let old : get c.self.inside.nodes c.in_ok-key.key ≡ None = ap (get c.self.inside.nodes) (sym kv) ∙ sym (ap (λ (s : Slab Node). get s c.insert_reserved.result) c.in_ok-key.ensures.nodes) ∙ c.insert_reserved.ensures.was_vacant in
-    let next : c.node_at-level.result.level + 1 ≡ (tree_of c.self.inside.nodes).level c.args.parent + 1 = omega (arith, level) in
-    let low : c.node_at-level.result.level + 1 ≤ 64 = omega (arith, c.if-level-gt-DEEPEST_CONTROL.false) in
-    sym (ap (λ (v : Charges). home_at v c.in_ok-key.key) c.self.view_is) ∙ views.home_at-is c.self.inside.nodes c.self.inside.ids c.in_ok-key.key ∙ made.home-none c.self.inside.nodes c.in_ok-key.key old
+    let m = makes (goal.at.returns-clause-fresh c).After-insert_reserved in
+    sym (ap (λ (v : Charges). home_at v c.in_ok-key.key) c.self.view_is) ∙ views.home_at-is c.self.inside.nodes c.self.inside.ids c.in_ok-key.key ∙ made.home-none c.self.inside.nodes c.in_ok-key.key m.old
 
 pub returns-clause-here : goal.returns-clause-here
 returns-clause-here c =
-    let s = views.stand_in c.self.inside.nodes c.self.inside.ids c.args.self.now c.self.view_is c.args.parent c.requires.stands in
-    let long : length (control_path c.args.self.now.controls (id_at c.args.self.now c.args.parent)) ≡ suc ((tree_of c.self.inside.nodes).level c.args.parent) =
-    ap (λ i. length (control_path c.args.self.now.controls i)) (views.id_in c.self.inside.nodes c.self.inside.ids c.args.self.now c.self.view_is c.args.parent c.requires.stands)
-    ∙ sym (ap (λ (v : Charges). length (control_path v.controls ((tree_of c.self.inside.nodes).id c.args.parent))) c.self.view_is)
-    ∙ made.length-path c.self.inside.nodes c.self.inside.children c.self.inside.ids c.self.invariant.tree c.self.invariant.listed c.args.parent s in
-    let level = views.field-is (λ (n : Node). n.level) 0 c.self.inside.nodes c.args.parent c.node_at-level.result c.node_at-level.ensures in
-    let kv : c.insert_reserved.result ≡ c.in_ok-key.key = c.insert_reserved.ensures.key ∙ sym c.in_ok-key.ensures.key in
-    let u : Updates c.self.inside.nodes c.insert_reserved.new.self c.in_ok-key.key (Some (record { id = c.args.stamp; parent = Some c.args.parent; limit = None; level = c.node_at-level.result.level + 1; standing = true; live = 0; zombies = 0 })) =
-    subst (λ k. Updates c.self.inside.nodes c.insert_reserved.new.self k (Some (record { id = c.args.stamp; parent = Some c.args.parent; limit = None; level = c.node_at-level.result.level + 1; standing = true; live = 0; zombies = 0 }))) kv
-    (made.updates-from c.self.inside.nodes c.make_room.new.nodes c.insert_reserved.new.self c.make_room.new.nodes.capacity c.insert_reserved.result _ c.in_ok-key.ensures.nodes
-    (subst (λ n. Updates c.make_room.new.nodes c.insert_reserved.new.self c.insert_reserved.result (Some n)) c.new.ensures c.insert_reserved.ensures.updates)) in
-    let old : get c.self.inside.nodes c.in_ok-key.key ≡ None = ap (get c.self.inside.nodes) (sym kv) ∙ sym (ap (λ (s : Slab Node). get s c.insert_reserved.result) c.in_ok-key.ensures.nodes) ∙ c.insert_reserved.ensures.was_vacant in
-    let next : c.node_at-level.result.level + 1 ≡ (tree_of c.self.inside.nodes).level c.args.parent + 1 = omega (arith, level) in
-    let low : c.node_at-level.result.level + 1 ≤ 64 = omega (arith, c.if-level-gt-DEEPEST_CONTROL.false) in
-    views.home_at-is c.insert_reserved.new.self c.push.new.self c.in_ok-key.key ∙ made.home-made c.self.inside.nodes c.insert_reserved.new.self c.in_ok-key.key c.args.parent c.args.stamp (c.node_at-level.result.level + 1) old u c.self.invariant.tree s next low
+    let m = makes (goal.at.returns-clause-here c).After-insert_reserved in
+    views.home_at-is c.insert_reserved.new.self c.push.new.self c.in_ok-key.key ∙ made.home-made m
 
 pub returns-clause-others : goal.returns-clause-others
 returns-clause-others c k d =
-    let s = views.stand_in c.self.inside.nodes c.self.inside.ids c.args.self.now c.self.view_is c.args.parent c.requires.stands in
-    let long : length (control_path c.args.self.now.controls (id_at c.args.self.now c.args.parent)) ≡ suc ((tree_of c.self.inside.nodes).level c.args.parent) =
-    ap (λ i. length (control_path c.args.self.now.controls i)) (views.id_in c.self.inside.nodes c.self.inside.ids c.args.self.now c.self.view_is c.args.parent c.requires.stands)
-    ∙ sym (ap (λ (v : Charges). length (control_path v.controls ((tree_of c.self.inside.nodes).id c.args.parent))) c.self.view_is)
-    ∙ made.length-path c.self.inside.nodes c.self.inside.children c.self.inside.ids c.self.invariant.tree c.self.invariant.listed c.args.parent s in
-    let level = views.field-is (λ (n : Node). n.level) 0 c.self.inside.nodes c.args.parent c.node_at-level.result c.node_at-level.ensures in
-    let kv : c.insert_reserved.result ≡ c.in_ok-key.key = c.insert_reserved.ensures.key ∙ sym c.in_ok-key.ensures.key in
-    let u : Updates c.self.inside.nodes c.insert_reserved.new.self c.in_ok-key.key (Some (record { id = c.args.stamp; parent = Some c.args.parent; limit = None; level = c.node_at-level.result.level + 1; standing = true; live = 0; zombies = 0 })) =
-    subst (λ k. Updates c.self.inside.nodes c.insert_reserved.new.self k (Some (record { id = c.args.stamp; parent = Some c.args.parent; limit = None; level = c.node_at-level.result.level + 1; standing = true; live = 0; zombies = 0 }))) kv
-    (made.updates-from c.self.inside.nodes c.make_room.new.nodes c.insert_reserved.new.self c.make_room.new.nodes.capacity c.insert_reserved.result _ c.in_ok-key.ensures.nodes
-    (subst (λ n. Updates c.make_room.new.nodes c.insert_reserved.new.self c.insert_reserved.result (Some n)) c.new.ensures c.insert_reserved.ensures.updates)) in
-    let old : get c.self.inside.nodes c.in_ok-key.key ≡ None = ap (get c.self.inside.nodes) (sym kv) ∙ sym (ap (λ (s : Slab Node). get s c.insert_reserved.result) c.in_ok-key.ensures.nodes) ∙ c.insert_reserved.ensures.was_vacant in
-    let next : c.node_at-level.result.level + 1 ≡ (tree_of c.self.inside.nodes).level c.args.parent + 1 = omega (arith, level) in
-    let low : c.node_at-level.result.level + 1 ≤ 64 = omega (arith, c.if-level-gt-DEEPEST_CONTROL.false) in
-    views.home_at-is c.insert_reserved.new.self c.push.new.self k ∙ made.home-others c.self.inside.nodes c.insert_reserved.new.self c.in_ok-key.key c.args.parent c.args.stamp (c.node_at-level.result.level + 1) old u c.self.invariant.tree s next low k d ∙ sym (views.home_at-is c.self.inside.nodes c.self.inside.ids k) ∙ ap (λ (v : Charges). home_at v k) c.self.view_is
+    let m = makes (goal.at.returns-clause-others c).After-insert_reserved in
+    views.home_at-is c.insert_reserved.new.self c.push.new.self k ∙ made.home-others m k d ∙ sym (views.home_at-is c.self.inside.nodes c.self.inside.ids k) ∙ ap (λ (v : Charges). home_at v k) c.self.view_is
 
 pub returns-clause-deep : goal.returns-clause-deep
 returns-clause-deep c =
-    let s = views.stand_in c.self.inside.nodes c.self.inside.ids c.args.self.now c.self.view_is c.args.parent c.requires.stands in
-    let long : length (control_path c.args.self.now.controls (id_at c.args.self.now c.args.parent)) ≡ suc ((tree_of c.self.inside.nodes).level c.args.parent) =
-    ap (λ i. length (control_path c.args.self.now.controls i)) (views.id_in c.self.inside.nodes c.self.inside.ids c.args.self.now c.self.view_is c.args.parent c.requires.stands)
-    ∙ sym (ap (λ (v : Charges). length (control_path v.controls ((tree_of c.self.inside.nodes).id c.args.parent))) c.self.view_is)
-    ∙ made.length-path c.self.inside.nodes c.self.inside.children c.self.inside.ids c.self.invariant.tree c.self.invariant.listed c.args.parent s in
-    let level = views.field-is (λ (n : Node). n.level) 0 c.self.inside.nodes c.args.parent c.node_at-level.result c.node_at-level.ensures in
+    let long = long (goal.at.returns-clause-deep c).After-node_at-level in
+    let level = level (goal.at.returns-clause-deep c).After-node_at-level in
     (λ e. absurd (cc), λ h. absurd (omega (arith, h, long, level, c.if-level-gt-DEEPEST_CONTROL.false)))
 
 pub returns-clause-tasks : goal.returns-clause-tasks
 returns-clause-tasks c =
-    let s = views.stand_in c.self.inside.nodes c.self.inside.ids c.args.self.now c.self.view_is c.args.parent c.requires.stands in
-    let long : length (control_path c.args.self.now.controls (id_at c.args.self.now c.args.parent)) ≡ suc ((tree_of c.self.inside.nodes).level c.args.parent) =
-    ap (λ i. length (control_path c.args.self.now.controls i)) (views.id_in c.self.inside.nodes c.self.inside.ids c.args.self.now c.self.view_is c.args.parent c.requires.stands)
-    ∙ sym (ap (λ (v : Charges). length (control_path v.controls ((tree_of c.self.inside.nodes).id c.args.parent))) c.self.view_is)
-    ∙ made.length-path c.self.inside.nodes c.self.inside.children c.self.inside.ids c.self.invariant.tree c.self.invariant.listed c.args.parent s in
-    let level = views.field-is (λ (n : Node). n.level) 0 c.self.inside.nodes c.args.parent c.node_at-level.result c.node_at-level.ensures in
-    let kv : c.insert_reserved.result ≡ c.in_ok-key.key = c.insert_reserved.ensures.key ∙ sym c.in_ok-key.ensures.key in
-    let u : Updates c.self.inside.nodes c.insert_reserved.new.self c.in_ok-key.key (Some (record { id = c.args.stamp; parent = Some c.args.parent; limit = None; level = c.node_at-level.result.level + 1; standing = true; live = 0; zombies = 0 })) =
-    subst (λ k. Updates c.self.inside.nodes c.insert_reserved.new.self k (Some (record { id = c.args.stamp; parent = Some c.args.parent; limit = None; level = c.node_at-level.result.level + 1; standing = true; live = 0; zombies = 0 }))) kv
-    (made.updates-from c.self.inside.nodes c.make_room.new.nodes c.insert_reserved.new.self c.make_room.new.nodes.capacity c.insert_reserved.result _ c.in_ok-key.ensures.nodes
-    (subst (λ n. Updates c.make_room.new.nodes c.insert_reserved.new.self c.insert_reserved.result (Some n)) c.new.ensures c.insert_reserved.ensures.updates)) in
-    let old : get c.self.inside.nodes c.in_ok-key.key ≡ None = ap (get c.self.inside.nodes) (sym kv) ∙ sym (ap (λ (s : Slab Node). get s c.insert_reserved.result) c.in_ok-key.ensures.nodes) ∙ c.insert_reserved.ensures.was_vacant in
-    let next : c.node_at-level.result.level + 1 ≡ (tree_of c.self.inside.nodes).level c.args.parent + 1 = omega (arith, level) in
-    let low : c.node_at-level.result.level + 1 ≤ 64 = omega (arith, c.if-level-gt-DEEPEST_CONTROL.false) in
+    let m = makes (goal.at.returns-clause-tasks c).After-insert_reserved in
     let was = sym (views.all-is c.self.inside.nodes c.self.inside.ids) ∙ ap (λ (v : Charges). all_tasks v) c.self.view_is in
     let new = views.all-is c.insert_reserved.new.self c.push.new.self in
-    let same = made.all-made c.self.inside.nodes c.insert_reserved.new.self c.in_ok-key.key c.args.parent c.args.stamp (c.node_at-level.result.level + 1) old u c.self.invariant.tree s next low in
+    let same = made.all-made m in
     omega (arith, was, new, same)

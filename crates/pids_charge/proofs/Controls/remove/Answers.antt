@@ -5,14 +5,30 @@ use Rattle.pid_types.specs.declared.plain.Control.{Control}
 use Rattle.pids_charge.specs.declared.node.Node.{Node}
 use Rattle.pids_charge.specs.Nodes.{tree_of}
 use Rattle.pids_charge.specs.Charges.{Charges, home_at, id_at, is_busy, handed_on, all_tasks}
-use Rattle.pids_charge.specs.Kept.{IsKept, control_in, limit_in}
+use Rattle.pids_charge.specs.Kept.{IsKept, control_in, limit_in, total_at}
 use Rattle.id_slab.specs.Ids.{without}
 use Rattle.pids_charge.proofs.Climbs as climbs
 use Rattle.pids_charge.proofs.Views as views
 use Rattle.pids_charge.proofs.Limited as limited
 use Rattle.pids_charge.proofs.Dropped as dropped
+use Rattle.pids_charge.proofs.Linked as linked
+use Rattle.pids_charge.proofs.Removed.{Removes}
 use Rattle.pids_charge.proofs.Removed as removed
 use Rattle.pids_charge.proofs.Controls.remove.Goals as goal
+use Rattle.pids_charge.proofs.Controls.remove.Goals.{After-set_node}
+
+-- the removal
+removes : (c : After-set_node) → Removes c.self.inside.nodes c.set_node.new.nodes c.args.c (removed.some_of c.node_at-node.result.parent (c.is_none.ensures ∙ ap not c.if-is_none.false)).0 c.node_at-node.result
+removes c =
+    let s = views.stand_in c.self.inside.nodes c.self.inside.ids c.args.self.now c.self.view_is c.args.c c.requires in
+    record {
+      found = c.node_at-node.ensures;
+      up = removed.stands_is_field c.self.inside.nodes c.args.c c.node_at-node.result c.node_at-node.ensures s;
+      parent = (removed.some_of c.node_at-node.result.parent (c.is_none.ensures ∙ ap not c.if-is_none.false)).1;
+      is = c.set_node.ensures;
+      tree = c.self.invariant.tree;
+      childless = removed.childless_of (tree_of c.self.inside.nodes) c.self.inside.children c.self.inside.ids c.self.invariant.listed c.args.c c.first.result c.first.ensures (sym c.is_some.ensures ∙ c.if-is_some.false);
+    }
 
 pub node_at-node-requires : goal.node_at-node-requires
 node_at-node-requires c = views.there c.self.inside.nodes c.args.c (views.stand_in c.self.inside.nodes c.self.inside.ids c.args.self.now c.self.view_is c.args.c c.requires)
@@ -43,38 +59,31 @@ remove-requires-2-clause-owned c =
 
 pub drop_empty-requires-clause-tree : goal.drop_empty-requires-clause-tree
 drop_empty-requires-clause-tree c =
-    let s = views.stand_in c.self.inside.nodes c.self.inside.ids c.args.self.now c.self.view_is c.args.c c.requires in
-    let u = removed.stands_is_field c.self.inside.nodes c.args.c c.node_at-node.result c.node_at-node.ensures s in
-    let q = removed.some_of c.node_at-node.result.parent (c.is_none.ensures ∙ ap not c.if-is_none.false) in
-    let none : c.node_at-node.result.live ≡ 0 = omega (arith, c.if-node-gt0.false) in
-    let childless = removed.childless_of (tree_of c.self.inside.nodes) c.self.inside.children c.self.inside.ids c.self.invariant.listed c.args.c c.first.result c.first.ensures (sym c.is_some.ensures ∙ c.if-is_some.false) in
-    removed.IsTree-unstood c.self.inside.nodes c.set_node.new.nodes c.args.c q.0 c.node_at-node.result c.node_at-node.ensures u q.1 c.set_node.ensures c.self.invariant.tree childless
+    let r = removes (goal.at.drop_empty-requires-clause-tree c).After-set_node in
+    removed.IsTree-unstood r
 
 pub drop_empty-requires-clause-counted : goal.drop_empty-requires-clause-counted
 drop_empty-requires-clause-counted c =
-    let s = views.stand_in c.self.inside.nodes c.self.inside.ids c.args.self.now c.self.view_is c.args.c c.requires in
-    let u = removed.stands_is_field c.self.inside.nodes c.args.c c.node_at-node.result c.node_at-node.ensures s in
-    let q = removed.some_of c.node_at-node.result.parent (c.is_none.ensures ∙ ap not c.if-is_none.false) in
+    let r = removes (goal.at.drop_empty-requires-clause-counted c).After-set_node in
     let none : c.node_at-node.result.live ≡ 0 = omega (arith, c.if-node-gt0.false) in
-    let childless = removed.childless_of (tree_of c.self.inside.nodes) c.self.inside.children c.self.inside.ids c.self.invariant.listed c.args.c c.first.result c.first.ensures (sym c.is_some.ensures ∙ c.if-is_some.false) in
-    removed.IsCounted-unstood c.self.inside.nodes c.set_node.new.nodes c.args.c q.0 c.node_at-node.result c.node_at-node.ensures u q.1 c.set_node.ensures c.self.invariant.tree childless c.self.inside.totals.items c.self.invariant.counted none
+    removed.IsCounted-unstood r (total_at c.self.inside.counters.items) c.self.invariant.counted none
+
+pub drop_empty-requires-clause-linked : goal.drop_empty-requires-clause-linked
+drop_empty-requires-clause-linked c = linked.linked-written c.self.inside.nodes c.set_node.new.nodes c.self.inside.counters.items c.self.invariant.linked c.args.c c.node_at-node.result _ c.node_at-node.ensures c.set_node.ensures refl refl
 
 pub invariant_of-self : goal.invariant_of-self
 invariant_of-self c =
+    let r = removes (goal.at.invariant_of-self c).After-set_node in
     let s = views.stand_in c.self.inside.nodes c.self.inside.ids c.args.self.now c.self.view_is c.args.c c.requires in
-    let u = removed.stands_is_field c.self.inside.nodes c.args.c c.node_at-node.result c.node_at-node.ensures s in
-    let q = removed.some_of c.node_at-node.result.parent (c.is_none.ensures ∙ ap not c.if-is_none.false) in
-    let none : c.node_at-node.result.live ≡ 0 = omega (arith, c.if-node-gt0.false) in
-    let childless = removed.childless_of (tree_of c.self.inside.nodes) c.self.inside.children c.self.inside.ids c.self.invariant.listed c.args.c c.first.result c.first.ensures (sym c.is_some.ensures ∙ c.if-is_some.false) in
     let room = c.self.invariant.room c.args.c (views.there c.self.inside.nodes c.args.c s) in
     let id = views.field-is (λ (n : Node). n.id) 0 c.self.inside.nodes c.args.c c.node_at-node.result c.node_at-node.ensures in
     let nothing : Option ℕ = None in
     let gone = c.remove.ensures.rest ∙ ap (without c.self.inside.ids) (sym id) in
-    subst (λ ids. IsKept c.drop_empty.new.nodes c.self.inside.totals.items c.remove-2.new.self ids) (sym gone)
-    (subst (λ children. IsKept c.drop_empty.new.nodes c.self.inside.totals.items children (without c.self.inside.ids ((tree_of c.self.inside.nodes).id c.args.c))) (sym c.remove-2.ensures)
-    (dropped.IsKept-dropped c.set_node.new.nodes c.drop_empty.new.nodes c.drop_empty.ensures.drops c.self.inside.totals.items (set c.self.inside.children c.args.c None) (without c.self.inside.ids ((tree_of c.self.inside.nodes).id c.args.c)) c.drop_empty.ensures.tree c.drop_empty.ensures.counted
-    (removed.IsListed-unstood c.self.inside.nodes c.set_node.new.nodes c.args.c q.0 c.node_at-node.result c.node_at-node.ensures u q.1 c.set_node.ensures c.self.invariant.tree childless c.self.inside.children c.self.inside.ids c.self.invariant.listed room.1)
-    (λ j on. let r = c.self.invariant.room j (sym (removed.there_same c.self.inside.nodes c.set_node.new.nodes c.args.c q.0 c.node_at-node.result c.node_at-node.ensures u q.1 c.set_node.ensures j) ∙ on) in (r.0, omega (arith, r.1, length-set c.self.inside.children c.args.c nothing)))
+    subst (λ ids. IsKept c.drop_empty.new.nodes c.self.inside.counters.items c.remove-2.new.self ids) (sym gone)
+    (subst (λ children. IsKept c.drop_empty.new.nodes c.self.inside.counters.items children (without c.self.inside.ids ((tree_of c.self.inside.nodes).id c.args.c))) (sym c.remove-2.ensures)
+    (dropped.IsKept-dropped c.set_node.new.nodes c.drop_empty.new.nodes c.drop_empty.ensures.drops c.self.inside.counters.items (set c.self.inside.children c.args.c None) (without c.self.inside.ids ((tree_of c.self.inside.nodes).id c.args.c)) c.drop_empty.ensures.tree c.drop_empty.ensures.counted c.drop_empty.ensures.linked
+    (removed.IsListed-unstood r c.self.inside.children c.self.inside.ids c.self.invariant.listed room)
+    (λ j on. let r = c.self.invariant.room j (sym (removed.there_same r j) ∙ on) in omega (arith, r, length-set c.self.inside.children c.args.c nothing))
     (omega (arith, c.self.invariant.small, length-set c.self.inside.children c.args.c nothing))))
 
 pub returns-clause-refusal : goal.returns-clause-refusal
@@ -90,45 +99,35 @@ returns-clause-refusal c =
 
 pub returns-clause-controls : goal.returns-clause-controls
 returns-clause-controls c =
+    let r = removes (goal.at.returns-clause-controls c).After-set_node in
     let s = views.stand_in c.self.inside.nodes c.self.inside.ids c.args.self.now c.self.view_is c.args.c c.requires in
-    let u = removed.stands_is_field c.self.inside.nodes c.args.c c.node_at-node.result c.node_at-node.ensures s in
-    let q = removed.some_of c.node_at-node.result.parent (c.is_none.ensures ∙ ap not c.if-is_none.false) in
-    let none : c.node_at-node.result.live ≡ 0 = omega (arith, c.if-node-gt0.false) in
-    let childless = removed.childless_of (tree_of c.self.inside.nodes) c.self.inside.children c.self.inside.ids c.self.invariant.listed c.args.c c.first.result c.first.ensures (sym c.is_some.ensures ∙ c.if-is_some.false) in
     let room = c.self.invariant.room c.args.c (views.there c.self.inside.nodes c.args.c s) in
     let id = views.field-is (λ (n : Node). n.id) 0 c.self.inside.nodes c.args.c c.node_at-node.result c.node_at-node.ensures in
     ap (map (control_in (tree_of c.drop_empty.new.nodes) (limit_in c.drop_empty.new.nodes))) (c.remove.ensures.rest ∙ ap (without c.self.inside.ids) (sym id))
-    ∙ dropped.controls-dropped c.set_node.new.nodes c.drop_empty.new.nodes c.drop_empty.ensures.drops (set c.self.inside.children c.args.c None) (without c.self.inside.ids ((tree_of c.self.inside.nodes).id c.args.c)) (removed.IsTree-unstood c.self.inside.nodes c.set_node.new.nodes c.args.c q.0 c.node_at-node.result c.node_at-node.ensures u q.1 c.set_node.ensures c.self.invariant.tree childless)
-    (removed.IsListed-unstood c.self.inside.nodes c.set_node.new.nodes c.args.c q.0 c.node_at-node.result c.node_at-node.ensures u q.1 c.set_node.ensures c.self.invariant.tree childless c.self.inside.children c.self.inside.ids c.self.invariant.listed room.1)
-    ∙ removed.controls-unstood c.self.inside.nodes c.set_node.new.nodes c.args.c q.0 c.node_at-node.result c.node_at-node.ensures u q.1 c.set_node.ensures c.self.invariant.tree childless c.self.inside.children c.self.inside.ids c.self.invariant.listed
+    ∙ dropped.controls-dropped c.set_node.new.nodes c.drop_empty.new.nodes c.drop_empty.ensures.drops (set c.self.inside.children c.args.c None) (without c.self.inside.ids ((tree_of c.self.inside.nodes).id c.args.c)) (removed.IsTree-unstood r)
+    (removed.IsListed-unstood r c.self.inside.children c.self.inside.ids c.self.invariant.listed room)
+    ∙ removed.controls-unstood r c.self.inside.children c.self.inside.ids c.self.invariant.listed
     ∙ ap (λ i. filter (λ (g : Control). not (g.id == i)) (map (control_in (tree_of c.self.inside.nodes) (limit_in c.self.inside.nodes)) c.self.inside.ids)) (sym (views.id_in c.self.inside.nodes c.self.inside.ids c.args.self.now c.self.view_is c.args.c c.requires))
     ∙ ap (λ (v : Charges). filter (λ (g : Control). not (g.id == id_at c.args.self.now c.args.c)) v.controls) c.self.view_is
 
 pub returns-clause-homes : goal.returns-clause-homes
 returns-clause-homes c parent above k =
-    let s = views.stand_in c.self.inside.nodes c.self.inside.ids c.args.self.now c.self.view_is c.args.c c.requires in
-    let u = removed.stands_is_field c.self.inside.nodes c.args.c c.node_at-node.result c.node_at-node.ensures s in
     let q = removed.some_of c.node_at-node.result.parent (c.is_none.ensures ∙ ap not c.if-is_none.false) in
-    let none : c.node_at-node.result.live ≡ 0 = omega (arith, c.if-node-gt0.false) in
-    let childless = removed.childless_of (tree_of c.self.inside.nodes) c.self.inside.children c.self.inside.ids c.self.invariant.listed c.args.c c.first.result c.first.ensures (sym c.is_some.ensures ∙ c.if-is_some.false) in
+    let r = removes (goal.at.returns-clause-homes c).After-set_node in
     let sees = views.parent_seen c.self.inside.nodes c.self.inside.children c.self.inside.ids c.args.self.now c.self.view_is c.self.invariant.tree c.self.invariant.listed c.args.c c.requires (Some q.0) (climbs.up-is c.self.inside.nodes c.args.c c.node_at-node.result c.node_at-node.ensures ∙ q.1) in
     let one : Some (id_at c.args.self.now q.0) ≡ Some parent = sees.0 ∙ above in
     let id_p : (tree_of c.self.inside.nodes).id q.0 ≡ parent = sym (views.id_in c.self.inside.nodes c.self.inside.ids c.args.self.now c.self.view_is q.0 sees.1) ∙ (let e : id_at c.args.self.now q.0 ≡ parent = cc in e) in
     let id_c = sym (views.id_in c.self.inside.nodes c.self.inside.ids c.args.self.now c.self.view_is c.args.c c.requires) in
     views.home_at-is c.drop_empty.new.nodes c.remove.new.self k ∙ c.drop_empty.ensures.drops.shown k
-    ∙ removed.home-unstood c.self.inside.nodes c.set_node.new.nodes c.args.c q.0 c.node_at-node.result c.node_at-node.ensures u q.1 c.set_node.ensures c.self.invariant.tree childless c.self.inside.children c.self.inside.ids c.self.invariant.listed k
+    ∙ removed.home-unstood r c.self.inside.children c.self.inside.ids c.self.invariant.listed k
     ∙ ap (λ i. option_and_then (handed_on i ((tree_of c.self.inside.nodes).id q.0)) (views.home_in c.self.inside.nodes k)) id_c
     ∙ ap (λ i. option_and_then (handed_on (id_at c.args.self.now c.args.c) i) (views.home_in c.self.inside.nodes k)) id_p
     ∙ ap (option_and_then (handed_on (id_at c.args.self.now c.args.c) parent)) (sym (views.home_at-is c.self.inside.nodes c.self.inside.ids k) ∙ ap (λ (v : Charges). home_at v k) c.self.view_is)
 
 pub returns-clause-tasks : goal.returns-clause-tasks
 returns-clause-tasks c =
-    let s = views.stand_in c.self.inside.nodes c.self.inside.ids c.args.self.now c.self.view_is c.args.c c.requires in
-    let u = removed.stands_is_field c.self.inside.nodes c.args.c c.node_at-node.result c.node_at-node.ensures s in
-    let q = removed.some_of c.node_at-node.result.parent (c.is_none.ensures ∙ ap not c.if-is_none.false) in
-    let none : c.node_at-node.result.live ≡ 0 = omega (arith, c.if-node-gt0.false) in
-    let childless = removed.childless_of (tree_of c.self.inside.nodes) c.self.inside.children c.self.inside.ids c.self.invariant.listed c.args.c c.first.result c.first.ensures (sym c.is_some.ensures ∙ c.if-is_some.false) in
+    let r = removes (goal.at.returns-clause-tasks c).After-set_node in
     let old = sym (views.all-is c.self.inside.nodes c.self.inside.ids) ∙ ap (λ (v : Charges). all_tasks v) c.self.view_is in
     let new = views.all-is c.drop_empty.new.nodes c.remove.new.self in
-    let same = removed.all-same c.self.inside.nodes c.set_node.new.nodes c.args.c q.0 c.node_at-node.result c.node_at-node.ensures u q.1 c.set_node.ensures in
+    let same = removed.all-same r in
     omega (arith, old, new, same, c.drop_empty.ensures.all)

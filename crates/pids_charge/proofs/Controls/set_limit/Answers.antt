@@ -1,4 +1,5 @@
-use Rattle.std.proofs.Common.{not, true, false, map, refl, sym, ap, ◌∙◌, arith}
+use Rattle.std.proofs.Common.{not, None, true, false, map, refl, sym, ap, ◌∙◌, arith}
+use Rattle.std.proofs.lemmas.List.{get_or_read}
 use Rattle.pid_types.specs.Changes.{limited as limited_to}
 use Rattle.pids_charge.specs.Nodes.{tree_of}
 use Rattle.pids_charge.specs.Charges.{Charges, home_at, id_at, all_tasks}
@@ -21,8 +22,13 @@ returns-then-is_too_high-clause-refusal c =
     let some = limited.parent_some c.self.inside.nodes c.self.inside.children c.self.inside.ids c.args.self.now c.self.view_is c.self.invariant.listed c.args.c c.requires c.node_at-node.result c.node_at-node.ensures in
     sym (limited.limit_refusal-is c.args.self.now c.args.c c.args.limit true true (some ∙ c.is_none.ensures ∙ ap not c.if-is_none.false) (sym c.is_too_high.ensures ∙ c.if-is_too_high.true))
 
+pub index_mut-requires : goal.index_mut-requires
+index_mut-requires c =
+    let room = (c.self.invariant.linked c.args.c (views.there c.self.inside.nodes c.args.c (views.stand_in c.self.inside.nodes c.self.inside.ids c.args.self.now c.self.view_is c.args.c c.requires))).room in
+    omega (arith, room)
+
 pub invariant_of-self : goal.invariant_of-self
-invariant_of-self c = limited.IsKept-limited c.self.inside.nodes c.set_node.new.nodes c.args.c c.node_at-node.result c.args.limit c.node_at-node.ensures c.set_node.ensures c.self.inside.totals.items c.self.inside.children c.self.inside.ids c.self.invariant
+invariant_of-self c = limited.IsKept-limited c.self.inside.nodes c.set_node.new.nodes c.args.c c.node_at-node.result c.args.limit c.node_at-node.ensures c.set_node.ensures c.self.inside.counters.items c.self.inside.children c.self.inside.ids c.self.invariant c.index_mut.result.now (get_or_read c.self.inside.counters.items c.args.c c.index_mut.result.now (c.self.invariant.linked c.args.c (views.there c.self.inside.nodes c.args.c (views.stand_in c.self.inside.nodes c.self.inside.ids c.args.self.now c.self.view_is c.args.c c.requires))).room c.index_mut.ensures.value (record { total = 0; limit = None; parent = None }))
 
 pub returns-clause-refusal : goal.returns-clause-refusal
 returns-clause-refusal c =
@@ -31,16 +37,16 @@ returns-clause-refusal c =
 
 pub returns-clause-controls : goal.returns-clause-controls
 returns-clause-controls c =
-    limited.controls-limited c.self.inside.nodes c.set_node.new.nodes c.args.c c.node_at-node.result c.args.limit c.node_at-node.ensures c.set_node.ensures c.self.inside.totals.items c.self.inside.children c.self.inside.ids c.self.invariant (views.stand_in c.self.inside.nodes c.self.inside.ids c.args.self.now c.self.view_is c.args.c c.requires)
+    limited.controls-limited c.self.inside.nodes c.set_node.new.nodes c.args.c c.node_at-node.result c.args.limit c.node_at-node.ensures c.set_node.ensures c.self.inside.counters.items c.self.inside.children c.self.inside.ids c.self.invariant (views.stand_in c.self.inside.nodes c.self.inside.ids c.args.self.now c.self.view_is c.args.c c.requires)
     ∙ ap (λ i. map (limited_to i c.args.limit) (map (control_in (tree_of c.self.inside.nodes) (limit_in c.self.inside.nodes)) c.self.inside.ids)) (sym (views.id_in c.self.inside.nodes c.self.inside.ids c.args.self.now c.self.view_is c.args.c c.requires))
     ∙ ap (λ (v : Charges). map (limited_to (id_at c.args.self.now c.args.c) c.args.limit) v.controls) c.self.view_is
 
 pub returns-clause-homes : goal.returns-clause-homes
-returns-clause-homes c k = limited.homes-limited c.self.inside.nodes c.set_node.new.nodes c.args.c c.node_at-node.result c.args.limit c.node_at-node.ensures c.set_node.ensures c.self.inside.totals.items c.self.inside.children c.self.inside.ids c.self.invariant k ∙ ap (λ (v : Charges). home_at v k) c.self.view_is
+returns-clause-homes c k = limited.homes-limited c.self.inside.nodes c.set_node.new.nodes c.args.c c.node_at-node.result c.args.limit c.node_at-node.ensures c.set_node.ensures c.self.inside.counters.items c.self.inside.children c.self.inside.ids c.self.invariant k ∙ ap (λ (v : Charges). home_at v k) c.self.view_is
 
 pub returns-clause-tasks : goal.returns-clause-tasks
 returns-clause-tasks c =
     let old = sym (views.all-is c.self.inside.nodes c.self.inside.ids) ∙ ap (λ (v : Charges). all_tasks v) c.self.view_is in
     let new = views.all-is c.set_node.new.nodes c.self.inside.ids in
-    let all = written.all-changed c.self.inside.nodes c.set_node.new.nodes c.args.c c.node_at-node.result _ c.node_at-node.ensures refl c.set_node.ensures in
+    let all = written.all-changed (record { found = c.node_at-node.ensures; shape = refl; is = c.set_node.ensures }) in
     omega (arith, old, new, all)

@@ -2,7 +2,7 @@ use Rattle.std.proofs.Common.{◌≡◌, ◌+◌, ◌-◌, None, option_map, tru
 use Rattle.pids_charge.specs.declared.node.Node.{Node}
 use Rattle.pids_charge.specs.Nodes.{Tree, tree_of}
 use Rattle.pids_charge.specs.Charges.{Home, Charges, live_at, all_tasks}
-use Rattle.pids_charge.specs.Kept.{standing_key, charges_of}
+use Rattle.pids_charge.specs.Kept.{standing_key, charges_of, total_at}
 use Rattle.pids_charge.proofs.Views as views
 use Rattle.pids_charge.proofs.Written as written
 use Rattle.pids_charge.proofs.Dropped as dropped
@@ -24,7 +24,7 @@ returns-clause-homes c =
     (option_map (λ (h : Home). record h { live = h.live - 1 })) refl
     (λ n found.
     let own = written.field_of (λ (x : Node). x.live) 0 c.self.inside.nodes c.args.from n found in
-    let s = written.live_stands c.self.inside.nodes c.args.from n found c.self.inside.totals.items None c.self.invariant.counted (omega (arith, own, e, c.requires.some)) in
+    let s = written.live_stands c.self.inside.nodes c.args.from n found (total_at c.self.inside.counters.items) None c.self.invariant.counted (omega (arith, own, e, c.requires.some)) in
     let stand : n.standing ≡ true = sym (written.field_of (λ (x : Node). x.standing) false c.self.inside.nodes c.args.from n found) ∙ s in
     views.kept_standing (record { id = (tree_of c.self.inside.nodes).id (standing_key (tree_of c.self.inside.nodes) c.args.from); stands = n.standing; live = n.live - 1; zombies = n.zombies }) stand
     ∙ sym (ap (option_map (λ (h : Home). record h { live = h.live - 1 })) (views.kept_standing (record { id = (tree_of c.self.inside.nodes).id (standing_key (tree_of c.self.inside.nodes) c.args.from); stands = n.standing; live = n.live; zombies = n.zombies }) stand))) in

@@ -20,8 +20,8 @@ drop_empty-requires-clause-there c =
 
 pub invariant_of-self : goal.invariant_of-self
 invariant_of-self c =
-    dropped.IsKept-dropped c.take_zombie.new.nodes c.drop_empty.new.nodes c.drop_empty.ensures.drops c.take_zombie.new.totals.items c.self.inside.children c.self.inside.ids c.drop_empty.ensures.tree c.drop_empty.ensures.counted (subst (λ t. IsListed t c.self.inside.children c.self.inside.ids) (sym c.take_zombie.ensures.changes.tree) c.self.invariant.listed)
-    (λ j on. let r = c.self.invariant.room j (sym (ap (λ (t : Tree). t.there j) c.take_zombie.ensures.changes.tree) ∙ on) in (omega (arith, r.0, c.take_zombie.ensures.len), r.1)) c.self.invariant.small
+    dropped.IsKept-dropped c.take_zombie.new.nodes c.drop_empty.new.nodes c.drop_empty.ensures.drops c.take_zombie.new.counters.items c.self.inside.children c.self.inside.ids c.drop_empty.ensures.tree c.drop_empty.ensures.counted c.drop_empty.ensures.linked (subst (λ t. IsListed t c.self.inside.children c.self.inside.ids) (sym c.take_zombie.ensures.changes.tree) c.self.invariant.listed)
+    (λ j on. c.self.invariant.room j (sym (ap (λ (t : Tree). t.there j) c.take_zombie.ensures.changes.tree) ∙ on)) c.self.invariant.small
 
 pub returns-clause-home : goal.returns-clause-home
 returns-clause-home c =

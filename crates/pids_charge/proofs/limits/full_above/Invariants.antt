@@ -2,14 +2,14 @@ use Rattle.std.proofs.Common.{◌≡◌, ℕ, suc, Some, None}
 use Rattle.std.specs.Option.{option_map_or}
 use Rattle.slab.specs.Slab.{ContainsKey}
 use Rattle.pids_charge.specs.Nodes.{tree_of}
-use Rattle.pids_charge.specs.Kept.{first_full}
+use Rattle.pids_charge.specs.Kept.{first_full, total_at}
 use Rattle.pids_charge.proofs.limits.full_above.Given as goal
 
 abbrev pub invariant-loop-at : goal.invariant-loop-at
 invariant-loop-at l = record {
-  here : (a : ℕ) → l.at ≡ Some a → ContainsKey l.nodes a;
-  rest : first_full l.nodes l.totals ((tree_of l.nodes).level l.home) l.home ≡ option_map_or (λ a. first_full l.nodes l.totals ((tree_of l.nodes).level a) a) l.at None;
+  here : (a : ℕ) → l.at ≡ Some a → ContainsKey l._nodes a;
+  rest : first_full l._nodes (total_at l.counters) ((tree_of l._nodes).level l.home) l.home ≡ option_map_or (λ a. first_full l._nodes (total_at l.counters) ((tree_of l._nodes).level a) a) l.at None;
 }
 
 abbrev pub decreases-loop-at : goal.decreases-loop-at
-decreases-loop-at l = option_map_or (λ a. suc ((tree_of l.nodes).level a)) l.at 0
+decreases-loop-at l = option_map_or (λ a. suc ((tree_of l._nodes).level a)) l.at 0

@@ -2,7 +2,7 @@ use Rattle.std.proofs.Common.{◌≡◌, ℕ, suc, Some}
 use Rattle.std.specs.Option.{option_map_or}
 use Rattle.slab.specs.Slab.{ContainsKey}
 use Rattle.pids_charge.specs.Nodes.{tree_of, all_in, IsTree}
-use Rattle.pids_charge.specs.Kept.{IsCounted, DropsEmpty}
+use Rattle.pids_charge.specs.Kept.{IsCounted, DropsEmpty, total_at, AreLinked}
 use Rattle.pids_charge.proofs.tasks.drop_empty.Given as goal
 
 abbrev pub invariant-loop-at : goal.invariant-loop-at
@@ -11,7 +11,8 @@ invariant-loop-at l = record {
   all : all_in l.nodes ≡ all_in l.initial.nodes;
   drops : DropsEmpty l.initial.nodes l.nodes;
   tree : IsTree (tree_of l.nodes);
-  counted : IsCounted l.nodes l.totals.items l.at;
+  counted : IsCounted l.nodes (total_at l.counters.items) l.at;
+  linked : AreLinked l.nodes l.counters.items;
 }
 
 abbrev pub decreases-loop-at : goal.decreases-loop-at

@@ -1,30 +1,42 @@
-use Rattle.std.proofs.Common.{◌+◌, ◌<◌, length, arith, ◌∙◌}
-use Rattle.std.proofs.lemmas.List.{length-set, get_or_read}
+use Rattle.std.proofs.Common.{◌+◌, None, sym, ap, ◌∙◌, arith}
+use Rattle.std.proofs.lemmas.List.{get_or_read}
+use Rattle.pids_charge.specs.declared.counter.Counter.{Counter}
 use Rattle.pids_charge.specs.Nodes.{tree_of}
 use Rattle.pids_charge.proofs.Climbs as climbs
+use Rattle.pids_charge.proofs.Linked as linked
 use Rattle.pids_charge.proofs.walk.raise.Goals as goal
 
-pub overflow_add-index_mut : goal.overflow_add-index_mut
-overflow_add-index_mut c =
+pub overflow_add-counter : goal.overflow_add-counter
+overflow_add-counter c =
     let a = c.in-Some.key in
-    let room : a < length c.loop-at.totals.items = omega (arith, c.requires.room a (c.loop-at.invariant.here a c.in-Some.is), c.loop-at.invariant.len) in
-    let own = climbs.one-own (tree_of c.args.nodes.now) c.requires.levels c.loop-at.at a c.in-Some.is in
-    let under = climbs.weight_true (tree_of c.args.nodes.now) c.args.home a (omega (arith, own, c.loop-at.invariant.part a)) in
-    let read = get_or_read c.loop-at.totals.items a c.index_mut.result.now room c.index_mut.ensures.value 0 in
-    omega (arith, read, own, c.requires.few a under, c.loop-at.invariant.totals a, climbs.weight_one (tree_of c.args.nodes.now) c.args.home a under)
+    let t = tree_of c.args._nodes.now in
+    let on = c.loop-at.invariant.linked a (c.loop-at.invariant.here a c.in-Some.is) in
+    let read = get_or_read c.loop-at.counters.items a c.index_mut-counter.result.now on.room c.index_mut-counter.ensures.value (record { total = 0; limit = None; parent = None }) in
+    let total = ap (λ (x : Counter). x.total) read in
+    let own = climbs.one-own t c.requires.levels c.loop-at.at a c.in-Some.is in
+    let under = climbs.weight_true t c.args.home a (omega (arith, own, c.loop-at.invariant.part a)) in
+    omega (arith, total, own, c.requires.few a under, c.loop-at.invariant.totals a, climbs.weight_one t c.args.home a under)
 
 pub loop-at-smaller : goal.loop-at-smaller
-loop-at-smaller c = climbs.left_smaller c.args.nodes.now c.requires.levels c.loop-at.at c.in-Some.key c.node_at-at.result c.in-Some.is c.node_at-at.ensures
+loop-at-smaller c =
+    let a = c.in-Some.key in
+    let t = tree_of c.args._nodes.now in
+    let on = c.loop-at.invariant.linked a (c.loop-at.invariant.here a c.in-Some.is) in
+    let read = get_or_read c.loop-at.counters.items a c.index_mut-counter.result.now on.room c.index_mut-counter.ensures.value (record { total = 0; limit = None; parent = None }) in
+    climbs.left_smaller t c.requires.levels c.loop-at.at a c.index_mut-counter.result.now.parent c.in-Some.is (ap (λ (x : Counter). x.parent) read ∙ on.parent)
 
 pub loop-at-preserved : goal.loop-at-preserved
 loop-at-preserved c =
     let a = c.in-Some.key in
-    let room : a < length c.loop-at.totals.items = omega (arith, c.requires.room a (c.loop-at.invariant.here a c.in-Some.is), c.loop-at.invariant.len) in
-    let read = get_or_read c.loop-at.totals.items a c.index_mut.result.now room c.index_mut.ensures.value 0 in
-    let step = climbs.left-step c.args.nodes.now c.requires.levels c.loop-at.at a c.node_at-at.result c.in-Some.is c.node_at-at.ensures in
+    let t = tree_of c.args._nodes.now in
+    let on = c.loop-at.invariant.linked a (c.loop-at.invariant.here a c.in-Some.is) in
+    let read = get_or_read c.loop-at.counters.items a c.index_mut-counter.result.now on.room c.index_mut-counter.ensures.value (record { total = 0; limit = None; parent = None }) in
+    let above = ap (λ (x : Counter). x.parent) read ∙ on.parent in
+    let step = climbs.left-step t c.requires.levels c.loop-at.at a c.index_mut-counter.result.now.parent c.in-Some.is above in
     record {
-      here = climbs.parent_there c.args.nodes.now c.requires.levels a c.node_at-at.result c.node_at-at.ensures;
-      totals = λ k. omega (arith, step k, c.loop-at.invariant.totals k, climbs.set-plus c.loop-at.totals.items a c.index_mut.result.now k room read);
+      here = λ p is. (c.requires.levels a p (sym above ∙ is)).0;
+      totals = λ k. omega (arith, step k, c.loop-at.invariant.totals k, climbs.set-plus c.loop-at.counters.items a k c.index_mut-counter.result.now on.room read);
       part = λ k. omega (arith, step k, c.loop-at.invariant.part k);
-      len = length-set c.loop-at.totals.items a (c.index_mut.result.now + 1) ∙ c.loop-at.invariant.len;
+      linked = linked.linked-counted c.loop-at.counters.items a (record c.index_mut-counter.result.now { total = c.index_mut-counter.result.now.total + 1 }) on.room c.args._nodes.now c.loop-at.invariant.linked
+          (ap (λ (x : Counter). x.limit) read) (ap (λ (x : Counter). x.parent) read);
     }
