@@ -1,9 +1,10 @@
 //! Loads to measure the parts of a table with.
 //!
-//! A family is `numbers`, `members` or `layers`. `bench names FAMILY` prints the names of its loads. `bench FAMILY NAME
-//! OPS` prepares the load, does OPS operations of it and prints a checksum: the difference of two runs is the operations
-//! alone. A load of `members` has COUNT keys: `bench members NAME OPS COUNT`. `bench small` does each load at a small
-//! size, those of `numbers` and `members` once more with plain lists, and prints the checksums, where the two agree.
+//! A family is `numbers`, `members` or `layers`. `bench names FAMILY` prints the names of its loads. `bench FAMILY
+//! NAME OPS` prepares the load, does OPS operations of it and prints a checksum: the difference of two runs is the
+//! operations alone. A load of `members` has COUNT keys: `bench members NAME OPS COUNT`. `bench small` does each load
+//! at a small size, those of `numbers` and `members` once more with plain lists, and prints the checksums, where the
+//! two agree.
 #![tactic(auto)]
 
 mod charges;

@@ -1,9 +1,11 @@
 //! The nodes with children.
 
-ghost use Rattle.std.specs.Prelude.{◌≡◌, ℕ, ◌<◌, ◌≤◌, ◌+◌, ◌^◌, ◌/◌, ◌%◌, ◌*◌, length, Option, None, MatchOption, IfOk, IsSome, IsNone, true, false, [], ◌∷◌};
+ghost use Rattle.std.specs.Prelude.{◌≡◌, ℕ, ◌<◌, ◌≤◌, ◌+◌, ◌^◌, ◌/◌, ◌%◌, ◌*◌, length, Option, None, MatchOption, IfOk};
+ghost use Rattle.std.specs.Prelude.{IsSome, IsNone, true, false, [], ◌∷◌};
 ghost use Rattle.std.specs.List.{list_any};
 ghost use Rattle.index_array.specs.Words.{IsSought};
-ghost use Rattle.index_array.specs.Place.{index_count, bare, place_at, entry_at, is_prepared, value_at, entry_with, carries, IsFirst, WritesEntry, KeepsEntries, KeepsPrepared};
+ghost use Rattle.index_array.specs.Place.{index_count, bare, place_at, entry_at, is_prepared, value_at, entry_with};
+ghost use Rattle.index_array.specs.Place.{carries, IsFirst, WritesEntry, KeepsEntries, KeepsPrepared};
 ghost use Rattle.index_array.specs.Tree.{Tree, IsNew, IsChild, IsBelow};
 ghost use Rattle.index_array.specs.declared.bits.Sought.{Sought};
 
@@ -26,7 +28,10 @@ impl<C: Block> Model for Inner<C> {
 
     ghost Value = { Tree ℕ };
 
-    ghost view = { λ a. record { height = C.height + 1; places = places_of a.words (C.height + 1) [] (kids C.tree a.children.items) } };
+    ghost view = { λ a. record {
+      height = C.height + 1;
+      places = places_of a.words (C.height + 1) [] (kids C.tree a.children.items);
+    } };
 
     ghost invariant = { λ a. IsNode a.words (C.height + 1) [] (kids C.tree a.children.items) };
 }

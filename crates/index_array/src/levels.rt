@@ -5,7 +5,8 @@
 
 ghost use Rattle.std.specs.Prelude.{◌≡◌, ℕ, ◌<◌, ◌+◌, ◌^◌, length, None, IsSome, IsNone, true, false, [], ◌∷◌};
 ghost use Rattle.std.specs.List.{list_any};
-ghost use Rattle.index_array.specs.Place.{entry_at, is_prepared, value_at, entry_with, carries, WritesEntry, KeepsEntries, KeepsPrepared};
+ghost use Rattle.index_array.specs.Place.{entry_at, is_prepared, value_at, entry_with, carries, WritesEntry};
+ghost use Rattle.index_array.specs.Place.{KeepsEntries, KeepsPrepared};
 ghost use Rattle.index_array.specs.Tree.{IsChild};
 ghost use Rattle.index_array.specs.declared.bits.Sought.{Sought};
 
