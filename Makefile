@@ -68,6 +68,7 @@ gate:
 	@for it in $$(find out -type l 2> /dev/null | head -n 1); do echo "$$it is a link, which the gate does not take: remove it, or run make clean" >&2; exit 1; done
 	@tools/architecture --check
 	@tools/pages --check
+	@tools/widths --check
 	@tools/gate --check
 	rt ci
 	@$(MAKE) -s hostile
