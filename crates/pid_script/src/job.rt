@@ -3,7 +3,7 @@ ghost use Rattle.std.specs.Prelude.{◌≡◌, Some, ◌+◌, ◌^◌, ◌<◌, 
 ghost use Rattle.pid_script.specs.Script.{said_within, kept_after, last_said};
 ghost use Rattle.pid_script.specs.Job.{Adds, IsStopped, Yields, Refuses};
 
-use crate::bytes::split_at_first;
+use crate::bytes::split_line;
 use crate::line::Line;
 use crate::part::PartLine;
 use crate::session::CHUNK;
@@ -81,7 +81,7 @@ impl Job {
         ensures few { OnOk result (self.new.lines ≤ self.old.lines + length bytes.now) }
     {
         let mut rest = bytes;
-        while let Some((end, after)) = split_at_first(rest, b'\n') {
+        while let Some((end, after)) = split_line(rest) {
             let line = self.part.finish(end);
             self.push(line)?;
             rest = after;

@@ -73,6 +73,7 @@ impl Outbox {
     }
 
     /// Holds the line and its newline, and makes room for them first.
+    #[inline(always)]
     pub fn push_line<K: Sink>(&mut self, sink: &mut K, line: &[u8]) -> Result<(), RunScriptFault>
         requires { length line.now < 8192 }
         ensures ok { OnOk result (Queues (K.did sink.old sink.new) (self.old ++ with_newline line.now) self.new) }

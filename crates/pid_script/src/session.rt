@@ -13,7 +13,7 @@ ghost use Rattle.pid_script.specs.Answers.{answer_of, lent, replied};
 ghost use Rattle.pid_script.specs.Dialogue.{Converses, Queues, Sends, Stalls, Stops};
 ghost use Rattle.pid_script.specs.Session.{Acts, made_by, ended_at, progress_of, Answers, StopsShort, IsTallied, Finishes, Leaves};
 
-use crate::bytes::split_at_first;
+use crate::bytes::split_line;
 use crate::line::Line;
 use crate::outbox::Outbox;
 use crate::part::PartLine;
@@ -193,7 +193,7 @@ fn answer_chunk<T: Table, K: Sink>(
     ensures lines { session.new.tally.lines ≤ session.old.tally.lines + length chunk.now }
 {
     let mut rest = chunk;
-    while let Some((end, after)) = split_at_first(rest, b'\n') {
+    while let Some((end, after)) = split_line(rest) {
         let line = session.part.finish(end);
         answer_line(session, table, sink, line)?;
         rest = after;
