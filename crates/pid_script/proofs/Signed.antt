@@ -1,5 +1,5 @@
 -- Numbers with their sign before a space.
-use Rattle.std.proofs.Common.{◌≡◌, ◌≢◌, ℕ, ◌^◌, ◌<◌, List, [], ◌∷◌, ◌++◌, length, get_or, Option, Some, None, Result, OkIff, sym, ap, ◌∙◌, arith, lit≤, ℤ, pos, FitsSigned, option_and_then, option_map, refl, subst, drop}
+use Rattle.std.proofs.Common.{◌≡◌, ◌≢◌, ℕ, ◌^◌, ◌<◌, List, [], ◌∷◌, length, get_or, Option, Some, None, Result, OkIff, sym, ap, ◌∙◌, arith, lit≤, ℤ, pos, FitsSigned, option_and_then, option_map, refl, subst, drop}
 use Rattle.std.proofs.lemmas.Grind.{common_steps}
 use Rattle.std.specs.Int.{w32}
 use Rattle.std.specs.Result.{result_ok}
@@ -65,8 +65,10 @@ module _ (words : List ℕ) (plain : 0 < length words → get_or words 0 0 ≢ 4
       elim (cut 32 words) as (λ o. cut 32 words ≡ o → option_and_then (λ p. numbered p (number_below (2 ^ 32) p.0)) o ≡ None
       → option_and_then (λ p. signed p (signed_of p.0)) o ≡ None) [
         | None ↦ λ cuts none. refl
-        | Some p ↦ λ cuts none. (rw (signed_of-plain p.0 (first_plain p cuts),
-            number_below-missing (2 ^ 32) (2 ^ 31) p.0 (lit≤ tt) (lit≤ tt) (none_of p _ none)))
+        | Some p ↦ λ cuts none. (rw (
+          signed_of-plain p.0 (first_plain p cuts),
+          number_below-missing (2 ^ 32) (2 ^ 31) p.0 (lit≤ tt) (lit≤ tt) (none_of p _ none),
+        ))
       ] refl missing
 
   pub plain_then : (E : Type 0) (m : ℕ) (rest : List ℕ) (r : Result ℤ E) → number_then (2 ^ 32) words ≡ Some (m, rest)

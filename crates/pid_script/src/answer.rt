@@ -3,7 +3,8 @@
 ghost use Rattle.std.specs.Prelude.{◌≡◌, ◌+◌, ◌*◌, ◌<◌, ◌≤◌, ◌++◌, ◌∷◌, length, codes, decimal};
 ghost use Rattle.std.specs.List.{flat_map};
 ghost use Rattle.pid_types.specs.Refusals.{errno_entry, refusal_entry};
-ghost use Rattle.pid_script.specs.Answers.{joined, refused_by, refusal_text, ended_text, reply_text, answer_of, received, lent};
+ghost use Rattle.pid_script.specs.Answers.{joined, refused_by, refusal_text, ended_text, reply_text, answer_of};
+ghost use Rattle.pid_script.specs.Answers.{received, lent};
 
 use arrayvec::ArrayVec;
 use itoa::Buffer;
@@ -141,8 +142,8 @@ fn push_id<const N: usize>(text: &mut ArrayVec<u8, N>, refusal: Refusal)
     }
 }
 
-/// The name of the errno and the word that says why. Each is a copy of a length that is known, which costs less than one of
-/// any length.
+/// The name of the errno and the word that says why. Each is a copy of a length that is known, which costs less than
+/// one of any length.
 #[inline(always)]
 fn push_refusal_words<const N: usize>(text: &mut ArrayVec<u8, N>, refusal: Refusal)
     requires { length text.old.items + 20 ≤ N }
@@ -186,7 +187,8 @@ fn push_refusal<const N: usize>(text: &mut ArrayVec<u8, N>, refusal: Refusal)
 #[inline(never)]
 fn push_forked<const N: usize>(text: &mut ArrayVec<u8, N>, child: u32, root: u32)
     requires { length text.old.items + 362 ≤ N }
-    ensures items { text.new.items ≡ text.old.items ++ codes "child " ++ decimal child ++ codes " root " ++ decimal root }
+    ensures items { text.new.items
+        ≡ text.old.items ++ codes "child " ++ decimal child ++ codes " root " ++ decimal root }
     ensures len { length text.new.items ≤ length text.old.items + 362 }
 {
     push_labelled(text, b"child ", u64::from(child));
@@ -307,7 +309,8 @@ pub(crate) fn push_answer<const N: usize>(
 /// | [`Reply::NoneYet`] | `none` |
 /// | [`Reply::Control`] | `control ID` |
 /// | [`Reply::End`] | `end` |
-/// | [`Reply::Refused`] | the name of the errno and a word, as `ESRCH no-caller`, and for [`Refusal::NoNumber`] and [`Refusal::PidsLimit`] the id |
+/// | [`Reply::Refused`] | the name of the errno and a word, as `ESRCH no-caller` |
+/// | of [`Refusal::NoNumber`] and [`Refusal::PidsLimit`] | the same, and the id behind it |
 /// | [`CallFault::NoMemory`] | `no memory` |
 /// | [`CallFault::Spent`] | `spent` |
 ///

@@ -2,7 +2,11 @@
 //! of each command; each answers `None` for words that are no such command's.
 ghost use Rattle.std.specs.Prelude.{◌≡◌, ◌<◌, length};
 ghost use Rattle.pid_types.specs.declared.call.Call.TheVariants as calls;
-ghost use Rattle.pid_script.specs.Reading.{pair_of, fork_new_of, fork_of, exit_of, numbered_of, which_of, wait_of, set_pgid_of, kind_of, next_of, limit_of, move_of, switch_of, subreaper_of, by_process, by_pair, by_control, two_letters_of, four_letters_of, five_letters_of, six_letters_of, seven_letters_of, nine_letters_of, command_of, call_of, call_or_bad, parsed};
+ghost use Rattle.pid_script.specs.Reading.{pair_of, fork_new_of, fork_of, exit_of, numbered_of, which_of, wait_of};
+ghost use Rattle.pid_script.specs.Reading.{set_pgid_of, kind_of, next_of, limit_of, move_of, switch_of, subreaper_of};
+ghost use Rattle.pid_script.specs.Reading.{by_process, by_pair, by_control, two_letters_of, four_letters_of};
+ghost use Rattle.pid_script.specs.Reading.{five_letters_of, six_letters_of, seven_letters_of, nine_letters_of};
+ghost use Rattle.pid_script.specs.Reading.{command_of, call_of, call_or_bad, parsed};
 ghost use Rattle.pid_script.specs.Lines.{Says};
 
 use crate::bytes::split_word;
@@ -348,7 +352,7 @@ fn next_line(words: &[u8]) -> Line
 }
 
 /// What `setpgid` says with the words behind it.
-#[inline(never)]
+#[inline(always)]
 fn set_pgid_line(words: &[u8]) -> Line
     ensures { result ≡ call_or_bad (set_pgid_of words.now) }
 {
@@ -364,7 +368,7 @@ fn set_sid_line(words: &[u8]) -> Line
 }
 
 /// What `getpid` says with the words behind it.
-#[inline(never)]
+#[inline(always)]
 fn get_pid_line(words: &[u8]) -> Line
     ensures { result ≡ call_or_bad (by_process calls.GetPid words.now) }
 {

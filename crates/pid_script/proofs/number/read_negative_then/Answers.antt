@@ -14,5 +14,5 @@ returns-in_err-negated c =
 pub returns : goal.returns
 returns c =
     let e = minus_some c.args.digits.now c.in_ok-magnitude.magnitude c.in_ok-magnitude.rest.now (Some c.in_ok-negated.field-0)
-        (sym c.in_ok-magnitude.ensures) c.in_ok-negated.ensures in
+    (sym c.in_ok-magnitude.ensures) c.in_ok-negated.ensures in
     search (rules, e)
