@@ -11,8 +11,8 @@ ghost use Rattle.pid_types.specs.declared.reply.Reply.{Reply};
 ghost use Rattle.pid_script.specs.declared.tally.RunScriptFault.TheVariants.{NoMemory, Write};
 ghost use Rattle.pid_script.specs.Script.{begun, with_newline, HasStopped, said_within, kept_after, last_said};
 ghost use Rattle.pid_script.specs.Answers.{answer_of, lent, replied};
-ghost use Rattle.pid_script.specs.Dialogue.{Converses, Queues, Sends, Stalls, Stops};
-ghost use Rattle.pid_script.specs.Session.{Acts, made_by, ended_at, progress_of, Answers, StopsShort, IsTallied};
+ghost use Rattle.pid_script.specs.Dialogue.{Converses, Queues, Responds, Stops};
+ghost use Rattle.pid_script.specs.Session.{Acts, made_by, ended_at, progress_of, IsTallied};
 ghost use Rattle.pid_script.specs.Session.{Finishes, Leaves};
 
 use crate::bytes::split_line;
@@ -128,15 +128,11 @@ fn answer_call<T: Table, K: Sink>(
 ) -> Result<(), RunScriptFault>
     requires counted { IsTallied session.old.tally }
     requires room { session.old.tally.lines + 1 < 2 ^ 64 }
-    ensures ok { OnOk result (Answers
+    ensures told { Responds result
         (progress_of (T.state table.old) (T.stamp table.old) session.old.tally session.old.outbox)
         (progress_of (T.state table.new) (T.stamp table.new) session.new.tally session.new.outbox)
-        (Sends (K.did sink.old sink.new)) (T.did table.old table.new) (Line.Call call ∷ [])) }
-    ensures err { OnErr result (StopsShort
-        (progress_of (T.state table.old) (T.stamp table.old) session.old.tally session.old.outbox)
-        (Stalls (K.did sink.old sink.new)) (Line.Call call ∷ [])) }
-    ensures fault { IfErr result (λ e. e ≡ Write) }
-    ensures stopped { OnErr result (HasStopped (K.has_failed sink.new) (K.is_full sink.new)) }
+        (K.did sink.old sink.new) (T.did table.old table.new) (Line.Call call ∷ [])
+        (K.has_failed sink.new) (K.is_full sink.new) }
     ensures part { session.new.part ≡ session.old.part }
     ensures counted { IsTallied session.new.tally }
     ensures lines { session.new.tally.lines ≡ session.old.tally.lines + 1 }
@@ -155,15 +151,11 @@ fn answer_line<T: Table, K: Sink>(
 ) -> Result<(), RunScriptFault>
     requires counted { IsTallied session.old.tally }
     requires room { session.old.tally.lines + 1 < 2 ^ 64 }
-    ensures ok { OnOk result (Answers
+    ensures told { Responds result
         (progress_of (T.state table.old) (T.stamp table.old) session.old.tally session.old.outbox)
         (progress_of (T.state table.new) (T.stamp table.new) session.new.tally session.new.outbox)
-        (Sends (K.did sink.old sink.new)) (T.did table.old table.new) (line ∷ [])) }
-    ensures err { OnErr result (StopsShort
-        (progress_of (T.state table.old) (T.stamp table.old) session.old.tally session.old.outbox)
-        (Stalls (K.did sink.old sink.new)) (line ∷ [])) }
-    ensures fault { IfErr result (λ e. e ≡ Write) }
-    ensures stopped { OnErr result (HasStopped (K.has_failed sink.new) (K.is_full sink.new)) }
+        (K.did sink.old sink.new) (T.did table.old table.new) (line ∷ [])
+        (K.has_failed sink.new) (K.is_full sink.new) }
     ensures part { session.new.part ≡ session.old.part }
     ensures counted { IsTallied session.new.tally }
     ensures lines { session.new.tally.lines ≡ session.old.tally.lines + 1 }
@@ -191,16 +183,12 @@ fn answer_chunk<T: Table, K: Sink>(
 ) -> Result<(), RunScriptFault>
     requires counted { IsTallied session.old.tally }
     requires room { session.old.tally.lines + length chunk.now < 2 ^ 64 }
-    ensures ok { OnOk result (Answers
+    ensures told { Responds result
         (progress_of (T.state table.old) (T.stamp table.old) session.old.tally session.old.outbox)
         (progress_of (T.state table.new) (T.stamp table.new) session.new.tally session.new.outbox)
-        (Sends (K.did sink.old sink.new)) (T.did table.old table.new) (said_within session.old.part chunk.now)) }
+        (K.did sink.old sink.new) (T.did table.old table.new) (said_within session.old.part chunk.now)
+        (K.has_failed sink.new) (K.is_full sink.new) }
     ensures part { OnOk result (session.new.part ≡ kept_after session.old.part chunk.now) }
-    ensures err { OnErr result (StopsShort
-        (progress_of (T.state table.old) (T.stamp table.old) session.old.tally session.old.outbox)
-        (Stalls (K.did sink.old sink.new)) (said_within session.old.part chunk.now)) }
-    ensures fault { IfErr result (λ e. e ≡ Write) }
-    ensures stopped { OnErr result (HasStopped (K.has_failed sink.new) (K.is_full sink.new)) }
     ensures counted { IsTallied session.new.tally }
     ensures lines { session.new.tally.lines ≤ session.old.tally.lines + length chunk.now }
 {
@@ -222,15 +210,11 @@ fn answer_last<T: Table, K: Sink>(
 ) -> Result<(), RunScriptFault>
     requires counted { IsTallied session.old.tally }
     requires room { session.old.tally.lines + 1 < 2 ^ 64 }
-    ensures ok { OnOk result (Answers
+    ensures { Responds result
         (progress_of (T.state table.old) (T.stamp table.old) session.old.tally session.old.outbox)
         (progress_of (T.state table.new) (T.stamp table.new) session.new.tally session.new.outbox)
-        (Sends (K.did sink.old sink.new)) (T.did table.old table.new) (last_said session.old.part)) }
-    ensures err { OnErr result (StopsShort
-        (progress_of (T.state table.old) (T.stamp table.old) session.old.tally session.old.outbox)
-        (Stalls (K.did sink.old sink.new)) (last_said session.old.part)) }
-    ensures fault { IfErr result (λ e. e ≡ Write) }
-    ensures stopped { OnErr result (HasStopped (K.has_failed sink.new) (K.is_full sink.new)) }
+        (K.did sink.old sink.new) (T.did table.old table.new) (last_said session.old.part)
+        (K.has_failed sink.new) (K.is_full sink.new) }
 {
     if session.part.is_empty() {
         return Ok(());
@@ -247,15 +231,11 @@ fn finish<T: Table, K: Sink>(
 ) -> Result<(), RunScriptFault>
     requires counted { IsTallied session.old.tally }
     requires room { session.old.tally.lines + 1 < 2 ^ 64 }
-    ensures ok { OnOk result (Answers
+    ensures { Responds result
         (progress_of (T.state table.old) (T.stamp table.old) session.old.tally session.old.outbox)
         (progress_of (T.state table.new) (T.stamp table.new) session.new.tally [])
-        (Sends (K.did sink.old sink.new)) (T.did table.old table.new) (last_said session.old.part)) }
-    ensures err { OnErr result (StopsShort
-        (progress_of (T.state table.old) (T.stamp table.old) session.old.tally session.old.outbox)
-        (Stalls (K.did sink.old sink.new)) (last_said session.old.part)) }
-    ensures fault { IfErr result (λ e. e ≡ Write) }
-    ensures stopped { OnErr result (HasStopped (K.has_failed sink.new) (K.is_full sink.new)) }
+        (K.did sink.old sink.new) (T.did table.old table.new) (last_said session.old.part)
+        (K.has_failed sink.new) (K.is_full sink.new) }
 {
     answer_last(session, table, sink)?;
     session.outbox.flush(sink)
