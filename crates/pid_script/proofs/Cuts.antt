@@ -20,6 +20,11 @@ pub cut-append : (byte : ℕ) (w rest : List ℕ) → Lacks byte w → cut byte 
 cut-append byte [] rest lacks = rw (same_eqb byte)
 cut-append byte (b ∷ w) rest lacks = rw (lacks.0, cut-append byte w rest lacks.1)
 
+-- a cut at the front
+pub cut-front : (byte : ℕ) (bs : List ℕ) → 0 < length bs → get_or bs 0 0 ≡ byte → cut byte bs ≡ Some ([], drop 1 bs)
+cut-front byte [] long is = absurd (omega arith)
+cut-front byte (b ∷ bs) long is = rw (is, same_eqb byte)
+
 -- without such a byte there is no cut
 pub cut-lacks : (byte : ℕ) (w : List ℕ) → Lacks byte w → cut byte w ≡ None
 cut-lacks byte [] lacks = refl

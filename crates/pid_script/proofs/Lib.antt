@@ -15,3 +15,4 @@ pub mod Ends
 pub mod Turns
 pub mod Jobs
 pub mod Search
+pub mod Signed

@@ -1,5 +1,5 @@
 -- Each call's line says that call.
-use Rattle.std.proofs.Common.{◌≡◌, ◌≢◌, ℕ, ◌^◌, ◌<◌, ◌≤◌, Bool, true, false, cond, eqb, List, [], ◌∷◌, ◌++◌, get_or, Option, Some, None, suc, decimal, codes, refl, ap, subst, arith, ℤ, pos, FitsSigned, lit≤, option_map, option_and_then}
+use Rattle.std.proofs.Common.{◌≡◌, ◌≢◌, ℕ, ◌^◌, ◌<◌, ◌≤◌, Bool, true, false, cond, eqb, List, [], ◌∷◌, ◌++◌, get_or, Option, Some, None, suc, decimal, codes, refl, ap, ◌∙◌, subst, arith, ℤ, pos, FitsSigned, lit≤, option_map, option_and_then}
 use lib.IntN.{negsuc}
 use Rattle.std.specs.Int.{w32}
 use Rattle.std.specs.Fmt.{signed_decimal}
@@ -18,7 +18,7 @@ use Rattle.pid_types.specs.declared.call.Kind.TheVariants as kind
 use Rattle.pid_script.specs.declared.line.Line.TheVariants as says
 use Rattle.pid_script.specs.Lines.{word_of_kind, words_of_which, line_of, Fits, FitsWhich}
 use Rattle.pid_script.specs.Reading.{cut, number_below, signed_of, pair_of, is_word, forked_by, fork_new_of, fork_of, exit_of, numbered_of, which_of, wait_of, set_pgid_of, kind_of, next_of, limit_of, move_of, switch_of, subreaper_of, two_letters_of, four_letters_of, five_letters_of, six_letters_of, seven_letters_of, nine_letters_of, command_of, by_process, by_pair, by_control, call_or_bad, parsed}
-use Rattle.pid_script.proofs.Cuts.{Lacks, cut-append, cut-lacks}
+use Rattle.pid_script.proofs.Cuts.{Lacks, cut-append, cut-lacks, cut-Some}
 use Rattle.pid_script.proofs.Numbers.{numerals, number_below-decimal, number_below-Some, signed_of-decimal}
 
 lacks_space : (ds : List ℕ) → AllDigits 10 ds → Lacks 32 ds
@@ -88,6 +88,28 @@ fork_more words none =
       | None ↦ (rw none)
       | Some p ↦ new_or_none (is_word (codes "new") p.1) (number_below (2 ^ 32) p.0) p.1 refl
     ]
+
+not_true : (b : Bool) → (b ≡ true → ⊥) → b ≡ false
+not_true true never = absurd (never refl)
+not_true false never = refl
+
+no_new : (o : Option ℕ) (rest : List ℕ) → is_word (codes "new") rest ≡ false
+    → option_and_then (λ (q : ℕ × List ℕ). cond (is_word (codes "new") q.1) (Some (Fork q.0 true)) None) (option_and_then (λ n. Some (n, rest)) o)
+    ≡ None
+no_new None rest is = refl
+no_new (Some n) rest is = rw is
+
+-- words that do not end so are no fork into a new namespace
+pub not_new : (words : List ℕ) → ((front : List ℕ) → words ≢ front ++ codes " new") → fork_new_of words ≡ None
+unfolding fork_new_of
+not_new words never =
+    elim (cut 32 words) as (λ o. cut 32 words ≡ o
+    → option_and_then (λ (q : ℕ × List ℕ). cond (is_word (codes "new") q.1) (Some (Fork q.0 true)) None)
+    (option_and_then (λ (p : List ℕ × List ℕ). option_and_then (λ n. Some (n, p.1)) (number_below (2 ^ 32) p.0)) o) ≡ None) [
+      | None ↦ λ cuts. refl
+      | Some p ↦ λ cuts. no_new (number_below (2 ^ 32) p.0) p.1
+          (not_true _ (λ is. never p.0 (cut-Some 32 words p cuts ∙ ap (λ rest. p.0 ++ 32 ∷ rest) ((bytes_eq-Decides _ _).0 is))))
+    ] refl
 
 exited : (n status : ℕ) → n < 2 ^ 32 → status < 2 ^ 8 → exit_of (decimal n ++ 32 ∷ decimal status) ≡ Some (Exit n status)
 unfolding exit_of

@@ -1,17 +1,17 @@
 -- A line that says a call is that call's line.
-use Rattle.std.proofs.Common.{◌≡◌, ℕ, ◌^◌, ◌<◌, Bool, true, false, cond, eqb, List, [], ◌∷◌, ◌++◌, length, Option, Some, None, decimal, codes, refl, sym, ap, ◌∙◌, subst, option_map, option_and_then}
+use Rattle.std.proofs.Common.{◌≡◌, ℕ, ◌^◌, ◌<◌, Bool, true, false, cond, eqb, List, [], ◌∷◌, ◌++◌, length, Option, Some, None, decimal, codes, refl, sym, ap, ◌∙◌, subst, option_map, option_and_then, ℤ}
 use Rattle.std.specs.Fmt.{signed_decimal}
 use Rattle.std.specs.List.{join_with_byte}
 use Rattle.std.proofs.lemmas.Option.{none-some, same_Some, option_and_then_some}
 use Rattle.std.proofs.lemmas.Slice.Eq.{bytes_eq-Decides}
 use Rattle.pid_types.specs.declared.call.Call.{Call}
-use Rattle.pid_types.specs.declared.call.Call.TheVariants.{GetPid, NsPid, Exec, Wait, GetPpid, SetSid, MakeControl, RemoveControl, Count, GetPgid, GetSid, Join, SetSubreaper}
+use Rattle.pid_types.specs.declared.call.Call.TheVariants.{GetPid, NsPid, Exec, Wait, GetPpid, SetSid, MakeControl, RemoveControl, Count, GetPgid, GetSid, Join, SetSubreaper, SetPgid}
 use Rattle.pid_types.specs.declared.call.Which.{Which}
 use Rattle.pid_types.specs.declared.call.Which.TheVariants.{Any, Pid, OwnGroup, Group}
 use Rattle.pid_types.specs.declared.call.Kind.{Kind}
 use Rattle.pid_script.specs.declared.line.Line.TheVariants as says
 use Rattle.pid_script.specs.Lines.{word_of_kind, words_of_which, line_of, Fits, FitsWhich, IsLineOf, Says}
-use Rattle.pid_script.specs.Reading.{cut, number_below, number_then, signed_of, pair_of, is_word, forked_by, fork_of, exit_of, numbered_of, which_of, wait_of, set_pgid_of, kind_of, next_of, limit_of, move_of, switch_of, subreaper_of, two_letters_of, four_letters_of, five_letters_of, six_letters_of, seven_letters_of, nine_letters_of, command_of, by_pair, call_of, call_or_bad, parsed}
+use Rattle.pid_script.specs.Reading.{cut, number_below, number_then, signed_of, signed_then, pair_of, is_word, forked_by, fork_of, exit_of, numbered_of, which_of, wait_of, set_pgid_of, kind_of, next_of, limit_of, move_of, switch_of, subreaper_of, two_letters_of, four_letters_of, five_letters_of, six_letters_of, seven_letters_of, nine_letters_of, command_of, by_pair, call_of, call_or_bad, parsed}
 use Rattle.pid_script.proofs.Cuts.{cut-Some, option_map_some}
 use Rattle.pid_script.proofs.Printed.{parsed-line_of}
 use Rattle.pid_script.proofs.Numbers.{number_below-Some, signed_of-Some}
@@ -109,9 +109,13 @@ read_set_pgid : (words : List ℕ) (c : Call) → set_pgid_of words ≡ Some c �
 unfolding set_pgid_of line_of
 read_set_pgid words c is =
     number_first (2 ^ 32) words _ c _ (λ caller ids front below then.
-    option_and_then_some _ (cut 32 ids) c then (λ q cuts rest.
-    option_and_then_some _ (signed_of q.0) c rest (λ process second rest.
-    option_and_then_some _ (signed_of q.1) c rest (λ group third last.
+    option_and_then_some _ (signed_then ids) c then (λ first here rest.
+    option_and_then_some _ (cut 32 ids) first here (λ q cuts named.
+    option_and_then_some _ (signed_of q.0) first named (λ process second same.
+    let left : option_and_then (λ group. Some (SetPgid caller process group)) (signed_of q.1) ≡ Some c =
+    subst (λ (t : ℤ × List ℕ). option_and_then (λ group. Some (SetPgid caller t.0 group)) (signed_of t.1) ≡ Some c)
+    (sym (same_Some _ first same)) rest in
+    option_and_then_some _ (signed_of q.1) c left (λ group third last.
     let b = signed_of-Some q.0 process second in
     let d = signed_of-Some q.1 group third in
     subst (Spells (codes "setpgid") words) (same_Some _ c last) (record {
@@ -119,7 +123,7 @@ read_set_pgid words c is =
           ∙ ap (λ w. decimal caller ++ 32 ∷ (w ++ 32 ∷ q.1)) (sym b.1)
           ∙ ap (λ w. decimal caller ++ 32 ∷ (signed_decimal process ++ 32 ∷ w)) (sym d.1));
       fits = (below, b.0, d.0);
-    }))))) is
+    })))))) is
 
 read_kind : (word : List ℕ) (k : Kind) → kind_of word ≡ Some k → word ≡ word_of_kind k
 unfolding kind_of

@@ -1,12 +1,15 @@
 -- What a script does with its devices, in order.
-use Rattle.std.specs.Prelude.{ℕ, ◌≡◌, ◌<◌, ◌≤◌, Bool, true, false, ⊤, List, [], ◌∷◌, ◌++◌, length, map, Option, Some, None, Result, if◌then◌else◌, nat_lt}
+use Rattle.std.specs.Prelude.{ℕ, ◌≡◌, ◌<◌, ◌≤◌, Bool, true, false, ⊤, List, [], ◌∷◌, ◌++◌, length, map, Option, Some, None, Result, OnOk, OnErr, IfErr, if◌then◌else◌, nat_lt}
 use Rattle.std.specs.List.{list_any}
 use Rattle.std.specs.Result.{result_err}
 use Rattle.pid_types.specs.Devices.{Event, Reading, Writing, heard, said, readings, IsWell, AreWell}
 use Rattle.pid_script.specs.declared.line.Line.{Line}
 use Rattle.pid_script.specs.declared.tally.RunScriptFault.{RunScriptFault}
 use Rattle.pid_script.specs.declared.tally.RunScriptFault.TheVariants as fault
-use Rattle.pid_script.specs.Script.{Progress, said_of, said_whole, after_script}
+use Rattle.pid_types.specs.declared.call.Call.{Call}
+use Rattle.pid_types.specs.declared.reply.Reply.{Reply}
+use Rattle.pid_script.specs.Script.{Progress, HasStopped, said_of, said_whole, after_script}
+use Rattle.pid_script.specs.Session.{Answers, StopsShort}
 
 -- the sink took these bytes, by writes that each took some
 pub record Sends (did : List Event → Type 0) (bytes : List ℕ) : Type 0 where
@@ -34,6 +37,14 @@ Queues did bytes held = (sent : List ℕ) × Sends did sent × (bytes ≡ sent +
 -- of these bytes not all were sent
 abbrev pub Stops : (List Event → Type 0) → List ℕ → Type 0
 Stops did bytes = (sent left : List ℕ) × Stalls did sent × (bytes ≡ sent ++ left) × (0 < length left)
+
+-- how these lines went: they took the script from p to q; or the sink has stopped, and took not all of their answers
+pub record Responds {T : Type 0} (result : Result T RunScriptFault) (p q : Progress) (did : List Event → Type 0)
+    (made : List (Call × Reply) → Type 0) (lines : List Line) (failed full : Bool) : Type 0 where
+  pub ok : OnOk result (Answers p q (Sends did) made lines)
+  pub err : OnErr result (StopsShort p (Stalls did) lines)
+  pub fault : IfErr result (λ e. e ≡ fault.Write)
+  pub stopped : OnErr result (HasStopped failed full)
 
 -- a read that asked for a byte, and found the end
 abbrev pub is_end : Event → Bool

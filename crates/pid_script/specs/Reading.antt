@@ -64,6 +64,13 @@ number_then bound words = do
   number ← number_below bound p.0
   Some (number, p.1)
 
+-- the number with its sign before the first space, and what stands after that space
+abbrev pub signed_then : List ℕ → Option (ℤ × List ℕ)
+signed_then words = do
+  p ← cut 32 words
+  number ← signed_of p.0
+  Some (number, p.1)
+
 -- two process numbers
 unfoldable pub pair_of : List ℕ → Option (ℕ × ℕ)
 pair_of words = do
@@ -124,10 +131,9 @@ wait_of words = do
 unfoldable pub set_pgid_of : List ℕ → Option Call
 set_pgid_of words = do
   caller ← number_then (2 ^ 32) words
-  ids ← cut 32 caller.1
-  pid ← signed_of ids.0
-  pgid ← signed_of ids.1
-  Some (SetPgid caller.0 pid pgid)
+  pid ← signed_then caller.1
+  pgid ← signed_of pid.1
+  Some (SetPgid caller.0 pid.0 pgid)
 
 -- a kind of number
 unfoldable pub kind_of : List ℕ → Option Kind

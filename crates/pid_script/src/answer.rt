@@ -3,7 +3,8 @@
 ghost use Rattle.std.specs.Prelude.{◌≡◌, ◌+◌, ◌*◌, ◌<◌, ◌≤◌, ◌++◌, ◌∷◌, length, codes, decimal};
 ghost use Rattle.std.specs.List.{flat_map};
 ghost use Rattle.pid_types.specs.Refusals.{errno_entry, refusal_entry};
-ghost use Rattle.pid_script.specs.Answers.{joined, refused_by, refusal_text, ended_text, reply_text, answer_of, received, lent};
+ghost use Rattle.pid_script.specs.Answers.{joined, refused_by, refusal_text, ended_text, reply_text, answer_of};
+ghost use Rattle.pid_script.specs.Answers.{received, lent};
 
 use arrayvec::ArrayVec;
 use itoa::Buffer;
@@ -141,31 +142,35 @@ fn push_id<const N: usize>(text: &mut ArrayVec<u8, N>, refusal: Refusal)
     }
 }
 
-/// The name of the errno and the word that says why, in one piece, which costs one copy.
-fn refusal_words(refusal: Refusal) -> &'static [u8]
-    ensures words { result.now ≡ (errno_entry (refusal_entry refusal).error).name ++ codes " " ++ (refusal_entry refusal).word }
-    ensures short { length result.now ≤ 20 }
+/// The name of the errno and the word that says why. Each is a copy of a length that is known, which costs less than
+/// one of any length.
+#[inline(always)]
+fn push_refusal_words<const N: usize>(text: &mut ArrayVec<u8, N>, refusal: Refusal)
+    requires { length text.old.items + 20 ≤ N }
+    ensures items { text.new.items ≡ text.old.items ++ (errno_entry (refusal_entry refusal).error).name ++ codes " "
+        ++ (refusal_entry refusal).word }
+    ensures len { length text.new.items ≤ length text.old.items + 20 }
 {
     match refusal {
-        Refusal::NoCaller => b"ESRCH no-caller",
-        Refusal::NoTask => b"ESRCH no-task",
-        Refusal::NoChild => b"ECHILD no-child",
-        Refusal::NoNumber(_) => b"EAGAIN no-number",
-        Refusal::PidsLimit(_) => b"EAGAIN pids-limit",
-        Refusal::SpaceFallen => b"ENOMEM space-fallen",
-        Refusal::TooDeep => b"ENOSPC too-deep",
-        Refusal::Elsewhere => b"EINVAL elsewhere",
-        Refusal::BadGroup => b"EINVAL bad-group",
-        Refusal::OtherSession => b"EPERM other-session",
-        Refusal::IsLeader => b"EPERM is-leader",
-        Refusal::NoGroup => b"EPERM no-group",
-        Refusal::Executed => b"EACCES executed",
-        Refusal::RootInit => b"EBUSY root-init",
-        Refusal::NoControl => b"ENOENT no-control",
-        Refusal::ControlBusy => b"EBUSY control-busy",
-        Refusal::RootControl => b"EINVAL root-control",
-        Refusal::BadLimit => b"EINVAL bad-limit",
-        Refusal::ControlDepth => b"EAGAIN control-depth",
+        Refusal::NoCaller => push_bytes(text, b"ESRCH no-caller"),
+        Refusal::NoTask => push_bytes(text, b"ESRCH no-task"),
+        Refusal::NoChild => push_bytes(text, b"ECHILD no-child"),
+        Refusal::NoNumber(_) => push_bytes(text, b"EAGAIN no-number"),
+        Refusal::PidsLimit(_) => push_bytes(text, b"EAGAIN pids-limit"),
+        Refusal::SpaceFallen => push_bytes(text, b"ENOMEM space-fallen"),
+        Refusal::TooDeep => push_bytes(text, b"ENOSPC too-deep"),
+        Refusal::Elsewhere => push_bytes(text, b"EINVAL elsewhere"),
+        Refusal::BadGroup => push_bytes(text, b"EINVAL bad-group"),
+        Refusal::OtherSession => push_bytes(text, b"EPERM other-session"),
+        Refusal::IsLeader => push_bytes(text, b"EPERM is-leader"),
+        Refusal::NoGroup => push_bytes(text, b"EPERM no-group"),
+        Refusal::Executed => push_bytes(text, b"EACCES executed"),
+        Refusal::RootInit => push_bytes(text, b"EBUSY root-init"),
+        Refusal::NoControl => push_bytes(text, b"ENOENT no-control"),
+        Refusal::ControlBusy => push_bytes(text, b"EBUSY control-busy"),
+        Refusal::RootControl => push_bytes(text, b"EINVAL root-control"),
+        Refusal::BadLimit => push_bytes(text, b"EINVAL bad-limit"),
+        Refusal::ControlDepth => push_bytes(text, b"EAGAIN control-depth"),
     }
 }
 
@@ -175,14 +180,15 @@ fn push_refusal<const N: usize>(text: &mut ArrayVec<u8, N>, refusal: Refusal)
     ensures items { text.new.items ≡ text.old.items ++ refusal_text refusal }
     ensures len { length text.new.items ≤ length text.old.items + 362 }
 {
-    push_bytes(text, refusal_words(refusal));
+    push_refusal_words(text, refusal);
     push_id(text, refusal);
 }
 
 #[inline(never)]
 fn push_forked<const N: usize>(text: &mut ArrayVec<u8, N>, child: u32, root: u32)
     requires { length text.old.items + 362 ≤ N }
-    ensures items { text.new.items ≡ text.old.items ++ codes "child " ++ decimal child ++ codes " root " ++ decimal root }
+    ensures items { text.new.items
+        ≡ text.old.items ++ codes "child " ++ decimal child ++ codes " root " ++ decimal root }
     ensures len { length text.new.items ≤ length text.old.items + 362 }
 {
     push_labelled(text, b"child ", u64::from(child));
@@ -303,7 +309,8 @@ pub(crate) fn push_answer<const N: usize>(
 /// | [`Reply::NoneYet`] | `none` |
 /// | [`Reply::Control`] | `control ID` |
 /// | [`Reply::End`] | `end` |
-/// | [`Reply::Refused`] | the name of the errno and a word, as `ESRCH no-caller`, and for [`Refusal::NoNumber`] and [`Refusal::PidsLimit`] the id |
+/// | [`Reply::Refused`] | the name of the errno and a word, as `ESRCH no-caller` |
+/// | of [`Refusal::NoNumber`] and [`Refusal::PidsLimit`] | the same, and the id behind it |
 /// | [`CallFault::NoMemory`] | `no memory` |
 /// | [`CallFault::Spent`] | `spent` |
 ///

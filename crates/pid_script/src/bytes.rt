@@ -54,9 +54,29 @@ fn first_index(bytes: &[u8], byte: u8) -> Option<usize>
 }
 
 /// What stands before the first such byte, and what stands after it.
-pub fn split_at_first(bytes: &[u8], byte: u8) -> Option<(&[u8], &[u8])>
+#[inline(always)]
+fn split_at_first(bytes: &[u8], byte: u8) -> Option<(&[u8], &[u8])>
     ensures { option_map (λ p. (p.0.now, p.1.now)) result ≡ cut byte bytes.now }
 {
     let end = first_index(bytes, byte)?;
     Some((&bytes[..end], &bytes[end + 1..]))
+}
+
+/// What stands before the first space, and what stands after it.
+pub fn split_word(words: &[u8]) -> Option<(&[u8], &[u8])>
+    ensures { option_map (λ p. (p.0.now, p.1.now)) result ≡ cut 32 words.now }
+{
+    split_at_first(words, b' ')
+}
+
+/// The first line without its newline, and what stands after that, where a line ends within the bytes. An empty line is
+/// told by its one byte, before any is searched for.
+#[inline(always)]
+pub fn split_line(bytes: &[u8]) -> Option<(&[u8], &[u8])>
+    ensures { option_map (λ p. (p.0.now, p.1.now)) result ≡ cut 10 bytes.now }
+{
+    if let [b'\n', after @ ..] = bytes {
+        return Some((&bytes[..0], after));
+    }
+    split_at_first(bytes, b'\n')
 }

@@ -3,7 +3,7 @@ ghost use Rattle.std.specs.Prelude.{◌≡◌, Some, ◌+◌, ◌^◌, ◌<◌, 
 ghost use Rattle.pid_script.specs.Script.{said_within, kept_after, last_said};
 ghost use Rattle.pid_script.specs.Job.{Adds, IsStopped, Yields, Refuses};
 
-use crate::bytes::split_at_first;
+use crate::bytes::split_line;
 use crate::line::Line;
 use crate::part::PartLine;
 use crate::session::CHUNK;
@@ -57,7 +57,8 @@ impl Job {
     /// Adds what a line says.
     fn push(&mut self, line: Line) -> Result<(), JobFault>
         requires room { self.old.lines + 1 < 2 ^ 64 }
-        ensures ok { OnOk result (Adds self.old.calls.items self.old.lines self.new.calls.items self.new.lines (line ∷ [])) }
+        ensures ok { OnOk result (Adds self.old.calls.items self.old.lines
+            self.new.calls.items self.new.lines (line ∷ [])) }
         ensures err { IfErr result (IsStopped self.old.lines (line ∷ [])) }
         ensures part { self.new.part ≡ self.old.part }
     {
@@ -75,13 +76,14 @@ impl Job {
     /// Adds the lines that end within the bytes, and keeps what comes behind them.
     fn push_bytes(&mut self, bytes: &[u8]) -> Result<(), JobFault>
         requires room { self.old.lines + length bytes.now < 2 ^ 64 }
-        ensures ok { OnOk result (Adds self.old.calls.items self.old.lines self.new.calls.items self.new.lines (said_within self.old.part bytes.now)) }
+        ensures ok { OnOk result (Adds self.old.calls.items self.old.lines
+            self.new.calls.items self.new.lines (said_within self.old.part bytes.now)) }
         ensures err { IfErr result (IsStopped self.old.lines (said_within self.old.part bytes.now)) }
         ensures part { OnOk result (self.new.part ≡ kept_after self.old.part bytes.now) }
         ensures few { OnOk result (self.new.lines ≤ self.old.lines + length bytes.now) }
     {
         let mut rest = bytes;
-        while let Some((end, after)) = split_at_first(rest, b'\n') {
+        while let Some((end, after)) = split_line(rest) {
             let line = self.part.finish(end);
             self.push(line)?;
             rest = after;
@@ -93,7 +95,8 @@ impl Job {
     /// Adds the last line, if it has no newline.
     fn push_last(&mut self) -> Result<(), JobFault>
         requires room { self.old.lines + 1 < 2 ^ 64 }
-        ensures ok { OnOk result (Adds self.old.calls.items self.old.lines self.new.calls.items self.new.lines (last_said self.old.part)) }
+        ensures ok { OnOk result (Adds self.old.calls.items self.old.lines
+            self.new.calls.items self.new.lines (last_said self.old.part)) }
         ensures err { IfErr result (IsStopped self.old.lines (last_said self.old.part)) }
     {
         if self.part.is_empty() {

@@ -2,11 +2,15 @@
 //! of each command; each answers `None` for words that are no such command's.
 ghost use Rattle.std.specs.Prelude.{◌≡◌, ◌<◌, length};
 ghost use Rattle.pid_types.specs.declared.call.Call.TheVariants as calls;
-ghost use Rattle.pid_script.specs.Reading.{pair_of, fork_new_of, fork_of, exit_of, numbered_of, which_of, wait_of, set_pgid_of, kind_of, next_of, limit_of, move_of, switch_of, subreaper_of, by_process, by_pair, by_control, two_letters_of, four_letters_of, five_letters_of, six_letters_of, seven_letters_of, nine_letters_of, command_of, call_of, call_or_bad, parsed};
+ghost use Rattle.pid_script.specs.Reading.{pair_of, fork_new_of, fork_of, exit_of, numbered_of, which_of, wait_of};
+ghost use Rattle.pid_script.specs.Reading.{set_pgid_of, kind_of, next_of, limit_of, move_of, switch_of, subreaper_of};
+ghost use Rattle.pid_script.specs.Reading.{by_process, by_pair, by_control, two_letters_of, four_letters_of};
+ghost use Rattle.pid_script.specs.Reading.{five_letters_of, six_letters_of, seven_letters_of, nine_letters_of};
+ghost use Rattle.pid_script.specs.Reading.{command_of, call_of, call_or_bad, parsed};
 ghost use Rattle.pid_script.specs.Lines.{Says};
 
-use crate::bytes::split_at_first;
-use crate::number::{read_i32, read_then, read_u8, read_u32, read_u64};
+use crate::bytes::split_word;
+use crate::number::{read_i32, read_signed_then, read_then, read_u8, read_u32, read_u64};
 use pid_types::call::{Call, Kind, Which};
 
 /// What a line of a script says.
@@ -45,6 +49,16 @@ fn read_fork_new(words: &[u8]) -> Option<Call>
     }
 }
 
+/// `P new`. Most bad lines end otherwise, and are not read again.
+fn read_fork_more(words: &[u8]) -> Option<Call>
+    ensures { result ≡ fork_new_of words.now }
+{
+    if !words.ends_with(b" new") {
+        return None;
+    }
+    read_fork_new(words)
+}
+
 /// `P` or `P new`.
 #[inline(always)]
 fn read_fork(words: &[u8]) -> Option<Call>
@@ -55,7 +69,7 @@ fn read_fork(words: &[u8]) -> Option<Call>
             caller,
             new_space: false,
         }),
-        None => read_fork_new(words),
+        None => read_fork_more(words),
     }
 }
 
@@ -77,7 +91,7 @@ fn read_exit(words: &[u8]) -> Option<Call>
 fn read_numbered(words: &[u8]) -> Option<Which>
     ensures { result ≡ numbered_of words.now }
 {
-    let (selector, number) = split_at_first(words, b' ')?;
+    let (selector, number) = split_word(words)?;
     let number = read_u32(number)?;
     match selector {
         b"pid" => Some(Which::Pid(number)),
@@ -118,12 +132,9 @@ fn read_set_pgid(words: &[u8]) -> Option<Call>
     ensures { result ≡ set_pgid_of words.now }
 {
     let (caller, ids) = read_then(words)?;
-    let (pid, pgid) = split_at_first(ids, b' ')?;
-    Some(Call::SetPgid {
-        caller,
-        pid: read_i32(pid)?,
-        pgid: read_i32(pgid)?,
-    })
+    let (pid, rest) = read_signed_then(ids)?;
+    let pgid = read_i32(rest)?;
+    Some(Call::SetPgid { caller, pid, pgid })
 }
 
 /// What a number is in use as.
@@ -145,7 +156,7 @@ fn read_next(words: &[u8]) -> Option<Call>
     ensures { result ≡ next_of words.now }
 {
     let (caller, place) = read_then(words)?;
-    let (kind, from) = split_at_first(place, b' ')?;
+    let (kind, from) = split_word(place)?;
     Some(Call::Next {
         caller,
         kind: read_kind(kind)?,
@@ -158,7 +169,7 @@ fn read_next(words: &[u8]) -> Option<Call>
 fn read_limit(words: &[u8]) -> Option<Call>
     ensures { result ≡ limit_of words.now }
 {
-    let (id, limit) = split_at_first(words, b' ')?;
+    let (id, limit) = split_word(words)?;
     let id = read_u64(id)?;
     let limit = match limit {
         b"max" => None,
@@ -333,7 +344,7 @@ fn wait_line(words: &[u8]) -> Line
 }
 
 /// What `next` says with the words behind it.
-#[inline(always)]
+#[inline(never)]
 fn next_line(words: &[u8]) -> Line
     ensures { result ≡ call_or_bad (next_of words.now) }
 {
@@ -349,7 +360,7 @@ fn set_pgid_line(words: &[u8]) -> Line
 }
 
 /// What `setsid` says with the words behind it.
-#[inline(always)]
+#[inline(never)]
 fn set_sid_line(words: &[u8]) -> Line
     ensures { result ≡ call_or_bad (by_process calls.SetSid words.now) }
 {
@@ -365,7 +376,7 @@ fn get_pid_line(words: &[u8]) -> Line
 }
 
 /// What `getppid` says with the words behind it.
-#[inline(always)]
+#[inline(never)]
 fn get_ppid_line(words: &[u8]) -> Line
     ensures { result ≡ call_or_bad (by_process calls.GetPpid words.now) }
 {
@@ -373,7 +384,7 @@ fn get_ppid_line(words: &[u8]) -> Line
 }
 
 /// What `getpgid` says with the words behind it.
-#[inline(always)]
+#[inline(never)]
 fn get_pgid_line(words: &[u8]) -> Line
     ensures { result ≡ call_or_bad (by_pair calls.GetPgid words.now) }
 {
@@ -381,7 +392,7 @@ fn get_pgid_line(words: &[u8]) -> Line
 }
 
 /// What `getsid` says with the words behind it.
-#[inline(always)]
+#[inline(never)]
 fn get_sid_line(words: &[u8]) -> Line
     ensures { result ≡ call_or_bad (by_pair calls.GetSid words.now) }
 {
@@ -389,7 +400,7 @@ fn get_sid_line(words: &[u8]) -> Line
 }
 
 /// What `nspid` says with the words behind it.
-#[inline(always)]
+#[inline(never)]
 fn ns_pid_line(words: &[u8]) -> Line
     ensures { result ≡ call_or_bad (by_pair calls.NsPid words.now) }
 {
@@ -397,7 +408,7 @@ fn ns_pid_line(words: &[u8]) -> Line
 }
 
 /// What `count` says with the words behind it.
-#[inline(always)]
+#[inline(never)]
 fn count_line(words: &[u8]) -> Line
     ensures { result ≡ call_or_bad (by_control calls.Count words.now) }
 {
@@ -409,37 +420,20 @@ fn count_line(words: &[u8]) -> Line
 fn any_line(line: &[u8]) -> Line
     ensures { result ≡ call_or_bad (call_of line.now) }
 {
-    let call = split_at_first(line, b' ').and_then(|(command, words)| read_command(command, words));
+    let call = split_word(line).and_then(|(command, words)| read_command(command, words));
     line_of_call(call)
 }
 
-/// What a short line says that has a byte. Of the commands that fit into seven bytes, `fork` is the frequent one.
+/// What a line says that has a byte. Its command is told by its first eight bytes, before any space is looked for.
 #[inline(always)]
-fn short_line(line: &[u8]) -> Line
+fn other_line(line: &[u8]) -> Line
     requires { 0 < length line.now }
     ensures { result ≡ parsed line.now }
 {
-    match line {
-        [b'f', b'o', b'r', b'k', b' ', words @ ..] => fork_line(words),
-        _ => any_line(line),
-    }
-}
-
-/// What the line says. Frequent commands are told by its first bytes, before any space is looked for.
-#[inline(always)]
-fn read_line(line: &[u8]) -> Line
-    ensures { result ≡ parsed line.now }
-{
-    if line.is_empty() {
-        return Line::Empty;
-    }
     let Some(front) = line.first_chunk::<8>() else {
-        return short_line(line);
+        return any_line(line);
     };
     match front {
-        [b'f', b'o', b'r', b'k', b' ', ..] => fork_line(&line[5..]),
-        [b'e', b'x', b'i', b't', b' ', ..] => exit_line(&line[5..]),
-        [b'w', b'a', b'i', b't', b' ', ..] => wait_line(&line[5..]),
         [b'n', b'e', b'x', b't', b' ', ..] => next_line(&line[5..]),
         [b'n', b's', b'p', b'i', b'd', b' ', ..] => ns_pid_line(&line[6..]),
         [b'c', b'o', b'u', b'n', b't', b' ', ..] => count_line(&line[6..]),
@@ -450,6 +444,23 @@ fn read_line(line: &[u8]) -> Line
         b"getppid " => get_ppid_line(&line[8..]),
         b"getpgid " => get_pgid_line(&line[8..]),
         _ => any_line(line),
+    }
+}
+
+/// What the line says. The most frequent commands are read in place; the others by a function of their own, so that
+/// this one is short enough to be inlined.
+#[inline(always)]
+fn read_line(line: &[u8]) -> Line
+    ensures { result ≡ parsed line.now }
+{
+    if line.is_empty() {
+        return Line::Empty;
+    }
+    match line {
+        [b'f', b'o', b'r', b'k', b' ', words @ ..] => fork_line(words),
+        [b'e', b'x', b'i', b't', b' ', words @ ..] => exit_line(words),
+        [b'w', b'a', b'i', b't', b' ', words @ ..] => wait_line(words),
+        _ => other_line(line),
     }
 }
 

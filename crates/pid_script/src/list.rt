@@ -3,7 +3,8 @@
 ghost use Rattle.std.specs.Prelude.{◌≡◌, ◌++◌, ◌∷◌, [], OnOk, IfOk, codes, decimal};
 ghost use Rattle.std.specs.List.{flat_map};
 ghost use Rattle.pid_types.specs.Names.{root_number};
-ghost use Rattle.pid_script.specs.Lists.{field, marked, parent_text, limit_text, life_text, children_text, name_text, relatives_text, marks_text, task_line, space_line, control_line, list_of};
+ghost use Rattle.pid_script.specs.Lists.{field, marked, parent_text, limit_text, life_text, children_text, name_text};
+ghost use Rattle.pid_script.specs.Lists.{relatives_text, marks_text, task_line, space_line, control_line, list_of};
 
 use crate::answer::joined_numbers;
 use itoa::Buffer;

@@ -1,11 +1,13 @@
 //! Numbers as scripts write them: decimal digits without a leading zero.
-ghost use Rattle.std.specs.Prelude.{◌≡◌, ◌+◌, ◌*◌, ◌^◌, ◌<◌, ◌≤◌, ◌↔◌, length, IsTrue, IfSome, IfNone};
+ghost use Rattle.std.specs.Prelude.{◌≡◌, ◌+◌, ◌*◌, ◌^◌, ◌<◌, ◌≤◌, ◌↔◌, ◌∷◌, List, ℕ, Some, length, IsTrue, IfSome};
+ghost use Rattle.std.specs.Prelude.{IfNone};
 ghost use Rattle.std.specs.Char.{digit_value};
 ghost use Rattle.std.specs.Str.Parse.{AllDigits, digits_value};
 ghost use Rattle.std.specs.Option.{option_map};
 ghost use Rattle.pid_script.specs.Reading.{IsFrontOf, IsPlain, number_below, number_then, negative_of, signed_of};
+ghost use Rattle.pid_script.specs.Reading.{signed_then};
 
-use crate::bytes::split_at_first;
+use crate::bytes::split_word;
 
 /// Whether the word is not empty and has no leading zero.
 fn is_plain(word: &[u8]) -> bool
@@ -120,7 +122,7 @@ pub fn read_u32(word: &[u8]) -> Option<u32>
 fn read_long_then(words: &[u8]) -> Option<(u32, &[u8])>
     ensures { option_map (λ p. (p.0, p.1.now)) result ≡ number_then (2 ^ 32) words.now }
 {
-    let (word, rest) = split_at_first(words, b' ')?;
+    let (word, rest) = split_word(words)?;
     Some((read_long(word)?, rest))
 }
 
@@ -147,15 +149,21 @@ pub fn read_u8(word: &[u8]) -> Option<u8>
     u8::try_from(read_u64(word)?).ok()
 }
 
-/// The number with a minus sign before these digits, which are not those of 0.
-fn read_negative(digits: &[u8]) -> Option<i32>
-    ensures { result ≡ negative_of digits.now }
+/// The number with a minus sign, where it is one of 32 bits and not 0.
+fn negated(magnitude: u32) -> Option<i32>
+    ensures { (digits : List ℕ) → number_below (2 ^ 32) digits ≡ Some magnitude → result ≡ negative_of digits }
 {
-    let magnitude = read_u32(digits)?;
     if magnitude == 0 {
         return None;
     }
     0_i32.checked_sub_unsigned(magnitude)
+}
+
+/// The number with a minus sign before these digits, which are not those of 0.
+fn read_negative(digits: &[u8]) -> Option<i32>
+    ensures { result ≡ negative_of digits.now }
+{
+    negated(read_u32(digits)?)
 }
 
 /// The number of a word with its sign, where it is one of 32 bits. A minus sign stands directly before a
@@ -166,5 +174,27 @@ pub fn read_i32(word: &[u8]) -> Option<i32>
     match word {
         [b'-', digits @ ..] => read_negative(digits),
         _ => i32::try_from(read_u32(word)?).ok(),
+    }
+}
+
+/// The number with a minus sign before these digits and the first space, and what stands after that space.
+fn read_negative_then(digits: &[u8]) -> Option<(i32, &[u8])>
+    ensures { option_map (λ p. (p.0, p.1.now)) result ≡ signed_then (45 ∷ digits.now) }
+{
+    let (magnitude, rest) = read_then(digits)?;
+    Some((negated(magnitude)?, rest))
+}
+
+/// The number with its sign before the first space, where it is one of 32 bits, and what stands after that space.
+#[inline(always)]
+pub fn read_signed_then(words: &[u8]) -> Option<(i32, &[u8])>
+    ensures { option_map (λ p. (p.0, p.1.now)) result ≡ signed_then words.now }
+{
+    match words {
+        [b'-', digits @ ..] => read_negative_then(digits),
+        _ => {
+            let (number, rest) = read_then(words)?;
+            Some((i32::try_from(number).ok()?, rest))
+        }
     }
 }

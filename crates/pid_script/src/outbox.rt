@@ -73,6 +73,7 @@ impl Outbox {
     }
 
     /// Holds the line and its newline, and makes room for them first.
+    #[inline(always)]
     pub fn push_line<K: Sink>(&mut self, sink: &mut K, line: &[u8]) -> Result<(), RunScriptFault>
         requires { length line.now < 8192 }
         ensures ok { OnOk result (Queues (K.did sink.old sink.new) (self.old ++ with_newline line.now) self.new) }
@@ -95,8 +96,10 @@ impl Outbox {
         sink: &mut K,
         answer: Result<&Reply, CallFault>,
     ) -> Result<(), RunScriptFault>
-        ensures ok { OnOk result (Queues (K.did sink.old sink.new) (self.old ++ with_newline (answer_of (lent answer.entry))) self.new) }
-        ensures err { OnErr result (Stops (K.did sink.old sink.new) (self.old ++ with_newline (answer_of (lent answer.entry)))) }
+        ensures ok { OnOk result (Queues (K.did sink.old sink.new)
+            (self.old ++ with_newline (answer_of (lent answer.entry))) self.new) }
+        ensures err { OnErr result (Stops (K.did sink.old sink.new)
+            (self.old ++ with_newline (answer_of (lent answer.entry)))) }
         ensures fault { IfErr result (λ e. e ≡ Write) }
         ensures stopped { OnErr result (HasStopped (K.has_failed sink.new) (K.is_full sink.new)) }
     {

@@ -1,7 +1,8 @@
-//! Scripts answered line by line: [`run_script`], over any [`Table`], source and sink, and [`run_dialogue`], over one device that is both. A session
-//! holds one line that has not ended and at most 8,192 bytes of answers; it takes no memory of its
-//! own.
-ghost use Rattle.std.specs.Prelude.{◌≡◌, ◌≢◌, Some, ◌+◌, ◌^◌, ◌<◌, ◌≤◌, ◌++◌, ◌∷◌, [], List, ℕ, length, OnOk, OnErr, IfOk, IfErr, Err, Option, IsSome, option_copied, IsTrue, if◌then◌else◌};
+//! Scripts answered line by line: [`run_script`], over any [`Table`], source and sink, and [`run_dialogue`], over one
+//! device that is both. A session holds one line that has not ended and at most 8,192 bytes of answers; it takes no
+//! memory of its own.
+ghost use Rattle.std.specs.Prelude.{◌≡◌, ◌≢◌, Some, ◌+◌, ◌^◌, ◌<◌, ◌≤◌, ◌++◌, ◌∷◌, [], List, ℕ, length, OnOk, OnErr};
+ghost use Rattle.std.specs.Prelude.{IfOk, IfErr, Err, Option, IsSome, option_copied, IsTrue, if◌then◌else◌};
 ghost use Rattle.std.specs.Result.{is_ok};
 ghost use Rattle.pid_types.specs.Devices.{DidBoth};
 ghost use Rattle.pid_types.specs.State.{State};
@@ -10,10 +11,11 @@ ghost use Rattle.pid_types.specs.declared.reply.Reply.{Reply};
 ghost use Rattle.pid_script.specs.declared.tally.RunScriptFault.TheVariants.{NoMemory, Write};
 ghost use Rattle.pid_script.specs.Script.{begun, with_newline, HasStopped, said_within, kept_after, last_said};
 ghost use Rattle.pid_script.specs.Answers.{answer_of, lent, replied};
-ghost use Rattle.pid_script.specs.Dialogue.{Converses, Queues, Sends, Stalls, Stops};
-ghost use Rattle.pid_script.specs.Session.{Acts, made_by, ended_at, progress_of, Answers, StopsShort, IsTallied, Finishes, Leaves};
+ghost use Rattle.pid_script.specs.Dialogue.{Converses, Queues, Responds, Stops};
+ghost use Rattle.pid_script.specs.Session.{Acts, made_by, ended_at, progress_of, IsTallied};
+ghost use Rattle.pid_script.specs.Session.{Finishes, Leaves};
 
-use crate::bytes::split_at_first;
+use crate::bytes::split_line;
 use crate::line::Line;
 use crate::outbox::Outbox;
 use crate::part::PartLine;
@@ -38,7 +40,8 @@ pub trait Table {
 
     /// Makes the call, and holds the reply. After a fault the table is as it was.
     fn act(&mut self, call: Call) -> Result<(), CallFault>
-        ensures acts { Acts (state self.old) (stamp self.old) call (replied result (held self.new)) (state self.new) (stamp self.new) }
+        ensures acts { Acts (state self.old) (stamp self.old) call (replied result (held self.new))
+            (state self.new) (stamp self.new) }
         ensures held { OnOk result (IsSome (held self.new)) }
         ensures did { did self.old self.new (made_by call (replied result (held self.new))) };
 
@@ -98,14 +101,17 @@ fn tell_answer<T: Table, K: Sink>(
     requires held { OnOk made (IsSome (T.held table.now)) }
     requires counted { IsTallied session.old.tally }
     requires room { session.old.tally.lines + 1 < 2 ^ 64 }
-    ensures ok { OnOk result (Queues (K.did sink.old sink.new) (session.old.outbox ++ with_newline (answer_of (replied made (T.held table.now)))) session.new.outbox) }
-    ensures err { OnErr result (Stops (K.did sink.old sink.new) (session.old.outbox ++ with_newline (answer_of (replied made (T.held table.now))))) }
+    ensures ok { OnOk result (Queues (K.did sink.old sink.new)
+        (session.old.outbox ++ with_newline (answer_of (replied made (T.held table.now)))) session.new.outbox) }
+    ensures err { OnErr result (Stops (K.did sink.old sink.new)
+        (session.old.outbox ++ with_newline (answer_of (replied made (T.held table.now))))) }
     ensures fault { IfErr result (λ e. e ≡ Write) }
     ensures stopped { OnErr result (HasStopped (K.has_failed sink.new) (K.is_full sink.new)) }
     ensures part { session.new.part ≡ session.old.part }
     ensures counted { IsTallied session.new.tally }
     ensures lines { session.new.tally.lines ≡ session.old.tally.lines + 1 }
-    ensures recorded { session.new.tally.recorded ≡ (if is_ok made then session.old.tally.recorded + 1 else session.old.tally.recorded) }
+    ensures recorded { session.new.tally.recorded
+        ≡ (if is_ok made then session.old.tally.recorded + 1 else session.old.tally.recorded) }
     ensures bad { session.new.tally.bad ≡ session.old.tally.bad }
 {
     count_call(&mut session.tally, made.is_ok());
@@ -122,13 +128,11 @@ fn answer_call<T: Table, K: Sink>(
 ) -> Result<(), RunScriptFault>
     requires counted { IsTallied session.old.tally }
     requires room { session.old.tally.lines + 1 < 2 ^ 64 }
-    ensures ok { OnOk result (Answers (progress_of (T.state table.old) (T.stamp table.old) session.old.tally session.old.outbox)
+    ensures told { Responds result
+        (progress_of (T.state table.old) (T.stamp table.old) session.old.tally session.old.outbox)
         (progress_of (T.state table.new) (T.stamp table.new) session.new.tally session.new.outbox)
-        (Sends (K.did sink.old sink.new)) (T.did table.old table.new) (Line.Call call ∷ [])) }
-    ensures err { OnErr result (StopsShort (progress_of (T.state table.old) (T.stamp table.old) session.old.tally session.old.outbox)
-        (Stalls (K.did sink.old sink.new)) (Line.Call call ∷ [])) }
-    ensures fault { IfErr result (λ e. e ≡ Write) }
-    ensures stopped { OnErr result (HasStopped (K.has_failed sink.new) (K.is_full sink.new)) }
+        (K.did sink.old sink.new) (T.did table.old table.new) (Line.Call call ∷ [])
+        (K.has_failed sink.new) (K.is_full sink.new) }
     ensures part { session.new.part ≡ session.old.part }
     ensures counted { IsTallied session.new.tally }
     ensures lines { session.new.tally.lines ≡ session.old.tally.lines + 1 }
@@ -147,13 +151,11 @@ fn answer_line<T: Table, K: Sink>(
 ) -> Result<(), RunScriptFault>
     requires counted { IsTallied session.old.tally }
     requires room { session.old.tally.lines + 1 < 2 ^ 64 }
-    ensures ok { OnOk result (Answers (progress_of (T.state table.old) (T.stamp table.old) session.old.tally session.old.outbox)
+    ensures told { Responds result
+        (progress_of (T.state table.old) (T.stamp table.old) session.old.tally session.old.outbox)
         (progress_of (T.state table.new) (T.stamp table.new) session.new.tally session.new.outbox)
-        (Sends (K.did sink.old sink.new)) (T.did table.old table.new) (line ∷ [])) }
-    ensures err { OnErr result (StopsShort (progress_of (T.state table.old) (T.stamp table.old) session.old.tally session.old.outbox)
-        (Stalls (K.did sink.old sink.new)) (line ∷ [])) }
-    ensures fault { IfErr result (λ e. e ≡ Write) }
-    ensures stopped { OnErr result (HasStopped (K.has_failed sink.new) (K.is_full sink.new)) }
+        (K.did sink.old sink.new) (T.did table.old table.new) (line ∷ [])
+        (K.has_failed sink.new) (K.is_full sink.new) }
     ensures part { session.new.part ≡ session.old.part }
     ensures counted { IsTallied session.new.tally }
     ensures lines { session.new.tally.lines ≡ session.old.tally.lines + 1 }
@@ -181,19 +183,17 @@ fn answer_chunk<T: Table, K: Sink>(
 ) -> Result<(), RunScriptFault>
     requires counted { IsTallied session.old.tally }
     requires room { session.old.tally.lines + length chunk.now < 2 ^ 64 }
-    ensures ok { OnOk result (Answers (progress_of (T.state table.old) (T.stamp table.old) session.old.tally session.old.outbox)
+    ensures told { Responds result
+        (progress_of (T.state table.old) (T.stamp table.old) session.old.tally session.old.outbox)
         (progress_of (T.state table.new) (T.stamp table.new) session.new.tally session.new.outbox)
-        (Sends (K.did sink.old sink.new)) (T.did table.old table.new) (said_within session.old.part chunk.now)) }
+        (K.did sink.old sink.new) (T.did table.old table.new) (said_within session.old.part chunk.now)
+        (K.has_failed sink.new) (K.is_full sink.new) }
     ensures part { OnOk result (session.new.part ≡ kept_after session.old.part chunk.now) }
-    ensures err { OnErr result (StopsShort (progress_of (T.state table.old) (T.stamp table.old) session.old.tally session.old.outbox)
-        (Stalls (K.did sink.old sink.new)) (said_within session.old.part chunk.now)) }
-    ensures fault { IfErr result (λ e. e ≡ Write) }
-    ensures stopped { OnErr result (HasStopped (K.has_failed sink.new) (K.is_full sink.new)) }
     ensures counted { IsTallied session.new.tally }
     ensures lines { session.new.tally.lines ≤ session.old.tally.lines + length chunk.now }
 {
     let mut rest = chunk;
-    while let Some((end, after)) = split_at_first(rest, b'\n') {
+    while let Some((end, after)) = split_line(rest) {
         let line = session.part.finish(end);
         answer_line(session, table, sink, line)?;
         rest = after;
@@ -210,13 +210,11 @@ fn answer_last<T: Table, K: Sink>(
 ) -> Result<(), RunScriptFault>
     requires counted { IsTallied session.old.tally }
     requires room { session.old.tally.lines + 1 < 2 ^ 64 }
-    ensures ok { OnOk result (Answers (progress_of (T.state table.old) (T.stamp table.old) session.old.tally session.old.outbox)
+    ensures { Responds result
+        (progress_of (T.state table.old) (T.stamp table.old) session.old.tally session.old.outbox)
         (progress_of (T.state table.new) (T.stamp table.new) session.new.tally session.new.outbox)
-        (Sends (K.did sink.old sink.new)) (T.did table.old table.new) (last_said session.old.part)) }
-    ensures err { OnErr result (StopsShort (progress_of (T.state table.old) (T.stamp table.old) session.old.tally session.old.outbox)
-        (Stalls (K.did sink.old sink.new)) (last_said session.old.part)) }
-    ensures fault { IfErr result (λ e. e ≡ Write) }
-    ensures stopped { OnErr result (HasStopped (K.has_failed sink.new) (K.is_full sink.new)) }
+        (K.did sink.old sink.new) (T.did table.old table.new) (last_said session.old.part)
+        (K.has_failed sink.new) (K.is_full sink.new) }
 {
     if session.part.is_empty() {
         return Ok(());
@@ -233,13 +231,11 @@ fn finish<T: Table, K: Sink>(
 ) -> Result<(), RunScriptFault>
     requires counted { IsTallied session.old.tally }
     requires room { session.old.tally.lines + 1 < 2 ^ 64 }
-    ensures ok { OnOk result (Answers (progress_of (T.state table.old) (T.stamp table.old) session.old.tally session.old.outbox)
+    ensures { Responds result
+        (progress_of (T.state table.old) (T.stamp table.old) session.old.tally session.old.outbox)
         (progress_of (T.state table.new) (T.stamp table.new) session.new.tally [])
-        (Sends (K.did sink.old sink.new)) (T.did table.old table.new) (last_said session.old.part)) }
-    ensures err { OnErr result (StopsShort (progress_of (T.state table.old) (T.stamp table.old) session.old.tally session.old.outbox)
-        (Stalls (K.did sink.old sink.new)) (last_said session.old.part)) }
-    ensures fault { IfErr result (λ e. e ≡ Write) }
-    ensures stopped { OnErr result (HasStopped (K.has_failed sink.new) (K.is_full sink.new)) }
+        (K.did sink.old sink.new) (T.did table.old table.new) (last_said session.old.part)
+        (K.has_failed sink.new) (K.is_full sink.new) }
 {
     answer_last(session, table, sink)?;
     session.outbox.flush(sink)
@@ -283,14 +279,19 @@ pub fn run_dialogue<T: Table, D: Dialogue>(
     devices: &mut D,
     turns: u32,
 ) -> Result<Tally, RunScriptFault>
-    ensures ok { IfOk result (λ tally. (text : List ℕ) × (calls : List (Call × Reply)) × T.did table.old table.new calls × Finishes (begun (T.state table.old) (T.stamp table.old))
+    ensures ok { IfOk result (λ tally. (text : List ℕ) × (calls : List (Call × Reply))
+        × T.did table.old table.new calls × Finishes (begun (T.state table.old) (T.stamp table.old))
         (ended_at (T.state table.new) (T.stamp table.new) tally text calls)
         (D.remaining devices.old) (D.remaining devices.new) (D.contents devices.old) (D.contents devices.new)) }
     ensures err { IfErr result (Leaves turns (begun (T.state table.old) (T.stamp table.old))
-        (D.remaining devices.old) (D.remaining devices.new) (D.contents devices.old) (D.contents devices.new) (D.Source.has_failed devices.new)) }
-    ensures talk { Converses turns (begun (T.state table.old) (T.stamp table.old)) (D.Source.did devices.old devices.new) result }
+        (D.remaining devices.old) (D.remaining devices.new) (D.contents devices.old) (D.contents devices.new)
+        (D.Source.has_failed devices.new)) }
+    ensures talk { Converses turns (begun (T.state table.old) (T.stamp table.old))
+        (D.Source.did devices.old devices.new) result }
     ensures same { D.is_same devices.old devices.new }
-    ensures whole { OnOk result ((D.Source.has_failed devices.new ≡ D.Source.has_failed devices.old) × (D.Sink.has_failed devices.new ≡ D.Sink.has_failed devices.old) × (D.is_full devices.new ≡ D.is_full devices.old)) }
+    ensures whole { OnOk result ((D.Source.has_failed devices.new ≡ D.Source.has_failed devices.old)
+        × (D.Sink.has_failed devices.new ≡ D.Sink.has_failed devices.old)
+        × (D.is_full devices.new ≡ D.is_full devices.old)) }
     ensures made { IfErr result (λ e. e ≢ NoMemory) }
     ensures stopped { result ≡ Err Write → HasStopped (D.Sink.has_failed devices.new) (D.is_full devices.new) }
 {
@@ -311,21 +312,25 @@ pub fn run_dialogue<T: Table, D: Dialogue>(
     Err(RunScriptFault::TooManyTurns)
 }
 
-/// Runs a script as [`run_dialogue`] does, over a source and a sink that are two things: the contract tells what each of them
-/// did, and that there is one order of it all in which every whole line was answered before the next read.
+/// Runs a script as [`run_dialogue`] does, over a source and a sink that are two things: the contract tells what each
+/// of them did, and that there is one order of it all in which every whole line was answered before the next read.
 pub fn run_script<T: Table, S: Source, K: Sink>(
     table: &mut T,
     source: &mut S,
     sink: &mut K,
     turns: u32,
 ) -> Result<Tally, RunScriptFault>
-    ensures ok { IfOk result (λ tally. (text : List ℕ) × (calls : List (Call × Reply)) × T.did table.old table.new calls × Finishes (begun (T.state table.old) (T.stamp table.old))
+    ensures ok { IfOk result (λ tally. (text : List ℕ) × (calls : List (Call × Reply))
+        × T.did table.old table.new calls × Finishes (begun (T.state table.old) (T.stamp table.old))
         (ended_at (T.state table.new) (T.stamp table.new) tally text calls)
         (S.remaining source.old) (S.remaining source.new) (K.contents sink.old) (K.contents sink.new)) }
     ensures err { IfErr result (Leaves turns (begun (T.state table.old) (T.stamp table.old))
-        (S.remaining source.old) (S.remaining source.new) (K.contents sink.old) (K.contents sink.new) (S.has_failed source.new)) }
-    ensures talk { Converses turns (begun (T.state table.old) (T.stamp table.old)) (DidBoth (S.did source.old source.new) (K.did sink.old sink.new)) result }
-    ensures whole { OnOk result ((S.has_failed source.new ≡ S.has_failed source.old) × (K.has_failed sink.new ≡ K.has_failed sink.old) × (K.is_full sink.new ≡ K.is_full sink.old)) }
+        (S.remaining source.old) (S.remaining source.new) (K.contents sink.old) (K.contents sink.new)
+        (S.has_failed source.new)) }
+    ensures talk { Converses turns (begun (T.state table.old) (T.stamp table.old))
+        (DidBoth (S.did source.old source.new) (K.did sink.old sink.new)) result }
+    ensures whole { OnOk result ((S.has_failed source.new ≡ S.has_failed source.old)
+        × (K.has_failed sink.new ≡ K.has_failed sink.old) × (K.is_full sink.new ≡ K.is_full sink.old)) }
     ensures made { IfErr result (λ e. e ≢ NoMemory) }
     ensures stopped { result ≡ Err Write → HasStopped (K.has_failed sink.new) (K.is_full sink.new) }
 {

@@ -6,4 +6,4 @@ pub returns-in-Some : goal.returns-in-Some
 returns-in-Some c = sym (fork_alone c.args.words.now c.in-Some.caller (sym c.in-Some.ensures))
 
 pub returns-in-None : goal.returns-in-None
-returns-in-None c = c.read_fork_new.ensures ∙ sym (fork_more c.args.words.now (sym c.in-None.ensures))
+returns-in-None c = c.read_fork_more.ensures ∙ sym (fork_more c.args.words.now (sym c.in-None.ensures))

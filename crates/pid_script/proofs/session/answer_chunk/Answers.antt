@@ -1,4 +1,4 @@
-use Rattle.std.proofs.Common.{◌++◌, ◌∷◌, [], Some, sym, ap, ◌∙◌, append-nil, arith, refl}
+use Rattle.std.proofs.Common.{◌++◌, ◌∷◌, [], Some, sym, ap, ◌∙◌, append-nil, arith, refl, rules}
 use Rattle.pid_script.specs.Script.{said_within, kept_after}
 use Rattle.pid_script.proofs.Within.{first_end, no_end, said_more}
 use Rattle.pid_script.proofs.Sent.{OnErr-always, Sends-nothing, Sends-more, Stalls-more}
@@ -29,30 +29,41 @@ loop-end-preserved g c =
     let next = c.in_ok-answer_line.ensures.part ∙ c.finish-line.ensures.next in
     record {
       lines = before.lines ++ line ∷ [];
-      answered = Answers-more (Sends-more (g.met.K.Sink.more _ _ _)) (g.met.T.Table.more _ _ _) _ _ _ before.lines (line ∷ []) before.answered c.in_ok-answer_line.ensures.ok;
+      answered = Answers-more (Sends-more (g.met.K.Sink.more _ _ _)) (g.met.T.Table.more _ _ _) _ _ _ before.lines (line ∷ []) before.answered c.in_ok-answer_line.ensures.told.ok;
       said = said_more before.lines line c.loop-end.session.part _ c.loop-end.rest.now after c.in-Some.end.now _ c.finish-line.ensures.value next end before.said;
       kept = ap (λ kept. kept_after kept after) next ∙ sym end.left ∙ before.kept;
       counted = c.in_ok-answer_line.ensures.counted;
       few = omega (arith, before.few, end.shorter, c.in_ok-answer_line.ensures.lines);
     }
 
-pub returns-in_err-answer_line-clause-err : goal.returns-in_err-answer_line-clause-err
-returns-in_err-answer_line-clause-err g c =
+pub returns-in_err-answer_line-clause-told : goal.returns-in_err-answer_line-clause-told
+returns-in_err-answer_line-clause-told g c =
     let before = c.loop-end.invariant in
     let end = first_end c.loop-end.session.part c.loop-end.rest.now (c.in-Some.end.now, c.in-Some.after.now) (sym c.in-Some.ensures) in
     let line = c.finish-line.result in
     let after = c.in-Some.after.now in
-    OnErr-always _ _ _ _ (StopsShort-same _ _ _ _
-    (said_more before.lines line c.loop-end.session.part (Some []) c.loop-end.rest.now after c.in-Some.end.now _ c.finish-line.ensures.value refl end before.said)
-    (StopsShort-later _ _ (before.lines ++ line ∷ []) (said_within (Some []) after)
-    (StopsShort-more (Stalls-more (g.met.K.Sink.more _ _ _)) _ _ before.lines (line ∷ []) before.answered c.in_err-answer_line.ensures.err)))
+    let told = c.in_err-answer_line.ensures.told in
+    record {
+      ok = search rules;
+      err = OnErr-always _ _ _ _ (StopsShort-same _ _ _ _
+          (said_more before.lines line c.loop-end.session.part (Some []) c.loop-end.rest.now after c.in-Some.end.now _ c.finish-line.ensures.value refl end before.said)
+          (StopsShort-later _ _ (before.lines ++ line ∷ []) (said_within (Some []) after)
+          (StopsShort-more (Stalls-more (g.met.K.Sink.more _ _ _)) _ _ before.lines (line ∷ []) before.answered told.err)));
+      fault = search (rules, told.fault);
+      stopped = search (rules, told.stopped);
+    }
 
-pub returns-clause-ok : goal.returns-clause-ok
-returns-clause-ok g c =
+pub returns-clause-told : goal.returns-clause-told
+returns-clause-told g c =
     let before = c.loop-end.invariant in
     let none = no_end c.loop-end.session.part c.loop-end.rest.now (sym c.in_default.ensures) in
-    Answers-same _ _ _ _ before.lines _
-    (sym (append-nil before.lines) ∙ ap (λ lines. before.lines ++ lines) (sym none.0) ∙ before.said) before.answered
+    record {
+      ok = Answers-same _ _ _ _ before.lines _
+          (sym (append-nil before.lines) ∙ ap (λ lines. before.lines ++ lines) (sym none.0) ∙ before.said) before.answered;
+      err = search rules;
+      fault = search rules;
+      stopped = search rules;
+    }
 
 pub returns-clause-part : goal.returns-clause-part
 returns-clause-part g c =

@@ -188,14 +188,14 @@ returns-in_err-answer_chunk-clause-err g c =
     let piece = take c.in-Ok.count c.read.new.buffer in
     let part = c.loop-turn.session.part in
     let lines = said_within part piece in
-    let stops = c.in_err-answer_chunk.ensures.err in
+    let stops = c.in_err-answer_chunk.ensures.told.err in
     let es = stalled before.on before.empty asked few piece stops in
     let writes = stalled_writes before.on before.empty asked few piece lines stops in
     let all = turn before.events asked (Some piece) es in
     let done = g.met.D.Source.more _ _ _ before.events (Reading asked (Some piece) ∷ es) before.done
     (g.met.D.Source.more _ _ _ (Reading asked (Some piece) ∷ []) es c.in-Ok.ensures.event ((g.met.D.Dialogue.one _ _ es).1 stops.appended.done)) in
     let same = turn_heard before.events asked (Some piece) es writes in
-    rw (p.1, p.2, c.in_err-answer_chunk.ensures.fault) (breaks (heard all) all _ (turn_stops before.on before.empty asked few piece lines stops)
+    rw (p.1, p.2, c.in_err-answer_chunk.ensures.told.fault) (breaks (heard all) all _ (turn_stops before.on before.empty asked few piece lines stops)
     (inl (more_said (heard before.events) piece part before.part ∙ said_within-whole (heard before.events ++ piece) ∙ ap said_whole (sym same)))
     (g.met.D.Source.consumed _ _ all done) (g.met.D.Sink.appended _ _ all ((g.met.D.Dialogue.one _ _ all).0 done)))
 
@@ -208,13 +208,13 @@ returns-in_err-answer_chunk-clause-talk g c =
     let piece = take c.in-Ok.count c.read.new.buffer in
     let part = c.loop-turn.session.part in
     let lines = said_within part piece in
-    let stops = c.in_err-answer_chunk.ensures.err in
+    let stops = c.in_err-answer_chunk.ensures.told.err in
     let es = stalled before.on before.empty asked few piece stops in
     let writes = stalled_writes before.on before.empty asked few piece lines stops in
     let all = turn before.events asked (Some piece) es in
     let some : 0 < length piece = omega (arith, length-take-le c.in-Ok.count c.read.new.buffer c.in-Ok.ensures.bound, c.if-count-eq0.false) in
     let endless = turn_end before.events asked (Some piece) es writes before.on.endless ∙ goes_on asked piece some in
-    rw (p.1, p.2, c.in_err-answer_chunk.ensures.fault) (record {
+    rw (p.1, p.2, c.in_err-answer_chunk.ensures.told.fault) (record {
       events = all;
       done = g.met.D.Source.more _ _ _ before.events (Reading asked (Some piece) ∷ es) before.done
           (g.met.D.Source.more _ _ _ (Reading asked (Some piece) ∷ []) es c.in-Ok.ensures.event ((g.met.D.Dialogue.one _ _ es).1 stops.appended.done));
@@ -236,7 +236,7 @@ returns-in_err-flush-clause-err g c =
     let lines = said_within part piece in
     let did = g.D.Sink.did c.read.new.self c.flush.new.sink in
     let stops = StopsShort-same _ _ _ _ (append-nil lines)
-    (StopsShort-more {c = Stalls did} (Stalls-more {all = did} (g.met.D.Sink.more _ _ _)) _ _ lines [] c.in_ok-answer_chunk.ensures.ok (StopsShort-sent _ _ _ _ _ c.in_err-flush.ensures.err)) in
+    (StopsShort-more {c = Stalls did} (Stalls-more {all = did} (g.met.D.Sink.more _ _ _)) _ _ lines [] c.in_ok-answer_chunk.ensures.told.ok (StopsShort-sent _ _ _ _ _ c.in_err-flush.ensures.err)) in
     let es = stalled before.on before.empty asked few piece stops in
     let writes = stalled_writes before.on before.empty asked few piece lines stops in
     let all = turn before.events asked (Some piece) es in
@@ -258,7 +258,7 @@ returns-in_err-flush-clause-talk g c =
     let lines = said_within part piece in
     let did = g.D.Sink.did c.read.new.self c.flush.new.sink in
     let stops = StopsShort-same _ _ _ _ (append-nil lines)
-    (StopsShort-more {c = Stalls did} (Stalls-more {all = did} (g.met.D.Sink.more _ _ _)) _ _ lines [] c.in_ok-answer_chunk.ensures.ok (StopsShort-sent _ _ _ _ _ c.in_err-flush.ensures.err)) in
+    (StopsShort-more {c = Stalls did} (Stalls-more {all = did} (g.met.D.Sink.more _ _ _)) _ _ lines [] c.in_ok-answer_chunk.ensures.told.ok (StopsShort-sent _ _ _ _ _ c.in_err-flush.ensures.err)) in
     let es = stalled before.on before.empty asked few piece stops in
     let writes = stalled_writes before.on before.empty asked few piece lines stops in
     let all = turn before.events asked (Some piece) es in
@@ -291,7 +291,7 @@ loop-turn-preserved g c =
     let did = g.D.Sink.did c.read.new.self c.flush.new.sink in
     let made = g.T.Table.did c.loop-turn.table c.answer_chunk.new.table in
     let more = Answers-same _ _ (Sends did) made _ _ (append-nil lines)
-    (Answers-more {c = Sends did} {m = made} (Sends-more {all = did} (g.met.D.Sink.more _ _ _)) (g.met.T.Table.more _ _ _) _ _ _ lines [] chunk.ok
+    (Answers-more {c = Sends did} {m = made} (Sends-more {all = did} (g.met.D.Sink.more _ _ _)) (g.met.T.Table.more _ _ _) _ _ _ lines [] chunk.told.ok
     (Answers-flushed _ _ _ _ _ _ (g.T.Table.did c.answer_chunk.new.table c.answer_chunk.new.table) sent.ok (g.met.T.Table.nothing _) sent.empty)) in
     let es = more.appended.events in
     let writes = more.appended.writes in

@@ -1,0 +1,10 @@
+use Rattle.std.proofs.Common.{sym, codes}
+use Rattle.std.proofs.lemmas.Bool.Decides.{Decides-eqb}
+use Rattle.std.proofs.lemmas.Slice.Eq.{ends_is}
+use Rattle.pid_script.proofs.Printed.{not_new}
+use Rattle.pid_script.proofs.line.read_fork_more.Goals as goal
+
+pub returns-then-not-ends_with : goal.returns-then-not-ends_with
+returns-then-not-ends_with c =
+    let words = c.args.words.now in
+    sym (not_new words (λ front is. let yes = (ends_is Decides-eqb words (codes " new") _ c.ends_with.ensures.value).1 front is in cc))
