@@ -1,3 +1,4 @@
+-- A namespace above the deepest level has a short path, so the plan never fails by depth; a full one on it is the model's refusal
 use Rattle.std.proofs.Common.{◌≡◌, ◌<◌, ◌∙◌, ℕ, find, is_none, is_some, true, Option, Some, None, sym, ap, subst, option_map, length, refl, arith, IfErr}
 use Rattle.pid_types.specs.Bounds.{deepest_space}
 use Rattle.pid_types.specs.Outcome.{Outcome, unless_found}

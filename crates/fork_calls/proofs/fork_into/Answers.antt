@@ -1,3 +1,4 @@
+-- The first namespace without a number on the path of keys is the model's first on the path of ids: so the refusal names the same one
 use Rattle.std.proofs.Common.{◌≡◌, ◌∙◌, ℕ, find, is_none, is_some, true, Option, Some, None, sym, ap, option_map, refl}
 use Rattle.pid_types.specs.Outcome.{Outcome, unless_found}
 use Rattle.pid_types.specs.Fork.{forked}

@@ -1,3 +1,4 @@
+-- The model draws in a state that has the new namespace already, the code in one that lacks it: the path around it is one in both
 use Rattle.std.proofs.Common.{◌∙◌, sym, ap, refl}
 use Rattle.pid_types.specs.Outcome.{Outcome, unless_found}
 use Rattle.pid_types.specs.Fork.{forked, with_space}

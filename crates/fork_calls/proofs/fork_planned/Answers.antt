@@ -1,3 +1,4 @@
+-- No namespace on the path is full, so only a control group can refuse; else one more task by key is one more row by number
 use Rattle.std.proofs.Common.{◌∙◌, refl, sym, ap}
 use Rattle.pid_types.specs.Outcome.{Outcome, unless_found}
 use Rattle.pid_types.specs.Fork.{forked}

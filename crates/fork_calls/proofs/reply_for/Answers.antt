@@ -1,3 +1,4 @@
+-- The numbers were planned before the task was there and are its identifier's now: the outermost is the one that the root sees
 use Rattle.std.proofs.Common.{ℕ, List, ◌≡◌, ◌∙◌, ◌<◌, sym, ap, subst, length, reverse, Some}
 use Rattle.std.specs.Prelude.{unwrap_or, slice_index}
 use Rattle.std.specs.Option.{option_map_or}

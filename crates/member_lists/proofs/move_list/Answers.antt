@@ -1,3 +1,4 @@
+-- Between the writes neither list is whole: they are joined at the last member of the one, which the walk that told owners has found
 use Rattle.std.proofs.Common.{◌≡◌, ◌≢◌, ℕ, List, ◌∙◌, arith}
 use Rattle.member_lists.specs.declared.Link.{Link}
 use Rattle.member_lists.specs.Links.{nil, link_at, head_at, AreTold, IsLinked}

@@ -1,3 +1,4 @@
+-- What was beside the key hangs where the key hung: the key ranked between the two, so ranks still rise, and the key itself is held
 use Rattle.std.proofs.Common.{◌≡◌, inl, inr, ℕ, ◌<◌, length, refl, sym, ap, ◌∙◌, arith, List, set}
 use Rattle.std.proofs.Math.Seq.{map-set_same}
 use Rattle.member_queues.specs.declared.Node.{Node}

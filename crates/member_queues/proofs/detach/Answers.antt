@@ -1,3 +1,4 @@
+-- Owners change before the runs are joined: all members are told at once, and no rank of one owner is one of the other's
 use Rattle.std.proofs.Common.{◌≡◌, ◌≢◌, ℕ, ◌<◌, List, length, map, arith}
 use Rattle.member_queues.specs.declared.Node.{Node}
 use Rattle.member_queues.specs.Ranks.{AreRankedMembers}

@@ -1,3 +1,4 @@
+-- A key written as a run of one is a tree held beside the heap: nothing leads to it yet, and its rank is new to its owner
 use Rattle.std.proofs.Common.{◌≡◌, ◌≢◌, ℕ, ◌<◌, ◌≤◌, length, Some, None, refl, sym, ap, ◌∙◌, arith, List, set, map, slice_index_or}
 use Rattle.std.proofs.lemmas.List.{map-set, get_or-set_same}
 use Rattle.member_queues.specs.declared.Node.{Node}

@@ -1,3 +1,4 @@
+-- A run beside another begins with a higher rank: so of the two runs found, the second may go below the first
 use Rattle.std.proofs.Common.{◌≡◌, ◌≢◌, ◌<◌, inr, ℕ, List, length, refl, sym, ap, ◌∙◌, arith, slice_index_or}
 use Rattle.member_queues.specs.declared.Node.{Node}
 use Rattle.member_queues.specs.Heap.{nil, node_at, IsHeap}

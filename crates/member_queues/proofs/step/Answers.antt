@@ -1,3 +1,4 @@
+-- One step of a merge: what ranks lower stays, else the held tree is hung there and the rest is held; either way ranks rise
 use Rattle.std.proofs.Common.{◌≢◌, ◌<◌, List, length, sym, ◌∙◌, arith}
 use Rattle.member_queues.specs.declared.Node.{Node}
 use Rattle.member_queues.specs.Heap.{nil, node_at, key_on}

@@ -1,3 +1,4 @@
+-- Number 1 in the root or in its own namespace decides which of three ends it is: the test by key is the model's by name
 use Rattle.std.proofs.Common.{sym, ap, ◌∙◌}
 use Rattle.pid_types.specs.Outcome.{Outcome}
 use Rattle.pid_numbers.specs.Numbering.{number_of}

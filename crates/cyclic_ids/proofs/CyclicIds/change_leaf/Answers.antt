@@ -1,3 +1,4 @@
+-- The tree has nothing in the block of the leaf beside it: so two exchanges move entries only, and each number is read as before
 use Rattle.std.proofs.Common.{ap, sym, ◌∙◌, ◌≡◌, ◌/◌, ℕ, None, true, arith, refl}
 use Rattle.std.proofs.lemmas.Bool.{false≢true}
 use Rattle.index_array.specs.Place.{entry_at, KeepsEntries}

@@ -1,3 +1,4 @@
+-- Leaf and tree share no number, so one write in either is one write of the numbers seen; a mark taken off makes no entry
 use Rattle.std.proofs.Common.{false}
 use Rattle.cyclic_ids.proofs.Draws.{range_written, marked_some}
 use Rattle.cyclic_ids.proofs.Beside.{entry_in_leaf, entry_in_tree, written_leaf, written_tree, apart_written, empty_marked, keeps_beside}

@@ -1,3 +1,4 @@
+-- The number's block says where its room is; a write in the tree is outside the leaf's block, in which the tree must stay empty
 use Rattle.std.proofs.Common.{ap, sym, ◌∙◌, ◌≡◌, ◌<◌, true, arith}
 use Rattle.std.proofs.lemmas.Bool.{false≢true}
 use Rattle.pid_types.proofs.LeastFree.{draw-Some}

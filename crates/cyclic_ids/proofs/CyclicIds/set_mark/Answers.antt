@@ -1,3 +1,4 @@
+-- A mark on a free number makes no entry: so all numbers in use stay in range, and the tree stays empty in the leaf's block
 use Rattle.std.proofs.Common.{true}
 use Rattle.cyclic_ids.proofs.Draws.{range_written, marked_some}
 use Rattle.cyclic_ids.proofs.Beside.{entry_in_leaf, entry_in_tree, written_leaf, written_tree, apart_written, empty_marked, keeps_beside}

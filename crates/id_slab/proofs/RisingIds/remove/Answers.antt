@@ -1,3 +1,4 @@
+-- A removed id stays as a mark in the vector: what is seen are the entries with a key, and the count must be how many those are
 use Rattle.std.proofs.Common.{◌∙◌, ap, sym, arith, length}
 use Rattle.id_slab.specs.Entries.{live}
 use Rattle.id_slab.proofs.Lives as lives

@@ -1,3 +1,4 @@
+-- Two runs lose what led to them: the one that begins lower takes the key's place, and not being lower must mean the other is
 use Rattle.std.proofs.Common.{◌≡◌, ◌≢◌, inl, inr, ℕ, IsSome, sym, ap, List, Option, map, Bool, true, false, arith}
 use Rattle.member_queues.specs.declared.Node.{Node}
 use Rattle.member_queues.specs.Ranks.{ranked}

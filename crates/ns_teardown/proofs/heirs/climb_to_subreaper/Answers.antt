@@ -1,3 +1,4 @@
+-- The climb may stop at the first ancestor in another namespace, since above that one none is in the task's own again
 use Rattle.std.proofs.Common.{◌≡◌, ◌+◌, ◌-◌, ◌<◌, length, true, false, Some, refl, sym, ◌∙◌, arith}
 use Rattle.task_tree.specs.Tree.{parent_of}
 use Rattle.ns_teardown.specs.Heirs.{is_subreaper_in}

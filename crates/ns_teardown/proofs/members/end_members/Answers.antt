@@ -1,3 +1,4 @@
+-- Each member below the number reached is as after the fall, each above it as before, but that its parent may have gone already
 use Rattle.std.proofs.Common.{◌≡◌, ◌<◌, arith}
 use Rattle.task_table.proofs.Less as less
 use Rattle.ns_teardown.proofs.Falling as falling

@@ -1,3 +1,4 @@
+-- Marking namespaces as fallen changes no number or parent: so how each member ends is told by the store before the fall
 use Rattle.std.proofs.Common.{◌≡◌, ℕ, Some, option_map, is_some, sym, ap, ◌∙◌}
 use Rattle.std.specs.Option.{option_map_or}
 use Rattle.pid_numbers.specs.Numbering.{Numbering, Identifier, identifier_at, path_at}

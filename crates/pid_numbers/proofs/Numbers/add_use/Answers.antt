@@ -1,3 +1,4 @@
+-- A mark says whether there is a use, not how many: so only the first use of a kind marks the numbers, on the whole path
 use Rattle.std.proofs.Common.{◌≡◌, ◌∙◌, sym, ap, refl, subst, ℕ, ◌+◌, ◌<◌, ◌^◌, length, Some, true, IsSome, IfSome}
 use Rattle.index_array.specs.Place.{with_mark}
 use Rattle.std.specs.Prelude.{vec_capacity}

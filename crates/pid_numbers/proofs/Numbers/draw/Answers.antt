@@ -1,3 +1,4 @@
+-- All memory is taken first, and taking it moves no plan: so the numbers planned are free still when the path is written
 use Rattle.std.proofs.Common.{false, List, ◌≡◌, ◌≢◌, ◌∙◌, sym, ap, subst, refl, arith, ℕ, ◌<◌, length, get_or, find, is_none, Some, None, map, option_map, unwrap_or}
 use Rattle.std.specs.Prelude.{vec_capacity}
 use Rattle.pid_numbers.specs.Numbering.{Numbering, namespace_at, identifier_at, path_at, draw_in, moved, new_identifier}

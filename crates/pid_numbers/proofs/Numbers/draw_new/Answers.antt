@@ -1,3 +1,4 @@
+-- The numbers were planned before the namespace was there: it takes a vacant place, so no plan on the path around it has moved
 use Rattle.std.proofs.Common.{◌≡◌, ◌≢◌, ◌∙◌, ◌∷◌, ◌-◌, sym, ap, subst, refl, arith, ℕ, ◌<◌, List, length, get_or, take, drop, find, is_none, Some, None, Option, true, false, map, option_map, option_and_then, unwrap_or, []}
 use Rattle.std.specs.Option.{option_map_or}
 use Rattle.index_array.specs.Place.{entry_at}

@@ -1,3 +1,4 @@
+-- Only the last use of all frees numbers; a namespace loses its last one then, if at all, and so only those on the path can be dropped
 use Rattle.std.proofs.Common.{◌≡◌, ◌∙◌, sym, ap, refl, subst, List, Bool, is_some, get_or, ℕ, ◌-◌, length, Some, None, true, false, IfSome, IsSome, map, option_map, if◌then◌else◌, []}
 use Rattle.index_array.specs.Place.{with_mark}
 use Rattle.std.specs.List.{filter}

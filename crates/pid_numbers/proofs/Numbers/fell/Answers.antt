@@ -1,3 +1,4 @@
+-- Each namespace inside is some task's own or fell before: so it has a number in use, which a fallen one must have until it is dropped
 use Rattle.std.proofs.Common.{List, [], ◌∷◌, ◌≡◌, ◌∙◌, sym, ap, ℕ, ◌<◌, Bool, true, false, ◌||◌, length, Option, Some, None, option_map, refl, arith}
 use Rattle.std.specs.Option.{option_map_or}
 use Rattle.pid_types.specs.Chains.{contains}

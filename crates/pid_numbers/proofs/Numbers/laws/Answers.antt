@@ -1,3 +1,4 @@
+-- The invariant speaks of slots in vectors, the contract of keys and paths as they are seen: each law is read through the view
 use Rattle.std.proofs.Common.{◌⊎◌, inl, inr, [], ◌∷◌, arith, ◌≡◌, ◌∙◌, refl, sym, ap, subst, ℕ, ◌<◌, ◌≤◌, List, length, get_or, drop, Option, Some, None, false, unwrap_or, option_map}
 use Rattle.std.specs.Option.{option_map_or}
 use Rattle.std.specs.List.{AllByRecursion}

@@ -1,3 +1,4 @@
+-- The path of an outer namespace is the end of the inner one's: so the difference of their lengths is the place of the number
 use Rattle.std.proofs.Common.{◌≡◌, ◌∙◌, sym, ap, subst, arith, ◌<◌, ◌-◌, length, get_or, IfSome, option_map}
 use Rattle.pid_types.specs.Names.{beside}
 use Rattle.pid_numbers.specs.Numbering.{number_of, number_in}

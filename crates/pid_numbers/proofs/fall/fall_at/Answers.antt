@@ -1,3 +1,4 @@
+-- The flag written is what the definition computes, fallen before or inside the one that falls; the other fields are read as before
 use Rattle.std.proofs.Common.{◌≡◌, ◌||◌, true, refl, sym, ap, ◌∙◌, option_map, option_and_then, Some, []}
 use Rattle.std.specs.Option.{option_map_or}
 use Rattle.index_array.specs.Place.{entry_at}

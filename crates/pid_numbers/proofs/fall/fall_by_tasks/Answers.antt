@@ -1,3 +1,4 @@
+-- The walk is over numbers, not namespaces: each one inside that stood is the own one of a task with a number here, so none is missed
 use Rattle.std.proofs.Common.{◌≡◌, ◌∙◌, length, ℕ, List, [], Option, Some, None, option_map, option_and_then, refl, sym, ap, arith}
 use Rattle.std.specs.Option.{option_map_or}
 use Rattle.index_array.specs.Place.{Entry, is_marked}

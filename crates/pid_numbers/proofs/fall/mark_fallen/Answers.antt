@@ -1,3 +1,4 @@
+-- A place is written whole, so each other view of it must be shown to stay: its path, its entries and its bound, at every key
 use Rattle.std.proofs.Common.{true, refl, sym, ap, ◌∙◌, option_map, option_and_then, []}
 use Rattle.std.specs.Option.{option_map_or}
 use Rattle.index_array.specs.Place.{entry_at}

@@ -1,3 +1,4 @@
+-- An empty path makes the place vacant: its key was not vacant before, so there is room for it, and its id alone leaves the order
 use Rattle.std.proofs.Common.{◌≡◌, ◌++◌, ◌∷◌, [], subst, ◌∙◌, sym, ap, Some, None, is_some, option_map, set, true, arith, if◌then◌else◌}
 use Rattle.std.specs.Prelude.{vec_capacity}
 use Rattle.pid_numbers.specs.declared.spaces.Space.{Space}

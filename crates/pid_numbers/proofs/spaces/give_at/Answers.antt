@@ -1,3 +1,4 @@
+-- One number and the cursor change at one place: a planned number shows that the place is there, and its path and bound stay
 use Rattle.std.proofs.Common.{refl, sym, ap, ◌∙◌, option_map, option_and_then, Some, []}
 use Rattle.std.specs.Option.{option_map_or}
 use Rattle.index_array.specs.Place.{entry_at}

@@ -1,3 +1,4 @@
+-- Both branches write one mark at one place, by the kind's index: no number, cursor or path that is seen anywhere changes with it
 use Rattle.std.proofs.Common.{true, false, refl, sym, ap, ◌∙◌, option_map, option_and_then, Some, []}
 use Rattle.std.specs.Option.{option_map_or}
 use Rattle.index_array.specs.Place.{entry_at, with_mark}

@@ -1,3 +1,4 @@
+-- Memory for a number is in no view of a namespace: so plans, entries and cursors stay at every key, and what was ready is so still
 use Rattle.std.proofs.Common.{◌≡◌, refl, true, OnOk, subst, sym, ap, ◌∙◌, option_map, option_and_then, Some, false, []}
 use Rattle.std.specs.Option.{option_map_or}
 use Rattle.index_array.specs.Place.{entry_at, is_prepared}

@@ -1,3 +1,4 @@
+-- A free number leaves the cursor where it is, so the namespaces as they are seen stay, though one entry at one place has gone
 use Rattle.std.proofs.Common.{refl, sym, ap, ◌∙◌, option_map, option_and_then, Some, []}
 use Rattle.std.specs.Option.{option_map_or}
 use Rattle.index_array.specs.Place.{entry_at}

@@ -1,3 +1,4 @@
+-- The path is read from a place that the sweep may drop: a namespace heads its own path alone, so that place is the last to go
 use Rattle.std.proofs.Common.{◌≡◌, ◌≢◌, inl, inr, ℕ, suc, ◌<◌, ◌-◌, ◌+◌, ◌==◌, ◌||◌, List, [], ◌∙◌, refl, sym, ap, subst, arith, get_or, length, take, is_some}
 use Rattle.pid_types.specs.Chains.{contains}
 use Rattle.std.specs.List.{filter}

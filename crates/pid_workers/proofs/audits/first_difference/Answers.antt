@@ -1,3 +1,4 @@
+-- Two walks at different paces, past others' entries and receipts of cut calls: what both have passed must match one for one
 use Rattle.std.proofs.Common.{rules, arith, ◌≡◌, ◌<◌, ◌-◌, length, take, get_or, length-append, [], ◌∷◌, ap, ◌∙◌, sym}
 use Rattle.pid_types.specs.declared.call.Call.TheVariants.{Count}
 use Rattle.pid_types.specs.declared.reply.Reply.TheVariants.{Done}

@@ -1,3 +1,4 @@
+-- A refused call leaves no receipt: so the receipts answer a part of the calls in order, and the count of refusals is the rest
 use Rattle.std.proofs.Common.{rules, ◌+◌, ◌<◌, ◌++◌, ◌∷◌, [], length, false, get_or, refl, sym, subst}
 use Rattle.std.proofs.lemmas.List.{take_all, append-nil}
 use Rattle.pid_types.specs.declared.call.Call.{Call}

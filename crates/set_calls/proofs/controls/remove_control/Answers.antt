@@ -1,3 +1,4 @@
+-- Whether a group is empty is read by key and told by id in the model: each refusal, and what is left, must be the same in both
 use Rattle.std.proofs.Common.{◌≡◌, ◌∙◌, is_some, sym, ap}
 use Rattle.pid_types.specs.Controls.{control_at, parent_control}
 use Rattle.pid_types.specs.Outcome.{Outcome}

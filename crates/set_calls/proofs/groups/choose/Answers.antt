@@ -1,3 +1,4 @@
+-- The rules of setpgid are asked of keys: they ask the model's questions in the same order, so the first refusal is the same one
 use Rattle.std.proofs.Common.{◌≡◌, ◌∙◌, sym, ap, subst, ℤ, w32}
 use Rattle.std.proofs.lemmas.Int.{to_z-of_z}
 use Rattle.std.specs.Prelude.{Ok}

@@ -1,3 +1,4 @@
+-- That nobody is in a group of the caller's key is that no row names one after it; then one membership changed is one row changed
 use Rattle.std.proofs.Common.{◌∙◌, sym, ap, refl}
 use Rattle.pid_types.specs.declared.reply.Reply.TheVariants.{Number}
 use Rattle.pid_types.specs.Outcome.{Outcome, refused}

@@ -1,3 +1,4 @@
+-- The parts are written one after another and agree again only at the end: the drawn key is the one made room for, in no part before
 use Rattle.std.proofs.Common.{◌≡◌, ℕ, List, [], None, Some, Option, true, is_some, option_map, refl, sym, ap, subst, ◌∙◌}
 use Rattle.std.specs.Option.{option_map_or}
 use Rattle.std.specs.Prelude.{slice_index_or}

@@ -1,3 +1,4 @@
+-- The parts agree again only at the end; the new namespace is on no older path, so the ranks of waiting children stay as they are
 use Rattle.std.proofs.Common.{◌≡◌, ℕ, List, [], None, Some, Option, is_some, option_map, refl, sym, ap, subst, ◌∙◌}
 use Rattle.std.specs.Option.{option_map_or}
 use Rattle.std.specs.Prelude.{slice_index_or, drop}

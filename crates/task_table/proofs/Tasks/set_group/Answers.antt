@@ -1,3 +1,4 @@
+-- The new group's use comes before the old one's goes, and the two may be one: so the identifier never goes in between
 use Rattle.std.proofs.Common.{◌≡◌, ◌+◌, ℕ, sym, ap, subst, ◌∙◌, option_map, arith}
 use Rattle.std.specs.Prelude.{slice_set, ◌==◌, ◌&&◌}
 use Rattle.pid_types.specs.declared.call.Kind.{Kind}

@@ -1,3 +1,4 @@
+-- The new uses come before the old ones go: so no identifier in use goes, and the counts of both kinds are the memberships' again
 use Rattle.std.proofs.Common.{◌==◌, ◌&&◌, ap, subst, arith}
 use Rattle.pid_types.specs.declared.call.Kind.TheVariants.{Group, Session}
 use Rattle.groups_sessions.specs.Membership.{Membership, membership_at}

@@ -1,3 +1,4 @@
+-- The opening becomes the state after the call: it is sound, and its ids are below the next stamp, since a run keeps both
 use Rattle.std.proofs.Common.{◌≡◌, ℕ, ◌<◌, None, length, arith, rules, refl, ap, sym, subst, ◌∙◌}
 use Rattle.std.specs.Prelude.{slice_index}
 use Rattle.pid_types.specs.declared.entry.Entry.{Entry}

@@ -1,3 +1,4 @@
+-- A place without numbers is how vacancy shows; its key was not vacant, so there is room for it in the list of vacant keys
 use Rattle.std.proofs.Common.{◌≡◌, ◌∙◌, ◌<◌, ◌++◌, ◌∷◌, ℕ, List, [], length, map, get_or, None, Some, IsSome, arith, sym, ap, subst, option_map}
 use Rattle.std.specs.Prelude.{vec_capacity}
 use Rattle.std.proofs.lemmas.List.{length-set}
