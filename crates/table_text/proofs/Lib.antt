@@ -1,0 +1,4 @@
+pub mod Fronts
+pub mod Words
+pub mod Lines
+pub mod Told
