@@ -77,7 +77,14 @@ end sha256 528d100f87aa7bfc07c2c7d2c32e142d80b3edccc003a1cd144ea99b51976f7d
 #[test]
 fn writes_a_group_that_no_task_bears(rt: HostRuntime) -> Result<(), Fail> {
     let alloc = rt.alloc();
-    let lines: [&[u8]; 6] = [b"fork 1", b"fork 2 new", b"setpgid 3 0 0", b"setpgid 2 0 3", b"exit 3 0", b"wait 2 any"];
+    let lines: [&[u8]; 6] = [
+        b"fork 1",
+        b"fork 2 new",
+        b"setpgid 3 0 0",
+        b"setpgid 2 0 3",
+        b"exit 3 0",
+        b"wait 2 any",
+    ];
     let text = text_after(alloc, &Config::default_values(), &lines)?;
     let expected: &[u8] = b"pidtab table 1 pid-max 32768 stamp 7
 task 1@0 parent - group 1@0 session 1@0 control 0 children 0 live
@@ -95,7 +102,14 @@ end sha256 43e4b011666adfc0327747421276975e151ed4aaf6d8c75e33dcc6843cccb951
 #[test]
 fn writes_how_tasks_ended(rt: HostRuntime) -> Result<(), Fail> {
     let alloc = rt.alloc();
-    let lines: [&[u8]; 6] = [b"fork 1", b"fork 2 new", b"fork 3", b"join 2 3", b"fork 2", b"exit 3 0"];
+    let lines: [&[u8]; 6] = [
+        b"fork 1",
+        b"fork 2 new",
+        b"fork 3",
+        b"join 2 3",
+        b"fork 2",
+        b"exit 3 0",
+    ];
     let text = text_after(alloc, &Config::default_values(), &lines)?;
     let expected: &[u8] = b"pidtab table 1 pid-max 32768 stamp 7
 task 1@0 parent - group 1@0 session 1@0 control 0 children 0 live
@@ -115,7 +129,13 @@ end sha256 6486ab68ee85cf84dabec3a4079f9633721da2c3ef61a0adb2c655dd85041ca0
 #[test]
 fn writes_marks(rt: HostRuntime) -> Result<(), Fail> {
     let alloc = rt.alloc();
-    let lines: [&[u8]; 5] = [b"fork 1", b"subreaper 2 on", b"exec 2", b"setsid 2", b"mk 0"];
+    let lines: [&[u8]; 5] = [
+        b"fork 1",
+        b"subreaper 2 on",
+        b"exec 2",
+        b"setsid 2",
+        b"mk 0",
+    ];
     let text = text_after(alloc, &Config::default_values(), &lines)?;
     let expected: &[u8] = b"pidtab table 1 pid-max 32768 stamp 6
 task 1@0 parent - group 1@0 session 1@0 control 0 children 0 live
@@ -181,7 +201,13 @@ fn tells_tables_with_one_list_apart(rt: HostRuntime) -> Result<(), Fail> {
     ];
     let one = left_by(alloc, &config, &first)?;
     let other = left_by(alloc, &config, &second)?;
-    assert_eq!(rt; list_text(alloc, &one.plain)?.as_slice(), list_text(alloc, &other.plain)?.as_slice());
-    assert_ne!(rt; dump_text(alloc, &one.plain, one.stamp)?.as_slice(), dump_text(alloc, &other.plain, other.stamp)?.as_slice());
+    assert_eq!(rt;
+        list_text(alloc, &one.plain)?.as_slice(),
+        list_text(alloc, &other.plain)?.as_slice()
+    );
+    assert_ne!(rt;
+        dump_text(alloc, &one.plain, one.stamp)?.as_slice(),
+        dump_text(alloc, &other.plain, other.stamp)?.as_slice()
+    );
     Ok(())
 }
