@@ -2,3 +2,4 @@ pub mod Fronts
 pub mod Words
 pub mod Lines
 pub mod Told
+pub mod Scanned

@@ -7,3 +7,4 @@
 
 pub mod dump;
 pub mod laws;
+mod scan;

@@ -1,0 +1,5 @@
+use Rattle.table_text.proofs.Scanned.{word_read}
+use Rattle.table_text.proofs.scan.read_word.Goals as goal
+
+pub returns-clause-read : goal.returns-clause-read
+returns-clause-read c = word_read c.args.text.now c.args.word.now c.args.at.now c.if-not-starts_with.ensures.value
