@@ -1,7 +1,11 @@
 -- What is read of a text, from one place to another.
-use Rattle.std.proofs.Common.{◌≡◌, ℕ, ◌+◌, ◌-◌, ◌^◌, ◌<◌, ◌≤◌, Bool, true, eqb, List, [], ◌∷◌, ◌++◌, length, take, drop, Option, Some, decimal, refl, sym, ap, ◌∙◌, subst, arith, take_all, take-add, length-drop}
+use Rattle.std.proofs.Common.{◌≡◌, ℕ, ◌+◌, ◌-◌, ◌^◌, ◌<◌, ◌≤◌, Bool, true, eqb, List, [], ◌∷◌, ◌++◌, length, take, drop, Option, Some, decimal, codes, refl, sym, ap, ◌∙◌, subst, arith, take_all, take-add, length-drop, append_assoc}
 use Rattle.std.specs.List.{starts_with}
 use Rattle.std.proofs.lemmas.Slice.Eq.{bytes_eq-Decides}
+use Rattle.pid_types.specs.declared.plain.Row.{Row}
+use Rattle.pid_script.specs.Answers.{joined}
+use Rattle.pid_script.specs.Lists.{field, marked, life_text}
+use Rattle.table_text.specs.Texts.{name_word, parent_word, names_text, places_text, marks_text, task_line}
 use Rattle.pid_script.specs.Reading.{number_below}
 use Rattle.pid_script.proofs.Numbers.{number_below-Some}
 use Rattle.table_text.specs.Reading.{IsRead}
@@ -22,3 +26,51 @@ number_read text at end n le says =
     let written = (number_below-Some (2 ^ 64) (take (end - at) (drop at text)) n (sym says)).1 in
     let whole : at + (end - at) ≡ end = omega arith in
     subst (λ e. take e text ≡ take at text ++ decimal n) whole (take-add at (end - at) text ∙ ap (λ w. take at text ++ w) (sym written))
+
+joined_more : (ns : List ℕ) (n : ℕ) → 0 < length ns → joined 44 (ns ++ n ∷ []) ≡ joined 44 ns ++ 44 ∷ decimal n
+joined_more [] n some = absurd (omega (arith, some))
+joined_more (m ∷ []) n some = refl
+joined_more (m ∷ k ∷ ns) n some =
+    ap (λ rest. decimal m ++ 44 ∷ rest) (joined_more (k ∷ ns) n (omega arith))
+    ∙ sym (append_assoc (decimal m) (44 ∷ joined 44 (k ∷ ns)) (44 ∷ decimal n))
+
+-- one number more, behind a comma
+pub numbers_more : (text : List ℕ) (a b c d : ℕ) (ns : List ℕ) (n : ℕ) → IsRead text a b (joined 44 ns) → IsRead text b c (44 ∷ []) → IsRead text c d (decimal n)
+    → 0 < length ns → IsRead text a d (joined 44 (ns ++ n ∷ []))
+numbers_more text a b c d ns n first second third some =
+    third ∙ ap (λ t. t ++ decimal n) (second ∙ ap (λ t. t ++ 44 ∷ []) first)
+    ∙ append_assoc (take a text ++ joined 44 ns) (44 ∷ []) (decimal n) ∙ append_assoc (take a text) (joined 44 ns) (44 ∷ decimal n)
+    ∙ ap (λ w. take a text ++ w) (sym (joined_more ns n some))
+
+-- what is read from place to place, put together
+pub IsRead-more : (text : List ℕ) (a b c : ℕ) (u v : List ℕ) → IsRead text a b u → IsRead text b c v → IsRead text a c (u ++ v)
+IsRead-more text a b c u v first second = second ∙ ap (λ t. t ++ v) first ∙ append_assoc (take a text) u v
+
+-- the parts of a task's line, each as it is read
+abbrev in_parts : (t n p q g h s i c k j l b m x y z : List ℕ) → List ℕ
+in_parts t n p q g h s i c k j l b m x y z =
+    (((((((((t ++ n) ++ (p ++ q)) ++ (g ++ h)) ++ (s ++ i)) ++ (c ++ k)) ++ (j ++ l)) ++ (b ++ m)) ++ x) ++ y) ++ z
+
+regrouped : (t n p q g h s i c k j l b m x y z : List ℕ) → in_parts t n p q g h s i c k j l b m x y z
+    ≡ (((((((((t ++ n) ++ p) ++ q) ++ g) ++ h) ++ s) ++ i) ++ ((c ++ k) ++ (j ++ l))) ++ (((b ++ m) ++ x) ++ y)) ++ z
+regrouped t n p q g h s i c k j l b m x y z = simp append_assoc
+
+task_in_parts : (r : Row) → in_parts (codes "task ") (name_word r.name) (codes " parent ") (parent_word r.parent) (codes " group ") (name_word r.group)
+    (codes " session ") (name_word r.session) (codes " control ") (decimal r.home) (codes " children ") (decimal r.children_space)
+    (codes " ") (life_text r.life) (marked r.executed (codes " executed")) (marked r.subreaper (codes " subreaper")) (10 ∷ []) ≡ task_line r
+unfolding task_line names_text places_text marks_text
+task_in_parts r = regrouped (codes "task ") (name_word r.name) (codes " parent ") (parent_word r.parent) (codes " group ") (name_word r.group)
+    (codes " session ") (name_word r.session) (codes " control ") (decimal r.home) (codes " children ") (decimal r.children_space)
+    (codes " ") (life_text r.life) (marked r.executed (codes " executed")) (marked r.subreaper (codes " subreaper")) (10 ∷ [])
+
+-- the line of a task
+pub task_read : (text : List ℕ) (r : Row) (a0 a1 a2 a3 a4 a5 a6 a7 a8 a9 a10 : ℕ)
+    → IsRead text a0 a1 (codes "task " ++ name_word r.name) → IsRead text a1 a2 (codes " parent " ++ parent_word r.parent)
+    → IsRead text a2 a3 (codes " group " ++ name_word r.group) → IsRead text a3 a4 (codes " session " ++ name_word r.session)
+    → IsRead text a4 a5 (field (codes " control ") r.home) → IsRead text a5 a6 (field (codes " children ") r.children_space)
+    → IsRead text a6 a7 (codes " " ++ life_text r.life) → IsRead text a7 a8 (marked r.executed (codes " executed"))
+    → IsRead text a8 a9 (marked r.subreaper (codes " subreaper")) → IsRead text a9 a10 (10 ∷ []) → IsRead text a0 a10 (task_line r)
+task_read text r a0 a1 a2 a3 a4 a5 a6 a7 a8 a9 a10 e1 e2 e3 e4 e5 e6 e7 e8 e9 e10 =
+    subst (IsRead text a0 a10) (task_in_parts r)
+    (IsRead-more text a0 a9 a10 _ _ (IsRead-more text a0 a8 a9 _ _ (IsRead-more text a0 a7 a8 _ _ (IsRead-more text a0 a6 a7 _ _ (IsRead-more text a0 a5 a6 _ _
+    (IsRead-more text a0 a4 a5 _ _ (IsRead-more text a0 a3 a4 _ _ (IsRead-more text a0 a2 a3 _ _ (IsRead-more text a0 a1 a2 _ _ e1 e2) e3) e4) e5) e6) e7) e8) e9) e10)

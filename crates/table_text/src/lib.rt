@@ -7,4 +7,6 @@
 
 pub mod dump;
 pub mod laws;
+pub mod fault;
+mod read;
 mod scan;
