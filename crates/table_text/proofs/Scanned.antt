@@ -1,11 +1,11 @@
 -- What is read of a text, from one place to another.
-use Rattle.std.proofs.Common.{◌≡◌, ℕ, ◌+◌, ◌-◌, ◌^◌, ◌<◌, ◌≤◌, Bool, true, eqb, List, [], ◌∷◌, ◌++◌, length, take, drop, Option, Some, decimal, codes, refl, sym, ap, ◌∙◌, subst, arith, take_all, take-add, length-drop, append_assoc}
+use Rattle.std.proofs.Common.{◌≡◌, ℕ, ◌+◌, ◌-◌, ◌^◌, ◌<◌, ◌≤◌, Bool, true, eqb, List, [], ◌∷◌, ◌++◌, length, take, drop, Option, Some, decimal, codes, refl, sym, ap, ◌∙◌, subst, arith, take_all, take-add, length-drop, append_assoc, bytes_eq, length-append, length-take-le, take-append-drop}
 use Rattle.std.specs.List.{starts_with}
 use Rattle.std.proofs.lemmas.Slice.Eq.{bytes_eq-Decides}
 use Rattle.pid_types.specs.declared.plain.Row.{Row}
 use Rattle.pid_script.specs.Answers.{joined}
 use Rattle.pid_script.specs.Lists.{field, marked, life_text}
-use Rattle.table_text.specs.Texts.{name_word, parent_word, names_text, places_text, marks_text, task_line}
+use Rattle.table_text.specs.Texts.{name_word, parent_word, names_text, places_text, marks_text, task_line, end_line}
 use Rattle.pid_script.specs.Reading.{number_below}
 use Rattle.pid_script.proofs.Numbers.{number_below-Some}
 use Rattle.table_text.specs.Reading.{IsRead}
@@ -74,3 +74,16 @@ task_read text r a0 a1 a2 a3 a4 a5 a6 a7 a8 a9 a10 e1 e2 e3 e4 e5 e6 e7 e8 e9 e1
     subst (IsRead text a0 a10) (task_in_parts r)
     (IsRead-more text a0 a9 a10 _ _ (IsRead-more text a0 a8 a9 _ _ (IsRead-more text a0 a7 a8 _ _ (IsRead-more text a0 a6 a7 _ _ (IsRead-more text a0 a5 a6 _ _
     (IsRead-more text a0 a4 a5 _ _ (IsRead-more text a0 a3 a4 _ _ (IsRead-more text a0 a2 a3 _ _ (IsRead-more text a0 a1 a2 _ _ e1 e2) e3) e4) e5) e6) e7) e8) e9) e10)
+
+-- where something was read, the place has moved on
+pub ahead : (text : List ℕ) (a b c : ℕ) (w cs : List ℕ) → a ≤ length text → b ≤ length text → IsRead text a b w → w ≡ c ∷ cs → a < b
+ahead text a b c w cs within_a within_b read begins =
+    let long = ap length (read ∙ ap (λ l. take a text ++ l) begins) ∙ length-append (take a text) (c ∷ cs) in
+    omega (arith, long, length-take-le a text within_a, length-take-le b text within_b)
+
+-- a text that ends as it should
+pub end_read : (text end : List ℕ) (at : ℕ) → true ≡ bytes_eq (take (length text - at) (drop at text)) end → end ≡ end_line (take at text)
+    → text ≡ take at text ++ end_line (take at text)
+end_read text end at equal is =
+    let same = (bytes_eq-Decides (take (length text - at) (drop at text)) end).0 (sym equal) in
+    sym (take-append-drop at text) ∙ ap (λ w. take at text ++ w) (sym (rest_is text at) ∙ same ∙ is)

@@ -137,15 +137,17 @@ fn push_said(text: &mut Vec<u8>, plain: &Plain, stamp: u64) -> Result<(), AllocE
     push_controls(text, &plain.controls)
 }
 
-/// Appends the last line, which has the digest of the text.
+/// The last line of a text: the digest of what it says.
 #[tactic(auto, unfolding(crate::specs::Texts::end_line))]
-fn push_end(alloc: Global, text: &mut Vec<u8>) -> Result<(), AllocError>
-    ensures { OnOk result (text.new.items ≡ text.old.items ++ end_line text.old.items) }
+pub(crate) fn end_of(alloc: Global, said: &[u8]) -> Result<Vec<u8>, AllocError>
+    ensures { IfOk result (λ end. end.items ≡ end_line said.now) }
 {
-    let digest = encode(alloc, Sha256::digest(text.as_slice()))?;
-    text.extend_from_slice(b"end sha256 ")?;
-    text.extend_from_slice(digest.as_bytes())?;
-    text.extend_from_slice(b"\n")
+    let digest = encode(alloc, Sha256::digest(said))?;
+    let mut end = Vec::new(alloc);
+    end.extend_from_slice(b"end sha256 ")?;
+    end.extend_from_slice(digest.as_bytes())?;
+    end.extend_from_slice(b"\n")?;
+    Ok(end)
 }
 
 /// The text of a snapshot, with the stamp of the table's next call.
@@ -167,6 +169,7 @@ pub fn dump_text(alloc: Global, plain: &Plain, stamp: u64) -> Result<Vec<u8>, Al
 {
     let mut text = Vec::new(alloc);
     push_said(&mut text, plain, stamp)?;
-    push_end(alloc, &mut text)?;
+    let end = end_of(alloc, text.as_slice())?;
+    text.extend_from_slice(end.as_slice())?;
     Ok(text)
 }
