@@ -4,4 +4,6 @@
 #![tactic(auto)]
 
 #[cfg(test)]
+mod reads;
+#[cfg(test)]
 mod texts;

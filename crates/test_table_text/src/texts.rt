@@ -8,6 +8,7 @@ use plain_table::table::PlainTable;
 use std::alloc::{AllocError, Global};
 use std::test::Fail;
 use table_text::dump::dump_text;
+use table_text::read::read_text;
 
 /// A table that a script left, and the stamp of its next call.
 #[derive(Drop)]
@@ -32,6 +33,11 @@ fn left_by(alloc: Global, config: &Config, lines: &[&[u8]]) -> Result<Left, Allo
     })
 }
 
+/// Whether the text is read. What is read then is what the text says.
+fn reads_back(alloc: Global, text: &[u8]) -> bool {
+    read_text(alloc, text).is_ok()
+}
+
 /// The text of the table that the lines leave.
 fn text_after(alloc: Global, config: &Config, lines: &[&[u8]]) -> Result<Vec<u8>, AllocError> {
     let left = left_by(alloc, config, lines)?;
@@ -51,6 +57,7 @@ control 0 parent - limit max
 end sha256 11fb73109d1e64dd45c8bed09ef3e19114bc4df6ab4b0fbc8668f547950fb0d8
 ";
     assert_eq!(rt; text.as_slice(), expected);
+    assert!(rt; reads_back(alloc, expected));
     Ok(())
 }
 
@@ -70,6 +77,7 @@ control 0 parent - limit max
 end sha256 528d100f87aa7bfc07c2c7d2c32e142d80b3edccc003a1cd144ea99b51976f7d
 ";
     assert_eq!(rt; text.as_slice(), expected);
+    assert!(rt; reads_back(alloc, expected));
     Ok(())
 }
 
@@ -95,6 +103,7 @@ control 0 parent - limit max
 end sha256 43e4b011666adfc0327747421276975e151ed4aaf6d8c75e33dcc6843cccb951
 ";
     assert_eq!(rt; text.as_slice(), expected);
+    assert!(rt; reads_back(alloc, expected));
     Ok(())
 }
 
@@ -122,6 +131,7 @@ control 0 parent - limit max
 end sha256 6486ab68ee85cf84dabec3a4079f9633721da2c3ef61a0adb2c655dd85041ca0
 ";
     assert_eq!(rt; text.as_slice(), expected);
+    assert!(rt; reads_back(alloc, expected));
     Ok(())
 }
 
@@ -146,6 +156,7 @@ control 5 parent 0 limit max
 end sha256 5a791615cfcfc0cbed97e879e87c378eb3ed077bb30f200f7464fcc5d2061b12
 ";
     assert_eq!(rt; text.as_slice(), expected);
+    assert!(rt; reads_back(alloc, expected));
     Ok(())
 }
 
@@ -163,6 +174,7 @@ control 1 parent 0 limit 2
 end sha256 9e62c9511c0c5f1b1e5724af846eb4e017bfc6d02d8017ea73f0cf3254f76374
 ";
     assert_eq!(rt; text.as_slice(), expected);
+    assert!(rt; reads_back(alloc, expected));
     Ok(())
 }
 
