@@ -3,3 +3,4 @@ pub mod Words
 pub mod Lines
 pub mod Told
 pub mod Scanned
+pub mod Each

@@ -1,6 +1,9 @@
 -- What is read of a text, from one place to another.
-use Rattle.std.proofs.Common.{◌≡◌, ℕ, ◌+◌, ◌-◌, ◌^◌, ◌<◌, ◌≤◌, Bool, true, eqb, List, [], ◌∷◌, ◌++◌, length, take, drop, Option, Some, decimal, codes, refl, sym, ap, ◌∙◌, subst, arith, take_all, take-add, length-drop, append_assoc, bytes_eq, length-append, length-take-le, take-append-drop}
-use Rattle.std.specs.List.{starts_with}
+use Rattle.std.proofs.Common.{◌≡◌, ℕ, ◌+◌, ◌-◌, ◌^◌, ◌<◌, ◌≤◌, Bool, true, false, eqb, List, [], ◌∷◌, ◌++◌, length, take, drop, Option, Some, decimal, codes, refl, sym, ap, ◌∙◌, subst, arith, take_all, take-add, length-drop, append_assoc, bytes_eq, length-append, length-take-le, take-append-drop, append-nil, Result, Ok, Err}
+use Rattle.std.specs.Prelude.{if◌then◌else◌}
+use Rattle.std.specs.Result.{is_ok, is_err}
+use Rattle.std.specs.List.{starts_with, flat_map}
+use Rattle.std.proofs.lemmas.List.Concat.{flat_map-append}
 use Rattle.std.proofs.lemmas.Slice.Eq.{bytes_eq-Decides}
 use Rattle.pid_types.specs.declared.plain.Row.{Row}
 use Rattle.pid_script.specs.Answers.{joined}
@@ -87,3 +90,16 @@ pub end_read : (text end : List ℕ) (at : ℕ) → true ≡ bytes_eq (take (len
 end_read text end at equal is =
     let same = (bytes_eq-Decides (take (length text - at) (drop at text)) end).0 (sym equal) in
     sym (take-append-drop at text) ∙ ap (λ w. take at text ++ w) (sym (rest_is text at) ∙ same ∙ is)
+
+-- what a list is once a push was made
+pub pushed : {E : Type 0} {X : Type 0} (r : Result Unit E) (xs ys zs : List X) → zs ≡ (if is_ok r then xs else ys) → is_err r ≡ false → zs ≡ xs
+pushed (Ok u) xs ys zs items done = items
+pushed (Err e) xs ys zs items done = cc done
+
+-- one line more
+pub lines_more : {X : Type 0} (line : X → List ℕ) (text : List ℕ) (a b c : ℕ) (xs zs : List X) (y : X) → zs ≡ xs ++ y ∷ []
+    → IsRead text a b (flat_map line xs) → IsRead text b c (line y) → IsRead text a c (flat_map line zs)
+lines_more line text a b c xs zs y items before one =
+    let joined_lines : flat_map line xs ++ line y ≡ flat_map line zs =
+    ap (λ l. flat_map line xs ++ l) (sym (append-nil (line y))) ∙ sym (flat_map-append line xs (y ∷ [])) ∙ ap (flat_map line) (sym items) in
+    subst (IsRead text a c) joined_lines (IsRead-more text a b c (flat_map line xs) (line y) before one)

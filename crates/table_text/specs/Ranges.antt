@@ -1,5 +1,5 @@
 -- Numbers that a machine word holds, as all numbers of a table are.
-use Rattle.std.specs.Prelude.{ℕ, ◌<◌, ◌^◌, Option, Some, IfSome}
+use Rattle.std.specs.Prelude.{ℕ, ◌<◌, ◌^◌, List, IfSome}
 use Rattle.pid_types.specs.declared.plain.Name.{Name}
 use Rattle.pid_types.specs.declared.plain.Row.{Row}
 use Rattle.pid_types.specs.declared.plain.Space.{Space}
@@ -14,9 +14,13 @@ use Rattle.pid_types.specs.State.{State}
 abbrev pub IsWord : ℕ → Type 0
 IsWord n = n < 2 ^ 64
 
+-- it is true of each element
+abbrev pub Each : {X : Type 0} → (X → Type 0) → List X → Type 0
+Each {X} P xs = (x : X) → IsIn x xs → P x
+
 -- the numbers of a name
 pub record IsNameOfWords (name : Name) : Type 0 where
-  pub numbers : (n : ℕ) → IsIn n name.numbers.items → IsWord n
+  pub numbers : Each IsWord name.numbers.items
   pub space : IsWord name.space
 
 -- the status of a task that has exited
@@ -49,7 +53,7 @@ pub record IsControlOfWords (control : Control) : Type 0 where
 
 -- the numbers of a state
 pub record IsStateOfWords (state : State) : Type 0 where
-  pub rows : (r : Row) → IsIn r state.rows → IsRowOfWords r
-  pub spaces : (s : Space) → IsIn s state.spaces → IsSpaceOfWords s
-  pub controls : (c : Control) → IsIn c state.controls → IsControlOfWords c
+  pub rows : Each IsRowOfWords state.rows
+  pub spaces : Each IsSpaceOfWords state.spaces
+  pub controls : Each IsControlOfWords state.controls
   pub pid_max : IsWord state.pid_max

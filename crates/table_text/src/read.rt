@@ -4,6 +4,8 @@ ghost use Rattle.std.specs.List.{flat_map};
 ghost use Rattle.pid_script.specs.Answers.{joined};
 ghost use Rattle.pid_script.specs.Lists.{space_line};
 ghost use Rattle.table_text.specs.Texts.{name_word, parent_word, task_line, control_line, settings_text, head_line, end_line, text_of};
+ghost use Rattle.table_text.specs.Ranges.{IsWord, Each, IsNameOfWords, IsRowOfWords, IsSpaceOfWords, IsControlOfWords};
+ghost use Rattle.table_text.specs.Ranges.{IsStateOfWords};
 ghost use Rattle.table_text.specs.Reading.{IsRead, saved_state};
 
 use crate::dump::end_of;
@@ -45,6 +47,7 @@ fn read_settings(text: &[u8], at: &mut usize) -> Option<Head>
     requires { at.old ≤ length text.now }
     ensures within { at.new ≤ length text.now }
     ensures read { IfSome result (λ head. IsRead text.now at.old at.new (settings_text head.pid_max head.stamp)) }
+    ensures words { IfSome result (λ head. IsWord head.pid_max × IsWord head.stamp) }
 {
     let pid_max = read_small_field(text, at, b" pid-max ")?;
     let stamp = read_field(text, at, b" stamp ")?;
@@ -57,6 +60,7 @@ fn read_head(text: &[u8], at: &mut usize) -> Option<Head>
     requires { at.old ≤ length text.now }
     ensures within { at.new ≤ length text.now }
     ensures read { IfSome result (λ head. IsRead text.now at.old at.new (head_line head.pid_max head.stamp)) }
+    ensures words { IfSome result (λ head. IsWord head.pid_max × IsWord head.stamp) }
 {
     read_word(text, at, b"pidtab table 1")?;
     let head = read_settings(text, at)?;
@@ -69,6 +73,7 @@ fn read_numbers(text: &[u8], at: &mut usize) -> Option<ArrayVec<Pid, LEVELS>>
     requires { at.old ≤ length text.now }
     ensures within { at.new ≤ length text.now }
     ensures read { IfSome result (λ numbers. IsRead text.now at.old at.new (joined 44 numbers.items)) }
+    ensures words { IfSome result (λ numbers. Each IsWord numbers.items) }
 {
     let mut numbers = ArrayVec::new();
     numbers.push(read_small(text, at)?);
@@ -87,6 +92,7 @@ fn read_name(text: &[u8], at: &mut usize, label: &[u8]) -> Option<Name>
     requires { at.old ≤ length text.now }
     ensures within { at.new ≤ length text.now }
     ensures read { IfSome result (λ name. IsRead text.now at.old at.new (label.now ++ name_word name)) }
+    ensures words { IfSome result IsNameOfWords }
 {
     read_word(text, at, label)?;
     let numbers = read_numbers(text, at)?;
@@ -99,6 +105,7 @@ fn read_parent_name(text: &[u8], at: &mut usize) -> Option<Option<Name>>
     requires { at.old ≤ length text.now }
     ensures within { at.new ≤ length text.now }
     ensures read { IfSome result (λ p. IsRead text.now at.old at.new (codes " parent " ++ parent_word p)) }
+    ensures words { IfSome result (λ p. IfSome p IsNameOfWords) }
 {
     if read_mark(text, at, b" parent -") {
         return Some(None);
@@ -112,6 +119,7 @@ fn read_task(text: &[u8], at: &mut usize) -> Option<Row>
     requires { at.old ≤ length text.now }
     ensures within { at.new ≤ length text.now }
     ensures read { IfSome result (λ row. IsRead text.now at.old at.new (task_line row)) }
+    ensures words { IfSome result IsRowOfWords }
 {
     let name = read_name(text, at, b"task ")?;
     let parent = read_parent_name(text, at)?;
@@ -142,6 +150,7 @@ fn read_space(text: &[u8], at: &mut usize) -> Option<Space>
     requires { at.old ≤ length text.now }
     ensures within { at.new ≤ length text.now }
     ensures read { IfSome result (λ space. IsRead text.now at.old at.new (space_line space)) }
+    ensures words { IfSome result IsSpaceOfWords }
 {
     let id = read_field(text, at, b"space ")?;
     let parent = read_parent(text, at)?;
@@ -162,6 +171,7 @@ fn read_control(text: &[u8], at: &mut usize) -> Option<Control>
     requires { at.old ≤ length text.now }
     ensures within { at.new ≤ length text.now }
     ensures read { IfSome result (λ control. IsRead text.now at.old at.new (control_line control)) }
+    ensures words { IfSome result IsControlOfWords }
 {
     let id = read_field(text, at, b"control ")?;
     let parent = read_parent(text, at)?;
@@ -188,6 +198,7 @@ fn read_tasks(alloc: Global, text: &[u8], at: &mut usize, lines: u64) -> Result<
     requires { at.old ≤ length text.now }
     ensures within { at.new ≤ length text.now }
     ensures read { IfOk result (λ rows. IsRead text.now at.old at.new (flat_map task_line rows.items)) }
+    ensures words { IfOk result (λ rows. Each IsRowOfWords rows.items) }
 {
     let mut rows = Vec::new(alloc);
     while begins_with(text, *at, b't') {
@@ -211,6 +222,7 @@ fn read_spaces(
     requires { at.old ≤ length text.now }
     ensures within { at.new ≤ length text.now }
     ensures read { IfOk result (λ spaces. IsRead text.now at.old at.new (flat_map space_line spaces.items)) }
+    ensures words { IfOk result (λ spaces. Each IsSpaceOfWords spaces.items) }
 {
     let mut spaces = Vec::new(alloc);
     while begins_with(text, *at, b's') {
@@ -234,6 +246,7 @@ fn read_controls(
     requires { at.old ≤ length text.now }
     ensures within { at.new ≤ length text.now }
     ensures read { IfOk result (λ controls. IsRead text.now at.old at.new (flat_map control_line controls.items)) }
+    ensures words { IfOk result (λ controls. Each IsControlOfWords controls.items) }
 {
     let mut controls = Vec::new(alloc);
     while begins_with(text, *at, b'c') {
@@ -273,7 +286,8 @@ fn check_end(alloc: Global, text: &[u8], at: usize, line: u64) -> Result<(), Loa
 /// bad line. Then nothing is kept. The cost grows with the text.
 #[tactic(auto, unfolding(crate::specs::Texts::text_of, crate::specs::Texts::said))]
 pub fn read_text(alloc: Global, text: &[u8]) -> Result<Saved, LoadFault>
-    ensures { IfOk result (λ saved. text.now ≡ text_of saved.stamp (saved_state saved)) }
+    ensures text { IfOk result (λ saved. text.now ≡ text_of saved.stamp (saved_state saved)) }
+    ensures words { IfOk result (λ saved. IsWord saved.stamp × IsStateOfWords (saved_state saved)) }
 {
     let mut at = 0;
     let Some(head) = read_head(text, &mut at) else {

@@ -2,6 +2,7 @@
 //! where it does not, the place is somewhere within the text.
 ghost use Rattle.std.specs.Prelude.{◌≡◌, ◌++◌, ◌<◌, ◌≤◌, length, take, decimal, codes, IsTrue, OnSome, IfSome};
 ghost use Rattle.pid_script.specs.Lists.{field, marked, parent_text, limit_text, life_text};
+ghost use Rattle.table_text.specs.Ranges.{IsWord, IsLifeOfWords};
 ghost use Rattle.table_text.specs.Reading.{IsRead};
 
 use pid_script::number::read_u64;
@@ -39,6 +40,7 @@ pub fn read_number(text: &[u8], at: &mut usize) -> Option<u64>
     requires { at.old ≤ length text.now }
     ensures within { at.new ≤ length text.now }
     ensures read { IfSome result (λ n. IsRead text.now at.old at.new (decimal n)) }
+    ensures words { IfSome result IsWord }
 {
     let end = digits_end(text, *at);
     let number = read_u64(&text[*at..end])?;
@@ -51,6 +53,7 @@ pub fn read_small(text: &[u8], at: &mut usize) -> Option<u32>
     requires { at.old ≤ length text.now }
     ensures within { at.new ≤ length text.now }
     ensures read { IfSome result (λ n. IsRead text.now at.old at.new (decimal n)) }
+    ensures words { IfSome result IsWord }
 {
     u32::try_from(read_number(text, at)?).ok()
 }
@@ -60,6 +63,7 @@ pub fn read_field(text: &[u8], at: &mut usize, label: &[u8]) -> Option<u64>
     requires { at.old ≤ length text.now }
     ensures within { at.new ≤ length text.now }
     ensures read { IfSome result (λ n. IsRead text.now at.old at.new (field label.now n)) }
+    ensures words { IfSome result IsWord }
 {
     read_word(text, at, label)?;
     read_number(text, at)
@@ -70,6 +74,7 @@ pub fn read_small_field(text: &[u8], at: &mut usize, label: &[u8]) -> Option<u32
     requires { at.old ≤ length text.now }
     ensures within { at.new ≤ length text.now }
     ensures read { IfSome result (λ n. IsRead text.now at.old at.new (field label.now n)) }
+    ensures words { IfSome result IsWord }
 {
     read_word(text, at, label)?;
     read_small(text, at)
@@ -94,6 +99,7 @@ pub fn read_parent(text: &[u8], at: &mut usize) -> Option<Option<u64>>
     requires { at.old ≤ length text.now }
     ensures within { at.new ≤ length text.now }
     ensures read { IfSome result (λ p. IsRead text.now at.old at.new (codes " parent " ++ parent_text p)) }
+    ensures words { IfSome result (λ n. IfSome n IsWord) }
 {
     if read_mark(text, at, b" parent -") {
         return Some(None);
@@ -106,6 +112,7 @@ pub fn read_limit(text: &[u8], at: &mut usize) -> Option<Option<u32>>
     requires { at.old ≤ length text.now }
     ensures within { at.new ≤ length text.now }
     ensures read { IfSome result (λ limit. IsRead text.now at.old at.new (codes " limit " ++ limit_text limit)) }
+    ensures words { IfSome result (λ n. IfSome n IsWord) }
 {
     if read_mark(text, at, b" limit max") {
         return Some(None);
@@ -118,6 +125,7 @@ pub fn read_life(text: &[u8], at: &mut usize) -> Option<Life>
     requires { at.old ≤ length text.now }
     ensures within { at.new ≤ length text.now }
     ensures read { IfSome result (λ life. IsRead text.now at.old at.new (codes " " ++ life_text life)) }
+    ensures words { IfSome result IsLifeOfWords }
 {
     if read_mark(text, at, b" live") {
         return Some(Life::Live);
