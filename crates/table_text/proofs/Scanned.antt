@@ -1,5 +1,5 @@
 -- What is read of a text, from one place to another.
-use Rattle.std.proofs.Common.{◌≡◌, ℕ, ◌+◌, ◌-◌, ◌^◌, ◌<◌, ◌≤◌, Bool, true, false, eqb, List, [], ◌∷◌, ◌++◌, length, take, drop, Option, Some, decimal, codes, refl, sym, ap, ◌∙◌, subst, arith, take_all, take-add, length-drop, append_assoc, bytes_eq, length-append, length-take-le, take-append-drop, append-nil, Result, Ok, Err}
+use Rattle.std.proofs.Common.{◌≡◌, ℕ, ◌+◌, ◌-◌, ◌^◌, ◌<◌, ◌≤◌, Bool, true, false, eqb, List, [], ◌∷◌, ◌++◌, length, take, drop, Option, Some, decimal, codes, refl, sym, ap, ◌∙◌, subst, arith, take_all, take-add, length-drop, append_assoc, bytes_eq, length-append, length-take-le, take-append-drop, append-nil, Result, Ok, Err, take_at, true≢false}
 use Rattle.std.specs.Prelude.{if◌then◌else◌}
 use Rattle.std.specs.Result.{is_ok, is_err}
 use Rattle.std.specs.List.{starts_with, flat_map}
@@ -103,3 +103,10 @@ lines_more line text a b c xs zs y items before one =
     let joined_lines : flat_map line xs ++ line y ≡ flat_map line zs =
     ap (λ l. flat_map line xs ++ l) (sym (append-nil (line y))) ∙ sym (flat_map-append line xs (y ∷ [])) ∙ ap (flat_map line) (sym items) in
     subst (IsRead text a c) joined_lines (IsRead-more text a b c (flat_map line xs) (line y) before one)
+
+-- a word that does not stand there
+pub word_missing : (text word : List ℕ) (at : ℕ) → false ≡ starts_with eqb (take (length text - at) (drop at text)) word → (rest : List ℕ) → drop at text ≡ word ++ rest → ⊥
+word_missing text word at missing rest is =
+    let front = take (length word) (take (length text - at) (drop at text)) in
+    let same : front ≡ word = ap (take (length word)) (rest_is text at ∙ is) ∙ take_at word rest (length word) refl in
+    true≢false (sym ((bytes_eq-Decides word front).1 (sym same)) ∙ sym missing)

@@ -1,9 +1,9 @@
 //! Words and numbers of a text, each read from a place on. Where a function answers, the place is behind what it read;
 //! where it does not, the place is somewhere within the text.
-ghost use Rattle.std.specs.Prelude.{◌≡◌, ◌++◌, ◌<◌, ◌≤◌, length, take, decimal, codes, IsTrue, OnSome, IfSome};
+ghost use Rattle.std.specs.Prelude.{◌≡◌, ◌++◌, ◌<◌, ◌≤◌, length, take, decimal, codes, IsTrue, OnSome, IfSome, IfNone, false};
 ghost use Rattle.pid_script.specs.Lists.{field, marked, parent_text, limit_text, life_text};
 ghost use Rattle.table_text.specs.Ranges.{IsWord, IsLifeOfWords};
-ghost use Rattle.table_text.specs.Reading.{IsRead};
+ghost use Rattle.table_text.specs.Reading.{IsRead, Lacks};
 
 use pid_script::number::read_u64;
 use pid_types::plain::{Ended, Life};
@@ -13,6 +13,7 @@ pub fn read_word(text: &[u8], at: &mut usize, word: &[u8]) -> Option<()>
     requires { at.old ≤ length text.now }
     ensures within { at.new ≤ length text.now }
     ensures read { OnSome result (IsRead text.now at.old at.new word.now) }
+    ensures missing { IfNone result (Lacks word.now text.now at.old) }
 {
     if !text[*at..].starts_with(word) {
         return None;
@@ -85,6 +86,7 @@ pub fn read_mark(text: &[u8], at: &mut usize, word: &[u8]) -> bool
     requires { at.old ≤ length text.now }
     ensures within { at.new ≤ length text.now }
     ensures read { IsRead text.now at.old at.new (marked result word.now) }
+    ensures missing { result ≡ false → Lacks word.now text.now at.old }
 {
     let start = *at;
     if read_word(text, at, word).is_none() {
