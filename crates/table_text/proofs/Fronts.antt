@@ -10,23 +10,15 @@ use Rattle.pid_types.specs.Membership.{IsIn}
 use Rattle.pid_script.specs.Answers.{joined}
 use Rattle.pid_script.specs.Lists.{marked}
 use Rattle.table_text.specs.Ranges.{IsWord}
+use Rattle.table_text.specs.Reading.{IsOther, Stops}
 
 -- std's words for digits and their value
-numerals : IsNumeralModel (AllDigits 10) (digits_value 10)
+pub numerals : IsNumeralModel (AllDigits 10) (digits_value 10)
 numerals = numerals_by_value (AllDigits 10) tells_digits
 
 -- one is above the other
 abbrev pub IsApart : ℕ → ℕ → Type 0
 IsApart a b = (a < b) ⊎ (b < a)
-
--- a byte that is no digit
-abbrev pub IsOther : ℕ → Type 0
-IsOther b = (b < 48) ⊎ (57 < b)
-
--- the text goes on with a byte that is no digit
-abbrev pub Stops : List ℕ → Type 0
-Stops [] = ⊥
-Stops (b ∷ bs) = IsOther b
 
 -- the text is at its end, or goes on with another byte
 abbrev pub GoesOnBut : ℕ → List ℕ → Type 0
@@ -44,14 +36,14 @@ apart P a b x y e (inr gt) = let same = (first_told a b x y e).0 in absurd (omeg
 
 -- a text that stops begins with no digit
 no_digit : (x : List ℕ) (b : ℕ) (bs : List ℕ) → Stops x → x ≡ b ∷ bs → digit_value b < 10 → ⊥
-no_digit [] b bs stops e digit = stops
+no_digit [] b bs stops e digit = cc e
 no_digit (c ∷ cs) b bs (inl low) e digit =
     let same = (first_told c b cs bs e).0 in let range = digit_from_value b digit in omega (arith, same, low, range)
 no_digit (c ∷ cs) b bs (inr high) e digit =
     let same = (first_told c b cs bs e).0 in let range = digit_from_value b digit in omega (arith, same, high, range)
 
 -- digits up to a byte that is none
-digits_told : (ds es x y : List ℕ) → AllDigits 10 ds → AllDigits 10 es → Stops x → Stops y → ds ++ x ≡ es ++ y → (ds ≡ es) × (x ≡ y)
+pub digits_told : (ds es x y : List ℕ) → AllDigits 10 ds → AllDigits 10 es → Stops x → Stops y → ds ++ x ≡ es ++ y → (ds ≡ es) × (x ≡ y)
 digits_told [] [] x y a b stops_x stops_y e = (refl, e)
 digits_told [] (n ∷ es) x y a b stops_x stops_y e = absurd (no_digit x n (es ++ y) stops_x e b.0)
 digits_told (d ∷ ds) [] x y a b stops_x stops_y e = absurd (no_digit y d (ds ++ x) stops_y (sym e) a.0)

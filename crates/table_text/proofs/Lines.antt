@@ -11,7 +11,8 @@ use Rattle.pid_types.specs.Membership.{IsIn}
 use Rattle.pid_script.specs.Lists.{marked, parent_text, limit_text, life_text, space_line}
 use Rattle.table_text.specs.Texts.{name_word, parent_word, names_text, places_text, marks_text, task_line, control_line, settings_text, head_line}
 use Rattle.table_text.specs.Ranges.{IsWord, IsRowOfWords, IsSpaceOfWords, IsControlOfWords}
-use Rattle.table_text.proofs.Fronts.{Stops, IsApart, GoesOnBut, apart, first_told, number_told, marked_told}
+use Rattle.table_text.specs.Reading.{Stops}
+use Rattle.table_text.proofs.Fronts.{IsApart, GoesOnBut, apart, first_told, number_told, marked_told}
 use Rattle.table_text.proofs.Words.{name_told, parent_told, outer_told, limit_told, life_told}
 
 names_flat : (r : Row) (x : List ℕ) → names_text r ++ x

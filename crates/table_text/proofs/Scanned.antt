@@ -1,17 +1,23 @@
 -- What is read of a text, from one place to another.
-use Rattle.std.proofs.Common.{◌≡◌, ℕ, ◌+◌, ◌-◌, ◌^◌, ◌<◌, ◌≤◌, Bool, true, false, eqb, List, [], ◌∷◌, ◌++◌, length, take, drop, Option, Some, decimal, codes, refl, sym, ap, ◌∙◌, subst, arith, take_all, take-add, length-drop, append_assoc, bytes_eq, length-append, length-take-le, take-append-drop, append-nil, Result, Ok, Err, take_at, true≢false}
+use Rattle.std.proofs.Common.{◌≡◌, ℕ, ◌+◌, ◌-◌, ◌^◌, ◌<◌, ◌≤◌, Bool, true, false, eqb, List, [], ◌∷◌, ◌++◌, length, take, drop, Option, Some, decimal, codes, refl, sym, ap, ◌∙◌, subst, arith, take_all, take-add, length-drop, append_assoc, bytes_eq, length-append, length-take-le, take-append-drop, append-nil, Result, Ok, Err, take_at, true≢false, suc, None, get_or, get_or-drop, take-suc, drop-cons, drop_of_length-le, drop-drop}
 use Rattle.std.specs.Prelude.{if◌then◌else◌}
 use Rattle.std.specs.Result.{is_ok, is_err}
 use Rattle.std.specs.List.{starts_with, flat_map}
 use Rattle.std.proofs.lemmas.List.Concat.{flat_map-append}
 use Rattle.std.proofs.lemmas.Slice.Eq.{bytes_eq-Decides}
+use Rattle.std.specs.Char.{digit_value}
+use Rattle.std.specs.Str.Parse.{AllDigits}
+use Rattle.std.proofs.lemmas.Fmt.{digits_decimal}
+use Rattle.std.specs.Option.{IfNone}
+use Rattle.std.proofs.lemmas.Option.{none-some}
 use Rattle.pid_types.specs.declared.plain.Row.{Row}
 use Rattle.pid_script.specs.Answers.{joined}
 use Rattle.pid_script.specs.Lists.{field, marked, life_text}
 use Rattle.table_text.specs.Texts.{name_word, parent_word, names_text, places_text, marks_text, task_line, end_line}
 use Rattle.pid_script.specs.Reading.{number_below}
-use Rattle.pid_script.proofs.Numbers.{number_below-Some}
-use Rattle.table_text.specs.Reading.{IsRead}
+use Rattle.pid_script.proofs.Numbers.{number_below-Some, number_below-decimal}
+use Rattle.table_text.specs.Reading.{IsRead, IsOther, Stops, LacksNumber}
+use Rattle.table_text.proofs.Fronts.{numerals, digits_told}
 
 -- the rest of a text, as a slice has it
 pub rest_is : (text : List ℕ) (at : ℕ) → take (length text - at) (drop at text) ≡ drop at text
@@ -110,3 +116,48 @@ word_missing text word at missing rest is =
     let front = take (length word) (take (length text - at) (drop at text)) in
     let same : front ≡ word = ap (take (length word)) (rest_is text at ∙ is) ∙ take_at word rest (length word) refl in
     true≢false (sym ((bytes_eq-Decides word front).1 (sym same)) ∙ sym missing)
+
+digits_and_one : (ds : List ℕ) (d : ℕ) → AllDigits 10 ds → digit_value d < 10 → AllDigits 10 (ds ++ d ∷ [])
+digits_and_one [] d all one = (one, tt)
+digits_and_one (e ∷ ds) d all one = (all.0, digits_and_one ds d all.1 one)
+
+-- no digit has been passed at the start
+pub digits_none : (text : List ℕ) (at : ℕ) → AllDigits 10 (take (at - at) (drop at text))
+digits_none text at = let none : at - at ≡ 0 = omega arith in rw none tt
+
+-- one digit more
+pub digits_more : (text : List ℕ) (at index : ℕ) → at ≤ index → index < length text → AllDigits 10 (take (index - at) (drop at text))
+    → digit_value (get_or text index 0) < 10 → AllDigits 10 (take (index + 1 - at) (drop at text))
+digits_more text at index from within all one =
+    let long = length-drop at text in
+    let further : suc (index - at) ≡ index + 1 - at = omega arith in
+    let there : at + (index - at) ≡ index = omega arith in
+    let same : get_or (drop at text) (index - at) 0 ≡ get_or text index 0 = get_or-drop at text (index - at) 0 ∙ ap (λ i. get_or text i 0) there in
+    let lt : index - at < length (drop at text) = omega (arith, long) in
+    let parts = take-suc (drop at text) (index - at) 0 lt in
+    subst (λ k. AllDigits 10 (take k (drop at text))) further
+    (subst (AllDigits 10) (sym parts) (digits_and_one _ _ all (subst (λ b. digit_value b < 10) (sym same) one)))
+
+-- the text stops at a byte that is no digit
+pub stops_here : (text : List ℕ) (index : ℕ) → index < length text → IsOther (get_or text index 0) → Stops (drop index text)
+stops_here text index within other = subst Stops (sym (drop-cons text index 0 within)) other
+
+-- and at its end
+pub stops_at_end : (text : List ℕ) → Stops (drop (length text) text)
+stops_at_end text = subst Stops (sym (drop_of_length-le text (omega arith))) tt
+
+-- a number that does not stand there
+pub number_missing : (text : List ℕ) (at end : ℕ) → AllDigits 10 (take (end - at) (drop at text)) → at ≤ end → Stops (drop end text)
+    → None ≡ number_below (2 ^ 64) (take (end - at) (drop at text)) → LacksNumber (2 ^ 64) text at
+number_missing text at end digits from stops none n rest small stops_rest is =
+    let whole : at + (end - at) ≡ end = omega arith in
+    let behind : drop (end - at) (drop at text) ≡ drop end text = drop-drop (end - at) at text ∙ ap (λ k. drop k text) whole in
+    let parts : take (end - at) (drop at text) ++ drop end text ≡ decimal n ++ rest =
+    ap (λ l. take (end - at) (drop at text) ++ l) (sym behind) ∙ take-append-drop (end - at) (drop at text) ∙ is in
+    let same = (digits_told _ (decimal n) (drop end text) rest digits (digits_decimal numerals n small) stops stops_rest parts).0 in
+    none-some n (none ∙ ap (number_below (2 ^ 64)) same ∙ number_below-decimal (2 ^ 64) n small small)
+
+-- what is true at all is true of an answer that is none
+pub if_none : {X : Type 0} (o : Option X) (P : Type 0) → P → IfNone o P
+if_none None P here = here
+if_none (Some x) P here = tt

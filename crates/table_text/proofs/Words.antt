@@ -9,7 +9,8 @@ use Rattle.pid_script.specs.Answers.{joined}
 use Rattle.pid_script.specs.Lists.{field, life_text, parent_text, limit_text}
 use Rattle.table_text.specs.Texts.{name_word, parent_word}
 use Rattle.table_text.specs.Ranges.{IsWord, IsNameOfWords, IsLifeOfWords}
-use Rattle.table_text.proofs.Fronts.{Stops, apart, number_told, option_told, numbers_told, no_numbers}
+use Rattle.table_text.specs.Reading.{Stops}
+use Rattle.table_text.proofs.Fronts.{apart, number_told, option_told, numbers_told, no_numbers}
 
 name_by_parts : (a b : Name) → a.space ≡ b.space → a.numbers.items ≡ b.numbers.items → a ≡ b
 name_by_parts a b space numbers =

@@ -1,11 +1,24 @@
 -- What is read of a text.
-use Rattle.std.specs.Prelude.{◌≡◌, ℕ, List, ◌++◌, take, drop}
+use Rattle.std.specs.Prelude.{◌≡◌, ◌⊎◌, ℕ, ◌<◌, List, [], ◌∷◌, ◌++◌, take, drop, decimal}
 use Rattle.pid_types.specs.State.{State}
 use Rattle.table_text.specs.declared.read.Saved.{Saved}
 
 -- what stands between the two places is this
 abbrev pub IsRead : List ℕ → ℕ → ℕ → List ℕ → Type 0
 IsRead text from to part = take to text ≡ take from text ++ part
+
+-- a byte that is no digit
+abbrev pub IsOther : ℕ → Type 0
+IsOther b = (b < 48) ⊎ (57 < b)
+
+-- the text is at its end, or goes on with a byte that is no digit
+abbrev pub Stops : List ℕ → Type 0
+Stops [] = Unit {0}
+Stops (b ∷ bs) = IsOther b
+
+-- no number below the bound stands at the place, with what stops behind it
+abbrev pub LacksNumber : ℕ → List ℕ → ℕ → Type 0
+LacksNumber bound text at = (n : ℕ) (rest : List ℕ) → n < bound → Stops rest → drop at text ≡ decimal n ++ rest → ⊥
 
 -- the word does not stand at the place
 abbrev pub Lacks : List ℕ → List ℕ → ℕ → Type 0

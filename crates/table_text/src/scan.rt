@@ -1,9 +1,10 @@
 //! Words and numbers of a text, each read from a place on. Where a function answers, the place is behind what it read;
 //! where it does not, the place is somewhere within the text.
-ghost use Rattle.std.specs.Prelude.{◌≡◌, ◌++◌, ◌<◌, ◌≤◌, length, take, decimal, codes, IsTrue, OnSome, IfSome, IfNone, false};
+ghost use Rattle.std.specs.Prelude.{◌≡◌, ◌++◌, ◌<◌, ◌≤◌, length, take, decimal, codes, IsTrue, OnSome, IfSome, IfNone, false, drop, ◌-◌, ◌^◌};
+ghost use Rattle.std.specs.Str.Parse.{AllDigits};
 ghost use Rattle.pid_script.specs.Lists.{field, marked, parent_text, limit_text, life_text};
 ghost use Rattle.table_text.specs.Ranges.{IsWord, IsLifeOfWords};
-ghost use Rattle.table_text.specs.Reading.{IsRead, Lacks};
+ghost use Rattle.table_text.specs.Reading.{IsRead, Lacks, LacksNumber, Stops};
 
 use pid_script::number::read_u64;
 use pid_types::plain::{Ended, Life};
@@ -27,6 +28,8 @@ fn digits_end(text: &[u8], at: usize) -> usize
     requires { at ≤ length text.now }
     ensures from { at ≤ result }
     ensures within { result ≤ length text.now }
+    ensures digits { AllDigits 10 (take (result - at) (drop at text.now)) }
+    ensures stops { Stops (drop result text.now) }
 {
     for index in at..text.len() {
         if !text[index].is_ascii_digit() {
@@ -42,6 +45,8 @@ pub fn read_number(text: &[u8], at: &mut usize) -> Option<u64>
     ensures within { at.new ≤ length text.now }
     ensures read { IfSome result (λ n. IsRead text.now at.old at.new (decimal n)) }
     ensures words { IfSome result IsWord }
+    ensures missing { IfNone result (LacksNumber (2 ^ 64) text.now at.old) }
+    ensures stops { OnSome result (Stops (drop at.new text.now)) }
 {
     let end = digits_end(text, *at);
     let number = read_u64(&text[*at..end])?;
