@@ -1,13 +1,14 @@
 -- What is read of a text, from one place to another.
-use Rattle.std.proofs.Common.{◌≡◌, ℕ, ◌+◌, ◌-◌, ◌^◌, ◌<◌, ◌≤◌, Bool, true, false, eqb, List, [], ◌∷◌, ◌++◌, length, take, drop, Option, Some, decimal, codes, refl, sym, ap, ◌∙◌, subst, arith, take_all, take-add, length-drop, append_assoc, bytes_eq, length-append, length-take-le, take-append-drop, append-nil, Result, Ok, Err, take_at, true≢false, suc, None, get_or, get_or-drop, take-suc, drop-cons, drop_of_length-le, drop-drop}
+use Rattle.std.proofs.Common.{◌≡◌, ℕ, ◌+◌, ◌-◌, ◌^◌, ◌<◌, ◌≤◌, Bool, true, false, eqb, List, [], ◌∷◌, ◌++◌, length, take, drop, Option, Some, decimal, codes, refl, sym, ap, ◌∙◌, subst, arith, take_all, take-add, length-drop, append_assoc, bytes_eq, length-append, length-take-le, take-append-drop, append-nil, Result, Ok, Err, take_at, true≢false, suc, None, get_or, get_or-drop, take-suc, drop-cons, drop_of_length-le, drop-drop, OkIff}
 use Rattle.std.specs.Prelude.{if◌then◌else◌}
-use Rattle.std.specs.Result.{is_ok, is_err}
+use Rattle.std.specs.Result.{is_ok, is_err, result_ok}
 use Rattle.std.specs.List.{starts_with, flat_map}
 use Rattle.std.proofs.lemmas.List.Concat.{flat_map-append}
 use Rattle.std.proofs.lemmas.Slice.Eq.{bytes_eq-Decides}
 use Rattle.std.specs.Char.{digit_value}
 use Rattle.std.specs.Str.Parse.{AllDigits}
 use Rattle.std.proofs.lemmas.Fmt.{digits_decimal}
+use Rattle.std.proofs.lemmas.List.{append_cancel_left}
 use Rattle.std.specs.Option.{IfNone}
 use Rattle.std.proofs.lemmas.Option.{none-some}
 use Rattle.pid_types.specs.declared.plain.Row.{Row}
@@ -16,8 +17,9 @@ use Rattle.pid_script.specs.Lists.{field, marked, life_text}
 use Rattle.table_text.specs.Texts.{name_word, parent_word, names_text, places_text, marks_text, task_line, end_line}
 use Rattle.pid_script.specs.Reading.{number_below}
 use Rattle.pid_script.proofs.Numbers.{number_below-Some, number_below-decimal}
-use Rattle.table_text.specs.Reading.{IsRead, IsOther, Stops, LacksNumber}
-use Rattle.table_text.proofs.Fronts.{numerals, digits_told}
+use Rattle.table_text.specs.Reading.{IsRead, IsOther, Stops, Lacks, LacksField, LacksNumber}
+use Rattle.table_text.specs.Ranges.{IsWord}
+use Rattle.table_text.proofs.Fronts.{numerals, digits_told, number_told}
 
 -- the rest of a text, as a slice has it
 pub rest_is : (text : List ℕ) (at : ℕ) → take (length text - at) (drop at text) ≡ drop at text
@@ -161,3 +163,46 @@ number_missing text at end digits from stops none n rest small stops_rest is =
 pub if_none : {X : Type 0} (o : Option X) (P : Type 0) → P → IfNone o P
 if_none None P here = here
 if_none (Some x) P here = tt
+
+-- and so is what follows from it
+pub if_none-map : {X : Type 0} (o : Option X) (P Q : Type 0) → (P → Q) → IfNone o P → IfNone o Q
+if_none-map None P Q follows here = follows here
+if_none-map (Some x) P Q follows here = tt
+
+-- what stands at a place is what is read, and then what stands behind it
+pub dropped : (text : List ℕ) (a b : ℕ) (w : List ℕ) → a ≤ length text → b ≤ length text → IsRead text a b w → drop a text ≡ w ++ drop b text
+dropped text a b w within_a within_b read =
+    append_cancel_left (take a text) (drop a text) (w ++ drop b text)
+    (take-append-drop a text ∙ sym (take-append-drop b text) ∙ ap (λ l. l ++ drop b text) read ∙ append_assoc (take a text) w (drop b text))
+
+-- behind a word that is read
+pub behind_word : (text : List ℕ) (a b : ℕ) (w part rest : List ℕ) → a ≤ length text → b ≤ length text → IsRead text a b w
+    → drop a text ≡ (w ++ part) ++ rest → drop b text ≡ part ++ rest
+behind_word text a b w part rest within_a within_b read is =
+    append_cancel_left w (drop b text) (part ++ rest) (sym (dropped text a b w within_a within_b read) ∙ is ∙ append_assoc w part rest)
+
+-- no label, no field
+pub no_label : (bound : ℕ) (text label : List ℕ) (at : ℕ) → Lacks label text at → LacksField bound label text at
+no_label bound text label at lacks n rest below stops is = lacks (decimal n ++ rest) (is ∙ append_assoc label (decimal n) rest)
+
+-- no number behind the label, no field
+pub no_number_behind : (bound : ℕ) (text label : List ℕ) (a b : ℕ) → a ≤ length text → b ≤ length text → IsRead text a b label
+    → LacksNumber bound text b → LacksField bound label text a
+no_number_behind bound text label a b within_a within_b read lacks n rest below stops is =
+    lacks n rest below stops (behind_word text a b label (decimal n) rest within_a within_b read is)
+
+-- a number that is not below 2^64 is not below 2^32
+pub fewer_missing : (text : List ℕ) (at : ℕ) → LacksNumber (2 ^ 64) text at → LacksNumber (2 ^ 32) text at
+fewer_missing text at lacks n rest below stops is = lacks n rest (omega arith) stops is
+
+-- another number stands there, which is not below 2^32
+pub small_missing : (text : List ℕ) (a b m : ℕ) → a ≤ length text → b ≤ length text → IsRead text a b (decimal m) → IsWord m → Stops (drop b text)
+    → 2 ^ 32 ≤ m → LacksNumber (2 ^ 32) text a
+small_missing text a b m within_a within_b read word stops large n rest below stops_rest is =
+    let same = (number_told m n (drop b text) rest (sym (dropped text a b (decimal m) within_a within_b read) ∙ is) word (omega arith) stops stops_rest).0 in
+    omega (arith, same, large, below)
+
+-- where a number does not fit, it is not below the bound
+pub not_fitting : {E : Type 0} (m : ℕ) (r : Result ℕ E) (o : Option ℕ) (P : Type 0) → OkIff r (m < 2 ^ 32) m → o ≡ result_ok r → (2 ^ 32 ≤ m → P) → IfNone o P
+not_fitting m (Ok x) o P fits is go = subst (λ q. IfNone q P) (sym is) tt
+not_fitting m (Err e) o P not_below is go = subst (λ q. IfNone q P) (sym is) (go (omega (arith, not_below)))

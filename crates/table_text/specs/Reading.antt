@@ -1,6 +1,7 @@
 -- What is read of a text.
-use Rattle.std.specs.Prelude.{◌≡◌, ◌⊎◌, ℕ, ◌<◌, List, [], ◌∷◌, ◌++◌, take, drop, decimal}
+use Rattle.std.specs.Prelude.{◌≡◌, ◌⊎◌, ℕ, ◌<◌, List, [], ◌∷◌, ◌++◌, take, drop}
 use Rattle.pid_types.specs.State.{State}
+use Rattle.pid_script.specs.Lists.{field}
 use Rattle.table_text.specs.declared.read.Saved.{Saved}
 
 -- what stands between the two places is this
@@ -16,9 +17,13 @@ abbrev pub Stops : List ℕ → Type 0
 Stops [] = Unit {0}
 Stops (b ∷ bs) = IsOther b
 
--- no number below the bound stands at the place, with what stops behind it
+-- no number below the bound stands behind this label at the place, with what stops behind it
+abbrev pub LacksField : ℕ → List ℕ → List ℕ → ℕ → Type 0
+LacksField bound label text at = (n : ℕ) (rest : List ℕ) → n < bound → Stops rest → drop at text ≡ field label n ++ rest → ⊥
+
+-- the same without a label
 abbrev pub LacksNumber : ℕ → List ℕ → ℕ → Type 0
-LacksNumber bound text at = (n : ℕ) (rest : List ℕ) → n < bound → Stops rest → drop at text ≡ decimal n ++ rest → ⊥
+LacksNumber bound text at = LacksField bound [] text at
 
 -- the word does not stand at the place
 abbrev pub Lacks : List ℕ → List ℕ → ℕ → Type 0

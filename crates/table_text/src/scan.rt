@@ -4,7 +4,7 @@ ghost use Rattle.std.specs.Prelude.{◌≡◌, ◌++◌, ◌<◌, ◌≤◌, len
 ghost use Rattle.std.specs.Str.Parse.{AllDigits};
 ghost use Rattle.pid_script.specs.Lists.{field, marked, parent_text, limit_text, life_text};
 ghost use Rattle.table_text.specs.Ranges.{IsWord, IsLifeOfWords};
-ghost use Rattle.table_text.specs.Reading.{IsRead, Lacks, LacksNumber, Stops};
+ghost use Rattle.table_text.specs.Reading.{IsRead, Lacks, LacksNumber, LacksField, Stops};
 
 use pid_script::number::read_u64;
 use pid_types::plain::{Ended, Life};
@@ -60,6 +60,8 @@ pub fn read_small(text: &[u8], at: &mut usize) -> Option<u32>
     ensures within { at.new ≤ length text.now }
     ensures read { IfSome result (λ n. IsRead text.now at.old at.new (decimal n)) }
     ensures words { IfSome result IsWord }
+    ensures missing { IfNone result (LacksNumber (2 ^ 32) text.now at.old) }
+    ensures stops { OnSome result (Stops (drop at.new text.now)) }
 {
     u32::try_from(read_number(text, at)?).ok()
 }
@@ -70,6 +72,8 @@ pub fn read_field(text: &[u8], at: &mut usize, label: &[u8]) -> Option<u64>
     ensures within { at.new ≤ length text.now }
     ensures read { IfSome result (λ n. IsRead text.now at.old at.new (field label.now n)) }
     ensures words { IfSome result IsWord }
+    ensures missing { IfNone result (LacksField (2 ^ 64) label.now text.now at.old) }
+    ensures stops { OnSome result (Stops (drop at.new text.now)) }
 {
     read_word(text, at, label)?;
     read_number(text, at)
@@ -81,6 +85,8 @@ pub fn read_small_field(text: &[u8], at: &mut usize, label: &[u8]) -> Option<u32
     ensures within { at.new ≤ length text.now }
     ensures read { IfSome result (λ n. IsRead text.now at.old at.new (field label.now n)) }
     ensures words { IfSome result IsWord }
+    ensures missing { IfNone result (LacksField (2 ^ 32) label.now text.now at.old) }
+    ensures stops { OnSome result (Stops (drop at.new text.now)) }
 {
     read_word(text, at, label)?;
     read_small(text, at)
