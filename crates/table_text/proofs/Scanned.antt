@@ -9,7 +9,7 @@ use Rattle.std.specs.Char.{digit_value}
 use Rattle.std.specs.Str.Parse.{AllDigits}
 use Rattle.std.proofs.lemmas.Fmt.{digits_decimal}
 use Rattle.std.proofs.lemmas.List.{append_cancel_left}
-use Rattle.std.specs.Option.{IfNone}
+use Rattle.std.specs.Option.{IfNone, IfSome}
 use Rattle.std.proofs.lemmas.Option.{none-some}
 use Rattle.pid_types.specs.declared.plain.Row.{Row}
 use Rattle.pid_script.specs.Answers.{joined}
@@ -17,7 +17,7 @@ use Rattle.pid_script.specs.Lists.{field, marked, life_text}
 use Rattle.table_text.specs.Texts.{name_word, parent_word, names_text, places_text, marks_text, task_line, end_line}
 use Rattle.pid_script.specs.Reading.{number_below}
 use Rattle.pid_script.proofs.Numbers.{number_below-Some, number_below-decimal}
-use Rattle.table_text.specs.Reading.{IsRead, IsOther, Stops, Lacks, LacksField, LacksNumber}
+use Rattle.table_text.specs.Reading.{IsRead, IsOther, Stops, Lacks, LacksField, LacksNumber, LacksAny}
 use Rattle.table_text.specs.Ranges.{IsWord}
 use Rattle.table_text.proofs.Fronts.{numerals, digits_told, number_told}
 
@@ -206,3 +206,16 @@ small_missing text a b m within_a within_b read word stops large n rest below st
 pub not_fitting : {E : Type 0} (m : ℕ) (r : Result ℕ E) (o : Option ℕ) (P : Type 0) → OkIff r (m < 2 ^ 32) m → o ≡ result_ok r → (2 ^ 32 ≤ m → P) → IfNone o P
 not_fitting m (Ok x) o P fits is go = subst (λ q. IfNone q P) (sym is) tt
 not_fitting m (Err e) o P not_below is go = subst (λ q. IfNone q P) (sym is) (go (omega (arith, not_below)))
+
+-- neither the word for none stands there, nor a number behind the label
+pub no_option : (bound : ℕ) (label none : List ℕ) (f : Option ℕ → List ℕ) (text : List ℕ) (at start : ℕ) → label ++ f None ≡ none
+    → ((n : ℕ) → label ++ f (Some n) ≡ field label n) → drop start text ≡ drop at text → Lacks none text start → LacksField bound label text at
+    → LacksAny (λ p. IfSome p (λ n. n < bound)) (λ p. label ++ f p) text start
+no_option bound label none f text at start is_none is_some same no_word no_field None rest held stops is = no_word rest (is ∙ ap (λ w. w ++ rest) is_none)
+no_option bound label none f text at start is_none is_some same no_word no_field (Some n) rest held stops is =
+    no_field n rest held stops (sym same ∙ is ∙ ap (λ w. w ++ rest) (is_some n))
+
+-- where nothing was read, the place is where it was
+pub nothing_read : (text : List ℕ) (a b : ℕ) (r : Bool) (word : List ℕ) → a ≤ length text → b ≤ length text → r ≡ false → IsRead text a b (marked r word) → drop a text ≡ drop b text
+nothing_read text a b r word within_a within_b none read =
+    dropped text a b [] within_a within_b (subst (λ m. IsRead text a b (marked m word)) none read)

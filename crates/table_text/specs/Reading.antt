@@ -1,5 +1,5 @@
 -- What is read of a text.
-use Rattle.std.specs.Prelude.{◌≡◌, ◌⊎◌, ℕ, ◌<◌, List, [], ◌∷◌, ◌++◌, take, drop}
+use Rattle.std.specs.Prelude.{◌≡◌, ◌⊎◌, ℕ, ◌<◌, ◌^◌, List, [], ◌∷◌, ◌++◌, take, drop}
 use Rattle.pid_types.specs.State.{State}
 use Rattle.pid_script.specs.Lists.{field}
 use Rattle.table_text.specs.declared.read.Saved.{Saved}
@@ -24,6 +24,14 @@ LacksField bound label text at = (n : ℕ) (rest : List ℕ) → n < bound → S
 -- the same without a label
 abbrev pub LacksNumber : ℕ → List ℕ → ℕ → Type 0
 LacksNumber bound text at = LacksField bound [] text at
+
+-- nothing of a kind stands at the place, with what stops behind it
+abbrev pub LacksAny : {A : Type 0} → (A → Type 0) → (A → List ℕ) → List ℕ → ℕ → Type 0
+LacksAny {A} IsHeld part text at = (a : A) (rest : List ℕ) → IsHeld a → Stops rest → drop at text ≡ part a ++ rest → ⊥
+
+-- a number of 32 bits
+abbrev pub IsSmall : ℕ → Type 0
+IsSmall n = n < 2 ^ 32
 
 -- the word does not stand at the place
 abbrev pub Lacks : List ℕ → List ℕ → ℕ → Type 0
