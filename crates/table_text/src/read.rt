@@ -1,9 +1,11 @@
-//! Texts to what they say: [`read_text`]. Below it stands a function for each line of the form, and for the parts of one.
+//! Texts to what they say: [`read_text`]. Above it stands a function for each line of the form, and for the parts of
+//! one.
 ghost use Rattle.std.specs.Prelude.{◌≡◌, ◌++◌, ◌<◌, ◌≤◌, length, take, codes, IfSome, IfOk, OnOk, map};
 ghost use Rattle.std.specs.List.{flat_map};
 ghost use Rattle.pid_script.specs.Answers.{joined};
 ghost use Rattle.pid_script.specs.Lists.{space_line};
-ghost use Rattle.table_text.specs.Texts.{name_word, parent_word, task_line, control_line, settings_text, head_line, end_line, text_of};
+ghost use Rattle.table_text.specs.Texts.{name_word, parent_word, task_line, control_line};
+ghost use Rattle.table_text.specs.Texts.{settings_text, head_line, end_line, text_of};
 ghost use Rattle.table_text.specs.Ranges.{IsWord, Each, IsNameOfWords, IsRowOfWords, IsSpaceOfWords, IsControlOfWords};
 ghost use Rattle.table_text.specs.Ranges.{IsStateOfWords};
 ghost use Rattle.table_text.specs.Reading.{IsRead, saved_state};
@@ -278,12 +280,12 @@ fn check_end(alloc: Global, text: &[u8], at: usize, line: u64) -> Result<(), Loa
     Err(LoadFault::BadLine(line))
 }
 
-/// What a text says, where it is the text of a state: see [`dump_text`](crate::dump::dump_text) for the form. The state
-/// need not be sound.
+/// What a text says, where it is the text of a state: see [`dump_text`](crate::dump::dump_text) for the form. The
+/// state need not be sound.
 ///
-/// The fault is the first that is met, reading forwards: a line that is none of those that the form has in that place, or
-/// want of memory; and at the end a digest of another text. A last line that something follows, or that is missing, is a
-/// bad line. Then nothing is kept. The cost grows with the text.
+/// The fault is the first that is met, reading forwards: a line that is none of those that the form has in that place,
+/// or want of memory; and at the end a digest of another text. A last line that something follows, or that is missing,
+/// is a bad line. Then nothing is kept. The cost grows with the text.
 #[tactic(auto, unfolding(crate::specs::Texts::text_of, crate::specs::Texts::said))]
 pub fn read_text(alloc: Global, text: &[u8]) -> Result<Saved, LoadFault>
     ensures text { IfOk result (λ saved. text.now ≡ text_of saved.stamp (saved_state saved)) }

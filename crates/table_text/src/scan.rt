@@ -1,6 +1,7 @@
 //! Words and numbers of a text, each read from a place on. Where a function answers, the place is behind what it read;
 //! where it does not, the place is somewhere within the text.
-ghost use Rattle.std.specs.Prelude.{◌≡◌, ◌++◌, ◌<◌, ◌≤◌, length, take, decimal, codes, IsTrue, OnSome, IfSome, IfNone, false, drop, ◌-◌, ◌^◌};
+ghost use Rattle.std.specs.Prelude.{◌≡◌, ◌++◌, ◌<◌, ◌≤◌, length, take, decimal, codes};
+ghost use Rattle.std.specs.Prelude.{IsTrue, OnSome, IfSome, IfNone, false, drop, ◌-◌, ◌^◌};
 ghost use Rattle.std.specs.Str.Parse.{AllDigits};
 ghost use Rattle.pid_script.specs.Lists.{field, marked, parent_text, limit_text, life_text};
 ghost use Rattle.table_text.specs.Ranges.{IsWord, IsLifeOfWords};
@@ -113,7 +114,8 @@ pub fn read_parent(text: &[u8], at: &mut usize) -> Option<Option<u64>>
     ensures within { at.new ≤ length text.now }
     ensures read { IfSome result (λ p. IsRead text.now at.old at.new (codes " parent " ++ parent_text p)) }
     ensures words { IfSome result (λ n. IfSome n IsWord) }
-    ensures missing { IfNone result (LacksAny (λ p. IfSome p IsWord) (λ p. codes " parent " ++ parent_text p) text.now at.old) }
+    ensures missing { IfNone result
+        (LacksAny (λ p. IfSome p IsWord) (λ p. codes " parent " ++ parent_text p) text.now at.old) }
 {
     if read_mark(text, at, b" parent -") {
         return Some(None);
@@ -127,7 +129,8 @@ pub fn read_limit(text: &[u8], at: &mut usize) -> Option<Option<u32>>
     ensures within { at.new ≤ length text.now }
     ensures read { IfSome result (λ limit. IsRead text.now at.old at.new (codes " limit " ++ limit_text limit)) }
     ensures words { IfSome result (λ n. IfSome n IsWord) }
-    ensures missing { IfNone result (LacksAny (λ n. IfSome n IsSmall) (λ n. codes " limit " ++ limit_text n) text.now at.old) }
+    ensures missing { IfNone result
+        (LacksAny (λ n. IfSome n IsSmall) (λ n. codes " limit " ++ limit_text n) text.now at.old) }
 {
     if read_mark(text, at, b" limit max") {
         return Some(None);
