@@ -20,7 +20,7 @@ fn push_number(text: &mut Vec<u8>, number: u64) -> Result<(), AllocError>
 }
 
 /// Appends the label and the number.
-fn push_field(text: &mut Vec<u8>, label: &[u8], number: u64) -> Result<(), AllocError>
+pub fn push_field(text: &mut Vec<u8>, label: &[u8], number: u64) -> Result<(), AllocError>
     ensures { OnOk result (text.new.items ≡ text.old.items ++ field label.now number) }
 {
     text.extend_from_slice(label)?;
@@ -28,7 +28,7 @@ fn push_field(text: &mut Vec<u8>, label: &[u8], number: u64) -> Result<(), Alloc
 }
 
 /// Appends the word where the mark holds.
-fn push_mark(text: &mut Vec<u8>, holds: bool, word: &[u8]) -> Result<(), AllocError>
+pub fn push_mark(text: &mut Vec<u8>, holds: bool, word: &[u8]) -> Result<(), AllocError>
     ensures { OnOk result (text.new.items ≡ text.old.items ++ marked holds word.now) }
 {
     if holds {
@@ -38,7 +38,7 @@ fn push_mark(text: &mut Vec<u8>, holds: bool, word: &[u8]) -> Result<(), AllocEr
 }
 
 /// Appends the parent of a namespace or a control group, `-` for none.
-fn push_parent(text: &mut Vec<u8>, parent: Option<u64>) -> Result<(), AllocError>
+pub fn push_parent(text: &mut Vec<u8>, parent: Option<u64>) -> Result<(), AllocError>
     ensures { OnOk result (text.new.items ≡ text.old.items ++ codes " parent " ++ parent_text parent) }
 {
     match parent {
@@ -48,7 +48,7 @@ fn push_parent(text: &mut Vec<u8>, parent: Option<u64>) -> Result<(), AllocError
 }
 
 /// Appends the limit, `max` for none.
-fn push_limit(text: &mut Vec<u8>, limit: Option<u32>) -> Result<(), AllocError>
+pub fn push_limit(text: &mut Vec<u8>, limit: Option<u32>) -> Result<(), AllocError>
     ensures { OnOk result (text.new.items ≡ text.old.items ++ codes " limit " ++ limit_text limit) }
 {
     match limit {
@@ -58,7 +58,7 @@ fn push_limit(text: &mut Vec<u8>, limit: Option<u32>) -> Result<(), AllocError>
 }
 
 /// Appends `live`, or how the task ended.
-fn push_life(text: &mut Vec<u8>, life: Life) -> Result<(), AllocError>
+pub fn push_life(text: &mut Vec<u8>, life: Life) -> Result<(), AllocError>
     ensures { OnOk result (text.new.items ≡ text.old.items ++ codes " " ++ life_text life) }
 {
     match life {

@@ -1,0 +1,6 @@
+pub mod Fronts
+pub mod Words
+pub mod Lines
+pub mod Told
+pub mod Scanned
+pub mod Each

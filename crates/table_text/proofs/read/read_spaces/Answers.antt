@@ -1,0 +1,25 @@
+use Rattle.std.proofs.Common.{◌≡◌, ◌<◌, List, [], ◌∷◌, ◌++◌, sym, subst, arith}
+use Rattle.pid_types.specs.declared.plain.Space.{Space}
+use Rattle.pid_script.specs.Lists.{space_line}
+use Rattle.table_text.specs.Ranges.{Each, IsSpaceOfWords}
+use Rattle.table_text.proofs.Each.{Each-more}
+use Rattle.table_text.proofs.Lines.{space_begins}
+use Rattle.table_text.proofs.Scanned.{ahead, pushed, lines_more}
+use Rattle.table_text.proofs.read.read_spaces.Goals as goal
+
+pub loop-at-smaller : goal.loop-at-smaller
+loop-at-smaller c =
+    let line = space_begins c.in-Some.space in
+    let further : c.loop-at.at < c.read_space.new.at = ahead c.args.text.now c.loop-at.at c.read_space.new.at _ _ line.0 c.loop-at.invariant.within c.in-Some.ensures.within c.in-Some.ensures.read line.1 in
+    omega (arith, further, c.in-Some.ensures.within)
+
+pub loop-at-preserved : goal.loop-at-preserved
+loop-at-preserved c =
+    let before = c.loop-at.invariant in
+    let items : c.push.new.self.items ≡ c.loop-at.spaces.items ++ c.in-Some.space ∷ [] =
+    pushed c.push.result _ c.loop-at.spaces.items _ c.push.ensures.items (sym c.if-is_err.ensures.value) in
+    record {
+      within = c.in-Some.ensures.within;
+      read = lines_more space_line c.args.text.now c.args.at.now c.loop-at.at c.read_space.new.at c.loop-at.spaces.items _ c.in-Some.space items before.read c.in-Some.ensures.read;
+      words = subst (λ (xs : List Space). Each IsSpaceOfWords xs) (sym items) (Each-more IsSpaceOfWords c.loop-at.spaces.items c.in-Some.space before.words c.in-Some.ensures.words);
+    }

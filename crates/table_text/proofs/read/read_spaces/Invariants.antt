@@ -1,0 +1,16 @@
+use Rattle.std.proofs.Common.{◌≡◌, ◌≤◌, ◌-◌, length}
+use Rattle.std.specs.List.{flat_map}
+use Rattle.pid_script.specs.Lists.{space_line}
+use Rattle.table_text.specs.Ranges.{Each, IsSpaceOfWords}
+use Rattle.table_text.specs.Reading.{IsRead}
+use Rattle.table_text.proofs.read.read_spaces.Given as goal
+
+abbrev pub invariant-loop-at : goal.invariant-loop-at
+invariant-loop-at l = record {
+  within : l.at ≤ length l.text;
+  read : IsRead l.text l.fn.at l.at (flat_map space_line l.spaces.items);
+  words : Each IsSpaceOfWords l.spaces.items;
+}
+
+abbrev pub decreases-loop-at : goal.decreases-loop-at
+decreases-loop-at l = length l.text - l.at

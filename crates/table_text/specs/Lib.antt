@@ -1,0 +1,4 @@
+pub mod Texts
+pub mod Ranges
+pub mod Laws
+pub mod Reading

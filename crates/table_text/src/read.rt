@@ -1,0 +1,311 @@
+//! Texts to what they say: [`read_text`]. Above it stands a function for each line of the form, and for the parts of
+//! one.
+ghost use Rattle.std.specs.Prelude.{◌≡◌, ◌++◌, ◌<◌, ◌≤◌, length, take, codes, IfSome, IfOk, OnOk, map};
+ghost use Rattle.std.specs.List.{flat_map};
+ghost use Rattle.pid_script.specs.Answers.{joined};
+ghost use Rattle.pid_script.specs.Lists.{space_line};
+ghost use Rattle.table_text.specs.Texts.{name_word, parent_word, task_line, control_line};
+ghost use Rattle.table_text.specs.Texts.{settings_text, head_line, end_line, text_of};
+ghost use Rattle.table_text.specs.Ranges.{IsWord, Each, IsNameOfWords, IsRowOfWords, IsSpaceOfWords, IsControlOfWords};
+ghost use Rattle.table_text.specs.Ranges.{IsStateOfWords};
+ghost use Rattle.table_text.specs.Reading.{IsRead, saved_state};
+
+use crate::dump::end_of;
+use crate::fault::LoadFault;
+use crate::scan::{
+    read_field, read_life, read_limit, read_mark, read_parent, read_small, read_small_field,
+    read_word,
+};
+use arrayvec::ArrayVec;
+use pid_types::keys::Pid;
+use pid_types::plain::{Control, LEVELS, Name, Row, Space};
+use std::alloc::Global;
+
+/// What a text says.
+#[derive(Debug, Drop)]
+pub struct Saved {
+    /// One above the greatest number that a namespace gives.
+    pub pid_max: u32,
+    /// The stamp of the next call.
+    pub stamp: u64,
+    /// The tasks, in the order of their lines.
+    pub rows: Vec<Row>,
+    /// The namespaces, in the order of their lines.
+    pub spaces: Vec<Space>,
+    /// The control groups, in the order of their lines.
+    pub controls: Vec<Control>,
+}
+
+/// The settings of the first line.
+#[derive(Clone, Copy)]
+struct Head {
+    pid_max: u32,
+    stamp: u64,
+}
+
+/// The bound of all numbers, and the stamp of the next call.
+#[tactic(auto, unfolding(crate::specs::Texts::settings_text))]
+fn read_settings(text: &[u8], at: &mut usize) -> Option<Head>
+    requires { at.old ≤ length text.now }
+    ensures within { at.new ≤ length text.now }
+    ensures read { IfSome result (λ head. IsRead text.now at.old at.new (settings_text head.pid_max head.stamp)) }
+    ensures words { IfSome result (λ head. IsWord head.pid_max × IsWord head.stamp) }
+{
+    let pid_max = read_small_field(text, at, b" pid-max ")?;
+    let stamp = read_field(text, at, b" stamp ")?;
+    Some(Head { pid_max, stamp })
+}
+
+/// The first line.
+#[tactic(auto, unfolding(crate::specs::Texts::head_line))]
+fn read_head(text: &[u8], at: &mut usize) -> Option<Head>
+    requires { at.old ≤ length text.now }
+    ensures within { at.new ≤ length text.now }
+    ensures read { IfSome result (λ head. IsRead text.now at.old at.new (head_line head.pid_max head.stamp)) }
+    ensures words { IfSome result (λ head. IsWord head.pid_max × IsWord head.stamp) }
+{
+    read_word(text, at, b"pidtab table 1")?;
+    let head = read_settings(text, at)?;
+    read_word(text, at, b"\n")?;
+    Some(head)
+}
+
+/// Numbers with a comma between, from 1 to 33 of them.
+fn read_numbers(text: &[u8], at: &mut usize) -> Option<ArrayVec<Pid, LEVELS>>
+    requires { at.old ≤ length text.now }
+    ensures within { at.new ≤ length text.now }
+    ensures read { IfSome result (λ numbers. IsRead text.now at.old at.new (joined 44 numbers.items)) }
+    ensures words { IfSome result (λ numbers. Each IsWord numbers.items) }
+{
+    let mut numbers = ArrayVec::new();
+    numbers.push(read_small(text, at)?);
+    for _further in 1..LEVELS {
+        if !read_mark(text, at, b",") {
+            return Some(numbers);
+        }
+        numbers.push(read_small(text, at)?);
+    }
+    Some(numbers)
+}
+
+/// The label, and a name in one word.
+#[tactic(auto, unfolding(crate::specs::Texts::name_word))]
+fn read_name(text: &[u8], at: &mut usize, label: &[u8]) -> Option<Name>
+    requires { at.old ≤ length text.now }
+    ensures within { at.new ≤ length text.now }
+    ensures read { IfSome result (λ name. IsRead text.now at.old at.new (label.now ++ name_word name)) }
+    ensures words { IfSome result IsNameOfWords }
+{
+    read_word(text, at, label)?;
+    let numbers = read_numbers(text, at)?;
+    let space = read_field(text, at, b"@")?;
+    Some(Name { space, numbers })
+}
+
+/// The name of a task's parent, `-` for none.
+fn read_parent_name(text: &[u8], at: &mut usize) -> Option<Option<Name>>
+    requires { at.old ≤ length text.now }
+    ensures within { at.new ≤ length text.now }
+    ensures read { IfSome result (λ p. IsRead text.now at.old at.new (codes " parent " ++ parent_word p)) }
+    ensures words { IfSome result (λ p. IfSome p IsNameOfWords) }
+{
+    if read_mark(text, at, b" parent -") {
+        return Some(None);
+    }
+    Some(Some(read_name(text, at, b" parent ")?))
+}
+
+/// The line of a task.
+#[tactic(auto, unfolding(crate::specs::Texts::task_line))]
+fn read_task(text: &[u8], at: &mut usize) -> Option<Row>
+    requires { at.old ≤ length text.now }
+    ensures within { at.new ≤ length text.now }
+    ensures read { IfSome result (λ row. IsRead text.now at.old at.new (task_line row)) }
+    ensures words { IfSome result IsRowOfWords }
+{
+    let name = read_name(text, at, b"task ")?;
+    let parent = read_parent_name(text, at)?;
+    let group = read_name(text, at, b" group ")?;
+    let session = read_name(text, at, b" session ")?;
+    let home = read_field(text, at, b" control ")?;
+    let children_space = read_field(text, at, b" children ")?;
+    let life = read_life(text, at)?;
+    let executed = read_mark(text, at, b" executed");
+    let subreaper = read_mark(text, at, b" subreaper");
+    read_word(text, at, b"\n")?;
+    Some(Row {
+        name,
+        parent,
+        group,
+        session,
+        executed,
+        life,
+        home,
+        children_space,
+        subreaper,
+    })
+}
+
+/// The line of a namespace.
+#[tactic(auto, unfolding(pid_script::specs::Lists::space_line))]
+fn read_space(text: &[u8], at: &mut usize) -> Option<Space>
+    requires { at.old ≤ length text.now }
+    ensures within { at.new ≤ length text.now }
+    ensures read { IfSome result (λ space. IsRead text.now at.old at.new (space_line space)) }
+    ensures words { IfSome result IsSpaceOfWords }
+{
+    let id = read_field(text, at, b"space ")?;
+    let parent = read_parent(text, at)?;
+    let cursor = read_small_field(text, at, b" cursor ")?;
+    let fallen = read_mark(text, at, b" fallen");
+    read_word(text, at, b"\n")?;
+    Some(Space {
+        id,
+        parent,
+        cursor,
+        fallen,
+    })
+}
+
+/// The line of a control group.
+#[tactic(auto, unfolding(crate::specs::Texts::control_line))]
+fn read_control(text: &[u8], at: &mut usize) -> Option<Control>
+    requires { at.old ≤ length text.now }
+    ensures within { at.new ≤ length text.now }
+    ensures read { IfSome result (λ control. IsRead text.now at.old at.new (control_line control)) }
+    ensures words { IfSome result IsControlOfWords }
+{
+    let id = read_field(text, at, b"control ")?;
+    let parent = read_parent(text, at)?;
+    let limit = read_limit(text, at)?;
+    read_word(text, at, b"\n")?;
+    Some(Control { id, parent, limit })
+}
+
+/// Whether the byte stands there.
+fn begins_with(text: &[u8], at: usize, byte: u8) -> bool {
+    match text.get(at) {
+        Some(first) => *first == byte,
+        None => false,
+    }
+}
+
+/// The number, counted from 1, of the line behind so many.
+fn line_behind(lines: u64, more: usize) -> u64 {
+    lines.saturating_add(more as u64).saturating_add(1)
+}
+
+/// The lines of the tasks, behind so many lines.
+fn read_tasks(alloc: Global, text: &[u8], at: &mut usize, lines: u64) -> Result<Vec<Row>, LoadFault>
+    requires { at.old ≤ length text.now }
+    ensures within { at.new ≤ length text.now }
+    ensures read { IfOk result (λ rows. IsRead text.now at.old at.new (flat_map task_line rows.items)) }
+    ensures words { IfOk result (λ rows. Each IsRowOfWords rows.items) }
+{
+    let mut rows = Vec::new(alloc);
+    while begins_with(text, *at, b't') {
+        let Some(row) = read_task(text, at) else {
+            return Err(LoadFault::BadLine(line_behind(lines, rows.len())));
+        };
+        if rows.push(row).is_err() {
+            return Err(LoadFault::NoMemory);
+        }
+    }
+    Ok(rows)
+}
+
+/// The lines of the namespaces, behind so many lines.
+fn read_spaces(
+    alloc: Global,
+    text: &[u8],
+    at: &mut usize,
+    lines: u64,
+) -> Result<Vec<Space>, LoadFault>
+    requires { at.old ≤ length text.now }
+    ensures within { at.new ≤ length text.now }
+    ensures read { IfOk result (λ spaces. IsRead text.now at.old at.new (flat_map space_line spaces.items)) }
+    ensures words { IfOk result (λ spaces. Each IsSpaceOfWords spaces.items) }
+{
+    let mut spaces = Vec::new(alloc);
+    while begins_with(text, *at, b's') {
+        let Some(space) = read_space(text, at) else {
+            return Err(LoadFault::BadLine(line_behind(lines, spaces.len())));
+        };
+        if spaces.push(space).is_err() {
+            return Err(LoadFault::NoMemory);
+        }
+    }
+    Ok(spaces)
+}
+
+/// The lines of the control groups, behind so many lines.
+fn read_controls(
+    alloc: Global,
+    text: &[u8],
+    at: &mut usize,
+    lines: u64,
+) -> Result<Vec<Control>, LoadFault>
+    requires { at.old ≤ length text.now }
+    ensures within { at.new ≤ length text.now }
+    ensures read { IfOk result (λ controls. IsRead text.now at.old at.new (flat_map control_line controls.items)) }
+    ensures words { IfOk result (λ controls. Each IsControlOfWords controls.items) }
+{
+    let mut controls = Vec::new(alloc);
+    while begins_with(text, *at, b'c') {
+        let Some(control) = read_control(text, at) else {
+            return Err(LoadFault::BadLine(line_behind(lines, controls.len())));
+        };
+        if controls.push(control).is_err() {
+            return Err(LoadFault::NoMemory);
+        }
+    }
+    Ok(controls)
+}
+
+/// Sees that what stands behind the place is the last line, with the digest of all before it.
+fn check_end(alloc: Global, text: &[u8], at: usize, line: u64) -> Result<(), LoadFault>
+    requires { at ≤ length text.now }
+    ensures { OnOk result (text.now ≡ take at text.now ++ end_line (take at text.now)) }
+{
+    let Ok(end) = end_of(alloc, &text[..at]) else {
+        return Err(LoadFault::NoMemory);
+    };
+    let rest = &text[at..];
+    if rest == end.as_slice() {
+        return Ok(());
+    }
+    if rest.len() == end.len() && rest.starts_with(b"end sha256 ") {
+        return Err(LoadFault::WrongDigest(line));
+    }
+    Err(LoadFault::BadLine(line))
+}
+
+/// What a text says, where it is the text of a state: see [`dump_text`](crate::dump::dump_text) for the form. The
+/// state need not be sound.
+///
+/// The fault is the first that is met, reading forwards: a line that is none of those that the form has in that place,
+/// or want of memory; and at the end a digest of another text. A last line that something follows, or that is missing,
+/// is a bad line. Then nothing is kept. The cost grows with the text.
+#[tactic(auto, unfolding(crate::specs::Texts::text_of, crate::specs::Texts::said))]
+pub fn read_text(alloc: Global, text: &[u8]) -> Result<Saved, LoadFault>
+    ensures text { IfOk result (λ saved. text.now ≡ text_of saved.stamp (saved_state saved)) }
+    ensures words { IfOk result (λ saved. IsWord saved.stamp × IsStateOfWords (saved_state saved)) }
+{
+    let mut at = 0;
+    let Some(head) = read_head(text, &mut at) else {
+        return Err(LoadFault::BadLine(1));
+    };
+    let rows = read_tasks(alloc, text, &mut at, 1)?;
+    let mut lines = line_behind(0, rows.len());
+    let spaces = read_spaces(alloc, text, &mut at, lines)?;
+    lines = lines.saturating_add(spaces.len() as u64);
+    let controls = read_controls(alloc, text, &mut at, lines)?;
+    check_end(alloc, text, at, line_behind(lines, controls.len()))?;
+    Ok(Saved {
+        pid_max: head.pid_max,
+        stamp: head.stamp,
+        rows,
+        spaces,
+        controls,
+    })
+}

@@ -1,0 +1,156 @@
+//! Words and numbers of a text, each read from a place on. Where a function answers, the place is behind what it read;
+//! where it does not, the place is somewhere within the text.
+ghost use Rattle.std.specs.Prelude.{◌≡◌, ◌++◌, ◌<◌, ◌≤◌, length, take, decimal, codes};
+ghost use Rattle.std.specs.Prelude.{IsTrue, OnSome, IfSome, IfNone, false, drop, ◌-◌, ◌^◌};
+ghost use Rattle.std.specs.Str.Parse.{AllDigits};
+ghost use Rattle.pid_script.specs.Lists.{field, marked, parent_text, limit_text, life_text};
+ghost use Rattle.table_text.specs.Ranges.{IsWord, IsLifeOfWords};
+ghost use Rattle.table_text.specs.Reading.{IsRead, Lacks, LacksNumber, LacksField, LacksAny, IsSmall, Stops};
+
+use pid_script::number::read_u64;
+use pid_types::plain::{Ended, Life};
+
+/// The word.
+pub fn read_word(text: &[u8], at: &mut usize, word: &[u8]) -> Option<()>
+    requires { at.old ≤ length text.now }
+    ensures within { at.new ≤ length text.now }
+    ensures read { OnSome result (IsRead text.now at.old at.new word.now) }
+    ensures missing { IfNone result (Lacks word.now text.now at.old) }
+{
+    if !text[*at..].starts_with(word) {
+        return None;
+    }
+    *at += word.len();
+    Some(())
+}
+
+/// Where the digits from the place on end.
+fn digits_end(text: &[u8], at: usize) -> usize
+    requires { at ≤ length text.now }
+    ensures from { at ≤ result }
+    ensures within { result ≤ length text.now }
+    ensures digits { AllDigits 10 (take (result - at) (drop at text.now)) }
+    ensures stops { Stops (drop result text.now) }
+{
+    for index in at..text.len() {
+        if !text[index].is_ascii_digit() {
+            return index;
+        }
+    }
+    text.len()
+}
+
+/// A number below 2^64.
+pub fn read_number(text: &[u8], at: &mut usize) -> Option<u64>
+    requires { at.old ≤ length text.now }
+    ensures within { at.new ≤ length text.now }
+    ensures read { IfSome result (λ n. IsRead text.now at.old at.new (decimal n)) }
+    ensures words { IfSome result IsWord }
+    ensures missing { IfNone result (LacksNumber (2 ^ 64) text.now at.old) }
+    ensures stops { OnSome result (Stops (drop at.new text.now)) }
+{
+    let end = digits_end(text, *at);
+    let number = read_u64(&text[*at..end])?;
+    *at = end;
+    Some(number)
+}
+
+/// A number below 2^32.
+pub fn read_small(text: &[u8], at: &mut usize) -> Option<u32>
+    requires { at.old ≤ length text.now }
+    ensures within { at.new ≤ length text.now }
+    ensures read { IfSome result (λ n. IsRead text.now at.old at.new (decimal n)) }
+    ensures words { IfSome result IsWord }
+    ensures missing { IfNone result (LacksNumber (2 ^ 32) text.now at.old) }
+    ensures stops { OnSome result (Stops (drop at.new text.now)) }
+{
+    u32::try_from(read_number(text, at)?).ok()
+}
+
+/// The label, and a number below 2^64.
+pub fn read_field(text: &[u8], at: &mut usize, label: &[u8]) -> Option<u64>
+    requires { at.old ≤ length text.now }
+    ensures within { at.new ≤ length text.now }
+    ensures read { IfSome result (λ n. IsRead text.now at.old at.new (field label.now n)) }
+    ensures words { IfSome result IsWord }
+    ensures missing { IfNone result (LacksField (2 ^ 64) label.now text.now at.old) }
+    ensures stops { OnSome result (Stops (drop at.new text.now)) }
+{
+    read_word(text, at, label)?;
+    read_number(text, at)
+}
+
+/// The label, and a number below 2^32.
+pub fn read_small_field(text: &[u8], at: &mut usize, label: &[u8]) -> Option<u32>
+    requires { at.old ≤ length text.now }
+    ensures within { at.new ≤ length text.now }
+    ensures read { IfSome result (λ n. IsRead text.now at.old at.new (field label.now n)) }
+    ensures words { IfSome result IsWord }
+    ensures missing { IfNone result (LacksField (2 ^ 32) label.now text.now at.old) }
+    ensures stops { OnSome result (Stops (drop at.new text.now)) }
+{
+    read_word(text, at, label)?;
+    read_small(text, at)
+}
+
+/// Whether the word is there, which is read then.
+pub fn read_mark(text: &[u8], at: &mut usize, word: &[u8]) -> bool
+    requires { at.old ≤ length text.now }
+    ensures within { at.new ≤ length text.now }
+    ensures read { IsRead text.now at.old at.new (marked result word.now) }
+    ensures missing { result ≡ false → Lacks word.now text.now at.old }
+{
+    let start = *at;
+    if read_word(text, at, word).is_none() {
+        *at = start;
+        return false;
+    }
+    true
+}
+
+/// The parent of a namespace or a control group, `-` for none.
+pub fn read_parent(text: &[u8], at: &mut usize) -> Option<Option<u64>>
+    requires { at.old ≤ length text.now }
+    ensures within { at.new ≤ length text.now }
+    ensures read { IfSome result (λ p. IsRead text.now at.old at.new (codes " parent " ++ parent_text p)) }
+    ensures words { IfSome result (λ n. IfSome n IsWord) }
+    ensures missing { IfNone result
+        (LacksAny (λ p. IfSome p IsWord) (λ p. codes " parent " ++ parent_text p) text.now at.old) }
+{
+    if read_mark(text, at, b" parent -") {
+        return Some(None);
+    }
+    Some(Some(read_field(text, at, b" parent ")?))
+}
+
+/// The limit, `max` for none.
+pub fn read_limit(text: &[u8], at: &mut usize) -> Option<Option<u32>>
+    requires { at.old ≤ length text.now }
+    ensures within { at.new ≤ length text.now }
+    ensures read { IfSome result (λ limit. IsRead text.now at.old at.new (codes " limit " ++ limit_text limit)) }
+    ensures words { IfSome result (λ n. IfSome n IsWord) }
+    ensures missing { IfNone result
+        (LacksAny (λ n. IfSome n IsSmall) (λ n. codes " limit " ++ limit_text n) text.now at.old) }
+{
+    if read_mark(text, at, b" limit max") {
+        return Some(None);
+    }
+    Some(Some(read_small_field(text, at, b" limit ")?))
+}
+
+/// `live`, or how the task ended.
+pub fn read_life(text: &[u8], at: &mut usize) -> Option<Life>
+    requires { at.old ≤ length text.now }
+    ensures within { at.new ≤ length text.now }
+    ensures read { IfSome result (λ life. IsRead text.now at.old at.new (codes " " ++ life_text life)) }
+    ensures words { IfSome result IsLifeOfWords }
+{
+    if read_mark(text, at, b" live") {
+        return Some(Life::Live);
+    }
+    if read_mark(text, at, b" killed") {
+        return Some(Life::Zombie(Ended::Killed));
+    }
+    let status = u8::try_from(read_field(text, at, b" exit ")?).ok()?;
+    Some(Life::Zombie(Ended::Exited(status)))
+}
