@@ -3,10 +3,13 @@
 use pidtab::{Calls, Entry, Error, Saved, SavedError, SavedFault, Seat, Shared};
 use std::fs::{self, File, OpenOptions};
 use std::io::{self, Read, Seek, SeekFrom, Write};
+use std::net::Shutdown;
+use std::os::unix::net::UnixStream;
 use std::path::{Path, PathBuf};
 use std::process::{Command, Stdio};
 use std::sync::atomic::{AtomicU32, Ordering};
 use std::sync::{mpsc, Mutex};
+use std::time::Duration;
 use std::{env, thread};
 
 const BLOCK: usize = 48;
@@ -754,6 +757,115 @@ fn saves_amid_calls() {
     save(&shared, &mut saved, &mut bytes);
     assert_eq!((saved.calls(), &bytes), (7200, &bytes_of(&shared)));
     same(&load(&bytes).0, &shared);
+}
+
+/// Of the C library.
+mod c {
+    pub const SIGUSR1: i32 = 10;
+
+    extern "C" {
+        pub fn fork() -> i32;
+        pub fn waitpid(child: i32, status: *mut i32, options: i32) -> i32;
+        pub fn _exit(status: i32) -> !;
+        pub fn signal(number: i32, handler: extern "C" fn(i32)) -> usize;
+        pub fn siginterrupt(number: i32, interrupts: i32) -> i32;
+        pub fn pthread_self() -> usize;
+        pub fn pthread_kill(thread: usize, number: i32) -> i32;
+    }
+}
+
+/// A forked process has a copy of the table, and goes on with it as the other one does: what each saves is its own history.
+#[test]
+fn a_forked_process_saves_its_copy() {
+    let shared = open(2);
+    ask(&mut shared.seat().expect("a seat"), &["fork 1 new"]);
+    let (mut saved, mut bytes) = (Saved::new(), Vec::new());
+    save(&shared, &mut saved, &mut bytes);
+    let copy = Kept::new(&bytes);
+    let mut file = copy.open();
+    file.seek(SeekFrom::End(0)).expect("the end");
+    // Safety: no other thread of these tests uses the table or the file, and the child ends before it returns.
+    let child = unsafe { c::fork() };
+    assert!(child >= 0);
+    if child == 0 {
+        let made = shared.seat().map(|mut seat| seat.line("fork 2").is_ok());
+        let done = made == Ok(true) && shared.save(&mut saved, &mut file).is_ok();
+        unsafe { c::_exit(i32::from(!done)) }
+    }
+    let mut status = -1;
+    assert_eq!(unsafe { c::waitpid(child, &mut status, 0) }, child);
+    assert_eq!(status, 0);
+    ask(&mut shared.seat().expect("a seat"), &["getpid 2"]);
+    save(&shared, &mut saved, &mut bytes);
+    assert_eq!(bytes, bytes_of(&shared));
+    let twin = open(2);
+    ask(&mut twin.seat().expect("a seat"), &["fork 1 new"]);
+    ask(&mut twin.seat().expect("a seat"), &["fork 2"]);
+    assert_eq!(copy.bytes(), bytes_of(&twin));
+}
+
+static SIGNALS: AtomicU32 = AtomicU32::new(0);
+
+extern "C" fn count_signal(_number: i32) {
+    SIGNALS.fetch_add(1, Ordering::Relaxed);
+}
+
+/// A device whose interrupted writes are counted.
+struct Counted<'a> {
+    to: &'a UnixStream,
+    interrupted: &'a AtomicU32,
+}
+
+impl Write for Counted<'_> {
+    fn write(&mut self, bytes: &[u8]) -> io::Result<usize> {
+        let done = self.to.write(bytes);
+        if matches!(&done, Err(fault) if fault.kind() == io::ErrorKind::Interrupted) {
+            self.interrupted.fetch_add(1, Ordering::Relaxed);
+        }
+        done
+    }
+
+    fn flush(&mut self) -> io::Result<()> {
+        Ok(())
+    }
+}
+
+/// Signals interrupt the writes to a device that takes no more, twenty of them at least, and nothing is lost or doubled.
+#[test]
+fn signals_amid_a_write() {
+    let shared = open(1);
+    ask(&mut shared.seat().expect("a seat"), &["getpid 1"; 8000]);
+    let (near, mut far) = UnixStream::pair().expect("two ends");
+    let interrupted = AtomicU32::new(0);
+    let ((name, names), (end, ends)) = (mpsc::channel(), mpsc::channel::<()>());
+    unsafe {
+        c::signal(c::SIGUSR1, count_signal);
+        c::siginterrupt(c::SIGUSR1, 1);
+    }
+    let mut bytes = Vec::new();
+    thread::scope(|scope| {
+        let (shared, interrupted) = (&shared, &interrupted);
+        let saver = scope.spawn(move || {
+            name.send(unsafe { c::pthread_self() }).expect("a reader");
+            let to = Counted {
+                to: &near,
+                interrupted,
+            };
+            save(shared, &mut Saved::new(), to);
+            near.shutdown(Shutdown::Both).expect("an end");
+            // A signal to a thread that has ended would be no signal.
+            let _ = ends.recv();
+        });
+        let writer = names.recv().expect("a writer");
+        while interrupted.load(Ordering::Relaxed) < 20 && !saver.is_finished() {
+            unsafe { c::pthread_kill(writer, c::SIGUSR1) };
+            thread::sleep(Duration::from_millis(1));
+        }
+        far.read_to_end(&mut bytes).expect("the history");
+        drop(end);
+    });
+    assert!(SIGNALS.load(Ordering::Relaxed) >= 20);
+    assert_eq!(bytes, bytes_of(&shared));
 }
 
 /// The folder of the library of these tests, and the repository.
