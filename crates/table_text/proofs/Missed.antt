@@ -1,5 +1,5 @@
 -- What does not stand in a text where a reader gives up. Each step takes what was read, and leaves what stands behind it.
-use Rattle.std.proofs.Common.{◌≡◌, inl, inr, ℕ, ◌^◌, ◌<◌, ◌≤◌, Bool, true, false, List, [], ◌∷◌, ◌++◌, length, drop, Option, Some, None, IfSome, decimal, codes, refl, sym, ap, ◌∙◌, subst, arith, lit<, append_assoc, Result, Ok, Err, OkIff}
+use Rattle.std.proofs.Common.{◌≡◌, inl, inr, ℕ, ◌^◌, ◌<◌, ◌≤◌, Bool, true, false, List, [], ◌∷◌, ◌++◌, length, drop, Option, Some, None, IfSome, decimal, codes, refl, sym, ◌∙◌, arith, lit<, append_assoc}
 use Rattle.std.proofs.lemmas.List.{append_cancel_left}
 use Rattle.pid_types.specs.declared.plain.Life.{Life}
 use Rattle.pid_types.specs.declared.plain.Life.TheVariants.{Live, Zombie}
@@ -9,7 +9,7 @@ use Rattle.pid_types.specs.declared.plain.Control.{Control}
 use Rattle.pid_script.specs.Lists.{field, marked, parent_text, limit_text, life_text, space_line}
 use Rattle.table_text.specs.Texts.{control_line, settings_text, head_line}
 use Rattle.table_text.specs.Ranges.{IsWord}
-use Rattle.table_text.specs.Reading.{IsRead, IsSmall, Stops, Lacks, LacksField, LacksAny, LacksLine, LacksSettings, LacksHead, IsHeldLife, IsHeldSpace, IsHeldControl}
+use Rattle.table_text.specs.Reading.{IsRead, IsSmall, Stops, Lacks, LacksField, LacksAny, LacksSettings, IsHeldLife, IsHeldSpace, IsHeldControl}
 use Rattle.table_text.proofs.Fronts.{number_told, option_read}
 use Rattle.table_text.proofs.Lines.{space_flat, control_flat, head_flat, stops_mark, not_marked}
 use Rattle.table_text.proofs.Scanned.{dropped}

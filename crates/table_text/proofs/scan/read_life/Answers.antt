@@ -1,7 +1,6 @@
-use Rattle.std.proofs.Common.{◌^◌, None, codes}
+use Rattle.std.proofs.Common.{◌^◌, None, codes, ◌∙◌}
 use Rattle.table_text.proofs.Scanned.{if_none, not_fitting, nothing_read}
 use Rattle.table_text.proofs.Missed.{no_life, large_status}
-use Rattle.std.proofs.Common.{◌∙◌}
 use Rattle.table_text.proofs.scan.read_life.Goals as goal
 
 pub returns-in_err-status-clause-missing : goal.returns-in_err-status-clause-missing
