@@ -66,17 +66,28 @@ no_number P n x y e small stops_x stops_y =
     let none = ap length parts.0 in let some = decimal_nonempty n small in
     absurd (omega (arith, none, some))
 
--- a number, or the word for none, which begins with no digit
-pub option_told : (f : Option ℕ → List ℕ) (c : ℕ) (cs : List ℕ) → IsOther c → f None ≡ c ∷ cs → ((n : ℕ) → f (Some n) ≡ decimal n)
-    → (p q : Option ℕ) (x y : List ℕ) → f p ++ x ≡ f q ++ y → IfSome p IsWord → IfSome q IsWord → Stops x → Stops y → (p ≡ q) × (x ≡ y)
-option_told f c cs other none some None None x y e a b stops_x stops_y = (refl, append_cancel_left (f None) x y e)
-option_told f c cs other none some None (Some n) x y e a b stops_x stops_y =
+-- what is true at all is true of what an option has
+if_some : (p : Option ℕ) (P : Type 0) → P → IfSome p (λ n. P)
+if_some None P here = tt
+if_some (Some n) P here = here
+
+-- a number, or the word for none, which begins with no digit. Behind the first word for none the text need not stop
+pub option_read : (f : Option ℕ → List ℕ) (c : ℕ) (cs : List ℕ) → IsOther c → f None ≡ c ∷ cs → ((n : ℕ) → f (Some n) ≡ decimal n)
+    → (p q : Option ℕ) (x y : List ℕ) → f p ++ x ≡ f q ++ y → IfSome p IsWord → IfSome q IsWord → IfSome p (λ n. Stops x) → Stops y → (p ≡ q) × (x ≡ y)
+option_read f c cs other none some None None x y e a b stops_x stops_y = (refl, append_cancel_left (f None) x y e)
+option_read f c cs other none some None (Some n) x y e a b stops_x stops_y =
     no_number _ n (c ∷ (cs ++ x)) y (ap (λ w. w ++ x) (sym none) ∙ e ∙ ap (λ w. w ++ y) (some n)) b other stops_y
-option_told f c cs other none some (Some m) None x y e a b stops_x stops_y =
+option_read f c cs other none some (Some m) None x y e a b stops_x stops_y =
     no_number _ m (c ∷ (cs ++ y)) x (ap (λ w. w ++ y) (sym none) ∙ sym e ∙ ap (λ w. w ++ x) (some m)) a other stops_x
-option_told f c cs other none some (Some m) (Some n) x y e a b stops_x stops_y =
+option_read f c cs other none some (Some m) (Some n) x y e a b stops_x stops_y =
     let parts = number_told m n x y (ap (λ w. w ++ x) (sym (some m)) ∙ e ∙ ap (λ w. w ++ y) (some n)) a b stops_x stops_y in
     (ap Some parts.0, parts.1)
+
+-- the same, where both stop
+pub option_told : (f : Option ℕ → List ℕ) (c : ℕ) (cs : List ℕ) → IsOther c → f None ≡ c ∷ cs → ((n : ℕ) → f (Some n) ≡ decimal n)
+    → (p q : Option ℕ) (x y : List ℕ) → f p ++ x ≡ f q ++ y → IfSome p IsWord → IfSome q IsWord → Stops x → Stops y → (p ≡ q) × (x ≡ y)
+option_told f c cs other none some p q x y e a b stops_x stops_y =
+    option_read f c cs other none some p q x y e a b (if_some p (Stops x) stops_x) stops_y
 
 -- a mark, where what follows it does not begin with its word
 pub marked_told : (word : List ℕ) (a b : Bool) (x y : List ℕ) → marked a word ++ x ≡ marked b word ++ y

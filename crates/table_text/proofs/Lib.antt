@@ -4,3 +4,4 @@ pub mod Lines
 pub mod Told
 pub mod Scanned
 pub mod Each
+pub mod Missed

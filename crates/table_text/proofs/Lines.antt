@@ -15,39 +15,39 @@ use Rattle.table_text.specs.Reading.{Stops}
 use Rattle.table_text.proofs.Fronts.{IsApart, GoesOnBut, apart, first_told, number_told, marked_told}
 use Rattle.table_text.proofs.Words.{name_told, parent_told, outer_told, limit_told, life_told}
 
-names_flat : (r : Row) (x : List ℕ) → names_text r ++ x
+pub names_flat : (r : Row) (x : List ℕ) → names_text r ++ x
     ≡ codes "task " ++ (name_word r.name ++ (codes " parent " ++ (parent_word r.parent ++ (codes " group " ++ (name_word r.group ++ (codes " session " ++ (name_word r.session ++ x)))))))
 unfolding names_text
 names_flat r x = simp append_assoc
 
-places_flat : (r : Row) (x : List ℕ) → places_text r ++ x ≡ codes " control " ++ (decimal r.home ++ (codes " children " ++ (decimal r.children_space ++ x)))
+pub places_flat : (r : Row) (x : List ℕ) → places_text r ++ x ≡ codes " control " ++ (decimal r.home ++ (codes " children " ++ (decimal r.children_space ++ x)))
 unfolding places_text
 places_flat r x = simp append_assoc
 
-marks_flat : (r : Row) (x : List ℕ) → marks_text r ++ x
+pub marks_flat : (r : Row) (x : List ℕ) → marks_text r ++ x
     ≡ codes " " ++ (life_text r.life ++ (marked r.executed (codes " executed") ++ (marked r.subreaper (codes " subreaper") ++ x)))
 unfolding marks_text
 marks_flat r x = simp append_assoc
 
-task_flat : (r : Row) (x : List ℕ) → task_line r ++ x ≡ names_text r ++ (places_text r ++ (marks_text r ++ 10 ∷ x))
+pub task_flat : (r : Row) (x : List ℕ) → task_line r ++ x ≡ names_text r ++ (places_text r ++ (marks_text r ++ 10 ∷ x))
 unfolding task_line
 task_flat r x = simp append_assoc
 
 regrouped : (a b c d e f g h x : List ℕ) → ((((((a ++ b) ++ c) ++ d) ++ (e ++ f)) ++ g) ++ h) ++ x ≡ a ++ (b ++ (c ++ (d ++ (e ++ (f ++ (g ++ (h ++ x)))))))
 regrouped a b c d e f g h x = simp append_assoc
 
-space_flat : (s : Space) (x : List ℕ) → space_line s ++ x
+pub space_flat : (s : Space) (x : List ℕ) → space_line s ++ x
     ≡ codes "space " ++ (decimal s.id ++ (codes " parent " ++ (parent_text s.parent ++ (codes " cursor " ++ (decimal s.cursor ++ (marked s.fallen (codes " fallen") ++ 10 ∷ x))))))
 unfolding space_line
 space_flat s x =
     regrouped (codes "space ") (decimal s.id) (codes " parent ") (parent_text s.parent) (codes " cursor ") (decimal s.cursor) (marked s.fallen (codes " fallen")) (10 ∷ []) x
 
-control_flat : (c : Control) (x : List ℕ) → control_line c ++ x
+pub control_flat : (c : Control) (x : List ℕ) → control_line c ++ x
     ≡ codes "control " ++ (decimal c.id ++ (codes " parent " ++ (parent_text c.parent ++ (codes " limit " ++ (limit_text c.limit ++ 10 ∷ x)))))
 unfolding control_line
 control_flat c x = simp append_assoc
 
-head_flat : (pid_max stamp : ℕ) (x : List ℕ) → head_line pid_max stamp ++ x
+pub head_flat : (pid_max stamp : ℕ) (x : List ℕ) → head_line pid_max stamp ++ x
     ≡ codes "pidtab table 1" ++ (codes " pid-max " ++ (decimal pid_max ++ (codes " stamp " ++ (decimal stamp ++ 10 ∷ x))))
 unfolding head_line settings_text
 head_flat pid_max stamp x = simp append_assoc
@@ -70,16 +70,16 @@ places_told a b x y e words_a words_b stops_x stops_y =
     let children = number_told a.children_space b.children_space _ _ (append_cancel_left (codes " children ") _ _ home.1) words_a.children_space words_b.children_space stops_x stops_y in
     (home.0, children.0, children.1)
 
-stops_marks : (e s : Bool) (x : List ℕ) → Stops (marked e (codes " executed") ++ (marked s (codes " subreaper") ++ 10 ∷ x))
+pub stops_marks : (e s : Bool) (x : List ℕ) → Stops (marked e (codes " executed") ++ (marked s (codes " subreaper") ++ 10 ∷ x))
 stops_marks true s x = inl (lit< tt)
 stops_marks false true x = inl (lit< tt)
 stops_marks false false x = inl (lit< tt)
 
-not_executed : (s : Bool) (x z : List ℕ) → marked s (codes " subreaper") ++ 10 ∷ x ≡ codes " executed" ++ z → ⊥
+pub not_executed : (s : Bool) (x z : List ℕ) → marked s (codes " subreaper") ++ 10 ∷ x ≡ codes " executed" ++ z → ⊥
 not_executed true x z e = apart ⊥ 115 101 _ _ (first_told 32 32 _ _ e).1 (inr (lit< tt))
 not_executed false x z e = apart ⊥ 10 32 _ _ e (inl (lit< tt))
 
-not_marked : (x z : List ℕ) → 10 ∷ x ≡ 32 ∷ z → ⊥
+pub not_marked : (x z : List ℕ) → 10 ∷ x ≡ 32 ∷ z → ⊥
 not_marked x z e = apart ⊥ 10 32 _ _ e (inl (lit< tt))
 
 -- its life and its marks, up to the end of the line
@@ -123,7 +123,7 @@ task_told a b x y e words_a words_b =
     stops_line : (r : Row) (z : List ℕ) → Stops (marks_text r ++ 10 ∷ z)
     stops_line r z = subst Stops (sym (marks_flat r (10 ∷ z))) (inl (lit< tt))
 
-stops_mark : (fallen : Bool) (x : List ℕ) → Stops (marked fallen (codes " fallen") ++ 10 ∷ x)
+pub stops_mark : (fallen : Bool) (x : List ℕ) → Stops (marked fallen (codes " fallen") ++ 10 ∷ x)
 stops_mark true x = inl (lit< tt)
 stops_mark false x = inl (lit< tt)
 

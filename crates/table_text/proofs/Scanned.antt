@@ -203,9 +203,9 @@ small_missing text a b m within_a within_b read word stops large n rest below st
     omega (arith, same, large, below)
 
 -- where a number does not fit, it is not below the bound
-pub not_fitting : {E : Type 0} (m : ℕ) (r : Result ℕ E) (o : Option ℕ) (P : Type 0) → OkIff r (m < 2 ^ 32) m → o ≡ result_ok r → (2 ^ 32 ≤ m → P) → IfNone o P
-not_fitting m (Ok x) o P fits is go = subst (λ q. IfNone q P) (sym is) tt
-not_fitting m (Err e) o P not_below is go = subst (λ q. IfNone q P) (sym is) (go (omega (arith, not_below)))
+pub not_fitting : {E : Type 0} (bound m : ℕ) (r : Result ℕ E) (o : Option ℕ) (P : Type 0) → OkIff r (m < bound) m → o ≡ result_ok r → (bound ≤ m → P) → IfNone o P
+not_fitting bound m (Ok x) o P fits is go = subst (λ q. IfNone q P) (sym is) tt
+not_fitting bound m (Err e) o P not_below is go = subst (λ q. IfNone q P) (sym is) (go (omega (arith, not_below)))
 
 -- neither the word for none stands there, nor a number behind the label
 pub no_option : (bound : ℕ) (label none : List ℕ) (f : Option ℕ → List ℕ) (text : List ℕ) (at start : ℕ) → label ++ f None ≡ none

@@ -1,7 +1,13 @@
 -- What is read of a text.
-use Rattle.std.specs.Prelude.{◌≡◌, ◌⊎◌, ℕ, ◌<◌, ◌^◌, List, [], ◌∷◌, ◌++◌, take, drop}
+use Rattle.std.specs.Prelude.{◌≡◌, ◌⊎◌, ℕ, ◌<◌, ◌^◌, List, [], ◌∷◌, ◌++◌, take, drop, IfSome}
+use Rattle.pid_types.specs.declared.plain.Space.{Space}
+use Rattle.pid_types.specs.declared.plain.Control.{Control}
+use Rattle.pid_types.specs.declared.plain.Life.{Life}
+use Rattle.pid_types.specs.declared.plain.Life.TheVariants.{Live, Zombie}
+use Rattle.pid_types.specs.declared.plain.Ended.TheVariants.{Exited, Killed}
 use Rattle.pid_types.specs.State.{State}
 use Rattle.pid_script.specs.Lists.{field}
+use Rattle.table_text.specs.Ranges.{IsWord}
 use Rattle.table_text.specs.declared.read.Saved.{Saved}
 
 -- what stands between the two places is this
@@ -36,6 +42,44 @@ IsSmall n = n < 2 ^ 32
 -- the word does not stand at the place
 abbrev pub Lacks : List ℕ → List ℕ → ℕ → Type 0
 Lacks word text at = (rest : List ℕ) → drop at text ≡ word ++ rest → ⊥
+
+-- the same of a line, whatever stands behind it
+abbrev pub LacksLine : {A : Type 0} → (A → Type 0) → (A → List ℕ) → List ℕ → ℕ → Type 0
+LacksLine {A} IsHeld line text at = (a : A) (rest : List ℕ) → IsHeld a → drop at text ≡ line a ++ rest → ⊥
+
+-- no bound and stamp stand at the place, with what stops behind them
+abbrev pub LacksSettings : (ℕ → ℕ → List ℕ) → List ℕ → ℕ → Type 0
+LacksSettings part text at =
+    (pid_max stamp : ℕ) (rest : List ℕ) → IsSmall pid_max → IsWord stamp → Stops rest → drop at text ≡ part pid_max stamp ++ rest → ⊥
+
+-- the same of the first line, whatever stands behind it
+abbrev pub LacksHead : (ℕ → ℕ → List ℕ) → List ℕ → ℕ → Type 0
+LacksHead line text at =
+    (pid_max stamp : ℕ) (rest : List ℕ) → IsSmall pid_max → IsWord stamp → drop at text ≡ line pid_max stamp ++ rest → ⊥
+
+-- the status of a task that has exited, as its type holds it
+abbrev pub IsHeldLife : Life → Type 0
+IsHeldLife Live = Unit {0}
+IsHeldLife (Zombie (Exited status)) = status < 2 ^ 8
+IsHeldLife (Zombie Killed) = Unit {0}
+
+-- behind a status the text stops
+abbrev pub StopsBehind : Life → List ℕ → Type 0
+StopsBehind Live rest = Unit {0}
+StopsBehind (Zombie (Exited status)) rest = Stops rest
+StopsBehind (Zombie Killed) rest = Unit {0}
+
+-- the numbers of a namespace, as its type holds them
+pub record IsHeldSpace (space : Space) : Type 0 where
+  pub id : IsWord space.id
+  pub parent : IfSome space.parent IsWord
+  pub cursor : IsSmall space.cursor
+
+-- the numbers of a control group, as its type holds them
+pub record IsHeldControl (control : Control) : Type 0 where
+  pub id : IsWord control.id
+  pub parent : IfSome control.parent IsWord
+  pub limit : IfSome control.limit IsSmall
 
 -- the state that a text says
 abbrev pub saved_state : Saved → State

@@ -8,7 +8,9 @@ ghost use Rattle.table_text.specs.Texts.{name_word, parent_word, task_line, cont
 ghost use Rattle.table_text.specs.Texts.{settings_text, head_line, end_line, text_of};
 ghost use Rattle.table_text.specs.Ranges.{IsWord, Each, IsNameOfWords, IsRowOfWords, IsSpaceOfWords, IsControlOfWords};
 ghost use Rattle.table_text.specs.Ranges.{IsStateOfWords};
-ghost use Rattle.table_text.specs.Reading.{IsRead, saved_state};
+ghost use Rattle.std.specs.Prelude.{IfNone, OnSome, drop};
+ghost use Rattle.table_text.specs.Reading.{IsRead, saved_state, Stops, LacksLine, LacksSettings, LacksHead};
+ghost use Rattle.table_text.specs.Reading.{IsHeldSpace, IsHeldControl};
 
 use crate::dump::end_of;
 use crate::fault::LoadFault;
@@ -50,6 +52,8 @@ fn read_settings(text: &[u8], at: &mut usize) -> Option<Head>
     ensures within { at.new ≤ length text.now }
     ensures read { IfSome result (λ head. IsRead text.now at.old at.new (settings_text head.pid_max head.stamp)) }
     ensures words { IfSome result (λ head. IsWord head.pid_max × IsWord head.stamp) }
+    ensures missing { IfNone result (LacksSettings settings_text text.now at.old) }
+    ensures stops { OnSome result (Stops (drop at.new text.now)) }
 {
     let pid_max = read_small_field(text, at, b" pid-max ")?;
     let stamp = read_field(text, at, b" stamp ")?;
@@ -63,6 +67,7 @@ fn read_head(text: &[u8], at: &mut usize) -> Option<Head>
     ensures within { at.new ≤ length text.now }
     ensures read { IfSome result (λ head. IsRead text.now at.old at.new (head_line head.pid_max head.stamp)) }
     ensures words { IfSome result (λ head. IsWord head.pid_max × IsWord head.stamp) }
+    ensures missing { IfNone result (LacksHead head_line text.now at.old) }
 {
     read_word(text, at, b"pidtab table 1")?;
     let head = read_settings(text, at)?;
@@ -153,6 +158,7 @@ fn read_space(text: &[u8], at: &mut usize) -> Option<Space>
     ensures within { at.new ≤ length text.now }
     ensures read { IfSome result (λ space. IsRead text.now at.old at.new (space_line space)) }
     ensures words { IfSome result IsSpaceOfWords }
+    ensures missing { IfNone result (LacksLine IsHeldSpace space_line text.now at.old) }
 {
     let id = read_field(text, at, b"space ")?;
     let parent = read_parent(text, at)?;
@@ -174,6 +180,7 @@ fn read_control(text: &[u8], at: &mut usize) -> Option<Control>
     ensures within { at.new ≤ length text.now }
     ensures read { IfSome result (λ control. IsRead text.now at.old at.new (control_line control)) }
     ensures words { IfSome result IsControlOfWords }
+    ensures missing { IfNone result (LacksLine IsHeldControl control_line text.now at.old) }
 {
     let id = read_field(text, at, b"control ")?;
     let parent = read_parent(text, at)?;

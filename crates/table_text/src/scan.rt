@@ -6,6 +6,7 @@ ghost use Rattle.std.specs.Str.Parse.{AllDigits};
 ghost use Rattle.pid_script.specs.Lists.{field, marked, parent_text, limit_text, life_text};
 ghost use Rattle.table_text.specs.Ranges.{IsWord, IsLifeOfWords};
 ghost use Rattle.table_text.specs.Reading.{IsRead, Lacks, LacksNumber, LacksField, LacksAny, IsSmall, Stops};
+ghost use Rattle.table_text.specs.Reading.{IsHeldLife, StopsBehind};
 
 use pid_script::number::read_u64;
 use pid_types::plain::{Ended, Life};
@@ -116,6 +117,7 @@ pub fn read_parent(text: &[u8], at: &mut usize) -> Option<Option<u64>>
     ensures words { IfSome result (λ n. IfSome n IsWord) }
     ensures missing { IfNone result
         (LacksAny (λ p. IfSome p IsWord) (λ p. codes " parent " ++ parent_text p) text.now at.old) }
+    ensures stops { IfSome result (λ p. IfSome p (λ n. Stops (drop at.new text.now))) }
 {
     if read_mark(text, at, b" parent -") {
         return Some(None);
@@ -131,6 +133,7 @@ pub fn read_limit(text: &[u8], at: &mut usize) -> Option<Option<u32>>
     ensures words { IfSome result (λ n. IfSome n IsWord) }
     ensures missing { IfNone result
         (LacksAny (λ n. IfSome n IsSmall) (λ n. codes " limit " ++ limit_text n) text.now at.old) }
+    ensures stops { IfSome result (λ limit. IfSome limit (λ n. Stops (drop at.new text.now))) }
 {
     if read_mark(text, at, b" limit max") {
         return Some(None);
@@ -144,6 +147,8 @@ pub fn read_life(text: &[u8], at: &mut usize) -> Option<Life>
     ensures within { at.new ≤ length text.now }
     ensures read { IfSome result (λ life. IsRead text.now at.old at.new (codes " " ++ life_text life)) }
     ensures words { IfSome result IsLifeOfWords }
+    ensures missing { IfNone result (LacksAny IsHeldLife (λ life. codes " " ++ life_text life) text.now at.old) }
+    ensures stops { IfSome result (λ life. StopsBehind life (drop at.new text.now)) }
 {
     if read_mark(text, at, b" live") {
         return Some(Life::Live);
