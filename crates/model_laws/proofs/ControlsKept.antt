@@ -82,10 +82,10 @@ module _ (controls : List Control) (tree : IsTreeOfControls controls) (stamp par
   path_new on short = IsIn-chain_new Control (λ d. d.id) (λ d. d.parent) controls made above (control_path controls) tree 64 parent 0 refl on short on
 
   -- the control groups with the new one are a tree
-  IsTreeOfControls-made : IsIn 0 (control_path controls parent) → length (control_path controls parent) ≤ 64 → IsTreeOfControls with_made
-  IsTreeOfControls-made on short =
+  IsTreeOfControls-made : IsIn 0 (control_path controls parent) → length (control_path controls parent) ≤ 64 → parent < stamp → IsTreeOfControls with_made
+  IsTreeOfControls-made on short elder =
       IsTree-push Control (λ d. d.id) (λ d. d.parent) controls made above (control_path controls) (control_path with_made)
-      (λ c i. path_old c.id (tree.chains c i)) (path_new on short) tree
+      (λ c i. path_old c.id (tree.chains c i)) (path_new on short) elder tree
 
 -- a new control group leaves a sound state
 pub make_control_keeps : (state : State) (stamp parent : ℕ) → IsSound state → IsBelow stamp state → Keeps stamp (make_control state stamp parent)
@@ -96,7 +96,8 @@ make_control_keeps state stamp parent sound below =
     let on : IsIn 0 (control_path state.controls parent) = control_to_root state.controls tree parent c found in
     Keeps-changed stamp (with_control state parent stamp) _
     (IsCoherent-controls state (with_made state.controls tree stamp parent below.controls) sound.coherent
-    (IsTreeOfControls-made state.controls tree stamp parent below.controls on (ltb-false 64 (length (control_path state.controls parent)) shallow))
+    (IsTreeOfControls-made state.controls tree stamp parent below.controls on (ltb-false 64 (length (control_path state.controls parent)) shallow)
+    (let at = control_at-Some state.controls parent c found in subst (λ x. x < stamp) at.1 (below.controls c at.0)))
     (λ d i. elim (IsIn-append d state.controls (made state.controls tree stamp parent below.controls ∷ []) i) [
       | inl j ↦ sound.coherent.limits d j
       | inr j ↦ elim j [ inl e ↦ HasGoodLimit-none d (ap (λ (x : Control). x.limit) e) | inr none ↦ elim none [ ] ]
@@ -144,6 +145,7 @@ module _ (controls : List Control) (tree : IsTreeOfControls controls) (id : ℕ)
   IsTreeOfControls-others : (id ≡ 0 → ⊥) → IsTreeOfControls others
   IsTreeOfControls-others below = record {
     rising = IsRising-filter (λ (c : Control). c.id) (λ c. not (c.id == id)) controls tree.rising;
+    older = λ c i. tree.older c (IsIn-from_filter (λ c. not (c.id == id)) c controls i).0;
     root = (tree.root.0, other_at 0 (λ e. below (sym e)) ∙ tree.root.1, tree.root.2);
     chains = λ c i.
         let r = IsIn-from_filter (λ c. not (c.id == id)) c controls i in

@@ -1,6 +1,6 @@
 -- Trees of things that have ids, and parents among them: namespaces, and control groups.
 use Rattle.std.proofs.Common.{◌≡◌, ℕ, zero, suc, ◌<◌, ◌≤◌, ◌==◌, List, [], ◌∷◌, ◌++◌, map, length, Option, Some, None, refl, sym, ap, ◌∙◌, subst, ◌⊎◌, inl, inr, arith}
-use Rattle.std.specs.Prelude.{find, option_map, option_and_then}
+use Rattle.std.specs.Prelude.{find, option_map, option_and_then, IfSome}
 use Rattle.std.proofs.Math.Path.{fun_ext}
 use Rattle.std.proofs.lemmas.Bool.{eq-eqb, ne_eqb}
 use Rattle.pid_types.specs.Chains.{climb}
@@ -69,6 +69,9 @@ module _ (X : Type 0) (id : X → ℕ) (parent : X → Option ℕ) where
     pub IsTree-map : (path next : ℕ → List ℕ) → ((n : ℕ) → next n ≡ path n) → IsTree X id parent path xs → IsTree X id parent next (map f xs)
     IsTree-map path next same tree = record {
       rising = subst IsRising (sym (ids-map xs)) tree.rising;
+      older = λ x i.
+          let r = IsIn-from_map f x xs i in
+          subst (λ y. IfSome (parent y) (λ p. p < id y)) (sym r.2) (rw (parents r.0, ids r.0) (tree.older r.0 r.1));
       root = (f tree.root.0, at-map 0 ∙ ap (option_map f) tree.root.1, parents tree.root.0 ∙ tree.root.2);
       chains = λ x i.
           let r = IsIn-from_map f x xs i in
@@ -102,9 +105,13 @@ module _ (X : Type 0) (id : X → ℕ) (parent : X → Option ℕ) where
 
     -- the tree has one more, if its path meets the root and the others stay
     pub IsTree-push : (path next : ℕ → List ℕ) → ((x : X) → IsIn x xs → next (id x) ≡ path (id x)) → IsIn 0 (next (id new))
-        → IsTree X id parent path xs → IsTree X id parent next (xs ++ new ∷ [])
-    IsTree-push path next same on tree = record {
+        → IfSome (parent new) (λ p. p < id new) → IsTree X id parent path xs → IsTree X id parent next (xs ++ new ∷ [])
+    IsTree-push path next same on elder tree = record {
       rising = IsRising-push id xs new tree.rising above;
+      older = λ x i. elim (IsIn-append x xs (new ∷ []) i) [
+        | inl j ↦ tree.older x j
+        | inr j ↦ elim j [ inl e ↦ subst (λ y. IfSome (parent y) (λ p. p < id y)) (sym e) elder | inr none ↦ elim none [ ] ]
+      ];
       root = (tree.root.0, at-push_old 0 tree.root.0 tree.root.1, tree.root.2);
       chains = λ x i. elim (IsIn-append x xs (new ∷ []) i) [
         | inl j ↦ subst (IsIn 0) (sym (same x j)) (tree.chains x j)

@@ -417,7 +417,10 @@ module _ (state : State) (sound : IsCoherent state) (stamp : ℕ) (below : IsBel
   tree_new : IsTreeOfSpaces with_new
   tree_new =
       IsTree-push Space (λ t. t.id) (λ t. t.parent) state.spaces new below.spaces (path_up state.spaces) (path_up with_new)
-      (λ s i. path_old s.id (sound.spaces.chains s i)) (path_new 0 on_parent) sound.spaces
+      (λ s i. path_old s.id (sound.spaces.chains s i)) (path_new 0 on_parent) elder sound.spaces
+    where
+      elder : p < stamp
+      elder = let at = space_at-Some state.spaces p parent_there.0 parent_there.1 in subst (λ x. x < stamp) at.1 (below.spaces parent_there.0 at.0)
 
   -- the children's namespaces stay good
   children_new : (r : Row) → IsIn r state.rows → HasGoodChildrenSpace with_new r

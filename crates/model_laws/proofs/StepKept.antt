@@ -1,5 +1,6 @@
 -- Every call leaves a sound state, and the root namespace stands.
 use Rattle.std.proofs.Common.{◌≡◌, ℕ, suc, ◌+◌, ◌<◌, true, false, List, [], ◌∷◌, length, Option, Some, None, refl, sym, ap, ◌∙◌, subst, inl, inr, arith}
+use Rattle.std.specs.Prelude.{IfSome}
 use Rattle.std.specs.Option.{option_map_or}
 use Rattle.pid_types.specs.declared.call.Call.{Call}
 use Rattle.pid_types.specs.declared.call.Call.TheVariants.{Fork, GetPid, NsPid, Exec, Exit, Wait, GetPpid, SetPgid, SetSid, MakeControl, RemoveControl, SetLimit, Move, Count, GetPgid, GetSid, Next, Join, SetSubreaper}
@@ -126,11 +127,13 @@ root_state_sound pid_max good = record {
     rows_rise = (λ m none. elim none [ ], tt);
     spaces = record {
       rising = (λ m none. elim none [ ], tt);
+      older = λ s i. elim i [ inl e ↦ subst (λ (t : Space). IfSome t.parent (λ p. p < t.id)) (sym e) tt | inr none ↦ elim none [ ] ];
       root = (_, refl, refl);
       chains = λ s i. elim i [ inl e ↦ subst (λ (t : Space). IsIn 0 (path_up (root_state pid_max).spaces t.id)) (sym e) (inl refl) | inr none ↦ elim none [ ] ];
     };
     controls = record {
       rising = (λ m none. elim none [ ], tt);
+      older = λ c i. elim i [ inl e ↦ subst (λ (d : Control). IfSome d.parent (λ p. p < d.id)) (sym e) tt | inr none ↦ elim none [ ] ];
       root = (_, refl, refl);
       chains = λ c i. elim i [ inl e ↦ subst (λ (d : Control). IsIn 0 (control_path (root_state pid_max).controls d.id)) (sym e) (inl refl) | inr none ↦ elim none [ ] ];
     };

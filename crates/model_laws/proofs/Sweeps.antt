@@ -98,6 +98,7 @@ module _ (state : State) (sound : IsCoherent state) where
   unfolding sweep
   IsTreeOfSpaces-kept = record {
     rising = IsRising-filter (λ s. s.id) (λ s. not (is_dead state s)) state.spaces sound.spaces.rising;
+    older = λ s i. sound.spaces.older s (from_kept state s i).0;
     root = (sound.spaces.root.0, space_at-kept state 0 root_kept ∙ sound.spaces.root.1, sound.spaces.root.2);
     chains = λ s i. let r = from_kept state s i in subst (IsIn 0) (sym (space_path s r.0 r.1)) (sound.spaces.chains s r.0);
   }

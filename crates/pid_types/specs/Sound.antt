@@ -1,5 +1,5 @@
 -- Which states are sound: what is true of the table between any two calls.
-use Rattle.std.specs.Prelude.{◌≡◌, ◌⊎◌, ℕ, ◌<◌, ◌≤◌, true, false, List, [], ◌∷◌, map, length, Some, None, ◌==◌, find, Option}
+use Rattle.std.specs.Prelude.{◌≡◌, ◌⊎◌, ℕ, ◌<◌, ◌≤◌, true, false, List, [], ◌∷◌, map, length, Some, None, ◌==◌, find, Option, IfSome}
 use Rattle.pid_types.specs.declared.plain.Name.{Name}
 use Rattle.pid_types.specs.declared.plain.Row.{Row}
 use Rattle.pid_types.specs.declared.plain.Space.{Space}
@@ -63,9 +63,10 @@ pub record HasGoodGroups (rows : List Row) : Type 0 where
   pub together : (a b : Row) → IsIn a rows → IsIn b rows → a.group ≡ b.group → a.session ≡ b.session
   pub leader : (a b : Row) → IsIn a rows → IsIn b rows → a.group ≡ b.name → a.session ≡ b.session
 
--- the ids rise, the root is there without a parent, and each path ends at it
+-- the ids rise, each is above its parent's, the root is there without a parent, and each path ends at it
 pub record IsTree (X : Type 0) (id : X → ℕ) (parent : X → Option ℕ) (path : ℕ → List ℕ) (xs : List X) : Type 0 where
   pub rising : IsRising (map id xs)
+  pub older : (x : X) → IsIn x xs → IfSome (parent x) (λ p. p < id x)
   pub root : (x : X) × (find (λ y. id y == 0) xs ≡ Some x) × (parent x ≡ None)
   pub chains : (x : X) → IsIn x xs → IsIn 0 (path (id x))
 
