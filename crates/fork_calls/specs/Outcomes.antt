@@ -8,17 +8,30 @@ use Rattle.pid_types.specs.Bounds.{deepest_space}
 use Rattle.pid_types.specs.State.{State}
 use Rattle.pid_types.specs.Names.{level}
 use Rattle.pid_types.specs.Outcome.{Outcome, unless_found}
-use Rattle.pid_types.specs.Fork.{forked, no_room, is_gone}
+use Rattle.pid_types.specs.Fork.{forked, no_room, is_gone, with_space}
 use Rattle.pid_numbers.specs.Numbering.{Numbering, id_at}
+use Rattle.task_tree.specs.declared.Task.{Task}
+use Rattle.task_table.specs.Store.{Store}
+use Rattle.task_table.specs.View.{row_of, state_of}
 
 -- the caller's child in a namespace of the planned state, or why there can be none
 abbrev pub forked_into : State → State → Row → ℕ → Outcome
 forked_into state planned caller t = unless_found state (no_room planned caller t) (λ r. r) (forked planned caller t)
 
+-- the task's child in the namespace for its children
+abbrev pub child_there : Store → ℕ → Task → Outcome
+child_there s key task = forked_into (state_of s) (state_of s) (row_of s key task) task.children_space
+
+-- the task's child in a new namespace below it, whose id is the stamp
+abbrev pub child_below : Store → ℕ → Task → ℕ → Outcome
+child_below s key task stamp =
+    forked_into (state_of s) (with_space (state_of s) task.children_space stamp) (row_of s key task) stamp
+
 -- why a caller whose own namespace is the second one can have no new namespace below the first: it has the deepest level, or is not
 -- the caller's own
 abbrev pub nest_refusal : State → ℕ → ℕ → Option Refusal
-nest_refusal state space own = if nat_le deepest_space (level state.spaces space) then Some TooDeep else (if not (space == own) then Some Elsewhere else None)
+nest_refusal state space own =
+    if nat_le deepest_space (level state.spaces space) then Some TooDeep else (if not (space == own) then Some Elsewhere else None)
 
 -- why the caller can have no child in the namespace for its children, or in a new one below it
 abbrev pub space_refusal : State → Row → Bool → Option Refusal

@@ -13,9 +13,10 @@ ghost use Rattle.pid_types.specs.Outcome.{unless_found};
 ghost use Rattle.pid_types.specs.Names.{level, number_or_zero, root_number};
 ghost use Rattle.pid_types.specs.declared.plain.Life.{Life};
 ghost use Rattle.pid_types.specs.declared.reply.Reply.{Reply};
-ghost use Rattle.fork_calls.specs.Outcomes.{forked_into, nest_refusal as nest_refusal_of, space_refusal, IsKeyOf};
+ghost use Rattle.fork_calls.specs.Outcomes.{child_there, child_below, space_refusal, IsKeyOf};
+ghost use Rattle.fork_calls.specs.Outcomes.{nest_refusal as nest_refusal_of};
 ghost use Rattle.pid_types.specs.Controls.{passed_limit as passed_limit_of};
-ghost use Rattle.pid_types.specs.Fork.{fork as fork_of, forked, is_gone, with_space};
+ghost use Rattle.pid_types.specs.Fork.{fork as fork_of, forked, is_gone};
 ghost use Rattle.pid_types.specs.Sound.{IsBelow};
 ghost use Rattle.pid_types.specs.declared.reply.Refusal.{Refusal};
 ghost use Rattle.pid_types.specs.Short.{reply_of};
@@ -137,12 +138,9 @@ fn fork_planned(
     requires all { find (λ s. is_none (draw_in store.old.numbering s)) (path_at store.old.numbering space) ≡ None }
     requires planned { numbers.now ≡ map (λ s. unwrap_or (draw_in store.old.numbering s) 0)
         (path_at store.old.numbering space) }
-    ensures state { OnOk result (state_of store.new
-        ≡ (forked_into (state_of store.old) (state_of store.old)
-        (row_of store.old found.now.key found.now.task) found.now.task.children_space).state) }
+    ensures state { OnOk result (state_of store.new ≡ (child_there store.old found.now.key found.now.task).state) }
     ensures reply { IfOk result (λ reply. reply_of reply
-        ≡ (forked_into (state_of store.old) (state_of store.old)
-        (row_of store.old found.now.key found.now.task) found.now.task.children_space).reply) }
+        ≡ (child_there store.old found.now.key found.now.task).reply) }
     ensures err { OnErr result (state_of store.new ≡ state_of store.old) }
     ensures parents { HasParents store.new }
 {
@@ -168,12 +166,9 @@ fn fork_into(
     requires live { lives found.now.task ≡ true }
     requires own { id_at store.old.numbering own ≡ Some (name_at store.old.numbering found.now.key).space }
     requires id { id_at store.old.numbering space ≡ Some found.now.task.children_space }
-    ensures state { OnOk result (state_of store.new
-        ≡ (forked_into (state_of store.old) (state_of store.old)
-        (row_of store.old found.now.key found.now.task) found.now.task.children_space).state) }
+    ensures state { OnOk result (state_of store.new ≡ (child_there store.old found.now.key found.now.task).state) }
     ensures reply { IfOk result (λ reply. reply_of reply
-        ≡ (forked_into (state_of store.old) (state_of store.old)
-        (row_of store.old found.now.key found.now.task) found.now.task.children_space).reply) }
+        ≡ (child_there store.old found.now.key found.now.task).reply) }
     ensures err { OnErr result (state_of store.new ≡ state_of store.old) }
     ensures parents { HasParents store.new }
 {
@@ -193,12 +188,9 @@ fn fork_into_root(store: &mut Tasks, found: &Found, own: SpaceKey) -> Result<Sho
     requires live { lives found.now.task ≡ true }
     requires own { id_at store.old.numbering own ≡ Some (name_at store.old.numbering found.now.key).space }
     requires id { id_at store.old.numbering 0 ≡ Some found.now.task.children_space }
-    ensures state { OnOk result (state_of store.new
-        ≡ (forked_into (state_of store.old) (state_of store.old)
-        (row_of store.old found.now.key found.now.task) found.now.task.children_space).state) }
+    ensures state { OnOk result (state_of store.new ≡ (child_there store.old found.now.key found.now.task).state) }
     ensures reply { IfOk result (λ reply. reply_of reply
-        ≡ (forked_into (state_of store.old) (state_of store.old)
-        (row_of store.old found.now.key found.now.task) found.now.task.children_space).reply) }
+        ≡ (child_there store.old found.now.key found.now.task).reply) }
     ensures err { OnErr result (state_of store.new ≡ state_of store.old) }
     ensures parents { HasParents store.new }
 {
@@ -230,11 +222,9 @@ fn fork_new_planned(
     requires planned { numbers.now ≡ 1 ∷ map (λ s. unwrap_or (draw_in store.old.numbering s) 0)
         (path_at store.old.numbering own) }
     ensures state { OnOk result (state_of store.new
-        ≡ (forked_into (state_of store.old) (with_space (state_of store.old) found.now.task.children_space stamp)
-        (row_of store.old found.now.key found.now.task) stamp).state) }
+        ≡ (child_below store.old found.now.key found.now.task stamp).state) }
     ensures reply { IfOk result (λ reply. reply_of reply
-        ≡ (forked_into (state_of store.old) (with_space (state_of store.old) found.now.task.children_space stamp)
-        (row_of store.old found.now.key found.now.task) stamp).reply) }
+        ≡ (child_below store.old found.now.key found.now.task stamp).reply) }
     ensures err { OnErr result (state_of store.new ≡ state_of store.old) }
     ensures parents { HasParents store.new }
 {
@@ -265,11 +255,9 @@ fn fork_inside(
     requires stands { is_gone (state_of store.old) found.now.task.children_space ≡ false }
     requires shallow { nat_le deepest_space (level (state_of store.old).spaces found.now.task.children_space) ≡ false }
     ensures state { OnOk result (state_of store.new
-        ≡ (forked_into (state_of store.old) (with_space (state_of store.old) found.now.task.children_space stamp)
-        (row_of store.old found.now.key found.now.task) stamp).state) }
+        ≡ (child_below store.old found.now.key found.now.task stamp).state) }
     ensures reply { IfOk result (λ reply. reply_of reply
-        ≡ (forked_into (state_of store.old) (with_space (state_of store.old) found.now.task.children_space stamp)
-        (row_of store.old found.now.key found.now.task) stamp).reply) }
+        ≡ (child_below store.old found.now.key found.now.task stamp).reply) }
     ensures err { OnErr result (state_of store.new ≡ state_of store.old) }
     ensures parents { HasParents store.new }
 {

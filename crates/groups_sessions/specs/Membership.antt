@@ -33,7 +33,8 @@ AreInSession members group session = (k : ℕ) → group_of members k ≡ Some g
 
 -- the session of those who are in the group; none where nobody is
 abbrev pub IsSessionOf : List (Option Membership) → ℕ → Option ℕ → Type 0
-IsSessionOf members group session = MatchOption session ((k : ℕ) → group_of members k ≢ Some group) (λ s. HasMembers members group × AreInSession members group s)
+IsSessionOf members group session =
+    MatchOption session ((k : ℕ) → group_of members k ≢ Some group) (λ s. HasMembers members group × AreInSession members group s)
 
 -- what those who are in a group are in, where each group has its session
 abbrev pub membership_in : List ℕ → ℕ → Membership

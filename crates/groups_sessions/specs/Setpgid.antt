@@ -21,7 +21,8 @@ session_group members numbers session space n =
 -- the group that the number names for the target: 0 and the target's own number are its own identifier
 abbrev pub group_for : List (Option Membership) → Numbering → GroupAsk → Target → ℤ → Option ℕ
 group_for members numbers ask target (pos n) =
-    if (n == 0) || is_numbered numbers target.ident ask.space n then Some target.ident else session_group members numbers ask.session ask.space n
+    if (n == 0) || is_numbered numbers target.ident ask.space n then Some target.ident
+    else session_group members numbers ask.session ask.space n
 group_for members numbers ask target (negsuc n) = None
 
 -- the refusal where the test holds, else the other one
@@ -40,8 +41,10 @@ target_refusal ask target =
 
 -- the group for the target, or the refusal: at last EPERM for a group that is not there
 abbrev pub answer_for : List (Option Membership) → Numbering → GroupAsk → Target → Result ℕ Refusal
-answer_for members numbers ask target = option_map_or Err (target_refusal ask target) (ok_or (group_for members numbers ask target ask.pgid) NoGroup)
+answer_for members numbers ask target =
+    option_map_or Err (target_refusal ask target) (ok_or (group_for members numbers ask target ask.pgid) NoGroup)
 
 -- the same from the start: EINVAL for a negative group, ESRCH where nobody is the target
 abbrev pub setpgid_answer : List (Option Membership) → Numbering → GroupAsk → Result ℕ Refusal
-setpgid_answer members numbers ask = if is_negative ask.pgid then Err BadGroup else option_map_or (answer_for members numbers ask) ask.target (Err NoTask)
+setpgid_answer members numbers ask =
+    if is_negative ask.pgid then Err BadGroup else option_map_or (answer_for members numbers ask) ask.target (Err NoTask)

@@ -42,14 +42,16 @@ FallCountsTaken =
     (state : State) (stamp n status : ℕ) (init : Row)
     → live_row state.rows n ≡ Some init → is_init state init ≡ true → (step state stamp (Exit n status)).reply ≡ Done
     → (c : ℕ) → count state c
-    ≡ count (step state stamp (Exit n status)).state c + length (filter (λ row. goes_in_fall state init row && is_below state.controls row.home c) state.rows)
+    ≡ count (step state stamp (Exit n status)).state c
+    + length (filter (λ row. goes_in_fall state init row && is_below state.controls row.home c) state.rows)
 
 -- a move counts one less from the old home to the root, and one more from the new home to the root
 abbrev pub MoveCountsBoth : Type 0
 MoveCountsBoth =
     (state : State) (stamp n id : ℕ) (task : Row)
     → IsSound state → live_row state.rows n ≡ Some task → (step state stamp (Move n id)).reply ≡ Done
-    → (c : ℕ) → count (step state stamp (Move n id)).state c + one_if (is_below state.controls task.home c) ≡ count state c + one_if (is_below state.controls id c)
+    → (c : ℕ) → count (step state stamp (Move n id)).state c + one_if (is_below state.controls task.home c)
+    ≡ count state c + one_if (is_below state.controls id c)
 
 -- whether the call is a fork, a wait, a move or an exit by which a namespace falls
 abbrev pub may_change_counts : State → Call → Bool

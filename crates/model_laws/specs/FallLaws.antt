@@ -33,18 +33,22 @@ pub record HasFallen (state after : State) (init : Row) (status : ℕ) : Type 0 
   -- nobody outside changes
   pub outside : (row : Row) → IsIn row state.rows → (IsMember state init.name.space row → ⊥) → IsIn row after.rows
   -- another member whose parent is a member is gone
-  pub gone : (row : Row) → IsOtherMember state init row → HasMemberParent state init.name.space row → (r : Row) → IsIn r after.rows → r.name ≡ row.name → ⊥
+  pub gone : (row : Row) → IsOtherMember state init row → HasMemberParent state init.name.space row → (r : Row) → IsIn r after.rows
+      → r.name ≡ row.name → ⊥
   -- one whose parent is outside is killed, if it lived
   pub killed : (row : Row) → IsOtherMember state init row → (HasMemberParent state init.name.space row → ⊥) → is_live row ≡ true
       → IsIn (record row { life = Zombie Killed }) after.rows
   -- and keeps its own end, if it had ended
-  pub ended : (row : Row) → IsOtherMember state init row → (HasMemberParent state init.name.space row → ⊥) → is_live row ≡ false → IsIn row after.rows
+  pub ended : (row : Row) → IsOtherMember state init row → (HasMemberParent state init.name.space row → ⊥) → is_live row ≡ false
+      → IsIn row after.rows
   -- nobody comes
   pub nobody_new : (r : Row) → IsIn r after.rows → (row : Row) × IsIn row state.rows × (row.name ≡ r.name)
   -- the namespace has fallen, with all below it
-  pub below : (s t : Space) → IsIn s state.spaces → IsIn init.name.space (path_up state.spaces s.id) → IsIn t after.spaces → t.id ≡ s.id → t.fallen ≡ true
+  pub below : (s t : Space) → IsIn s state.spaces → IsIn init.name.space (path_up state.spaces s.id) → IsIn t after.spaces → t.id ≡ s.id
+      → t.fallen ≡ true
   -- every other namespace that stood stands
-  pub standing : (s : Space) → IsIn s state.spaces → (IsIn init.name.space (path_up state.spaces s.id) → ⊥) → s.fallen ≡ false → IsIn s after.spaces
+  pub standing : (s : Space) → IsIn s state.spaces → (IsIn init.name.space (path_up state.spaces s.id) → ⊥) → s.fallen ≡ false
+      → IsIn s after.spaces
   -- no control group changes
   pub controls : after.controls ≡ state.controls
 

@@ -5,7 +5,7 @@ use Rattle.pid_types.specs.declared.call.Kind.TheVariants.{Task, Group}
 use Rattle.pid_types.specs.declared.reply.Reply.TheVariants.{Forked, Number, Levels as LevelList, End, Refused}
 use Rattle.pid_types.specs.declared.reply.Refusal.TheVariants.{NoCaller, NoTask}
 use Rattle.pid_types.specs.State.{root_state, root_init, root_name}
-use Rattle.model_laws.specs.Script.{AnswersScript, SeesAlike, EndsSound}
+use Rattle.model_laws.specs.Script.{AnswersScript, SeesAlike, EndsSound, named}
 
 -- a fork, and the number of the new task
 abbrev pub ForkAndGetPid : Type 0
@@ -33,8 +33,19 @@ ForkIntoNewSpace = AnswersScript 32768 ((Fork 1 true, Forked 2 2) ∷
 
 -- the state that it ends in, which is sound
 abbrev pub ForkIntoNewSpaceEnd : Type 0
-ForkIntoNewSpaceEnd = EndsSound 32768 (Fork 1 true ∷ Fork 2 false ∷ NsPid 1 3 ∷ NsPid 2 2 ∷ NsPid 2 3 ∷ GetPpid 2 ∷ GetPgid 2 0 ∷ GetSid 1 3 ∷ [])
-    (record (root_state 32768) { rows = root_init ∷ record root_init { name = record { space = 1; numbers = record { items = 2 ∷ 1 ∷ [] } }; parent = Some root_name; children_space = 1 } ∷ record root_init { name = record { space = 1; numbers = record { items = 3 ∷ 2 ∷ [] } }; parent = Some (record { space = 1; numbers = record { items = 2 ∷ 1 ∷ [] } }); children_space = 1 } ∷ []; spaces = record { id = 0; parent = None; cursor = 4; fallen = false } ∷ record { id = 1; parent = Some 0; cursor = 3; fallen = false } ∷ [] })
+ForkIntoNewSpaceEnd =
+    EndsSound 32768 (Fork 1 true ∷ Fork 2 false ∷ NsPid 1 3 ∷ NsPid 2 2 ∷ NsPid 2 3 ∷ GetPpid 2 ∷ GetPgid 2 0 ∷ GetSid 1 3 ∷ [])
+    (record (root_state 32768) {
+      rows =
+          root_init
+          ∷ record root_init { name = named 1 (2 ∷ 1 ∷ []); parent = Some root_name; children_space = 1 }
+          ∷ record root_init { name = named 1 (3 ∷ 2 ∷ []); parent = Some (named 1 (2 ∷ 1 ∷ [])); children_space = 1 }
+          ∷ [];
+      spaces =
+          record { id = 0; parent = None; cursor = 4; fallen = false }
+          ∷ record { id = 1; parent = Some 0; cursor = 3; fallen = false }
+          ∷ [];
+    })
 
 -- what a namespace sees where its init is task 2
 abbrev pub OneWorld : Type 0

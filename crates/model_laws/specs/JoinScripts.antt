@@ -6,7 +6,7 @@ use Rattle.pid_types.specs.declared.plain.Ended.TheVariants.{Exited, Killed}
 use Rattle.pid_types.specs.declared.reply.Reply.TheVariants.{Forked, Done, Number, Levels as LevelList, Reaped, Refused}
 use Rattle.pid_types.specs.declared.reply.Refusal.TheVariants.{NoTask, SpaceFallen, Elsewhere}
 use Rattle.pid_types.specs.State.{root_state, root_init, root_name}
-use Rattle.model_laws.specs.Script.{AnswersScript, EndsSound}
+use Rattle.model_laws.specs.Script.{AnswersScript, EndsSound, named}
 
 -- children below their parent's namespace, and its fall
 abbrev pub JoinAndFall : Type 0
@@ -28,8 +28,17 @@ JoinAndFall = AnswersScript 32768 ((Fork 1 false, Forked 2 2) ∷
 
 -- the state that it ends in, which is sound
 abbrev pub JoinAndFallEnd : Type 0
-JoinAndFallEnd = EndsSound 32768 (Fork 1 false ∷ Fork 2 true ∷ Fork 3 false ∷ Join 2 3 ∷ Fork 2 false ∷ NsPid 1 5 ∷ GetPpid 5 ∷ Exit 3 0 ∷ Fork 2 false ∷ Fork 2 true ∷ Wait 2 Any ∷ Wait 2 Any ∷ Fork 2 false ∷ Join 2 1 ∷ Fork 2 false ∷ [])
-    (record (root_state 32768) { rows = root_init ∷ record root_init { name = record { space = 0; numbers = record { items = 2 ∷ [] } }; parent = Some root_name } ∷ record root_init { name = record { space = 0; numbers = record { items = 6 ∷ [] } }; parent = Some (record { space = 0; numbers = record { items = 2 ∷ [] } }) } ∷ []; spaces = record { id = 0; parent = None; cursor = 7; fallen = false } ∷ [] })
+JoinAndFallEnd =
+    EndsSound 32768 (Fork 1 false ∷ Fork 2 true ∷ Fork 3 false ∷ Join 2 3 ∷ Fork 2 false ∷ NsPid 1 5 ∷ GetPpid 5 ∷ Exit 3 0 ∷ Fork 2 false
+    ∷ Fork 2 true ∷ Wait 2 Any ∷ Wait 2 Any ∷ Fork 2 false ∷ Join 2 1 ∷ Fork 2 false ∷ [])
+    (record (root_state 32768) {
+      rows =
+          root_init
+          ∷ record root_init { name = named 0 (2 ∷ []); parent = Some root_name }
+          ∷ record root_init { name = named 0 (6 ∷ []); parent = Some (named 0 (2 ∷ [])) }
+          ∷ [];
+      spaces = record { id = 0; parent = None; cursor = 7; fallen = false } ∷ [];
+    })
 
 -- a children's namespace that was dropped
 abbrev pub NoForkIntoDropped : Type 0

@@ -22,4 +22,6 @@ ForkKeepsLimits =
 
 -- in every run from a sound opening each fork leaves the counts from the new task's home to the root within their limits
 abbrev pub RunsKeepLimits : Type 0
-RunsKeepLimits = (opening : State) (first : ℕ) (entries : List Entry) → IsSound opening → IsBelow first opening → ForksStayWithinLimits opening first entries
+RunsKeepLimits =
+    (opening : State) (first : ℕ) (entries : List Entry) → IsSound opening → IsBelow first opening
+    → ForksStayWithinLimits opening first entries

@@ -35,7 +35,8 @@ pub record TakesOrphans (state : State) (task heir : Row) : Type 0 where
   pub there : IsIn heir state.rows
   pub lives : is_live heir ≡ true
   pub beside : heir.name.space ≡ task.name.space
-  pub who : IsNearestSubreaper state.rows heir task ⊎ (HasNoSubreaper state.rows task × (number state.spaces heir.name task.name.space ≡ Some 1))
+  pub who : IsNearestSubreaper state.rows heir task
+      ⊎ (HasNoSubreaper state.rows task × (number state.spaces heir.name task.name.space ≡ Some 1))
 
 -- the new parent of the children of a live task that is no init is the one who takes orphans
 abbrev pub NewParentIsNearest : Type 0

@@ -38,17 +38,20 @@ PathsAreChains =
 -- the control group is c itself, or its parent is in the subtree of c
 pub data IsInSubtree (controls : List Control) (c : ℕ) : ℕ → Type 0 where
   itself : IsInSubtree controls c c
-  child : (g : Control) (parent : ℕ) → IsIn g controls → g.parent ≡ Some parent → IsInSubtree controls c parent → IsInSubtree controls c g.id
+  child : (g : Control) (parent : ℕ) → IsIn g controls → g.parent ≡ Some parent → IsInSubtree controls c parent
+      → IsInSubtree controls c g.id
 
 -- the test passes just the tasks whose home is in the subtree of c
 abbrev pub TellsSubtree : State → ℕ → (Row → Bool) → Type 0
 TellsSubtree state c test =
-    (row : Row) → IsIn row state.rows → (test row ≡ true → IsInSubtree state.controls c row.home) × (IsInSubtree state.controls c row.home → test row ≡ true)
+    (row : Row) → IsIn row state.rows
+    → (test row ≡ true → IsInSubtree state.controls c row.home) × (IsInSubtree state.controls c row.home → test row ≡ true)
 
 -- in a sound state a control group's count is the number of tasks whose home is in its subtree, by whatever test that is told
 abbrev pub CountIsOfSubtree : Type 0
 CountIsOfSubtree =
-    (state : State) (c : ℕ) (test : Row → Bool) → IsSound state → TellsSubtree state c test → count state c ≡ length (filter test state.rows)
+    (state : State) (c : ℕ) (test : Row → Bool) → IsSound state → TellsSubtree state c test
+    → count state c ≡ length (filter test state.rows)
 
 -- there is such a test: whether the control group is on the path of the task's home
 abbrev pub SubtreeIsTold : Type 0
@@ -60,7 +63,8 @@ abbrev pub CountsSubtrees : State → ℕ → Type 0
 CountsSubtrees state stamp =
     (g : Control) (test : Row → Bool) → IsIn g state.controls → TellsSubtree state g.id test
     → ((step state stamp (Count g.id)).reply ≡ Counted (length (filter test state.rows)))
-    × ((plain : Plain) → Shows state plain → (c : ControlRow) → IsIn c plain.controls.items → c.id ≡ g.id → c.count ≡ length (filter test state.rows))
+    × ((plain : Plain) → Shows state plain → (c : ControlRow) → IsIn c plain.controls.items → c.id ≡ g.id
+    → c.count ≡ length (filter test state.rows))
 
 -- so it is in every sound state
 abbrev pub CountsAreOfSubtrees : Type 0

@@ -78,13 +78,15 @@ NamesTarget state caller target n = (n ≡ 0) ⊎ (number state.spaces target.na
 -- the group with the number in the caller's namespace, which some task of the caller's session is in
 abbrev pub IsSessionGroup : State → Row → ℕ → Name → Type 0
 IsSessionGroup state caller n group =
-    (row : Row) × IsIn row state.rows × (row.session ≡ caller.session) × (row.group ≡ group) × (number state.spaces group caller.name.space ≡ Some n)
+    (row : Row) × IsIn row state.rows × (row.session ≡ caller.session) × (row.group ≡ group)
+    × (number state.spaces group caller.name.space ≡ Some n)
 
 -- the group that the target is to go into: setpgid(2), "If pgid is zero, then the PGID of the process specified by pid is made the
 -- same as its process ID"
 abbrev pub IsGroupFor : State → Row → Row → ℤ → Name → Type 0
 IsGroupFor state caller target (pos n) group =
-    (NamesTarget state caller target n × (group ≡ target.name)) ⊎ ((NamesTarget state caller target n → ⊥) × IsSessionGroup state caller n group)
+    (NamesTarget state caller target n × (group ≡ target.name))
+    ⊎ ((NamesTarget state caller target n → ⊥) × IsSessionGroup state caller n group)
 IsGroupFor state caller target (negsuc n) group = ⊥
 
 -- the namespace with the id
@@ -98,7 +100,8 @@ IsControl state id c = IsIn c state.controls × (c.id ≡ id)
 -- a live task or a control group is directly in the control group
 abbrev pub IsBusy : State → ℕ → Type 0
 IsBusy state id =
-    ((row : Row) × IsIn row state.rows × (row.home ≡ id) × (is_live row ≡ true)) ⊎ ((c : Control) × IsIn c state.controls × (c.parent ≡ Some id))
+    ((row : Row) × IsIn row state.rows × (row.home ≡ id) × (is_live row ≡ true))
+    ⊎ ((c : Control) × IsIn c state.controls × (c.parent ≡ Some id))
 
 -- ---- the refusals of each call
 
@@ -148,17 +151,21 @@ verdict state stamp (NsPid caller target) = by_live state caller (λ row. find_o
 verdict state stamp (Exec caller) = by_live state caller (λ row. goes_on)
 verdict state stamp (Exit caller status) = by_live state caller (λ row. refuse (root_number row.name ≡ 1) RootInit goes_on)
 verdict state stamp (Wait caller which) =
-    by_live state caller (λ row. find_one (λ child. IsIn child state.rows × IsChild row child × IsSelected state row which child) NoChild (λ child. goes_on))
+    by_live state caller (λ row.
+    find_one (λ child. IsIn child state.rows × IsChild row child × IsSelected state row which child) NoChild (λ child. goes_on))
 verdict state stamp (GetPpid caller) = by_live state caller (λ row. goes_on)
 verdict state stamp (SetPgid caller pid pgid) =
     by_live state caller (λ row.
     refuse ((n : ℕ) × (pgid ≡ negsuc n)) BadGroup
     (find_one (IsTarget state row pid) NoTask (changes_group state row pgid)))
-verdict state stamp (SetSid caller) = by_live state caller (λ row. refuse ((r : Row) × IsIn r state.rows × (r.group ≡ row.name)) IsLeader goes_on)
+verdict state stamp (SetSid caller) =
+    by_live state caller (λ row. refuse ((r : Row) × IsIn r state.rows × (r.group ≡ row.name)) IsLeader goes_on)
 verdict state stamp (MakeControl parent) =
-    find_one (IsControl state parent) NoControl (λ c. refuse (deepest_control < length (control_path state.controls parent)) ControlDepth goes_on)
+    find_one (IsControl state parent) NoControl (λ c.
+    refuse (deepest_control < length (control_path state.controls parent)) ControlDepth goes_on)
 verdict state stamp (RemoveControl id) =
-    find_one (IsControl state id) NoControl (λ c. find_one (λ parent. c.parent ≡ Some parent) RootControl (λ parent. refuse (IsBusy state id) ControlBusy goes_on))
+    find_one (IsControl state id) NoControl (λ c.
+    find_one (λ parent. c.parent ≡ Some parent) RootControl (λ parent. refuse (IsBusy state id) ControlBusy goes_on))
 verdict state stamp (SetLimit id limit) =
     find_one (IsControl state id) NoControl (λ c.
     find_one (λ parent. c.parent ≡ Some parent) RootControl (λ parent.
@@ -170,7 +177,8 @@ verdict state stamp (GetPgid caller pid) = by_live state caller (λ row. find_on
 verdict state stamp (GetSid caller pid) = by_live state caller (λ row. find_one (IsSelfOrTask state row pid) NoTask (λ task. goes_on))
 verdict state stamp (Next caller kind from) = by_live state caller (λ row. goes_on)
 verdict state stamp (Join caller target) =
-    by_live state caller (λ row. find_one (λ task. IsTaskTo state row target task) NoTask (λ task. refuse (is_live task ≡ false) NoTask goes_on))
+    by_live state caller (λ row.
+    find_one (λ task. IsTaskTo state row target task) NoTask (λ task. refuse (is_live task ≡ false) NoTask goes_on))
 verdict state stamp (SetSubreaper caller on) = by_live state caller (λ row. goes_on)
 
 -- the refusal that the reply is, if it is one
@@ -196,7 +204,8 @@ is_query _ = false
 -- a refused call changes nothing, no cursor either
 abbrev pub RefusalChangesNothing : Type 0
 RefusalChangesNothing =
-    (state : State) (stamp : ℕ) (call : Call) (r : Refusal) → (step state stamp call).reply ≡ Refused r → (step state stamp call).state ≡ state
+    (state : State) (stamp : ℕ) (call : Call) (r : Refusal) → (step state stamp call).reply ≡ Refused r
+    → (step state stamp call).state ≡ state
 
 -- a query changes nothing
 abbrev pub QueryChangesNothing : Type 0

@@ -1,5 +1,6 @@
 -- Scripts: calls, each with its answer, made one after another from the root state on.
 use Rattle.std.specs.Prelude.{◌≡◌, ℕ, List, map}
+use Rattle.pid_types.specs.declared.plain.Name.{Name}
 use Rattle.pid_types.specs.declared.call.Call.{Call}
 use Rattle.pid_types.specs.declared.reply.Reply.{Reply}
 use Rattle.pid_types.specs.State.{State, root_state}
@@ -14,6 +15,10 @@ AnswersScript pid_max lines = replies (root_state pid_max) 1 (map (λ l. l.0) li
 -- after the one calls the one namespace sees what the other namespace sees after the others
 abbrev pub SeesAlike : List Call → ℕ → List Call → ℕ → Type 0
 SeesAlike calls s others t = sight (state_after (root_state 32768) 1 calls) s ≡ sight (state_after (root_state 32768) 1 others) t
+
+-- the name in the namespace that has these numbers, the root's first
+abbrev pub named : ℕ → List ℕ → Name
+named space numbers = record { space = space; numbers = record { items = numbers } }
 
 -- the calls end in the state, and it is sound
 pub record EndsSound (pid_max : ℕ) (calls : List Call) (end : State) : Type 0 where

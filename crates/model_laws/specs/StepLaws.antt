@@ -12,7 +12,8 @@ use Rattle.pid_types.specs.Sound.{IsSound, IsBelow}
 
 -- the state that a table begins with is sound, and its ids are below the first stamp
 abbrev pub RootStateIsSound : Type 0
-RootStateIsSound = (pid_max first : ℕ) → HasGoodPidMax pid_max → 0 < first → IsSound (root_state pid_max) × IsBelow first (root_state pid_max)
+RootStateIsSound =
+    (pid_max first : ℕ) → HasGoodPidMax pid_max → 0 < first → IsSound (root_state pid_max) × IsBelow first (root_state pid_max)
 
 -- every call leaves a sound state, whose ids are below the next stamp
 abbrev pub StepKeepsSoundness : Type 0

@@ -21,7 +21,8 @@ pub record IsReaped (state : State) (caller : Row) (which : Which) (n : ℕ) (en
   pub selected : MayBeReaped state caller which row
   pub life : row.life ≡ Zombie ended
   pub number : number_or_zero state.spaces row.name caller.name.space ≡ n
-  pub least : (other : Row) → MayBeReaped state caller which other → is_live other ≡ false → n ≤ number_or_zero state.spaces other.name caller.name.space
+  pub least : (other : Row) → MayBeReaped state caller which other → is_live other ≡ false
+      → n ≤ number_or_zero state.spaces other.name caller.name.space
 
 -- what a wait reaps is that child
 abbrev pub WaitReapsLeast : Type 0

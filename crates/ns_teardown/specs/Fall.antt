@@ -72,4 +72,5 @@ is_passed b space cursor k = option_map_or (λ n. nat_lt n cursor) (number_of b 
 
 -- what is at a key when the walk over the members has come to the cursor
 abbrev pub slot_midway : Store → ℕ → ℕ → ℕ → ℕ → ℕ → Slot
-slot_midway s space init status cursor k = if is_passed s.numbering space cursor k then slot_after_fall s space init status k else slot_at s k
+slot_midway s space init status cursor k =
+    if is_passed s.numbering space cursor k then slot_after_fall s space init status k else slot_at s k

@@ -20,14 +20,18 @@ pub record HasGoodTasks (s : Store) : Type 0 where
   -- a parent is a task
   pub parents : HasParents s
   -- in the child's namespace or around it
-  pub around : (k p : ℕ) (u v : Identifier) → parent_of s.tree k ≡ Some p → identifier_at s.numbering k ≡ Some u → identifier_at s.numbering p ≡ Some v
+  pub around : (k p : ℕ) (u v : Identifier) → parent_of s.tree k ≡ Some p → identifier_at s.numbering k ≡ Some u
+      → identifier_at s.numbering p ≡ Some v
       → contains (path_at s.numbering u.space) v.space ≡ true
   -- and outside it if the child is its init
-  pub outside : (k p : ℕ) (u v : Identifier) → parent_of s.tree k ≡ Some p → identifier_at s.numbering k ≡ Some u → identifier_at s.numbering p ≡ Some v
+  pub outside : (k p : ℕ) (u v : Identifier) → parent_of s.tree k ≡ Some p → identifier_at s.numbering k ≡ Some u
+      → identifier_at s.numbering p ≡ Some v
       → number_of s.numbering k u.space ≡ Some 1 → v.space ≢ u.space
   -- the climb from each task on ends at one that has no parent
-  pub chain : (k : ℕ) → IsSome (task_at s.tree k) → (a : ℕ) × (contains (climb (parent_of s.tree) (length s.tree.tasks) k) a ≡ true) × (parent_of s.tree a ≡ None)
+  pub chain : (k : ℕ) → IsSome (task_at s.tree k) → (a : ℕ) × (contains (climb (parent_of s.tree) (length s.tree.tasks) k) a ≡ true)
+      × (parent_of s.tree a ≡ None)
   -- a namespace that has not fallen has an init
   pub inits : (n : ℕ) (t : Namespace) → namespace_at s.numbering n ≡ Some t → t.fallen ≡ false → HasInit s n
   -- nothing lives in one that has
-  pub emptied : (n k : ℕ) (t : Task) → has_fallen_at s.numbering n ≡ true → task_at s.tree k ≡ Some t → lives t ≡ true → number_of s.numbering k n ≡ None
+  pub emptied : (n k : ℕ) (t : Task) → has_fallen_at s.numbering n ≡ true → task_at s.tree k ≡ Some t → lives t ≡ true
+      → number_of s.numbering k n ≡ None

@@ -78,7 +78,8 @@ pub record AreRead (holds : List ℕ → Option (List ℕ) → Type 0) (names : 
 abbrev pub FailsToReadFile : (List ℕ → Option (List ℕ) → Type 0) → String Global → Fault → Type 0
 FailsToReadFile holds name fault =
     (fault ≡ Unreadable name)
-    ⊎ ((cause : JobFault) × (fault ≡ of_job name cause) × (from to : Option (List ℕ)) × (failed : Bool) × holds (string_bytes name) from × Refuses from to failed cause)
+    ⊎ ((cause : JobFault) × (fault ≡ of_job name cause) × (from to : Option (List ℕ)) × (failed : Bool) × holds (string_bytes name) from
+    × Refuses from to failed cause)
 
 -- the fault is that of one of the files, and all before it were read
 pub record FailsInFile (holds : List ℕ → Option (List ℕ) → Type 0) (names : List (String Global)) (fault : Fault) : Type 0 where
@@ -103,7 +104,8 @@ abbrev pub WritesRun : (List ℕ → Option (List ℕ) → Type 0) → Settings 
 WritesRun holds settings names before after = (text : List ℕ) × RunsFiles holds settings names text × Appends before after text
 
 -- there was no such text, and nothing was written; or it could not be written
-abbrev pub FailsToWriteRun : (List ℕ → Option (List ℕ) → Type 0) → Settings → List (String Global) → Option (List ℕ) → Option (List ℕ) → Fault → Type 0
+abbrev pub FailsToWriteRun : (List ℕ → Option (List ℕ) → Type 0) → Settings → List (String Global) → Option (List ℕ) → Option (List ℕ)
+    → Fault → Type 0
 FailsToWriteRun holds settings names before after fault =
     ((FailsToRead holds names fault ⊎ ((cause : RunFault) × (fault ≡ of_run cause))) × (after ≡ before))
     ⊎ ((fault ≡ Write) × (text : List ℕ) × RunsFiles holds settings names text)
@@ -118,7 +120,8 @@ Does holds (command.Work settings files) from before after = WritesRun holds set
 abbrev pub Stops : ℕ → (List ℕ → Option (List ℕ) → Type 0) → Command → Option (List ℕ) → Option (List ℕ) → Option (List ℕ) → Fault → Type 0
 Stops turns holds (command.Run settings) from before after fault = FailsToRunInput turns settings from before after fault
 Stops turns holds (command.List settings) from before after fault = FailsToWriteList turns settings from before after fault
-Stops turns holds (command.Work settings files) from before after fault = FailsToWriteRun holds settings files.names.items before after fault
+Stops turns holds (command.Work settings files) from before after fault =
+    FailsToWriteRun holds settings files.names.items before after fault
 
 -- it stopped, or it did what it is for and the writer could not be flushed
 abbrev pub Fails : ℕ → (List ℕ → Option (List ℕ) → Type 0) → Command → Option (List ℕ) → Option (List ℕ) → Option (List ℕ) → Fault → Type 0
@@ -126,14 +129,16 @@ Fails turns holds asked from before after fault =
     Stops turns holds asked from before after fault ⊎ ((fault ≡ Write) × Does holds asked from before after)
 
 -- why a run of words failed: there was no memory to read them, and nothing was written; or the command that they ask for failed
-abbrev pub FailsWords : ℕ → (List ℕ → Option (List ℕ) → Type 0) → Result Command WordsFault → Option (List ℕ) → Option (List ℕ) → Option (List ℕ) → Fault → Type 0
+abbrev pub FailsWords : ℕ → (List ℕ → Option (List ℕ) → Type 0) → Result Command WordsFault → Option (List ℕ) → Option (List ℕ)
+    → Option (List ℕ) → Fault → Type 0
 FailsWords turns holds answer from before after fault =
     ((answer ≡ Err words.NoMemory) × (fault ≡ NoMemory) × (after ≡ before))
     ⊎ ((asked : Command) × (answer ≡ Ok asked) × Fails turns holds asked from before after fault)
 
 -- how words end that were read as this answer: the command is done, and nothing is said; or it failed, and the fault's line is said; or
 -- the words are no command, nothing is written, and the usage line is said
-abbrev pub Ends : ℕ → (List ℕ → Option (List ℕ) → Type 0) → Result Command WordsFault → Option (List ℕ) → Option (List ℕ) → Option (List ℕ) → Type 0 → (List ℕ → Type 0) → Status → Type 0
+abbrev pub Ends : ℕ → (List ℕ → Option (List ℕ) → Type 0) → Result Command WordsFault → Option (List ℕ) → Option (List ℕ)
+    → Option (List ℕ) → Type 0 → (List ℕ → Type 0) → Status → Type 0
 Ends turns holds answer from before after quiet says Done =
     (asked : Command) × (answer ≡ Ok asked) × Does holds asked from before after × quiet
 Ends turns holds answer from before after quiet says Failed =

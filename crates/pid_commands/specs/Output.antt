@@ -50,7 +50,8 @@ pub record ShowsRun (settings : Settings) (jobs : List (Vec Call Global)) (text 
   pub promised : KeepsPromise kept
   pub whole : kept.first_kept ≡ 0
   pub many : length works ≡ length jobs
-  pub done : (w : ℕ) (d : Work) (j : Vec Call Global) → w < length jobs → Fulfils (slice_index_or jobs w j).items (slice_index_or works w d).receipts.items (slice_index_or works w d).refused
+  pub done : (w : ℕ) (d : Work) (j : Vec Call Global) → w < length jobs
+      → Fulfils (slice_index_or jobs w j).items (slice_index_or works w d).receipts.items (slice_index_or works w d).refused
   pub audited : IsAudited (length jobs) kept works
   pub shown : Shows kept.present plain
   pub told : text ≡ works_text 0 works ++ list_of plain

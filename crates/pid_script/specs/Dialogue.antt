@@ -94,7 +94,8 @@ EndsBy turns start (Some fault.TooManyTurns) events =
     AreWell events × (list_any is_end events ≡ false) × (length (readings events) ≡ turns) × IsAnswered start events
 
 -- what a script did with its devices, from the first event to the last
-pub record Converses {T : Type 0} (turns : ℕ) (start : Progress) (did : List Event → Type 0) (result : Result T RunScriptFault) : Type 0 where
+pub record Converses
+    {T : Type 0} (turns : ℕ) (start : Progress) (did : List Event → Type 0) (result : Result T RunScriptFault) : Type 0 where
   pub events : List Event
   pub done : did events
   pub each : Each (Follows start) [] events

@@ -57,7 +57,8 @@ relatives_text row =
 -- its life, and its marks
 unfoldable pub marks_text : Row → List ℕ
 marks_text row =
-    codes " " ++ life_text row.life ++ marked row.executed (codes " executed") ++ children_text row ++ marked row.subreaper (codes " subreaper")
+    codes " " ++ life_text row.life ++ marked row.executed (codes " executed") ++ children_text row
+    ++ marked row.subreaper (codes " subreaper")
 
 -- the line of a task
 abbrev pub task_line : Row → List ℕ

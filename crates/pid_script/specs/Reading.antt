@@ -155,7 +155,8 @@ next_of words = do
 unfoldable pub limit_of : List ℕ → Option Call
 limit_of words = do
   id ← number_then (2 ^ 64) words
-  if is_word (codes "max") id.1 then Some (SetLimit id.0 None) else option_map (λ limit. SetLimit id.0 (Some limit)) (number_below (2 ^ 32) id.1)
+  if is_word (codes "max") id.1 then Some (SetLimit id.0 None)
+      else option_map (λ limit. SetLimit id.0 (Some limit)) (number_below (2 ^ 32) id.1)
 
 -- a task and a control group
 unfoldable pub move_of : List ℕ → Option Call

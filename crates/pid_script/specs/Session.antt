@@ -46,7 +46,8 @@ progress_of state stamp tally held = ended_at state stamp tally held []
 abbrev pub Leads : State → ℕ → Tally → Line → List ℕ → List (Call × Reply) → State → ℕ → Tally → Type 0
 Leads state stamp tally line text calls state' stamp' tally' =
     (starved : Bool)
-    × ((held : List ℕ) → after_saying (progress_of state stamp tally held) starved line ≡ ended_at state' stamp' tally' (held ++ text) calls)
+    × ((held : List ℕ)
+    → after_saying (progress_of state stamp tally held) starved line ≡ ended_at state' stamp' tally' (held ++ text) calls)
 
 -- the lines took the script from p to q, what left the outbox of their answers was sent so, and their calls were made so
 pub record Answers (p q : Progress) (IsSent : List ℕ → Type 0) (AreMade : List (Call × Reply) → Type 0) (lines : List Line) : Type 0 where

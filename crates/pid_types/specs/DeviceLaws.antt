@@ -62,7 +62,9 @@ Took-nothing a failed = record { consumed = Consumes-nothing a; still = λ none.
 
 pub Took-more : (a b c : Option (List ℕ)) (f g h : Bool) (xs ys : List Event) → Took a b f g xs → Took b c g h ys → Took a c f h (xs ++ ys)
 Took-more a b c f g h xs ys first second = record {
-  consumed = subst (Consumes a c) (sym (flat_map-append heard_by xs ys)) (Consumes-more a b c (heard xs) (heard ys) first.consumed second.consumed);
+  consumed =
+      subst (Consumes a c) (sym (flat_map-append heard_by xs ys))
+      (Consumes-more a b c (heard xs) (heard ys) first.consumed second.consumed);
   still = λ none. let parts = no_parts xs ys none in second.still parts.1 ∙ first.still parts.0;
   kept = λ well. let parts = well_parts xs ys well in second.kept parts.1 ∙ first.kept parts.0;
 }
@@ -70,9 +72,11 @@ Took-more a b c f g h xs ys first second = record {
 pub Gave-nothing : (a : Option (List ℕ)) (failed full : Bool) → Gave a a failed failed full full []
 Gave-nothing a failed full = record { appended = Appends-nothing a; kept = λ well. (refl, refl) }
 
-pub Gave-more : (a b c : Option (List ℕ)) (f g h : Bool) (l m n : Bool) (xs ys : List Event) → Gave a b f g l m xs → Gave b c g h m n ys → Gave a c f h l n (xs ++ ys)
+pub Gave-more : (a b c : Option (List ℕ)) (f g h : Bool) (l m n : Bool) (xs ys : List Event) → Gave a b f g l m xs → Gave b c g h m n ys
+    → Gave a c f h l n (xs ++ ys)
 Gave-more a b c f g h l m n xs ys first second = record {
-  appended = subst (Appends a c) (sym (flat_map-append said_by xs ys)) (Appends-more a b c (said xs) (said ys) first.appended second.appended);
+  appended =
+      subst (Appends a c) (sym (flat_map-append said_by xs ys)) (Appends-more a b c (said xs) (said ys) first.appended second.appended);
   kept = λ well.
       let parts = well_parts xs ys well in
       let front = first.kept parts.0 in
@@ -81,24 +85,39 @@ Gave-more a b c f g h l m n xs ys first second = record {
 }
 
 -- a read that gave bytes, and one at which the source failed
-pub Took-bytes : {E : Type 0} (a b : Option (List ℕ)) (failed : Bool) (asked n : ℕ) (r : Result ℕ E) (buffer : List ℕ) → r ≡ Ok n → ReadConsumes a b r buffer
+pub Took-bytes : {E : Type 0} (a b : Option (List ℕ)) (failed : Bool) (asked n : ℕ) (r : Result ℕ E) (buffer : List ℕ) → r ≡ Ok n
+    → ReadConsumes a b r buffer
     → Took a b failed failed (Reading asked (Some (take n buffer)) ∷ [])
 Took-bytes a b failed asked n r buffer is reads =
     let read = subst (λ r. ReadConsumes a b r buffer) is reads in
-    record { consumed = subst (Consumes a b) (sym (append-nil (take n buffer))) read.0; still = λ none. absurd (some_is_none _ _ none); kept = λ well. refl }
+    record {
+      consumed = subst (Consumes a b) (sym (append-nil (take n buffer))) read.0;
+      still = λ none. absurd (some_is_none _ _ none);
+      kept = λ well. refl;
+    }
 
-pub Took-fault : {E : Type 0} (a b : Option (List ℕ)) (f g : Bool) (asked : ℕ) (e : E) (r : Result ℕ E) (buffer : List ℕ) → r ≡ Err e → ReadConsumes a b r buffer
+pub Took-fault : {E : Type 0} (a b : Option (List ℕ)) (f g : Bool) (asked : ℕ) (e : E) (r : Result ℕ E) (buffer : List ℕ) → r ≡ Err e
+    → ReadConsumes a b r buffer
     → Took a b f g (Reading asked None ∷ [])
 Took-fault a b f g asked e r buffer is reads =
-    record { consumed = Consumes-keeps a b (subst (λ r. ReadConsumes a b r buffer) is reads); still = λ none. absurd (some_is_none _ _ none); kept = λ well. absurd well.0 }
+    record {
+      consumed = Consumes-keeps a b (subst (λ r. ReadConsumes a b r buffer) is reads);
+      still = λ none. absurd (some_is_none _ _ none);
+      kept = λ well. absurd well.0;
+    }
 
 -- a write that took some of the bytes, or none, and one at which the sink failed
-pub Gave-bytes : {E : Type 0} (a b : Option (List ℕ)) (failed full full' : Bool) (n : ℕ) (r : Result ℕ E) (offered : List ℕ) → r ≡ Ok n → WriteAppends a b r offered → (0 < n → full' ≡ full)
+pub Gave-bytes : {E : Type 0} (a b : Option (List ℕ)) (failed full full' : Bool) (n : ℕ) (r : Result ℕ E) (offered : List ℕ) → r ≡ Ok n
+    → WriteAppends a b r offered → (0 < n → full' ≡ full)
     → Gave a b failed failed full full' (Writing offered (Some n) ∷ [])
 Gave-bytes a b failed full full' n r offered is writes kept =
-    record { appended = subst (Appends a b) (sym (append-nil (take n offered))) (subst (λ r. WriteAppends a b r offered) is writes); kept = λ well. (refl, kept well.0) }
+    record {
+      appended = subst (Appends a b) (sym (append-nil (take n offered))) (subst (λ r. WriteAppends a b r offered) is writes);
+      kept = λ well. (refl, kept well.0);
+    }
 
-pub Gave-fault : {E : Type 0} (a b : Option (List ℕ)) (f g l m : Bool) (e : E) (r : Result ℕ E) (offered : List ℕ) → r ≡ Err e → WriteAppends a b r offered
+pub Gave-fault : {E : Type 0} (a b : Option (List ℕ)) (f g l m : Bool) (e : E) (r : Result ℕ E) (offered : List ℕ) → r ≡ Err e
+    → WriteAppends a b r offered
     → Gave a b f g l m (Writing offered None ∷ [])
 Gave-fault a b f g l m e r offered is writes =
     record { appended = Appends-keeps a b (subst (λ r. WriteAppends a b r offered) is writes); kept = λ well. absurd well.0 }

@@ -22,7 +22,8 @@ insert_row new (row ∷ rows) = if nat_lt (root_number new.name) (root_number ro
 
 -- the namespaces with one more under the parent
 abbrev pub with_space : State → ℕ → ℕ → State
-with_space state parent id = record state { spaces = state.spaces ++ record { id = id; parent = Some parent; cursor = 0; fallen = false } ∷ [] }
+with_space state parent id =
+    record state { spaces = state.spaces ++ record { id = id; parent = Some parent; cursor = 0; fallen = false } ∷ [] }
 
 -- the number that the namespace gives next, where it has one
 unfoldable pub drawn : State → ℕ → ℕ
@@ -63,13 +64,15 @@ with_child state child path = record state { rows = insert_row child state.rows;
 -- nearest control group whose limit it would pass
 unfoldable pub no_room : State → Row → ℕ → Option Refusal
 no_room state caller t =
-    option_map_or (λ s. Some (NoNumber s)) (find (λ s. is_none (draw state s)) (path_up state.spaces t)) (option_map PidsLimit (passed_limit state caller.home))
+    option_map_or (λ s. Some (NoNumber s)) (find (λ s. is_none (draw state s)) (path_up state.spaces t))
+    (option_map PidsLimit (passed_limit state caller.home))
 
 -- the outcome with the caller's child in the namespace t
 abbrev pub forked : State → Row → ℕ → Outcome
 forked state caller t =
     let child = child_of state caller t in
-    changed (with_child state child (path_up state.spaces t)) (Forked (number_or_zero state.spaces child.name caller.name.space) (root_number child.name))
+    changed (with_child state child (path_up state.spaces t))
+    (Forked (number_or_zero state.spaces child.name caller.name.space) (root_number child.name))
 
 -- a child in the namespace for the caller's children, or in a new one below it, in which it is the init
 unfoldable pub fork : State → ℕ → ℕ → Bool → Outcome

@@ -15,7 +15,8 @@ use Rattle.pid_types.specs.Replay.{Along}
 -- no control group from the home to the root has more tasks than its limit: pids.max of the kernel's cgroup-v2 document
 abbrev pub IsWithinLimits : State → ℕ → Type 0
 IsWithinLimits state home =
-    (c : Control) → IsIn c state.controls → IsIn c.id (control_path state.controls home) → (limit : ℕ) → c.limit ≡ Some limit → count state c.id ≤ limit
+    (c : Control) → IsIn c state.controls → IsIn c.id (control_path state.controls home) → (limit : ℕ) → c.limit ≡ Some limit
+    → count state c.id ≤ limit
 
 -- the new task that the reply tells of is there, and within the limits
 abbrev pub ForkedWithinLimits : State → Reply → Type 0

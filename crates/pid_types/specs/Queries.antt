@@ -56,7 +56,8 @@ get_sid state n pid =
 -- the task's numbers from the caller's namespace inwards
 unfoldable pub ns_pid : State → ℕ → ℕ → Reply
 ns_pid state n target =
-    asked_by state n (λ caller. of_task (task_at state caller.name.space target) (λ row. LevelList (record { items = numbers_from state.spaces row.name caller.name.space })))
+    asked_by state n (λ caller. of_task (task_at state caller.name.space target) (λ row.
+    LevelList (record { items = numbers_from state.spaces row.name caller.name.space })))
 
 -- the numbers that are in use as the kind in the namespace
 abbrev pub numbers_by : State → Kind → ℕ → List ℕ

@@ -102,7 +102,8 @@ pub record IsCoherent (state : State) : Type 0 where
 -- the state is sound: it is coherent, and each fallen namespace has a number in use
 pub record IsSound (state : State) : Type 0 where
   pub coherent : IsCoherent state
-  pub named : (s : Space) → IsIn s state.spaces → s.fallen ≡ true → (a : Name) × (n : ℕ) × IsIn a (names_in_use state.rows) × (number state.spaces a s.id ≡ Some n)
+  pub named : (s : Space) → IsIn s state.spaces → s.fallen ≡ true → (a : Name) × (n : ℕ) × IsIn a (names_in_use state.rows)
+      × (number state.spaces a s.id ≡ Some n)
 
 -- all ids of the state, each children's namespace among them, are below the stamp
 pub record IsBelow (stamp : ℕ) (state : State) : Type 0 where

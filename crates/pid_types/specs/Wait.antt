@@ -28,7 +28,8 @@ matching state caller which = filter (λ row. is_parent caller.name row && is_se
 abbrev pub least_row : State → ℕ → List Row → Option Row
 least_row state s [] = None
 least_row state s (row ∷ rows) =
-    Some (option_map_or (λ other. if nat_lt (number_or_zero state.spaces other.name s) (number_or_zero state.spaces row.name s) then other else row)
+    Some (option_map_or (λ other.
+    if nat_lt (number_or_zero state.spaces other.name s) (number_or_zero state.spaces row.name s) then other else row)
     (least_row state s rows) row)
 
 -- how a task ended

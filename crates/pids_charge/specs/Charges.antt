@@ -81,7 +81,8 @@ remove_refusal v c =
 -- why a limit cannot be set
 abbrev pub limit_refusal : Charges → ℕ → Option ℕ → Option Refusal
 limit_refusal v c limit =
-    if is_some (parent_control v.controls (id_at v c)) then (if option_map_or (nat_lt greatest_limit) limit false then Some BadLimit else None) else Some RootControl
+    if is_some (parent_control v.controls (id_at v c))
+    then (if option_map_or (nat_lt greatest_limit) limit false then Some BadLimit else None) else Some RootControl
 
 -- a key that does not stand is gone with its last task
 abbrev pub kept : Home → Option Home

@@ -97,7 +97,11 @@ refused_by _ = 0
 -- the error and the number of the refusal, and the id of what refused
 abbrev pub refusal_numbers : Refusal → ReplyNumbers
 refusal_numbers refusal =
-    record (blank 9) { errno = (errno_entry (refusal_entry refusal).error).value; refusal = (refusal_entry refusal).number; first = refused_by refusal }
+    record (blank 9) {
+      errno = (errno_entry (refusal_entry refusal).error).value;
+      refusal = (refusal_entry refusal).number;
+      first = refused_by refusal;
+    }
 
 -- the reply as numbers
 unfoldable pub numbers_of : Reply → ReplyNumbers

@@ -12,7 +12,8 @@ use Rattle.pid_types.specs.Wait.{is_selected}
 -- the row with the lesser number in the namespace: the one found before, or this one if its number is less
 abbrev pub lesser_of : State → ℕ → Option Row → Row → Row
 lesser_of state s least row =
-    option_map_or (λ other. if nat_lt (number_or_zero state.spaces row.name s) (number_or_zero state.spaces other.name s) then row else other) least row
+    option_map_or (λ other.
+    if nat_lt (number_or_zero state.spaces row.name s) (number_or_zero state.spaces other.name s) then row else other) least row
 
 -- whether the row is a child that the caller's wait selects, and has ended
 abbrev pub is_ended_match : State → Row → Which → Row → Bool

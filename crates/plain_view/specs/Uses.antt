@@ -10,4 +10,5 @@ uses_number spaces s n row = (is_numbered spaces row.name s n || is_numbered spa
 
 -- whether none of them has a number there
 abbrev pub uses_none : List Space → ℕ → Row → Bool
-uses_none spaces s row = (is_none (number spaces row.name s) && is_none (number spaces row.group s)) && is_none (number spaces row.session s)
+uses_none spaces s row =
+    (is_none (number spaces row.name s) && is_none (number spaces row.group s)) && is_none (number spaces row.session s)

@@ -20,7 +20,8 @@ pub record IsTarget (s : Store) (caller : ℕ) (t : Task) (target : Target) : Ty
 -- the target is the task that the number names to the caller
 abbrev pub IsNamed : Store → ℕ → Task → ℤ → Option Target → Type 0
 IsNamed s caller own pid None = target_of (state_of s) (row_of s caller own) pid ≡ None
-IsNamed s caller own pid (Some target) = (t : Task) × IsTarget s caller t target × (target_of (state_of s) (row_of s caller own) pid ≡ Some (row_of s target.ident t))
+IsNamed s caller own pid (Some target) =
+    (t : Task) × IsTarget s caller t target × (target_of (state_of s) (row_of s caller own) pid ≡ Some (row_of s target.ident t))
 
 -- the task is there, and so is the group's identifier, and whoever is in the group is in the task's session
 pub record MayJoin (s : Store) (k g : ℕ) : Type 0 where

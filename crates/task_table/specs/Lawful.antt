@@ -16,7 +16,8 @@ use Rattle.task_table.specs.Store.{Store, IsStore}
 pub record HasLaws (b : Numbering) : Type 0 where
   pub distinct : (i j s n : ℕ) → number_of b i s ≡ Some n → number_of b j s ≡ Some n → i ≡ j
   pub range : (i s n : ℕ) → number_of b i s ≡ Some n → (0 < n) × (n < b.pid_max)
-  pub full : (i : ℕ) (u : Identifier) → identifier_at b i ≡ Some u → (0 < length u.numbers) × (length u.numbers ≡ length (path_at b u.space))
+  pub full : (i : ℕ) (u : Identifier) → identifier_at b i ≡ Some u → (0 < length u.numbers)
+      × (length u.numbers ≡ length (path_at b u.space))
   pub good : HasGoodPidMax b.pid_max
   pub used : (i : ℕ) (u : Identifier) → identifier_at b i ≡ Some u → is_used u ≡ true
   pub root : path_at b 0 ≡ 0 ∷ []

@@ -61,7 +61,8 @@ pub record IsStore (s : Store) : Type 0 where
   pub zombies : (c : ℕ) → zombies_at s.charges c ≡ count_by (waits_in c) s.tree.tasks
   pub all : all_tasks s.charges ≡ count_by is_some s.tree.tasks
   -- a child that has ended waits by its number in its parent's namespace
-  pub ranks : (k p r : ℕ) → rank_of s.tree k ≡ Some (p, r) → (u : Identifier) → identifier_at s.numbering p ≡ Some u → number_of s.numbering k u.space ≡ Some r
+  pub ranks : (k p r : ℕ) → rank_of s.tree k ≡ Some (p, r) → (u : Identifier) → identifier_at s.numbering p ≡ Some u
+      → number_of s.numbering k u.space ≡ Some r
 
 -- the identifier without its uses
 abbrev pub bare : Identifier → Identifier
@@ -111,4 +112,5 @@ pub record Begins (old new : Store) (key : ℕ) (from : Option ℕ) (task : Task
   pub ranks : (k : ℕ) → rank_of new.tree k ≡ rank_of old.tree k
   pub member : membership_at new.members key ≡ joins old.members from key
   pub members : (k : ℕ) → k ≢ key → membership_at new.members k ≡ membership_at old.members k
-  pub home : ChangesHome old.charges new.charges task.home (option_map (λ (h : Home). record h { live = h.live + 1 }) (home_at old.charges task.home))
+  pub home : ChangesHome old.charges new.charges task.home
+      (option_map (λ (h : Home). record h { live = h.live + 1 }) (home_at old.charges task.home))

@@ -44,7 +44,8 @@ still_lives (Zombie ended) = false
 
 -- what is seen of the task
 abbrev pub glimpse_in : Stat → Glimpse
-glimpse_in stat = record { numbers = stat.numbers.items; parent = stat.parent; group = stat.group; session = stat.session; live = still_lives stat.life }
+glimpse_in stat =
+    record { numbers = stat.numbers.items; parent = stat.parent; group = stat.group; session = stat.session; live = still_lives stat.life }
 
 -- this is what the caller's namespace sees of the task with the number
 pub record IsSeen (state : State) (n pid : ℕ) (glimpse : Glimpse) : Type 0 where

@@ -21,7 +21,8 @@ IsMatch s caller which k = (parent_of s.tree k ≡ Some caller) × IsSelected s 
 -- there is no such child; or there are some and none has ended; or else of those that have, the one with the least rank
 abbrev pub IsChoice : Store → ℕ → Selected → Choice → Type 0
 IsChoice s caller which NoChild = (k : ℕ) → ¬ IsMatch s caller which k
-IsChoice s caller which NoneEnded = ((k : ℕ) × IsMatch s caller which k) × ((k : ℕ) → IsMatch s caller which k → is_zombie (task_at s.tree k) ≡ false)
+IsChoice s caller which NoneEnded =
+    ((k : ℕ) × IsMatch s caller which k) × ((k : ℕ) → IsMatch s caller which k → is_zombie (task_at s.tree k) ≡ false)
 IsChoice s caller which (Ended child rank) =
     IsMatch s caller which child × (is_zombie (task_at s.tree child) ≡ true) × (rank_of s.tree child ≡ Some (caller, rank))
     × ((k r : ℕ) → IsMatch s caller which k → rank_of s.tree k ≡ Some (caller, r) → rank ≤ r)

@@ -30,12 +30,19 @@ IsUnknown s space (Pid n) = (j : ℕ) → number_of s.numbering j space ≢ Some
 IsUnknown s space (InGroup n) = (j : ℕ) → number_of s.numbering j space ≢ Some n
 IsUnknown s space _ = ⊥
 
+-- the child is a task that has ended, and its row is the least of those that the wait selects
+abbrev pub IsLeastEnded : Store → Row → Which → ℕ → Type 0
+IsLeastEnded s caller which child =
+    (t : Task) × (task_at s.tree child ≡ Some t) × (lives t ≡ false)
+    × (least_row (state_of s) caller.name.space (ended_children (state_of s) caller which) ≡ Some (row_of s child t))
+
 -- no child matches; or some do and none of them has ended; or else the child's row is the least of those that have, and its number
 -- in the caller's namespace is the rank
 abbrev pub IsTold : Store → Row → Which → Choice → Type 0
 IsTold s caller which NoChild = matching (state_of s) caller which ≡ []
-IsTold s caller which NoneEnded = ((length (matching (state_of s) caller which) == 0) ≡ false) × (ended_children (state_of s) caller which ≡ [])
+IsTold s caller which NoneEnded =
+    ((length (matching (state_of s) caller which) == 0) ≡ false) × (ended_children (state_of s) caller which ≡ [])
 IsTold s caller which (Ended child rank) =
     ((length (matching (state_of s) caller which) == 0) ≡ false)
-    × ((t : Task) × (task_at s.tree child ≡ Some t) × (lives t ≡ false) × (least_row (state_of s) caller.name.space (ended_children (state_of s) caller which) ≡ Some (row_of s child t)))
+    × IsLeastEnded s caller which child
     × (number_or_zero (state_of s).spaces (name_at s.numbering child) caller.name.space ≡ rank)

@@ -1,3 +1,4 @@
+-- A read ends a call, a line, both or neither; what was read before and the unfinished line are always the bytes consumed so far
 use Rattle.std.proofs.Common.{◌≡◌, ◌^◌, ◌++◌, [], Some, take, length, min, refl, sym, ap, ◌∙◌, subst, arith, append-nil, length-append, length-take-le}
 use Rattle.std.specs.Io.KnownBytes.{Consumes}
 use Rattle.std.proofs.lemmas.Result.{err_from_is_err_and}

@@ -1,3 +1,4 @@
+-- A line that begins with a whole word and a space is read by that word alone: the front of the line is the word, letter by letter
 use Rattle.std.proofs.Common.{◌∙◌, codes, ap, sym, arith}
 use Rattle.std.proofs.lemmas.Slice.{between_to_end}
 use Rattle.pid_types.specs.declared.call.Call.TheVariants.{GetPid, NsPid, GetPpid, SetSid, Count, GetPgid, GetSid}

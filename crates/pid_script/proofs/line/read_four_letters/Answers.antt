@@ -1,3 +1,4 @@
+-- Four bytes that compare equal to a word, one by one, are the word
 use Rattle.std.proofs.Common.{◌≡◌, codes, arith, rules}
 use Rattle.std.proofs.lemmas.Slice.Eq.{text_from_reads}
 use Rattle.pid_script.specs.Reading.{four_letters_of}

@@ -1,3 +1,4 @@
+-- Without a minus the number is read as one with no sign, and it may still be too great for a signed one
 use Rattle.std.proofs.Common.{◌≢◌, ◌<◌, ◌∷◌, length, get_or, option_and_then, sym, ◌∙◌, ap, Some, arith, rules}
 use Rattle.std.proofs.lemmas.Slice.{between_to_end}
 use Rattle.pid_script.specs.Reading.{signed_then}

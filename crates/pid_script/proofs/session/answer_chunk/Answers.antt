@@ -1,3 +1,4 @@
+-- As in a job, the lines that a chunk ends follow those before it; each is answered by the table as it stands after the last
 use Rattle.std.proofs.Common.{◌++◌, ◌∷◌, [], Some, sym, ap, ◌∙◌, append-nil, arith, refl, rules}
 use Rattle.pid_script.specs.Script.{said_within, kept_after}
 use Rattle.pid_script.proofs.Within.{first_end, no_end, said_more}

@@ -1,3 +1,4 @@
+-- The dialogue so far is a list of events: at each of the six ways out it is one with a read that gave nothing, or a write that failed, at its end
 use Rattle.std.proofs.Common.{◌≡◌, ◌<◌, ◌≤◌, ◌++◌, ◌+◌, ◌∷◌, [], Some, None, take, length, refl, sym, ap, ◌∙◌, subst, arith, append-nil, length-append, length-take-le, inl, inr}
 use Rattle.std.specs.Prelude.{nat_lt}
 use Rattle.std.proofs.lemmas.Result.{err_from_is_err_and}

@@ -1,3 +1,4 @@
+-- The group goes from the list; its node goes too where it is empty, and stays for its zombies, whose home is then the nearest group above that stands
 use Rattle.std.proofs.Common.{◌≡◌, ℕ, not, true, false, Bool, Some, None, Option, is_some, if◌then◌else◌, option_and_then, map, set, refl, sym, ap, subst, ◌∙◌, arith}
 use Rattle.std.specs.Prelude.{filter, ◌==◌}
 use Rattle.std.proofs.lemmas.List.{length-set}

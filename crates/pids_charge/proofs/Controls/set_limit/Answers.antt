@@ -1,3 +1,4 @@
+-- A limit is no part of the tree, and of the list of groups it changes the one with this id
 use Rattle.std.proofs.Common.{not, None, true, false, map, refl, sym, ap, ◌∙◌, arith}
 use Rattle.std.proofs.lemmas.List.{get_or_read}
 use Rattle.pid_types.specs.Changes.{limited as limited_to}

@@ -1,3 +1,4 @@
+-- Two changes of one home each: where both homes are one, the second gives back what the first took
 use Rattle.std.proofs.Common.{◌≡◌, ◌+◌, ◌-◌, None, option_map, true, false, arith, refl, sym, ap, ◌∙◌}
 use Rattle.pids_charge.specs.declared.node.Node.{Node}
 use Rattle.pids_charge.specs.Nodes.{Tree, tree_of}

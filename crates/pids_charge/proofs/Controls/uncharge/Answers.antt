@@ -1,3 +1,4 @@
+-- The zombie goes, and then the nodes that were kept for zombies alone: neither step is seen in a group that stands
 use Rattle.std.proofs.Common.{◌-◌, option_and_then, arith, refl, sym, ap, subst, ◌∙◌}
 use Rattle.pids_charge.specs.declared.node.Node.{Node}
 use Rattle.pids_charge.specs.Nodes.{Tree, tree_of, IsTree}

@@ -1,3 +1,4 @@
+-- The walk ends at a node that stands or has a task below it; each node that it drops has neither, so nothing is below it
 use Rattle.std.proofs.Common.{◌∙◌, ◌≡◌, inl, inr, None, ap, arith}
 use Rattle.std.proofs.lemmas.List.{get_or_read}
 use Rattle.pids_charge.specs.declared.counter.Counter.{Counter}

@@ -1,3 +1,4 @@
+-- One live task less and one zombie more: each subtree weighs as before, so the totals stand
 use Rattle.std.proofs.Common.{◌+◌, ◌-◌, None, arith, refl}
 use Rattle.pids_charge.specs.declared.node.Node.{Node}
 use Rattle.pids_charge.specs.Kept.{total_at}

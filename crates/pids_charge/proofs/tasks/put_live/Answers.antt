@@ -1,3 +1,4 @@
+-- The subtrees that the node is in weigh one more, and the walk raises just their totals
 use Rattle.std.proofs.Common.{◌≡◌, ◌+◌, None, true, false, arith, refl, sym, ◌∙◌}
 use Rattle.pids_charge.specs.declared.node.Node.{Node}
 use Rattle.pids_charge.specs.Kept.{total_at}

@@ -1,3 +1,4 @@
+-- The subtrees that the node is in weigh one less, and the walk lowers just their totals; a live task is in a node that stands, so no node is left empty
 use Rattle.std.proofs.Common.{◌-◌, None, arith, refl}
 use Rattle.pids_charge.specs.declared.node.Node.{Node}
 use Rattle.pids_charge.specs.Nodes.{tree_of}

@@ -1,3 +1,4 @@
+-- As for a live task, but the node may have been removed: then it may be empty now, and the counts say so of this node alone
 use Rattle.std.proofs.Common.{◌-◌, Some, None, arith, refl}
 use Rattle.pids_charge.specs.declared.node.Node.{Node}
 use Rattle.pids_charge.specs.Kept.{total_at}

@@ -1,3 +1,4 @@
+-- The weight left above the walk falls by one at each step, so what the totals lost and what they are to lose is one sum; no total falls below zero, as each had a task
 use Rattle.std.proofs.Common.{◌-◌, ◌<◌, None, sym, ap, ◌∙◌, arith}
 use Rattle.std.proofs.lemmas.List.{get_or_read}
 use Rattle.pids_charge.specs.declared.counter.Counter.{Counter}

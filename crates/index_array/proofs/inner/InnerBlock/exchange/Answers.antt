@@ -1,3 +1,4 @@
+-- A leaf is swapped below one child, and the bits of that child are asked of it anew; all entries outside the leaf stay
 use Rattle.std.proofs.Common.{rules, arith, ap, ◌∙◌, ◌≡◌, ◌+◌, ◌/◌, ◌%◌, ◌^◌, None, Some, []}
 use Rattle.index_array.specs.Tree.{kids}
 use Rattle.index_array.proofs.Ways.{Way, way_child, way_rest}

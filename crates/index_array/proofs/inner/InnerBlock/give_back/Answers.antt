@@ -1,3 +1,4 @@
+-- A child goes only where its bit says that no entry is below it, so no entry changes
 use Rattle.std.proofs.Common.{rules, arith, ap, sym, ◌∙◌, ◌≡◌, ◌+◌, ◌/◌, ◌%◌, ◌^◌, get_or, None, Some, refl}
 use Rattle.index_array.specs.Tree.{kids}
 use Rattle.index_array.proofs.Ways.{Way, way_rest}

@@ -1,3 +1,4 @@
+-- The value stays in its slot and the bit goes: what is read off both has no entry there
 use Rattle.std.proofs.Common.{rules, ◌∙◌, ◌≡◌, ℕ, zero, suc, get_or, None, true, false, [], ◌∷◌, sym, refl}
 use Rattle.std.proofs.Math.ListN.{set}
 use Rattle.index_array.specs.Tree.{slots_from}

@@ -1,3 +1,4 @@
+-- The slots are read off the bits and the values: a write changes both at one index, and the leaf is the list with one entry set
 use Rattle.std.proofs.Common.{rules, ap, ◌≡◌, ◌<◌, Some, true, false, [], refl}
 use Rattle.std.proofs.Math.ListN.{set}
 use Rattle.index_array.specs.Tree.{slots_from}

@@ -1,3 +1,4 @@
+-- A mark is a bit beside the values, so no entry changes; where no entry is, no mark is set
 use Rattle.std.proofs.Common.{rules, ap, sym, ◌∙◌, ◌≡◌, ◌<◌, refl, is_some}
 use Rattle.index_array.specs.Place.{entry_at}
 use Rattle.index_array.specs.Tree.{slots_from}

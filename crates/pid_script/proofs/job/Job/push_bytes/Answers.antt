@@ -1,3 +1,4 @@
+-- The lines that a piece ends and the part that is left are those of the part before and the piece, one behind the other
 use Rattle.std.proofs.Common.{◌++◌, ◌∷◌, [], Some, sym, ap, ◌∙◌, append-nil, arith, refl, subst}
 use Rattle.std.proofs.lemmas.Result.{err_from_is_err_and}
 use Rattle.pid_script.specs.Script.{said_within, kept_after}
