@@ -187,7 +187,7 @@ fn read_negative_then(digits: &[u8]) -> Option<(i32, &[u8])>
 
 /// The number with its sign before the first space, where it is one of 32 bits, and what stands after that space.
 #[inline(always)]
-pub fn read_signed_then(words: &[u8]) -> Option<(i32, &[u8])>
+pub(crate) fn read_signed_then(words: &[u8]) -> Option<(i32, &[u8])>
     ensures { option_map (λ p. (p.0, p.1.now)) result ≡ signed_then words.now }
 {
     match words {
