@@ -19,6 +19,7 @@ use Rattle.model_laws.proofs.Names.{on_row-keeps, on_row-both, same_name-true, s
 use Rattle.model_laws.proofs.Trees.{space_at-Some, same_row, live_row-Some, path_first}
 use Rattle.model_laws.proofs.Sweeps.{from_kept, IsSound-sweep}
 use Rattle.model_laws.proofs.RowMaps.{KeepsRows, IsCoherent-map_rows, HasGoodGroups-map, each_of_map}
+use Rattle.model_laws.proofs.Placed.{IsOpen, KeepsRows-placed}
 use Rattle.model_laws.proofs.Calls.{set_pgid_cases, set_sid_cases, exec_cases, move_task_cases, join_cases, set_subreaper_cases}
 
 -- ---- what each call has to leave
@@ -37,7 +38,7 @@ IsBelow-next stamp state b = record {
 }
 
 -- and after a sweep
-IsBelow-sweep : (stamp : ℕ) (state : State) → IsBelow stamp state → IsBelow stamp (sweep state)
+pub IsBelow-sweep : (stamp : ℕ) (state : State) → IsBelow stamp state → IsBelow stamp (sweep state)
 unfolding sweep
 IsBelow-sweep stamp state b = record {
   spaces = λ s i. b.spaces s (from_kept state s i).0;
@@ -126,50 +127,48 @@ join_keeps state stamp n target sound below =
 
 -- ---- setpgid
 
--- the tasks that the group has, and the one it is named after, are in the target's session
-record IsOpenTo (rows : List Row) (target : Row) (group : Name) : Type 0 where
-  in_use : IsIn group (names_in_use rows)
-  members : (b : Row) → IsIn b rows → b.group ≡ group → b.session ≡ target.session
-  leader : (b : Row) → IsIn b rows → group ≡ b.name → target.session ≡ b.session
-
--- the row's own group is open to it
-IsOpenTo-own : (state : State) → IsSound state → (target : Row) → IsIn target state.rows → IsOpenTo state.rows target target.name
-IsOpenTo-own state sound target i = record {
-  in_use = own_name_in_use state.rows target i;
+-- the task's own group is open to it
+IsOpen-own : (state : State) → IsSound state → (target : Row) → IsIn target state.rows → IsOpen state target target.name target.session
+IsOpen-own state sound target i = record {
+  group_used = own_name_in_use state.rows target i;
+  session_used = session_in_use state.rows target i;
   members = λ b j e. sound.coherent.groups.leader b target j i e;
-  leader = λ b j e. ap (λ (r : Row). r.session) (same_row state.rows sound.coherent.rows_rise target b i j e);
+  leader = λ b j e. inl e;
+  own = λ b j e. sound.coherent.groups.leader b target j i e;
 }
 
 -- the group of a task of the same session is open to it
-IsOpenTo-session : (state : State) → IsSound state → (target row : Row) → IsIn row state.rows → row.session ≡ target.session
-    → IsOpenTo state.rows target row.group
-IsOpenTo-session state sound target row i same = record {
-  in_use = group_in_use state.rows row i;
-  members = λ b j e. sound.coherent.groups.together b row j i e ∙ same;
-  leader = λ b j e. sym same ∙ sound.coherent.groups.leader row b i j e;
+IsOpen-session : (state : State) → IsSound state → (target row : Row) → IsIn target state.rows → IsIn row state.rows → row.session ≡ target.session
+    → IsOpen state target row.group target.session
+IsOpen-session state sound target row i j same = record {
+  group_used = group_in_use state.rows row j;
+  session_used = session_in_use state.rows target i;
+  members = λ b k e. sound.coherent.groups.together b row k j e ∙ same;
+  leader = λ b k e. inr (sym (sound.coherent.groups.leader row b j k (sym e)) ∙ same);
+  own = λ b k e. sound.coherent.groups.leader b target k i e;
 }
 
 -- the group that setpgid finds is open to the target
-group_for-IsOpenTo : (state : State) → IsSound state → (caller target : Row) (pgid : ℤ) (group : Name) → IsIn target state.rows
+group_for-IsOpen : (state : State) → IsSound state → (caller target : Row) (pgid : ℤ) (group : Name) → IsIn target state.rows
     → target.session ≡ caller.session
-    → group_for state caller target pgid ≡ Some group → IsOpenTo state.rows target group
+    → group_for state caller target pgid ≡ Some group → IsOpen state target group target.session
 unfolding session_group
-group_for-IsOpenTo state sound caller target (negsuc n) group i same h = absurd (cc)
-group_for-IsOpenTo state sound caller target (pos n) group i same h = go ((n == 0) || is_numbered state.spaces target.name caller.name.space n) h
+group_for-IsOpen state sound caller target (negsuc n) group i same h = absurd (cc)
+group_for-IsOpen state sound caller target (pos n) group i same h = go ((n == 0) || is_numbered state.spaces target.name caller.name.space n) h
   where
     p : Row → Bool
     p row = same_name row.session caller.session && is_numbered state.spaces row.group caller.name.space n
 
-    other : (o : Option Row) → find p state.rows ≡ o → option_map (λ (row : Row). row.group) o ≡ Some group → IsOpenTo state.rows target group
+    other : (o : Option Row) → find p state.rows ≡ o → option_map (λ (row : Row). row.group) o ≡ Some group → IsOpen state target group target.session
     other None e f = absurd (cc)
     other (Some row) e f =
         let r = find-Some p state.rows row e in
         let s : row.session ≡ caller.session = same_name-true row.session caller.session (and_parts (same_name row.session caller.session) (is_numbered state.spaces row.group caller.name.space n) r.1).0 in
         let g : row.group ≡ group = cc in
-        subst (IsOpenTo state.rows target) g (IsOpenTo-session state sound target row r.0 (s ∙ sym same))
+        subst (λ n. IsOpen state target n target.session) g (IsOpen-session state sound target row i r.0 (s ∙ sym same))
 
-    go : (b : Bool) → (if b then Some target.name else session_group state caller n) ≡ Some group → IsOpenTo state.rows target group
-    go true e = let g : target.name ≡ group = cc in subst (IsOpenTo state.rows target) g (IsOpenTo-own state sound target i)
+    go : (b : Bool) → (if b then Some target.name else session_group state caller n) ≡ Some group → IsOpen state target group target.session
+    go true e = let g : target.name ≡ group = cc in subst (λ n. IsOpen state target n target.session) g (IsOpen-own state sound target i)
     go false e = other (find p state.rows) refl e
 
 -- whom setpgid names is one of the rows
@@ -198,145 +197,59 @@ target_session state sound caller target i j same own = elim (or_cases (is_paren
     child_session true false e h k = absurd (cc)
     child_session false false e h k = absurd (cc)
 
--- a group that is open to the target leaves the groups good
-HasGoodGroups-set_group : (state : State) → IsSound state → (target : Row) (group : Name) → IsIn target state.rows → IsOpenTo state.rows target group
-    → HasGoodGroups (map (on_row target.name (set_group group)) state.rows)
-HasGoodGroups-set_group state sound target group i joinable = record {
-  together = λ a b j k e.
-      let p = IsIn-from_map f a state.rows j in
-      let q = IsIn-from_map f b state.rows k in
-      ap (λ (r : Row). r.session) p.2 ∙ session p.0
-      ∙ together p.0 q.0 p.1 q.1 (name_cases p.0 target.name) (name_cases q.0 target.name) (sym (ap (λ (r : Row). r.group) p.2) ∙ e ∙ ap (λ (r : Row). r.group) q.2)
-      ∙ sym (session q.0) ∙ sym (ap (λ (r : Row). r.session) q.2);
-  leader = λ a b j k e.
-      let p = IsIn-from_map f a state.rows j in
-      let q = IsIn-from_map f b state.rows k in
-      ap (λ (r : Row). r.session) p.2 ∙ session p.0
-      ∙ leader p.0 q.0 p.1 q.1 (name_cases p.0 target.name) (sym (ap (λ (r : Row). r.group) p.2) ∙ e ∙ ap (λ (r : Row). r.name) q.2 ∙ name q.0)
-      ∙ sym (session q.0) ∙ sym (ap (λ (r : Row). r.session) q.2);
-}
-  where
-    f : Row → Row
-    f = on_row target.name (set_group group)
+-- a task that goes to a group and a session that are open to it leaves a coherent state, and ids below the stamp
+pub placed_keeps : (stamp : ℕ) (state : State) (target : Row) (change : Row → Row) → IsSound state → IsBelow stamp state → IsIn target state.rows
+    → ((r : Row) → change r ≡ record r { group = (change r).group; session = (change r).session })
+    → IsOpen state target (change target).group (change target).session
+    → IsCoherent (with_row state target.name change) × IsBelow stamp (with_row state target.name change)
+unfolding with_row
+placed_keeps stamp state target change sound below i same free = (
+  IsCoherent-map_rows state (on_row target.name change) sound.coherent (KeepsRows-placed state sound target i change same free),
+  record {
+    spaces = below.spaces;
+    controls = below.controls;
+    children = each_of_map (λ r. r.children_space < stamp) (on_row target.name change) state.rows (λ r j.
+        subst (λ n. n < stamp) (sym (on_row-keeps target.name change (λ x. x.children_space) (λ x. ap (λ (y : Row). y.children_space) (same x)) r)) (below.children r j));
+  })
 
-    session : (r : Row) → (f r).session ≡ r.session
-    session r = on_row-keeps target.name (set_group group) (λ x. x.session) (λ x. refl) r
-
-    name : (r : Row) → (f r).name ≡ r.name
-    name r = on_row-keeps target.name (set_group group) (λ x. x.name) (λ x. refl) r
-
-    IsTarget : Row → Type 0
-    IsTarget r = ((same_name r.name target.name ≡ true) × (r.name ≡ target.name)) ⊎ (same_name r.name target.name ≡ false)
-
-    is_target : (r : Row) → IsIn r state.rows → r.name ≡ target.name → r.session ≡ target.session
-    is_target r j e = ap (λ (x : Row). x.session) (same_row state.rows sound.coherent.rows_rise r target j i e)
-
-    moved : (r : Row) → same_name r.name target.name ≡ true → (f r).group ≡ group
-    moved r e = ap (λ b. (if b then set_group group r else r).group) e
-
-    stays : (r : Row) → same_name r.name target.name ≡ false → (f r).group ≡ r.group
-    stays r e = ap (λ b. (if b then set_group group r else r).group) e
-
-    together : (a b : Row) → IsIn a state.rows → IsIn b state.rows → IsTarget a → IsTarget b → (f a).group ≡ (f b).group → a.session ≡ b.session
-    together a b j k (inl p) (inl q) e = is_target a j p.1 ∙ sym (is_target b k q.1)
-    together a b j k (inl p) (inr q) e = is_target a j p.1 ∙ sym (joinable.members b k (sym (stays b q) ∙ sym e ∙ moved a p.0))
-    together a b j k (inr p) (inl q) e = joinable.members a j (sym (stays a p) ∙ e ∙ moved b q.0) ∙ sym (is_target b k q.1)
-    together a b j k (inr p) (inr q) e = sound.coherent.groups.together a b j k (sym (stays a p) ∙ e ∙ stays b q)
-
-    leader : (a b : Row) → IsIn a state.rows → IsIn b state.rows → IsTarget a → (f a).group ≡ b.name → a.session ≡ b.session
-    leader a b j k (inl p) e = is_target a j p.1 ∙ joinable.leader b k (sym (moved a p.0) ∙ e)
-    leader a b j k (inr p) e = sound.coherent.groups.leader a b j k (sym (stays a p) ∙ e)
+-- and so does a call that does this
+Keeps-placed : (stamp : ℕ) (state : State) (target : Row) (change : Row → Row) (reply : Reply) → IsSound state → IsBelow stamp state
+    → IsIn target state.rows → ((r : Row) → change r ≡ record r { group = (change r).group; session = (change r).session })
+    → IsOpen state target (change target).group (change target).session
+    → Keeps stamp (changed (with_row state target.name change) reply)
+Keeps-placed stamp state target change reply sound below i same free =
+    let k = placed_keeps stamp state target change sound below i same free in
+    Keeps-changed stamp (with_row state target.name change) reply k.0 (IsBelow-next stamp (with_row state target.name change) k.1)
 
 -- a setpgid leaves a sound state
 pub set_pgid_keeps : (state : State) (stamp n : ℕ) (pid pgid : ℤ) → IsSound state → IsBelow stamp state → Keeps stamp (set_pgid state n pid pgid)
-unfolding with_row
 set_pgid_keeps state stamp n pid pgid sound below =
     set_pgid_cases (Keeps stamp) state n pid pgid (λ r. Keeps-same stamp state _ sound below) (λ caller target group found aimed same own there.
     let i : IsIn caller state.rows = (live_row-Some state.rows n caller found).0 in
     let j : IsIn target state.rows = target_of-IsIn state caller target pid i aimed in
-    let joinable : IsOpenTo state.rows target group = group_for-IsOpenTo state sound caller target pgid group j (target_session state sound caller target i j same own) there in
-    let change : Row → Row = set_group group in
-    Keeps-map_rows stamp state (on_row target.name change) _ sound below (record {
-      names = on_row-keeps target.name change (λ r. r.name) (λ r. refl);
-      parents = on_row-keeps target.name change (λ r. r.parent) (λ r. refl);
-      lives = on_row-keeps target.name change (λ r. is_live r) (λ r. refl);
-      group = λ r k. on_row-both (λ x. IsIn x.group (names_in_use state.rows)) target.name change r (λ e. joinable.in_use) (group_in_use state.rows r k);
-      session = λ r k. on_row-both (λ x. IsIn x.session (names_in_use state.rows)) target.name change r (λ e. session_in_use state.rows r k) (session_in_use state.rows r k);
-      children = λ r k. on_row-both (HasGoodChildrenSpace state.spaces) target.name change r (λ e. sound.coherent.children r k) (sound.coherent.children r k);
-      groups = HasGoodGroups-set_group state sound target group j joinable;
-      homes = λ r k. on_row-both (λ x. (c : Control) × (control_at state.controls x.home ≡ Some c)) target.name change r (λ e. sound.coherent.homes r k) (sound.coherent.homes r k);
-    }) (λ r k. on_row-both (λ x. x.children_space < stamp) target.name change r (λ e. below.children r k) (below.children r k)))
+    Keeps-placed stamp state target (set_group group) _ sound below j (λ r. refl)
+    (group_for-IsOpen state sound caller target pgid group j (target_session state sound caller target i j same own) there))
 
 -- ---- setsid
 
--- a new leader whose group had no members leaves the groups good
-HasGoodGroups-start_session : (state : State) → IsSound state → (caller : Row) → IsIn caller state.rows → has_members state caller.name ≡ false
-    → HasGoodGroups (map (on_row caller.name start_session) state.rows)
-HasGoodGroups-start_session state sound caller i none = record {
-  together = λ a b j k e.
-      let p = IsIn-from_map f a state.rows j in
-      let q = IsIn-from_map f b state.rows k in
-      ap (λ (r : Row). r.session) p.2 ∙ together p.0 q.0 p.1 q.1 (name_cases p.0 caller.name) (name_cases q.0 caller.name) (sym (ap (λ (r : Row). r.group) p.2) ∙ e ∙ ap (λ (r : Row). r.group) q.2) ∙ sym (ap (λ (r : Row). r.session) q.2);
-  leader = λ a b j k e.
-      let p = IsIn-from_map f a state.rows j in
-      let q = IsIn-from_map f b state.rows k in
-      ap (λ (r : Row). r.session) p.2 ∙ leader p.0 q.0 p.1 q.1 (name_cases p.0 caller.name) (name_cases q.0 caller.name) (sym (ap (λ (r : Row). r.group) p.2) ∙ e ∙ ap (λ (r : Row). r.name) q.2 ∙ name q.0) ∙ sym (ap (λ (r : Row). r.session) q.2);
+-- where nobody is in a group of the task's name, that group and that session are open to it
+IsOpen-new : (state : State) (caller : Row) → IsIn caller state.rows → has_members state caller.name ≡ false
+    → IsOpen state caller caller.name caller.name
+IsOpen-new state caller i none = record {
+  group_used = own_name_in_use state.rows caller i;
+  session_used = own_name_in_use state.rows caller i;
+  members = λ r j e. absurd (no_member r j e);
+  leader = λ r j e. inl e;
+  own = λ r j e. absurd (no_member r j e);
 }
   where
-    f : Row → Row
-    f = on_row caller.name start_session
-
-    name : (r : Row) → (f r).name ≡ r.name
-    name r = on_row-keeps caller.name start_session (λ x. x.name) (λ x. refl) r
-
-    IsCaller : Row → Type 0
-    IsCaller r = ((same_name r.name caller.name ≡ true) × (r.name ≡ caller.name)) ⊎ (same_name r.name caller.name ≡ false)
-
-    group_of_caller : (r : Row) → same_name r.name caller.name ≡ true → (f r).group ≡ r.name
-    group_of_caller r e = ap (λ b. (if b then start_session r else r).group) e
-
-    group_of_other : (r : Row) → same_name r.name caller.name ≡ false → (f r).group ≡ r.group
-    group_of_other r e = ap (λ b. (if b then start_session r else r).group) e
-
-    session_of_other : (r : Row) → same_name r.name caller.name ≡ false → (f r).session ≡ r.session
-    session_of_other r e = ap (λ b. (if b then start_session r else r).session) e
-
     no_member : (r : Row) → IsIn r state.rows → r.group ≡ caller.name → ⊥
     no_member r j e =
         let yes : has_members state caller.name ≡ true = list_any-from_one (λ (row : Row). same_name row.group caller.name) state.rows r j (same_name-refl r.group caller.name e) in cc
 
-    same_session : (a b : Row) → IsIn a state.rows → IsIn b state.rows → a.name ≡ b.name → (f a).session ≡ (f b).session
-    same_session a b j k e = ap (λ (r : Row). (f r).session) (same_row state.rows sound.coherent.rows_rise a b j k e)
-
-    together : (a b : Row) → IsIn a state.rows → IsIn b state.rows → IsCaller a → IsCaller b → (f a).group ≡ (f b).group
-        → (f a).session ≡ (f b).session
-    together a b j k (inl p) (inl q) e = same_session a b j k (p.1 ∙ sym q.1)
-    together a b j k (inl p) (inr q) e = absurd (no_member b k (sym (group_of_other b q) ∙ sym e ∙ group_of_caller a p.0 ∙ p.1))
-    together a b j k (inr p) (inl q) e = absurd (no_member a j (sym (group_of_other a p) ∙ e ∙ group_of_caller b q.0 ∙ q.1))
-    together a b j k (inr p) (inr q) e =
-        session_of_other a p ∙ sound.coherent.groups.together a b j k (sym (group_of_other a p) ∙ e ∙ group_of_other b q)
-        ∙ sym (session_of_other b q)
-
-    leader : (a b : Row) → IsIn a state.rows → IsIn b state.rows → IsCaller a → IsCaller b → (f a).group ≡ b.name → (f a).session ≡ (f b).session
-    leader a b j k (inl p) q e = same_session a b j k (sym (group_of_caller a p.0) ∙ e)
-    leader a b j k (inr p) (inl q) e = absurd (no_member a j (sym (group_of_other a p) ∙ e ∙ q.1))
-    leader a b j k (inr p) (inr q) e =
-        session_of_other a p ∙ sound.coherent.groups.leader a b j k (sym (group_of_other a p) ∙ e) ∙ sym (session_of_other b q)
-
 -- a setsid leaves a sound state
 pub set_sid_keeps : (state : State) (stamp n : ℕ) → IsSound state → IsBelow stamp state → Keeps stamp (set_sid state n)
-unfolding with_row
 set_sid_keeps state stamp n sound below =
     set_sid_cases (Keeps stamp) state n (λ r. Keeps-same stamp state _ sound below) (λ caller found none.
     let i : IsIn caller state.rows = (live_row-Some state.rows n caller found).0 in
-    let name : Name = caller.name in
-    Keeps-map_rows stamp state (on_row name start_session) _ sound below (record {
-      names = on_row-keeps name start_session (λ r. r.name) (λ r. refl);
-      parents = on_row-keeps name start_session (λ r. r.parent) (λ r. refl);
-      lives = on_row-keeps name start_session (λ r. is_live r) (λ r. refl);
-      group = λ r k. on_row-both (λ x. IsIn x.group (names_in_use state.rows)) name start_session r (λ e. own_name_in_use state.rows r k) (group_in_use state.rows r k);
-      session = λ r k. on_row-both (λ x. IsIn x.session (names_in_use state.rows)) name start_session r (λ e. own_name_in_use state.rows r k) (session_in_use state.rows r k);
-      children = λ r k. on_row-both (HasGoodChildrenSpace state.spaces) name start_session r (λ e. sound.coherent.children r k) (sound.coherent.children r k);
-      groups = HasGoodGroups-start_session state sound caller i none;
-      homes = λ r k. on_row-both (λ x. (c : Control) × (control_at state.controls x.home ≡ Some c)) name start_session r (λ e. sound.coherent.homes r k) (sound.coherent.homes r k);
-    }) (λ r k. on_row-both (λ x. x.children_space < stamp) name start_session r (λ e. below.children r k) (below.children r k)))
+    Keeps-placed stamp state caller start_session _ sound below i (λ r. refl) (IsOpen-new state caller i none))

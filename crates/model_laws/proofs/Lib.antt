@@ -9,6 +9,7 @@ pub mod Trees
 pub mod Forests
 pub mod Sweeps
 pub mod RowMaps
+pub mod Placed
 pub mod Kept
 pub mod ControlsKept
 pub mod Ancestry
@@ -19,6 +20,7 @@ pub mod ExitKept
 pub mod Inserts
 pub mod ForkKept
 pub mod StepKept
+pub mod Restored
 pub mod Bounds
 pub mod Limits
 pub mod Reuse

@@ -1,4 +1,5 @@
 //! Every call leaves a sound state.
+ghost use Rattle.model_laws.specs.RestoreLaws.{EnlistingKeepsSoundness, CursorsKeepSoundness};
 ghost use Rattle.model_laws.specs.StepLaws.{BoundStays, RootInitLives, RootNeverFalls, RootStateIsSound};
 ghost use Rattle.model_laws.specs.StepLaws.{RunsKeepSoundness, StepKeepsSoundness};
 
@@ -12,6 +13,13 @@ pub fn root_state_is_sound()
 pub fn soundness_is_kept()
     ensures step { StepKeepsSoundness }
     ensures run { RunsKeepSoundness }
+{}
+
+/// What makes a saved table again leaves a sound state, whose ids are below the stamp, as the calls do: a task that goes
+/// to another's group and session, and a cursor that is put elsewhere.
+pub fn soundness_is_restored()
+    ensures enlisting { EnlistingKeepsSoundness }
+    ensures cursors { CursorsKeepSoundness }
 {}
 
 /// No run of calls changes the bound of all numbers.
