@@ -1,5 +1,5 @@
 -- Calls that change fields of rows leave a sound state.
-use Rattle.std.proofs.Common.{◌≡◌, ℕ, ℤ, pos, negsuc, ◌+◌, ◌<◌, Bool, true, false, ◌&&◌, ◌||◌, not, ◌==◌, List, map, Option, Some, None, refl, sym, ap, ◌∙◌, subst, ◌⊎◌, inl, inr, arith}
+use Rattle.std.proofs.Common.{◌≡◌, ℕ, ℤ, pos, negsuc, ◌+◌, ◌<◌, Bool, true, false, ◌&&◌, ◌||◌, not, ◌==◌, map, Option, Some, None, refl, sym, ap, ◌∙◌, subst, ◌⊎◌, inl, inr, arith}
 use Rattle.std.specs.Prelude.{find, option_map, if◌then◌else◌}
 use Rattle.std.proofs.lemmas.Bool.{cases_Bool, and_parts, or_cases, not-false}
 use Rattle.pid_types.specs.declared.plain.Name.{Name}
@@ -13,8 +13,8 @@ use Rattle.pid_types.specs.Outcome.{Outcome, sweep, answered, changed}
 use Rattle.pid_types.specs.Groups.{target_of, session_group, group_for, set_group, set_pgid, has_members, start_session, set_sid}
 use Rattle.pid_types.specs.Changes.{set_executed, exec, set_home, move_task, set_children_space, join, set_mark, set_subreaper}
 use Rattle.pid_types.specs.Membership.{IsIn}
-use Rattle.pid_types.specs.Sound.{HasGoodChildrenSpace, HasGoodGroups, IsCoherent, IsSound, IsBelow}
-use Rattle.model_laws.proofs.Lists.{IsIn-from_map, find-Some, list_any-from_one}
+use Rattle.pid_types.specs.Sound.{HasGoodChildrenSpace, IsCoherent, IsSound, IsBelow}
+use Rattle.model_laws.proofs.Lists.{find-Some, list_any-from_one}
 use Rattle.model_laws.proofs.Names.{on_row-keeps, on_row-both, same_name-true, same_name-refl, own_name_in_use, group_in_use, session_in_use, number-within, is_numbered-true}
 use Rattle.model_laws.proofs.Trees.{space_at-Some, same_row, live_row-Some, path_first}
 use Rattle.model_laws.proofs.Sweeps.{from_kept, IsSound-sweep}
@@ -210,7 +210,8 @@ placed_keeps stamp state target change sound below i same free = (
     controls = below.controls;
     children = each_of_map (λ r. r.children_space < stamp) (on_row target.name change) state.rows (λ r j.
         subst (λ n. n < stamp) (sym (on_row-keeps target.name change (λ x. x.children_space) (λ x. ap (λ (y : Row). y.children_space) (same x)) r)) (below.children r j));
-  })
+  },
+)
 
 -- and so does a call that does this
 Keeps-placed : (stamp : ℕ) (state : State) (target : Row) (change : Row → Row) (reply : Reply) → IsSound state → IsBelow stamp state

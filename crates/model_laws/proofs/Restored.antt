@@ -1,5 +1,5 @@
 -- What makes a saved table again leaves a sound state.
-use Rattle.std.proofs.Common.{◌≡◌, ℕ, ◌<◌, Bool, true, false, ◌||◌, not, ◌==◌, List, map, Option, Some, None, refl, sym, ap, ◌∙◌, subst, ◌⊎◌, inl, inr}
+use Rattle.std.proofs.Common.{◌≡◌, ℕ, ◌<◌, Bool, true, false, not, List, map, Option, Some, None, refl, sym, ap, ◌∙◌, subst, inl, inr}
 use Rattle.std.specs.Prelude.{if◌then◌else◌}
 use Rattle.std.specs.Option.{option_map_or}
 use Rattle.std.proofs.lemmas.Bool.{or_cases, not-true}
@@ -139,4 +139,5 @@ with_cursor_keeps stamp state id n sound below = (
     spaces = λ s i. let q = IsIn-from_map (put_cursor id n) s state.spaces i in subst (λ (x : Space). x.id < stamp) (sym q.2) (below.spaces q.0 q.1);
     controls = below.controls;
     children = below.children;
-  })
+  },
+)
