@@ -221,6 +221,14 @@ impl CyclicIds {
         }
     }
 
+    /// The next draw begins at the number, as if the one below it had been drawn last: a table that was saved has its
+    /// cursors again. The numbers in use stay.
+    pub fn set_cursor(&mut self, cursor: Pid)
+        ensures { self.new ≡ record self.old { cursor = cursor } }
+    {
+        self.cursor = cursor;
+    }
+
     /// Where a draw starts again: 300 once the cursor has passed it, so that the low numbers stay with
     /// the first processes, and else 1.
     fn restart(&self) -> Pid

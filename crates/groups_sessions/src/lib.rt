@@ -110,6 +110,17 @@ impl Members {
         self.groups.move_to(task, ident);
     }
 
+    /// A task goes to a group in a session, whichever it was in. Whoever is in the group must be in that session.
+    pub fn move_to(&mut self, task: TaskKey, group: IdentKey, session: IdentKey)
+        requires group { group < length self.old }
+        requires there { IsSome (membership_at self.old task) }
+        requires together { AreInSession self.old group session }
+        ensures { self.new ≡ slice_set self.old task (Some (record { group = group; session = session })) }
+    {
+        self.sessions[group as usize] = session;
+        self.groups.move_to(task, group);
+    }
+
     /// A task leads a new session and a new group in it, both named after the identifier: `setsid(2)`.
     /// Nobody may be in that group.
     pub fn start_session(&mut self, task: TaskKey, ident: IdentKey)
@@ -118,8 +129,7 @@ impl Members {
         requires free { (k : ℕ) → group_of self.old k ≢ Some ident }
         ensures { self.new ≡ slice_set self.old task (Some (record { group = ident; session = ident })) }
     {
-        self.sessions[ident as usize] = ident;
-        self.groups.move_to(task, ident);
+        self.move_to(task, ident, ident);
     }
 
     /// A task is gone: it was reaped.

@@ -7,4 +7,5 @@
 
 pub mod controls;
 pub mod groups;
+pub mod restore;
 pub mod tasks;

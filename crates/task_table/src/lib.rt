@@ -237,6 +237,28 @@ impl Tasks {
         take_use(&mut self.numbers, old, Kind::Group);
     }
 
+    /// A task goes to a group in a session, whichever it was in. All members of the group are in that session.
+    pub fn move_to(&mut self, key: TaskKey, group: IdentKey, session: IdentKey)
+        requires there { IsSome (membership_at self.old.members key) }
+        requires group { IsSome (identifier_at self.old.numbering group) }
+        requires session { IsSome (identifier_at self.old.numbering session) }
+        requires room { group < length self.old.members }
+        requires together { AreInSession self.old.members group session }
+        ensures members { self.new.members ≡ slice_set self.old.members key
+            (Some (record { group = group; session = session })) }
+        ensures numbers { IsLess self.old.numbering self.new.numbering }
+        ensures rest { (self.new.tree ≡ self.old.tree) × (self.new.charges ≡ self.old.charges) }
+    {
+        self.numbers.laws();
+        self.tree.laws();
+        self.members.laws();
+        let old_group = self.members.group(key);
+        let old_session = self.members.session(key);
+        add_uses(&mut self.numbers, group, session);
+        self.members.move_to(key, group, session);
+        take_uses(&mut self.numbers, old_group, old_session);
+    }
+
     /// A task leads a new session and a new group in it, both named after its identifier. Nobody is in that
     /// group.
     pub fn start_session(&mut self, key: TaskKey)
@@ -247,14 +269,8 @@ impl Tasks {
         ensures numbers { IsLess self.old.numbering self.new.numbering }
         ensures rest { (self.new.tree ≡ self.old.tree) × (self.new.charges ≡ self.old.charges) }
     {
-        self.numbers.laws();
-        self.tree.laws();
-        self.members.laws();
-        let group = self.members.group(key);
-        let session = self.members.session(key);
-        add_uses(&mut self.numbers, key, key);
-        self.members.start_session(key, key);
-        take_uses(&mut self.numbers, group, session);
+        self.laws();
+        self.move_to(key, key, key);
     }
 
     /// A task is gone. Its children, if it has any, keep its key as their parent's.

@@ -1,7 +1,4 @@
-use Rattle.groups_sessions.proofs.Views.{entered}
 use Rattle.groups_sessions.proofs.Members.start_session.Goals as goal
 
-pub returns : goal.returns
-returns c =
-    rw c.move_to.ensures (entered c.self.inside.groups c.self.inside.sessions.items c.args.self.now c.self.view_is c.self.invariant c.args.task c.args.ident c.args.ident c.requires.group
-    (λ k mine. absurd (c.requires.free k mine)))
+pub move_to-requires-clause-together : goal.move_to-requires-clause-together
+move_to-requires-clause-together c = λ k mine. absurd (c.requires.free k mine)
