@@ -197,15 +197,15 @@ target_session state sound caller target i j same own = elim (or_cases (is_paren
     child_session true false e h k = absurd (cc)
     child_session false false e h k = absurd (cc)
 
--- a task that goes to a group and a session that are open to it leaves a coherent state, and ids below the stamp
-pub placed_keeps : (stamp : ℕ) (state : State) (target : Row) (change : Row → Row) → IsSound state → IsBelow stamp state → IsIn target state.rows
+-- a task that goes to a group and a session that are open to it leaves a coherent state, and ids below each stamp that they were below
+pub placed_keeps : (state : State) (target : Row) (change : Row → Row) → IsSound state → IsIn target state.rows
     → ((r : Row) → change r ≡ record r { group = (change r).group; session = (change r).session })
     → IsOpen state target (change target).group (change target).session
-    → IsCoherent (with_row state target.name change) × IsBelow stamp (with_row state target.name change)
+    → IsCoherent (with_row state target.name change) × ((stamp : ℕ) → IsBelow stamp state → IsBelow stamp (with_row state target.name change))
 unfolding with_row
-placed_keeps stamp state target change sound below i same free = (
+placed_keeps state target change sound i same free = (
   IsCoherent-map_rows state (on_row target.name change) sound.coherent (KeepsRows-placed state sound target i change same free),
-  record {
+  λ stamp below. record {
     spaces = below.spaces;
     controls = below.controls;
     children = each_of_map (λ r. r.children_space < stamp) (on_row target.name change) state.rows (λ r j.
@@ -219,8 +219,8 @@ Keeps-placed : (stamp : ℕ) (state : State) (target : Row) (change : Row → Ro
     → IsOpen state target (change target).group (change target).session
     → Keeps stamp (changed (with_row state target.name change) reply)
 Keeps-placed stamp state target change reply sound below i same free =
-    let k = placed_keeps stamp state target change sound below i same free in
-    Keeps-changed stamp (with_row state target.name change) reply k.0 (IsBelow-next stamp (with_row state target.name change) k.1)
+    let k = placed_keeps state target change sound i same free in
+    Keeps-changed stamp (with_row state target.name change) reply k.0 (IsBelow-next stamp (with_row state target.name change) (k.1 stamp below))
 
 -- a setpgid leaves a sound state
 pub set_pgid_keeps : (state : State) (stamp n : ℕ) (pid pgid : ℤ) → IsSound state → IsBelow stamp state → Keeps stamp (set_pgid state n pid pgid)

@@ -12,7 +12,8 @@ use Rattle.pid_types.specs.Outcome.{sweep}
 use Rattle.pid_types.specs.Groups.{has_members}
 use Rattle.pid_types.specs.Restore.{enlist, may_enlist, enlisted, put_cursor, with_cursor}
 use Rattle.pid_types.specs.Membership.{IsIn}
-use Rattle.pid_types.specs.Sound.{HasLiveInit, IsEmptied, IsSound, IsBelow}
+use Rattle.pid_types.specs.Sound.{HasLiveInit, IsEmptied, IsSound}
+use Rattle.model_laws.specs.RestoreLaws.{StaysSound}
 use Rattle.model_laws.proofs.Lists.{IsIn-from_map, list_any-from_one}
 use Rattle.model_laws.proofs.Names.{same_name-true, same_name-refl, own_name_in_use, session_in_use}
 use Rattle.model_laws.proofs.Trees.{same_row, live_row-Some}
@@ -37,29 +38,30 @@ IsOpen-leader state sound task leader i j may = record {
   ];
 }
 
--- the state after is sound, and its ids are below the stamp
-pub enlisted_keeps : (stamp : ℕ) (state : State) (n m : ℕ) → IsSound state → IsBelow stamp state
-    → IsSound (enlisted state n m) × IsBelow stamp (enlisted state n m)
+-- the state after is sound
+pub enlisted_keeps : (state : State) (n m : ℕ) → IsSound state → StaysSound state (enlisted state n m)
 unfolding enlisted
-enlisted_keeps stamp state n m sound below = task (live_row state.rows n) refl
+enlisted_keeps state n m sound = task (live_row state.rows n) refl
   where
-    goes : (t l : Row) → IsIn t state.rows → IsIn l state.rows → (b : Bool) → may_enlist state t l ≡ b
-        → IsSound (if b then sweep (with_row state t.name (enlist l)) else state) × IsBelow stamp (if b then sweep (with_row state t.name (enlist l)) else state)
-    goes t l i j false e = (sound, below)
-    goes t l i j true e =
-        let k = placed_keeps stamp state t (enlist l) sound below i (λ r. refl) (IsOpen-leader state sound t l i j e) in
-        (IsSound-sweep (with_row state t.name (enlist l)) k.0, IsBelow-sweep stamp (with_row state t.name (enlist l)) k.1)
+    went : Row → Row → State
+    went t l = if may_enlist state t l then sweep (with_row state t.name (enlist l)) else state
 
-    leader : (t : Row) → IsIn t state.rows → (o : Option Row) → live_row state.rows m ≡ o
-        → IsSound (option_map_or (λ l. if may_enlist state t l then sweep (with_row state t.name (enlist l)) else state) o state)
-        × IsBelow stamp (option_map_or (λ l. if may_enlist state t l then sweep (with_row state t.name (enlist l)) else state) o state)
-    leader t i None e = (sound, below)
+    same : StaysSound state state
+    same = (sound, λ stamp below. below)
+
+    goes : (t l : Row) → IsIn t state.rows → IsIn l state.rows → (b : Bool) → may_enlist state t l ≡ b
+        → StaysSound state (if b then sweep (with_row state t.name (enlist l)) else state)
+    goes t l i j false e = same
+    goes t l i j true e =
+        let k = placed_keeps state t (enlist l) sound i (λ r. refl) (IsOpen-leader state sound t l i j e) in
+        (IsSound-sweep (with_row state t.name (enlist l)) k.0, λ stamp below. IsBelow-sweep stamp (with_row state t.name (enlist l)) (k.1 stamp below))
+
+    leader : (t : Row) → IsIn t state.rows → (o : Option Row) → live_row state.rows m ≡ o → StaysSound state (option_map_or (went t) o state)
+    leader t i None e = same
     leader t i (Some l) e = goes t l i (live_row-Some state.rows m l e).0 (may_enlist state t l) refl
 
-    task : (o : Option Row) → live_row state.rows n ≡ o
-        → IsSound (option_map_or (λ t. option_map_or (λ l. if may_enlist state t l then sweep (with_row state t.name (enlist l)) else state) (live_row state.rows m) state) o state)
-        × IsBelow stamp (option_map_or (λ t. option_map_or (λ l. if may_enlist state t l then sweep (with_row state t.name (enlist l)) else state) (live_row state.rows m) state) o state)
-    task None e = (sound, below)
+    task : (o : Option Row) → live_row state.rows n ≡ o → StaysSound state (option_map_or (λ t. option_map_or (went t) (live_row state.rows m) state) o state)
+    task None e = same
     task (Some t) e = leader t (live_row-Some state.rows n t e).0 (live_row state.rows m) refl
 
 -- ---- the cursors
@@ -129,13 +131,12 @@ module _ (state : State) (h : Space → Space) (ids : (s : Space) → (h s).id �
         (u.0, u.1, u.2, ap (number changed_spaces u.0) t.2 ∙ numbers u.0 t.0.id ∙ u.3);
   }
 
--- a cursor that is put elsewhere leaves a sound state, whose ids are below the stamp
-pub with_cursor_keeps : (stamp : ℕ) (state : State) (id n : ℕ) → IsSound state → IsBelow stamp state
-    → IsSound (with_cursor state id n) × IsBelow stamp (with_cursor state id n)
+-- a cursor that is put elsewhere leaves a sound state, and no new id
+pub with_cursor_keeps : (state : State) (id n : ℕ) → IsSound state → StaysSound state (with_cursor state id n)
 unfolding with_cursor
-with_cursor_keeps stamp state id n sound below = (
+with_cursor_keeps state id n sound = (
   IsSound-map_spaces state (put_cursor id n) (λ s. refl) (λ s. refl) (λ s. refl) sound,
-  record {
+  λ stamp below. record {
     spaces = λ s i. let q = IsIn-from_map (put_cursor id n) s state.spaces i in subst (λ (x : Space). x.id < stamp) (sym q.2) (below.spaces q.0 q.1);
     controls = below.controls;
     children = below.children;

@@ -15,8 +15,8 @@ pub fn soundness_is_kept()
     ensures run { RunsKeepSoundness }
 {}
 
-/// What makes a saved table again leaves a sound state, whose ids are below the stamp, as the calls do: a task that goes
-/// to another's group and session, and a cursor that is put elsewhere.
+/// What makes a saved table again leaves a sound state with no new id: a task that goes to another's group and session,
+/// and a cursor that is put elsewhere.
 pub fn soundness_is_restored()
     ensures enlisting { EnlistingKeepsSoundness }
     ensures cursors { CursorsKeepSoundness }

@@ -6,3 +6,4 @@ pub mod InSession
 pub mod Asked
 pub mod Regrouped
 pub mod Led
+pub mod Enlisted
