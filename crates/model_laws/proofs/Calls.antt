@@ -71,6 +71,19 @@ no_room_cases P old state caller t refusal made = full (find (λ s. is_none (dra
     full (Some s) e = refusal (NoNumber s)
     full None e = limited (passed_limit state caller.home) refl e
 
+-- a fork with no new namespace is refused, or its child is in the children's namespace
+pub fork_plain_cases : (P : Outcome → Type 0) (state : State) (stamp n : ℕ)
+    → ((r : Refusal) → P (refused state r))
+    → ((caller : Row) → live_row state.rows n ≡ Some caller → is_gone state caller.children_space ≡ false → MayFork state caller caller.children_space
+    → P (forked state caller caller.children_space))
+    → P (fork state stamp n false)
+unfolding fork
+fork_plain_cases P state stamp n refusal old =
+    for_found_cases P state (live_row state.rows n) NoCaller _ (refusal NoCaller) (λ caller found.
+    refuse_if_cases P state _ SpaceFallen _ (refusal SpaceFallen) (λ stands.
+    no_room_cases P state state caller caller.children_space refusal (λ may.
+    old caller found stands may)))
+
 -- a fork is refused, or makes a child in the children's namespace, or in a new one below it
 pub fork_cases : (P : Outcome → Type 0) (state : State) (stamp n : ℕ) (new_space : Bool)
     → ((r : Refusal) → P (refused state r))
@@ -88,11 +101,7 @@ fork_cases P state stamp n true refusal old new =
     refuse_if_cases P state _ SpaceFallen _ (refusal SpaceFallen) (λ stands.
     no_room_cases P state (with_space state caller.children_space stamp) caller stamp refusal (λ may.
     new caller found stands shallow (not-false _ here) may)))))
-fork_cases P state stamp n false refusal old new =
-    for_found_cases P state (live_row state.rows n) NoCaller _ (refusal NoCaller) (λ caller found.
-    refuse_if_cases P state _ SpaceFallen _ (refusal SpaceFallen) (λ stands.
-    no_room_cases P state state caller caller.children_space refusal (λ may.
-    old caller found stands may)))
+fork_cases P state stamp n false refusal old new = fork_plain_cases P state stamp n refusal old
 
 -- ---- exit and wait
 

@@ -21,7 +21,7 @@ use Rattle.model_laws.proofs.Rising.{IsRising-filter}
 use Rattle.model_laws.proofs.Trees.{control_to_root, control_at-Some, root_control_parent, control_path_listed}
 use Rattle.model_laws.proofs.Forests.{at-map, chain-map, IsTree-map, at-push_old, chain-push, IsIn-chain_new, IsTree-push}
 use Rattle.model_laws.proofs.RowMaps.{IsCoherent-map_rows, HasGoodGroups-map, each_of_map}
-use Rattle.model_laws.proofs.Kept.{Keeps, Keeps-same, Keeps-changed}
+use Rattle.model_laws.proofs.Kept.{Keeps, Keeps-same, Keeps-next, Keeps-changed}
 use Rattle.model_laws.proofs.Calls.{make_control_cases, remove_control_cases, set_limit_cases}
 
 -- a coherent state with other control groups, where each home is
@@ -88,13 +88,13 @@ module _ (controls : List Control) (tree : IsTreeOfControls controls) (stamp par
       (λ c i. path_old c.id (tree.chains c i)) (path_new on short) elder tree
 
 -- a new control group leaves a sound state
-pub make_control_keeps : (state : State) (stamp parent : ℕ) → IsSound state → IsBelow stamp state → Keeps stamp (make_control state stamp parent)
+pub make_control_keeps : (state : State) (stamp parent : ℕ) → IsSound state → IsBelow stamp state → Keeps (stamp + 1) (make_control state stamp parent)
 unfolding with_control
 make_control_keeps state stamp parent sound below =
-    make_control_cases (Keeps stamp) state stamp parent (λ r. Keeps-same stamp state _ sound below) (λ c found shallow.
+    make_control_cases (Keeps (stamp + 1)) state stamp parent (λ r. Keeps-next stamp _ (Keeps-same stamp state _ sound below)) (λ c found shallow.
     let tree : IsTreeOfControls state.controls = sound.coherent.controls in
     let on : IsIn 0 (control_path state.controls parent) = control_to_root state.controls tree parent c found in
-    Keeps-changed stamp (with_control state parent stamp) _
+    Keeps-changed (stamp + 1) (with_control state parent stamp) _
     (IsCoherent-controls state (with_made state.controls tree stamp parent below.controls) sound.coherent
     (IsTreeOfControls-made state.controls tree stamp parent below.controls on (ltb-false 64 (length (control_path state.controls parent)) shallow)
     (let at = control_at-Some state.controls parent c found in subst (λ x. x < stamp) at.1 (below.controls c at.0)))
@@ -229,7 +229,7 @@ remove_control_keeps state stamp id sound below =
     (record {
       spaces = λ s i. omega (arith, below.spaces s i);
       controls = λ d i. omega (arith, below.controls d (IsIn-from_filter (λ c. not (c.id == id)) d state.controls i).0);
-      children = each_of_map (λ r. r.children_space < stamp + 1) (rehome id parent) state.rows (λ r i. omega (arith, below.children r i));
+      children = each_of_map (λ r. r.children_space < stamp) (rehome id parent) state.rows (λ r i. omega (arith, below.children r i));
     }))
 
 -- ---- a limit

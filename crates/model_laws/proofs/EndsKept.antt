@@ -1,5 +1,5 @@
 -- Wait and the fall of a namespace leave a sound state.
-use Rattle.std.proofs.Common.{◌≡◌, ℕ, ◌+◌, ◌<◌, Bool, true, false, ◌&&◌, not, ◌==◌, List, [], ◌∷◌, map, Option, Some, None, refl, sym, ap, ◌∙◌, subst, inl, inr, arith}
+use Rattle.std.proofs.Common.{◌≡◌, ℕ, ◌<◌, Bool, true, false, ◌&&◌, not, ◌==◌, List, [], ◌∷◌, map, Option, Some, None, refl, sym, ap, ◌∙◌, subst, inl, inr, arith}
 use Rattle.std.specs.Prelude.{filter, nat_lt, if◌then◌else◌}
 use Rattle.std.specs.Option.{option_map_or}
 use Rattle.std.proofs.lemmas.List.{map-id}
@@ -236,15 +236,15 @@ module _ (state : State) (sound : IsCoherent state) (init : Row) (status : ℕ) 
   unfolding fall rows_after_fall
   IsCoherent-fall = IsCoherent-survivors state stays_in_fall after_fall after_fall_space sound KeepsSurvivors-fall
 
-  -- and its ids below the next stamp
-  pub IsBelow-fall : (stamp : ℕ) → IsBelow stamp state → IsBelow (stamp + 1) (fall state init status)
+  -- and its ids below the stamp
+  pub IsBelow-fall : (stamp : ℕ) → IsBelow stamp state → IsBelow stamp (fall state init status)
   unfolding fall rows_after_fall
   IsBelow-fall stamp below = record {
     spaces = each_of_map_space;
     controls = λ c i. omega (arith, below.controls c i);
     children =
-        each_of_map (λ r. r.children_space < stamp + 1) after_fall (filter stays_in_fall state.rows) (λ r i. omega (arith, below.children r (IsIn-from_filter stays_in_fall r state.rows i).0));
+        each_of_map (λ r. r.children_space < stamp) after_fall (filter stays_in_fall state.rows) (λ r i. omega (arith, below.children r (IsIn-from_filter stays_in_fall r state.rows i).0));
   }
     where
-      each_of_map_space : (s : Space) → IsIn s (map after_fall_space state.spaces) → s.id < stamp + 1
+      each_of_map_space : (s : Space) → IsIn s (map after_fall_space state.spaces) → s.id < stamp
       each_of_map_space s i = let q = IsIn-from_map after_fall_space s state.spaces i in omega (arith, below.spaces q.0 q.1, ap (λ (t : Space). t.id) q.2)

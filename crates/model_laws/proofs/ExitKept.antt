@@ -416,5 +416,5 @@ exit_keeps state stamp n status sound below =
       spaces = λ s i. omega (arith, below.spaces s i);
       controls = λ d i. omega (arith, below.controls d i);
       children =
-          each_of_map (λ r. r.children_space < stamp + 1) (row_after_exit caller (new_parent state caller) (Exited status)) state.rows (λ r i. omega (arith, below.children r i));
+          each_of_map (λ r. r.children_space < stamp) (row_after_exit caller (new_parent state caller) (Exited status)) state.rows (λ r i. omega (arith, below.children r i));
     }))

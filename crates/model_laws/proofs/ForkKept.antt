@@ -10,11 +10,11 @@ use Rattle.pid_types.specs.declared.plain.Space.{Space}
 use Rattle.pid_types.specs.declared.plain.Control.{Control}
 use Rattle.pid_types.specs.Chains.{climb, contains}
 use Rattle.pid_types.specs.State.{State}
-use Rattle.pid_types.specs.Names.{space_at, parent_space, path_up, level, number, root_number, is_live, row_at, names_in_use, taken}
+use Rattle.pid_types.specs.Names.{live_row, space_at, parent_space, path_up, level, number, root_number, is_live, row_at, names_in_use, taken}
 use Rattle.pid_types.specs.Draw.{cyclic_draw, cursor_of, draw}
 use Rattle.pid_types.specs.Controls.{control_at}
 use Rattle.pid_types.specs.Exit.{parent_number}
-use Rattle.pid_types.specs.Fork.{insert_row, with_space, drawn, moved_cursor, with_cursors, child_of, is_gone, with_child, fork}
+use Rattle.pid_types.specs.Fork.{forked, insert_row, with_space, drawn, moved_cursor, with_cursors, child_of, is_gone, with_child, fork}
 use Rattle.pid_types.specs.Membership.{IsIn}
 use Rattle.model_laws.specs.Draws.{IsCyclicDraw, IsLeastFree}
 use Rattle.pid_types.specs.Sound.{IsRising, IsWellNumbered, IsGoodParent, HasGoodParents, HasGoodChildrenSpace, HasLiveInit, IsEmptied, IsTreeOfSpaces, RootStands, IsCoherent, IsSound, IsBelow}
@@ -26,8 +26,8 @@ use Rattle.model_laws.proofs.Forests.{at-push_old, at-push_none, at-push_new, no
 use Rattle.model_laws.proofs.SpaceMaps.{path_up-map, number-map_spaces, IsTreeOfSpaces-map, IsWellNumbered-map, HasGoodChildrenSpace-map}
 use Rattle.model_laws.proofs.Ancestry.{Far, Far-same, roots, IsIn-roots, parent_number-at, chain-in_rows, number-root, top_row, row_far, parent_row}
 use Rattle.model_laws.proofs.Inserts.{IsIn-from_insert, IsIn-insert_new, IsIn-insert_old, IsRising-insert, number-child_of, number-child_of_at, drawn-free}
-use Rattle.model_laws.proofs.Kept.{Keeps, Keeps-same, Keeps-changed}
-use Rattle.model_laws.proofs.Calls.{MayFork, fork_cases}
+use Rattle.model_laws.proofs.Kept.{Keeps, Keeps-same, Keeps-next, Keeps-changed, IsBelow-next}
+use Rattle.model_laws.proofs.Calls.{MayFork, fork_cases, fork_plain_cases}
 
 -- the namespaces are ready for a child of the caller in t: those of a coherent state, perhaps with t new among them
 pub record IsReady (old : State) (spaces : List Space) (caller : Row) (t : ℕ) : Type 0 where
@@ -312,15 +312,15 @@ module _ (old : State) (sound : IsCoherent old) (spaces : List Space) (caller : 
     homes = each_after (λ r. (c : Control) × (control_at old.controls r.home ≡ Some c)) (sound.homes caller there) sound.homes;
   }
 
-  -- and its ids below the next stamp
-  pub IsBelow-forked : (stamp : ℕ) → IsBelow stamp old → ((s : Space) → IsIn s spaces → s.id < stamp + 1)
-      → IsBelow (stamp + 1) (with_child state child path)
+  -- and its ids below the stamp
+  pub IsBelow-forked : (stamp : ℕ) → IsBelow stamp old → ((s : Space) → IsIn s spaces → s.id < stamp)
+      → IsBelow stamp (with_child state child path)
   unfolding with_cursors
   IsBelow-forked stamp below ids = record {
     spaces = λ s i. let q = IsIn-from_map cursor_after s spaces i in let l = ids q.0 q.1 in omega (arith, l, ap (λ (x : Space). x.id) q.2);
     controls = λ c i. omega (arith, below.controls c i);
     children =
-        each_after (λ r. r.children_space < stamp + 1) (let l = ids ready.target.0 ready.target.1 in omega (arith, l, ready.target.2)) (λ r i. omega (arith, below.children r i));
+        each_after (λ r. r.children_space < stamp) (let l = ids ready.target.0 ready.target.1 in omega (arith, l, ready.target.2)) (λ r i. omega (arith, below.children r i));
   }
 
 -- ---- a child in the children's namespace
@@ -525,24 +525,34 @@ module _ (state : State) (sound : IsCoherent state) (stamp : ℕ) (below : IsBel
 
 -- ---- the call
 
--- a fork leaves a sound state
-pub fork_keeps : (state : State) (stamp n : ℕ) (new_space : Bool) → IsSound state → IsBelow stamp state → Keeps stamp (fork state stamp n new_space)
-fork_keeps state stamp n new_space sound below =
-    fork_cases (Keeps stamp) state stamp n new_space (λ r. Keeps-same stamp state _ sound below)
-    (λ caller found stands may.
+-- a child in the children's namespace leaves a sound state
+forked_keeps : (state : State) (stamp n : ℕ) → IsSound state → IsBelow stamp state → (caller : Row) → live_row state.rows n ≡ Some caller
+    → is_gone state caller.children_space ≡ false → MayFork state caller caller.children_space → Keeps stamp (forked state caller caller.children_space)
+forked_keeps state stamp n sound below caller found stands may =
     let c = live_row-Some state.rows n caller found in
     let ready : IsReady state state.spaces caller caller.children_space = IsReady-old state sound.coherent caller c.0 stands may in
     Keeps-changed stamp (with_child state (child_of state caller caller.children_space) (path_up state.spaces caller.children_space)) _
     (IsCoherent-forked state sound.coherent state.spaces caller caller.children_space ready c.0 c.2 may)
-    (IsBelow-forked state sound.coherent state.spaces caller caller.children_space ready c.0 c.2 may stamp below (λ s i. omega (arith, below.spaces s i))))
+    (IsBelow-forked state sound.coherent state.spaces caller caller.children_space ready c.0 c.2 may stamp below below.spaces)
+
+-- so a fork into it makes no id
+pub fork_plain_keeps : (state : State) (stamp n : ℕ) → IsSound state → IsBelow stamp state → Keeps stamp (fork state stamp n false)
+fork_plain_keeps state stamp n sound below =
+    fork_plain_cases (Keeps stamp) state stamp n (λ r. Keeps-same stamp state _ sound below) (forked_keeps state stamp n sound below)
+
+-- a fork leaves a sound state
+pub fork_keeps : (state : State) (stamp n : ℕ) (new_space : Bool) → IsSound state → IsBelow stamp state → Keeps (stamp + 1) (fork state stamp n new_space)
+fork_keeps state stamp n new_space sound below =
+    fork_cases (Keeps (stamp + 1)) state stamp n new_space (λ r. Keeps-next stamp _ (Keeps-same stamp state _ sound below))
+    (λ caller found stands may. Keeps-next stamp _ (forked_keeps state stamp n sound below caller found stands may))
     (λ caller found stands shallow here may.
     let c = live_row-Some state.rows n caller found in
     let p : ℕ = caller.children_space in
     let spaces : List Space = with_new state sound.coherent stamp below p stands shallow in
     let ready : IsReady state spaces caller stamp = IsReady-new state sound.coherent stamp below p stands shallow caller c.0 (eqb-true p caller.name.space here) may in
-    Keeps-changed stamp (with_child (with_space state p stamp) (child_of (with_space state p stamp) caller stamp) (path_up spaces stamp)) _
+    Keeps-changed (stamp + 1) (with_child (with_space state p stamp) (child_of (with_space state p stamp) caller stamp) (path_up spaces stamp)) _
     (IsCoherent-forked state sound.coherent spaces caller stamp ready c.0 c.2 may)
-    (IsBelow-forked state sound.coherent spaces caller stamp ready c.0 c.2 may stamp below (λ s i.
+    (IsBelow-forked state sound.coherent spaces caller stamp ready c.0 c.2 may (stamp + 1) (IsBelow-next stamp state below) (λ s i.
     elim (IsIn-append s state.spaces (new state sound.coherent stamp below p stands shallow ∷ []) i) [
       | inl j ↦ omega (arith, below.spaces s j)
       | inr j ↦ elim j [ inl e ↦ (let same : s.id ≡ stamp = ap (λ (t : Space). t.id) e in omega arith) | inr none ↦ elim none [ ] ]

@@ -24,10 +24,10 @@ use Rattle.model_laws.proofs.Calls.{set_pgid_cases, set_sid_cases, exec_cases, m
 
 -- ---- what each call has to leave
 
--- the state after the call is sound, and its ids are below the next stamp
+-- the state after the call is sound, and its ids are below the stamp
 pub record Keeps (stamp : ℕ) (o : Outcome) : Type 0 where
   pub sound : IsSound o.state
-  pub below : IsBelow (stamp + 1) o.state
+  pub below : IsBelow stamp o.state
 
 -- ids below a stamp are below the next
 pub IsBelow-next : (stamp : ℕ) (state : State) → IsBelow stamp state → IsBelow (stamp + 1) state
@@ -48,22 +48,26 @@ IsBelow-sweep stamp state b = record {
 
 -- a call that changes nothing
 pub Keeps-same : (stamp : ℕ) (state : State) (reply : Reply) → IsSound state → IsBelow stamp state → Keeps stamp (answered state reply)
-Keeps-same stamp state reply sound below = record { sound = sound; below = IsBelow-next stamp state below }
+Keeps-same stamp state reply sound below = record { sound = sound; below = below }
+
+-- what is below the stamp is below the next
+pub Keeps-next : (stamp : ℕ) (o : Outcome) → Keeps stamp o → Keeps (stamp + 1) o
+Keeps-next stamp o k = record { sound = k.sound; below = IsBelow-next stamp o.state k.below }
 
 -- a call that makes a coherent state
-pub Keeps-changed : (stamp : ℕ) (new : State) (reply : Reply) → IsCoherent new → IsBelow (stamp + 1) new → Keeps stamp (changed new reply)
-Keeps-changed stamp new reply coherent below = record { sound = IsSound-sweep new coherent; below = IsBelow-sweep (stamp + 1) new below }
+pub Keeps-changed : (stamp : ℕ) (new : State) (reply : Reply) → IsCoherent new → IsBelow stamp new → Keeps stamp (changed new reply)
+Keeps-changed stamp new reply coherent below = record { sound = IsSound-sweep new coherent; below = IsBelow-sweep stamp new below }
 
 -- a change of rows that changes no children's namespace
 Keeps-map_rows : (stamp : ℕ) (state : State) (f : Row → Row) (reply : Reply) → IsSound state → IsBelow stamp state → KeepsRows state f
     → ((r : Row) → IsIn r state.rows → (f r).children_space < stamp) → Keeps stamp (changed (record state { rows = map f state.rows }) reply)
 Keeps-map_rows stamp state f reply sound below keeps children =
     Keeps-changed stamp (record state { rows = map f state.rows }) reply (IsCoherent-map_rows state f sound.coherent keeps)
-    (IsBelow-next stamp (record state { rows = map f state.rows }) (record {
+    (record {
       spaces = below.spaces;
       controls = below.controls;
       children = each_of_map (λ r. r.children_space < stamp) f state.rows children;
-    }))
+    })
 
 -- a change of one task's row that keeps whose it is: its name, parent, life, group and session
 Keeps-on_row : (stamp : ℕ) (state : State) (name : Name) (change : Row → Row) (reply : Reply) → IsSound state → IsBelow stamp state
@@ -220,7 +224,7 @@ Keeps-placed : (stamp : ℕ) (state : State) (target : Row) (change : Row → Ro
     → Keeps stamp (changed (with_row state target.name change) reply)
 Keeps-placed stamp state target change reply sound below i same free =
     let k = placed_keeps state target change sound i same free in
-    Keeps-changed stamp (with_row state target.name change) reply k.0 (IsBelow-next stamp (with_row state target.name change) (k.1 stamp below))
+    Keeps-changed stamp (with_row state target.name change) reply k.0 (k.1 stamp below)
 
 -- a setpgid leaves a sound state
 pub set_pgid_keeps : (state : State) (stamp n : ℕ) (pid pgid : ℤ) → IsSound state → IsBelow stamp state → Keeps stamp (set_pgid state n pid pgid)

@@ -19,17 +19,17 @@ use Rattle.pid_types.specs.Controls.{control_at, control_path, count}
 use Rattle.pid_types.specs.Outcome.{answered, for_found}
 use Rattle.pid_types.specs.Fork.{is_gone}
 use Rattle.pid_types.specs.Changes.{count_tasks}
-use Rattle.pid_types.specs.Step.{step}
+use Rattle.pid_types.specs.Step.{step, makes_id}
 use Rattle.pid_types.specs.Replay.{state_after}
 use Rattle.pid_types.specs.Sound.{IsSound, IsBelow, IsWellNumbered, HasGoodParents}
 use Rattle.model_laws.specs.Script.{EndsSound}
 use Rattle.pid_types.specs.Names.{space_at}
 use Rattle.model_laws.proofs.Trees.{space_at-Some}
-use Rattle.model_laws.proofs.Kept.{Keeps, Keeps-same, exec_keeps, set_subreaper_keeps, move_task_keeps, join_keeps, set_pgid_keeps, set_sid_keeps}
+use Rattle.model_laws.proofs.Kept.{Keeps, Keeps-same, Keeps-next, exec_keeps, set_subreaper_keeps, move_task_keeps, join_keeps, set_pgid_keeps, set_sid_keeps}
 use Rattle.model_laws.proofs.ControlsKept.{make_control_keeps, remove_control_keeps, set_limit_keeps}
 use Rattle.model_laws.proofs.EndsKept.{wait_keeps}
 use Rattle.model_laws.proofs.ExitKept.{exit_keeps}
-use Rattle.model_laws.proofs.ForkKept.{fork_keeps}
+use Rattle.model_laws.proofs.ForkKept.{fork_plain_keeps, fork_keeps}
 
 -- a read of a count leaves a sound state
 count_tasks_keeps : (state : State) (stamp id : ℕ) → IsSound state → IsBelow stamp state → Keeps stamp (count_tasks state id)
@@ -40,28 +40,53 @@ count_tasks_keeps state stamp id sound below = go (control_at state.controls id)
     go None = Keeps-same stamp state (Refused NoControl) sound below
     go (Some c) = Keeps-same stamp state (Counted (count state id)) sound below
 
+-- a call that makes nothing with an id leaves a sound state, whose ids are below the stamp
+pub plain_keeps : (state : State) (stamp : ℕ) (call : Call) → makes_id call ≡ false → IsSound state → IsBelow stamp state
+    → Keeps stamp (step state stamp call)
+unfolding step
+plain_keeps state stamp (Fork caller false) plain sound below = fork_plain_keeps state stamp caller sound below
+plain_keeps state stamp (Fork caller true) plain sound below = absurd (cc)
+plain_keeps state stamp (GetPid caller) plain sound below = Keeps-same stamp state _ sound below
+plain_keeps state stamp (NsPid caller target) plain sound below = Keeps-same stamp state _ sound below
+plain_keeps state stamp (Exec caller) plain sound below = exec_keeps state stamp caller sound below
+plain_keeps state stamp (Exit caller status) plain sound below = exit_keeps state stamp caller status sound below
+plain_keeps state stamp (Wait caller which) plain sound below = wait_keeps state stamp caller which sound below
+plain_keeps state stamp (GetPpid caller) plain sound below = Keeps-same stamp state _ sound below
+plain_keeps state stamp (SetPgid caller pid pgid) plain sound below = set_pgid_keeps state stamp caller pid pgid sound below
+plain_keeps state stamp (SetSid caller) plain sound below = set_sid_keeps state stamp caller sound below
+plain_keeps state stamp (MakeControl parent) plain sound below = absurd (cc)
+plain_keeps state stamp (RemoveControl id) plain sound below = remove_control_keeps state stamp id sound below
+plain_keeps state stamp (SetLimit id limit) plain sound below = set_limit_keeps state stamp id limit sound below
+plain_keeps state stamp (Move task id) plain sound below = move_task_keeps state stamp task id sound below
+plain_keeps state stamp (Count id) plain sound below = count_tasks_keeps state stamp id sound below
+plain_keeps state stamp (GetPgid caller pid) plain sound below = Keeps-same stamp state _ sound below
+plain_keeps state stamp (GetSid caller pid) plain sound below = Keeps-same stamp state _ sound below
+plain_keeps state stamp (Next caller kind from) plain sound below = Keeps-same stamp state _ sound below
+plain_keeps state stamp (Join caller target) plain sound below = join_keeps state stamp caller target sound below
+plain_keeps state stamp (SetSubreaper caller on) plain sound below = set_subreaper_keeps state stamp caller on sound below
+
 -- every call leaves a sound state, whose ids are below the next stamp
-pub step_keeps : (state : State) (stamp : ℕ) (call : Call) → IsSound state → IsBelow stamp state → Keeps stamp (step state stamp call)
+pub step_keeps : (state : State) (stamp : ℕ) (call : Call) → IsSound state → IsBelow stamp state → Keeps (stamp + 1) (step state stamp call)
 unfolding step
 step_keeps state stamp (Fork caller new_space) sound below = fork_keeps state stamp caller new_space sound below
-step_keeps state stamp (GetPid caller) sound below = Keeps-same stamp state _ sound below
-step_keeps state stamp (NsPid caller target) sound below = Keeps-same stamp state _ sound below
-step_keeps state stamp (Exec caller) sound below = exec_keeps state stamp caller sound below
-step_keeps state stamp (Exit caller status) sound below = exit_keeps state stamp caller status sound below
-step_keeps state stamp (Wait caller which) sound below = wait_keeps state stamp caller which sound below
-step_keeps state stamp (GetPpid caller) sound below = Keeps-same stamp state _ sound below
-step_keeps state stamp (SetPgid caller pid pgid) sound below = set_pgid_keeps state stamp caller pid pgid sound below
-step_keeps state stamp (SetSid caller) sound below = set_sid_keeps state stamp caller sound below
+step_keeps state stamp (GetPid caller) sound below = Keeps-next stamp _ (plain_keeps state stamp (GetPid caller) refl sound below)
+step_keeps state stamp (NsPid caller target) sound below = Keeps-next stamp _ (plain_keeps state stamp (NsPid caller target) refl sound below)
+step_keeps state stamp (Exec caller) sound below = Keeps-next stamp _ (plain_keeps state stamp (Exec caller) refl sound below)
+step_keeps state stamp (Exit caller status) sound below = Keeps-next stamp _ (plain_keeps state stamp (Exit caller status) refl sound below)
+step_keeps state stamp (Wait caller which) sound below = Keeps-next stamp _ (plain_keeps state stamp (Wait caller which) refl sound below)
+step_keeps state stamp (GetPpid caller) sound below = Keeps-next stamp _ (plain_keeps state stamp (GetPpid caller) refl sound below)
+step_keeps state stamp (SetPgid caller pid pgid) sound below = Keeps-next stamp _ (plain_keeps state stamp (SetPgid caller pid pgid) refl sound below)
+step_keeps state stamp (SetSid caller) sound below = Keeps-next stamp _ (plain_keeps state stamp (SetSid caller) refl sound below)
 step_keeps state stamp (MakeControl parent) sound below = make_control_keeps state stamp parent sound below
-step_keeps state stamp (RemoveControl id) sound below = remove_control_keeps state stamp id sound below
-step_keeps state stamp (SetLimit id limit) sound below = set_limit_keeps state stamp id limit sound below
-step_keeps state stamp (Move task id) sound below = move_task_keeps state stamp task id sound below
-step_keeps state stamp (Count id) sound below = count_tasks_keeps state stamp id sound below
-step_keeps state stamp (GetPgid caller pid) sound below = Keeps-same stamp state _ sound below
-step_keeps state stamp (GetSid caller pid) sound below = Keeps-same stamp state _ sound below
-step_keeps state stamp (Next caller kind from) sound below = Keeps-same stamp state _ sound below
-step_keeps state stamp (Join caller target) sound below = join_keeps state stamp caller target sound below
-step_keeps state stamp (SetSubreaper caller on) sound below = set_subreaper_keeps state stamp caller on sound below
+step_keeps state stamp (RemoveControl id) sound below = Keeps-next stamp _ (plain_keeps state stamp (RemoveControl id) refl sound below)
+step_keeps state stamp (SetLimit id limit) sound below = Keeps-next stamp _ (plain_keeps state stamp (SetLimit id limit) refl sound below)
+step_keeps state stamp (Move task id) sound below = Keeps-next stamp _ (plain_keeps state stamp (Move task id) refl sound below)
+step_keeps state stamp (Count id) sound below = Keeps-next stamp _ (plain_keeps state stamp (Count id) refl sound below)
+step_keeps state stamp (GetPgid caller pid) sound below = Keeps-next stamp _ (plain_keeps state stamp (GetPgid caller pid) refl sound below)
+step_keeps state stamp (GetSid caller pid) sound below = Keeps-next stamp _ (plain_keeps state stamp (GetSid caller pid) refl sound below)
+step_keeps state stamp (Next caller kind from) sound below = Keeps-next stamp _ (plain_keeps state stamp (Next caller kind from) refl sound below)
+step_keeps state stamp (Join caller target) sound below = Keeps-next stamp _ (plain_keeps state stamp (Join caller target) refl sound below)
+step_keeps state stamp (SetSubreaper caller on) sound below = Keeps-next stamp _ (plain_keeps state stamp (SetSubreaper caller on) refl sound below)
 
 -- every run of calls does
 pub run_keeps : (opening : State) (first : ℕ) (calls : List Call) → IsSound opening → IsBelow first opening

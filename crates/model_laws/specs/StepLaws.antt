@@ -6,7 +6,7 @@ use Rattle.pid_types.specs.Settings.{HasGoodPidMax}
 use Rattle.pid_types.specs.State.{State, root_state}
 use Rattle.pid_types.specs.Names.{is_live, row_at}
 use Rattle.pid_types.specs.Fork.{is_gone}
-use Rattle.pid_types.specs.Step.{step}
+use Rattle.pid_types.specs.Step.{step, makes_id}
 use Rattle.pid_types.specs.Replay.{state_after}
 use Rattle.pid_types.specs.Sound.{IsSound, IsBelow}
 
@@ -21,7 +21,13 @@ StepKeepsSoundness =
     (state : State) (stamp : ℕ) (call : Call) → IsSound state → IsBelow stamp state
     → IsSound (step state stamp call).state × IsBelow (stamp + 1) (step state stamp call).state
 
--- and so does every run of calls
+-- a call that makes nothing with an id leaves all ids below its stamp
+abbrev pub PlainCallsMakeNoId : Type 0
+PlainCallsMakeNoId =
+    (state : State) (stamp : ℕ) (call : Call) → makes_id call ≡ false → IsSound state → IsBelow stamp state
+    → IsBelow stamp (step state stamp call).state
+
+-- every run of calls leaves a sound state
 abbrev pub RunsKeepSoundness : Type 0
 RunsKeepSoundness =
     (opening : State) (first : ℕ) (calls : List Call) → IsSound opening → IsBelow first opening

@@ -1,5 +1,6 @@
 //! Every call leaves a sound state.
 ghost use Rattle.model_laws.specs.RestoreLaws.{EnlistingKeepsSoundness, CursorsKeepSoundness};
+ghost use Rattle.model_laws.specs.StepLaws.{PlainCallsMakeNoId};
 ghost use Rattle.model_laws.specs.StepLaws.{BoundStays, RootInitLives, RootNeverFalls, RootStateIsSound};
 ghost use Rattle.model_laws.specs.StepLaws.{RunsKeepSoundness, StepKeepsSoundness};
 
@@ -12,6 +13,7 @@ pub fn root_state_is_sound()
 /// below the next stamp, and so does every run of calls.
 pub fn soundness_is_kept()
     ensures step { StepKeepsSoundness }
+    ensures plain { PlainCallsMakeNoId }
     ensures run { RunsKeepSoundness }
 {}
 

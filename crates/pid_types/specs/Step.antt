@@ -38,3 +38,9 @@ abbrev pub may_grow : Call → Bool
 may_grow (Fork caller new_space) = true
 may_grow (MakeControl parent) = true
 may_grow _ = false
+
+-- whether the call may make something that has the stamp as its id
+abbrev pub makes_id : Call → Bool
+makes_id (Fork caller new_space) = new_space
+makes_id (MakeControl parent) = true
+makes_id _ = false
