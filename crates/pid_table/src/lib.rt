@@ -13,6 +13,7 @@ ghost use Rattle.task_table.specs.Whole.{IsWhole};
 ghost use Rattle.translate.specs.Stat.{stat_at, glimpse_in, IsSeen};
 ghost use Rattle.pid_table.specs.Bare.{IsBare};
 
+mod restore;
 mod step;
 
 use model_laws::soundness::root_state_is_sound;
