@@ -43,11 +43,7 @@ impl Lists for MemberLists {
 /// Room for as many keys and owners, at most 2^20. The error is want of memory.
 pub fn room_for(alloc: Global, count: u32) -> Result<MemberLists, AllocError> {
     let mut lists = MemberLists::new(alloc);
-    for _ in 0..count.min(1 << 20) {
-        if lists.keys() < 1 << 20 {
-            lists.grow()?;
-        }
-    }
+    lists.grow(count.min(1 << 20) as usize)?;
     Ok(lists)
 }
 

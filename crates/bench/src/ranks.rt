@@ -29,21 +29,9 @@ pub struct ByKey {
 impl ByKey {
     /// Room for as many keys, at most 2^20. The error is want of memory.
     pub fn new(alloc: Global, count: u32) -> Result<Self, AllocError> {
-        let mut ranks = ByKey {
-            members: MemberQueues::new(alloc),
-        };
-        for _ in 0..count.min(1 << 20) {
-            ranks.grow()?;
-        }
-        Ok(ranks)
-    }
-
-    /// Room for one more key, as far as 2^20 keys. The error is want of memory.
-    fn grow(&mut self) -> Result<(), AllocError> {
-        if self.members.keys() < 1 << 20 {
-            self.members.grow()?;
-        }
-        Ok(())
+        let mut members = MemberQueues::new(alloc);
+        members.grow(count.min(1 << 20) as usize)?;
+        Ok(ByKey { members })
     }
 }
 

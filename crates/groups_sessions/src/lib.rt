@@ -68,8 +68,8 @@ impl Members {
         }
     }
 
-    /// Makes room for the key of a task and for that of an identifier. It costs a step for each key that is
-    /// new. The error is want of memory; then each task is where it was.
+    /// Makes room for the key of a task and for that of an identifier, and for all below. It costs a step for each
+    /// key that is new. The error is want of memory; then each task is where it was.
     #[inline(always)]
     pub fn reserve(&mut self, task: TaskKey, ident: IdentKey) -> Result<(), AllocError>
         requires task { task < 2 ^ 30 }
@@ -79,8 +79,7 @@ impl Members {
         ensures room { length self.old ≤ length self.new }
         ensures kept { (k : ℕ) → membership_at self.new k ≡ membership_at self.old k }
     {
-        make_room(&mut self.groups, &mut self.sessions, task)?;
-        make_room(&mut self.groups, &mut self.sessions, ident)
+        make_room(&mut self.groups, &mut self.sessions, task.max(ident))
     }
 
     /// A task that is in no group enters one, as `fork(2)` has it enter its parent's. Whoever is in the

@@ -1,3 +1,4 @@
+pub mod Rooms
 pub mod Linked
 pub mod Walks
 pub mod Telling

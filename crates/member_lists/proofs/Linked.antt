@@ -1,21 +1,16 @@
 -- Adding a key to a list and taking one out keep the links sound.
-use Rattle.std.proofs.Common.{◌≡◌, ◌≢◌, inl, inr, ℕ, zero, suc, ◌+◌, ◌<◌, ◌≤◌, List, [], ◌∷◌, ◌++◌, length, map, get_or, set, if◌then◌else◌, nat_eq, Some, None, IsSome, refl, sym, ap, ◌∙◌, arith, slice_index_or}
+use Rattle.std.proofs.Common.{◌≡◌, ◌≢◌, inl, inr, ℕ, zero, suc, ◌+◌, ◌<◌, ◌≤◌, List, [], ◌++◌, length, map, replicate, set, if◌then◌else◌, nat_eq, Some, None, IsSome, refl, sym, ap, ◌∙◌, arith, slice_index_or}
 use Rattle.std.proofs.lemmas.Bool.{cases_eq}
-use Rattle.std.proofs.lemmas.List.{get_or_past, get_or_default, get_or-set_same, get_or-set_other, length-set, length-append, length-map}
+use Rattle.std.proofs.lemmas.List.{get_or_past, get_or_default, get_or-set_same, get_or-set_other, length-set, length-append, length-replicate, length-map}
 use Rattle.member_lists.specs.declared.Link.{Link}
 use Rattle.member_lists.specs.Owners.{owner_of}
 use Rattle.member_lists.specs.Links.{nil, lone, link_at, head_at, owner_in, IsLinked}
+use Rattle.member_lists.proofs.Rooms.{get_or-append-replicate}
 use Rattle.std.proofs.Math.ListN.{get_or-map}
 
 -- a key with an owner has a link
 pub within : (links : List Link) (k : ℕ) → (link_at links k).owner ≢ nil → k < length links
 within links k owned = grind (arith, get_or_past links k lone)
-
-get_or-append_default : {X : Type 0} (xs : List X) (d : X) (i : ℕ) → get_or (xs ++ d ∷ []) i d ≡ get_or xs i d
-get_or-append_default [] d zero = refl
-get_or-append_default [] d (suc i) = refl
-get_or-append_default (x ∷ xs) d zero = refl
-get_or-append_default (x ∷ xs) d (suc i) = get_or-append_default xs d i
 
 -- what adding a key k to the owner h, before its first member f, makes of the links
 pub record Added (hs hs' : List ℕ) (ls ls' : List Link) (k h f : ℕ) : Type 0 where
@@ -546,24 +541,24 @@ some_link l h e = grind arith
 pub link_some : (l : Link) (h : ℕ) → l.owner ≡ h → h ≢ nil → owner_in l ≡ Some h
 link_some l h e some = grind arith
 
--- one more key and one more owner
-pub IsLinked-grown : (hs : List ℕ) (ls : List Link) → IsLinked hs ls → length ls < nil → IsLinked (hs ++ 4294967295 ∷ []) (ls ++ lone ∷ [])
-IsLinked-grown hs ls w few = record {
+-- so many more keys and owners
+pub IsLinked-grown : (hs : List ℕ) (ls : List Link) (n : ℕ) → IsLinked hs ls → length ls + n ≤ nil → IsLinked (hs ++ replicate n 4294967295) (ls ++ replicate n lone)
+IsLinked-grown hs ls n w few = record {
   rank = w.rank;
-  few = simp length-append (omega arith);
-  rooms = simp length-append (omega (arith, w.rooms));
-  known = λ k. rw (same k) (λ owned. simp length-append (let lt = w.known k owned in omega (arith, lt)));
+  few = simp (length-append, length-replicate) few;
+  rooms = simp (length-append, length-replicate) (omega (arith, w.rooms));
+  known = λ k. rw (same k) (λ owned. simp (length-append, length-replicate) (let lt = w.known k owned in omega (arith, lt)));
   next = λ k. rw (same k) (λ owned more. rw (same (link_at ls k).next) (w.next k owned more));
   prev = λ k. rw (same k) (λ owned more. rw (same (link_at ls k).prev) (w.prev k owned more));
   first = λ k. rw (same k) (λ owned none. rw (same_head (link_at ls k).owner) (w.first k owned none));
   head = λ h. rw (same_head h) (λ some. rw (same (head_at hs h)) (w.head h some));
 }
   where
-    same : (k : ℕ) → link_at (ls ++ lone ∷ []) k ≡ link_at ls k
-    same k = get_or-append_default ls lone k
+    same : (k : ℕ) → link_at (ls ++ replicate n lone) k ≡ link_at ls k
+    same k = get_or-append-replicate ls n lone k
 
-    same_head : (h : ℕ) → head_at (hs ++ 4294967295 ∷ []) h ≡ head_at hs h
-    same_head h = get_or-append_default hs 4294967295 h
+    same_head : (h : ℕ) → head_at (hs ++ replicate n 4294967295) h ≡ head_at hs h
+    same_head h = get_or-append-replicate hs n 4294967295 h
 
 pub IsLinked-none : IsLinked [] []
 IsLinked-none = record {

@@ -5,7 +5,7 @@
 #![tactic(auto)]
 
 ghost use Rattle.std.specs.Prelude.{◌≡◌, ◌≢◌, ℕ, ◌+◌, ◌<◌, ◌≤◌, ◌^◌, length, map, Some, None, MatchOption, OnOk, OnErr};
-ghost use Rattle.std.specs.Prelude.{slice_set, option_map, IsSome, [], ◌∷◌, ◌++◌};
+ghost use Rattle.std.specs.Prelude.{slice_set, option_map, IsSome, [], ◌++◌, replicate};
 ghost use Rattle.member_lists.specs.Owners.{owner_of, AreMembers, handed};
 ghost use Rattle.member_lists.specs.Links.{nil, lone, link_at, head_at, owner_in, chain, AreTold, Ends, IsLinked};
 
@@ -24,6 +24,23 @@ struct Link {
     owner: u32,
     next: u32,
     prev: u32,
+}
+
+/// The link of a key in no list.
+const LONE: Link = Link {
+    owner: NIL,
+    next: NIL,
+    prev: NIL,
+};
+
+/// How many keys are to have room where one is: the multiple of 64 above it. So keys that come one by one take
+/// memory once in 64 times.
+pub fn keys_with_room(key: u32) -> usize
+    requires { key < 2 ^ 30 }
+    ensures above { key < result }
+    ensures few { result ≤ 2 ^ 30 }
+{
+    (key as usize / 64 + 1) * 64
 }
 
 /// Whose member each key is, and the members of each owner.
@@ -163,21 +180,18 @@ impl MemberLists {
         }
     }
 
-    /// Makes room for one more key, which has no owner, and for the owner of the same number, which has
+    /// Makes room for so many more keys, which have no owner, and for the owners of the same numbers, which have
     /// no member. The error is want of memory, and then nothing has changed.
-    #[inline(always)]
-    pub fn grow(&mut self) -> Result<(), AllocError>
-        requires { length self.old < 2 ^ 30 }
-        ensures ok { OnOk result (self.new ≡ self.old ++ None ∷ []) }
+    #[inline(never)]
+    pub fn grow(&mut self, more: usize) -> Result<(), AllocError>
+        requires { length self.old + more ≤ 2 ^ 30 }
+        ensures ok { OnOk result (self.new ≡ self.old ++ replicate more None) }
         ensures err { OnErr result (self.new ≡ self.old) }
     {
-        self.heads.try_reserve(1)?;
-        self.links.push(Link {
-            owner: NIL,
-            next: NIL,
-            prev: NIL,
-        })?;
-        self.heads.push_reserved(NIL);
+        let keys = self.links.len() + more;
+        self.heads.try_reserve(more)?;
+        self.links.resize(keys, LONE)?;
+        self.heads.resize(keys, NIL)?;
         Ok(())
     }
 

@@ -1,26 +1,21 @@
--- A key that comes to an owner, and room for one more.
-use Rattle.std.proofs.Common.{◌≡◌, ◌≢◌, inl, inr, ℕ, zero, suc, ◌<◌, ◌≤◌, List, [], ◌∷◌, ◌++◌, length, get_or, set, map, Option, Some, refl, sym, ap, ◌∙◌, arith}
+-- A key that comes to an owner, and room for more.
+use Rattle.std.proofs.Common.{◌≡◌, ◌≢◌, inl, inr, ℕ, ◌+◌, ◌<◌, ◌≤◌, List, ◌++◌, length, replicate, set, map, Option, Some, refl, sym, ap, ◌∙◌, arith}
 use Rattle.std.proofs.lemmas.Bool.{cases_eq}
-use Rattle.std.proofs.lemmas.List.{get_or-set_same, get_or-set_other, length-set, length-append}
+use Rattle.std.proofs.lemmas.List.{get_or-set_same, get_or-set_other, length-set, length-append, length-replicate}
+use Rattle.member_lists.proofs.Rooms.{get_or-append-replicate}
 use Rattle.member_queues.specs.declared.Node.{Node}
 use Rattle.member_queues.specs.Ranks.{ranked}
 use Rattle.member_queues.specs.Heap.{nil, blank, node_at, root_at, member_in, IsBelow, IsHeap, IsSinking}
 use Rattle.member_queues.proofs.Trees.{is_some, has_room, ranked-nodes, some_member}
 
-get_or-append_default : {X : Type 0} (xs : List X) (d : X) (i : ℕ) → get_or (xs ++ d ∷ []) i d ≡ get_or xs i d
-get_or-append_default [] d zero = refl
-get_or-append_default [] d (suc i) = refl
-get_or-append_default (x ∷ xs) d zero = refl
-get_or-append_default (x ∷ xs) d (suc i) = get_or-append_default xs d i
-
--- one more key and one more owner
-pub IsHeap-grown : (rs : List ℕ) (ns : List Node) → IsHeap rs ns nil → length ns < nil → IsHeap (rs ++ 4294967295 ∷ []) (ns ++ blank ∷ []) nil
-IsHeap-grown rs ns w few = record {
+-- so many more keys and owners
+pub IsHeap-grown : (rs : List ℕ) (ns : List Node) (n : ℕ) → IsHeap rs ns nil → length ns + n ≤ nil → IsHeap (rs ++ replicate n 4294967295) (ns ++ replicate n blank) nil
+IsHeap-grown rs ns n w few = record {
   ranked = record {
-    few = simp length-append (omega arith);
-    rooms = simp length-append (omega (arith, w.ranked.rooms));
+    few = simp (length-append, length-replicate) few;
+    rooms = simp (length-append, length-replicate) (omega (arith, w.ranked.rooms));
     fits = λ k. rw (same k) (w.ranked.fits k);
-    known = λ k. rw (same k) (λ owned. simp length-append (let lt = w.ranked.known k owned in omega (arith, lt)));
+    known = λ k. rw (same k) (λ owned. simp (length-append, length-replicate) (let lt = w.ranked.known k owned in omega (arith, lt)));
     distinct = λ j k. rw (same j, same k) (w.ranked.distinct j k);
   };
   tree = record {
@@ -31,11 +26,11 @@ IsHeap-grown rs ns w few = record {
   };
 }
   where
-    same : (k : ℕ) → node_at (ns ++ blank ∷ []) k ≡ node_at ns k
-    same k = get_or-append_default ns blank k
+    same : (k : ℕ) → node_at (ns ++ replicate n blank) k ≡ node_at ns k
+    same k = get_or-append-replicate ns n blank k
 
-    same_root : (p : ℕ) → root_at (rs ++ 4294967295 ∷ []) p ≡ root_at rs p
-    same_root p = get_or-append_default rs 4294967295 p
+    same_root : (p : ℕ) → root_at (rs ++ replicate n 4294967295) p ≡ root_at rs p
+    same_root p = get_or-append-replicate rs n 4294967295 p
 
 -- a key that had no owner is one's member now, and held
 module _ (rs : List ℕ) (ns : List Node) (k p r : ℕ) (w : IsHeap rs ns nil) (key : k < length ns) (free : (node_at ns k).owner ≡ nil) (room : p < length rs) (fits : r ≤ nil)

@@ -8,7 +8,7 @@
 #![tactic(auto)]
 
 ghost use Rattle.std.specs.Prelude.{◌≡◌, ◌≢◌, ◌⊎◌, ℕ, ◌+◌, ◌<◌, ◌≤◌, ◌^◌, length, map, Some, None, MatchOption, OnOk};
-ghost use Rattle.std.specs.Prelude.{OnErr, [], ◌∷◌, ◌++◌, IsSome, IsTrue, ◌↔◌, slice_set, option_map};
+ghost use Rattle.std.specs.Prelude.{OnErr, [], ◌++◌, replicate, IsSome, IsTrue, ◌↔◌, slice_set, option_map};
 ghost use Rattle.std.specs.List.{AllByRecursion};
 ghost use Rattle.member_lists.specs.Owners.{handed};
 ghost use Rattle.member_queues.specs.Ranks.{ranked, IsLeast, AreRankedMembers};
@@ -45,6 +45,16 @@ struct Node {
     beside: u32,
     level: u32,
 }
+
+/// The place of a key that has no owner.
+const BLANK: Node = Node {
+    owner: NIL,
+    rank: 0,
+    above: NIL,
+    next: NIL,
+    beside: NIL,
+    level: 0,
+};
 
 /// The runs of all owners, while one of them may be open.
 #[derive(Drop)]
@@ -520,24 +530,18 @@ impl MemberQueues {
         }
     }
 
-    /// Makes room for one more key, which has no owner, and for the owner of the same number, which has
+    /// Makes room for so many more keys, which have no owner, and for the owners of the same numbers, which have
     /// no member. The error is want of memory, and then nothing has changed.
-    #[inline(always)]
-    pub fn grow(&mut self) -> Result<(), AllocError>
-        requires { length self.old < 2 ^ 30 }
-        ensures ok { OnOk result (self.new ≡ self.old ++ None ∷ []) }
+    #[inline(never)]
+    pub fn grow(&mut self, more: usize) -> Result<(), AllocError>
+        requires { length self.old + more ≤ 2 ^ 30 }
+        ensures ok { OnOk result (self.new ≡ self.old ++ replicate more None) }
         ensures err { OnErr result (self.new ≡ self.old) }
     {
-        self.forest.roots.try_reserve(1)?;
-        self.forest.nodes.push(Node {
-            owner: NIL,
-            rank: 0,
-            above: NIL,
-            next: NIL,
-            beside: NIL,
-            level: 0,
-        })?;
-        self.forest.roots.push_reserved(NIL);
+        let keys = self.forest.nodes.len() + more;
+        self.forest.roots.try_reserve(more)?;
+        self.forest.nodes.resize(keys, BLANK)?;
+        self.forest.roots.resize(keys, NIL)?;
         Ok(())
     }
 

@@ -114,7 +114,7 @@ impl Controls {
         let mut children = MemberLists::new(alloc);
         let mut ids = RisingIds::new(alloc);
         counters.push(Counter::new(None))?;
-        children.grow()?;
+        children.grow(1)?;
         ids.push(0, 0)?;
         nodes.insert(Node::new(0, None, 0))?;
         Ok(Controls {

@@ -33,10 +33,11 @@ fn grow_children(children: &mut MemberLists, key: ControlKey) -> Result<(), Allo
     ensures small { length children.new ≤ 2 ^ 30 }
     ensures room { OnOk result (key < length children.new) }
 {
-    while children.keys() <= key as usize {
-        children.grow()?;
+    let keys = children.keys();
+    if (key as usize) < keys {
+        return Ok(());
     }
-    Ok(())
+    children.grow(key as usize + 1 - keys)
 }
 
 /// Takes the memory for one more node, and answers its key.

@@ -3,11 +3,12 @@
 ghost use Rattle.std.specs.Prelude.{◌≡◌, ℕ, ◌<◌, ◌^◌, length, OnOk};
 ghost use Rattle.task_tree.specs.Tree.{task_at, parent_of, rank_of};
 
+use member_lists::keys_with_room;
 use pid_types::keys::TaskKey;
 use std::alloc::AllocError;
 use task_tree::TaskTree;
 
-/// Makes room for all keys up to one. The error is want of memory.
+/// Makes room for all keys up to one, and for more where there is none yet. The error is want of memory.
 #[inline(always)]
 pub(crate) fn room_for(tree: &mut TaskTree, key: TaskKey) -> Result<(), AllocError>
     requires { key < 2 ^ 30 }
@@ -16,8 +17,9 @@ pub(crate) fn room_for(tree: &mut TaskTree, key: TaskKey) -> Result<(), AllocErr
     ensures parents { (k : ℕ) → parent_of tree.new k ≡ parent_of tree.old k }
     ensures ranks { (k : ℕ) → rank_of tree.new k ≡ rank_of tree.old k }
 {
-    while tree.keys() <= key as usize {
-        tree.grow()?;
+    let keys = tree.keys();
+    if (key as usize) < keys {
+        return Ok(());
     }
-    Ok(())
+    tree.grow(keys_with_room(key) - keys)
 }

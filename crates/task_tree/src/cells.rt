@@ -1,6 +1,6 @@
 //! Tasks by key, and how many of them are subreapers.
-ghost use Rattle.std.specs.Prelude.{◌≡◌, ℕ, ◌<◌, ◌≤◌, ◌^◌, length, None, true, false, OnOk, OnErr, [], ◌∷◌, ◌++◌};
-ghost use Rattle.std.specs.Prelude.{slice_set, slice_index_or};
+ghost use Rattle.std.specs.Prelude.{◌≡◌, ℕ, ◌+◌, ◌<◌, ◌≤◌, ◌^◌, length, None, true, false, OnOk, OnErr, []};
+ghost use Rattle.std.specs.Prelude.{slice_set, slice_index_or, ◌++◌, replicate};
 ghost use Rattle.task_tree.specs.Tree.{is_subreaper};
 
 use crate::Task;
@@ -49,13 +49,13 @@ impl Cells {
         }
     }
 
-    /// One key more, without a task. The error is want of memory.
-    #[inline(always)]
-    pub(crate) fn grow(&mut self) -> Result<(), AllocError>
-        ensures ok { OnOk result (self.new ≡ self.old ++ None ∷ []) }
+    /// So many keys more, without a task. The error is want of memory.
+    pub(crate) fn grow(&mut self, more: usize) -> Result<(), AllocError>
+        requires { length self.old + more ≤ 2 ^ 30 }
+        ensures ok { OnOk result (self.new ≡ self.old ++ replicate more None) }
         ensures err { OnErr result (self.new ≡ self.old) }
     {
-        self.cells.grow()
+        self.cells.grow(more)
     }
 
     /// How many keys there are.

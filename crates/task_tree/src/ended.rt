@@ -1,10 +1,11 @@
 //! Children that have ended: by rank, and one after the other.
 ghost use Rattle.std.specs.Prelude.{◌≡◌, ◌≢◌, ℕ, ◌<◌, ◌^◌, length, option_map, Some, None, IsSome, MatchOption, OnOk};
-ghost use Rattle.std.specs.Prelude.{OnErr, [], ◌∷◌, ◌++◌, slice_set};
+ghost use Rattle.std.specs.Prelude.{OnErr, [], ◌+◌, ◌≤◌, ◌++◌, replicate, slice_set};
 ghost use Rattle.member_queues.specs.Ranks.{ranked, IsLeast};
 ghost use Rattle.task_tree.specs.Ended.{AreEnded};
 ghost use Rattle.task_tree.specs.Tree.{handed};
 
+use crate::links::room_for_parents;
 use member_lists::{MemberLists, Members};
 use member_queues::MemberQueues;
 use pid_types::keys::{Pid, TaskKey};
@@ -40,18 +41,15 @@ impl EndedChildren {
         }
     }
 
-    /// Makes room for one more key, which has no parent. The error is want of memory, and then nothing has changed that
-    /// another call shows.
-    #[inline(always)]
-    pub(crate) fn grow(&mut self) -> Result<(), AllocError>
-        requires { length self.old < 2 ^ 30 }
-        ensures ok { OnOk result (self.new ≡ self.old ++ None ∷ []) }
+    /// Makes room for so many more keys, which have no parent. The error is want of memory, and then nothing has changed
+    /// that another call shows.
+    pub(crate) fn grow(&mut self, more: usize) -> Result<(), AllocError>
+        requires { length self.old + more ≤ 2 ^ 30 }
+        ensures ok { OnOk result (self.new ≡ self.old ++ replicate more None) }
         ensures err { OnErr result (self.new ≡ self.old) }
     {
-        if self.lists.keys() == self.queues.keys() {
-            self.lists.grow()?;
-        }
-        self.queues.grow()
+        room_for_parents(&mut self.lists, self.queues.keys() + more)?;
+        self.queues.grow(more)
     }
 
     /// How many keys there are, and as many parents.

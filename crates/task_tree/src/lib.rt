@@ -8,7 +8,7 @@
 #![tactic(auto)]
 
 ghost use Rattle.std.specs.Prelude.{◌≡◌, ◌≢◌, ℕ, ◌+◌, ◌<◌, ◌≤◌, ◌^◌, length, option_map, Some, None, true, false};
-ghost use Rattle.std.specs.Prelude.{IsSome, MatchOption, OnOk, OnErr, [], ◌∷◌, ◌++◌, slice_set};
+ghost use Rattle.std.specs.Prelude.{IsSome, MatchOption, OnOk, OnErr, ◌++◌, replicate, slice_set};
 ghost use Rattle.pid_types.specs.declared.plain.Life.{Life};
 ghost use Rattle.member_lists.specs.Owners.{AreMembers};
 ghost use Rattle.member_queues.specs.Ranks.{IsLeast};
@@ -22,7 +22,7 @@ mod places;
 
 use cells::Cells;
 use ended::EndedChildren;
-use links::{enter_ended, forget_ended, hand_all, leave_parent, room_for_parent, room_for_rank};
+use links::{enter_ended, forget_ended, hand_all, leave_parent, room_for_parents, room_for_ranks};
 use member_lists::{MemberLists, Members};
 use pid_types::keys::{ControlKey, Pid, TaskKey};
 use pid_types::plain::{Ended, Life};
@@ -85,21 +85,20 @@ impl TaskTree {
         }
     }
 
-    /// Makes room for one key more. The error is want of memory, and then nothing has changed that another
+    /// Makes room for so many keys more. The error is want of memory, and then nothing has changed that another
     /// call shows.
-    #[inline(always)]
-    pub fn grow(&mut self) -> Result<(), AllocError>
-        requires { length self.old.tasks < 2 ^ 30 }
-        ensures ok { OnOk result (self.new.tasks ≡ self.old.tasks ++ None ∷ []) }
+    #[inline(never)]
+    pub fn grow(&mut self, more: usize) -> Result<(), AllocError>
+        requires { length self.old.tasks + more ≤ 2 ^ 30 }
+        ensures ok { OnOk result (self.new.tasks ≡ self.old.tasks ++ replicate more None) }
         ensures err { OnErr result (self.new.tasks ≡ self.old.tasks) }
         ensures parents { (k : ℕ) → parent_of self.new k ≡ parent_of self.old k }
         ensures ranks { (k : ℕ) → rank_of self.new k ≡ rank_of self.old k }
     {
-        let keys = self.tasks.keys();
-        room_for_parent(&mut self.children, keys)?;
-        room_for_rank(&mut self.ended, keys)?;
-        self.tasks.grow()?;
-        Ok(())
+        let keys = self.tasks.keys() + more;
+        room_for_parents(&mut self.children, keys)?;
+        room_for_ranks(&mut self.ended, keys)?;
+        self.tasks.grow(more)
     }
 
     /// How many keys there is room for: those below this number.

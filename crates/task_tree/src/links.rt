@@ -11,34 +11,30 @@ use member_lists::MemberLists;
 use pid_types::keys::{Pid, TaskKey};
 use std::alloc::AllocError;
 
-/// Makes room for a key among the parents, where there is none yet.
-#[inline(always)]
-pub(crate) fn room_for_parent(children: &mut MemberLists, key: usize) -> Result<(), AllocError>
-    requires next { key ≤ length children.old }
-    requires few { key < 2 ^ 30 }
-    ensures ok { OnOk result (key < length children.new) }
+/// Makes room for so many keys among the parents, where there is none yet.
+pub(crate) fn room_for_parents(children: &mut MemberLists, keys: usize) -> Result<(), AllocError>
+    requires { keys ≤ 2 ^ 30 }
+    ensures ok { OnOk result (keys ≤ length children.new) }
     ensures more { length children.old ≤ length children.new }
     ensures kept { (k : ℕ) → owner_of children.new k ≡ owner_of children.old k }
 {
-    if children.keys() > key {
+    if children.keys() >= keys {
         return Ok(());
     }
-    children.grow()
+    children.grow(keys - children.keys())
 }
 
-/// Makes room for a key among the ranks, where there is none yet.
-#[inline(always)]
-pub(crate) fn room_for_rank(ended: &mut EndedChildren, key: usize) -> Result<(), AllocError>
-    requires next { key ≤ length ended.old }
-    requires few { key < 2 ^ 30 }
-    ensures ok { OnOk result (key < length ended.new) }
+/// Makes room for so many keys among the ranks, where there is none yet.
+pub(crate) fn room_for_ranks(ended: &mut EndedChildren, keys: usize) -> Result<(), AllocError>
+    requires { keys ≤ 2 ^ 30 }
+    ensures ok { OnOk result (keys ≤ length ended.new) }
     ensures more { length ended.old ≤ length ended.new }
     ensures kept { (k : ℕ) → ranked ended.new k ≡ ranked ended.old k }
 {
-    if ended.keys() > key {
+    if ended.keys() >= keys {
         return Ok(());
     }
-    ended.grow()
+    ended.grow(keys - ended.keys())
 }
 
 /// The key enters its parent's ended children, if it has a parent.

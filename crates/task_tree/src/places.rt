@@ -1,5 +1,5 @@
 //! Tasks by key, as they lie in memory.
-ghost use Rattle.std.specs.Prelude.{◌≡◌, ◌<◌, length, None, Some, OnOk, OnErr, [], ◌∷◌, ◌++◌, slice_set};
+ghost use Rattle.std.specs.Prelude.{◌≡◌, ◌+◌, ◌<◌, ◌≤◌, ◌^◌, length, None, Some, OnOk, OnErr, [], ◌++◌, replicate, slice_set};
 ghost use Rattle.std.specs.Prelude.{slice_index_or};
 ghost use Rattle.task_tree.specs.Places.{task_in, life_in};
 
@@ -124,13 +124,14 @@ impl Places {
         }
     }
 
-    /// One key more, without a task. The error is want of memory.
-    #[inline(always)]
-    pub(crate) fn grow(&mut self) -> Result<(), AllocError>
-        ensures ok { OnOk result (self.new ≡ self.old ++ None ∷ []) }
+    /// So many keys more, without a task. The error is want of memory.
+    pub(crate) fn grow(&mut self, more: usize) -> Result<(), AllocError>
+        requires { length self.old + more ≤ 2 ^ 30 }
+        ensures ok { OnOk result (self.new ≡ self.old ++ replicate more None) }
         ensures err { OnErr result (self.new ≡ self.old) }
     {
-        self.places.push(vacant())?;
+        let keys = self.places.len() + more;
+        self.places.resize(keys, vacant())?;
         Ok(())
     }
 

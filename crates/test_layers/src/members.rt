@@ -28,9 +28,8 @@ fn three(rt: &impl Abort, lists: &MemberLists, owner: u32) -> [u32; 3] {
 #[test]
 fn moves_members(rt: HostRuntime) -> Result<(), Fail> {
     let mut lists = MemberLists::new(rt.alloc());
-    lists.grow()?;
-    lists.grow()?;
-    lists.grow()?;
+    lists.grow(1)?;
+    lists.grow(2)?;
     assert_eq!(rt; lists.keys(), 3);
     assert_eq!(rt; lists.first(1), None);
     lists.add(0, 1);
@@ -51,9 +50,8 @@ fn three_members(alloc: Global) -> Result<MemberQueues, Fail>
     ensures { IfOk result (λ members. members ≡ Some (2, 50) ∷ Some (2, 40) ∷ Some (2, 60) ∷ []) }
 {
     let mut members = MemberQueues::new(alloc);
-    members.grow()?;
-    members.grow()?;
-    members.grow()?;
+    members.grow(1)?;
+    members.grow(2)?;
     members.insert(0, 2, 50);
     members.insert(1, 2, 40);
     members.insert(2, 2, 60);

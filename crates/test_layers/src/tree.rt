@@ -9,20 +9,11 @@ use std::process::Abort;
 use std::test::Fail;
 use task_tree::{Task, TaskTree};
 
-/// One key more, where there are not seven.
-fn grow(tree: &mut TaskTree) -> Result<(), AllocError> {
-    if tree.keys() < 7 {
-        tree.grow()?;
-    }
-    Ok(())
-}
-
 /// A tree with room for seven keys.
 fn seven(alloc: Global) -> Result<TaskTree, AllocError> {
     let mut tree = TaskTree::new(alloc);
-    for _turn in 0..7 {
-        grow(&mut tree)?;
-    }
+    tree.grow(3)?;
+    tree.grow(4)?;
     Ok(tree)
 }
 
