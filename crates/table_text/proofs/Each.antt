@@ -1,6 +1,5 @@
 -- What is true of each element of a list.
-use Rattle.std.proofs.Common.{◌≡◌, inl, inr, List, [], ◌∷◌, ◌++◌, refl, sym, subst}
-use Rattle.pid_types.specs.Membership.{IsIn}
+use Rattle.std.proofs.Common.{inl, inr, List, [], ◌∷◌, ◌++◌, sym, subst}
 use Rattle.table_text.specs.Ranges.{Each}
 
 pub Each-none : {X : Type 0} (P : X → Type 0) → Each P []

@@ -5,3 +5,6 @@ pub mod Told
 pub mod Scanned
 pub mod Each
 pub mod Missed
+pub mod Named
+pub mod Tasks
+pub mod Whole

@@ -1,5 +1,5 @@
 -- The lines of a text: equal texts that begin with a line begin with one line of one thing.
-use Rattle.std.proofs.Common.{◌≡◌, ◌⊎◌, inl, inr, ℕ, ◌<◌, Bool, true, false, List, [], ◌∷◌, ◌++◌, Option, Some, None, decimal, codes, drop, refl, sym, ap, ◌∙◌, subst, lit<, append_assoc, ⊎_elim}
+use Rattle.std.proofs.Common.{◌≡◌, inl, inr, ℕ, Bool, true, false, List, [], ◌∷◌, ◌++◌, Option, decimal, codes, drop, refl, sym, ap, ◌∙◌, subst, lit<, append_assoc, ⊎_elim}
 use Rattle.std.specs.List.{flat_map}
 use Rattle.std.proofs.lemmas.List.{append_cancel_left}
 use Rattle.pid_types.specs.declared.plain.Name.{Name}
@@ -10,8 +10,8 @@ use Rattle.pid_types.specs.declared.plain.Control.{Control}
 use Rattle.pid_types.specs.Membership.{IsIn}
 use Rattle.pid_script.specs.Lists.{marked, parent_text, limit_text, life_text, space_line}
 use Rattle.table_text.specs.Texts.{name_word, parent_word, names_text, places_text, marks_text, task_line, control_line, settings_text, head_line}
-use Rattle.table_text.specs.Ranges.{IsWord, IsRowOfWords, IsSpaceOfWords, IsControlOfWords}
-use Rattle.table_text.specs.Reading.{Stops}
+use Rattle.table_text.specs.Ranges.{IsWord, Each, IsRowOfWords, IsSpaceOfWords, IsControlOfWords}
+use Rattle.table_text.specs.Reading.{Stops, IsNotAt}
 use Rattle.table_text.proofs.Fronts.{IsApart, GoesOnBut, apart, first_told, number_told, marked_told}
 use Rattle.table_text.proofs.Words.{name_told, parent_told, outer_told, limit_told, life_told}
 
@@ -51,6 +51,12 @@ pub head_flat : (pid_max stamp : ℕ) (x : List ℕ) → head_line pid_max stamp
     ≡ codes "pidtab table 1" ++ (codes " pid-max " ++ (decimal pid_max ++ (codes " stamp " ++ (decimal stamp ++ 10 ∷ x))))
 unfolding head_line settings_text
 head_flat pid_max stamp x = simp append_assoc
+
+pub stops_places : (r : Row) (z : List ℕ) → Stops (places_text r ++ z)
+stops_places r z = subst Stops (sym (places_flat r z)) (inl (lit< tt))
+
+pub stops_line : (r : Row) (z : List ℕ) → Stops (marks_text r ++ 10 ∷ z)
+stops_line r z = subst Stops (sym (marks_flat r (10 ∷ z))) (inl (lit< tt))
 
 -- the names of a task, and what follows them
 names_told : (a b : Row) (x y : List ℕ) → names_text a ++ x ≡ names_text b ++ y → IsRowOfWords a → IsRowOfWords b → Stops x → Stops y
@@ -116,12 +122,6 @@ task_told a b x y e words_a words_b =
     let same : row_of a.name a.parent a.group a.session a.executed a.life a.home a.children_space a.subreaper
     ≡ row_of b.name b.parent b.group b.session b.executed b.life b.home b.children_space b.subreaper = cc (n, p, g, s, h, c, l, x, r) in
     (same, marks.3)
-  where
-    stops_places : (r : Row) (z : List ℕ) → Stops (places_text r ++ z)
-    stops_places r z = subst Stops (sym (places_flat r z)) (inl (lit< tt))
-
-    stops_line : (r : Row) (z : List ℕ) → Stops (marks_text r ++ 10 ∷ z)
-    stops_line r z = subst Stops (sym (marks_flat r (10 ∷ z))) (inl (lit< tt))
 
 pub stops_mark : (fallen : Bool) (x : List ℕ) → Stops (marked fallen (codes " fallen") ++ 10 ∷ x)
 stops_mark true x = inl (lit< tt)
@@ -198,3 +198,16 @@ module _ {A : Type 0} (line : A → List ℕ) (c : ℕ) (begins : BeginsWith c l
       let rest = lines_told IsOfWords one xs_ bs x y first.1 (λ k there. words_a k (inr there)) (λ k there. words_b k (inr there)) ends_x ends_y in
       let head = first.0 in let others = rest.0 in
       (cc (head, others), rest.1)
+
+  -- the first of such lines, and what is left of all of them
+  pub lines_left : (IsOfWords : A → Type 0) → ((a b : A) (x y : List ℕ) → line a ++ x ≡ line b ++ y → IsOfWords a → IsOfWords b → (a ≡ b) × (x ≡ y))
+      → (xs_ bs : List A) (x y : List ℕ) → flat_map line xs_ ++ x ≡ flat_map line bs ++ y → Each IsOfWords xs_ → Each IsOfWords bs → IsNotAt c y
+      → (more : List A) × (bs ≡ xs_ ++ more) × (x ≡ flat_map line more ++ y)
+  lines_left IsOfWords one [] bs x y e words_a words_b ends = (bs, refl, e)
+  lines_left IsOfWords one (a ∷ xs_) [] x y e words_a words_b ends =
+      absurd (ends (((begins a).0 ++ flat_map line xs_) ++ x) (sym e ∙ ap (λ l. (l ++ flat_map line xs_) ++ x) (begins a).1))
+  lines_left IsOfWords one (a ∷ xs_) (b ∷ bs) x y e words_a words_b ends =
+      let first = one a b _ _ (sym (append_assoc (line a) (flat_map line xs_) x) ∙ e ∙ append_assoc (line b) (flat_map line bs) y) (words_a a (inl refl)) (words_b b (inl refl)) in
+      let rest = lines_left IsOfWords one xs_ bs x y first.1 (λ k there. words_a k (inr there)) (λ k there. words_b k (inr there)) ends in
+      let head = first.0 in let others = rest.1 in
+      (rest.0, cc (head, others), rest.2)
