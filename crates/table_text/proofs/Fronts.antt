@@ -126,20 +126,6 @@ behind_left (m ∷ ms) (n ∷ ns) x y e a b stops =
     let head = first.0 in let others = rest.1 in
     (rest.0, cc (head, others), rest.2)
 
-behind_told : (ms ns x y : List ℕ) → behind ms ++ 64 ∷ x ≡ behind ns ++ 64 ∷ y
-    → ((m : ℕ) → IsIn m ms → IsWord m) → ((n : ℕ) → IsIn n ns → IsWord n) → (ms ≡ ns) × (x ≡ y)
-behind_told [] [] x y e a b = (refl, (first_told 64 64 x y e).1)
-behind_told [] (n ∷ ns) x y e a b = apart _ 64 44 _ _ e (inr (lit< tt))
-behind_told (m ∷ ms) [] x y e a b = apart _ 44 64 _ _ e (inl (lit< tt))
-behind_told (m ∷ ms) (n ∷ ns) x y e a b =
-    let tail = (first_told 44 44 _ _ e).1 in
-    let flat : decimal m ++ (behind ms ++ 64 ∷ x) ≡ decimal n ++ (behind ns ++ 64 ∷ y) =
-    sym (append_assoc (decimal m) (behind ms) (64 ∷ x)) ∙ tail ∙ append_assoc (decimal n) (behind ns) (64 ∷ y) in
-    let first = number_told m n (behind ms ++ 64 ∷ x) (behind ns ++ 64 ∷ y) flat (a m (inl refl)) (b n (inl refl)) (stops_behind ms x) (stops_behind ns y) in
-    let rest = behind_told ms ns x y first.1 (λ k there. a k (inr there)) (λ k there. b k (inr there)) in
-    let head = first.0 in let others = rest.0 in
-    (cc (head, others), rest.1)
-
 -- the numbers with commas, the first of them apart
 pub joined_flat : (n : ℕ) (ns x : List ℕ) → joined 44 (n ∷ ns) ++ x ≡ decimal n ++ (behind ns ++ x)
 joined_flat n ns x = ap (λ w. w ++ x) (joined_first n ns) ∙ append_assoc (decimal n) (behind ns) x
@@ -156,6 +142,11 @@ numbers_left (m ∷ ms) (n ∷ ns) x y e some_m some_n a b stops =
     let head = first.0 in let others = rest.1 in
     (rest.0, cc (head, others), rest.2)
 
+-- where an at sign is what is left, there is no number more
+none_left : (ms ns x y more : List ℕ) → ns ≡ ms ++ more → 64 ∷ x ≡ behind more ++ 64 ∷ y → (ms ≡ ns) × (x ≡ y)
+none_left ms ns x y [] all here = (sym (all ∙ append-nil ms), (first_told 64 64 x y here).1)
+none_left ms ns x y (n ∷ more) all here = apart _ 64 44 _ _ here (inr (lit< tt))
+
 -- numbers with commas, up to an at sign
 pub numbers_told : (ms ns x y : List ℕ) → joined 44 ms ++ 64 ∷ x ≡ joined 44 ns ++ 64 ∷ y
     → ((m : ℕ) → IsIn m ms → IsWord m) → ((n : ℕ) → IsIn n ns → IsWord n) → (ms ≡ ns) × (x ≡ y)
@@ -165,11 +156,8 @@ numbers_told [] (n ∷ ns) x y e a b =
 numbers_told (m ∷ ms) [] x y e a b =
     no_number _ m (64 ∷ y) (behind ms ++ 64 ∷ x) (sym e ∙ joined_flat m ms (64 ∷ x)) (a m (inl refl)) (inr (lit< tt)) (stops_behind ms x)
 numbers_told (m ∷ ms) (n ∷ ns) x y e a b =
-    let flat = sym (joined_flat m ms (64 ∷ x)) ∙ e ∙ joined_flat n ns (64 ∷ y) in
-    let first = number_told m n (behind ms ++ 64 ∷ x) (behind ns ++ 64 ∷ y) flat (a m (inl refl)) (b n (inl refl)) (stops_behind ms x) (stops_behind ns y) in
-    let rest = behind_told ms ns x y first.1 (λ k there. a k (inr there)) (λ k there. b k (inr there)) in
-    let head = first.0 in let others = rest.0 in
-    (cc (head, others), rest.1)
+    let left = numbers_left (m ∷ ms) (n ∷ ns) (64 ∷ x) y e (omega arith) (omega arith) a b (inr (lit< tt)) in
+    none_left (m ∷ ms) (n ∷ ns) x y left.0 left.1 left.2
 
 -- numbers with commas begin with no byte but a digit or an at sign
 pub no_numbers : (P : Type 0) (c : ℕ) (ns x y : List ℕ) → c ∷ x ≡ joined 44 ns ++ 64 ∷ y → ((n : ℕ) → IsIn n ns → IsWord n) → IsOther c → IsApart c 64 → P

@@ -11,8 +11,7 @@ use Rattle.pid_script.specs.Lists.{space_line}
 use Rattle.table_text.specs.Texts.{task_line, control_line, head_line, said, end_line, text_of}
 use Rattle.table_text.specs.Ranges.{IsWord, Each, IsRowOfWords, IsSpaceOfWords, IsControlOfWords}
 use Rattle.table_text.specs.Reading.{IsRead, Lacks, LacksLine, LacksLines, LacksHead, IsNotAt, IsHeldRow, IsHeldSpace, IsHeldControl, IsHeldState}
-use Rattle.table_text.proofs.Fronts.{GoesOnBut, apart}
-use Rattle.table_text.proofs.Lines.{BeginsWith, lines_left, task_told, space_told, control_told, head_told, task_begins, space_begins, control_begins}
+use Rattle.table_text.proofs.Lines.{BeginsWith, lines_left, task_told, space_told, control_told, head_told, task_begins, space_begins, control_begins, not_at}
 use Rattle.table_text.proofs.Told.{text_flat, end_front, controls_front, spaces_front}
 use Rattle.table_text.proofs.Scanned.{dropped}
 use Rattle.table_text.proofs.Missed.{word_of_small, words_of_small}
@@ -62,11 +61,6 @@ module _ {A : Type 0} (line : A → List ℕ) (c : ℕ) (begins : BeginsWith c l
   -- where none begins, all of them are read
   pub lines_behind : IsNotAt c (drop b text) → drop b text ≡ rest
   lines_behind over = all_read over left.0 left.1 left.2
-
--- what goes on otherwise does not go on with the byte
-not_at : (c : ℕ) (text : List ℕ) → GoesOnBut c text → IsNotAt c text
-not_at c [] ends z is = cc is
-not_at c (b ∷ bs) ends z is = apart ⊥ c b z bs (sym is) ends
 
 -- the text of a state, up to each of its parts
 module _ (text : List ℕ) (stamp : ℕ) (state : State) (word : IsWord stamp) (held : IsHeldState state) (is : text ≡ text_of stamp state) where
