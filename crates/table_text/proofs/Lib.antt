@@ -8,3 +8,4 @@ pub mod Missed
 pub mod Named
 pub mod Tasks
 pub mod Whole
+pub mod Snapshots

@@ -118,6 +118,17 @@ pub record IsHeldState (state : State) : Type 0 where
   pub controls : Each IsHeldControl state.controls
   pub pid_max : IsSmall state.pid_max
 
+-- an identifier with a number
+abbrev pub IsNumbered : Name → Type 0
+IsNumbered name = 0 < length name.numbers.items
+
+-- each identifier of a task has a number
+pub record HasNumbers (row : Row) : Type 0 where
+  pub name : IsNumbered row.name
+  pub parent : IfSome row.parent IsNumbered
+  pub group : IsNumbered row.group
+  pub session : IsNumbered row.session
+
 -- the text goes on with another byte, or is at its end
 abbrev pub IsNotAt : ℕ → List ℕ → Type 0
 IsNotAt byte text = (rest : List ℕ) → text ≡ byte ∷ rest → ⊥
