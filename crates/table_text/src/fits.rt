@@ -1,4 +1,5 @@
-//! The numbers of a snapshot fit their types. Nothing here does anything: what a body reads is known to fit from then on.
+//! The numbers of a snapshot fit their types. Nothing here does anything: what a body reads is known to fit from then
+//! on.
 ghost use Rattle.std.specs.Prelude.{IfSome, map};
 ghost use Rattle.table_text.specs.Texts.{without_count, state_in};
 ghost use Rattle.table_text.specs.Ranges.{IsWord, Each};
