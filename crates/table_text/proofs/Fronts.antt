@@ -1,5 +1,5 @@
 -- What a text begins with, and what is left of it behind a number or a word.
-use Rattle.std.proofs.Common.{◌≡◌, ◌≢◌, ◌⊎◌, inl, inr, ℕ, ◌^◌, ◌<◌, ◌≤◌, Bool, true, false, List, [], ◌∷◌, ◌++◌, length, Option, Some, None, IfSome, decimal, refl, sym, ap, ◌∙◌, subst, arith, lit<, append_assoc, append-nil}
+use Rattle.std.proofs.Common.{◌≡◌, ◌⊎◌, inl, inr, ℕ, ◌<◌, Bool, true, false, List, [], ◌∷◌, ◌++◌, length, Option, Some, None, IfSome, decimal, refl, sym, ap, ◌∙◌, arith, lit<, append_assoc, append-nil}
 use Rattle.std.specs.List.{flat_map}
 use Rattle.std.specs.Char.{digit_value}
 use Rattle.std.specs.Str.Parse.{AllDigits, digits_value}
@@ -9,7 +9,7 @@ use Rattle.std.proofs.lemmas.Fmt.{digits_decimal, decimal_nonempty, decimal_inje
 use Rattle.pid_types.specs.Membership.{IsIn}
 use Rattle.pid_script.specs.Answers.{joined}
 use Rattle.pid_script.specs.Lists.{marked}
-use Rattle.table_text.specs.Ranges.{IsWord}
+use Rattle.table_text.specs.Ranges.{IsWord, Each}
 use Rattle.table_text.specs.Reading.{IsOther, Stops}
 
 -- std's words for digits and their value
@@ -67,9 +67,9 @@ no_number P n x y e small stops_x stops_y =
     absurd (omega (arith, none, some))
 
 -- what is true at all is true of what an option has
-if_some : (p : Option ℕ) (P : Type 0) → P → IfSome p (λ n. P)
+pub if_some : {X : Type 0} (p : Option X) (P : Type 0) → P → IfSome p (λ x. P)
 if_some None P here = tt
-if_some (Some n) P here = here
+if_some (Some x) P here = here
 
 -- a number, or the word for none, which begins with no digit. Behind the first word for none the text need not stop
 pub option_read : (f : Option ℕ → List ℕ) (c : ℕ) (cs : List ℕ) → IsOther c → f None ≡ c ∷ cs → ((n : ℕ) → f (Some n) ≡ decimal n)
@@ -98,52 +98,69 @@ marked_told word false true x y e no_x no_y = absurd (no_x y e)
 marked_told word false false x y e no_x no_y = (refl, e)
 
 -- the numbers behind the first one, each with its comma
-abbrev behind : List ℕ → List ℕ
+abbrev pub behind : List ℕ → List ℕ
 behind ns = flat_map (λ n. 44 ∷ decimal n) ns
 
 joined_first : (n : ℕ) (ns : List ℕ) → joined 44 (n ∷ ns) ≡ decimal n ++ behind ns
 joined_first n [] = simp append-nil
 joined_first n (m ∷ ns) = ap (λ rest. decimal n ++ 44 ∷ rest) (joined_first m ns)
 
-stops_behind : (ns x : List ℕ) → Stops (behind ns ++ 64 ∷ x)
-stops_behind [] x = inr (lit< tt)
-stops_behind (n ∷ ns) x = inl (lit< tt)
+stops_commas : (ns x : List ℕ) → Stops x → Stops (behind ns ++ x)
+stops_commas [] x stops = stops
+stops_commas (n ∷ ns) x stops = inl (lit< tt)
 
-behind_told : (ms ns x y : List ℕ) → behind ms ++ 64 ∷ x ≡ behind ns ++ 64 ∷ y
-    → ((m : ℕ) → IsIn m ms → IsWord m) → ((n : ℕ) → IsIn n ns → IsWord n) → (ms ≡ ns) × (x ≡ y)
-behind_told [] [] x y e a b = (refl, (first_told 64 64 x y e).1)
-behind_told [] (n ∷ ns) x y e a b = apart _ 64 44 _ _ e (inr (lit< tt))
-behind_told (m ∷ ms) [] x y e a b = apart _ 44 64 _ _ e (inl (lit< tt))
-behind_told (m ∷ ms) (n ∷ ns) x y e a b =
+pub stops_behind : (ns x : List ℕ) → Stops (behind ns ++ 64 ∷ x)
+stops_behind ns x = stops_commas ns (64 ∷ x) (inr (lit< tt))
+
+-- the first numbers behind a comma, and what is left of all up to an at sign
+behind_left : (ms ns x y : List ℕ) → behind ms ++ x ≡ behind ns ++ 64 ∷ y → Each IsWord ms → Each IsWord ns → Stops x
+    → (more : List ℕ) × (ns ≡ ms ++ more) × (x ≡ behind more ++ 64 ∷ y)
+behind_left [] ns x y e a b stops = (ns, refl, e)
+behind_left (m ∷ ms) [] x y e a b stops = apart _ 44 64 _ _ e (inl (lit< tt))
+behind_left (m ∷ ms) (n ∷ ns) x y e a b stops =
     let tail = (first_told 44 44 _ _ e).1 in
-    let flat : decimal m ++ (behind ms ++ 64 ∷ x) ≡ decimal n ++ (behind ns ++ 64 ∷ y) =
-    sym (append_assoc (decimal m) (behind ms) (64 ∷ x)) ∙ tail ∙ append_assoc (decimal n) (behind ns) (64 ∷ y) in
-    let first = number_told m n (behind ms ++ 64 ∷ x) (behind ns ++ 64 ∷ y) flat (a m (inl refl)) (b n (inl refl)) (stops_behind ms x) (stops_behind ns y) in
-    let rest = behind_told ms ns x y first.1 (λ k there. a k (inr there)) (λ k there. b k (inr there)) in
-    let head = first.0 in let others = rest.0 in
-    (cc (head, others), rest.1)
+    let flat : decimal m ++ (behind ms ++ x) ≡ decimal n ++ (behind ns ++ 64 ∷ y) =
+    sym (append_assoc (decimal m) (behind ms) x) ∙ tail ∙ append_assoc (decimal n) (behind ns) (64 ∷ y) in
+    let first = number_told m n (behind ms ++ x) (behind ns ++ 64 ∷ y) flat (a m (inl refl)) (b n (inl refl)) (stops_commas ms x stops) (stops_behind ns y) in
+    let rest = behind_left ms ns x y first.1 (λ k there. a k (inr there)) (λ k there. b k (inr there)) stops in
+    let head = first.0 in let others = rest.1 in
+    (rest.0, cc (head, others), rest.2)
 
--- the numbers with commas up to an at sign, the first of them apart
-joined_flat : (n : ℕ) (ns x : List ℕ) → joined 44 (n ∷ ns) ++ 64 ∷ x ≡ decimal n ++ (behind ns ++ 64 ∷ x)
-joined_flat n ns x = ap (λ w. w ++ 64 ∷ x) (joined_first n ns) ∙ append_assoc (decimal n) (behind ns) (64 ∷ x)
+-- the numbers with commas, the first of them apart
+pub joined_flat : (n : ℕ) (ns x : List ℕ) → joined 44 (n ∷ ns) ++ x ≡ decimal n ++ (behind ns ++ x)
+joined_flat n ns x = ap (λ w. w ++ x) (joined_first n ns) ∙ append_assoc (decimal n) (behind ns) x
+
+-- the first numbers with commas, and what is left of all up to an at sign
+pub numbers_left : (ms ns x y : List ℕ) → joined 44 ms ++ x ≡ joined 44 ns ++ 64 ∷ y → 0 < length ms → 0 < length ns
+    → Each IsWord ms → Each IsWord ns → Stops x → (more : List ℕ) × (ns ≡ ms ++ more) × (x ≡ behind more ++ 64 ∷ y)
+numbers_left [] ns x y e some_m some_n a b stops = absurd (omega (arith, some_m))
+numbers_left (m ∷ ms) [] x y e some_m some_n a b stops = absurd (omega (arith, some_n))
+numbers_left (m ∷ ms) (n ∷ ns) x y e some_m some_n a b stops =
+    let flat = sym (joined_flat m ms x) ∙ e ∙ joined_flat n ns (64 ∷ y) in
+    let first = number_told m n (behind ms ++ x) (behind ns ++ 64 ∷ y) flat (a m (inl refl)) (b n (inl refl)) (stops_commas ms x stops) (stops_behind ns y) in
+    let rest = behind_left ms ns x y first.1 (λ k there. a k (inr there)) (λ k there. b k (inr there)) stops in
+    let head = first.0 in let others = rest.1 in
+    (rest.0, cc (head, others), rest.2)
+
+-- where an at sign is what is left, there is no number more
+none_left : (ms ns x y more : List ℕ) → ns ≡ ms ++ more → 64 ∷ x ≡ behind more ++ 64 ∷ y → (ms ≡ ns) × (x ≡ y)
+none_left ms ns x y [] all here = (sym (all ∙ append-nil ms), (first_told 64 64 x y here).1)
+none_left ms ns x y (n ∷ more) all here = apart _ 64 44 _ _ here (inr (lit< tt))
 
 -- numbers with commas, up to an at sign
 pub numbers_told : (ms ns x y : List ℕ) → joined 44 ms ++ 64 ∷ x ≡ joined 44 ns ++ 64 ∷ y
     → ((m : ℕ) → IsIn m ms → IsWord m) → ((n : ℕ) → IsIn n ns → IsWord n) → (ms ≡ ns) × (x ≡ y)
 numbers_told [] [] x y e a b = (refl, (first_told 64 64 x y e).1)
 numbers_told [] (n ∷ ns) x y e a b =
-    no_number _ n (64 ∷ x) (behind ns ++ 64 ∷ y) (e ∙ joined_flat n ns y) (b n (inl refl)) (inr (lit< tt)) (stops_behind ns y)
+    no_number _ n (64 ∷ x) (behind ns ++ 64 ∷ y) (e ∙ joined_flat n ns (64 ∷ y)) (b n (inl refl)) (inr (lit< tt)) (stops_behind ns y)
 numbers_told (m ∷ ms) [] x y e a b =
-    no_number _ m (64 ∷ y) (behind ms ++ 64 ∷ x) (sym e ∙ joined_flat m ms x) (a m (inl refl)) (inr (lit< tt)) (stops_behind ms x)
+    no_number _ m (64 ∷ y) (behind ms ++ 64 ∷ x) (sym e ∙ joined_flat m ms (64 ∷ x)) (a m (inl refl)) (inr (lit< tt)) (stops_behind ms x)
 numbers_told (m ∷ ms) (n ∷ ns) x y e a b =
-    let flat = sym (joined_flat m ms x) ∙ e ∙ joined_flat n ns y in
-    let first = number_told m n (behind ms ++ 64 ∷ x) (behind ns ++ 64 ∷ y) flat (a m (inl refl)) (b n (inl refl)) (stops_behind ms x) (stops_behind ns y) in
-    let rest = behind_told ms ns x y first.1 (λ k there. a k (inr there)) (λ k there. b k (inr there)) in
-    let head = first.0 in let others = rest.0 in
-    (cc (head, others), rest.1)
+    let left = numbers_left (m ∷ ms) (n ∷ ns) (64 ∷ x) y e (omega arith) (omega arith) a b (inr (lit< tt)) in
+    none_left (m ∷ ms) (n ∷ ns) x y left.0 left.1 left.2
 
 -- numbers with commas begin with no byte but a digit or an at sign
 pub no_numbers : (P : Type 0) (c : ℕ) (ns x y : List ℕ) → c ∷ x ≡ joined 44 ns ++ 64 ∷ y → ((n : ℕ) → IsIn n ns → IsWord n) → IsOther c → IsApart c 64 → P
 no_numbers P c [] x y e words other not_at = apart P c 64 x y e not_at
 no_numbers P c (n ∷ ns) x y e words other not_at =
-    no_number P n (c ∷ x) (behind ns ++ 64 ∷ y) (e ∙ joined_flat n ns y) (words n (inl refl)) other (stops_behind ns y)
+    no_number P n (c ∷ x) (behind ns ++ 64 ∷ y) (e ∙ joined_flat n ns (64 ∷ y)) (words n (inl refl)) other (stops_behind ns y)

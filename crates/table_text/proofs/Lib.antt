@@ -5,3 +5,7 @@ pub mod Told
 pub mod Scanned
 pub mod Each
 pub mod Missed
+pub mod Named
+pub mod Tasks
+pub mod Whole
+pub mod Snapshots

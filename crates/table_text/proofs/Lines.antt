@@ -1,5 +1,5 @@
 -- The lines of a text: equal texts that begin with a line begin with one line of one thing.
-use Rattle.std.proofs.Common.{◌≡◌, ◌⊎◌, inl, inr, ℕ, ◌<◌, Bool, true, false, List, [], ◌∷◌, ◌++◌, Option, Some, None, decimal, codes, drop, refl, sym, ap, ◌∙◌, subst, lit<, append_assoc, ⊎_elim}
+use Rattle.std.proofs.Common.{◌≡◌, inl, inr, ℕ, Bool, true, false, List, [], ◌∷◌, ◌++◌, Option, decimal, codes, drop, refl, sym, ap, ◌∙◌, subst, lit<, append_assoc, append-nil}
 use Rattle.std.specs.List.{flat_map}
 use Rattle.std.proofs.lemmas.List.{append_cancel_left}
 use Rattle.pid_types.specs.declared.plain.Name.{Name}
@@ -7,11 +7,10 @@ use Rattle.pid_types.specs.declared.plain.Life.{Life}
 use Rattle.pid_types.specs.declared.plain.Row.{Row}
 use Rattle.pid_types.specs.declared.plain.Space.{Space}
 use Rattle.pid_types.specs.declared.plain.Control.{Control}
-use Rattle.pid_types.specs.Membership.{IsIn}
 use Rattle.pid_script.specs.Lists.{marked, parent_text, limit_text, life_text, space_line}
 use Rattle.table_text.specs.Texts.{name_word, parent_word, names_text, places_text, marks_text, task_line, control_line, settings_text, head_line}
-use Rattle.table_text.specs.Ranges.{IsWord, IsRowOfWords, IsSpaceOfWords, IsControlOfWords}
-use Rattle.table_text.specs.Reading.{Stops}
+use Rattle.table_text.specs.Ranges.{IsWord, Each, IsRowOfWords, IsSpaceOfWords, IsControlOfWords}
+use Rattle.table_text.specs.Reading.{Stops, IsNotAt}
 use Rattle.table_text.proofs.Fronts.{IsApart, GoesOnBut, apart, first_told, number_told, marked_told}
 use Rattle.table_text.proofs.Words.{name_told, parent_told, outer_told, limit_told, life_told}
 
@@ -51,6 +50,12 @@ pub head_flat : (pid_max stamp : ℕ) (x : List ℕ) → head_line pid_max stamp
     ≡ codes "pidtab table 1" ++ (codes " pid-max " ++ (decimal pid_max ++ (codes " stamp " ++ (decimal stamp ++ 10 ∷ x))))
 unfolding head_line settings_text
 head_flat pid_max stamp x = simp append_assoc
+
+pub stops_places : (r : Row) (z : List ℕ) → Stops (places_text r ++ z)
+stops_places r z = subst Stops (sym (places_flat r z)) (inl (lit< tt))
+
+pub stops_line : (r : Row) (z : List ℕ) → Stops (marks_text r ++ 10 ∷ z)
+stops_line r z = subst Stops (sym (marks_flat r (10 ∷ z))) (inl (lit< tt))
 
 -- the names of a task, and what follows them
 names_told : (a b : Row) (x y : List ℕ) → names_text a ++ x ≡ names_text b ++ y → IsRowOfWords a → IsRowOfWords b → Stops x → Stops y
@@ -116,12 +121,6 @@ task_told a b x y e words_a words_b =
     let same : row_of a.name a.parent a.group a.session a.executed a.life a.home a.children_space a.subreaper
     ≡ row_of b.name b.parent b.group b.session b.executed b.life b.home b.children_space b.subreaper = cc (n, p, g, s, h, c, l, x, r) in
     (same, marks.3)
-  where
-    stops_places : (r : Row) (z : List ℕ) → Stops (places_text r ++ z)
-    stops_places r z = subst Stops (sym (places_flat r z)) (inl (lit< tt))
-
-    stops_line : (r : Row) (z : List ℕ) → Stops (marks_text r ++ 10 ∷ z)
-    stops_line r z = subst Stops (sym (marks_flat r (10 ∷ z))) (inl (lit< tt))
 
 pub stops_mark : (fallen : Bool) (x : List ℕ) → Stops (marked fallen (codes " fallen") ++ 10 ∷ x)
 stops_mark true x = inl (lit< tt)
@@ -173,12 +172,10 @@ pub control_begins : BeginsWith 99 control_line
 unfolding control_line
 control_begins c = (drop 1 (control_line c), refl)
 
--- a text that does not go on with a byte is none with such a line in front
-no_line : (P : Type 0) (c : ℕ) (cs line more x y : List ℕ) → line ≡ c ∷ cs → GoesOnBut c x → x ≡ (line ++ more) ++ y → P
-no_line P c cs line more [] y begins ends e =
-    let none : [] ≡ c ∷ ((cs ++ more) ++ y) = e ∙ ap (λ l. (l ++ more) ++ y) begins in cc none
-no_line P c cs line more (d ∷ x) y begins ends e =
-    apart P d c x ((cs ++ more) ++ y) (e ∙ ap (λ l. (l ++ more) ++ y) begins) (⊎_elim (λ lt. inr lt) (λ gt. inl gt) ends)
+-- what goes on otherwise does not go on with the byte
+pub not_at : (c : ℕ) (text : List ℕ) → GoesOnBut c text → IsNotAt c text
+not_at c [] ends z is = cc is
+not_at c (b ∷ bs) ends z is = apart ⊥ c b z bs (sym is) ends
 
 -- lines, up to a text that begins otherwise
 module _ {A : Type 0} (line : A → List ℕ) (c : ℕ) (begins : BeginsWith c line) where
@@ -187,14 +184,27 @@ module _ {A : Type 0} (line : A → List ℕ) (c : ℕ) (begins : BeginsWith c l
   lines_front d [] x other ends = ends
   lines_front d (a ∷ xs) x other ends = subst (λ l. GoesOnBut d ((l ++ flat_map line xs) ++ x)) (sym (begins a).1) other
 
-  pub lines_told : (IsOfWords : A → Type 0) → ((a b : A) (x y : List ℕ) → line a ++ x ≡ line b ++ y → IsOfWords a → IsOfWords b → (a ≡ b) × (x ≡ y))
-      → (xs_ bs : List A) (x y : List ℕ) → flat_map line xs_ ++ x ≡ flat_map line bs ++ y → ((a : A) → IsIn a xs_ → IsOfWords a) → ((b : A) → IsIn b bs → IsOfWords b)
-      → GoesOnBut c x → GoesOnBut c y → (xs_ ≡ bs) × (x ≡ y)
-  lines_told IsOfWords one [] [] x y e words_a words_b ends_x ends_y = (refl, e)
-  lines_told IsOfWords one [] (b ∷ bs) x y e words_a words_b ends_x ends_y = no_line _ c (begins b).0 (line b) (flat_map line bs) x y (begins b).1 ends_x e
-  lines_told IsOfWords one (a ∷ xs_) [] x y e words_a words_b ends_x ends_y = no_line _ c (begins a).0 (line a) (flat_map line xs_) y x (begins a).1 ends_y (sym e)
-  lines_told IsOfWords one (a ∷ xs_) (b ∷ bs) x y e words_a words_b ends_x ends_y =
+  -- the first of such lines, and what is left of all of them
+  pub lines_left : (IsOfWords : A → Type 0) → ((a b : A) (x y : List ℕ) → line a ++ x ≡ line b ++ y → IsOfWords a → IsOfWords b → (a ≡ b) × (x ≡ y))
+      → (xs_ bs : List A) (x y : List ℕ) → flat_map line xs_ ++ x ≡ flat_map line bs ++ y → Each IsOfWords xs_ → Each IsOfWords bs → IsNotAt c y
+      → (more : List A) × (bs ≡ xs_ ++ more) × (x ≡ flat_map line more ++ y)
+  lines_left IsOfWords one [] bs x y e words_a words_b ends = (bs, refl, e)
+  lines_left IsOfWords one (a ∷ xs_) [] x y e words_a words_b ends =
+      absurd (ends (((begins a).0 ++ flat_map line xs_) ++ x) (sym e ∙ ap (λ l. (l ++ flat_map line xs_) ++ x) (begins a).1))
+  lines_left IsOfWords one (a ∷ xs_) (b ∷ bs) x y e words_a words_b ends =
       let first = one a b _ _ (sym (append_assoc (line a) (flat_map line xs_) x) ∙ e ∙ append_assoc (line b) (flat_map line bs) y) (words_a a (inl refl)) (words_b b (inl refl)) in
-      let rest = lines_told IsOfWords one xs_ bs x y first.1 (λ k there. words_a k (inr there)) (λ k there. words_b k (inr there)) ends_x ends_y in
-      let head = first.0 in let others = rest.0 in
-      (cc (head, others), rest.1)
+      let rest = lines_left IsOfWords one xs_ bs x y first.1 (λ k there. words_a k (inr there)) (λ k there. words_b k (inr there)) ends in
+      let head = first.0 in let others = rest.1 in
+      (rest.0, cc (head, others), rest.2)
+
+  none_left : (xs_ bs : List A) (x y : List ℕ) → GoesOnBut c x → (more : List A) → bs ≡ xs_ ++ more → x ≡ flat_map line more ++ y → (xs_ ≡ bs) × (x ≡ y)
+  none_left xs_ bs x y ends [] all here = (sym (all ∙ append-nil xs_), here)
+  none_left xs_ bs x y ends (a ∷ more) all here = absurd (not_at c x ends _ (here ∙ ap (λ l. (l ++ flat_map line more) ++ y) (begins a).1))
+
+  -- all of them
+  pub lines_told : (IsOfWords : A → Type 0) → ((a b : A) (x y : List ℕ) → line a ++ x ≡ line b ++ y → IsOfWords a → IsOfWords b → (a ≡ b) × (x ≡ y))
+      → (xs_ bs : List A) (x y : List ℕ) → flat_map line xs_ ++ x ≡ flat_map line bs ++ y → Each IsOfWords xs_ → Each IsOfWords bs
+      → GoesOnBut c x → GoesOnBut c y → (xs_ ≡ bs) × (x ≡ y)
+  lines_told IsOfWords one xs_ bs x y e words_a words_b ends_x ends_y =
+      let left = lines_left IsOfWords one xs_ bs x y e words_a words_b (not_at c y ends_y) in
+      none_left xs_ bs x y ends_x left.0 left.1 left.2

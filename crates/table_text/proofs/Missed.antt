@@ -1,7 +1,6 @@
 -- What does not stand in a text where a reader gives up. Each step takes what was read, and leaves what stands behind it.
 use Rattle.std.proofs.Common.{◌≡◌, inl, inr, ℕ, ◌^◌, ◌<◌, ◌≤◌, Bool, true, false, List, [], ◌∷◌, ◌++◌, length, drop, Option, Some, None, IfSome, decimal, codes, refl, sym, ◌∙◌, arith, lit<, append_assoc}
 use Rattle.std.proofs.lemmas.List.{append_cancel_left}
-use Rattle.pid_types.specs.declared.plain.Life.{Life}
 use Rattle.pid_types.specs.declared.plain.Life.TheVariants.{Live, Zombie}
 use Rattle.pid_types.specs.declared.plain.Ended.TheVariants.{Exited, Killed}
 use Rattle.pid_types.specs.declared.plain.Space.{Space}
@@ -28,7 +27,7 @@ word_behind text word a b rest within_a within_b read is =
     append_cancel_left word (drop b text) rest (sym (dropped text a b word within_a within_b read) ∙ is)
 
 -- what a label that is read leaves
-left_by : (text label part : List ℕ) (a b : ℕ) (other : List ℕ) → a ≤ length text → b ≤ length text → IsRead text a b (label ++ part)
+pub left_by : (text label part : List ℕ) (a b : ℕ) (other : List ℕ) → a ≤ length text → b ≤ length text → IsRead text a b (label ++ part)
     → drop a text ≡ label ++ other → part ++ drop b text ≡ other
 left_by text label part a b other within_a within_b read is =
     append_cancel_left label _ _ (sym (append_assoc label part (drop b text)) ∙ sym (dropped text a b (label ++ part) within_a within_b read) ∙ is)

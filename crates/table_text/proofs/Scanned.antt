@@ -99,6 +99,12 @@ end_read text end at equal is =
     let same = (bytes_eq-Decides (take (length text - at) (drop at text)) end).0 (sym equal) in
     sym (take-append-drop at text) ∙ ap (λ w. take at text ++ w) (sym (rest_is text at) ∙ same ∙ is)
 
+-- a text that ends otherwise
+pub end_missing : (text end : List ℕ) (at : ℕ) → false ≡ bytes_eq (take (length text - at) (drop at text)) end → end ≡ end_line (take at text)
+    → drop at text ≡ end_line (take at text) → ⊥
+end_missing text end at differ is there =
+    true≢false (sym ((bytes_eq-Decides (take (length text - at) (drop at text)) end).1 (rest_is text at ∙ there ∙ sym is)) ∙ sym differ)
+
 -- what a list is once a push was made
 pub pushed : {E : Type 0} {X : Type 0} (r : Result Unit E) (xs ys zs : List X) → zs ≡ (if is_ok r then xs else ys) → is_err r ≡ false → zs ≡ xs
 pushed (Ok u) xs ys zs items done = items

@@ -1,5 +1,5 @@
 -- Equal texts are of one state.
-use Rattle.std.proofs.Common.{◌≡◌, ◌⊎◌, inl, inr, ℕ, ◌<◌, List, [], ◌∷◌, ◌++◌, map, codes, refl, sym, ap, ◌∙◌, subst, lit<, append_assoc}
+use Rattle.std.proofs.Common.{◌≡◌, inl, inr, ℕ, List, [], ◌∷◌, ◌++◌, map, refl, sym, ap, ◌∙◌, lit<, append_assoc}
 use Rattle.std.specs.List.{flat_map}
 use Rattle.pid_types.specs.declared.plain.Row.{Row}
 use Rattle.pid_types.specs.declared.plain.Space.{Space}
@@ -29,20 +29,20 @@ state_in-shown state plain shows =
     ≡ state_of state.rows state.spaces state.controls state.pid_max = cc (r, s, c, m) in
     same
 
-end_front : (c : ℕ) (text : List ℕ) → IsApart c 101 → GoesOnBut c (end_line text)
+pub end_front : (c : ℕ) (text : List ℕ) → IsApart c 101 → GoesOnBut c (end_line text)
 unfolding end_line
 end_front c text other = other
 
-text_flat : (stamp : ℕ) (state : State) → text_of stamp state
+pub text_flat : (stamp : ℕ) (state : State) → text_of stamp state
     ≡ head_line state.pid_max stamp ++ (flat_map task_line state.rows ++ (flat_map space_line state.spaces ++ (flat_map control_line state.controls ++ end_line (said stamp state))))
 unfolding text_of said
 text_flat stamp state = simp append_assoc
 
 module _ (controls : List Control) (text : List ℕ) where
-  controls_front : (d : ℕ) → IsApart d 99 → IsApart d 101 → GoesOnBut d (flat_map control_line controls ++ end_line text)
+  pub controls_front : (d : ℕ) → IsApart d 99 → IsApart d 101 → GoesOnBut d (flat_map control_line controls ++ end_line text)
   controls_front d other ends = lines_front control_line 99 control_begins d controls (end_line text) other (end_front d text ends)
 
-  spaces_front : (spaces : List Space) → GoesOnBut 116 (flat_map space_line spaces ++ (flat_map control_line controls ++ end_line text))
+  pub spaces_front : (spaces : List Space) → GoesOnBut 116 (flat_map space_line spaces ++ (flat_map control_line controls ++ end_line text))
   spaces_front spaces = lines_front space_line 115 space_begins 116 spaces _ (inr (lit< tt)) (controls_front 116 (inr (lit< tt)) (inr (lit< tt)))
 
 -- equal texts are of one state, with one stamp

@@ -1,13 +1,18 @@
 -- What is read of a text.
-use Rattle.std.specs.Prelude.{◌≡◌, ◌⊎◌, ℕ, ◌<◌, ◌^◌, List, [], ◌∷◌, ◌++◌, take, drop, IfSome}
+use Rattle.std.specs.Prelude.{◌≡◌, ◌⊎◌, ℕ, ◌<◌, ◌≤◌, ◌^◌, List, [], ◌∷◌, ◌++◌, take, drop, length, IfSome}
+use Rattle.std.specs.List.{flat_map}
+use Rattle.pid_types.specs.declared.plain.Name.{Name}
+use Rattle.pid_types.specs.declared.plain.Row.{Row}
 use Rattle.pid_types.specs.declared.plain.Space.{Space}
 use Rattle.pid_types.specs.declared.plain.Control.{Control}
 use Rattle.pid_types.specs.declared.plain.Life.{Life}
 use Rattle.pid_types.specs.declared.plain.Life.TheVariants.{Live, Zombie}
 use Rattle.pid_types.specs.declared.plain.Ended.TheVariants.{Exited, Killed}
 use Rattle.pid_types.specs.State.{State}
+use Rattle.pid_script.specs.Answers.{joined}
 use Rattle.pid_script.specs.Lists.{field}
-use Rattle.table_text.specs.Ranges.{IsWord}
+use Rattle.table_text.specs.Ranges.{IsWord, Each}
+use Rattle.table_text.specs.Texts.{text_of}
 use Rattle.table_text.specs.declared.read.Saved.{Saved}
 
 -- what stands between the two places is this
@@ -57,6 +62,21 @@ abbrev pub LacksHead : (ℕ → ℕ → List ℕ) → List ℕ → ℕ → Type 
 LacksHead line text at =
     (pid_max stamp : ℕ) (rest : List ℕ) → IsSmall pid_max → IsWord stamp → drop at text ≡ line pid_max stamp ++ rest → ⊥
 
+-- the numbers of an identifier, as its type holds them: one for each level, and 33 levels at most
+pub record AreHeldNumbers (numbers : List ℕ) : Type 0 where
+  pub some : 0 < length numbers
+  pub levels : length numbers ≤ 33
+  pub small : Each IsSmall numbers
+
+-- no such numbers stand at the place, up to an at sign
+abbrev pub LacksNumbers : List ℕ → ℕ → Type 0
+LacksNumbers text at = (numbers rest : List ℕ) → AreHeldNumbers numbers → drop at text ≡ joined 44 numbers ++ 64 ∷ rest → ⊥
+
+-- an identifier, as its type holds it
+pub record IsHeldName (name : Name) : Type 0 where
+  pub numbers : AreHeldNumbers name.numbers.items
+  pub space : IsWord name.space
+
 -- the status of a task that has exited, as its type holds it
 abbrev pub IsHeldLife : Life → Type 0
 IsHeldLife Live = Unit {0}
@@ -69,6 +89,16 @@ StopsBehind Live rest = Unit {0}
 StopsBehind (Zombie (Exited status)) rest = Stops rest
 StopsBehind (Zombie Killed) rest = Unit {0}
 
+-- the numbers of a task, as its type holds them
+pub record IsHeldRow (row : Row) : Type 0 where
+  pub name : IsHeldName row.name
+  pub parent : IfSome row.parent IsHeldName
+  pub group : IsHeldName row.group
+  pub session : IsHeldName row.session
+  pub life : IsHeldLife row.life
+  pub home : IsWord row.home
+  pub children_space : IsWord row.children_space
+
 -- the numbers of a namespace, as its type holds them
 pub record IsHeldSpace (space : Space) : Type 0 where
   pub id : IsWord space.id
@@ -80,6 +110,37 @@ pub record IsHeldControl (control : Control) : Type 0 where
   pub id : IsWord control.id
   pub parent : IfSome control.parent IsWord
   pub limit : IfSome control.limit IsSmall
+
+-- the numbers of a state, as its types hold them
+pub record IsHeldState (state : State) : Type 0 where
+  pub rows : Each IsHeldRow state.rows
+  pub spaces : Each IsHeldSpace state.spaces
+  pub controls : Each IsHeldControl state.controls
+  pub pid_max : IsSmall state.pid_max
+
+-- an identifier with a number
+abbrev pub IsNumbered : Name → Type 0
+IsNumbered name = 0 < length name.numbers.items
+
+-- each identifier of a task has a number
+pub record HasNumbers (row : Row) : Type 0 where
+  pub name : IsNumbered row.name
+  pub parent : IfSome row.parent IsNumbered
+  pub group : IsNumbered row.group
+  pub session : IsNumbered row.session
+
+-- the text goes on with another byte, or is at its end
+abbrev pub IsNotAt : ℕ → List ℕ → Type 0
+IsNotAt byte text = (rest : List ℕ) → text ≡ byte ∷ rest → ⊥
+
+-- no lines that begin with this byte stand at the place, up to what begins otherwise
+abbrev pub LacksLines : {A : Type 0} → (A → Type 0) → (A → List ℕ) → ℕ → List ℕ → ℕ → Type 0
+LacksLines {A} IsHeld line byte text at =
+    (xs : List A) (rest : List ℕ) → Each IsHeld xs → IsNotAt byte rest → drop at text ≡ flat_map line xs ++ rest → ⊥
+
+-- the text is that of no state, with no stamp
+abbrev pub IsNoText : List ℕ → Type 0
+IsNoText text = (stamp : ℕ) (state : State) → IsWord stamp → IsHeldState state → text ≡ text_of stamp state → ⊥
 
 -- the state that a text says
 abbrev pub saved_state : Saved → State

@@ -6,7 +6,10 @@ ghost use Rattle.pid_script.specs.Lists.{field};
 ghost use Rattle.table_text.specs.Texts.{name_word, parent_word, names_text, places_text, marks_text, task_line};
 ghost use Rattle.table_text.specs.Texts.{control_line, settings_text, head_line, said, end_line, text_of};
 ghost use Rattle.table_text.specs.Texts.{without_count, state_in};
+ghost use Rattle.table_text.specs.Ranges.{Each};
+ghost use Rattle.table_text.specs.Reading.{HasNumbers, IsHeldState};
 
+use crate::fits::plain_fits;
 use hex::encode;
 use pid_script::answer::joined_numbers;
 use pid_script::list::{push_field, push_life, push_limit, push_mark, push_parent, push_spaces};
@@ -165,8 +168,10 @@ pub(crate) fn end_of(alloc: Global, said: &[u8]) -> Result<Vec<u8>, AllocError>
 /// text, which is made in one piece.
 #[tactic(auto, unfolding(crate::specs::Texts::text_of))]
 pub fn dump_text(alloc: Global, plain: &Plain, stamp: u64) -> Result<Vec<u8>, AllocError>
-    ensures { IfOk result (λ text. text.items ≡ text_of stamp (state_in plain.now)) }
+    ensures text { IfOk result (λ text. text.items ≡ text_of stamp (state_in plain.now)) }
+    ensures held { Each HasNumbers plain.now.rows.items → IsHeldState (state_in plain.now) }
 {
+    plain_fits(plain);
     let mut text = Vec::new(alloc);
     push_said(&mut text, plain, stamp)?;
     let end = end_of(alloc, text.as_slice())?;

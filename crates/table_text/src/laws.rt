@@ -1,5 +1,17 @@
 //! Laws of the form.
+ghost use Rattle.std.specs.Prelude.{◌≡◌, IfOk, IfErr};
+ghost use Rattle.pid_types.specs.State.{State};
+ghost use Rattle.pid_types.specs.Sound.{IsSound};
+ghost use Rattle.pid_types.specs.Shown.{Shows};
 ghost use Rattle.table_text.specs.Laws.{SnapshotsHaveTheirState, TextsTellStates};
+ghost use Rattle.table_text.specs.Reading.{saved_state};
+ghost use Rattle.table_text.specs.declared.fault.LoadFault.TheVariants.{NoMemory};
+
+use crate::dump::dump_text;
+use crate::fault::LoadFault;
+use crate::read::{Saved, read_text};
+use pid_types::plain::Plain;
+use std::alloc::Global;
 
 /// A snapshot has the state that it shows.
 pub fn snapshots_have_their_state()
@@ -10,3 +22,15 @@ pub fn snapshots_have_their_state()
 pub fn texts_tell_states()
     ensures { TextsTellStates }
 {}
+
+/// What is written of a sound state is read back, and only want of memory keeps it from that.
+pub fn what_is_written_is_read(alloc: Global, plain: &Plain, stamp: u64) -> Result<Saved, LoadFault>
+    ensures read { (state : State) → IsSound state → Shows state plain.now
+        → IfOk result (λ saved. (saved.stamp ≡ stamp) × (saved_state saved ≡ state)) }
+    ensures err { (state : State) → IsSound state → Shows state plain.now → IfErr result (λ fault. fault ≡ NoMemory) }
+{
+    let Ok(text) = dump_text(alloc, plain, stamp) else {
+        return Err(LoadFault::NoMemory);
+    };
+    read_text(alloc, text.as_slice())
+}

@@ -3,11 +3,12 @@
 //!
 //! [`dump::dump_text`] writes the text of a snapshot. One state has one text, and two states with
 //! one text are one ([`laws`]). So a digest of the text is a digest of the state. [`read::read_text`] reads a text
-//! back, and answers none but what it says.
+//! back, and answers none but what it says. What is written of a sound state is read back.
 #![tactic(auto)]
 
 pub mod dump;
 pub mod fault;
+mod fits;
 pub mod laws;
 pub mod read;
 mod scan;

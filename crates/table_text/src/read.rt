@@ -8,9 +8,11 @@ ghost use Rattle.table_text.specs.Texts.{name_word, parent_word, task_line, cont
 ghost use Rattle.table_text.specs.Texts.{settings_text, head_line, end_line, text_of};
 ghost use Rattle.table_text.specs.Ranges.{IsWord, Each, IsNameOfWords, IsRowOfWords, IsSpaceOfWords, IsControlOfWords};
 ghost use Rattle.table_text.specs.Ranges.{IsStateOfWords};
-ghost use Rattle.std.specs.Prelude.{IfNone, OnSome, drop};
+ghost use Rattle.std.specs.Prelude.{IfNone, OnSome, IfErr, drop, true, false, ◌≢◌, [], ◌∷◌, ◌+◌};
 ghost use Rattle.table_text.specs.Reading.{IsRead, saved_state, Stops, LacksLine, LacksSettings, LacksHead};
-ghost use Rattle.table_text.specs.Reading.{IsHeldSpace, IsHeldControl};
+ghost use Rattle.table_text.specs.Reading.{Lacks, LacksNumbers, LacksAny, LacksLines, IsNoText};
+ghost use Rattle.table_text.specs.Reading.{IsHeldName, IsHeldRow, IsHeldSpace, IsHeldControl};
+ghost use Rattle.table_text.specs.declared.fault.LoadFault.TheVariants.{NoMemory};
 
 use crate::dump::end_of;
 use crate::fault::LoadFault;
@@ -81,6 +83,10 @@ fn read_numbers(text: &[u8], at: &mut usize) -> Option<ArrayVec<Pid, LEVELS>>
     ensures within { at.new ≤ length text.now }
     ensures read { IfSome result (λ numbers. IsRead text.now at.old at.new (joined 44 numbers.items)) }
     ensures words { IfSome result (λ numbers. Each IsWord numbers.items) }
+    ensures some { IfSome result (λ numbers. 0 < length numbers.items) }
+    ensures whole { IfSome result (λ numbers. length numbers.items < 33 → Lacks (codes ",") text.now at.new) }
+    ensures missing { IfNone result (LacksNumbers text.now at.old) }
+    ensures stops { OnSome result (Stops (drop at.new text.now)) }
 {
     let mut numbers = ArrayVec::new();
     numbers.push(read_small(text, at)?);
@@ -100,6 +106,8 @@ fn read_name(text: &[u8], at: &mut usize, label: &[u8]) -> Option<Name>
     ensures within { at.new ≤ length text.now }
     ensures read { IfSome result (λ name. IsRead text.now at.old at.new (label.now ++ name_word name)) }
     ensures words { IfSome result IsNameOfWords }
+    ensures missing { IfNone result (LacksAny IsHeldName (λ name. label.now ++ name_word name) text.now at.old) }
+    ensures stops { OnSome result (Stops (drop at.new text.now)) }
 {
     read_word(text, at, label)?;
     let numbers = read_numbers(text, at)?;
@@ -113,6 +121,9 @@ fn read_parent_name(text: &[u8], at: &mut usize) -> Option<Option<Name>>
     ensures within { at.new ≤ length text.now }
     ensures read { IfSome result (λ p. IsRead text.now at.old at.new (codes " parent " ++ parent_word p)) }
     ensures words { IfSome result (λ p. IfSome p IsNameOfWords) }
+    ensures missing { IfNone result
+        (LacksAny (λ p. IfSome p IsHeldName) (λ p. codes " parent " ++ parent_word p) text.now at.old) }
+    ensures stops { IfSome result (λ p. IfSome p (λ name. Stops (drop at.new text.now))) }
 {
     if read_mark(text, at, b" parent -") {
         return Some(None);
@@ -127,6 +138,7 @@ fn read_task(text: &[u8], at: &mut usize) -> Option<Row>
     ensures within { at.new ≤ length text.now }
     ensures read { IfSome result (λ row. IsRead text.now at.old at.new (task_line row)) }
     ensures words { IfSome result IsRowOfWords }
+    ensures missing { IfNone result (LacksLine IsHeldRow task_line text.now at.old) }
 {
     let name = read_name(text, at, b"task ")?;
     let parent = read_parent_name(text, at)?;
@@ -190,7 +202,11 @@ fn read_control(text: &[u8], at: &mut usize) -> Option<Control>
 }
 
 /// Whether the byte stands there.
-fn begins_with(text: &[u8], at: usize, byte: u8) -> bool {
+fn begins_with(text: &[u8], at: usize, byte: u8) -> bool
+    requires { at ≤ length text.now }
+    ensures there { result ≡ true → drop at text.now ≡ byte ∷ drop (at + 1) text.now }
+    ensures missing { result ≡ false → Lacks (byte ∷ []) text.now at }
+{
     match text.get(at) {
         Some(first) => *first == byte,
         None => false,
@@ -208,6 +224,9 @@ fn read_tasks(alloc: Global, text: &[u8], at: &mut usize, lines: u64) -> Result<
     ensures within { at.new ≤ length text.now }
     ensures read { IfOk result (λ rows. IsRead text.now at.old at.new (flat_map task_line rows.items)) }
     ensures words { IfOk result (λ rows. Each IsRowOfWords rows.items) }
+    ensures over { OnOk result (Lacks (codes "t") text.now at.new) }
+    ensures missing { IfErr result
+        (λ fault. fault ≢ NoMemory → LacksLines IsHeldRow task_line 116 text.now at.old) }
 {
     let mut rows = Vec::new(alloc);
     while begins_with(text, *at, b't') {
@@ -232,6 +251,9 @@ fn read_spaces(
     ensures within { at.new ≤ length text.now }
     ensures read { IfOk result (λ spaces. IsRead text.now at.old at.new (flat_map space_line spaces.items)) }
     ensures words { IfOk result (λ spaces. Each IsSpaceOfWords spaces.items) }
+    ensures over { OnOk result (Lacks (codes "s") text.now at.new) }
+    ensures missing { IfErr result
+        (λ fault. fault ≢ NoMemory → LacksLines IsHeldSpace space_line 115 text.now at.old) }
 {
     let mut spaces = Vec::new(alloc);
     while begins_with(text, *at, b's') {
@@ -256,6 +278,9 @@ fn read_controls(
     ensures within { at.new ≤ length text.now }
     ensures read { IfOk result (λ controls. IsRead text.now at.old at.new (flat_map control_line controls.items)) }
     ensures words { IfOk result (λ controls. Each IsControlOfWords controls.items) }
+    ensures over { OnOk result (Lacks (codes "c") text.now at.new) }
+    ensures missing { IfErr result
+        (λ fault. fault ≢ NoMemory → LacksLines IsHeldControl control_line 99 text.now at.old) }
 {
     let mut controls = Vec::new(alloc);
     while begins_with(text, *at, b'c') {
@@ -272,7 +297,9 @@ fn read_controls(
 /// Sees that what stands behind the place is the last line, with the digest of all before it.
 fn check_end(alloc: Global, text: &[u8], at: usize, line: u64) -> Result<(), LoadFault>
     requires { at ≤ length text.now }
-    ensures { OnOk result (text.now ≡ take at text.now ++ end_line (take at text.now)) }
+    ensures end { OnOk result (text.now ≡ take at text.now ++ end_line (take at text.now)) }
+    ensures missing { IfErr result
+        (λ fault. fault ≢ NoMemory → drop at text.now ≡ end_line (take at text.now) → ⊥) }
 {
     let Ok(end) = end_of(alloc, &text[..at]) else {
         return Err(LoadFault::NoMemory);
@@ -297,6 +324,7 @@ fn check_end(alloc: Global, text: &[u8], at: usize, line: u64) -> Result<(), Loa
 pub fn read_text(alloc: Global, text: &[u8]) -> Result<Saved, LoadFault>
     ensures text { IfOk result (λ saved. text.now ≡ text_of saved.stamp (saved_state saved)) }
     ensures words { IfOk result (λ saved. IsWord saved.stamp × IsStateOfWords (saved_state saved)) }
+    ensures err { IfErr result (λ fault. fault ≢ NoMemory → IsNoText text.now) }
 {
     let mut at = 0;
     let Some(head) = read_head(text, &mut at) else {

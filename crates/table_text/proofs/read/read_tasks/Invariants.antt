@@ -1,4 +1,4 @@
-use Rattle.std.proofs.Common.{◌≡◌, ◌≤◌, ◌-◌, length}
+use Rattle.std.proofs.Common.{◌≤◌, ◌-◌, length}
 use Rattle.std.specs.List.{flat_map}
 use Rattle.table_text.specs.Texts.{task_line}
 use Rattle.table_text.specs.Ranges.{Each, IsRowOfWords}
