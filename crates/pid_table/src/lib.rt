@@ -7,6 +7,7 @@
 ghost use Rattle.std.specs.Prelude.{◌≡◌, IfOk, IfSome, OnOk, is_some, length};
 ghost use Rattle.pid_types.specs.Controls.{control_at, count as count_of};
 ghost use Rattle.pid_types.specs.Shown.{Shows};
+ghost use Rattle.pid_types.specs.Sound.{IsSound};
 ghost use Rattle.pid_types.specs.State.{root_state};
 ghost use Rattle.task_table.specs.View.{state_of};
 ghost use Rattle.task_table.specs.Whole.{IsWhole};
@@ -87,6 +88,13 @@ impl PidTable {
         let mut store = Tasks::new(alloc, config.pid_max())?;
         begin_root_init(&mut store)?;
         Ok(PidTable { store })
+    }
+
+    /// What is true at any time; the call does nothing. The state is sound.
+    pub fn laws(&self)
+        ensures { IsSound self.now }
+    {
+        let _ = &self.store;
     }
 
     /// How many tasks there are, ended ones too. It costs a logarithm of the control groups.
