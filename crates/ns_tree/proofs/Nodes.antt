@@ -1,8 +1,8 @@
 -- The places of namespaces: what is seen of one that is written.
-use Rattle.std.proofs.Common.{inl, inr, zero, suc, ◌≡◌, ◌≢◌, ℕ, ◌<◌, ◌≤◌, List, [], ◌∷◌, length, get_or, set, Option, Some, None, IsSome, is_some, true, false, refl, sym, ap, subst, ◌∙◌, arith, rules, option_map}
+use Rattle.std.proofs.Common.{inl, inr, zero, suc, ◌≡◌, ℕ, ◌<◌, List, [], ◌∷◌, length, get_or, set, Option, Some, None, IsSome, refl, sym, ap, subst, ◌∙◌, arith, rules, option_map}
 use Rattle.std.specs.Option.{option_map_or}
 use Rattle.std.proofs.lemmas.List.{length-map}
-use Rattle.std.proofs.lemmas.Bool.{cases_lt, cases_eq}
+use Rattle.std.proofs.lemmas.Bool.{cases_lt}
 use Rattle.ns_tree.specs.declared.places.Place.{Place}
 use Rattle.ns_tree.specs.Tree.{Node, IsTree, node_in, way, id_in, felled, felled_within}
 use Rattle.ns_tree.specs.Places.{node_of, shown, nodes_of, IsKept}
@@ -96,15 +96,6 @@ kept-same old new len ways ids vacant room order k = record {
   listed = orders.listed-same (id_in (nodes_of old)) (id_in (nodes_of new)) order k.listed ids;
   vacancies = vacant-same old new len ways vacant room k.vacancies;
 }
-
--- an id is that of a namespace that is there
-pub id-there : (o : Option Node) (i : ℕ) → option_map (λ t. t.id) o ≡ Some i → is_some o ≡ true
-id-there None i e = absurd (cc)
-id-there (Some t) i e = refl
-
-pub id-gone : (o : Option Node) → is_some o ≡ false → option_map (λ t. t.id) o ≡ None
-id-gone None e = refl
-id-gone (Some t) e = absurd (cc)
 
 -- a namespace that fell keeps its path and its id
 pub felled-path : (o : Option Node) → option_map_or (λ t. t.path) (option_map felled o) [] ≡ option_map_or (λ t. t.path) o []

@@ -1,10 +1,10 @@
 -- The order of the namespaces, where one is added and where some go.
-use Rattle.std.proofs.Common.{◌≡◌, ◌≢◌, inl, inr, ℕ, List, [], ◌∷◌, ◌++◌, cond, not, ◌==◌, Bool, true, false, Option, Some, None, unwrap_or, refl, sym, ap, subst, ◌∙◌, arith}
+use Rattle.std.proofs.Common.{◌≡◌, ◌≢◌, inl, inr, ℕ, List, [], ◌∷◌, ◌++◌, cond, not, ◌==◌, Bool, true, false, Option, Some, None, is_some, option_map, unwrap_or, refl, sym, ap, subst, ◌∙◌, arith}
 use Rattle.std.specs.List.{AllByRecursion, filter}
 use Rattle.std.proofs.lemmas.Bool.{cases_eq, eq-eqb}
 use Rattle.id_slab.specs.Ids.{key_of, without, AreBelow}
 use Rattle.id_slab.proofs.Keys.{key_of-push, key_of-new, key_of-kept}
-use Rattle.ns_tree.specs.Tree.{AreListed}
+use Rattle.ns_tree.specs.Tree.{Node, AreListed}
 
 module _ {X : Type 0} where
   -- tests that agree on each element keep the same
@@ -88,3 +88,12 @@ module _ (id id' : ℕ → Option ℕ) (order : List (ℕ × ℕ)) (l : AreListe
   -- where none goes the order stays
   pub all-there : (keep : ℕ → Bool) → ((s i : ℕ) → id s ≡ Some i → keep s ≡ true) → filter (λ p. keep p.1) order ≡ order
   all-there keep stay = filter-all (λ p. keep p.1) order (all-weaken (λ p. id p.1 ≡ Some p.0) (λ p. keep p.1 ≡ true) (λ p at. stay p.1 p.0 at) order l.each)
+
+-- an id is that of a namespace that is there
+pub id-there : (o : Option Node) (i : ℕ) → option_map (λ t. t.id) o ≡ Some i → is_some o ≡ true
+id-there None i e = absurd (cc)
+id-there (Some t) i e = refl
+
+pub id-gone : (o : Option Node) → is_some o ≡ false → option_map (λ t. t.id) o ≡ None
+id-gone None e = refl
+id-gone (Some t) e = absurd (cc)

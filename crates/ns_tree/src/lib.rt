@@ -21,7 +21,9 @@ use fall::{fall_among, mark_at};
 use id_slab::{Iter, RisingIds};
 use pid_types::keys::SpaceKey;
 use pid_types::plain::LEVELS;
-use places::{Place, fill_place, find_place, is_inside, key_at, levels_at, path_below, path_of, reserve_place};
+use places::{
+    Place, fill_place, find_place, is_inside, key_at, levels_at, path_below, path_of, reserve_place,
+};
 use std::alloc::{AllocError, Global};
 use std::marker::Model;
 

@@ -67,7 +67,11 @@ pub(crate) fn path_of(places: &Vec<Place>, key: SpaceKey) -> &[SpaceKey]
 }
 
 /// The path of a new namespace below the parent.
-pub(crate) fn path_below(places: &Vec<Place>, key: SpaceKey, parent: SpaceKey) -> ArrayVec<SpaceKey, LEVELS>
+pub(crate) fn path_below(
+    places: &Vec<Place>,
+    key: SpaceKey,
+    parent: SpaceKey,
+) -> ArrayVec<SpaceKey, LEVELS>
     requires { length (way (nodes_of places.now.items) parent) ≤ deepest_space }
     ensures { result.items ≡ key ∷ way (nodes_of places.now.items) parent }
 {
@@ -81,7 +85,10 @@ pub(crate) fn path_below(places: &Vec<Place>, key: SpaceKey, parent: SpaceKey) -
 
 /// Takes the memory for one more namespace, and answers the key that it will have. The error is want of memory, or that
 /// there are 2^30 places.
-pub(crate) fn reserve_place(places: &mut Vec<Place>, vacant: &mut Vec<SpaceKey>) -> Result<SpaceKey, AllocError>
+pub(crate) fn reserve_place(
+    places: &mut Vec<Place>,
+    vacant: &mut Vec<SpaceKey>,
+) -> Result<SpaceKey, AllocError>
     requires { AreVacant (nodes_of places.old.items) vacant.old.items (vec_capacity vacant.old) }
     ensures vacant { AreVacant (nodes_of places.new.items) vacant.new.items (vec_capacity vacant.new) }
     ensures places { places.new.items ≡ places.old.items }

@@ -1,5 +1,5 @@
 -- The key was vacant, so it is on no other path: the new path is the parent's behind it, and the order has its id last
-use Rattle.std.proofs.Common.{◌≡◌, ◌≢◌, ◌∙◌, ◌++◌, ◌∷◌, [], ℕ, ◌≤◌, List, Option, Some, None, IsSome, option_map, length, sym, ap, subst, arith}
+use Rattle.std.proofs.Common.{◌≡◌, ◌≢◌, ◌∙◌, ◌∷◌, [], ℕ, ◌≤◌, List, Some, None, IsSome, option_map, length, sym, ap, subst, arith}
 use Rattle.std.specs.Prelude.{vec_capacity}
 use Rattle.std.specs.Option.{option_map_or}
 use Rattle.id_slab.specs.Ids.{AreBelow}

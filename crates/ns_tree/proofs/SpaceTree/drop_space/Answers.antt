@@ -31,10 +31,10 @@ module _ (places : List Place) (key : ℕ) (y z : Place) (some : 0 < length (way
   left : (order : List (ℕ × ℕ)) → AreListed (id_in (nodes_of places)) order → without order y.id ≡ filter (λ p. is_some (node_in (nodes_of (set places key z)) p.1)) order
   left order l =
       orders.without-key (id_in (nodes_of places)) (id_in (nodes_of places)) order l (λ s. is_some (node_in (nodes_of (set places key z)) s)) y.id key (ap (option_map (λ t. t.id)) was) (ap is_some gone)
-      (λ s j m e. ap is_some (others s m) ∙ nodes.id-there (node_in (nodes_of places) s) j e)
+      (λ s j m e. ap is_some (others s m) ∙ orders.id-there (node_in (nodes_of places) s) j e)
 
   listed : (order : List (ℕ × ℕ)) → AreListed (id_in (nodes_of places)) order → AreListed (id_in (nodes_of (set places key z))) (filter (λ p. is_some (node_in (nodes_of (set places key z)) p.1)) order)
-  listed order l = orders.listed-kept (id_in (nodes_of places)) (id_in (nodes_of (set places key z))) order l (λ s. is_some (node_in (nodes_of (set places key z)) s)) stays (λ s off. nodes.id-gone (node_in (nodes_of (set places key z)) s) off)
+  listed order l = orders.listed-kept (id_in (nodes_of places)) (id_in (nodes_of (set places key z))) order l (λ s. is_some (node_in (nodes_of (set places key z)) s)) stays (λ s off. orders.id-gone (node_in (nodes_of (set places key z)) s) off)
     where
       stays : (s : ℕ) → is_some (node_in (nodes_of (set places key z)) s) ≡ true → id_in (nodes_of (set places key z)) s ≡ id_in (nodes_of places) s
       stays s on = elim (cases_eq s key) [

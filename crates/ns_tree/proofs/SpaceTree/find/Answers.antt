@@ -1,4 +1,4 @@
-use Rattle.std.proofs.Common.{◌≡◌, ◌≢◌, ◌∙◌, sym, ap, subst, ℕ, List, Option, Some, None, MatchOption}
+use Rattle.std.proofs.Common.{◌≡◌, ◌≢◌, ◌∙◌, sym, subst, ℕ, List, Option, Some, None, MatchOption}
 use Rattle.id_slab.specs.Ids.{key_of}
 use Rattle.id_slab.proofs.Keys.{entry_of}
 use Rattle.ns_tree.specs.Tree.{Tree, Node, id_in}

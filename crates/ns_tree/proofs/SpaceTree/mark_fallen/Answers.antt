@@ -1,4 +1,4 @@
-use Rattle.std.proofs.Common.{◌≡◌, ◌≢◌, ◌∙◌, ℕ, ap, [], option_map}
+use Rattle.std.proofs.Common.{◌∙◌, ap, [], option_map}
 use Rattle.std.specs.Prelude.{vec_capacity}
 use Rattle.std.specs.Option.{option_map_or}
 use Rattle.ns_tree.specs.Tree.{way, id_in, node_in}

@@ -1,8 +1,7 @@
-use Rattle.std.proofs.Common.{◌≡◌, ◌∙◌, ◌++◌, ◌∷◌, [], Bool, true, false, Option, if◌then◌else◌, option_map, refl, sym, ap, subst, append_assoc, append-nil}
+use Rattle.std.proofs.Common.{◌≡◌, ◌∙◌, ◌++◌, ◌∷◌, [], sym, ap, subst, append_assoc, append-nil}
 use Rattle.std.specs.Option.{option_map_or}
-use Rattle.ns_tree.specs.Tree.{Node, IsTree, node_in, felled_within}
+use Rattle.ns_tree.specs.Tree.{IsTree, node_in}
 use Rattle.ns_tree.specs.Places.{nodes_of}
-use Rattle.ns_tree.proofs.Nodes as nodes
 use Rattle.ns_tree.proofs.Fallen as fallen
 use Rattle.ns_tree.proofs.fall.fall_among.Goals as goal
 

@@ -1,8 +1,8 @@
 -- The flag written is what the definition computes, fallen before or inside the one that falls
-use Rattle.std.proofs.Common.{◌≡◌, ◌∙◌, ◌||◌, ℕ, [], Bool, true, false, Option, Some, None, IsSome, option_map, refl, sym, ap, subst}
+use Rattle.std.proofs.Common.{◌≡◌, ◌∙◌, ◌||◌, ℕ, [], Bool, true, false, Option, Some, None, IsSome, option_map, refl, sym, ap}
 use Rattle.std.specs.Option.{option_map_or}
 use Rattle.pid_types.specs.Chains.{contains}
-use Rattle.ns_tree.specs.Tree.{Node, felled, felled_within, node_in, way}
+use Rattle.ns_tree.specs.Tree.{Node, felled, felled_within, node_in}
 use Rattle.ns_tree.specs.Places.{nodes_of}
 use Rattle.ns_tree.proofs.fall.fall_at.Goals as goal
 

@@ -1,5 +1,5 @@
 -- The path of an outer namespace is the end of an inner one's: so the difference of their lengths is its place there
-use Rattle.std.proofs.Common.{inl, inr, ◌≡◌, ◌∙◌, sym, ap, arith, ◌<◌, ◌-◌, length, get_or, ◌==◌}
+use Rattle.std.proofs.Common.{inl, inr, ◌∙◌, ap, arith, ◌<◌, ◌-◌, length, get_or, ◌==◌}
 use Rattle.ns_tree.specs.Tree.{way}
 use Rattle.ns_tree.specs.Places.{nodes_of}
 use Rattle.ns_tree.proofs.Paths as paths
