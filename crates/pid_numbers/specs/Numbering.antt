@@ -85,6 +85,10 @@ is_dead b s t = t.fallen && (length (taken_in b s) == 0)
 abbrev pub swept_at : Numbering → ℕ → Option Namespace
 swept_at b s = option_and_then (λ t. if is_dead b s t then None else Some t) (namespace_at b s)
 
+-- the namespace with the key s, with its cursor at the number if its key is the first one
+abbrev pub cursor_put : ℕ → ℕ → ℕ → Namespace → Namespace
+cursor_put space cursor s t = record t { cursor = if s == space then cursor else t.cursor }
+
 -- the namespace, fallen if it is the other one or inside it
 abbrev pub fallen_within : ℕ → Namespace → Namespace
 fallen_within outer t = record t { fallen = t.fallen || contains t.path outer }

@@ -17,7 +17,7 @@ ghost use Rattle.id_slab.specs.Ids.{key_of, AreBelow, AreRising};
 ghost use Rattle.pid_numbers.specs.Numbering.{Identifier, is_there, id_at, namespace_at, identifier_at, number_of};
 ghost use Rattle.pid_numbers.specs.Numbering.{path_at, draw_in, moved, more, less, left_of, uses, is_used, is_used_as};
 ghost use Rattle.pid_numbers.specs.Numbering.{swept_at, new_namespace, new_identifier, levels_of, fallen_within};
-ghost use Rattle.pid_numbers.specs.Numbering.{taken_in, has_fallen_at, HasOwnTask, IsNextUsed, IsPlanFault};
+ghost use Rattle.pid_numbers.specs.Numbering.{taken_in, has_fallen_at, cursor_put, HasOwnTask, IsNextUsed, IsPlanFault};
 ghost use Rattle.pid_types.specs.Bounds.{deepest_space};
 ghost use Rattle.pid_types.specs.Chains.{contains};
 ghost use Rattle.std.specs.Option.{option_map_or};
@@ -43,8 +43,8 @@ use pid_types::keys::{IdentKey, Pid, SpaceKey};
 use pid_types::plain::{DEEPEST_SPACE, LEVELS, Name};
 pub use plan::PlanFault;
 use spaces::{
-    first_ids, give_path, look, next_at, plan_at, plan_path, prepare_path, put_ids, release_path,
-    sweep,
+    first_ids, give_path, look, next_at, plan_at, plan_path, prepare_path, put_cursor, put_ids,
+    release_path, sweep,
 };
 use std::alloc::{AllocError, Global};
 use std::marker::Model;
@@ -198,6 +198,19 @@ impl Numbers {
             return None;
         }
         Some(self.ids[space as usize].cursor())
+    }
+
+    /// The next draw in the namespace begins at the number, whatever was drawn last: a table that was saved has its
+    /// cursors again. It costs one write.
+    pub fn put_cursor(&mut self, space: SpaceKey, cursor: Pid)
+        requires { IsSome (namespace_at self.old space) }
+        ensures names { self.new.names ≡ self.old.names }
+        ensures order { self.new.order ≡ self.old.order }
+        ensures namespaces { (s : ℕ) → namespace_at self.new s
+            ≡ option_map (cursor_put space cursor s) (namespace_at self.old s) }
+        ensures pid_max { self.new.pid_max ≡ self.old.pid_max }
+    {
+        put_cursor(&mut self.ids, space, cursor);
     }
 
     /// Whether the namespace is there and has fallen.

@@ -112,6 +112,18 @@ pub(crate) fn prepare_path(
     Ok(())
 }
 
+/// The next draw in a namespace begins at the number.
+pub(crate) fn put_cursor(ids: &mut Vec<CyclicIds>, key: SpaceKey, cursor: Pid)
+    requires { key < length ids.old.items }
+    ensures entries { (s m : ℕ) → entry_on ids.new.items s m ≡ entry_on ids.old.items s m }
+    ensures bound { (s : ℕ) → bound_on ids.new.items s ≡ bound_on ids.old.items s }
+    ensures here { cursor_on ids.new.items key ≡ cursor }
+    ensures others { (s : ℕ) → s ≢ key → cursor_on ids.new.items s ≡ cursor_on ids.old.items s }
+    ensures count { length ids.new.items ≡ length ids.old.items }
+{
+    ids[key as usize].set_cursor(cursor);
+}
+
 /// Gives the planned number to a task.
 #[inline(always)]
 pub(crate) fn give_at(ids: &mut Vec<CyclicIds>, key: SpaceKey, n: Pid, value: IdentKey)
