@@ -11,7 +11,8 @@ ghost use Rattle.std.specs.List.{AllByRecursion, filter};
 ghost use Rattle.id_slab.specs.Ids.{AreBelow, AreRising};
 ghost use Rattle.pid_types.specs.Bounds.{deepest_space};
 ghost use Rattle.pid_types.specs.Chains.{contains};
-ghost use Rattle.ns_tree.specs.Tree.{node_in, new_node, way, id_in, fell, felled, felled_within, grown, IsTree, AreListed};
+ghost use Rattle.ns_tree.specs.Tree.{node_in, new_node, way, id_in, fell, felled, felled_within, grown, IsTree};
+ghost use Rattle.ns_tree.specs.Tree.{AreListed};
 
 mod fall;
 mod places;

@@ -25,7 +25,8 @@ pub record Identifier : Type 0 where
   pub groups : ℕ
   pub sessions : ℕ
 
--- the bound of all numbers, the key of the next identifier, the namespaces and the identifiers by key, and the namespaces in the order of their ids, each id with its key
+-- the bound of all numbers, the key of the next identifier, the namespaces and the identifiers by key, and the namespaces in the
+-- order of their ids, each id with its key
 pub record Numbering : Type 0 where
   pub pid_max : ℕ
   pub next : ℕ
@@ -166,4 +167,5 @@ IsNextUsed b kind s from result =
 -- why no namespace can be made inside the one with the key: it has the deepest level, or else a namespace has no number to give
 abbrev pub IsPlanFault : Numbering → ℕ → PlanFault → Type 0
 IsPlanFault b parent TooDeep = deepest_space < length (path_at b parent)
-IsPlanFault b parent (NoNumber s) = (length (path_at b parent) ≤ deepest_space) × (find (λ t. is_none (draw_in b t)) (path_at b parent) ≡ Some s)
+IsPlanFault b parent (NoNumber s) =
+    (length (path_at b parent) ≤ deepest_space) × (find (λ t. is_none (draw_in b t)) (path_at b parent) ≡ Some s)

@@ -27,7 +27,14 @@ abbrev pub cursor_on : List (Ids ℕ) → ℕ → ℕ
 cursor_on ids s = option_map_or (λ t. t.cursor) (slice_get ids s) 0
 
 abbrev pub numbering_of : ℕ → Tree → List (Ids ℕ) → Table → Numbering
-numbering_of pid_max tree ids idents = record { pid_max = pid_max; next = idents.vacant_key; namespaces = with_cursors (cursor_on ids) tree.nodes; names = map (option_map identifier_of) idents.slots; order = tree.order }
+numbering_of pid_max tree ids idents =
+    record {
+      pid_max = pid_max;
+      next = idents.vacant_key;
+      namespaces = with_cursors (cursor_on ids) tree.nodes;
+      names = map (option_map identifier_of) idents.slots;
+      order = tree.order;
+    }
 
 -- what stands at a number of a namespace
 abbrev pub entry_on : List (Ids ℕ) → ℕ → ℕ → Option (Entry ℕ)
@@ -74,7 +81,8 @@ abbrev pub AreInRange : ℕ → (ℕ → ℕ → Option ℕ) → Type 0
 AreInRange pid_max see = (s n i : ℕ) → see s n ≡ Some i → (0 < n) × (n < pid_max)
 
 -- the paths, the look-ups, the bounds and the identifiers agree
-pub record IsNumbering (pid_max : ℕ) (ways : ℕ → List ℕ) (at : ℕ → ℕ → Option (Entry ℕ)) (bound : ℕ → Option ℕ) (names : ℕ → Option Identifier) : Type 0 where
+pub record IsNumbering
+    (pid_max : ℕ) (ways : ℕ → List ℕ) (at : ℕ → ℕ → Option (Entry ℕ)) (bound : ℕ → Option ℕ) (names : ℕ → Option Identifier) : Type 0 where
   pub good : HasGoodPidMax pid_max
   pub bounds : (s m : ℕ) → bound s ≡ Some m → m ≡ pid_max
   pub tree : IsTree ways
@@ -89,7 +97,9 @@ pub record AreFallen (ways : ℕ → List ℕ) (at : ℕ → ℕ → Option (Ent
   pub held : (s : ℕ) → fell s ≡ true → (n : ℕ) × (i : ℕ) × (leads at s n ≡ Some i)
 
 -- the numbers, and the namespaces that have fallen
-pub record IsWhole (pid_max : ℕ) (ways : ℕ → List ℕ) (at : ℕ → ℕ → Option (Entry ℕ)) (bound : ℕ → Option ℕ) (names : ℕ → Option Identifier) (fell : ℕ → Bool) : Type 0 where
+pub record IsWhole
+    (pid_max : ℕ) (ways : ℕ → List ℕ) (at : ℕ → ℕ → Option (Entry ℕ)) (bound : ℕ → Option ℕ) (names : ℕ → Option Identifier)
+    (fell : ℕ → Bool) : Type 0 where
   pub numbering : IsNumbering pid_max ways at bound names
   pub fallen : AreFallen ways at fell
 

@@ -28,7 +28,8 @@ next_place = next_of
 
 -- whether one more fits: in a vacant place, or in a new one
 abbrev pub has_room : List Ident → ℕ → List ℕ → ℕ → Bool
-has_room places room vacant rooms = nat_lt 0 (length vacant) || (nat_lt (length places) room && (nat_lt (length places) rooms && nat_lt (length places) (2 ^ 30)))
+has_room places room vacant rooms =
+    nat_lt 0 (length vacant) || (nat_lt (length places) room && (nat_lt (length places) rooms && nat_lt (length places) (2 ^ 30)))
 
 pub record IsTable (places : List Ident) (vacant : List ℕ) (rooms : ℕ) : Type 0 where
   pub vacancies : AreVacant (map shown places) vacant rooms
