@@ -18,8 +18,8 @@ impl PidTable {
         enlist(&mut self.store, task, leader);
     }
 
-    /// The next draw in the namespace with the id begins at the number: [`put_cursor`]. Nothing changes where there is no
-    /// such namespace.
+    /// The next draw in the namespace with the id begins at the number: [`put_cursor`]. Nothing changes where there is
+    /// no such namespace.
     pub fn set_cursor(&mut self, id: u64, cursor: Pid)
         ensures { self.new ≡ with_cursor self.old id cursor }
     {

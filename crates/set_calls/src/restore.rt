@@ -52,8 +52,8 @@ pub fn enlist(store: &mut Tasks, task: Pid, leader: Pid)
     laws(store);
 }
 
-/// The next draw in the namespace with the id begins at the number. Nothing changes where there is no such namespace. It
-/// costs a logarithm of the namespaces, and takes no memory.
+/// The next draw in the namespace with the id begins at the number. Nothing changes where there is no such namespace.
+/// It costs a logarithm of the namespaces, and takes no memory.
 #[tactic(auto, unfolding(pid_types::specs::Restore::with_cursor))]
 pub fn put_cursor(store: &mut Tasks, id: u64, cursor: Pid)
     requires { IsWhole store.old }
