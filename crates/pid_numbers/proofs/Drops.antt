@@ -185,16 +185,7 @@ module _ (pid_max : ℕ) (nodes : List (Option Node)) (ids ids1 : List (Ids ℕ)
   pub off-release : (s n : ℕ) → contains (way nodes gone.space) s ≡ false → entry_on ids1 s n ≡ entry_on ids s n
   off-release s n out = entries s n ∙ ties.touched-miss (way nodes gone.space) gone.numbers (λ _. None) (entry_on ids) s n (sweeps.off-path s (way nodes gone.space) gone.numbers (gone-len (way nodes) names (leads (entry_on ids)) b.tied i gone one) out n)
 
--- a namespace with a number in use holds one that leads to its identifier
-pub taken-held : (pid_max : ℕ) (tree : Tree) (ids : List (Ids ℕ)) (idents : Table) → IsNumbering pid_max (way tree.nodes) (entry_on ids) (bound_on ids) (name_at idents) → (s : ℕ)
-    → 0 < length (taken_in (numbering_of pid_max tree ids idents) s) → (n : ℕ) × (i : ℕ) × (leads (entry_on ids) s n ≡ Some i)
-unfolding taken_in
-taken-held pid_max tree ids idents b s some =
-    let r = sweeps.one_in (taken_in (numbering_of pid_max tree ids idents) s) (grind (arith, nat_tests, some)) in
-    let x = listed_from (number_in (path_at (numbering_of pid_max tree ids idents)) s) (numbering_of pid_max tree ids idents).names r.0 r.1 in
-    (r.0, x.0, b.tied.kept s r.0 x.0 (sym (views.number_is pid_max tree ids idents x.0 s) ∙ x.1))
-
--- and one in which an identifier has a number has it in use
+-- a namespace in which an identifier has a number has it in use
 pub taken-some : (b : Numbering) (i s n : ℕ) → number_of b i s ≡ Some n → 0 < length (taken_in b s)
 unfolding taken_in
 taken-some b i s n e = some (filter_map (number_in (path_at b) s) b.names) (listed (number_in (path_at b) s) refl b.names i n e)

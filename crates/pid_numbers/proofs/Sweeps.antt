@@ -178,22 +178,6 @@ pub one_in : (ns : List ℕ) → (length ns == 0) ≡ false → (n : ℕ) × (co
 one_in [] e = absurd (cc)
 one_in (m ∷ ms) e = (m, ap (λ b. b || contains ms m) (eq-eqb m m refl))
 
--- lists with the same elements are empty together
-pub empty_same : (ns ms : List ℕ) → ((n : ℕ) → contains ns n ≡ contains ms n) → (length ns == 0) ≡ (length ms == 0)
-empty_same ns ms same = go (cases (length ns == 0)) (cases (length ms == 0))
-  where
-    go : ((length ns == 0) ≡ true) ⊎ ((length ns == 0) ≡ false) → ((length ms == 0) ≡ true) ⊎ ((length ms == 0) ≡ false) → (length ns == 0) ≡ (length ms == 0)
-    go (inl a) (inl b) = a ∙ sym b
-    go (inr a) (inr b) = a ∙ sym b
-    go (inl a) (inr b) =
-        let r = one_in ms b in
-        let bad : false ≡ true = sym (none_in ns a r.0) ∙ same r.0 ∙ r.1 in
-        cc
-    go (inr a) (inl b) =
-        let r = one_in ns a in
-        let bad : false ≡ true = sym (none_in ms b r.0) ∙ sym (same r.0) ∙ r.1 in
-        cc
-
 -- where no number has an entry the list of those that have one is empty
 pub empty_is : (ps : List (Place ℕ)) (b : Bool) → MatchBool b ((n : ℕ) → entry_at ps n ≡ None) ((n : ℕ) × (is_some (entry_at ps n) ≡ true)) → b ≡ (length (indexes ps) == 0)
 empty_is ps true none = elim (cases (length (indexes ps) == 0)) [

@@ -94,10 +94,6 @@ cursor_put space cursor s t = record t { cursor = if s == space then cursor else
 abbrev pub fallen_within : ℕ → Namespace → Namespace
 fallen_within outer t = record t { fallen = t.fallen || contains t.path outer }
 
--- the namespace, fallen
-abbrev pub felled : Namespace → Namespace
-felled t = record t { fallen = true }
-
 -- a new namespace with this path
 abbrev pub new_namespace : ℕ → List ℕ → Namespace
 new_namespace id path = record { id = id; fallen = false; path = path; cursor = 0 }
