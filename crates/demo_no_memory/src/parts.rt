@@ -11,8 +11,11 @@ use pids_charge::{ControlFault, Controls};
 use std::alloc::{AllocError, Global};
 use task_tree::TaskTree;
 
-/// How many keys there is room for in the end.
-const KEYS: u32 = 40;
+/// How often room is made for more keys.
+const TURNS: u32 = 40;
+
+/// How many keys it is made for each time.
+const MORE: u32 = 64;
 
 /// What can be read of control groups: the ids, the parents and the counts.
 fn see_controls(controls: &Controls) -> Picture {
@@ -74,32 +77,32 @@ fn reserve(members: &mut Members, key: u32) -> Result<bool>
     Ok(members.reserve(key, key).is_ok())
 }
 
-/// Room for forty keys, taken one by one.
+/// Room for keys that lie so far apart that each takes memory.
 pub fn fill_groups(alloc: Global) -> Result<Option<u64>> {
     let mut members = Members::new(alloc);
-    for key in 0..KEYS {
-        if !reserve(&mut members, key)? {
+    for turn in 0..TURNS {
+        if !reserve(&mut members, turn * MORE)? {
             return Ok(None);
         }
     }
-    Ok(Some(u64::from(KEYS)))
+    Ok(Some(u64::from(TURNS)))
 }
 
-/// Makes room for one key more, and once more where there was no memory.
+/// Makes room for more keys, and once more where there was no memory.
 fn grow(tree: &mut TaskTree) -> Result<bool> {
     let before = tree.keys();
-    ensure!(before < 1 << 30, "too many keys");
-    if tree.grow().is_ok() {
+    ensure!(before < 1 << 29, "too many keys");
+    if tree.grow(MORE as usize).is_ok() {
         return Ok(true);
     }
     ensure!(tree.keys() == before, "something has changed");
-    Ok(tree.grow().is_ok())
+    Ok(tree.grow(MORE as usize).is_ok())
 }
 
-/// Room for forty tasks, taken one by one.
+/// Room for tasks, taken step by step.
 pub fn fill_tree(alloc: Global) -> Result<Option<u64>> {
     let mut tree = TaskTree::new(alloc);
-    for _ in 0..KEYS {
+    for _ in 0..TURNS {
         if !grow(&mut tree)? {
             return Ok(None);
         }

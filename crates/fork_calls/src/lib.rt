@@ -123,6 +123,7 @@ fn reply_for(store: &Tasks, key: TaskKey, own: SpaceKey, numbers: &[Pid]) -> Sho
 }
 
 /// The caller's child in a namespace that stands, with the planned numbers. The error is want of memory.
+#[inline(always)]
 fn fork_planned(
     store: &mut Tasks,
     found: &Found,

@@ -1,5 +1,5 @@
 -- A new namespace.
-use Rattle.std.proofs.Common.{◌≡◌, ◌≢◌, ◌⊎◌, inl, inr, ℕ, zero, suc, ◌<◌, ◌≤◌, ◌==◌, ◌||◌, Bool, true, false, List, [], ◌∷◌, length, get_or, Option, Some, None, is_some, if◌then◌else◌, refl, sym, ap, subst, ◌∙◌, arith}
+use Rattle.std.proofs.Common.{◌≡◌, ◌≢◌, inl, inr, ℕ, zero, suc, ◌<◌, ◌≤◌, Bool, true, false, List, [], ◌∷◌, length, get_or, Option, Some, None, is_some, if◌then◌else◌, refl, sym, ap, subst, ◌∙◌, arith}
 use Rattle.std.specs.Prelude.{nat_lt}
 use Rattle.std.proofs.lemmas.Bool.{cases_eq}
 use Rattle.std.proofs.lemmas.Bool.Decides.{nat_tests}
@@ -11,7 +11,9 @@ use Rattle.index_array.specs.Place.{Entry, entry_at, indexes}
 use Rattle.index_array.proofs.Indexes.{contains_indexes}
 use Rattle.cyclic_ids.specs.Ids.{Ids, planned}
 use Rattle.pid_numbers.specs.Numbering.{Identifier, number_in}
-use Rattle.pid_numbers.specs.Slabs.{IsPath, IsNumbering, AreFallen, leads}
+use Rattle.ns_tree.specs.Tree.{IsTree}
+use Rattle.ns_tree.proofs.Growth as growth
+use Rattle.pid_numbers.specs.Slabs.{IsNumbering, AreFallen, leads}
 
 -- where no number is taken, 1 is drawn first
 pub draws_one : (pid_max : ℕ) (ns : List ℕ) → 301 ≤ pid_max → ((n : ℕ) → contains ns n ≡ false) → cyclic_draw pid_max 0 ns ≡ Some 1
@@ -27,31 +29,14 @@ fresh ids cursor good empty =
     ap (λ k. cyclic_draw ids.pid_max k (indexes ids.places)) cursor
     ∙ draws_one ids.pid_max (indexes ids.places) good (λ n. contains_indexes ids.places n ∙ ap is_some (empty n))
 
-or_right : (a b : Bool) → b ≡ true → (a || b) ≡ true
-or_right true b e = refl
-or_right false b e = e
-
 -- a namespace more, at a key that had none
 module _ (pid_max : ℕ) (ways ways' : ℕ → List ℕ) (at : ℕ → ℕ → Option (Entry ℕ)) (bound bound' : ℕ → Option ℕ) (names : ℕ → Option Identifier) (b : IsNumbering pid_max ways at bound names)
-    (key parent : ℕ) (was : ways key ≡ []) (now : ways' key ≡ key ∷ ways parent) (others : (s : ℕ) → s ≢ key → ways' s ≡ ways s) (few : length (ways parent) < 33) where
-  path_kept : (p : List ℕ) → IsPath ways p → IsPath ways' p
-  path_kept [] h = tt
-  path_kept (s ∷ ss) h = (others s (λ e. let bad : s ∷ ss ≡ [] = sym h.0 ∙ ap ways e ∙ was in cc) ∙ h.0, path_kept ss h.1)
-
-  -- none is on the path of another
-  pub away-path : (p : List ℕ) → IsPath ways p → (j : ℕ) → j < length p → get_or p j 0 ≢ key
-  away-path [] h j lt e = absurd (omega (arith, lt))
-  away-path (s ∷ ss) h zero lt e = let bad : s ∷ ss ≡ [] = sym h.0 ∙ ap ways e ∙ was in cc
-  away-path (s ∷ ss) h (suc j) lt e = away-path ss h.1 j (omega (arith, lt)) e
-
+    (key parent : ℕ) (was : ways key ≡ []) (now : ways' key ≡ key ∷ ways parent) (others : (s : ℕ) → s ≢ key → ways' s ≡ ways s) where
   away : (i : ℕ) (u : Identifier) → names i ≡ Some u → u.space ≢ key
   away i u is e =
       let n : length u.numbers ≡ 0 = b.tied.full i u is ∙ ap length (ap ways e ∙ was) in
       let some = b.tied.some i u is in
       omega (arith, n, some)
-
-  pub not_root : 0 ≢ key
-  not_root e = let bad : 0 ∷ [] ≡ [] = sym b.tree.root ∙ ap ways e ∙ was in cc
 
   number_stays : (s i : ℕ) → number_in ways' s (names i) ≡ number_in ways s (names i)
   number_stays s i = go (names i) refl
@@ -60,34 +45,11 @@ module _ (pid_max : ℕ) (ways ways' : ℕ → List ℕ) (at : ℕ → ℕ → O
       go None is = refl
       go (Some u) is = ap (λ p. beside s p u.numbers) (others u.space (away i u is))
 
-  pub numbering-added : 0 < length (ways parent) → ((m : ℕ) → bound' key ≡ Some m → m ≡ pid_max) → ((s : ℕ) → s ≢ key → bound' s ≡ bound s) → IsNumbering pid_max ways' at bound' names
-  numbering-added there good bounds = record {
+  pub numbering-added : IsTree ways' → ((s m : ℕ) → bound' s ≡ Some m → m ≡ pid_max) → IsNumbering pid_max ways' at bound' names
+  numbering-added tree bounds = record {
     good = b.good;
-    bounds = λ s m e. elim (cases_eq s key) [
-      | inl same ↦ (good m (sym (ap bound' same) ∙ e), (let l = ap length (ap ways' same ∙ now) in omega (arith, l)))
-      | inr d ↦
-          let r = b.bounds s m (sym (bounds s d) ∙ e) in
-          (r.0, subst (λ (p : List ℕ). 0 < length p) (sym (others s d)) r.1)
-    ];
-    tree = record {
-      root = others 0 not_root ∙ b.tree.root;
-      head = λ s. elim (cases_eq s key) [
-        | inl e ↦ inr (ways parent, ap ways' e ∙ now ∙ ap (λ z. z ∷ ways parent) (sym e))
-        | inr m ↦ subst (λ (p : List ℕ). (p ≡ []) ⊎ ((rest : List ℕ) × (p ≡ s ∷ rest))) (sym (others s m)) (b.tree.head s)
-      ];
-      paths = λ s. elim (cases_eq s key) [
-        | inl e ↦ subst (IsPath ways') (sym (ap ways' e ∙ now)) (now, path_kept (ways parent) (b.tree.paths parent))
-        | inr m ↦ subst (IsPath ways') (sym (others s m)) (path_kept (ways s) (b.tree.paths s))
-      ];
-      few = λ s. elim (cases_eq s key) [
-        | inl e ↦ (let l = ap length (ap ways' e ∙ now) in omega (arith, l, few))
-        | inr m ↦ subst (λ (p : List ℕ). length p ≤ 33) (sym (others s m)) (b.tree.few s)
-      ];
-      ends = λ s some. elim (cases_eq s key) [
-        | inl e ↦ ap (λ p. contains p 0) (ap ways' e ∙ now) ∙ or_right (key == 0) (contains (ways parent) 0) (b.tree.ends parent there)
-        | inr m ↦ ap (λ p. contains p 0) (others s m) ∙ b.tree.ends s (subst (λ (p : List ℕ). 0 < length p) (others s m) some)
-      ];
-    };
+    bounds = bounds;
+    tree = tree;
     tied = record {
       found = λ s n i e. number_stays s i ∙ b.tied.found s n i e;
       kept = λ s n i e. b.tied.kept s n i (sym (number_stays s i) ∙ e);
@@ -102,12 +64,12 @@ module _ (pid_max : ℕ) (ways ways' : ℕ → List ℕ) (at : ℕ → ℕ → O
   pub fallen-added : (fell fell' : ℕ → Bool) (at' : ℕ → ℕ → Option (Entry ℕ)) → AreFallen ways at fell → fell parent ≡ false → fell' key ≡ false → ((s : ℕ) → s ≢ key → fell' s ≡ fell s)
       → ((s n i : ℕ) → leads at s n ≡ Some i → (j : ℕ) × (leads at' s n ≡ Some j)) → AreFallen ways' at' fell'
   fallen-added fell fell' at' f stands new same more = record {
-    stands = same 0 not_root ∙ f.stands;
+    stands = same 0 (growth.not_root ways ways' b.tree key parent was now others) ∙ f.stands;
     inner = λ t j lt e. elim (cases_eq t key) [
       | inl is ↦ absurd (at_new j (subst (λ (p : List ℕ). j < length p) (ap ways' is ∙ now) lt) (ap (λ p. fell' (get_or p j 0)) (sym (ap ways' is ∙ now)) ∙ e))
       | inr d ↦
           let below : j < length (ways t) = subst (λ (p : List ℕ). j < length p) (others t d) lt in
-          let off : get_or (ways t) j 0 ≢ key = away-path (ways t) (b.tree.paths t) j below in
+          let off : get_or (ways t) j 0 ≢ key = growth.away-path ways ways' b.tree key parent was now others (ways t) (b.tree.paths t) j below in
           same t d ∙ f.inner t j below (sym (same (get_or (ways t) j 0) off) ∙ ap (λ p. fell' (get_or p j 0)) (sym (others t d)) ∙ e)
     ];
     held = λ s e. elim (cases_eq s key) [
@@ -123,6 +85,6 @@ module _ (pid_max : ℕ) (ways ways' : ℕ → List ℕ) (at : ℕ → ℕ → O
       at_new zero lt e = let bad : true ≡ false = sym e ∙ new in cc
       at_new (suc j) lt e =
           let below : j < length (ways parent) = omega (arith, lt) in
-          let off : get_or (ways parent) j 0 ≢ key = away-path (ways parent) (b.tree.paths parent) j below in
+          let off : get_or (ways parent) j 0 ≢ key = growth.away-path ways ways' b.tree key parent was now others (ways parent) (b.tree.paths parent) j below in
           let bad : true ≡ false = sym (f.inner parent j below (sym (same (get_or (ways parent) j 0) off) ∙ e)) ∙ stands in
           cc

@@ -1,16 +1,17 @@
 -- The tasks of a namespace lead to all namespaces inside it.
-use Rattle.std.proofs.Common.{◌≡◌, ◌≢◌, ◌⊎◌, inl, inr, ℕ, ◌+◌, ◌<◌, ◌≤◌, ◌||◌, Bool, true, false, List, [], ◌∷◌, get_or, length, Option, Some, None, option_map, refl, sym, ap, subst, ◌∙◌, arith}
+use Rattle.std.proofs.Common.{◌≡◌, ◌≢◌, ◌⊎◌, inl, inr, ℕ, ◌+◌, ◌<◌, ◌≤◌, ◌||◌, Bool, true, false, List, [], get_or, Option, Some, None, IsSome, option_map, refl, sym, ap, subst, ◌∙◌, arith}
 use Rattle.std.specs.Option.{option_map_or}
-use Rattle.std.proofs.lemmas.Bool.{cases_eq, cases_lt, eq-eqb}
+use Rattle.std.proofs.lemmas.Bool.{cases_eq, cases_lt}
 use Rattle.pid_types.specs.Chains.{contains}
 use Rattle.pid_types.specs.declared.call.Kind.TheVariants.{Task}
 use Rattle.index_array.specs.Place.{Entry, index_count, is_marked}
-use Rattle.pid_numbers.specs.Numbering.{Namespace, Identifier, number_in, is_used_as, felled, fallen_within, HasOwnTask}
-use Rattle.pid_numbers.specs.Slabs.{leads, IsTree, IsTied, AreMarked}
+use Rattle.ns_tree.specs.Tree.{Node, felled, felled_within}
+use Rattle.pid_numbers.specs.Numbering.{Identifier, number_in, is_used_as, HasOwnTask}
+use Rattle.pid_numbers.specs.Slabs.{leads, IsTied, AreMarked}
 use Rattle.pid_numbers.proofs.Ties as ties
 use Rattle.pid_numbers.proofs.Sweeps as sweeps
 
-abbrev pub has_fallen : Option Namespace → Bool
+abbrev pub has_fallen : Option Node → Bool
 has_fallen o = option_map_or (λ t. t.fallen) o false
 
 -- the identifier's own namespace is inside the one in which it has a number
@@ -28,17 +29,9 @@ pub record IsLed (ways : ℕ → List ℕ) (names : ℕ → Option Identifier) (
   pub has : number_in ways outer (Some identifier) ≡ Some n
 
 -- what the walk over the tasks' numbers below one has come to
-pub record IsFalling (ways : ℕ → List ℕ) (names : ℕ → Option Identifier) (outer : ℕ) (old now : ℕ → Option Namespace) (from : ℕ) : Type 0 where
+pub record IsFalling (ways : ℕ → List ℕ) (names : ℕ → Option Identifier) (outer : ℕ) (old now : ℕ → Option Node) (from : ℕ) : Type 0 where
   pub so_far : (s : ℕ) → (now s ≡ old s) ⊎ ((contains (ways s) outer ≡ true) × (now s ≡ option_map felled (old s)))
   pub met : (i n : ℕ) (u : Identifier) → names i ≡ Some u → number_in ways outer (Some u) ≡ Some n → n < from → is_used_as Task (Some u) ≡ true → has_fallen (now u.space) ≡ true
-
--- a namespace is on its own path
-pub own-in : (ways : ℕ → List ℕ) → IsTree ways → (s : ℕ) → 0 < length (ways s) → contains (ways s) s ≡ true
-own-in ways tree s there = go (tree.head s)
-  where
-    go : (ways s ≡ []) ⊎ ((rest : List ℕ) × (ways s ≡ s ∷ rest)) → contains (ways s) s ≡ true
-    go (inl none) = absurd (let z : length (ways s) ≡ 0 = ap length none in omega (arith, there, z))
-    go (inr w) = ap (λ p. contains p s) w.1 ∙ ap (λ b. b || contains w.0 s) (eq-eqb s s refl)
 
 -- some task's own namespace has a number in use
 pub own-number : (ways : ℕ → List ℕ) (names : ℕ → Option Identifier) (at : ℕ → ℕ → Option (Entry ℕ)) → IsTied ways names (leads at) → (s : ℕ) → contains (ways s) s ≡ true → HasOwnTask names s
@@ -77,11 +70,11 @@ module _ (ways : ℕ → List ℕ) (names : ℕ → Option Identifier) (at : ℕ
           let value : e.value ≡ i = ap (λ o. option_map_or (λ n. n) o e.value) led in
           ap (λ ms. get_or ms 0 false) (marks outer n e is) ∙ ap (λ o. is_used_as Task o) (ap names value ∙ named) ∙ used
 
-  module _ (old : ℕ → Option Namespace) (path : (s : ℕ) → option_map_or (λ t. t.path) (old s) [] ≡ ways s) where
+  module _ (old : ℕ → Option Node) (path : (s : ℕ) → option_map_or (λ t. t.path) (old s) [] ≡ ways s) where
     pub falling-first : IsFalling ways names outer old old 0
     falling-first = record { so_far = λ s. inl refl; met = λ i n u named has below used. absurd (omega (arith, below)) }
 
-    twice : (o : Option Namespace) → option_map felled (option_map felled o) ≡ option_map felled o
+    twice : (o : Option Node) → option_map felled (option_map felled o) ≡ option_map felled o
     twice None = refl
     twice (Some t) = refl
 
@@ -89,12 +82,25 @@ module _ (ways : ℕ → List ℕ) (names : ℕ → Option Identifier) (at : ℕ
     there : (s : ℕ) → contains (ways s) outer ≡ true → has_fallen (option_map felled (old s)) ≡ true
     there s inside = go (old s) (path s)
       where
-        go : (o : Option Namespace) → option_map_or (λ t. t.path) o [] ≡ ways s → has_fallen (option_map felled o) ≡ true
+        go : (o : Option Node) → option_map_or (λ t. t.path) o [] ≡ ways s → has_fallen (option_map felled o) ≡ true
         go None is = absurd (let z : false ≡ true = ap (λ p. contains p outer) is ∙ inside in cc)
         go (Some t) is = refl
 
+    -- so the one that a task's number leads to is there at each step
+    pub still-there : (now : ℕ → Option Node) (from : ℕ) → IsFalling ways names outer old now from → (n : ℕ) (l : IsLed ways names at outer n) → IsSome (now l.identifier.space)
+    still-there now from f n l = go (now l.identifier.space) (elim (f.so_far l.identifier.space) [
+      | inl same ↦ ap (option_map felled) same
+      | inr w ↦ ap (option_map felled) w.1 ∙ twice (old l.identifier.space)
+    ])
+      where
+        go : (o : Option Node) → option_map felled o ≡ option_map felled (old l.identifier.space) → IsSome o
+        go (Some t) e = refl
+        go None e =
+            let h = there l.identifier.space (inside-of ways outer n l.identifier l.has) in
+            absurd (let bad : false ≡ true = ap has_fallen e ∙ h in cc)
+
     -- one number more
-    pub falling-more : (now now' : ℕ → Option Namespace) (from n : ℕ) → IsFalling ways names outer old now from → (l : IsLed ways names at outer n)
+    pub falling-more : (now now' : ℕ → Option Node) (from n : ℕ) → IsFalling ways names outer old now from → (l : IsLed ways names at outer n)
         → ((k : ℕ) → from ≤ k → k < n → is_marked 0 (at outer k) ≡ false)
         → now' l.identifier.space ≡ option_map felled (now l.identifier.space) → ((s : ℕ) → s ≢ l.identifier.space → now' s ≡ now s)
         → IsFalling ways names outer old now' (n + 1)
@@ -147,11 +153,11 @@ module _ (ways : ℕ → List ℕ) (names : ℕ → Option Identifier) (at : ℕ
                 absurd (let z : false ≡ true = sym (between m more (omega (arith, below, differs))) ∙ marked m i u named has used in cc)
 
     -- when no number is left, all inside have fallen
-    pub falling-all : (now : ℕ → Option Namespace) (from : ℕ) → IsFalling ways names outer old now from
+    pub falling-all : (now : ℕ → Option Node) (from : ℕ) → IsFalling ways names outer old now from
         → ((k : ℕ) → from ≤ k → k < index_count → is_marked 0 (at outer k) ≡ false)
         → ((n i : ℕ) → leads at outer n ≡ Some i → n < index_count)
         → ((s : ℕ) → contains (ways s) outer ≡ true → has_fallen (old s) ≡ false → HasOwnTask names s)
-        → (s : ℕ) → now s ≡ option_map (fallen_within outer) (old s)
+        → (s : ℕ) → now s ≡ option_map (felled_within outer) (old s)
     falling-all now from f none range homes s = by (old s) refl (path s) (f.so_far s)
       where
         in_range : (t : HasOwnTask names s) → contains (ways s) outer ≡ true → has_fallen (now s) ≡ true
@@ -163,7 +169,7 @@ module _ (ways : ℕ → List ℕ) (names : ℕ → Option Identifier) (at : ℕ
               | inr more ↦ absurd (let z : false ≡ true = sym (none some.0 more below) ∙ marked some.0 t.key t.identifier t.named some.1 t.used in cc)
             ]
 
-        stands : (t : Namespace) → old s ≡ Some t → t.path ≡ ways s → now s ≡ old s → (b : Bool) → contains (ways s) outer ≡ b → (c : Bool) → t.fallen ≡ c
+        stands : (t : Node) → old s ≡ Some t → t.path ≡ ways s → now s ≡ old s → (b : Bool) → contains (ways s) outer ≡ b → (c : Bool) → t.fallen ≡ c
             → Some t ≡ Some (record t { fallen = c || b })
         stands t is p same false off false stood = ap (λ z. Some (record t { fallen = z })) stood
         stands t is p same b off true fell = ap (λ z. Some (record t { fallen = z })) fell
@@ -175,8 +181,8 @@ module _ (ways : ℕ → List ℕ) (names : ℕ → Option Identifier) (at : ℕ
         or_true true = refl
         or_true false = refl
 
-        by : (o : Option Namespace) → old s ≡ o → option_map_or (λ t. t.path) o [] ≡ ways s
-            → (now s ≡ old s) ⊎ ((contains (ways s) outer ≡ true) × (now s ≡ option_map felled (old s))) → now s ≡ option_map (fallen_within outer) o
+        by : (o : Option Node) → old s ≡ o → option_map_or (λ t. t.path) o [] ≡ ways s
+            → (now s ≡ old s) ⊎ ((contains (ways s) outer ≡ true) × (now s ≡ option_map felled (old s))) → now s ≡ option_map (felled_within outer) o
         by None is p (inl same) = same ∙ is
         by None is p (inr w) = w.1 ∙ ap (option_map felled) is
         by (Some t) is p (inl same) =

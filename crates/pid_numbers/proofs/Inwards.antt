@@ -6,8 +6,8 @@ use Rattle.std.proofs.lemmas.List.{length-reverse, reverse-append}
 use Rattle.std.proofs.lemmas.List.Sorted.{list_any-IsPermutation, IsPermutation-reverse}
 use Rattle.pid_types.specs.Chains.{contains}
 use Rattle.pid_types.specs.Names.{beside_from}
-use Rattle.pid_numbers.specs.Vacancy.{IsDistinct}
-use Rattle.pid_numbers.proofs.Sweeps.{cases, contains_at, place_of}
+use Rattle.ns_tree.specs.Vacancy.{IsDistinct}
+use Rattle.ns_tree.proofs.Paths.{cases, contains_at, place_of}
 
 contains-reverse : (ts : List ℕ) (s : ℕ) → contains (reverse ts) s ≡ contains ts s
 contains-reverse ts s = sym (list_any-IsPermutation (λ m. m == s) ts (reverse ts) (IsPermutation-reverse ts))

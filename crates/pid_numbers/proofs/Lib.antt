@@ -1,15 +1,13 @@
-pub mod Vacancy
-pub mod Filled
-pub mod Places
+pub mod Items
 pub mod Seats
 pub mod Ties
 pub mod Sweeps
 pub mod Views
+pub mod Climbs
 pub mod Drops
 pub mod Adds
 pub mod Begins
 pub mod Inwards
-pub mod Orders
 pub mod Model
 pub mod Falling
 pub mod Founded

@@ -15,8 +15,9 @@ use Rattle.pid_types.specs.Draw.{cyclic_draw, cursor_of, draw}
 use Rattle.std.specs.List.{filter_map, cons_option}
 use Rattle.cyclic_ids.proofs.Draws.{cyclic_draw-same}
 use Rattle.pid_numbers.specs.Numbering.{Numbering, Namespace, Identifier, namespace_at, identifier_at, number_of, number_in, path_at, taken_in, draw_in}
-use Rattle.pid_numbers.specs.Slabs.{IsPath}
-use Rattle.pid_numbers.proofs.Ties.{beside-none, distinct-path, listed, listed_from}
+use Rattle.ns_tree.specs.Tree.{IsPath}
+use Rattle.ns_tree.proofs.Paths.{distinct-path}
+use Rattle.pid_numbers.proofs.Ties.{beside-none, listed, listed_from}
 
 abbrev first : (ℕ → ℕ) → List ℕ → Option ℕ
 first id [] = None

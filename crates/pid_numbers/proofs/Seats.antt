@@ -5,8 +5,8 @@ use Rattle.std.proofs.lemmas.Bool.{cases_eq}
 use Rattle.pid_numbers.specs.declared.idents.Ident.{Ident}
 use Rattle.pid_numbers.specs.Numbering.{Identifier}
 use Rattle.pid_numbers.specs.Table.{identifier_of, shown, IsTable}
-use Rattle.pid_numbers.proofs.Filled as filled
-use Rattle.pid_numbers.proofs.Vacancy as vacancy
+use Rattle.ns_tree.proofs.Filled as filled
+use Rattle.ns_tree.proofs.Vacancy as vacancy
 
 -- how many numbers it has
 abbrev pub numbers_of : Ident → ℕ
@@ -24,13 +24,13 @@ some-named (Some x) e = (x, refl)
 -- an identifier is written over, and keeps its numbers
 module _ (places : List Ident) (key : ℕ) (y z : Ident) (lt : key < length places) (some : 0 < length y.numbers) (at : get_or (map shown places) key None ≡ Some y) (same : z.numbers ≡ y.numbers) where
   shows : shown z ≡ Some z
-  shows = filled.show-some numbers_of z (let l = ap length same in omega (arith, l, some))
+  shows = filled.show-some numbers_of (λ x. x) z (let l = ap length same in omega (arith, l, some))
 
   pub rewritten : get_or (map shown (set places key z)) key None ≡ Some z
-  rewritten = filled.slot-set_same numbers_of places key z lt ∙ shows
+  rewritten = filled.slot-set_same numbers_of (λ x. x) places key z lt ∙ shows
 
   pub others : (j : ℕ) → j ≢ key → get_or (map shown (set places key z)) j None ≡ get_or (map shown places) j None
-  others j differs = filled.slot-set_other numbers_of places key j z differs
+  others j differs = filled.slot-set_other numbers_of (λ x. x) places key j z differs
 
   pub still-table : (vacant : List ℕ) (rooms : ℕ) → IsTable places vacant rooms → IsTable (set places key z) vacant rooms
   still-table vacant rooms t = record {

@@ -10,9 +10,10 @@ use Rattle.pid_types.specs.Names.{beside}
 use Rattle.index_array.specs.Place.{Entry, with_mark}
 use Rattle.pid_types.specs.declared.call.Kind.{Kind}
 use Rattle.pid_types.specs.declared.call.Kind.TheVariants.{Task, Group, Session}
-use Rattle.pid_numbers.specs.Numbering.{Identifier, Namespace, moved, number_in, is_used, is_used_as, with_uses}
-use Rattle.pid_numbers.specs.Slabs.{stepped, IsPath, IsTree, IsTied, IsNumbering, touched, leads, given_to, mark_of, marks_of, AreMarked, AreInRange}
-use Rattle.pid_numbers.specs.Vacancy.{IsDistinct}
+use Rattle.pid_numbers.specs.Numbering.{Identifier, number_in, is_used, is_used_as, with_uses}
+use Rattle.ns_tree.specs.Tree.{IsTree}
+use Rattle.pid_numbers.specs.Slabs.{stepped, IsTied, IsNumbering, touched, leads, given_to, mark_of, marks_of, AreMarked, AreInRange}
+use Rattle.ns_tree.specs.Vacancy.{IsDistinct}
 
 -- where each draws, each number is the one drawn
 pub planned_each : (d : ℕ → Option ℕ) (path : List ℕ) → find (λ s. is_none (d s)) path ≡ None → (k : ℕ) → k < length path → d (get_or path k 0) ≡ Some (get_or (map (λ s. unwrap_or (d s) 0) path) k 0)
@@ -113,20 +114,16 @@ module _ (a b : ℕ) (ps ns : List ℕ) (absent : beside a ps ns ≡ None) where
             rw off (same n differs)
       ])
 
-  pub moved-cons : (g g' : ℕ → Option Namespace) → g' a ≡ option_map (stepped b) (g a) → ((s : ℕ) → s ≢ a → g' s ≡ g s)
-      → (s : ℕ) → option_map (moved ps ns s) (g' s) ≡ option_map (moved (a ∷ ps) (b ∷ ns) s) (g s)
-  moved-cons g g' here others s = elim (cases_eq s a) [
-    | inl e ↦ ap (λ z. option_map (moved ps ns z) (g' z)) e ∙ ap (option_map (moved ps ns a)) here ∙ at_a (g a) ∙ sym (ap (λ z. option_map (moved (a ∷ ps) (b ∷ ns) z) (g z)) e)
+  pub stepped-cons : (g g' : ℕ → ℕ) → g' a ≡ b + 1 → ((s : ℕ) → s ≢ a → g' s ≡ g s) → (s : ℕ) → stepped ps ns s (g' s) ≡ stepped (a ∷ ps) (b ∷ ns) s (g s)
+  stepped-cons g g' here others s = elim (cases_eq s a) [
+    | inl e ↦
+        ap (λ z. stepped ps ns z (g' z)) e ∙ ap (λ o. option_map_or (λ n. n + 1) o (g' a)) absent ∙ here
+        ∙ sym (ap (λ z. stepped (a ∷ ps) (b ∷ ns) z (g z)) e ∙ ap (λ t. option_map_or (λ n. n + 1) (if t then Some b else beside a ps ns) (g a)) (eq-eqb a a refl))
     | inr differs ↦
         let m : a ≢ s = λ e. differs (sym e) in
         let off : (a == s) ≡ false = grind (arith, m) in
-        ap (option_map (moved ps ns s)) (others s differs)
-        ∙ sym (ap (λ z. option_map (λ (t : Namespace). record t { cursor = option_map_or (λ n. n + 1) (if z then Some b else beside s ps ns) t.cursor }) (g s)) off)
+        ap (stepped ps ns s) (others s differs) ∙ sym (ap (λ t. option_map_or (λ n. n + 1) (if t then Some b else beside s ps ns) (g s)) off)
   ]
-    where
-      at_a : (o : Option Namespace) → option_map (moved ps ns a) (option_map (stepped b) o) ≡ option_map (moved (a ∷ ps) (b ∷ ns) a) o
-      at_a None = refl
-      at_a (Some t) = rw (absent, eq-eqb a a refl) refl
 
 module _ (path numbers : List ℕ) (distinct : IsDistinct path) (len : length numbers ≡ length path) (k : ℕ) (below : k < length path) (key n : ℕ) (at : key ≡ get_or path k 0) (is : n ≡ get_or numbers k 0) where
   head : drop k path ≡ key ∷ drop (k + 1) path
@@ -148,41 +145,14 @@ module _ (path numbers : List ℕ) (distinct : IsDistinct path) (len : length nu
       touched-cons key n (drop (k + 1) path) (drop (k + 1) numbers) gone h f f' here same others s m
       ∙ sym (ap (λ p. touched p (drop k numbers) h f s m) head ∙ ap (λ q. touched (key ∷ drop (k + 1) path) q h f s m) first)
 
-  pub moved-more : (g g' : ℕ → Option Namespace) → g' key ≡ option_map (stepped n) (g key) → ((s : ℕ) → s ≢ key → g' s ≡ g s)
-      → (s : ℕ) → option_map (moved (drop (k + 1) path) (drop (k + 1) numbers) s) (g' s) ≡ option_map (moved (drop k path) (drop k numbers) s) (g s)
-  moved-more g g' here others s =
-      moved-cons key n (drop (k + 1) path) (drop (k + 1) numbers) gone g g' here others s
-      ∙ sym (ap (λ p. option_map (moved p (drop k numbers) s) (g s)) head ∙ ap (λ q. option_map (moved (key ∷ drop (k + 1) path) q s) (g s)) first)
+  pub stepped-more : (g g' : ℕ → ℕ) → g' key ≡ n + 1 → ((s : ℕ) → s ≢ key → g' s ≡ g s) → (s : ℕ) → stepped (drop (k + 1) path) (drop (k + 1) numbers) s (g' s) ≡ stepped (drop k path) (drop k numbers) s (g s)
+  stepped-more g g' here others s =
+      stepped-cons key n (drop (k + 1) path) (drop (k + 1) numbers) gone g g' here others s
+      ∙ sym (ap (λ p. stepped p (drop k numbers) s (g s)) head ∙ ap (λ q. stepped (key ∷ drop (k + 1) path) q s (g s)) first)
 
   -- later ones are others
   pub later : (j : ℕ) → k + 1 ≤ j → j < length path → get_or path j 0 ≢ key
   later j lo lt e = distinct k j (omega (arith, lo)) lt (sym at ∙ sym e)
-
--- one key and the others
-pub everywhere : {X : Type 0} (f g : ℕ → X) (key : ℕ) → f key ≡ g key → ((s : ℕ) → s ≢ key → f s ≡ g s) → (s : ℕ) → f s ≡ g s
-everywhere f g key here others s = elim (cases_eq s key) [
-  | inl e ↦ ap f e ∙ here ∙ sym (ap g e)
-  | inr differs ↦ others s differs
-]
-
--- each namespace of a path leads to the rest of it
-pub at-path : (ways : ℕ → List ℕ) (path : List ℕ) → IsPath ways path → (j : ℕ) → j < length path → ways (get_or path j 0) ≡ drop j path
-at-path ways [] h j lt = absurd (omega (arith, lt))
-at-path ways (s ∷ ss) h zero lt = h.0
-at-path ways (s ∷ ss) h (suc j) lt = at-path ways ss h.1 j (omega (arith, lt))
-
--- so each of them has a path
-pub on-path : (ways : ℕ → List ℕ) (path : List ℕ) → IsPath ways path → (j : ℕ) → j < length path → 0 < length (ways (get_or path j 0))
-on-path ways path h j lt = let rest = ap length (at-path ways path h j lt) in let l = length-drop j path in omega (arith, lt, rest, l)
-
-pub distinct-path : (ways : ℕ → List ℕ) (path : List ℕ) → IsPath ways path → IsDistinct path
-distinct-path ways path h i j lo lt same =
-    let a = at-path ways path h i (omega (arith, lo, lt)) in
-    let b = at-path ways path h j lt in
-    let e : length (drop i path) ≡ length (drop j path) = ap length (sym a ∙ ap ways same ∙ b) in
-    let x = length-drop i path in
-    let y = length-drop j path in
-    omega (arith, lo, lt, e, x, y)
 
 decide_some : (o : Option ℕ) (n : ℕ) → (o ≡ Some n) ⊎ (o ≢ Some n)
 decide_some None n = inr (λ e. cc)
@@ -392,7 +362,7 @@ pub numbering-with : (pid_max : ℕ) (ways ways' : ℕ → List ℕ) (at at' : �
     → ((s : ℕ) → ways' s ≡ ways s) → ((s : ℕ) → bound' s ≡ bound s) → IsTied ways' names' (leads at') → AreInRange pid_max (leads at') → AreMarked at' names' → IsNumbering pid_max ways' at' bound' names'
 numbering-with pid_max ways ways' at at' bound bound' names names' b same_ways same_bound t r m = record {
   good = b.good;
-  bounds = λ s m e. (let r = b.bounds s m (sym (same_bound s) ∙ e) in (r.0, subst (λ (l : List ℕ). 0 < length l) (sym (same_ways s)) r.1));
+  bounds = λ s m e. b.bounds s m (sym (same_bound s) ∙ e);
   tree = subst IsTree (λ i s. sym (same_ways s) i) b.tree;
   tied = t;
   range = r;

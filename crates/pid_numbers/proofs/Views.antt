@@ -1,107 +1,158 @@
 -- What a numbering shows of the slabs.
-use Rattle.std.proofs.Common.{rules, inl, inr, ◌≡◌, ◌≢◌, ℕ, ◌<◌, arith, if◌then◌else◌, Bool, true, false, List, [], length, map, get_or, Option, Some, None, IsSome, IfSome, not, ◌&&◌, ◌==◌, ◌+◌, subst, is_some, is_none, refl, sym, ap, ◌∙◌, option_map, option_and_then, unwrap_or, find}
-use Rattle.std.specs.Prelude.{nat_lt, reverse}
+use Rattle.std.proofs.Common.{rules, inl, inr, zero, suc, ◌∷◌, ◌≡◌, ◌≢◌, ℕ, ◌<◌, arith, if◌then◌else◌, Bool, true, false, List, [], length, map, get_or, Option, Some, None, IsSome, IfSome, not, ◌&&◌, ◌==◌, ◌+◌, subst, is_some, is_none, refl, sym, ap, ◌∙◌, option_map, option_and_then, unwrap_or, find}
+use Rattle.std.specs.Prelude.{nat_lt, reverse, slice_get}
 use Rattle.pid_types.specs.Names.{beside_from}
 use Rattle.std.specs.Option.{option_map_or}
 use Rattle.std.proofs.lemmas.List.{length-map}
 use Rattle.std.proofs.lemmas.Bool.{cases_lt}
+use Rattle.std.proofs.lemmas.Option.{slice_get_within}
 use Rattle.std.proofs.lemmas.Bool.Decides.{nat_tests}
 use Rattle.pid_types.specs.Chains.{contains}
 use Rattle.pid_types.specs.Draw.{cyclic_draw, restart}
 use Rattle.pid_types.proofs.LeastFree.{draw-Some}
 use Rattle.cyclic_ids.specs.Ids.{Ids, planned}
 use Rattle.pid_numbers.specs.Table.{Table}
-use Rattle.index_array.specs.Place.{Entry, entry_at, indexes, is_marked, IsLeastIndex}
+use Rattle.index_array.specs.Place.{Entry, entry_at, indexes, is_marked, with_mark, IsLeastIndex}
 use Rattle.index_array.proofs.Indexes.{contains_indexes}
 use Rattle.cyclic_ids.proofs.Draws.{cyclic_draw-same}
-use Rattle.pid_numbers.specs.declared.spaces.Space.{Space}
-use Rattle.pid_numbers.specs.Numbering.{Numbering, Identifier, Namespace, moved, levels_of, namespace_at, identifier_at, path_at, number_in, number_of, taken_in, draw_in, is_used_as, is_used, with_uses, uses, more, IsNumberUsedAs, IsNextUsed}
+use Rattle.ns_tree.specs.Tree.{Node, Tree, node_in, way, id_in, fell}
+use Rattle.ns_tree.proofs.Paths as paths
+use Rattle.ns_tree.proofs.Vacancy.{filled-in}
+use Rattle.pid_numbers.proofs.Items as items
+use Rattle.pid_numbers.specs.Numbering.{Numbering, Identifier, moved, levels_of, is_there, namespace_at, id_at, has_fallen_at, identifier_at, path_at, number_in, number_of, taken_in, draw_in, is_used_as, is_used, with_uses, uses, more, IsNumberUsedAs, IsNextUsed}
 use Rattle.pid_types.specs.declared.call.Kind.{Kind}
 use Rattle.pid_types.specs.declared.call.Kind.TheVariants.{Task, Group, Session}
-use Rattle.pid_numbers.specs.Slabs.{slot, slots, fell, numbering_of, namespace_of, way, entry_on, leads, plan_on, namespaces_of, marks_of, mark_of, bound_on, ArePlanned, IsNumbering}
+use Rattle.pid_numbers.specs.Slabs.{numbering_of, namespace_of, with_cursors, entry_on, leads, plan_on, cursor_on, marks_of, mark_of, bound_on, touched, stepped, AreIn, ArePlanned, IsNumbering}
 use Rattle.pid_numbers.specs.Table.{identifier_of, name_at}
-use Rattle.pid_numbers.proofs.Ties.{at_key, get_or-map_option, listed_from, listed, planned_each}
+use Rattle.pid_numbers.proofs.Ties.{at_key, get_or-map_option, listed_from, listed, planned_each, space-kept, numbers-kept}
 
-module _ (pid_max : ℕ) (spaces : List Space) (idents : Table) (order : List (ℕ × ℕ)) where
+-- a look-up among the namespaces
+pub namespace-at : (cursor : ℕ → ℕ) (nodes : List (Option Node)) (s : ℕ) → get_or (with_cursors cursor nodes) s None ≡ option_map (namespace_of (cursor s)) (node_in nodes s)
+namespace-at cursor [] s = refl
+namespace-at cursor (o ∷ nodes) zero = refl
+namespace-at cursor (o ∷ nodes) (suc s) = namespace-at (λ s. cursor (suc s)) nodes s
+
+-- a namespace with a path is there
+pub there-of : (nodes : List (Option Node)) (s : ℕ) → 0 < length (way nodes s) → (z : Node) × (node_in nodes s ≡ Some z)
+there-of nodes s some = go (node_in nodes s) some
+  where
+    go : (o : Option Node) → 0 < length (option_map_or (λ t. t.path) o []) → (z : Node) × (o ≡ Some z)
+    go None lt = absurd (omega (arith, lt))
+    go (Some z) lt = (z, refl)
+
+-- a namespace that is there has numbers
+pub there_in : (nodes : List (Option Node)) (ids : List (Ids ℕ)) → length ids ≡ length nodes → (s : ℕ) (z : Node) → node_in nodes s ≡ Some z → s < length ids
+there_in nodes ids count s z at = let lt = filled-in nodes s z at in omega (arith, lt, count)
+
+-- where two plans are the same along a path, so is what is drawn
+module _ (f g : ℕ → Option ℕ) where
+  find_same : (p : List ℕ) → ((k : ℕ) → k < length p → f (get_or p k 0) ≡ g (get_or p k 0)) → find (λ s. is_none (f s)) p ≡ find (λ s. is_none (g s)) p
+  find_same [] same = refl
+  find_same (s ∷ ss) same = ap (λ o. if is_none o then Some s else find (λ s. is_none (f s)) ss) (same 0 (omega arith)) ∙ ap (λ r. if is_none (g s) then Some s else r) (find_same ss (λ k lt. same (suc k) (omega (arith, lt))))
+
+  map_same : (p : List ℕ) → ((k : ℕ) → k < length p → f (get_or p k 0) ≡ g (get_or p k 0)) → map (λ s. unwrap_or (f s) 0) p ≡ map (λ s. unwrap_or (g s) 0) p
+  map_same [] same = refl
+  map_same (s ∷ ss) same = ap (λ o. unwrap_or o 0 ∷ map (λ s. unwrap_or (f s) 0) ss) (same 0 (omega arith)) ∙ ap (λ r. unwrap_or (g s) 0 ∷ r) (map_same ss (λ k lt. same (suc k) (omega (arith, lt))))
+
+module _ (pid_max : ℕ) (tree : Tree) (ids : List (Ids ℕ)) (idents : Table) where
   abbrev numbering : Numbering
-  numbering = numbering_of pid_max spaces idents order
+  numbering = numbering_of pid_max tree ids idents
 
-  pub path_is : (s : ℕ) → path_at numbering s ≡ way spaces s
-  path_is s = ap (λ o. option_map_or (λ t. t.path) o []) (get_or-map_option namespace_of (slots spaces) s) ∙ go (slot spaces s)
+  pub space_is : (s : ℕ) → namespace_at numbering s ≡ option_map (namespace_of (cursor_on ids s)) (node_in tree.nodes s)
+  space_is s = namespace-at (cursor_on ids) tree.nodes s
+
+  pub there_is : (s : ℕ) → is_there numbering s ≡ is_some (node_in tree.nodes s)
+  there_is s = ap is_some (space_is s) ∙ go (node_in tree.nodes s)
     where
-      go : (o : Option Space) → option_map_or (λ t. t.path) (option_map namespace_of o) [] ≡ option_map_or (λ t. t.path.items) o []
+      go : (o : Option Node) → is_some (option_map (namespace_of (cursor_on ids s)) o) ≡ is_some o
       go None = refl
       go (Some t) = refl
 
-  pub paths_are : path_at numbering ≡ way spaces
+  pub path_is : (s : ℕ) → path_at numbering s ≡ way tree.nodes s
+  path_is s = ap (λ o. option_map_or (λ t. t.path) o []) (space_is s) ∙ go (node_in tree.nodes s)
+    where
+      go : (o : Option Node) → option_map_or (λ t. t.path) (option_map (namespace_of (cursor_on ids s)) o) [] ≡ option_map_or (λ t. t.path) o []
+      go None = refl
+      go (Some t) = refl
+
+  pub paths_are : path_at numbering ≡ way tree.nodes
   paths_are = λ i s. path_is s i
 
   pub name_is : (k : ℕ) → identifier_at numbering k ≡ name_at idents k
   name_is k = get_or-map_option identifier_of idents.slots k
 
-  pub number_is : (k s : ℕ) → number_of numbering k s ≡ number_in (way spaces) s (name_at idents k)
+  pub number_is : (k s : ℕ) → number_of numbering k s ≡ number_in (way tree.nodes) s (name_at idents k)
   number_is k s = ap (number_in (path_at numbering) s) (name_is k) ∙ ap (λ w. number_in w s (name_at idents k)) paths_are
 
-  module _ (t : IsNumbering pid_max (way spaces) (entry_on spaces) (bound_on spaces) (name_at idents)) where
-    pub none_found : (s n : ℕ) → leads (entry_on spaces) s n ≡ None → (k : ℕ) → number_of numbering k s ≢ Some n
+  module _ (t : IsNumbering pid_max (way tree.nodes) (entry_on ids) (bound_on ids) (name_at idents)) where
+    pub none_found : (s n : ℕ) → leads (entry_on ids) s n ≡ None → (k : ℕ) → number_of numbering k s ≢ Some n
     none_found s n none k e = let r : Some k ≡ None = sym (t.tied.kept s n k (sym (number_is k s) ∙ e)) ∙ none in cc
 
-    pub one_found : (s n k : ℕ) → leads (entry_on spaces) s n ≡ Some k → number_of numbering k s ≡ Some n
+    pub one_found : (s n k : ℕ) → leads (entry_on ids) s n ≡ Some k → number_of numbering k s ≡ Some n
     one_found s n k e = number_is k s ∙ t.tied.found s n k e
 
     -- the numbers with an entry are those taken
-    pub taken_same : (s : ℕ) (z : Space) → slot spaces s ≡ Some z → (n : ℕ) → contains (indexes z.ids.places) n ≡ contains (taken_in numbering s) n
+    pub taken_same : (s n : ℕ) → is_some (entry_on ids s n) ≡ contains (taken_in numbering s) n
     unfolding taken_in
-    taken_same s z at n = contains_indexes z.ids.places n ∙ go (entry_at z.ids.places n) refl
+    taken_same s n = go (entry_on ids s n) refl
       where
-        f : Option Identifier → Option ℕ
-        f = number_in (path_at numbering) s
-
-        go : (o : Option (Entry ℕ)) → entry_at z.ids.places n ≡ o → is_some o ≡ contains (taken_in numbering s) n
+        go : (o : Option (Entry ℕ)) → entry_on ids s n ≡ o → is_some o ≡ contains (taken_in numbering s) n
         go None is = bool_cases (contains (taken_in numbering s) n) refl
           where
             bool_cases : (b : Bool) → contains (taken_in numbering s) n ≡ b → false ≡ b
             bool_cases false e = refl
             bool_cases true e =
                 let r = listed_from (number_in (path_at numbering) s) numbering.names n e in
-                let none : leads (entry_on spaces) s n ≡ None = ap (option_map (λ e. e.value)) (ap (option_and_then (λ t. entry_at t.ids.places n)) at ∙ is) in
-                absurd (none_found s n none r.0 r.1)
-        go (Some e) is =
-            let some : leads (entry_on spaces) s n ≡ Some e.value = ap (option_map (λ e. e.value)) (ap (option_and_then (λ t. entry_at t.ids.places n)) at ∙ is) in
-            sym (listed (number_in (path_at numbering) s) refl numbering.names e.value n (one_found s n e.value some))
+                absurd (none_found s n (ap (option_map (λ e. e.value)) is) r.0 r.1)
+        go (Some e) is = sym (listed (number_in (path_at numbering) s) refl numbering.names e.value n (one_found s n e.value (ap (option_map (λ e. e.value)) is)))
 
-    -- so each namespace gives the number that the model draws
-    pub draw_same : (s : ℕ) → plan_on spaces s ≡ draw_in numbering s
-    draw_same s = sym (ap (option_and_then (λ t. cyclic_draw pid_max t.cursor (taken_in numbering s))) (get_or-map_option namespace_of (slots spaces) s) ∙ go (slot spaces s) refl)
-      where
-        go : (o : Option Space) → slot spaces s ≡ o → option_and_then (λ t. cyclic_draw pid_max t.cursor (taken_in numbering s)) (option_map namespace_of o) ≡ option_and_then (λ t. cyclic_draw t.ids.pid_max t.ids.cursor (indexes t.ids.places)) o
-        go None at = refl
-        go (Some z) at = ap (λ m. cyclic_draw m z.ids.cursor (taken_in numbering s)) (sym (t.bounds s z.ids.pid_max (ap (option_map (λ t. t.ids.pid_max)) at)).0) ∙ sym (cyclic_draw-same z.ids.pid_max z.ids.cursor (indexes z.ids.places) (taken_in numbering s) (taken_same s z at))
+    -- so a namespace that is there gives the number that the model draws
+    pub draw_same : length ids ≡ length tree.nodes → (s : ℕ) → 0 < length (way tree.nodes s) → plan_on ids s ≡ draw_in numbering s
+    draw_same count s some =
+        let z = there-of tree.nodes s some in
+        let y = items.got ids s (there_in tree.nodes ids count s z.0 z.1) in
+        ap (option_and_then planned) y.1
+        ∙ cyclic_draw-same y.0.pid_max y.0.cursor (indexes y.0.places) (taken_in numbering s) (λ n. contains_indexes y.0.places n ∙ ap is_some (sym (ap (option_and_then (λ t. entry_at t.places n)) y.1)) ∙ taken_same s n)
+        ∙ ap (λ m. cyclic_draw m y.0.cursor (taken_in numbering s)) (t.bounds s y.0.pid_max (ap (option_map (λ t. t.pid_max)) y.1))
+        ∙ ap (λ k. cyclic_draw pid_max k (taken_in numbering s)) (sym (ap (λ o. option_map_or (λ (t : Ids ℕ). t.cursor) o 0) y.1))
+        ∙ sym (ap (option_and_then (λ t. cyclic_draw pid_max t.cursor (taken_in numbering s))) (space_is s ∙ ap (option_map (namespace_of (cursor_on ids s))) z.1))
 
-    pub draws_same : plan_on spaces ≡ draw_in numbering
-    draws_same = λ i s. draw_same s i
+    module _ (count : length ids ≡ length tree.nodes) (space : ℕ) where
+      each_draw : (k : ℕ) → k < length (way tree.nodes space) → plan_on ids (get_or (way tree.nodes space) k 0) ≡ draw_in numbering (get_or (way tree.nodes space) k 0)
+      each_draw k lt = draw_same count (get_or (way tree.nodes space) k 0) (paths.on-path (way tree.nodes) (way tree.nodes space) (t.tree.paths space) k lt)
 
-    -- what the model draws along the path is planned there
-    pub all_planned : (space : ℕ) (numbers : List ℕ) → find (λ s. is_none (draw_in numbering s)) (path_at numbering space) ≡ None → numbers ≡ map (λ s. unwrap_or (draw_in numbering s) 0) (path_at numbering space) → ArePlanned spaces (way spaces space) numbers
-    all_planned space numbers all is k below =
-        draw_same (get_or (way spaces space) k 0) ∙ ap (λ p. draw_in numbering (get_or p k 0)) (sym (path_is space))
-        ∙ planned_each (draw_in numbering) (path_at numbering space) all k (rw (path_is space) below)
-        ∙ ap (λ q. Some (get_or q k 0)) (sym is)
+      -- so do all on a path
+      pub full_same : find (λ s. is_none (plan_on ids s)) (way tree.nodes space) ≡ find (λ s. is_none (draw_in numbering s)) (path_at numbering space)
+      full_same = find_same (plan_on ids) (draw_in numbering) (way tree.nodes space) each_draw ∙ ap (find (λ s. is_none (draw_in numbering s))) (sym (path_is space))
 
-    pub planned_len : (space : ℕ) (numbers : List ℕ) → numbers ≡ map (λ s. unwrap_or (draw_in numbering s) 0) (path_at numbering space) → length numbers ≡ length (way spaces space)
+      pub draws_same : map (λ s. unwrap_or (plan_on ids s) 0) (way tree.nodes space) ≡ map (λ s. unwrap_or (draw_in numbering s) 0) (path_at numbering space)
+      draws_same = map_same (plan_on ids) (draw_in numbering) (way tree.nodes space) each_draw ∙ ap (map (λ s. unwrap_or (draw_in numbering s) 0)) (sym (path_is space))
+
+      -- what the model draws along the path is planned there
+      pub all_planned : (numbers : List ℕ) → find (λ s. is_none (draw_in numbering s)) (path_at numbering space) ≡ None → numbers ≡ map (λ s. unwrap_or (draw_in numbering s) 0) (path_at numbering space) → ArePlanned ids (way tree.nodes space) numbers
+      all_planned numbers all is k below =
+          planned_each (plan_on ids) (way tree.nodes space) (full_same ∙ all) k below ∙ ap (λ q. Some (get_or q k 0)) (draws_same ∙ sym is)
+
+    pub planned_len : (space : ℕ) (numbers : List ℕ) → numbers ≡ map (λ s. unwrap_or (draw_in numbering s) 0) (path_at numbering space) → length numbers ≡ length (way tree.nodes space)
     planned_len space numbers is = ap length is ∙ length-map (path_at numbering space) (λ s. unwrap_or (draw_in numbering s) 0) ∙ ap length (path_is space)
 
+    -- each namespace of a path has numbers
+    pub path_in : length ids ≡ length tree.nodes → (space : ℕ) → AreIn ids (way tree.nodes space)
+    path_in count space k lt =
+        let z = there-of tree.nodes (get_or (way tree.nodes space) k 0) (paths.on-path (way tree.nodes) (way tree.nodes space) (t.tree.paths space) k lt) in
+        there_in tree.nodes ids count (get_or (way tree.nodes space) k 0) z.0 z.1
+
 -- a planned number has no entry
-pub plan_free : (spaces : List Space) (s n : ℕ) → plan_on spaces s ≡ Some n → entry_on spaces s n ≡ None
-plan_free spaces s n e = go (slot spaces s) e
+pub plan_free : (ids : List (Ids ℕ)) (s n : ℕ) → plan_on ids s ≡ Some n → entry_on ids s n ≡ None
+plan_free ids s n e = go (slice_get ids s) e
   where
     bare : (o : Option (Entry ℕ)) → is_some o ≡ false → o ≡ None
     bare None e = refl
     bare (Some x) e = absurd (cc)
 
-    go : (o : Option Space) → option_and_then (λ t. planned t.ids) o ≡ Some n → option_and_then (λ t. entry_at t.ids.places n) o ≡ None
+    go : (o : Option (Ids ℕ)) → option_and_then planned o ≡ Some n → option_and_then (λ t. entry_at t.places n) o ≡ None
     go None e = refl
-    go (Some z) e = bare (entry_at z.ids.places n) (sym (contains_indexes z.ids.places n) ∙ (draw-Some z.ids.pid_max z.ids.cursor (indexes z.ids.places) n e).0)
+    go (Some z) e = bare (entry_at z.places n) (sym (contains_indexes z.places n) ∙ (draw-Some z.pid_max z.cursor (indexes z.places) n e).0)
 
 from_one : (cursor : ℕ) → 0 < restart cursor
 from_one cursor = go (nat_lt 300 cursor)
@@ -111,36 +162,48 @@ from_one cursor = go (nat_lt 300 cursor)
     go false = omega arith
 
 -- and is in range
-pub plan_in_range : (pid_max : ℕ) (spaces : List Space) (s n : ℕ) → ((m : ℕ) → bound_on spaces s ≡ Some m → m ≡ pid_max) → plan_on spaces s ≡ Some n → (0 < n) × (n < pid_max)
-plan_in_range pid_max spaces s n bounds e = go (slot spaces s) bounds e
+pub plan_in_range : (pid_max : ℕ) (ids : List (Ids ℕ)) (s n : ℕ) → ((m : ℕ) → bound_on ids s ≡ Some m → m ≡ pid_max) → plan_on ids s ≡ Some n → (0 < n) × (n < pid_max)
+plan_in_range pid_max ids s n bounds e = go (slice_get ids s) bounds e
   where
-    go : (o : Option Space) → ((m : ℕ) → option_map (λ t. t.ids.pid_max) o ≡ Some m → m ≡ pid_max) → option_and_then (λ t. planned t.ids) o ≡ Some n → (0 < n) × (n < pid_max)
+    go : (o : Option (Ids ℕ)) → ((m : ℕ) → option_map (λ t. t.pid_max) o ≡ Some m → m ≡ pid_max) → option_and_then planned o ≡ Some n → (0 < n) × (n < pid_max)
     go None b e = absurd (cc)
     go (Some z) b e =
-        let drawn = draw-Some z.ids.pid_max z.ids.cursor (indexes z.ids.places) n e in
-        let low = from_one z.ids.cursor in
-        let same = b z.ids.pid_max refl in
+        let drawn = draw-Some z.pid_max z.cursor (indexes z.places) n e in
+        let low = from_one z.cursor in
+        let same = b z.pid_max refl in
         (omega (arith, low, drawn.1), omega (arith, drawn.2, same))
+
+-- and its namespace has numbers
+pub plan_in : (ids : List (Ids ℕ)) (s n : ℕ) → plan_on ids s ≡ Some n → s < length ids
+plan_in ids s n e = go (slice_get ids s) refl e
+  where
+    go : (o : Option (Ids ℕ)) → slice_get ids s ≡ o → option_and_then planned o ≡ Some n → s < length ids
+    go None at e = absurd (cc)
+    go (Some z) at e = slice_get_within ids s z at
 
 pub below_bound : (ids : Ids ℕ) (n : ℕ) → planned ids ≡ Some n → n < ids.pid_max
 below_bound ids n e = (draw-Some ids.pid_max ids.cursor (indexes ids.places) n e).2
 
--- a namespace that is there has a path
-pub there : (pid_max : ℕ) (spaces : List Space) (idents : Table) (order : List (ℕ × ℕ)) → IsNumbering pid_max (way spaces) (entry_on spaces) (bound_on spaces) (name_at idents) → (b : Numbering) → numbering_of pid_max spaces idents order ≡ b → (s : ℕ) → IsSome (namespace_at b s) → 0 < length (way spaces s)
-there pid_max spaces idents order inv b view s some = go (slot spaces s) refl (subst IsSome (ap (λ z. namespace_at z s) (sym view) ∙ get_or-map_option namespace_of (slots spaces) s) some)
+-- a namespace that is there is one of the tree
+pub there : (pid_max : ℕ) (tree : Tree) (ids : List (Ids ℕ)) (idents : Table) (b : Numbering) → numbering_of pid_max tree ids idents ≡ b → (s : ℕ) → IsSome (namespace_at b s) → IsSome (node_in tree.nodes s)
+there pid_max tree ids idents b view s some = go (node_in tree.nodes s) (subst IsSome (ap (λ z. namespace_at z s) (sym view) ∙ space_is pid_max tree ids idents s) some)
   where
-    go : (o : Option Space) → slot spaces s ≡ o → IsSome (option_map namespace_of o) → 0 < length (way spaces s)
-    go None is h = absurd (search rules)
-    go (Some z) is h = (inv.bounds s z.ids.pid_max (ap (option_map (λ t. t.ids.pid_max)) is)).1
+    go : (o : Option Node) → IsSome (option_map (namespace_of (cursor_on ids s)) o) → IsSome o
+    go None h = h
+    go (Some z) h = refl
 
 -- the identifier with a key is that of the slab
-pub identifier_is : (pid_max : ℕ) (spaces : List Space) (idents : Table) (order : List (ℕ × ℕ)) (b : Numbering) → numbering_of pid_max spaces idents order ≡ b → (k : ℕ) → identifier_at b k ≡ name_at idents k
-identifier_is pid_max spaces idents order b view k = ap (λ z. identifier_at z k) (sym view) ∙ name_is pid_max spaces idents order k
+pub identifier_is : (pid_max : ℕ) (tree : Tree) (ids : List (Ids ℕ)) (idents : Table) (b : Numbering) → numbering_of pid_max tree ids idents ≡ b → (k : ℕ) → identifier_at b k ≡ name_at idents k
+identifier_is pid_max tree ids idents b view k = ap (λ z. identifier_at z k) (sym view) ∙ name_is pid_max tree ids idents k
 
--- an identifier that is there
-pub held : (o : Option Identifier) → IsSome o → (v : Identifier) × (o ≡ Some v)
+-- what is there, and what is not
+pub held : {X : Type 0} (o : Option X) → IsSome o → (v : X) × (o ≡ Some v)
 held None h = absurd (search rules)
 held (Some v) h = (v, refl)
+
+pub absent : {X : Type 0} (o : Option X) → is_some o ≡ false → o ≡ None
+absent None e = refl
+absent (Some v) e = absurd (cc)
 
 -- one that has a use is there
 pub used : (kind : Kind) (o : Option Identifier) → is_used_as kind o ≡ true → (v : Identifier) × (o ≡ Some v)
@@ -150,6 +213,14 @@ used kind (Some v) h = (v, refl)
 -- what is said where there is one
 pub at-some : {X : Type 0} (P : X → Type 0) (o : Option X) (x : X) → IfSome o P → o ≡ Some x → P x
 at-some P o x h e = subst (λ o. IfSome o P) e h
+
+-- the marks of an identifier whose uses changed are written along the path that it has
+pub marked-as : (kind : Kind) (n : ℕ) (v : Identifier) (on : Bool) (ways : ℕ → List ℕ) (at at' : ℕ → ℕ → Option (Entry ℕ)) (o : Option Identifier)
+    → IfSome o (λ u. (s m : ℕ) → at' s m ≡ touched (ways u.space) u.numbers (with_mark (mark_of kind) on) at s m) → o ≡ Some (with_uses kind n v) → (s m : ℕ) → at' s m ≡ touched (ways v.space) v.numbers (with_mark (mark_of kind) on) at s m
+marked-as kind n v on ways at at' o e now s m =
+    at-some (λ u. (s m : ℕ) → at' s m ≡ touched (ways u.space) u.numbers (with_mark (mark_of kind) on) at s m) o (with_uses kind n v) e now s m
+    ∙ ap (λ p. touched (ways p) (with_uses kind n v).numbers (with_mark (mark_of kind) on) at s m) (space-kept kind n v)
+    ∙ ap (λ l. touched (ways v.space) l (with_mark (mark_of kind) on) at s m) (numbers-kept kind n v)
 
 -- a use that was counted
 pub used-with : (kind : Kind) (n : ℕ) (v : Identifier) → is_used_as kind (Some (with_uses kind n v)) ≡ not (n == 0)
@@ -189,41 +260,41 @@ get_mark Task o = refl
 get_mark Group o = refl
 get_mark Session o = refl
 
-module _ (pid_max : ℕ) (spaces : List Space) (idents : Table) (order : List (ℕ × ℕ)) (b : IsNumbering pid_max (way spaces) (entry_on spaces) (bound_on spaces) (name_at idents)) (kind : Kind) (s : ℕ) where
+module _ (pid_max : ℕ) (tree : Tree) (ids : List (Ids ℕ)) (idents : Table) (b : IsNumbering pid_max (way tree.nodes) (entry_on ids) (bound_on ids) (name_at idents)) (kind : Kind) (s : ℕ) where
   abbrev whole : Numbering
-  whole = numbering_of pid_max spaces idents order
+  whole = numbering_of pid_max tree ids idents
 
   -- a number with the mark of a kind is used so
-  marked_used : (n : ℕ) → is_marked (mark_of kind) (entry_on spaces s n) ≡ true → IsNumberUsedAs whole kind s n
-  marked_used n h = go (entry_on spaces s n) refl h
+  marked_used : (n : ℕ) → is_marked (mark_of kind) (entry_on ids s n) ≡ true → IsNumberUsedAs whole kind s n
+  marked_used n h = go (entry_on ids s n) refl h
     where
-      go : (o : Option (Entry ℕ)) → entry_on spaces s n ≡ o → is_marked (mark_of kind) o ≡ true → IsNumberUsedAs whole kind s n
+      go : (o : Option (Entry ℕ)) → entry_on ids s n ≡ o → is_marked (mark_of kind) o ≡ true → IsNumberUsedAs whole kind s n
       go None is h = absurd (cc)
       go (Some e) is h =
-          let led : leads (entry_on spaces) s n ≡ Some e.value = ap (option_map (λ e. e.value)) is in
+          let led : leads (entry_on ids) s n ≡ Some e.value = ap (option_map (λ e. e.value)) is in
           record {
             key = e.value;
-            has = one_found pid_max spaces idents order b s n e.value led;
-            used = ap (is_used_as kind) (name_is pid_max spaces idents order e.value) ∙ sym (ap (λ l. get_or l (mark_of kind) false) (b.marks s n e is) ∙ get_mark kind (name_at idents e.value)) ∙ h;
+            has = one_found pid_max tree ids idents b s n e.value led;
+            used = ap (is_used_as kind) (name_is pid_max tree ids idents e.value) ∙ sym (ap (λ l. get_or l (mark_of kind) false) (b.marks s n e is) ∙ get_mark kind (name_at idents e.value)) ∙ h;
           }
 
   -- and the other way round
-  used_marked : (n : ℕ) → IsNumberUsedAs whole kind s n → is_marked (mark_of kind) (entry_on spaces s n) ≡ true
+  used_marked : (n : ℕ) → IsNumberUsedAs whole kind s n → is_marked (mark_of kind) (entry_on ids s n) ≡ true
   used_marked n u =
-      let led : leads (entry_on spaces) s n ≡ Some u.key = b.tied.kept s n u.key (sym (number_is pid_max spaces idents order u.key s) ∙ u.has) in
-      let r = at_key (entry_on spaces s n) u.key led in
+      let led : leads (entry_on ids) s n ≡ Some u.key = b.tied.kept s n u.key (sym (number_is pid_max tree ids idents u.key s) ∙ u.has) in
+      let r = at_key (entry_on ids s n) u.key led in
       ap (is_marked (mark_of kind)) r.1 ∙ ap (λ l. get_or l (mark_of kind) false) (b.marks s n r.0 r.1) ∙ get_mark kind (name_at idents r.0.value)
-      ∙ ap (λ k. is_used_as kind (name_at idents k)) r.2 ∙ sym (ap (is_used_as kind) (name_is pid_max spaces idents order u.key)) ∙ u.used
+      ∙ ap (λ k. is_used_as kind (name_at idents k)) r.2 ∙ sym (ap (is_used_as kind) (name_is pid_max tree ids idents u.key)) ∙ u.used
 
   below_end : (n : ℕ) → IsNumberUsedAs whole kind s n → n < 16777216
   below_end n u =
-      let led : leads (entry_on spaces) s n ≡ Some u.key = b.tied.kept s n u.key (sym (number_is pid_max spaces idents order u.key s) ∙ u.has) in
+      let led : leads (entry_on ids) s n ≡ Some u.key = b.tied.kept s n u.key (sym (number_is pid_max tree ids idents u.key s) ∙ u.has) in
       let r = (b.range s n u.key led).1 in
       let g = b.good.1 in
       omega (arith, r, g)
 
   -- the least number with a mark is the least one that is used so
-  pub next_is : (from : ℕ) (r : Option ℕ) → IsLeastIndex (λ n. is_marked (mark_of kind) (entry_on spaces s n)) from 16777216 r → IsNextUsed whole kind s from r
+  pub next_is : (from : ℕ) (r : Option ℕ) → IsLeastIndex (λ n. is_marked (mark_of kind) (entry_on ids s n)) from 16777216 r → IsNextUsed whole kind s from r
   next_is from None none = λ m low u. (let e : true ≡ false = sym (used_marked m u) ∙ none m low (below_end m u) in cc)
   next_is from (Some n) least = (
     least.0,
@@ -234,22 +305,33 @@ module _ (pid_max : ℕ) (spaces : List Space) (idents : Table) (order : List (�
     ],
   )
 
--- what has fallen is seen in the namespaces
-pub fell-same : (a b : List Space) → namespaces_of a ≡ namespaces_of b → (s : ℕ) → fell a s ≡ fell b s
-fell-same a b same s = ap (λ o. option_map_or (λ t. t.fallen) o false) (sym (get_or-map_option namespace_of (slots a) s) ∙ ap (λ l. get_or l s None) same ∙ get_or-map_option namespace_of (slots b) s)
+-- a namespace with a key is that of the tree
+pub namespace_is : (pid_max : ℕ) (tree : Tree) (ids : List (Ids ℕ)) (idents : Table) (b : Numbering) → numbering_of pid_max tree ids idents ≡ b → (s : ℕ) → namespace_at b s ≡ option_map (namespace_of (cursor_on ids s)) (node_in tree.nodes s)
+namespace_is pid_max tree ids idents b view s = ap (λ z. namespace_at z s) (sym view) ∙ space_is pid_max tree ids idents s
 
--- and a cursor that moves changes none of it
-pub fell-moved : (path numbers : List ℕ) (s : ℕ) (o : Option Namespace) → option_map_or (λ t. t.fallen) (option_map (moved path numbers s) o) false ≡ option_map_or (λ t. t.fallen) o false
-fell-moved path numbers s None = refl
-fell-moved path numbers s (Some t) = refl
+-- one whose cursor moves is seen so
+pub seen-moved : (path numbers : List ℕ) (s cursor : ℕ) (o : Option Node) → option_map (namespace_of (stepped path numbers s cursor)) o ≡ option_map (moved path numbers s) (option_map (namespace_of cursor) o)
+seen-moved path numbers s cursor None = refl
+seen-moved path numbers s cursor (Some t) = refl
 
--- a namespace with a key is that of the slab
-pub namespace_is : (pid_max : ℕ) (spaces : List Space) (idents : Table) (order : List (ℕ × ℕ)) (b : Numbering) → numbering_of pid_max spaces idents order ≡ b → (s : ℕ) → namespace_at b s ≡ option_map namespace_of (slot spaces s)
-namespace_is pid_max spaces idents order b view s = ap (λ z. namespace_at z s) (sym view) ∙ get_or-map_option namespace_of (slots spaces) s
+-- its id, and whether it fell
+pub id_is : (pid_max : ℕ) (tree : Tree) (ids : List (Ids ℕ)) (idents : Table) (b : Numbering) → numbering_of pid_max tree ids idents ≡ b → (s : ℕ) → id_at b s ≡ id_in tree.nodes s
+id_is pid_max tree ids idents b view s = ap (option_map (λ t. t.id)) (namespace_is pid_max tree ids idents b view s) ∙ go (node_in tree.nodes s)
+  where
+    go : (o : Option Node) → option_map (λ t. t.id) (option_map (namespace_of (cursor_on ids s)) o) ≡ option_map (λ t. t.id) o
+    go None = refl
+    go (Some t) = refl
+
+pub fell_is : (pid_max : ℕ) (tree : Tree) (ids : List (Ids ℕ)) (idents : Table) (b : Numbering) → numbering_of pid_max tree ids idents ≡ b → (s : ℕ) → has_fallen_at b s ≡ fell tree.nodes s
+fell_is pid_max tree ids idents b view s = ap (λ o. option_map_or (λ t. t.fallen) o false) (namespace_is pid_max tree ids idents b view s) ∙ go (node_in tree.nodes s)
+  where
+    go : (o : Option Node) → option_map_or (λ t. t.fallen) (option_map (namespace_of (cursor_on ids s)) o) false ≡ option_map_or (λ t. t.fallen) o false
+    go None = refl
+    go (Some t) = refl
 
 -- and its path
-pub path-of : (pid_max : ℕ) (spaces : List Space) (idents : Table) (order : List (ℕ × ℕ)) (b : Numbering) → numbering_of pid_max spaces idents order ≡ b → (s : ℕ) → path_at b s ≡ way spaces s
-path-of pid_max spaces idents order b view s = ap (λ z. path_at z s) (sym view) ∙ path_is pid_max spaces idents order s
+pub path-of : (pid_max : ℕ) (tree : Tree) (ids : List (Ids ℕ)) (idents : Table) (b : Numbering) → numbering_of pid_max tree ids idents ≡ b → (s : ℕ) → path_at b s ≡ way tree.nodes s
+path-of pid_max tree ids idents b view s = ap (λ z. path_at z s) (sym view) ∙ path_is pid_max tree ids idents s
 
 -- the identifier whose namespace was found
 pub home : (o : Option Identifier) (own : ℕ) → Some own ≡ option_map (λ (u : Identifier). u.space) o → (u : Identifier) × (o ≡ Some u) × (u.space ≡ own)
@@ -257,9 +339,9 @@ home None own e = absurd (cc)
 home (Some u) own e = (u, refl, ap (λ o. unwrap_or o 0) (sym e))
 
 -- its numbers from a namespace inwards
-pub levels-of : (pid_max : ℕ) (spaces : List Space) (idents : Table) (order : List (ℕ × ℕ)) (b : Numbering) → numbering_of pid_max spaces idents order ≡ b → (i s own : ℕ) (u : Identifier) → name_at idents i ≡ Some u → u.space ≡ own
-    → levels_of b i s ≡ beside_from s (reverse (way spaces own)) (reverse u.numbers)
-levels-of pid_max spaces idents order b view i s own u is at =
+pub levels-of : (pid_max : ℕ) (tree : Tree) (ids : List (Ids ℕ)) (idents : Table) (b : Numbering) → numbering_of pid_max tree ids idents ≡ b → (i s own : ℕ) (u : Identifier) → name_at idents i ≡ Some u → u.space ≡ own
+    → levels_of b i s ≡ beside_from s (reverse (way tree.nodes own)) (reverse u.numbers)
+levels-of pid_max tree ids idents b view i s own u is at =
     ap (λ z. levels_of z i s) (sym view)
-    ∙ ap (λ o. option_map_or (λ v. beside_from s (reverse (path_at (numbering_of pid_max spaces idents order) v.space)) (reverse v.numbers)) o []) (name_is pid_max spaces idents order i ∙ is)
-    ∙ ap (λ p. beside_from s (reverse p) (reverse u.numbers)) (path_is pid_max spaces idents order u.space ∙ ap (way spaces) at)
+    ∙ ap (λ o. option_map_or (λ v. beside_from s (reverse (path_at (numbering_of pid_max tree ids idents) v.space)) (reverse v.numbers)) o []) (name_is pid_max tree ids idents i ∙ is)
+    ∙ ap (λ p. beside_from s (reverse p) (reverse u.numbers)) (path_is pid_max tree ids idents u.space ∙ ap (way tree.nodes) at)

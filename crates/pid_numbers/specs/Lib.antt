@@ -1,5 +1,4 @@
 pub mod Numbering
 pub mod Blocks
-pub mod Vacancy
 pub mod Table
 pub mod Slabs

@@ -25,7 +25,8 @@ pub record Identifier : Type 0 where
   pub groups : ℕ
   pub sessions : ℕ
 
--- the bound of all numbers, the key of the next identifier, the namespaces and the identifiers by key, and the namespaces in the order of their ids, each id with its key
+-- the bound of all numbers, the key of the next identifier, the namespaces and the identifiers by key, and the namespaces in the
+-- order of their ids, each id with its key
 pub record Numbering : Type 0 where
   pub pid_max : ℕ
   pub next : ℕ
@@ -85,13 +86,13 @@ is_dead b s t = t.fallen && (length (taken_in b s) == 0)
 abbrev pub swept_at : Numbering → ℕ → Option Namespace
 swept_at b s = option_and_then (λ t. if is_dead b s t then None else Some t) (namespace_at b s)
 
+-- the namespace with the key s, with its cursor at the number if its key is the first one
+abbrev pub cursor_put : ℕ → ℕ → ℕ → Namespace → Namespace
+cursor_put space cursor s t = record t { cursor = if s == space then cursor else t.cursor }
+
 -- the namespace, fallen if it is the other one or inside it
 abbrev pub fallen_within : ℕ → Namespace → Namespace
 fallen_within outer t = record t { fallen = t.fallen || contains t.path outer }
-
--- the namespace, fallen
-abbrev pub felled : Namespace → Namespace
-felled t = record t { fallen = true }
 
 -- a new namespace with this path
 abbrev pub new_namespace : ℕ → List ℕ → Namespace
@@ -162,4 +163,5 @@ IsNextUsed b kind s from result =
 -- why no namespace can be made inside the one with the key: it has the deepest level, or else a namespace has no number to give
 abbrev pub IsPlanFault : Numbering → ℕ → PlanFault → Type 0
 IsPlanFault b parent TooDeep = deepest_space < length (path_at b parent)
-IsPlanFault b parent (NoNumber s) = (length (path_at b parent) ≤ deepest_space) × (find (λ t. is_none (draw_in b t)) (path_at b parent) ≡ Some s)
+IsPlanFault b parent (NoNumber s) =
+    (length (path_at b parent) ≤ deepest_space) × (find (λ t. is_none (draw_in b t)) (path_at b parent) ≡ Some s)

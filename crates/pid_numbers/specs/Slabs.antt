@@ -1,81 +1,57 @@
--- The places of namespaces and those of identifiers, and what ties them.
-use Rattle.std.specs.Prelude.{◌≡◌, ◌⊎◌, ℕ, ◌+◌, ◌<◌, ◌≤◌, ◌==◌, ◌&&◌, Bool, true, false, List, [], ◌∷◌, length, map, Option, Some, None, option_map, option_and_then, if◌then◌else◌, slice_index_or}
+-- The numbers of each namespace, at the namespace's key, and the identifiers, and what ties them.
+use Rattle.std.specs.Prelude.{◌≡◌, ℕ, suc, ◌+◌, ◌<◌, ◌==◌, ◌&&◌, Bool, true, false, List, [], ◌∷◌, length, map, Option, Some, IsSome, option_map, option_and_then, if◌then◌else◌, slice_get, slice_index_or}
 use Rattle.std.specs.Option.{option_map_or, option_eq}
-use Rattle.std.specs.List.{AllByRecursion}
-use Rattle.id_slab.specs.Ids.{key_of}
 use Rattle.index_array.specs.Place.{Entry, entry_at, index_count, is_prepared, indexes}
-use Rattle.cyclic_ids.specs.Ids.{planned}
+use Rattle.cyclic_ids.specs.Ids.{Ids, planned}
 use Rattle.pid_types.specs.Chains.{contains}
 use Rattle.pid_types.specs.Names.{beside}
 use Rattle.pid_types.specs.Settings.{HasGoodPidMax}
 use Rattle.pid_types.specs.declared.call.Kind.{Kind}
 use Rattle.pid_types.specs.declared.call.Kind.TheVariants.{Task, Group, Session}
-use Rattle.pid_numbers.specs.declared.spaces.Space.{Space}
-use Rattle.pid_numbers.specs.Vacancy.{AreVacant}
+pub use Rattle.ns_tree.specs.Tree.{IsPath}
+use Rattle.ns_tree.specs.Tree.{Node, Tree, IsTree, AreListed, node_in, way, id_in, fell}
 use Rattle.pid_numbers.specs.Table.{Table, identifier_of, name_at}
 use Rattle.pid_numbers.specs.Numbering.{Namespace, Identifier, Numbering, number_in, is_used_as, is_used, HasOwnTask}
 
-abbrev pub namespace_of : Space → Namespace
-namespace_of s = record { id = s.id; fallen = s.fallen; path = s.path.items; cursor = s.ids.cursor }
+-- a namespace of the tree, with the cursor of its numbers
+abbrev pub namespace_of : ℕ → Node → Namespace
+namespace_of cursor t = record { id = t.id; fallen = t.fallen; path = t.path; cursor = cursor }
 
--- the namespace at a place, none where the place is vacant: then its path is empty
-abbrev pub shown : Space → Option Space
-shown s = if length s.path.items == 0 then None else Some s
+-- the namespaces by key, each with its cursor
+abbrev pub with_cursors : (ℕ → ℕ) → List (Option Node) → List (Option Namespace)
+with_cursors cursor [] = []
+with_cursors cursor (o ∷ nodes) = option_map (namespace_of (cursor 0)) o ∷ with_cursors (λ s. cursor (suc s)) nodes
 
--- the namespaces by key
-abbrev pub slots : List Space → List (Option Space)
-slots spaces = map shown spaces
+-- where the next draw in a namespace begins
+abbrev pub cursor_on : List (Ids ℕ) → ℕ → ℕ
+cursor_on ids s = option_map_or (λ t. t.cursor) (slice_get ids s) 0
 
--- the namespace with the key
-abbrev pub slot : List Space → ℕ → Option Space
-slot spaces s = slice_index_or (slots spaces) s None
-
-abbrev pub namespaces_of : List Space → List (Option Namespace)
-namespaces_of spaces = map (option_map namespace_of) (slots spaces)
-
-abbrev pub numbering_of : ℕ → List Space → Table → List (ℕ × ℕ) → Numbering
-numbering_of pid_max spaces idents order = record { pid_max = pid_max; next = idents.vacant_key; namespaces = namespaces_of spaces; names = map (option_map identifier_of) idents.slots; order = order }
-
-abbrev pub namespace_on : List Space → ℕ → Option Namespace
-namespace_on spaces s = option_map namespace_of (slot spaces s)
-
--- the path of a namespace, none where there is no such namespace
-abbrev pub way : List Space → ℕ → List ℕ
-way spaces s = option_map_or (λ t. t.path.items) (slot spaces s) []
+abbrev pub numbering_of : ℕ → Tree → List (Ids ℕ) → Table → Numbering
+numbering_of pid_max tree ids idents =
+    record {
+      pid_max = pid_max;
+      next = idents.vacant_key;
+      namespaces = with_cursors (cursor_on ids) tree.nodes;
+      names = map (option_map identifier_of) idents.slots;
+      order = tree.order;
+    }
 
 -- what stands at a number of a namespace
-abbrev pub entry_on : List Space → ℕ → ℕ → Option (Entry ℕ)
-entry_on spaces s n = option_and_then (λ t. entry_at t.ids.places n) (slot spaces s)
+abbrev pub entry_on : List (Ids ℕ) → ℕ → ℕ → Option (Entry ℕ)
+entry_on ids s n = option_and_then (λ t. entry_at t.places n) (slice_get ids s)
 
 -- the key that each number leads to
 abbrev pub leads : (ℕ → ℕ → Option (Entry ℕ)) → ℕ → ℕ → Option ℕ
 leads at s n = option_map (λ (e : Entry ℕ). e.value) (at s n)
 
-abbrev pub plan_on : List Space → ℕ → Option ℕ
-plan_on spaces s = option_and_then (λ t. planned t.ids) (slot spaces s)
+abbrev pub plan_on : List (Ids ℕ) → ℕ → Option ℕ
+plan_on ids s = option_and_then planned (slice_get ids s)
 
-abbrev pub bound_on : List Space → ℕ → Option ℕ
-bound_on spaces s = option_map (λ t. t.ids.pid_max) (slot spaces s)
+abbrev pub bound_on : List (Ids ℕ) → ℕ → Option ℕ
+bound_on ids s = option_map (λ t. t.pid_max) (slice_get ids s)
 
-abbrev pub ready : List Space → ℕ → ℕ → Bool
-ready spaces s n = option_map_or (λ t. is_prepared t.ids.places n) (slot spaces s) false
-
--- each namespace of the path is there, and what is around it is the rest of the path
-abbrev pub IsPath : (ℕ → List ℕ) → List ℕ → Type 0
-IsPath ways [] = Unit {0}
-IsPath ways (s ∷ ss) = (ways s ≡ s ∷ ss) × IsPath ways ss
-
--- the namespace's path, if it has one, begins with it
-abbrev pub IsHead : (ℕ → List ℕ) → ℕ → Type 0
-IsHead ways s = (ways s ≡ []) ⊎ ((rest : List ℕ) × (ways s ≡ s ∷ rest))
-
--- the paths are those of a tree below the namespace with key 0
-pub record IsTree (ways : ℕ → List ℕ) : Type 0 where
-  pub root : ways 0 ≡ 0 ∷ []
-  pub head : (s : ℕ) → IsHead ways s
-  pub paths : (s : ℕ) → IsPath ways (ways s)
-  pub few : (s : ℕ) → length (ways s) ≤ 33
-  pub ends : (s : ℕ) → 0 < length (ways s) → contains (ways s) 0 ≡ true
+abbrev pub ready : List (Ids ℕ) → ℕ → ℕ → Bool
+ready ids s n = option_map_or (λ t. is_prepared t.places n) (slice_get ids s) false
 
 -- numbers lead to names and names to numbers
 pub record IsTied (ways : ℕ → List ℕ) (names : ℕ → Option Identifier) (see : ℕ → ℕ → Option ℕ) : Type 0 where
@@ -105,17 +81,14 @@ abbrev pub AreInRange : ℕ → (ℕ → ℕ → Option ℕ) → Type 0
 AreInRange pid_max see = (s n i : ℕ) → see s n ≡ Some i → (0 < n) × (n < pid_max)
 
 -- the paths, the look-ups, the bounds and the identifiers agree
-pub record IsNumbering (pid_max : ℕ) (ways : ℕ → List ℕ) (at : ℕ → ℕ → Option (Entry ℕ)) (bound : ℕ → Option ℕ) (names : ℕ → Option Identifier) : Type 0 where
+pub record IsNumbering
+    (pid_max : ℕ) (ways : ℕ → List ℕ) (at : ℕ → ℕ → Option (Entry ℕ)) (bound : ℕ → Option ℕ) (names : ℕ → Option Identifier) : Type 0 where
   pub good : HasGoodPidMax pid_max
-  pub bounds : (s m : ℕ) → bound s ≡ Some m → (m ≡ pid_max) × (0 < length (ways s))
+  pub bounds : (s m : ℕ) → bound s ≡ Some m → m ≡ pid_max
   pub tree : IsTree ways
   pub tied : IsTied ways names (leads at)
   pub range : AreInRange pid_max (leads at)
   pub marks : AreMarked at names
-
--- whether the namespace is there and has fallen
-abbrev pub fell : List Space → ℕ → Bool
-fell spaces s = option_map_or (λ t. t.fallen) (namespace_on spaces s) false
 
 -- the root stands, what is in a fallen namespace has fallen, and each fallen namespace has a number in use
 pub record AreFallen (ways : ℕ → List ℕ) (at : ℕ → ℕ → Option (Entry ℕ)) (fell : ℕ → Bool) : Type 0 where
@@ -124,63 +97,63 @@ pub record AreFallen (ways : ℕ → List ℕ) (at : ℕ → ℕ → Option (Ent
   pub held : (s : ℕ) → fell s ≡ true → (n : ℕ) × (i : ℕ) × (leads at s n ≡ Some i)
 
 -- the numbers, and the namespaces that have fallen
-pub record IsWhole (pid_max : ℕ) (ways : ℕ → List ℕ) (at : ℕ → ℕ → Option (Entry ℕ)) (bound : ℕ → Option ℕ) (names : ℕ → Option Identifier) (fell : ℕ → Bool) : Type 0 where
+pub record IsWhole
+    (pid_max : ℕ) (ways : ℕ → List ℕ) (at : ℕ → ℕ → Option (Entry ℕ)) (bound : ℕ → Option ℕ) (names : ℕ → Option Identifier)
+    (fell : ℕ → Bool) : Type 0 where
   pub numbering : IsNumbering pid_max ways at bound names
   pub fallen : AreFallen ways at fell
 
--- the id of a namespace
-abbrev pub id_on : List Space → ℕ → Option ℕ
-id_on spaces s = option_map (λ t. t.id) (namespace_on spaces s)
-
--- the order has the id and the key of each namespace, and no others
-pub record AreListed (id : ℕ → Option ℕ) (order : List (ℕ × ℕ)) : Type 0 where
-  pub each : AllByRecursion (λ p. id p.1 ≡ Some p.0) order
-  pub listed : (s i : ℕ) → id s ≡ Some i → key_of order i ≡ Some s
-
--- all of that, the order, and the vacant places
-pub record IsKept (pid_max : ℕ) (spaces : List Space) (vacant : List ℕ) (room : ℕ) (idents : Table) (order : List (ℕ × ℕ)) : Type 0 where
-  pub whole : IsWhole pid_max (way spaces) (entry_on spaces) (bound_on spaces) (name_at idents) (fell spaces)
-  pub listed : AreListed (id_on spaces) order
-  pub places : AreVacant (slots spaces) vacant room
+-- all of that, the order, and numbers for each namespace
+pub record IsKept (pid_max : ℕ) (tree : Tree) (ids : List (Ids ℕ)) (idents : Table) : Type 0 where
+  pub whole : IsWhole pid_max (way tree.nodes) (entry_on ids) (bound_on ids) (name_at idents) (fell tree.nodes)
+  pub some : (s : ℕ) → IsSome (node_in tree.nodes s) → 0 < length (way tree.nodes s)
+  pub listed : AreListed (id_in tree.nodes) tree.order
+  pub count : length ids ≡ length tree.nodes
 
 -- the own namespace of an identifier
 abbrev pub home_at : Table → ℕ → Option ℕ
 home_at idents i = option_map (λ u. u.space) (name_at idents i)
 
 -- the numbers that tasks have in the namespace lead to each namespace inside that has not fallen
-pub record LeadsInside (spaces : List Space) (idents : Table) (outer : ℕ) : Type 0 where
-  pub tied : IsTied (way spaces) (name_at idents) (leads (entry_on spaces))
-  pub marks : AreMarked (entry_on spaces) (name_at idents)
-  pub range : (n i : ℕ) → leads (entry_on spaces) outer n ≡ Some i → n < index_count
-  pub homes : (s : ℕ) → contains (way spaces s) outer ≡ true → fell spaces s ≡ false → HasOwnTask (name_at idents) s
+pub record LeadsInside (nodes : List (Option Node)) (ids : List (Ids ℕ)) (idents : Table) (outer : ℕ) : Type 0 where
+  pub tied : IsTied (way nodes) (name_at idents) (leads (entry_on ids))
+  pub marks : AreMarked (entry_on ids) (name_at idents)
+  pub range : (n i : ℕ) → leads (entry_on ids) outer n ≡ Some i → n < index_count
+  pub homes : (s : ℕ) → contains (way nodes s) outer ≡ true → fell nodes s ≡ false → HasOwnTask (name_at idents) s
+
+-- whether no number in it is in use
+abbrev pub empty_on : List (Ids ℕ) → ℕ → Bool
+empty_on ids s = option_map_or (λ t. length (indexes t.places) == 0) (slice_get ids s) true
 
 -- whether it has fallen and no number in it is in use
-abbrev pub dead_on : List Space → ℕ → Bool
-dead_on spaces s = option_map_or (λ t. t.fallen && (length (indexes t.ids.places) == 0)) (slot spaces s) false
+abbrev pub dead_on : List (Option Node) → List (Ids ℕ) → ℕ → Bool
+dead_on nodes ids s = fell nodes s && empty_on ids s
 
--- whether it is one of the path that is dead
-abbrev pub goes : List ℕ → List Space → ℕ → Bool
-goes path spaces s = contains path s && dead_on spaces s
-
--- what is there once the dead ones of the path have gone
-abbrev pub left_on : List ℕ → List Space → ℕ → Option Space
-left_on path spaces s = if goes path spaces s then None else slot spaces s
+-- the dead ones are on a path, and all in one of them are dead
+pub record AreAround (nodes : List (Option Node)) (ids : List (Ids ℕ)) (path : List ℕ) : Type 0 where
+  pub on : (s : ℕ) → dead_on nodes ids s ≡ true → contains path s ≡ true
+  pub inside : (s outer : ℕ) → contains (way nodes s) outer ≡ true → dead_on nodes ids outer ≡ true → dead_on nodes ids s ≡ true
+  pub root : dead_on nodes ids 0 ≡ false
 
 -- what stands at each number, with a change at the numbers along the path
 abbrev pub touched : List ℕ → List ℕ → (Option (Entry ℕ) → Option (Entry ℕ)) → (ℕ → ℕ → Option (Entry ℕ)) → ℕ → ℕ → Option (Entry ℕ)
 touched path numbers change at s n = if option_eq ◌==◌ (beside s path numbers) (Some n) then change (at s n) else at s n
 
--- the namespace with its cursor behind the number
-abbrev pub stepped : ℕ → Namespace → Namespace
-stepped n t = record t { cursor = n + 1 }
+-- the cursor behind the number that its namespace gave, if it is on the path
+abbrev pub stepped : List ℕ → List ℕ → ℕ → ℕ → ℕ
+stepped path numbers s cursor = option_map_or (λ n. n + 1) (beside s path numbers) cursor
 
 -- what stands at a number that a task was given
 abbrev pub given_to : ℕ → Option (Entry ℕ)
 given_to key = Some (record { value = key; marks = true ∷ false ∷ false ∷ [] })
 
--- the numbers are those that the namespaces of the path give next
-abbrev pub ArePlanned : List Space → List ℕ → List ℕ → Type 0
-ArePlanned spaces path numbers = (k : ℕ) → k < length path → plan_on spaces (slice_index_or path k 0) ≡ Some (slice_index_or numbers k 0)
+-- each namespace of the path has numbers
+abbrev pub AreIn : List (Ids ℕ) → List ℕ → Type 0
+AreIn ids path = (k : ℕ) → k < length path → slice_index_or path k 0 < length ids
 
-abbrev pub AreReady : List Space → List ℕ → List ℕ → Type 0
-AreReady spaces path numbers = (k : ℕ) → k < length path → ready spaces (slice_index_or path k 0) (slice_index_or numbers k 0) ≡ true
+-- the numbers are those that the namespaces of the path give next
+abbrev pub ArePlanned : List (Ids ℕ) → List ℕ → List ℕ → Type 0
+ArePlanned ids path numbers = (k : ℕ) → k < length path → plan_on ids (slice_index_or path k 0) ≡ Some (slice_index_or numbers k 0)
+
+abbrev pub AreReady : List (Ids ℕ) → List ℕ → List ℕ → Type 0
+AreReady ids path numbers = (k : ℕ) → k < length path → ready ids (slice_index_or path k 0) (slice_index_or numbers k 0) ≡ true

@@ -2,7 +2,7 @@
 use Rattle.std.specs.Prelude.{◌≡◌, ◌≢◌, ℕ, ◌≤◌, ◌^◌, ◌==◌, ◌&&◌, ◌||◌, nat_lt, Bool, List, length, map, Option, Some, None, option_map, if◌then◌else◌, slice_index_or}
 use Rattle.pid_numbers.specs.declared.idents.Ident.{Ident}
 use Rattle.pid_numbers.specs.Numbering.{Identifier}
-use Rattle.pid_numbers.specs.Vacancy.{AreVacant, next_place as next_of}
+use Rattle.ns_tree.specs.Vacancy.{AreVacant, next_place as next_of}
 
 -- the identifier or none at each key, the key of the next one, and whether there is room for it
 pub record Table : Type 0 where
@@ -28,7 +28,8 @@ next_place = next_of
 
 -- whether one more fits: in a vacant place, or in a new one
 abbrev pub has_room : List Ident → ℕ → List ℕ → ℕ → Bool
-has_room places room vacant rooms = nat_lt 0 (length vacant) || (nat_lt (length places) room && (nat_lt (length places) rooms && nat_lt (length places) (2 ^ 30)))
+has_room places room vacant rooms =
+    nat_lt 0 (length vacant) || (nat_lt (length places) room && (nat_lt (length places) rooms && nat_lt (length places) (2 ^ 30)))
 
 pub record IsTable (places : List Ident) (vacant : List ℕ) (rooms : ℕ) : Type 0 where
   pub vacancies : AreVacant (map shown places) vacant rooms

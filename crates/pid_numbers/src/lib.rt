@@ -17,7 +17,7 @@ ghost use Rattle.id_slab.specs.Ids.{key_of, AreBelow, AreRising};
 ghost use Rattle.pid_numbers.specs.Numbering.{Identifier, is_there, id_at, namespace_at, identifier_at, number_of};
 ghost use Rattle.pid_numbers.specs.Numbering.{path_at, draw_in, moved, more, less, left_of, uses, is_used, is_used_as};
 ghost use Rattle.pid_numbers.specs.Numbering.{swept_at, new_namespace, new_identifier, levels_of, fallen_within};
-ghost use Rattle.pid_numbers.specs.Numbering.{taken_in, has_fallen_at, HasOwnTask, IsNextUsed, IsPlanFault};
+ghost use Rattle.pid_numbers.specs.Numbering.{taken_in, has_fallen_at, cursor_put, HasOwnTask, IsNextUsed, IsPlanFault};
 ghost use Rattle.pid_types.specs.Bounds.{deepest_space};
 ghost use Rattle.pid_types.specs.Chains.{contains};
 ghost use Rattle.std.specs.Option.{option_map_or};
@@ -33,18 +33,18 @@ mod spaces;
 use arrayvec::ArrayVec;
 use cyclic_ids::CyclicIds;
 use fall::fall_all;
-use id_slab::{Iter, RisingIds};
+use id_slab::Iter;
 use idents::{Ident, Idents};
 use levels::LevelNumbers;
 use names::{count_at, has_use, home_of, in_use, mark_numbers, number_at, write_numbers_inwards};
+use ns_tree::SpaceTree;
 use pid_types::call::Kind;
 use pid_types::keys::{IdentKey, Pid, SpaceKey};
 use pid_types::plain::{DEEPEST_SPACE, LEVELS, Name};
 pub use plan::PlanFault;
 use spaces::{
-    Space, add_space, cursor_at, first_ids, give_path, has_fallen, id_at, is_inside, key_at,
-    levels, look, next_at, path_below, plan_at, plan_path, prepare_path, release_path,
-    sweep_fallen,
+    first_ids, give_path, look, next_at, plan_at, plan_path, prepare_path, put_cursor, put_ids,
+    release_path, sweep,
 };
 use std::alloc::{AllocError, Global};
 use std::marker::Model;
@@ -52,11 +52,10 @@ use std::marker::Model;
 /// Identifiers with their numbers and uses, and the namespaces that the numbers are of.
 pub struct Numbers {
     alloc: Global,
-    spaces: Vec<Space>,
-    /// The keys of vacant places among the namespaces.
-    vacant: Vec<SpaceKey>,
+    tree: SpaceTree,
+    /// The numbers of each namespace, at its key.
+    ids: Vec<CyclicIds>,
     idents: Idents,
-    order: RisingIds,
     pid_max: u32,
 }
 
@@ -65,25 +64,23 @@ impl Drop for Numbers {
     fn drop(self) {
         let Numbers {
             alloc: _,
-            spaces: _,
-            vacant: _,
+            tree: _,
+            ids: _,
             idents: _,
-            order: _,
             pid_max: _,
         } = self;
     }
 }
 
 impl Model for Numbers {
-    ghost use Rattle.std.specs.Prelude.{vec_capacity};
     ghost use Rattle.pid_numbers.specs.Numbering.{Numbering};
     ghost use Rattle.pid_numbers.specs.Slabs.{numbering_of, IsKept};
 
     ghost Value = { Numbering };
 
-    ghost view = { λ a. numbering_of a.pid_max a.spaces.items a.idents a.order };
+    ghost view = { λ a. numbering_of a.pid_max a.tree a.ids.items a.idents };
 
-    ghost invariant = { λ a. IsKept a.pid_max a.spaces.items a.vacant.items (vec_capacity a.vacant) a.idents a.order };
+    ghost invariant = { λ a. IsKept a.pid_max a.tree a.ids.items a.idents };
 }
 
 impl Numbers {
@@ -97,24 +94,15 @@ impl Numbers {
         ensures names { IfOk result (λ r. (i : ℕ) → identifier_at r i ≡ None) }
         ensures order { IfOk result (λ r. r.order ≡ (0, 0) ∷ []) }
     {
-        let mut order = RisingIds::new(alloc);
-        order.push(0, 0)?;
-        let mut spaces = Vec::with_capacity(alloc, 1)?;
-        let vacant = Vec::with_capacity(alloc, 1)?;
-        let mut path = ArrayVec::<SpaceKey, LEVELS>::new();
-        path.push(0);
-        spaces.push_reserved(Space {
-            id: 0,
-            fallen: false,
-            path,
-            ids: CyclicIds::new(alloc, pid_max),
-        });
+        let tree = SpaceTree::new(alloc)?;
+        tree.laws();
+        let mut ids = Vec::with_capacity(alloc, 1)?;
+        ids.push_reserved(CyclicIds::new(alloc, pid_max));
         Ok(Numbers {
             alloc,
-            spaces,
-            vacant,
+            tree,
+            ids,
             idents: Idents::new(alloc),
-            order,
             pid_max,
         })
     }
@@ -138,7 +126,7 @@ impl Numbers {
         ensures { MatchOption result ((i : ℕ) → number_of self.now i space ≢ Some n)
             (λ i. number_of self.now i space ≡ Some n) }
     {
-        look(&self.spaces, space, n)
+        look(&self.ids, space, n)
     }
 
     /// What is true of all identifiers and namespaces at any time; the call does nothing. No number of a
@@ -170,14 +158,14 @@ impl Numbers {
         ensures each { AllByRecursion (λ p. id_at self.now p.1 ≡ Some p.0) self.now.order }
         ensures rising { AreRising self.now.order }
     {
-        let _ = self.order.iter();
+        self.tree.laws();
     }
 
     /// The namespaces in the order of their ids, each id with its key.
     pub fn keys(&self) -> Iter<'_>
         ensures { result ≡ self.now.order }
     {
-        self.order.iter()
+        self.tree.keys()
     }
 
     /// Whether an id may be that of the next namespace: it is above those of all that are there. It costs one read,
@@ -185,35 +173,51 @@ impl Numbers {
     pub fn is_next_id(&self, id: u64) -> bool
         ensures { IsTrue result → AreBelow self.now.order id }
     {
-        self.order.is_above(id)
+        self.tree.is_next_id(id)
     }
 
     /// The key of the namespace with an id. It costs a logarithm of the namespaces.
     pub fn find_space(&self, id: u64) -> Option<SpaceKey>
         ensures { MatchOption result ((s : ℕ) → id_at self.now s ≢ Some id) (λ s. id_at self.now s ≡ Some id) }
     {
-        self.order.find(id)
+        self.tree.find(id)
     }
 
     /// The id of the namespace.
     pub fn id(&self, space: SpaceKey) -> Option<u64>
         ensures { result ≡ option_map (λ t. t.id) (namespace_at self.now space) }
     {
-        id_at(&self.spaces, space)
+        self.tree.id(space)
     }
 
     /// Where the next draw in the namespace begins.
     pub fn cursor(&self, space: SpaceKey) -> Option<Pid>
         ensures { result ≡ option_map (λ t. t.cursor) (namespace_at self.now space) }
     {
-        cursor_at(&self.spaces, space)
+        if !self.tree.is_there(space) {
+            return None;
+        }
+        Some(self.ids[space as usize].cursor())
+    }
+
+    /// The next draw in the namespace begins at the number, whatever was drawn last: a table that was saved has its
+    /// cursors again. It costs one write.
+    pub fn put_cursor(&mut self, space: SpaceKey, cursor: Pid)
+        requires { IsSome (namespace_at self.old space) }
+        ensures names { self.new.names ≡ self.old.names }
+        ensures order { self.new.order ≡ self.old.order }
+        ensures namespaces { (s : ℕ) → namespace_at self.new s
+            ≡ option_map (cursor_put space cursor s) (namespace_at self.old s) }
+        ensures pid_max { self.new.pid_max ≡ self.old.pid_max }
+    {
+        put_cursor(&mut self.ids, space, cursor);
     }
 
     /// Whether the namespace is there and has fallen.
     pub fn is_fallen(&self, space: SpaceKey) -> bool
         ensures { result ≡ has_fallen_at self.now space }
     {
-        has_fallen(&self.spaces, space)
+        self.tree.is_fallen(space)
     }
 
     /// How many namespaces are around the one with the key: 0 for the root.
@@ -221,14 +225,14 @@ impl Numbers {
         requires { IsSome (namespace_at self.now space) }
         ensures { result + 1 ≡ length (path_at self.now space) }
     {
-        levels(&self.spaces, space) - 1
+        self.tree.levels(space) - 1
     }
 
     /// Whether the first namespace is the second one or inside it.
     pub fn is_within(&self, space: SpaceKey, outer: SpaceKey) -> bool
         ensures { result ≡ contains (path_at self.now space) outer }
     {
-        is_inside(&self.spaces, space, outer)
+        self.tree.is_within(space, outer)
     }
 
     /// The namespace that the one with the key is in; none for the root.
@@ -236,11 +240,7 @@ impl Numbers {
         ensures { result ≡ if nat_lt 1 (length (path_at self.now space)) then Some
             (slice_index_or (path_at self.now space) 1 0) else None }
     {
-        if levels(&self.spaces, space) > 1 {
-            Some(key_at(&self.spaces, space, 1))
-        } else {
-            None
-        }
+        self.tree.parent(space)
     }
 
     /// The namespace of the identifier.
@@ -270,10 +270,10 @@ impl Numbers {
         ensures { result ≡ number_of self.now ident space }
     {
         let own = home_of(&self.idents, ident)?;
-        if !is_inside(&self.spaces, own, space) {
+        if !self.tree.is_within(own, space) {
             return None;
         }
-        let place = levels(&self.spaces, own) - levels(&self.spaces, space);
+        let place = self.tree.levels(own) - self.tree.levels(space);
         number_at(&self.idents, ident, place)
     }
 
@@ -285,10 +285,10 @@ impl Numbers {
         let Some(own) = home_of(&self.idents, ident) else {
             return ArrayVec::new();
         };
-        if !is_inside(&self.spaces, own, space) {
+        if !self.tree.is_within(own, space) {
             return ArrayVec::new();
         }
-        let above = levels(&self.spaces, own) - levels(&self.spaces, space);
+        let above = self.tree.levels(own) - self.tree.levels(space);
         let mut numbers = ArrayVec::new();
         write_numbers_inwards(&self.idents, ident, above + 1, &mut numbers);
         numbers
@@ -305,11 +305,11 @@ impl Numbers {
         let Some(own) = home_of(&self.idents, ident) else {
             unreachable!()
         };
-        let Some(space) = id_at(&self.spaces, own) else {
+        let Some(space) = self.tree.id(own) else {
             unreachable!()
         };
         name.space = space;
-        let levels = levels(&self.spaces, own);
+        let levels = self.tree.levels(own);
         write_numbers_inwards(&self.idents, ident, levels, &mut name.numbers);
     }
 
@@ -318,7 +318,7 @@ impl Numbers {
     pub fn next_used(&self, space: SpaceKey, kind: Kind, from: Pid) -> Option<Pid>
         ensures { IsNextUsed self.now kind space from result }
     {
-        next_at(&self.spaces, space, kind, from)
+        next_at(&self.ids, space, kind, from)
     }
 
     /// Writes the numbers that the namespace and those around it give next over others, innermost first, or
@@ -334,7 +334,7 @@ impl Numbers {
         ensures err { IfErr result (λ s. find (λ s. is_none (draw_in self.now s)) (path_at self.now space) ≡ Some s) }
     {
         numbers.clear();
-        plan_path(&self.spaces, space, numbers)
+        plan_path(&self.ids, self.tree.path_up(space), numbers)
     }
 
     /// The numbers of [`plan_into`](Numbers::plan_into) in a list of their own, of 33 places.
@@ -356,7 +356,10 @@ impl Numbers {
     pub fn plan_one(&self, space: SpaceKey) -> Option<Pid>
         ensures { result ≡ draw_in self.now space }
     {
-        plan_at(&self.spaces, space)
+        if !self.tree.is_there(space) {
+            return None;
+        }
+        plan_at(&self.ids, space)
     }
 
     /// Takes the memory for one identifier, and answers the key that the next one will have, which is below
@@ -388,8 +391,9 @@ impl Numbers {
     {
         let key = self.idents.make_room()?;
         let stored = LevelNumbers::from(self.alloc, numbers)?;
-        prepare_path(&mut self.spaces, space, numbers)?;
-        give_path(&mut self.spaces, space, numbers, key);
+        let path = self.tree.path_up(space);
+        prepare_path(&mut self.ids, path, numbers)?;
+        give_path(&mut self.ids, path, numbers, key);
         self.idents.insert_reserved(Ident {
             numbers: stored,
             space,
@@ -416,12 +420,12 @@ impl Numbers {
             × (numbers.new.items ≡ 1 ∷ map (λ s. unwrap_or (draw_in self.now s) 0) (path_at self.now parent))) }
         ensures err { IfErr result (λ fault. IsPlanFault self.now parent fault) }
     {
-        if levels(&self.spaces, parent) > DEEPEST_SPACE {
+        if self.tree.levels(parent) > DEEPEST_SPACE {
             return Err(PlanFault::TooDeep);
         }
         numbers.clear();
         numbers.push(1);
-        match plan_path(&self.spaces, parent, numbers) {
+        match plan_path(&self.ids, self.tree.path_up(parent), numbers) {
             Ok(()) => Ok(()),
             Err(space) => Err(PlanFault::NoNumber(space)),
         }
@@ -474,16 +478,12 @@ impl Numbers {
         let stored = LevelNumbers::from(self.alloc, numbers)?;
         let ids = first_ids(self.alloc, self.pid_max, ident)?;
         let around = &numbers[1..];
-        prepare_path(&mut self.spaces, parent, around)?;
-        let key = add_space(
-            &mut self.spaces,
-            &mut self.vacant,
-            &mut self.order,
-            parent,
-            id,
-            ids,
-        )?;
-        give_path(&mut self.spaces, parent, around, ident);
+        prepare_path(&mut self.ids, self.tree.path_up(parent), around)?;
+        self.ids.try_reserve(1)?;
+        let key = self.tree.add(parent, id)?;
+        self.tree.laws();
+        put_ids(&mut self.ids, key, ids);
+        give_path(&mut self.ids, self.tree.path_up(parent), around, ident);
         self.idents.insert_reserved(Ident {
             numbers: stored,
             space: key,
@@ -506,7 +506,8 @@ impl Numbers {
         ensures order { self.new.order ≡ self.old.order }
         ensures pid_max { self.new.pid_max ≡ self.old.pid_max }
     {
-        fall_all(&mut self.spaces, &self.idents, &self.order, space);
+        fall_all(&mut self.tree, &self.ids, &self.idents, space);
+        self.tree.laws();
     }
 
     /// One use more. The first of its kind costs a step for each level.
@@ -526,7 +527,7 @@ impl Numbers {
         if had {
             return;
         }
-        mark_numbers(&mut self.spaces, &self.idents, ident, kind, true);
+        mark_numbers(&self.tree, &mut self.ids, &self.idents, ident, kind, true);
     }
 
     /// One use less. With the last use the identifier goes, and its numbers are free; a namespace that
@@ -548,16 +549,12 @@ impl Numbers {
             return;
         }
         if in_use(&self.idents, ident) {
-            mark_numbers(&mut self.spaces, &self.idents, ident, kind, false);
+            mark_numbers(&self.tree, &mut self.ids, &self.idents, ident, kind, false);
             return;
         }
         let gone = self.idents.remove(ident);
-        release_path(&mut self.spaces, gone.space, gone.numbers.as_slice());
-        sweep_fallen(
-            &mut self.spaces,
-            &mut self.vacant,
-            &mut self.order,
-            gone.space,
-        );
+        let path = self.tree.path_up(gone.space);
+        release_path(&mut self.ids, path, gone.numbers.as_slice());
+        sweep(&mut self.tree, &self.ids, gone.space);
     }
 }

@@ -5,17 +5,20 @@ ghost use Rattle.std.specs.Prelude.{length, option_map, slice_index_or};
 ghost use Rattle.std.specs.Option.{option_map_or};
 ghost use Rattle.pid_types.specs.Bounds.{deepest_space};
 ghost use Rattle.pid_numbers.specs.Numbering.{Identifier, uses, less, more, is_used, is_used_as};
-ghost use Rattle.pid_numbers.specs.Slabs.{way, entry_on, touched, mark_of, namespaces_of};
+ghost use Rattle.ns_tree.specs.Tree.{way};
+ghost use Rattle.pid_numbers.specs.Slabs.{entry_on, touched, mark_of, cursor_on};
 ghost use Rattle.pid_numbers.specs.Table.{identifier_of, name_at};
-ghost use Rattle.pid_numbers.specs.Slabs.{bound_on, IsPath};
-ghost use Rattle.pid_numbers.specs.Vacancy.{IsDistinct};
+ghost use Rattle.pid_numbers.specs.Slabs.{bound_on, AreIn};
+ghost use Rattle.ns_tree.specs.Vacancy.{IsDistinct};
 ghost use Rattle.index_array.specs.Place.{with_mark};
 ghost use Rattle.pid_types.specs.declared.call.Kind.{Kind};
 
 use crate::idents::{Idents, count};
 use crate::levels::write_inwards;
-use crate::spaces::{Space, mark_path};
+use crate::spaces::mark_path;
 use arrayvec::ArrayVec;
+use cyclic_ids::CyclicIds;
+use ns_tree::SpaceTree;
 use pid_types::call::Kind;
 use pid_types::keys::{IdentKey, Pid, SpaceKey};
 use pid_types::plain::LEVELS;
@@ -91,24 +94,25 @@ pub(crate) fn in_use(idents: &Idents, ident: IdentKey) -> bool
 
 /// Gives the numbers of an identifier the mark of a kind, or takes it away.
 pub(crate) fn mark_numbers(
-    spaces: &mut Vec<Space>,
+    tree: &SpaceTree,
+    ids: &mut Vec<CyclicIds>,
     idents: &Idents,
     ident: IdentKey,
     kind: Kind,
     on: bool,
 )
-    requires path { (s : ℕ) → IsPath (way spaces.old.items) (way spaces.old.items s) }
-    requires distinct { (s : ℕ) → IsDistinct (way spaces.old.items s) }
-    requires full { IfSome (name_at idents.now ident) (λ u. length u.numbers ≡ length (way spaces.old.items u.space)) }
+    requires there { (s : ℕ) → AreIn ids.old.items (way tree.now.nodes s) }
+    requires distinct { (s : ℕ) → IsDistinct (way tree.now.nodes s) }
+    requires full { IfSome (name_at idents.now ident) (λ u. length u.numbers ≡ length (way tree.now.nodes u.space)) }
     ensures entries { IfSome (name_at idents.now ident) (λ u. (s n : ℕ)
-        → entry_on spaces.new.items s n ≡ touched (way spaces.old.items u.space) u.numbers
-        (with_mark (mark_of kind) on) (entry_on spaces.old.items) s n) }
-    ensures way { (s : ℕ) → way spaces.new.items s ≡ way spaces.old.items s }
-    ensures namespaces { namespaces_of spaces.new.items ≡ namespaces_of spaces.old.items }
-    ensures bound { (s : ℕ) → bound_on spaces.new.items s ≡ bound_on spaces.old.items s }
+        → entry_on ids.new.items s n ≡ touched (way tree.now.nodes u.space) u.numbers
+        (with_mark (mark_of kind) on) (entry_on ids.old.items) s n) }
+    ensures cursors { (s : ℕ) → cursor_on ids.new.items s ≡ cursor_on ids.old.items s }
+    ensures bound { (s : ℕ) → bound_on ids.new.items s ≡ bound_on ids.old.items s }
+    ensures count { length ids.new.items ≡ length ids.old.items }
 {
     let Some(x) = idents.get(ident) else {
         return;
     };
-    mark_path(spaces, x.space, x.numbers.as_slice(), kind, on);
+    mark_path(ids, tree.path_up(x.space), x.numbers.as_slice(), kind, on);
 }

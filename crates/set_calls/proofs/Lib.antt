@@ -7,3 +7,4 @@ pub mod Asked
 pub mod Regrouped
 pub mod Led
 pub mod Enlisted
+pub mod Cursors

@@ -1,7 +1,7 @@
 //! Changes that make a saved table again, beside the calls. No system call makes them.
 
 ghost use Rattle.std.specs.Prelude.{◌≡◌, Some};
-ghost use Rattle.pid_types.specs.Restore.{enlisted, may_enlist};
+ghost use Rattle.pid_types.specs.Restore.{enlisted, may_enlist, with_cursor};
 ghost use Rattle.task_tree.specs.Tree.{task_at};
 ghost use Rattle.task_table.specs.View.{row_of, state_of};
 ghost use Rattle.task_table.specs.Whole.{IsWhole, HasParents};
@@ -49,5 +49,21 @@ pub fn enlist(store: &mut Tasks, task: Pid, leader: Pid)
     }
     let session = store.members().session(chief.key);
     store.move_to(found.key, chief.key, session);
+    laws(store);
+}
+
+/// The next draw in the namespace with the id begins at the number. Nothing changes where there is no such namespace.
+/// It costs a logarithm of the namespaces, and takes no memory.
+#[tactic(auto, unfolding(pid_types::specs::Restore::with_cursor))]
+pub fn put_cursor(store: &mut Tasks, id: u64, cursor: Pid)
+    requires { IsWhole store.old }
+    ensures state { state_of store.new ≡ with_cursor (state_of store.old) id cursor }
+    ensures parents { HasParents store.new }
+{
+    laws(store);
+    let Some(space) = store.numbers().find_space(id) else {
+        return;
+    };
+    store.put_cursor(space, cursor);
     laws(store);
 }

@@ -75,10 +75,6 @@ no_life text a b c same_b same_c live killed exit Live rest held stops is = live
 no_life text a b c same_b same_c live killed exit (Zombie (Exited n)) rest held stops is = exit n rest held stops (sym same_c ∙ is)
 no_life text a b c same_b same_c live killed exit (Zombie Killed) rest held stops is = killed rest (sym same_b ∙ is)
 
--- no status of 64 bits, none of 8
-pub no_status : (text label : List ℕ) (at : ℕ) → LacksField (2 ^ 64) label text at → LacksField (2 ^ 8) label text at
-no_status text label at lacks n rest below stops is = lacks n rest (omega (arith, below)) stops is
-
 -- another status stands there, which is none of 8 bits
 pub large_status : (text label : List ℕ) (a b m : ℕ) → a ≤ length text → b ≤ length text → IsRead text a b (field label m) → IsWord m → Stops (drop b text)
     → 2 ^ 8 ≤ m → LacksField (2 ^ 8) label text a
@@ -90,10 +86,6 @@ large_status text label a b m within_a within_b read word stops large n rest bel
 settings_flat : (m n : ℕ) (x : List ℕ) → settings_text m n ++ x ≡ codes " pid-max " ++ (decimal m ++ (codes " stamp " ++ (decimal n ++ x)))
 unfolding settings_text
 settings_flat m n x = simp append_assoc
-
-pub no_bound : (text : List ℕ) (at : ℕ) → LacksField (2 ^ 32) (codes " pid-max ") text at → LacksSettings settings_text text at
-no_bound text at lacks m n rest small word stops is =
-    no_field (2 ^ 32) text (codes " pid-max ") at m _ lacks small (inl (lit< tt)) (is ∙ settings_flat m n rest)
 
 pub no_stamp : (text : List ℕ) (a b k : ℕ) → a ≤ length text → b ≤ length text → IsRead text a b (field (codes " pid-max ") k) → IsWord k → Stops (drop b text)
     → LacksField (2 ^ 64) (codes " stamp ") text b → LacksSettings settings_text text a
@@ -108,9 +100,6 @@ module _ (text : List ℕ) (s : Space) (held : IsHeldSpace s) (x : List ℕ) (a0
 
   abbrev behind_parent : List ℕ
   behind_parent = codes " cursor " ++ (decimal s.cursor ++ behind_cursor)
-
-  pub no_space_id : LacksField (2 ^ 64) (codes "space ") text a0 → ⊥
-  no_space_id lacks = no_field (2 ^ 64) text (codes "space ") a0 s.id _ lacks held.id (inl (lit< tt)) (is ∙ space_flat s x)
 
   module _ (a1 id : ℕ) (within_id : a1 ≤ length text) (read_id : IsRead text a0 a1 (field (codes "space ") id)) (word_id : IsWord id) (stops_id : Stops (drop a1 text)) where
     at_parent : drop a1 text ≡ codes " parent " ++ (parent_text s.parent ++ behind_parent)
@@ -141,9 +130,6 @@ module _ (text : List ℕ) (s : Space) (held : IsHeldSpace s) (x : List ℕ) (a0
 module _ (text : List ℕ) (g : Control) (held : IsHeldControl g) (x : List ℕ) (a0 : ℕ) (within : a0 ≤ length text) (is : drop a0 text ≡ control_line g ++ x) where
   abbrev behind_outer : List ℕ
   behind_outer = codes " limit " ++ (limit_text g.limit ++ 10 ∷ x)
-
-  pub no_control_id : LacksField (2 ^ 64) (codes "control ") text a0 → ⊥
-  no_control_id lacks = no_field (2 ^ 64) text (codes "control ") a0 g.id _ lacks held.id (inl (lit< tt)) (is ∙ control_flat g x)
 
   module _ (a1 id : ℕ) (within_id : a1 ≤ length text) (read_id : IsRead text a0 a1 (field (codes "control ") id)) (word_id : IsWord id) (stops_id : Stops (drop a1 text)) where
     at_outer : drop a1 text ≡ codes " parent " ++ (parent_text g.parent ++ behind_outer)

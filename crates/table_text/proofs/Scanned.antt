@@ -1,5 +1,5 @@
 -- What is read of a text, from one place to another.
-use Rattle.std.proofs.Common.{◌≡◌, ℕ, ◌+◌, ◌-◌, ◌^◌, ◌<◌, ◌≤◌, Bool, true, false, eqb, List, [], ◌∷◌, ◌++◌, length, take, drop, Option, Some, decimal, codes, refl, sym, ap, ◌∙◌, subst, arith, take_all, take-add, length-drop, append_assoc, bytes_eq, length-append, length-take-le, take-append-drop, append-nil, Result, Ok, Err, take_at, true≢false, suc, None, get_or, get_or-drop, take-suc, drop-cons, drop_of_length-le, drop-drop, OkIff}
+use Rattle.std.proofs.Common.{◌≡◌, ℕ, ◌+◌, ◌-◌, ◌^◌, ◌<◌, ◌≤◌, Bool, true, false, eqb, List, [], ◌∷◌, ◌++◌, length, take, drop, Option, Some, decimal, codes, refl, sym, ap, ◌∙◌, subst, arith, take_all, take-add, length-drop, append_assoc, bytes_eq, length-append, length-take-le, take-append-drop, append-nil, Result, Ok, Err, take_at, true≢false, suc, None, get_or, get_or-drop, take-suc, drop-drop, OkIff}
 use Rattle.std.specs.Prelude.{if◌then◌else◌}
 use Rattle.std.specs.Result.{is_ok, is_err, result_ok}
 use Rattle.std.specs.List.{starts_with, flat_map}
@@ -17,7 +17,7 @@ use Rattle.pid_script.specs.Lists.{field, marked, life_text}
 use Rattle.table_text.specs.Texts.{name_word, parent_word, names_text, places_text, marks_text, task_line, end_line}
 use Rattle.pid_script.specs.Reading.{number_below}
 use Rattle.pid_script.proofs.Numbers.{number_below-Some, number_below-decimal}
-use Rattle.table_text.specs.Reading.{IsRead, IsOther, Stops, Lacks, LacksField, LacksNumber, LacksAny}
+use Rattle.table_text.specs.Reading.{IsRead, Stops, Lacks, LacksField, LacksNumber, LacksAny}
 use Rattle.table_text.specs.Ranges.{IsWord}
 use Rattle.table_text.proofs.Fronts.{numerals, digits_told, number_told}
 
@@ -129,10 +129,6 @@ digits_and_one : (ds : List ℕ) (d : ℕ) → AllDigits 10 ds → digit_value d
 digits_and_one [] d all one = (one, tt)
 digits_and_one (e ∷ ds) d all one = (all.0, digits_and_one ds d all.1 one)
 
--- no digit has been passed at the start
-pub digits_none : (text : List ℕ) (at : ℕ) → AllDigits 10 (take (at - at) (drop at text))
-digits_none text at = let none : at - at ≡ 0 = omega arith in rw none tt
-
 -- one digit more
 pub digits_more : (text : List ℕ) (at index : ℕ) → at ≤ index → index < length text → AllDigits 10 (take (index - at) (drop at text))
     → digit_value (get_or text index 0) < 10 → AllDigits 10 (take (index + 1 - at) (drop at text))
@@ -145,14 +141,6 @@ digits_more text at index from within all one =
     let parts = take-suc (drop at text) (index - at) 0 lt in
     subst (λ k. AllDigits 10 (take k (drop at text))) further
     (subst (AllDigits 10) (sym parts) (digits_and_one _ _ all (subst (λ b. digit_value b < 10) (sym same) one)))
-
--- the text stops at a byte that is no digit
-pub stops_here : (text : List ℕ) (index : ℕ) → index < length text → IsOther (get_or text index 0) → Stops (drop index text)
-stops_here text index within other = subst Stops (sym (drop-cons text index 0 within)) other
-
--- and at its end
-pub stops_at_end : (text : List ℕ) → Stops (drop (length text) text)
-stops_at_end text = subst Stops (sym (drop_of_length-le text (omega arith))) tt
 
 -- a number that does not stand there
 pub number_missing : (text : List ℕ) (at end : ℕ) → AllDigits 10 (take (end - at) (drop at text)) → at ≤ end → Stops (drop end text)
@@ -196,10 +184,6 @@ pub no_number_behind : (bound : ℕ) (text label : List ℕ) (a b : ℕ) → a �
     → LacksNumber bound text b → LacksField bound label text a
 no_number_behind bound text label a b within_a within_b read lacks n rest below stops is =
     lacks n rest below stops (behind_word text a b label (decimal n) rest within_a within_b read is)
-
--- a number that is not below 2^64 is not below 2^32
-pub fewer_missing : (text : List ℕ) (at : ℕ) → LacksNumber (2 ^ 64) text at → LacksNumber (2 ^ 32) text at
-fewer_missing text at lacks n rest below stops is = lacks n rest (omega arith) stops is
 
 -- another number stands there, which is not below 2^32
 pub small_missing : (text : List ℕ) (a b m : ℕ) → a ≤ length text → b ≤ length text → IsRead text a b (decimal m) → IsWord m → Stops (drop b text)

@@ -10,7 +10,7 @@ use Rattle.pid_types.specs.State.{State}
 use Rattle.pid_script.specs.Lists.{space_line}
 use Rattle.table_text.specs.Texts.{task_line, control_line, head_line, said, end_line, text_of}
 use Rattle.table_text.specs.Ranges.{IsWord, Each, IsRowOfWords, IsSpaceOfWords, IsControlOfWords}
-use Rattle.table_text.specs.Reading.{IsRead, Lacks, LacksLine, LacksLines, LacksHead, IsNotAt, IsHeldRow, IsHeldSpace, IsHeldControl, IsHeldState}
+use Rattle.table_text.specs.Reading.{IsRead, Lacks, LacksLine, LacksLines, IsNotAt, IsHeldRow, IsHeldSpace, IsHeldControl, IsHeldState}
 use Rattle.table_text.proofs.Lines.{BeginsWith, lines_left, task_told, space_told, control_told, head_told, task_begins, space_begins, control_begins, not_at}
 use Rattle.table_text.proofs.Told.{text_flat, end_front, controls_front, spaces_front}
 use Rattle.table_text.proofs.Scanned.{dropped}
@@ -78,9 +78,6 @@ module _ (text : List ℕ) (stamp : ℕ) (state : State) (word : IsWord stamp) (
 
   at_head : drop 0 text ≡ head_line state.pid_max stamp ++ behind_head
   at_head = is ∙ text_flat stamp state
-
-  pub no_text_head : LacksHead head_line text 0 → ⊥
-  no_text_head lacks = lacks state.pid_max stamp behind_head held.pid_max word at_head
 
   not_task : IsNotAt 116 behind_tasks
   not_task = not_at 116 behind_tasks (spaces_front state.controls whole state.spaces)

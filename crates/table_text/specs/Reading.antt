@@ -62,7 +62,7 @@ abbrev pub LacksHead : (ℕ → ℕ → List ℕ) → List ℕ → ℕ → Type 
 LacksHead line text at =
     (pid_max stamp : ℕ) (rest : List ℕ) → IsSmall pid_max → IsWord stamp → drop at text ≡ line pid_max stamp ++ rest → ⊥
 
--- the numbers of an identifier, as its type holds them: one for each level, and 33 levels at most
+-- the numbers of an identifier: one for each of its 1 to 33 levels, and each as its type holds it
 pub record AreHeldNumbers (numbers : List ℕ) : Type 0 where
   pub some : 0 < length numbers
   pub levels : length numbers ≤ 33
@@ -72,7 +72,7 @@ pub record AreHeldNumbers (numbers : List ℕ) : Type 0 where
 abbrev pub LacksNumbers : List ℕ → ℕ → Type 0
 LacksNumbers text at = (numbers rest : List ℕ) → AreHeldNumbers numbers → drop at text ≡ joined 44 numbers ++ 64 ∷ rest → ⊥
 
--- an identifier, as its type holds it
+-- an identifier with such numbers, and its namespace as its type holds it
 pub record IsHeldName (name : Name) : Type 0 where
   pub numbers : AreHeldNumbers name.numbers.items
   pub space : IsWord name.space
@@ -89,7 +89,7 @@ StopsBehind Live rest = Unit {0}
 StopsBehind (Zombie (Exited status)) rest = Stops rest
 StopsBehind (Zombie Killed) rest = Unit {0}
 
--- the numbers of a task, as its type holds them
+-- a task with such identifiers, and its other numbers as its type holds them
 pub record IsHeldRow (row : Row) : Type 0 where
   pub name : IsHeldName row.name
   pub parent : IfSome row.parent IsHeldName
@@ -111,7 +111,7 @@ pub record IsHeldControl (control : Control) : Type 0 where
   pub parent : IfSome control.parent IsWord
   pub limit : IfSome control.limit IsSmall
 
--- the numbers of a state, as its types hold them
+-- a state whose numbers fit
 pub record IsHeldState (state : State) : Type 0 where
   pub rows : Each IsHeldRow state.rows
   pub spaces : Each IsHeldSpace state.spaces
@@ -138,7 +138,7 @@ abbrev pub LacksLines : {A : Type 0} → (A → Type 0) → (A → List ℕ) →
 LacksLines {A} IsHeld line byte text at =
     (xs : List A) (rest : List ℕ) → Each IsHeld xs → IsNotAt byte rest → drop at text ≡ flat_map line xs ++ rest → ⊥
 
--- the text is that of no state, with no stamp
+-- the text is that of no state whose numbers fit, with no stamp
 abbrev pub IsNoText : List ℕ → Type 0
 IsNoText text = (stamp : ℕ) (state : State) → IsWord stamp → IsHeldState state → text ≡ text_of stamp state → ⊥
 

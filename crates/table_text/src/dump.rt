@@ -171,6 +171,7 @@ pub fn dump_text(alloc: Global, plain: &Plain, stamp: u64) -> Result<Vec<u8>, Al
     ensures text { IfOk result (λ text. text.items ≡ text_of stamp (state_in plain.now)) }
     ensures held { Each HasNumbers plain.now.rows.items → IsHeldState (state_in plain.now) }
 {
+    // It does nothing but read the numbers, which are known to fit from then on.
     plain_fits(plain);
     let mut text = Vec::new(alloc);
     push_said(&mut text, plain, stamp)?;

@@ -22,7 +22,7 @@ ghost use Rattle.pids_charge.specs.declared.ControlFault.{ControlFault};
 ghost use Rattle.pid_types.specs.declared.plain.Life.{Life};
 ghost use Rattle.pid_numbers.specs.Numbering.{namespace_at, identifier_at, number_of, path_at, has_fallen_at};
 ghost use Rattle.pid_numbers.specs.Numbering.{HasOwnTask, fallen_within, draw_in, moved as cursor_moved, new_namespace};
-ghost use Rattle.pid_numbers.specs.Numbering.{new_identifier, Identifier};
+ghost use Rattle.pid_numbers.specs.Numbering.{new_identifier, Identifier, cursor_put};
 ghost use Rattle.pids_charge.specs.Charges.{Charges, Home, home_at, id_at, stands, kept, moved, handed_on};
 ghost use Rattle.pids_charge.specs.Charges.{remove_refusal, limit_refusal, ChangesHome};
 ghost use Rattle.task_tree.specs.Tree.{task_at, parent_of, rank_of, lives, handed};
@@ -367,6 +367,19 @@ impl Tasks {
         ensures rest { self.new ≡ record self.old { numbering = self.new.numbering } }
     {
         self.numbers.fell(space);
+    }
+
+    /// The next draw in the namespace begins at the number: [`Numbers::put_cursor`].
+    pub fn put_cursor(&mut self, space: SpaceKey, cursor: Pid)
+        requires { IsSome (namespace_at self.old.numbering space) }
+        ensures names { self.new.numbering.names ≡ self.old.numbering.names }
+        ensures order { self.new.numbering.order ≡ self.old.numbering.order }
+        ensures namespaces { (s : ℕ) → namespace_at self.new.numbering s
+            ≡ option_map (cursor_put space cursor s) (namespace_at self.old.numbering s) }
+        ensures bound { self.new.numbering.pid_max ≡ self.old.numbering.pid_max }
+        ensures rest { self.new ≡ record self.old { numbering = self.new.numbering } }
+    {
+        self.numbers.put_cursor(space, cursor);
     }
 
     /// Takes the memory for one task more, and answers its key. The error is want of memory. Nothing changes

@@ -18,5 +18,11 @@ life_in Killed = Some (Zombie by_fall)
 -- the task of a place, if it is not vacant
 abbrev pub task_in : Place → Option Task
 task_in place = option_map
-    (λ life. record { children_space = place.children_space; home = place.home; executed = place.executed; subreaper = place.subreaper; life = life })
+    (λ life. record {
+      children_space = place.children_space;
+      home = place.home;
+      executed = place.executed;
+      subreaper = place.subreaper;
+      life = life;
+    })
     (life_in place.standing)

@@ -1,5 +1,5 @@
 //! Tasks by key, and how many of them are subreapers.
-ghost use Rattle.std.specs.Prelude.{◌≡◌, ℕ, ◌+◌, ◌<◌, ◌≤◌, ◌^◌, length, None, true, false, OnOk, OnErr, []};
+ghost use Rattle.std.specs.Prelude.{◌≡◌, ℕ, ◌+◌, ◌<◌, ◌≤◌, ◌^◌, length, Some, None, true, false, OnOk, OnErr, []};
 ghost use Rattle.std.specs.Prelude.{slice_set, slice_index_or, ◌++◌, replicate};
 ghost use Rattle.task_tree.specs.Tree.{is_subreaper};
 
@@ -70,6 +70,20 @@ impl Cells {
         ensures { result ≡ slice_index_or self.now key None }
     {
         self.cells.task(key)
+    }
+
+    /// A task comes to a key that has none. What the key had is not read.
+    #[inline(always)]
+    pub(crate) fn fill(&mut self, key: TaskKey, task: Task)
+        requires key { key < length self.old }
+        requires vacant { slice_index_or self.old key None ≡ None }
+        requires few { length self.old ≤ 2 ^ 30 }
+        ensures { self.new ≡ slice_set self.old key (Some task) }
+    {
+        if task.subreaper {
+            self.subreapers += 1;
+        }
+        self.cells.set(key, Some(task));
     }
 
     /// A task, or none, comes in the place of what the key had.

@@ -41,8 +41,8 @@ impl EndedChildren {
         }
     }
 
-    /// Makes room for so many more keys, which have no parent. The error is want of memory, and then nothing has changed
-    /// that another call shows.
+    /// Makes room for so many more keys, which have no parent. The error is want of memory, and then nothing has
+    /// changed that another call shows.
     pub(crate) fn grow(&mut self, more: usize) -> Result<(), AllocError>
         requires { length self.old + more ≤ 2 ^ 30 }
         ensures ok { OnOk result (self.new ≡ self.old ++ replicate more None) }

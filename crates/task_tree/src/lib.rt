@@ -198,7 +198,7 @@ impl TaskTree {
         ensures others { (k : ℕ) → k ≢ key → parent_of self.new k ≡ parent_of self.old k }
         ensures ranks { self.new.ended ≡ self.old.ended }
     {
-        self.tasks.set(key, Some(task));
+        self.tasks.fill(key, task);
         if let Some(parent) = parent {
             self.children.add(key, parent);
         }

@@ -1,6 +1,6 @@
 //! Tasks by key, as they lie in memory.
-ghost use Rattle.std.specs.Prelude.{◌≡◌, ◌+◌, ◌<◌, ◌≤◌, ◌^◌, length, None, Some, OnOk, OnErr, [], ◌++◌, replicate, slice_set};
-ghost use Rattle.std.specs.Prelude.{slice_index_or};
+ghost use Rattle.std.specs.Prelude.{◌≡◌, ◌+◌, ◌<◌, ◌≤◌, ◌^◌, length, None, Some, OnOk, OnErr, [], ◌++◌};
+ghost use Rattle.std.specs.Prelude.{replicate, slice_set, slice_index_or};
 ghost use Rattle.task_tree.specs.Places.{task_in, life_in};
 
 use crate::Task;

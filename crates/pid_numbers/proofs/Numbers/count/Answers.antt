@@ -5,4 +5,4 @@ use Rattle.pid_numbers.proofs.Views as views
 use Rattle.pid_numbers.proofs.Numbers.count.Goals as goal
 
 pub returns : goal.returns
-returns c = c.count_at.ensures ∙ ap (λ o. option_map_or (uses c.args.kind) o 0) (sym (views.identifier_is c.self.inside.pid_max c.self.inside.spaces.items c.self.inside.idents c.self.inside.order c.args.self.now c.self.view_is c.args.ident))
+returns c = c.count_at.ensures ∙ ap (λ o. option_map_or (uses c.args.kind) o 0) (sym (views.identifier_is c.self.inside.pid_max c.self.inside.tree c.self.inside.ids.items c.self.inside.idents c.args.self.now c.self.view_is c.args.ident))

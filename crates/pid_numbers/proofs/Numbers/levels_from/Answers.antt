@@ -2,42 +2,38 @@
 use Rattle.std.proofs.Common.{◌≡◌, ◌∙◌, sym, ap, subst, arith, ◌+◌, ◌≤◌, ◌-◌, suc, length, get_or, take, [], IfSome}
 use Rattle.std.specs.Prelude.{reverse}
 use Rattle.std.specs.Option.{option_map_or}
-use Rattle.pid_numbers.specs.Slabs.{way}
+use Rattle.ns_tree.specs.Tree.{way}
+use Rattle.ns_tree.proofs.Paths as paths
 use Rattle.pid_numbers.specs.Table.{name_at}
 use Rattle.pid_numbers.proofs.Views as views
-use Rattle.pid_numbers.proofs.Sweeps as sweeps
-use Rattle.pid_numbers.proofs.Ties as ties
 use Rattle.pid_numbers.proofs.Inwards as inwards
 use Rattle.pid_numbers.proofs.Numbers.levels_from.Goals as goal
 
-pub is_inside-requires : goal.is_inside-requires
-is_inside-requires c = c.self.invariant.whole.numbering.tree
-
-pub returns-then-not-is_inside : goal.returns-then-not-is_inside
-returns-then-not-is_inside c =
-    let spaces = c.self.inside.spaces.items in
+pub returns-then-not-is_within : goal.returns-then-not-is_within
+returns-then-not-is_within c =
+    let ways = way c.self.inside.tree.nodes in
     let idents = c.self.inside.idents in
     let h = views.home (name_at idents c.args.ident) c.in-Some.own c.in-Some.ensures in
-    c.new-then-not-is_inside.ensures
-    ∙ sym (views.levels-of c.self.inside.pid_max spaces idents c.self.inside.order c.args.self.now c.self.view_is c.args.ident c.args.space c.in-Some.own h.0 h.1 h.2
-    ∙ inwards.from-none c.args.space (way spaces c.in-Some.own) h.0.numbers (sym c.if-not-is_inside.ensures))
+    c.new-then-not-is_within.ensures
+    ∙ sym (views.levels-of c.self.inside.pid_max c.self.inside.tree c.self.inside.ids.items idents c.args.self.now c.self.view_is c.args.ident c.args.space c.in-Some.own h.0 h.1 h.2
+    ∙ inwards.from-none c.args.space (ways c.in-Some.own) h.0.numbers (sym c.if-not-is_within.ensures))
 
 pub overflow_sub-above : goal.overflow_sub-above
 overflow_sub-above c =
-    let few = (sweeps.within (way c.self.inside.spaces.items) c.self.invariant.whole.numbering.tree c.in-Some.own c.args.space (sym c.if-not-is_inside.ensures)).1 in
+    let few = (paths.within (way c.self.inside.tree.nodes) c.self.invariant.whole.numbering.tree c.in-Some.own c.args.space (sym c.if-not-is_within.ensures)).1 in
     let a = c.levels.ensures.value in
     let b = c.levels-2.ensures.value in
     omega (arith, few, a, b)
 
 pub write_numbers_inwards-requires : goal.write_numbers_inwards-requires
 write_numbers_inwards-requires c =
-    let spaces = c.self.inside.spaces.items in
+    let ways = way c.self.inside.tree.nodes in
     let idents = c.self.inside.idents in
     let b = c.self.invariant.whole.numbering in
     let own = c.in-Some.own in
     let h = views.home (name_at idents c.args.ident) own c.in-Some.ensures in
-    let len : length h.0.numbers ≡ length (way spaces own) = b.tied.full c.args.ident h.0 h.1 ∙ ap (λ s. length (way spaces s)) h.2 in
-    let w = sweeps.within (way spaces) b.tree own c.args.space (sym c.if-not-is_inside.ensures) in
+    let len : length h.0.numbers ≡ length (ways own) = b.tied.full c.args.ident h.0 h.1 ∙ ap (λ s. length (ways s)) h.2 in
+    let w = paths.within ways b.tree own c.args.space (sym c.if-not-is_within.ensures) in
     let some = w.0 in
     let few = w.1 in
     let x = c.levels.ensures.value in
@@ -50,20 +46,20 @@ write_numbers_inwards-requires c =
 
 pub returns : goal.returns
 returns c =
-    let spaces = c.self.inside.spaces.items in
+    let ways = way c.self.inside.tree.nodes in
     let idents = c.self.inside.idents in
     let b = c.self.invariant.whole.numbering in
     let own = c.in-Some.own in
     let k = c.levels.result - c.levels-2.result in
     let h = views.home (name_at idents c.args.ident) own c.in-Some.ensures in
-    let len : length h.0.numbers ≡ length (way spaces own) = b.tied.full c.args.ident h.0 h.1 ∙ ap (λ s. length (way spaces s)) h.2 in
-    let w = sweeps.within (way spaces) b.tree own c.args.space (sym c.if-not-is_inside.ensures) in
+    let len : length h.0.numbers ≡ length (ways own) = b.tied.full c.args.ident h.0 h.1 ∙ ap (λ s. length (ways s)) h.2 in
+    let w = paths.within ways b.tree own c.args.space (sym c.if-not-is_within.ensures) in
     let some = w.0 in
     let few = w.1 in
-    let place : k ≡ length (way spaces own) - length (way spaces c.args.space) = ap (λ n. n - c.levels-2.result) c.levels.ensures.value ∙ ap (λ n. length (way spaces own) - n) c.levels-2.ensures.value in
+    let place : k ≡ length (ways own) - length (ways c.args.space) = ap (λ n. n - c.levels-2.result) c.levels.ensures.value ∙ ap (λ n. length (ways own) - n) c.levels-2.ensures.value in
     let one : k + 1 ≡ suc k = omega arith in
     c.write_numbers_inwards.ensures
     ∙ ap (λ o. option_map_or (λ u. reverse (take (k + 1) u.numbers)) o []) h.1
     ∙ ap (λ n. reverse (take n h.0.numbers)) one
-    ∙ sym (views.levels-of c.self.inside.pid_max spaces idents c.self.inside.order c.args.self.now c.self.view_is c.args.ident c.args.space own h.0 h.1 h.2
-    ∙ inwards.from-place c.args.space (way spaces own) h.0.numbers (ties.distinct-path (way spaces) (way spaces own) (b.tree.paths own)) len k (omega (arith, place, some, few)) (ap (λ j. get_or (way spaces own) j 0) place ∙ w.2))
+    ∙ sym (views.levels-of c.self.inside.pid_max c.self.inside.tree c.self.inside.ids.items idents c.args.self.now c.self.view_is c.args.ident c.args.space own h.0 h.1 h.2
+    ∙ inwards.from-place c.args.space (ways own) h.0.numbers (paths.distinct-path ways (ways own) (b.tree.paths own)) len k (omega (arith, place, some, few)) (ap (λ j. get_or (ways own) j 0) place ∙ w.2))

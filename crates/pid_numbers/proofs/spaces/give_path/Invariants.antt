@@ -1,15 +1,13 @@
-use Rattle.std.proofs.Common.{◌≡◌, ℕ, ◌<◌, ◌≤◌, get_or, true, drop, Some, length, option_map}
-use Rattle.pid_numbers.specs.Numbering.{moved}
-use Rattle.pid_numbers.specs.Slabs.{way, plan_on, entry_on, bound_on, namespace_on, ready, touched, given_to}
+use Rattle.std.proofs.Common.{◌≡◌, ℕ, ◌<◌, ◌≤◌, get_or, true, drop, Some, length}
+use Rattle.pid_numbers.specs.Slabs.{plan_on, entry_on, bound_on, cursor_on, ready, touched, stepped, given_to}
 use Rattle.pid_numbers.proofs.spaces.give_path.Given as goal
 
 abbrev pub invariant-loop-k : goal.invariant-loop-k
 invariant-loop-k l = record {
-  len : length l.spaces.items ≡ length l.initial.spaces.items;
-  entries : (s n : ℕ) → touched (drop l.k (way l.initial.spaces.items l.space)) (drop l.k l.numbers) (λ _. given_to l.value) (entry_on l.spaces.items) s n ≡ touched (way l.initial.spaces.items l.space) l.numbers (λ _. given_to l.value) (entry_on l.initial.spaces.items) s n;
-  namespaces : (s : ℕ) → option_map (moved (drop l.k (way l.initial.spaces.items l.space)) (drop l.k l.numbers) s) (namespace_on l.spaces.items s) ≡ option_map (moved (way l.initial.spaces.items l.space) l.numbers s) (namespace_on l.initial.spaces.items s);
-  planned : (j : ℕ) → l.k ≤ j → j < length (way l.initial.spaces.items l.space) → plan_on l.spaces.items (get_or (way l.initial.spaces.items l.space) j 0) ≡ Some (get_or l.numbers j 0);
-  ready : (j : ℕ) → l.k ≤ j → j < length (way l.initial.spaces.items l.space) → ready l.spaces.items (get_or (way l.initial.spaces.items l.space) j 0) (get_or l.numbers j 0) ≡ true;
-  bound : (s : ℕ) → bound_on l.spaces.items s ≡ bound_on l.initial.spaces.items s;
-  way : (s : ℕ) → way l.spaces.items s ≡ way l.initial.spaces.items s;
+  count : length l.ids.items ≡ length l.initial.ids.items;
+  entries : (s n : ℕ) → touched (drop l.k l.path) (drop l.k l.numbers) (λ _. given_to l.value) (entry_on l.ids.items) s n ≡ touched l.path l.numbers (λ _. given_to l.value) (entry_on l.initial.ids.items) s n;
+  cursors : (s : ℕ) → stepped (drop l.k l.path) (drop l.k l.numbers) s (cursor_on l.ids.items s) ≡ stepped l.path l.numbers s (cursor_on l.initial.ids.items s);
+  planned : (j : ℕ) → l.k ≤ j → j < length l.path → plan_on l.ids.items (get_or l.path j 0) ≡ Some (get_or l.numbers j 0);
+  ready : (j : ℕ) → l.k ≤ j → j < length l.path → ready l.ids.items (get_or l.path j 0) (get_or l.numbers j 0) ≡ true;
+  bound : (s : ℕ) → bound_on l.ids.items s ≡ bound_on l.initial.ids.items s;
 }

@@ -1,28 +1,27 @@
-use Rattle.std.proofs.Common.{refl, option_map, ◌≡◌, ◌<◌, length, ◌∙◌, ap, arith, None, get_or, option_and_then}
+use Rattle.std.proofs.Common.{refl, None, ◌<◌, length, ◌∙◌, sym, ap, subst, get_or, option_map, option_and_then}
+use Rattle.std.specs.Option.{option_map_or}
 use Rattle.index_array.specs.Place.{entry_at}
-use Rattle.pid_numbers.specs.Slabs.{bound_on, way, entry_on}
+use Rattle.ns_tree.proofs.Paths.{everywhere}
+use Rattle.pid_numbers.specs.Slabs.{entry_on, bound_on, cursor_on}
 use Rattle.pid_numbers.proofs.Ties as ties
 use Rattle.pid_numbers.proofs.spaces.release_path.Goals as goal
 
 pub release_at-requires : goal.release_at-requires
-release_at-requires c =
-    let path = way c.args.spaces.now.items c.args.space in
-    let below : c.loop-k.k < length path = omega (arith, c.loop-k-test.true, c.levels-k-end.ensures.value) in
-    let at : c.key_at-key.result ≡ get_or path c.loop-k.k 0 = c.key_at-key.ensures ∙ ap (λ p. get_or p c.loop-k.k 0) (c.loop-k.invariant.way c.args.space) in
-    let some = ties.on-path (way c.args.spaces.now.items) path c.requires.path c.loop-k.k below in
-    let same = ap length (c.loop-k.invariant.way c.key_at-key.result ∙ ap (way c.args.spaces.now.items) at) in
-    omega (arith, some, same)
+release_at-requires c = subst (λ n. get_or c.args.path.now c.loop-k.k 0 < n) (sym c.loop-k.invariant.count) (c.requires.there c.loop-k.k c.loop-k-test.true)
 
 pub loop-k-preserved : goal.loop-k-preserved
 loop-k-preserved c =
-    let path = way c.args.spaces.now.items c.args.space in
+    let path = c.args.path.now in
     let numbers = c.args.numbers.now in
     let k = c.loop-k.k in
-    let below : k < length path = omega (arith, c.loop-k-test.true, c.levels-k-end.ensures.value) in
-    let at : c.key_at-key.result ≡ get_or path k 0 = c.key_at-key.ensures ∙ ap (λ p. get_or p k 0) (c.loop-k.invariant.way c.args.space) in
+    let old = c.loop-k.ids.items in
+    let new = c.release_at.new.ids.items in
+    let below : k < length path = c.loop-k-test.true in
+    let key = get_or path k 0 in
+    let e = c.release_at.ensures in
     record {
-      entries = λ s n. ties.touched-more path numbers c.requires.distinct c.requires.len k below c.key_at-key.result (get_or numbers k 0) at refl (λ _. None) (entry_on c.loop-k.spaces.items) (entry_on c.release_at.new.spaces.items) c.release_at.ensures.here c.release_at.ensures.same (λ s m n. ap (option_and_then (λ t. entry_at t.ids.places n)) (c.release_at.ensures.others s m)) s n ∙ c.loop-k.invariant.entries s n;
-      bound = λ s. ties.everywhere (bound_on c.release_at.new.spaces.items) (bound_on c.loop-k.spaces.items) c.key_at-key.result c.release_at.ensures.bound (λ s m. ap (option_map (λ t. t.ids.pid_max)) (c.release_at.ensures.others s m)) s ∙ c.loop-k.invariant.bound s;
-      way = λ s. c.release_at.ensures.way s ∙ c.loop-k.invariant.way s;
-      namespaces = c.release_at.ensures.namespaces ∙ c.loop-k.invariant.namespaces;
+      entries = λ s n. ties.touched-more path numbers c.requires.distinct c.requires.len k below key (get_or numbers k 0) refl refl (λ _. None) (entry_on old) (entry_on new) e.here e.same (λ s m n. ap (option_and_then (λ t. entry_at t.places n)) (e.others s m)) s n ∙ c.loop-k.invariant.entries s n;
+      bound = λ s. everywhere (bound_on new) (bound_on old) key e.bound (λ s m. ap (option_map (λ t. t.pid_max)) (e.others s m)) s ∙ c.loop-k.invariant.bound s;
+      cursors = λ s. everywhere (cursor_on new) (cursor_on old) key e.cursor (λ s m. ap (λ o. option_map_or (λ t. t.cursor) o 0) (e.others s m)) s ∙ c.loop-k.invariant.cursors s;
+      count = e.count ∙ c.loop-k.invariant.count;
     }

@@ -1,11 +1,11 @@
-use Rattle.std.proofs.Common.{◌≡◌, ℕ, drop, None}
-use Rattle.pid_numbers.specs.Slabs.{way, entry_on, bound_on, namespaces_of, touched}
+use Rattle.std.proofs.Common.{length, ◌≡◌, ℕ, drop, None}
+use Rattle.pid_numbers.specs.Slabs.{entry_on, bound_on, cursor_on, touched}
 use Rattle.pid_numbers.proofs.spaces.release_path.Given as goal
 
 abbrev pub invariant-loop-k : goal.invariant-loop-k
 invariant-loop-k l = record {
-  entries : (s n : ℕ) → touched (drop l.k (way l.initial.spaces.items l.space)) (drop l.k l.numbers) (λ _. None) (entry_on l.spaces.items) s n ≡ touched (way l.initial.spaces.items l.space) l.numbers (λ _. None) (entry_on l.initial.spaces.items) s n;
-  bound : (s : ℕ) → bound_on l.spaces.items s ≡ bound_on l.initial.spaces.items s;
-  way : (s : ℕ) → way l.spaces.items s ≡ way l.initial.spaces.items s;
-  namespaces : namespaces_of l.spaces.items ≡ namespaces_of l.initial.spaces.items;
+  entries : (s n : ℕ) → touched (drop l.k l.path) (drop l.k l.numbers) (λ _. None) (entry_on l.ids.items) s n ≡ touched l.path l.numbers (λ _. None) (entry_on l.initial.ids.items) s n;
+  bound : (s : ℕ) → bound_on l.ids.items s ≡ bound_on l.initial.ids.items s;
+  cursors : (s : ℕ) → cursor_on l.ids.items s ≡ cursor_on l.initial.ids.items s;
+  count : length l.ids.items ≡ length l.initial.ids.items;
 }

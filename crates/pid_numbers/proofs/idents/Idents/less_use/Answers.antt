@@ -2,7 +2,7 @@ use Rattle.std.proofs.Common.{◌≡◌, ◌∙◌, ◌<◌, length, map, get_or
 use Rattle.std.specs.Prelude.{vec_capacity}
 use Rattle.pid_numbers.specs.Numbering.{less, is_used_as}
 use Rattle.pid_numbers.specs.Table.{identifier_of, name_at, shown}
-use Rattle.pid_numbers.proofs.Filled as filled
+use Rattle.ns_tree.proofs.Filled as filled
 use Rattle.pid_numbers.proofs.Seats as seats
 use Rattle.pid_numbers.proofs.Views as views
 use Rattle.pid_numbers.proofs.idents.Idents.less_use.Goals as goal
@@ -13,7 +13,7 @@ found c =
     let places = c.self.inside.places.items in
     let v = views.used c.args.kind (option_map identifier_of (get_or (map shown places) c.args.key None)) (ap (λ t. is_used_as c.args.kind (name_at t c.args.key)) c.self.view_is ∙ c.requires) in
     let x = seats.named (get_or (map shown places) c.args.key None) v.0 v.1 in
-    filled.there seats.numbers_of places c.args.key x.0 c.index_mut.result.now x.1 c.index_mut.ensures.value
+    filled.there seats.numbers_of (λ x. x) places c.args.key x.0 c.index_mut.result.now x.1 c.index_mut.ensures.value
 
 pub invariant_of-self : goal.invariant_of-self
 invariant_of-self c =

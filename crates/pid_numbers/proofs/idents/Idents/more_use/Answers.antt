@@ -2,7 +2,7 @@ use Rattle.std.proofs.Common.{◌≡◌, ◌∙◌, ◌<◌, length, map, get_or
 use Rattle.std.specs.Prelude.{vec_capacity}
 use Rattle.pid_numbers.specs.Numbering.{more}
 use Rattle.pid_numbers.specs.Table.{identifier_of, name_at, shown}
-use Rattle.pid_numbers.proofs.Filled as filled
+use Rattle.ns_tree.proofs.Filled as filled
 use Rattle.pid_numbers.proofs.Seats as seats
 use Rattle.pid_numbers.proofs.idents.Idents.more_use.Goals as goal
 
@@ -11,7 +11,7 @@ found : (c : goal.After-self-1) → (c.args.key < length c.self.inside.places.it
 found c =
     let places = c.self.inside.places.items in
     let x = seats.some-named (get_or (map shown places) c.args.key None) (subst (λ t. IsSome (name_at t c.args.key)) (sym c.self.view_is) c.requires.there) in
-    filled.there seats.numbers_of places c.args.key x.0 c.index_mut.result.now x.1 c.index_mut.ensures.value
+    filled.there seats.numbers_of (λ x. x) places c.args.key x.0 c.index_mut.result.now x.1 c.index_mut.ensures.value
 
 pub invariant_of-self : goal.invariant_of-self
 invariant_of-self c =

@@ -3,17 +3,17 @@ use Rattle.std.proofs.Common.{◌≡◌, ◌∙◌, ◌<◌, ◌++◌, ◌∷◌
 use Rattle.std.specs.Prelude.{vec_capacity}
 use Rattle.std.proofs.lemmas.List.{length-set}
 use Rattle.pid_numbers.specs.declared.idents.Ident.{Ident}
-use Rattle.pid_numbers.specs.Vacancy.{AreVacant}
+use Rattle.ns_tree.specs.Vacancy.{AreVacant}
 use Rattle.pid_numbers.specs.Table.{get, identifier_of, name_at, shown}
-use Rattle.pid_numbers.proofs.Filled as filled
+use Rattle.ns_tree.proofs.Filled as filled
 use Rattle.pid_numbers.proofs.Seats as seats
-use Rattle.pid_numbers.proofs.Vacancy as vacancy
+use Rattle.ns_tree.proofs.Vacancy as vacancy
 use Rattle.pid_numbers.proofs.idents.Idents.remove.Goals as goal
 
 -- it is there
 found : (places : List Ident) (key : ℕ) (y : Ident) → IsSome (option_map identifier_of (get_or (map shown places) key None)) → y ≡ get_or places key y
     → (key < length places) × ((0 < length y.numbers) × (get_or (map shown places) key None ≡ Some y))
-found places key y some is = let x = seats.some-named (get_or (map shown places) key None) some in filled.there seats.numbers_of places key x.0 y x.1 is
+found places key y some is = let x = seats.some-named (get_or (map shown places) key None) some in filled.there seats.numbers_of (λ x. x) places key x.0 y x.1 is
 
 pub push_reserved-requires : goal.push_reserved-requires
 push_reserved-requires c =
@@ -28,9 +28,9 @@ invariant_of-self c =
     let key = c.args.key in
     let w = c.replace-gone.new.dest in
     let f = found places key c.index_mut.result.now (subst (λ t. IsSome (name_at t key)) (sym c.self.view_is) c.requires) c.index_mut.ensures.value in
-    let none : shown w ≡ None = filled.show-none seats.numbers_of w (ap (λ x. length x.numbers) c.replace-gone.ensures.after ∙ ap length c.nobody.ensures) in
+    let none : shown w ≡ None = filled.show-none seats.numbers_of (λ x. x) w (ap (λ x. length x.numbers) c.replace-gone.ensures.after ∙ ap length c.nobody.ensures) in
     let v = vacancy.one-more (map shown places) c.self.inside.vacant.items (vec_capacity c.self.inside.vacant) key c.index_mut.result.now c.self.invariant.vacancies f.1.1 in
-    let u = subst (λ l. AreVacant l (c.self.inside.vacant.items ++ key ∷ []) (vec_capacity c.self.inside.vacant)) (sym (filled.slots-set seats.numbers_of places key w None none)) v in
+    let u = subst (λ l. AreVacant l (c.self.inside.vacant.items ++ key ∷ []) (vec_capacity c.self.inside.vacant)) (sym (filled.slots-set seats.numbers_of (λ x. x) places key w None none)) v in
     record {
       vacancies = rw (← c.push_reserved.ensures.items, ← c.push_reserved.ensures.capacity) at u;
       few = let n = length-set places key w in let few = c.self.invariant.few in omega (arith, n, few);
@@ -42,8 +42,8 @@ returns-clause-updates c =
     let key = c.args.key in
     let w = c.replace-gone.new.dest in
     let f = found places key c.index_mut.result.now (subst (λ t. IsSome (name_at t key)) (sym c.self.view_is) c.requires) c.index_mut.ensures.value in
-    let none : shown w ≡ None = filled.show-none seats.numbers_of w (ap (λ x. length x.numbers) c.replace-gone.ensures.after ∙ ap length c.nobody.ensures) in
+    let none : shown w ≡ None = filled.show-none seats.numbers_of (λ x. x) w (ap (λ x. length x.numbers) c.replace-gone.ensures.after ∙ ap length c.nobody.ensures) in
     record {
-      changed = filled.slot-set_same seats.numbers_of places key w f.0 ∙ none;
-      others = λ j differs. filled.slot-set_other seats.numbers_of places key j w differs ∙ ap (λ t. get t j) c.self.view_is;
+      changed = filled.slot-set_same seats.numbers_of (λ x. x) places key w f.0 ∙ none;
+      others = λ j differs. filled.slot-set_other seats.numbers_of (λ x. x) places key j w differs ∙ ap (λ t. get t j) c.self.view_is;
     }

@@ -1,0 +1,18 @@
+use Rattle.std.proofs.Common.{◌∙◌, ap, [], option_map}
+use Rattle.std.specs.Prelude.{vec_capacity}
+use Rattle.std.specs.Option.{option_map_or}
+use Rattle.ns_tree.specs.Tree.{way, id_in, node_in}
+use Rattle.ns_tree.specs.Places.{nodes_of}
+use Rattle.ns_tree.proofs.Nodes as nodes
+use Rattle.ns_tree.proofs.Paths.{everywhere}
+use Rattle.ns_tree.proofs.SpaceTree.mark_fallen.Goals as goal
+
+pub invariant_of-self : goal.invariant_of-self
+invariant_of-self c =
+    let old = c.self.inside.places.items in
+    let new = c.mark_at.new.places.items in
+    let was = node_in (nodes_of old) c.args.key in
+    nodes.kept-same old new c.mark_at.ensures.count
+    (everywhere (way (nodes_of new)) (way (nodes_of old)) c.args.key (ap (λ o. option_map_or (λ t. t.path) o []) c.mark_at.ensures.here ∙ nodes.felled-path was) (λ s m. ap (λ o. option_map_or (λ t. t.path) o []) (c.mark_at.ensures.others s m)))
+    (everywhere (id_in (nodes_of new)) (id_in (nodes_of old)) c.args.key (ap (option_map (λ t. t.id)) c.mark_at.ensures.here ∙ nodes.felled-id was) (λ s m. ap (option_map (λ t. t.id)) (c.mark_at.ensures.others s m)))
+    c.self.inside.vacant.items (vec_capacity c.self.inside.vacant) c.self.inside.order c.self.invariant

@@ -1,0 +1,231 @@
+-- The keys of vacant places: one more, and one less.
+use Rattle.std.proofs.Common.{◌≡◌, ◌≢◌, inl, inr, ℕ, suc, ◌+◌, ◌-◌, ◌<◌, ◌≤◌, ◌++◌, List, [], ◌∷◌, length, get_or, set, Option, Some, None, true, false, refl, sym, ap, ◌∙◌, arith}
+use Rattle.std.specs.Prelude.{nat_eq}
+use Rattle.std.specs.List.{list_any, AllByRecursion, IsDistinct as IsApart}
+use Rattle.std.proofs.lemmas.List.{length-append, get_or_append_left, get_or-append_right, get_or_default, length-set, get_or_past, get_or-set_same, get_or-set_other}
+use Rattle.std.proofs.lemmas.Map.Steps.{length-le_from_distinct_below}
+use Rattle.std.proofs.lemmas.Bool.{cases_eq, cases_lt}
+use Rattle.std.proofs.lemmas.Bool.Decides.{nat_tests}
+use Rattle.ns_tree.specs.Vacancy.{next_place, AreVacant, IsDistinct}
+
+-- where a number of a list stands
+place_in : (ks : List ℕ) (q : ℕ) → list_any (nat_eq q) ks ≡ true → (j : ℕ) × (j < length ks) × (get_or ks j 0 ≡ q)
+place_in [] q e = absurd (cc)
+place_in (k ∷ ks) q e = elim (cases_eq k q) [
+  | inl same ↦ (0, omega arith, same)
+  | inr differs ↦
+      let off : nat_eq q k ≡ false = grind (arith, nat_tests, differs) in
+      let r = place_in ks q (rw off at e) in (suc r.0, omega (arith, r.1), r.2)
+]
+
+-- no two of them are the same
+apart : (ks : List ℕ) → IsDistinct ks → IsApart nat_eq ks
+unfolding IsApart
+apart [] d = tt
+apart (k ∷ ks) d = (others ks (λ j lt. d 0 (suc j) (omega arith) (omega (arith, lt))), apart ks (λ i j lo lt. d (suc i) (suc j) (omega (arith, lo)) (omega (arith, lt))))
+  where
+    others : (ms : List ℕ) → ((j : ℕ) → j < length ms → k ≢ get_or ms j 0) → AllByRecursion (λ y. nat_eq k y ≡ false) ms
+    others [] h = tt
+    others (m ∷ ms) h = (let differs = h 0 (omega arith) in grind (arith, nat_tests, differs), others ms (λ j lt. h (suc j) (omega (arith, lt))))
+
+-- keys below a number are at most so many
+pub few : (ks : List ℕ) (n : ℕ) → IsDistinct ks → ((j : ℕ) → j < length ks → get_or ks j 0 < n) → length ks ≤ n
+few ks n d below = length-le_from_distinct_below ks n (apart ks d) (λ q on. let r = place_in ks q on in let lt = below r.0 r.1 in omega (arith, lt, r.2))
+
+-- something is no nothing
+no_value : {X : Type 0} {o : Option X} {x : X} → o ≡ None → o ≡ Some x → ⊥
+no_value {X} {o} {x} none some = let e : None ≡ Some x = sym none ∙ some in cc
+
+module _ {X : Type 0} where
+  -- what is at a key
+  abbrev at_key : List (Option X) → ℕ → Option X
+  at_key slots key = get_or slots key None
+
+  -- what is not vacant is in range
+  pub filled-in : (slots : List (Option X)) (key : ℕ) (x : X) → get_or slots key None ≡ Some x → key < length slots
+  filled-in slots key x e = elim (cases_lt key (length slots)) [
+    | inl lt ↦ lt
+    | inr past ↦ absurd (no_value (get_or_past slots key None past) e)
+  ]
+
+  -- a place with something in it is none of them
+  module _ (slots : List (Option X)) (keys : List ℕ) (room key : ℕ) (x : X) (v : AreVacant slots keys room) (there : at_key slots key ≡ Some x) where
+    in_range : key < length slots
+    in_range = filled-in slots key x there
+
+    stands : (j : ℕ) → j < length keys → get_or keys j 0 ≢ key
+    stands j lt same = no_value (ap (at_key slots) (sym same) ∙ (v.each j lt).1) there
+
+    at : (j : ℕ) → j < length keys → get_or (keys ++ key ∷ []) j 0 ≡ get_or keys j 0
+    at j lt = get_or_append_left keys (key ∷ []) 0 j lt
+
+    last : (j : ℕ) → j < length (keys ++ key ∷ []) → length keys ≤ j → get_or (keys ++ key ∷ []) j 0 ≡ key
+    last j lt past =
+        let l = length-append keys (key ∷ []) in
+        let zero_is : j - length keys ≡ 0 = omega (arith, lt, past, l) in
+        get_or-append_right keys (key ∷ []) (length keys) j 0 refl past ∙ ap (λ i. get_or (key ∷ []) i 0) zero_is
+
+    distinct : IsDistinct (keys ++ key ∷ [])
+    distinct i j lo lt = elim (cases_lt j (length keys)) [
+      | inl inside ↦ (λ e. v.distinct i j lo inside (sym (at i (omega (arith, lo, inside))) ∙ e ∙ at j inside))
+      | inr past ↦
+          let l = length-append keys (key ∷ []) in
+          let before : i < length keys = omega (arith, lo, lt, past, l) in
+          (λ e. stands i before (sym (at i before) ∙ e ∙ last j lt past))
+    ]
+
+    pub room-more : length keys < room
+    room-more =
+        let l = length-append keys (key ∷ []) in
+        let r = v.rooms in
+        let n = few (keys ++ key ∷ []) (length slots) distinct (λ j lt. elim (cases_lt j (length keys)) [
+          | inl inside ↦ (let b = (v.each j inside).0 in let e = at j inside in omega (arith, b, e))
+          | inr past ↦ (let b = in_range in let e = last j lt past in omega (arith, b, e))
+        ]) in
+        omega (arith, l, r, n)
+
+    -- it goes
+    pub one-more : AreVacant (set slots key None) (keys ++ key ∷ []) room
+    one-more = record {
+      each = λ j lt. elim (cases_lt j (length keys)) [
+        | inl inside ↦
+            let b = (v.each j inside).0 in
+            let e = at j inside in
+            let n = length-set slots key None in
+            (omega (arith, b, e, n), ap (at_key (set slots key None)) e ∙ get_or-set_other slots key (get_or keys j 0) None None (stands j inside) ∙ (v.each j inside).1)
+        | inr past ↦
+            let b = in_range in
+            let e = last j lt past in
+            let n = length-set slots key None in
+            (omega (arith, b, e, n), ap (at_key (set slots key None)) e ∙ get_or-set_same slots key None None b)
+      ];
+      all = λ s lt none. elim (cases_eq s key) [
+        | inl same ↦
+            let l = length-append keys (key ∷ []) in
+            (length keys, omega (arith, l), last (length keys) (omega (arith, l)) (omega arith) ∙ sym same)
+        | inr differs ↦
+            let n = length-set slots key None in
+            let r = v.all s (omega (arith, lt, n)) (sym (get_or-set_other slots key s None None differs) ∙ none) in
+            let inside = r.1 in
+            let l = length-append keys (key ∷ []) in
+            (r.0, omega (arith, l, inside), at r.0 inside ∙ r.2)
+      ];
+      distinct = distinct;
+      rooms = let r = v.rooms in let n = length-set slots key None in omega (arith, r, n);
+    }
+
+  -- something comes to the last of them
+  module _ (slots : List (Option X)) (keys rest : List ℕ) (room key : ℕ) (v : AreVacant slots keys room) (is : keys ≡ rest ++ key ∷ []) where
+    long : length keys ≡ length rest + 1
+    long = ap length is ∙ length-append rest (key ∷ [])
+
+    end : get_or keys (length rest) 0 ≡ key
+    end =
+        let zero_is : length rest - length rest ≡ 0 = omega arith in
+        ap (λ l. get_or l (length rest) 0) is ∙ get_or-append_right rest (key ∷ []) (length rest) (length rest) 0 refl (omega arith) ∙ ap (λ i. get_or (key ∷ []) i 0) zero_is
+
+    before : (j : ℕ) → j < length rest → get_or keys j 0 ≡ get_or rest j 0
+    before j lt = ap (λ l. get_or l j 0) is ∙ get_or_append_left rest (key ∷ []) 0 j lt
+
+    pub vacant-last : (key < length slots) × (at_key slots key ≡ None)
+    vacant-last = let e = v.each (length rest) (omega (arith, long)) in rw end at e
+
+    pub next-last : {Y : Type 0} (places : List Y) → next_place places keys ≡ key
+    next-last {Y} places =
+        let l : length keys - 1 ≡ length rest = omega (arith, long) in
+        ap (λ i. get_or keys i (length places)) l ∙ get_or_default keys (length rest) (length places) 0 (omega (arith, long)) ∙ end
+
+    pub one-less : (x : X) → AreVacant (set slots key (Some x)) rest room
+    one-less x = record {
+      each = λ j lt.
+          let e = v.each j (omega (arith, lt, long)) in
+          let n = length-set slots key (Some x) in
+          let same = before j lt in
+          let differs : get_or rest j 0 ≢ key = λ z. v.distinct j (length rest) lt (omega (arith, long)) (same ∙ z ∙ sym end) in
+          let b = e.0 in
+          (omega (arith, b, n, same), get_or-set_other slots key (get_or rest j 0) (Some x) None differs ∙ ap (at_key slots) (sym same) ∙ e.1);
+      all = λ s lt none. elim (cases_eq s key) [
+        | inl same ↦ absurd (no_value (sym (ap (at_key (set slots key (Some x))) same) ∙ none) (get_or-set_same slots key (Some x) None vacant-last.0))
+        | inr differs ↦
+            let n = length-set slots key (Some x) in
+            let r = v.all s (omega (arith, lt, n)) (sym (get_or-set_other slots key s (Some x) None differs) ∙ none) in
+            let inside : r.0 < length rest = elim (cases_lt r.0 (length rest)) [
+              | inl below ↦ below
+              | inr past ↦
+                  let at_end : r.0 ≡ length rest = let lt = r.1 in omega (arith, past, lt, long) in
+                  absurd (differs (sym r.2 ∙ ap (λ j. get_or keys j 0) at_end ∙ end))
+            ] in
+            (r.0, inside, sym (before r.0 inside) ∙ r.2)
+      ];
+      distinct = λ i j lo lt.
+          (λ e. v.distinct i j lo (omega (arith, lt, long)) (before i (omega (arith, lo, lt)) ∙ e ∙ sym (before j lt)));
+      rooms = let n = length-set slots key (Some x) in let r = v.rooms in omega (arith, n, r);
+    }
+
+  -- or to a new place, where there is none
+  module _ (slots : List (Option X)) (x : X) where
+    pub at-new : get_or (slots ++ Some x ∷ []) (length slots) None ≡ Some x
+    at-new =
+        let zero_is : length slots - length slots ≡ 0 = omega arith in
+        get_or-append_right slots (Some x ∷ []) (length slots) (length slots) None refl (omega arith) ∙ ap (λ i. get_or (Some x ∷ []) i None) zero_is
+
+    pub at-old : (s : ℕ) → s ≢ length slots → get_or (slots ++ Some x ∷ []) s None ≡ get_or slots s None
+    at-old s differs = elim (cases_lt s (length slots)) [
+      | inl lt ↦ get_or_append_left slots (Some x ∷ []) None s lt
+      | inr past ↦ (let l = length-append slots (Some x ∷ []) in get_or_past (slots ++ Some x ∷ []) s None (omega (arith, past, l, differs)) ∙ sym (get_or_past slots s None past))
+    ]
+
+    -- no place was vacant, and none is
+    pub none-vacant : (keys : List ℕ) (room room' : ℕ) → AreVacant slots keys room → keys ≡ [] → length slots < room' → AreVacant (slots ++ Some x ∷ []) keys room'
+    none-vacant keys room room' v none more = record {
+      each = λ j lt. absurd (let l = ap length none in omega (arith, l, lt));
+      all = λ s lt empty. absurd (elim (cases_eq s (length slots)) [
+        | inl same ↦ no_value (sym (ap (at_key (slots ++ Some x ∷ [])) same) ∙ empty) at-new
+        | inr differs ↦
+            let n = length-append slots (Some x ∷ []) in
+            let r = v.all s (omega (arith, lt, n, differs)) (sym (at-old s differs) ∙ empty) in
+            let lt = r.1 in
+            let l = ap length none in
+            omega (arith, l, lt)
+      ]);
+      distinct = λ i j lo lt e. (let l = ap length none in omega (arith, l, lt));
+      rooms = let l = length-append slots (Some x ∷ []) in omega (arith, l, more);
+    }
+
+  -- no places
+  pub no-places : (room : ℕ) → AreVacant {X = X} [] [] room
+  no-places room = record {
+    each = λ j lt. absurd (omega (arith, lt));
+    all = λ s lt none. absurd (omega (arith, lt));
+    distinct = λ i j lo lt e. (omega (arith, lt));
+    rooms = omega arith;
+  }
+
+  -- nothing has the key of what comes next
+  pub next-vacant : {Y : Type 0} (places : List Y) (slots : List (Option X)) (keys : List ℕ) (room : ℕ) → length places ≡ length slots → AreVacant slots keys room → get_or slots (next_place places keys) None ≡ None
+  next-vacant {Y} places slots keys room len v = elim (cases_lt 0 (length keys)) [
+    | inl some ↦
+        let is = get_or_default keys (length keys - 1) (length places) 0 (omega (arith, some)) in
+        ap (at_key slots) is ∙ (v.each (length keys - 1) (omega (arith, some))).1
+    | inr none ↦ get_or_past slots (next_place places keys) None (let past = get_or_past keys (length keys - 1) (length places) (omega (arith, none)) in omega (arith, past, len))
+  ]
+
+  -- and it has no gap before it
+  pub next-near : {Y : Type 0} (places : List Y) (slots : List (Option X)) (keys : List ℕ) (room : ℕ) → length places ≡ length slots → AreVacant slots keys room → next_place places keys ≤ length places
+  next-near {Y} places slots keys room len v = elim (cases_lt 0 (length keys)) [
+    | inl some ↦
+        let is = get_or_default keys (length keys - 1) (length places) 0 (omega (arith, some)) in
+        let lt = (v.each (length keys - 1) (omega (arith, some))).0 in
+        omega (arith, is, lt, len)
+    | inr none ↦ (let past = get_or_past keys (length keys - 1) (length places) (omega (arith, none)) in omega (arith, past))
+  ]
+
+  -- where the same places are filled, the same ones are vacant
+  pub vacant-as : (old new : List (Option X)) (keys : List ℕ) (room : ℕ) → AreVacant old keys room → length new ≡ length old
+      → ((s : ℕ) → get_or old s None ≡ None → get_or new s None ≡ None) → ((s : ℕ) → get_or new s None ≡ None → get_or old s None ≡ None) → AreVacant new keys room
+  vacant-as old new keys room v len kept back = record {
+    each = λ j lt. let e = v.each j lt in let b = e.0 in (omega (arith, b, len), kept (get_or keys j 0) e.1);
+    all = λ s lt none. v.all s (omega (arith, lt, len)) (back s none);
+    distinct = v.distinct;
+    rooms = let r = v.rooms in omega (arith, r, len);
+  }

@@ -1,0 +1,3 @@
+pub mod Vacancy
+pub mod Tree
+pub mod Places

@@ -1,0 +1,22 @@
+-- The places of namespaces, of which some are vacant.
+use Rattle.std.specs.Prelude.{ℕ, ◌==◌, List, length, map, Option, Some, None, if◌then◌else◌}
+use Rattle.ns_tree.specs.declared.places.Place.{Place}
+use Rattle.ns_tree.specs.Vacancy.{AreVacant}
+use Rattle.ns_tree.specs.Tree.{Node, IsTree, AreListed, way, id_in}
+
+abbrev pub node_of : Place → Node
+node_of p = record { id = p.id; fallen = p.fallen; path = p.path.items }
+
+-- the namespace at a place, none where the place is vacant: then its path is empty
+abbrev pub shown : Place → Option Node
+shown p = if length p.path.items == 0 then None else Some (node_of p)
+
+-- the namespaces by key
+abbrev pub nodes_of : List Place → List (Option Node)
+nodes_of places = map shown places
+
+-- the namespaces are a tree, the order has their ids, and the vacant places are known
+pub record IsKept (places : List Place) (vacant : List ℕ) (room : ℕ) (order : List (ℕ × ℕ)) : Type 0 where
+  pub tree : IsTree (way (nodes_of places))
+  pub listed : AreListed (id_in (nodes_of places)) order
+  pub vacancies : AreVacant (nodes_of places) vacant room
