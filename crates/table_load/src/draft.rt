@@ -43,12 +43,6 @@ impl Model for Draft {
     ghost invariant = { λ d. IsBelow d.next d.table };
 }
 
-/// Puts the cursor of the namespace with the id.
-// TODO: PidTable::set_cursor.
-fn put_cursor(_table: &mut PidTable, _id: u64, _cursor: Pid)
-    ensures { _table.new ≡ _table.old }
-{}
-
 /// The root number of the task that a fork made, none for any other reply.
 fn forked_root(reply: &Reply) -> Option<Pid> {
     match reply {
@@ -138,7 +132,7 @@ impl Draft {
     pub fn set_cursor(&mut self, id: u64, cursor: Pid) {
         soundness_is_restored();
         self.table.laws();
-        put_cursor(&mut self.table, id, cursor);
+        self.table.set_cursor(id, cursor);
     }
 
     /// The task goes to the group that is named after the leader, and to the leader's session:

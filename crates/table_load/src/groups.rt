@@ -2,8 +2,9 @@
 //! namespaces that their children go into.
 
 use crate::fault::RestoreFault;
+use crate::lines::task_line;
 use crate::make::Work;
-use crate::names::find;
+use crate::names::{find, root_of};
 use crate::spaces::place_of;
 use pid_types::call::Call;
 use pid_types::keys::Pid;
@@ -35,8 +36,8 @@ impl Work {
     /// Sets the marks and the control groups of all tasks.
     pub fn mark_tasks(&mut self, saved: &Saved) -> Result<(), RestoreFault> {
         for (place, row) in saved.rows.iter().enumerate() {
-            let caller = crate::names::root_of(&row.name);
-            self.mark_task(row, caller, crate::lines::task_line(place))?;
+            let caller = root_of(&row.name);
+            self.mark_task(row, caller, task_line(place))?;
         }
         Ok(())
     }
@@ -83,8 +84,8 @@ impl Work {
     /// All tasks go to their sessions, and those whose names only groups bear, too.
     fn enter_sessions(&mut self, saved: &Saved) {
         for row in &saved.rows {
-            let root = crate::names::root_of(&row.name);
-            let session = crate::names::root_of(&row.session);
+            let root = root_of(&row.name);
+            let session = root_of(&row.session);
             self.enter_session(root, session);
             self.place_leader(&row.group, session);
         }
@@ -96,8 +97,8 @@ impl Work {
         self.enter_sessions(saved);
         for row in &saved.rows {
             if row.group != row.session {
-                let root = crate::names::root_of(&row.name);
-                self.draft.enlist(root, crate::names::root_of(&row.group));
+                let root = root_of(&row.name);
+                self.draft.enlist(root, root_of(&row.group));
             }
         }
         Ok(())

@@ -4,7 +4,7 @@
 use crate::fault::RestoreFault;
 use crate::lines::space_line;
 use crate::names::{Member, find, list_members, number_at, root_of};
-use crate::spaces::{Place, check_controls, list_places};
+use crate::spaces::{Place, check_controls, list_places, place_of};
 use arrayvec::ArrayVec;
 use pid_types::keys::Pid;
 use pid_types::plain::{LEVELS, Name, Row};
@@ -76,11 +76,7 @@ fn has_line(members: &[Member], index: usize) -> bool {
 }
 
 /// Sees that each namespace that stands has an init with a line of its own.
-fn check_inits(
-    saved: &Saved,
-    places: &[Place],
-    members: &[Member],
-) -> Result<(), RestoreFault> {
+fn check_inits(saved: &Saved, places: &[Place], members: &[Member]) -> Result<(), RestoreFault> {
     for (index, place) in places.iter().enumerate() {
         let stands = match place.init {
             Some(init) => has_line(members, init),
@@ -153,7 +149,7 @@ fn mark_leaders(members: &mut Vec<Member>, rows: &[Row]) {
 /// The lost namespace that the children of the task go into, if they do.
 fn lost_of(places: &[Place], rows: &[Row], member: &Member) -> Option<Lost> {
     let row = rows.get(member.row?)?;
-    if crate::spaces::place_of(places, row.children_space).is_some() {
+    if place_of(places, row.children_space).is_some() {
         return None;
     }
     Some(Lost {
@@ -214,7 +210,13 @@ fn take_numbers(
     for (steps, place) in path.as_slice().iter().enumerate() {
         let level = levels.saturating_sub(steps).saturating_sub(1);
         let number = number_at(&member.name, level);
-        if taken.push(Taken { place: *place, number }).is_err() {
+        if taken
+            .push(Taken {
+                place: *place,
+                number,
+            })
+            .is_err()
+        {
             return Err(RestoreFault::NoMemory);
         }
     }
@@ -265,8 +267,18 @@ pub fn plan_for(alloc: Global, saved: &Saved) -> Result<Plan, RestoreFault> {
     check_inits(saved, places.as_slice(), members.as_slice())?;
     find_parents(&mut members, saved.rows.as_slice())?;
     mark_leaders(&mut members, saved.rows.as_slice());
-    let lost = list_lost(alloc, places.as_slice(), saved.rows.as_slice(), members.as_slice())?;
-    let taken = list_taken(alloc, places.as_slice(), members.as_slice(), lost.as_slice())?;
+    let lost = list_lost(
+        alloc,
+        places.as_slice(),
+        saved.rows.as_slice(),
+        members.as_slice(),
+    )?;
+    let taken = list_taken(
+        alloc,
+        places.as_slice(),
+        members.as_slice(),
+        lost.as_slice(),
+    )?;
     Ok(Plan {
         places,
         members,
@@ -293,11 +305,7 @@ impl Plan {
     }
 
     /// The numbers of a stand-in for the init of a namespace in that one.
-    fn stand_in_numbers(
-        &mut self,
-        outer: usize,
-        pid_max: u32,
-    ) -> Option<ArrayVec<Pid, LEVELS>> {
+    fn stand_in_numbers(&mut self, outer: usize, pid_max: u32) -> Option<ArrayVec<Pid, LEVELS>> {
         let path = path_up(self.places.as_slice(), outer);
         let mut numbers = ArrayVec::new();
         for place in path.as_slice().iter().rev() {
