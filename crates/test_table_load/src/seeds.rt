@@ -99,30 +99,30 @@ fn run_all(
 
 #[test]
 fn loads_tables_of_mixed_calls(rt: HostRuntime) -> Result<(), Fail> {
-    run_all(rt.alloc(), Theme::Mixed, 32_768, 60, 100)?;
+    run_all(rt.alloc(), Theme::Mixed, 32_768, 60, 40)?;
     Ok(())
 }
 
 #[test]
 fn loads_tables_with_falls(rt: HostRuntime) -> Result<(), Fail> {
-    run_all(rt.alloc(), Theme::Falls, 4_194_304, 100, 100)?;
+    run_all(rt.alloc(), Theme::Falls, 4_194_304, 100, 40)?;
     Ok(())
 }
 
 #[test]
 fn loads_tables_with_worn_numbers(rt: HostRuntime) -> Result<(), Fail> {
-    run_all(rt.alloc(), Theme::Numbers, 301, 60, 100)?;
+    run_all(rt.alloc(), Theme::Numbers, 301, 60, 40)?;
     Ok(())
 }
 
 #[test]
 fn loads_tables_with_control_groups(rt: HostRuntime) -> Result<(), Fail> {
-    run_all(rt.alloc(), Theme::Controls, 32_768, 60, 100)?;
+    run_all(rt.alloc(), Theme::Controls, 32_768, 60, 40)?;
     Ok(())
 }
 
 #[test]
 fn loads_tables_with_groups_and_sessions(rt: HostRuntime) -> Result<(), Fail> {
-    run_all(rt.alloc(), Theme::Groups, 330, 60, 100)?;
+    run_all(rt.alloc(), Theme::Groups, 330, 60, 40)?;
     Ok(())
 }
