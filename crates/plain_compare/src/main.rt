@@ -7,8 +7,6 @@
 //! changed.
 #![tactic(auto)]
 
-mod draft;
-mod generator;
 mod pair;
 mod runs;
 mod tally;

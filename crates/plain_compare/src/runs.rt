@@ -1,13 +1,13 @@
 //! The generated runs.
 
-use crate::draft::Theme;
-use crate::generator::{Aims, Generator};
 use crate::pair::Pair;
 use crate::tally::Tally;
 use crate::worked::{ask_below_deepest, build_controls, build_spaces};
 use anyhow::{Result, bail};
 use pid_types::config::Config;
 use pid_types::reply::Refusal;
+use random_calls::draft::Theme;
+use random_calls::generator::{Aims, Generator};
 use std::alloc::Global;
 
 /// How many calls a run has.

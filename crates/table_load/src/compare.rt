@@ -1,0 +1,105 @@
+//! Whether a snapshot is as a text says.
+ghost use Rattle.std.specs.Prelude.{◌≡◌, IsTrue, map};
+ghost use Rattle.table_text.specs.Texts.{without_count, state_in};
+ghost use Rattle.table_text.specs.Reading.{saved_state};
+
+use crate::lines::{control_line, space_line, task_line};
+use pid_types::plain::{Control, ControlRow, Plain, Row, Space};
+use table_text::read::Saved;
+
+/// Whether the tasks are the same.
+fn have_same_rows(plain: &Plain, saved: &Saved) -> bool
+    ensures { IsTrue result → plain.now.rows.items ≡ saved.now.rows.items }
+{
+    plain.rows == saved.rows
+}
+
+/// Whether the namespaces are the same.
+fn have_same_spaces(plain: &Plain, saved: &Saved) -> bool
+    ensures { IsTrue result → plain.now.spaces.items ≡ saved.now.spaces.items }
+{
+    plain.spaces == saved.spaces
+}
+
+/// Whether two control groups are the same, but for the count.
+fn is_same_control(row: &ControlRow, control: &Control) -> bool
+    ensures { IsTrue result → without_count row.now ≡ control.now }
+{
+    row.id == control.id && row.parent == control.parent && row.limit == control.limit
+}
+
+/// Whether the control groups are the same, but for the counts.
+fn have_same_controls(rows: &[ControlRow], controls: &[Control]) -> bool
+    ensures { IsTrue result → map without_count rows.now ≡ controls.now }
+{
+    if rows.len() != controls.len() {
+        return false;
+    }
+    for index in 0..rows.len() {
+        if !is_same_control(&rows[index], &controls[index]) {
+            return false;
+        }
+    }
+    true
+}
+
+/// Whether a snapshot shows the state that a text says.
+pub fn is_same(plain: &Plain, saved: &Saved) -> bool
+    ensures { IsTrue result → state_in plain.now ≡ saved_state saved.now }
+{
+    plain.pid_max == saved.pid_max
+        && have_same_rows(plain, saved)
+        && have_same_spaces(plain, saved)
+        && have_same_controls(&plain.controls, &saved.controls)
+}
+
+/// The place of the first task that differs.
+fn first_row(shown: &[Row], said: &[Row]) -> usize {
+    for (place, row) in said.iter().enumerate() {
+        if shown.get(place) != Some(row) {
+            return place;
+        }
+    }
+    said.len()
+}
+
+/// The place of the first namespace that differs.
+fn first_space(shown: &[Space], said: &[Space]) -> usize {
+    for (place, space) in said.iter().enumerate() {
+        if shown.get(place) != Some(space) {
+            return place;
+        }
+    }
+    said.len()
+}
+
+/// Whether the control group stands in that place.
+fn is_control_at(shown: &[ControlRow], place: usize, control: &Control) -> bool {
+    match shown.get(place) {
+        Some(row) => is_same_control(row, control),
+        None => false,
+    }
+}
+
+/// The place of the first control group that differs.
+fn first_control(shown: &[ControlRow], said: &[Control]) -> usize {
+    for (place, control) in said.iter().enumerate() {
+        if !is_control_at(shown, place, control) {
+            return place;
+        }
+    }
+    said.len()
+}
+
+/// The first line that is not as the snapshot has it.
+pub fn first_unlike(plain: &Plain, saved: &Saved) -> u64 {
+    let row = first_row(&plain.rows, &saved.rows);
+    if row < saved.rows.len() {
+        return task_line(row);
+    }
+    let space = first_space(&plain.spaces, &saved.spaces);
+    if space < saved.spaces.len() {
+        return space_line(saved, space);
+    }
+    control_line(saved, first_control(&plain.controls, &saved.controls))
+}
