@@ -7,6 +7,7 @@ ghost use Rattle.table_text.specs.Reading.{saved_state};
 
 use crate::compare::{first_unlike, is_same};
 use crate::fault::RestoreFault;
+use crate::load::Loaded;
 use model_laws::soundness::{root_state_is_sound, soundness_is_kept, soundness_is_restored};
 use pid_table::PidTable;
 use pid_types::call::Call;
@@ -17,13 +18,6 @@ use std::alloc::{AllocError, Global};
 use std::marker::Model;
 use table_text::laws::snapshots_have_their_state;
 use table_text::read::Saved;
-
-/// A table that a text was loaded to, and the stamp of its next call.
-#[derive(Drop)]
-pub struct Loaded {
-    pub table: PidTable,
-    pub stamp: u64,
-}
 
 /// A table in the making, and the least stamp that is above all its ids. Contracts see the table.
 #[derive(Drop)]

@@ -10,7 +10,7 @@
 #![tactic(auto)]
 
 mod compare;
-pub mod draft;
+mod draft;
 mod ends;
 pub mod fault;
 mod groups;

@@ -3,15 +3,29 @@ ghost use Rattle.std.specs.Prelude.{◌≡◌, IfOk};
 ghost use Rattle.pid_types.specs.Sound.{IsSound, IsBelow};
 ghost use Rattle.table_text.specs.Texts.{text_of};
 
-use crate::draft::Loaded;
 use crate::fault::RestoreFault;
 use crate::make::make_table;
+use pid_table::PidTable;
 use std::alloc::Global;
 use table_text::read::read_text;
 
-/// The table that a text was written of, and the stamp of its next call.
+/// A table that was loaded from a text.
+#[derive(Drop)]
+pub struct Loaded {
+    /// The table. Its namespaces and control groups have the ids that they had.
+    pub table: PidTable,
+    /// The stamp of its next call, above all its ids.
+    pub stamp: u64,
+}
+
+/// The table that a text was written of, and the stamp of its next call. `docs/SCRIPT.md` has the form.
 ///
-/// The error is want of memory, or the first fault that is met, with its line.
+/// The error is the first that is met: a fault of the text with its line, or want of memory. Then nothing is kept. A
+/// text that a table wrote is refused in one case, with [`RestoreFault::NoNumber`]: where a namespace without an init
+/// has to be made again in one whose numbers are all in use.
+///
+/// It costs some times what the forks cost that made the tasks: for each, two or three searches by number on each level
+/// and one by its name.
 pub fn load(alloc: Global, text: &[u8]) -> Result<Loaded, RestoreFault>
     ensures text { IfOk result (λ l. text.now ≡ text_of l.stamp l.table) }
     ensures sound { IfOk result (λ l. IsSound l.table × IsBelow l.stamp l.table) }
