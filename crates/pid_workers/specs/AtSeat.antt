@@ -25,7 +25,7 @@ counted_none a = record { worker = refl; calls = omega arith; own = All-nil (IsO
 pub counted_more : (a b c : SeatState) (xs ys : List Answered) → HasCounted a b xs → HasCounted b c ys → HasCounted a c (xs ++ ys)
 counted_more a b c xs ys p q =
     let all : receipts_given (xs ++ ys) ≡ receipts_given xs ++ receipts_given ys =
-        flat_map-append (λ (x : Answered). receipt_in x.1) xs ys in
+    flat_map-append (λ (x : Answered). receipt_in x.1) xs ys in
     record {
       worker = q.worker ∙ p.worker;
       calls = omega (arith, p.calls, q.calls, ap length all, length-append (receipts_given xs) (receipts_given ys));
