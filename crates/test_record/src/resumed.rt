@@ -30,8 +30,8 @@ fn behind(first: u64) -> [Receipt; 3] {
     let child = Reply::Forked { child: 4, root: 4 };
     [
         want(first, 0, group, Reply::Number(3)),
-        want(first + 1, 1, MAKE, Reply::Control(8)),
-        want(first + 2, 1, FORK, child),
+        want(first.saturating_add(1), 1, MAKE, Reply::Control(8)),
+        want(first.saturating_add(2), 1, FORK, child),
     ]
 }
 
