@@ -12,8 +12,8 @@ use ns_tree::SpaceTree;
 use pid_types::call::Kind;
 use pid_types::keys::{Pid, SpaceKey};
 
-/// Up to so many namespaces are looked at one after the other. Where there are more, the tasks of the one that
-/// falls lead to those inside it.
+/// Up to so many namespaces are looked at one after the other, and as many more as the one that falls has given
+/// numbers of late. Where there are more, its tasks lead to those inside it.
 const FEW: usize = 64;
 
 /// The own namespace of the identifier that has the number.
@@ -42,8 +42,16 @@ fn fall_by_tasks(tree: &mut SpaceTree, ids: &Vec<CyclicIds>, idents: &Idents, ou
     }
 }
 
-/// The namespace and all inside it have fallen. It costs a step for each namespace that is there, if they are few, or
-/// else a search for each task that has a number in the one that falls.
+/// How many numbers the namespace has given since it last began at its least one.
+fn given(ids: &Vec<CyclicIds>, space: SpaceKey) -> Pid {
+    match ids.get(space as usize) {
+        Some(t) => t.cursor(),
+        None => 0,
+    }
+}
+
+/// The namespace and all inside it have fallen. It costs a step for each namespace that is there, if they are few
+/// beside the numbers that the one that falls has given, or else a search for each task that has a number in it.
 pub(crate) fn fall_all(tree: &mut SpaceTree, ids: &Vec<CyclicIds>, idents: &Idents, outer: SpaceKey)
     requires { LeadsInside tree.old.nodes ids.now.items idents.now outer }
     ensures nodes { (s : ℕ) → node_in tree.new.nodes s
@@ -51,7 +59,7 @@ pub(crate) fn fall_all(tree: &mut SpaceTree, ids: &Vec<CyclicIds>, idents: &Iden
     ensures count { length tree.new.nodes ≡ length tree.old.nodes }
     ensures order { tree.new.order ≡ tree.old.order }
 {
-    if tree.count() <= FEW {
+    if tree.count() <= FEW + given(ids, outer) as usize {
         tree.fell(outer);
     } else {
         fall_by_tasks(tree, ids, idents, outer);

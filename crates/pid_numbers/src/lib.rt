@@ -494,8 +494,8 @@ impl Numbers {
         Ok((ident, key))
     }
 
-    /// The namespace and all inside it have fallen. It costs a step for each namespace that is there, if they are few,
-    /// or else a search for each task that has a number in the one that falls.
+    /// The namespace and all inside it have fallen. It costs a step for each namespace that is there, where these are
+    /// few beside the numbers that the one that falls has given, or else a search for each task that has one in it.
     pub fn fell(&mut self, space: SpaceKey)
         requires inner { space ≢ 0 }
         requires homes { (s : ℕ) → contains (path_at self.old s) space ≡ true → has_fallen_at self.old s ≡ false

@@ -246,6 +246,7 @@ pub(crate) fn next_at(ids: &Vec<CyclicIds>, key: SpaceKey, kind: Kind, from: Pid
 }
 
 /// Whether the namespace has fallen and no number in it is in use.
+#[inline(always)]
 fn is_dead(tree: &SpaceTree, ids: &Vec<CyclicIds>, key: SpaceKey) -> bool
     ensures { result ≡ dead_on tree.now.nodes ids.now.items key }
 {
@@ -259,6 +260,7 @@ fn is_dead(tree: &SpaceTree, ids: &Vec<CyclicIds>, key: SpaceKey) -> bool
 }
 
 /// Drops the namespace, where it is dead, and then each one around it that is dead, the innermost first.
+#[inline(always)]
 pub(crate) fn sweep(tree: &mut SpaceTree, ids: &Vec<CyclicIds>, space: SpaceKey)
     requires { AreAround tree.old.nodes ids.now.items (way tree.old.nodes space) }
     ensures nodes { (s : ℕ) → node_in tree.new.nodes s

@@ -6,6 +6,7 @@
 
 ghost use Rattle.std.specs.Prelude.{◌≡◌, IfOk, IfSome, OnOk, is_some, length};
 ghost use Rattle.pid_types.specs.Controls.{control_at, count as count_of};
+ghost use Rattle.pid_types.specs.Settings.{HasGoodPidMax};
 ghost use Rattle.pid_types.specs.Shown.{Shows};
 ghost use Rattle.pid_types.specs.Sound.{IsSound};
 ghost use Rattle.pid_types.specs.State.{root_state};
@@ -95,6 +96,16 @@ impl PidTable {
         ensures { IsSound self.now }
     {
         let _ = &self.store;
+    }
+
+    /// The bound of all numbers, 301 to 4194304. It costs one read.
+    pub fn pid_max(&self) -> u32
+        ensures value { result ≡ self.now.pid_max }
+        ensures good { HasGoodPidMax result }
+    {
+        let numbers = self.store.numbers();
+        numbers.laws();
+        numbers.pid_max()
     }
 
     /// How many tasks there are, ended ones too. It costs a logarithm of the control groups.
