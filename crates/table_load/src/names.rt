@@ -131,14 +131,23 @@ fn list_rows(
     Ok(members)
 }
 
+/// Whether the task has the root number.
+#[inline(always)]
+fn has_root(members: &[Member], index: usize, root: Pid) -> bool {
+    match members.get(index) {
+        Some(member) => member.root == root,
+        None => false,
+    }
+}
+
 /// The task with the root number: often one of the two that are near, or else it is searched.
-fn find_root(members: &[Member], root: Pid, near: [usize; 2]) -> Option<usize> {
-    for index in near {
-        if let Some(member) = members.get(index)
-            && member.root == root
-        {
-            return Some(index);
-        }
+#[inline(always)]
+fn find_root(members: &[Member], root: Pid, near: (usize, usize)) -> Option<usize> {
+    if has_root(members, near.0, root) {
+        return Some(near.0);
+    }
+    if has_root(members, near.1, root) {
+        return Some(near.1);
     }
     members
         .binary_search_by_key(&root, |member| member.root)
@@ -146,7 +155,7 @@ fn find_root(members: &[Member], root: Pid, near: [usize; 2]) -> Option<usize> {
 }
 
 /// The task whose line begins with the name.
-fn find(members: &[Member], rows: &[Row], name: &Name, near: [usize; 2]) -> Option<usize> {
+fn find(members: &[Member], rows: &[Row], name: &Name, near: (usize, usize)) -> Option<usize> {
     let found = find_root(members, root_of(name), near)?;
     let row = rows.get(found)?;
     if row.name == *name {
@@ -187,7 +196,7 @@ fn parent_of(
     members: &[Member],
     rows: &[Row],
     row: &Row,
-    near: [usize; 2],
+    near: (usize, usize),
     line: u64,
 ) -> Result<Option<usize>, RestoreFault> {
     let Some(name) = &row.parent else {
@@ -212,9 +221,9 @@ fn find_named(
 ) -> Result<Named, RestoreFault> {
     let by = before.parent.unwrap_or(0);
     Ok(Named {
-        parent: parent_of(members, rows, row, [by, before.group], task_line(index))?,
-        group: find(members, rows, &row.group, [index, before.group]),
-        session: find(members, rows, &row.session, [index, before.session]),
+        parent: parent_of(members, rows, row, (by, before.group), task_line(index))?,
+        group: find(members, rows, &row.group, (index, before.group)),
+        session: find(members, rows, &row.session, (index, before.session)),
     })
 }
 
