@@ -67,7 +67,7 @@ impl Work {
         }
     }
 
-    /// The tasks with bare names go again, where nobody else takes them away. The stand-ins of lost namespaces are gone.
+    /// The tasks with bare names go again, where nobody else takes them away.
     fn end_bare(&mut self, saved: &Saved, named: usize) -> Result<(), RestoreFault> {
         for index in saved.rows.len()..named {
             if !self.is_init(index) && !self.is_in_fallen(index) {

@@ -158,11 +158,7 @@ fn find_root(members: &[Member], root: Pid, near: (usize, usize)) -> Option<usiz
 fn find(members: &[Member], rows: &[Row], name: &Name, near: (usize, usize)) -> Option<usize> {
     let found = find_root(members, root_of(name), near)?;
     let row = rows.get(found)?;
-    if row.name == *name {
-        Some(found)
-    } else {
-        None
-    }
+    if row.name == *name { Some(found) } else { None }
 }
 
 /// A bare name that a task's group or session has.

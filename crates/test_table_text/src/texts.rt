@@ -48,17 +48,13 @@ fn is_as_shown(saved: &Saved, left: &Left) -> bool {
         && saved.rows == plain.rows
         && saved.spaces == plain.spaces
         && saved.controls.len() == plain.controls.len()
-        && controls
-            .into_iter()
-            .all(|(a, b)| a.id == b.id && a.parent == b.parent && a.limit == b.limit)
+        && controls.into_iter().all(|(a, b)| a.id == b.id
+            && a.parent == b.parent
+            && a.limit == b.limit)
 }
 
 /// Whether what the lines leave is written and read back as it is.
-fn is_read_as_written(
-    alloc: Global,
-    config: &Config,
-    lines: &[&[u8]],
-) -> Result<bool, AllocError> {
+fn is_read_as_written(alloc: Global, config: &Config, lines: &[&[u8]]) -> Result<bool, AllocError> {
     let left = left_by(alloc, config, lines)?;
     match what_is_written_is_read(alloc, &left.plain, left.stamp) {
         Ok(saved) => Ok(is_as_shown(&saved, &left)),
