@@ -25,24 +25,24 @@ impl Work {
     }
 
     /// The task ends, and its parent waits for it.
-    fn remove(&mut self, index: usize) -> Result<(), RestoreFault> {
+    fn remove(&mut self, saved: &Saved, index: usize) -> Result<(), RestoreFault> {
         self.exit(index, 0)?;
         let Some(parent) = self.plan.parent(index) else {
             return Ok(());
         };
         let caller = self.plan.root(parent);
-        let which = Which::Pid(self.plan.number_for(index, parent));
+        let which = Which::Pid(self.plan.number_for(saved, index, parent));
         let line = self.plan.line(index);
         self.change(Call::Wait { caller, which }, line)
     }
 
     /// The lost namespaces fall, and go.
-    fn end_lost(&mut self) -> Result<(), RestoreFault> {
+    fn end_lost(&mut self, saved: &Saved) -> Result<(), RestoreFault> {
         for index in 0..self.plan.lost.len() {
             if let Some(lost) = self.plan.lost.get(index)
                 && let Some(init) = lost.init
             {
-                self.remove(init)?;
+                self.remove(saved, init)?;
             }
         }
         Ok(())
@@ -50,7 +50,7 @@ impl Work {
 
     /// Whether the task is the init of a listed namespace.
     fn is_init(&self, index: usize) -> bool {
-        match self.plan.members.get(index) {
+        match self.plan.member(index) {
             Some(member) => self.plan.init_of(member.place) == Some(index),
             None => false,
         }
@@ -58,7 +58,7 @@ impl Work {
 
     /// Whether the task's namespace has fallen.
     fn is_in_fallen(&self, index: usize) -> bool {
-        let Some(member) = self.plan.members.get(index) else {
+        let Some(member) = self.plan.member(index) else {
             return false;
         };
         match self.plan.places.get(member.place) {
@@ -67,37 +67,23 @@ impl Work {
         }
     }
 
-    /// Whether the task has a bare name, in a namespace that stands, where nobody else takes it away.
-    fn is_bare(&self, index: usize) -> bool {
-        let Some(member) = self.plan.members.get(index) else {
-            return false;
-        };
-        member.row.is_none() && !self.is_init(index) && !self.is_in_fallen(index)
-    }
-
-    /// The tasks with bare names go again. The stand-ins of lost namespaces are gone.
-    fn end_bare(&mut self, named: usize) -> Result<(), RestoreFault> {
-        for index in 0..named {
-            if self.is_bare(index) {
-                self.remove(index)?;
+    /// The tasks with bare names go again, where nobody else takes them away.
+    fn end_bare(&mut self, saved: &Saved, named: usize) -> Result<(), RestoreFault> {
+        for index in saved.rows.len()..named {
+            if !self.is_init(index) && !self.is_in_fallen(index) {
+                self.remove(saved, index)?;
             }
         }
         Ok(())
     }
 
-    /// The status that the line of the task says, if it exited by itself.
-    fn status(&self, saved: &Saved, index: usize) -> Option<u8> {
-        let row = saved.rows.get(self.plan.members.get(index)?.row?)?;
-        exit_status(row.life)
-    }
-
     /// The tasks that exited by themselves exit, but for inits of fallen namespaces.
     fn end_exited(&mut self, saved: &Saved) -> Result<(), RestoreFault> {
-        for index in 0..self.plan.members.len() {
-            if self.is_init(index) && self.is_in_fallen(index) {
+        for (index, row) in saved.rows.iter().enumerate() {
+            let Some(status) = exit_status(row.life) else {
                 continue;
-            }
-            if let Some(status) = self.status(saved, index) {
+            };
+            if !self.is_init(index) || !self.is_in_fallen(index) {
                 self.exit(index, status)?;
             }
         }
@@ -124,9 +110,9 @@ impl Work {
             let Some(init) = self.plan.init_of(index) else {
                 continue;
             };
-            match self.status(saved, init) {
+            match saved.rows.get(init).and_then(|row| exit_status(row.life)) {
                 Some(status) => self.exit(init, status)?,
-                None => self.remove(init)?,
+                None => self.remove(saved, init)?,
             }
         }
         Ok(())
@@ -134,8 +120,8 @@ impl Work {
 
     /// Ends all that does not live. So many of the tasks have names of the text.
     pub fn end_tasks(&mut self, saved: &Saved, named: usize) -> Result<(), RestoreFault> {
-        self.end_lost()?;
-        self.end_bare(named)?;
+        self.end_lost(saved)?;
+        self.end_bare(saved, named)?;
         self.end_exited(saved)?;
         self.end_fallen(saved)
     }

@@ -4,11 +4,10 @@
 use crate::fault::RestoreFault;
 use crate::lines::task_line;
 use crate::make::Work;
-use crate::names::{find, root_of};
 use crate::spaces::place_of;
 use pid_types::call::Call;
 use pid_types::keys::Pid;
-use pid_types::plain::{Name, Row};
+use pid_types::plain::Row;
 use table_text::read::Saved;
 
 impl Work {
@@ -35,23 +34,22 @@ impl Work {
 
     /// Sets the marks and the control groups of all tasks.
     pub fn mark_tasks(&mut self, saved: &Saved) -> Result<(), RestoreFault> {
-        for (place, row) in saved.rows.iter().enumerate() {
-            let caller = root_of(&row.name);
-            self.mark_task(row, caller, task_line(place))?;
+        for (index, row) in saved.rows.iter().enumerate() {
+            let caller = self.plan.root(index);
+            self.mark_task(row, caller, task_line(index))?;
         }
         Ok(())
     }
 
     /// Each task that a session is named after begins one. The root init leads its own from the start.
     fn begin_sessions(&mut self) -> Result<(), RestoreFault> {
-        for index in 0..self.plan.members.len() {
-            let Some(member) = self.plan.members.get(index) else {
+        for index in 0..self.plan.members.all.len() {
+            let Some(member) = self.plan.member(index) else {
                 return Ok(());
             };
-            let leads_session = member.leads_session;
             let line = member.line;
-            let caller = self.plan.root(index);
-            if leads_session && caller != 1 {
+            let caller = member.root;
+            if member.leads_session && caller != 1 {
                 self.change(Call::SetSid { caller }, line)?;
             }
         }
@@ -65,40 +63,47 @@ impl Work {
         }
     }
 
-    /// A task with a bare name, which the group is named after, goes to the session of those in the group.
-    fn place_leader(&mut self, group: &Name, session: Pid) {
-        let Some(leader) = find(self.plan.members.as_slice(), group) else {
+    /// A task without a line, which a group is named after, goes to the session of those in the group.
+    fn place_leader(&mut self, leader: usize, session: Pid) {
+        let Some(member) = self.plan.member_mut(leader) else {
             return;
         };
-        let Some(member) = self.plan.members.get_mut(leader) else {
-            return;
-        };
-        if member.row.is_some() || member.leads_session || member.is_enlisted {
+        if member.leads_session || member.is_enlisted {
             return;
         }
         member.is_enlisted = true;
-        let root = self.plan.root(leader);
+        let root = member.root;
         self.enter_session(root, session);
     }
 
     /// All tasks go to their sessions, and those whose names only groups bear, too.
-    fn enter_sessions(&mut self, saved: &Saved) {
-        for row in &saved.rows {
-            let root = root_of(&row.name);
-            let session = root_of(&row.session);
+    fn enter_sessions(&mut self, lines: usize) {
+        for index in 0..lines {
+            let Some(member) = self.plan.member(index) else {
+                return;
+            };
+            let root = member.root;
+            let leader = member.group;
+            let session = self.plan.root(member.session);
             self.enter_session(root, session);
-            self.place_leader(&row.group, session);
+            if leader >= lines {
+                self.place_leader(leader, session);
+            }
         }
     }
 
-    /// Puts each task into its session and its group.
-    pub fn group_tasks(&mut self, saved: &Saved) -> Result<(), RestoreFault> {
+    /// Puts each task into its session and its group. So many tasks have lines.
+    pub fn group_tasks(&mut self, lines: usize) -> Result<(), RestoreFault> {
         self.begin_sessions()?;
-        self.enter_sessions(saved);
-        for row in &saved.rows {
-            if row.group != row.session {
-                let root = root_of(&row.name);
-                self.draft.enlist(root, root_of(&row.group));
+        self.enter_sessions(lines);
+        for index in 0..lines {
+            let Some(member) = self.plan.member(index) else {
+                return Ok(());
+            };
+            if member.group != member.session {
+                let root = member.root;
+                let leader = self.plan.root(member.group);
+                self.draft.enlist(root, leader);
             }
         }
         Ok(())
@@ -119,17 +124,16 @@ impl Work {
 
     /// The children of each task go into the namespace that its line says.
     pub fn send_children(&mut self, saved: &Saved) -> Result<(), RestoreFault> {
-        for index in 0..self.plan.members.len() {
-            let Some(place) = self.plan.members.get(index).and_then(|member| member.row) else {
-                continue;
+        for (index, row) in saved.rows.iter().enumerate() {
+            let Some(member) = self.plan.member(index) else {
+                return Ok(());
             };
-            let Some(row) = saved.rows.get(place) else {
+            if member.children_space == row.children_space {
                 continue;
-            };
-            let Some(init) = self.init_with(row.children_space) else {
-                continue;
-            };
-            self.join(index, init)?;
+            }
+            if let Some(init) = self.init_with(row.children_space) {
+                self.join(saved, index, init)?;
+            }
         }
         Ok(())
     }

@@ -24,8 +24,8 @@ pub struct Loaded {
 /// text that a table wrote is refused in one case, with [`RestoreFault::NoNumber`]: where a namespace without an init
 /// has to be made again in one whose numbers are all in use.
 ///
-/// It costs some times what the forks cost that made the tasks: for each, two or three searches by number on each level
-/// and one by its name.
+/// For each task it costs a reading of its line, a fork, and a comparison of its row. A search by number is added where
+/// a parent, a group or a session is not the one of the line before, and for each cursor that is to be put.
 pub fn load(alloc: Global, text: &[u8]) -> Result<Loaded, RestoreFault>
     ensures text { IfOk result (λ l. text.now ≡ text_of l.stamp l.table) }
     ensures sound { IfOk result (λ l. IsSound l.table × IsBelow l.stamp l.table) }

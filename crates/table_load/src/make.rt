@@ -8,11 +8,12 @@ use crate::draft::Draft;
 use crate::fault::RestoreFault;
 use crate::lines::{control_line, space_line};
 use crate::names::number_at;
-use crate::plan::{Plan, path_up, plan_for};
+use crate::plan::{Plan, plan_for};
+use crate::spaces::Place;
 use pid_types::call::Call;
 use pid_types::config::Config;
 use pid_types::keys::Pid;
-use pid_types::plain::Control;
+use pid_types::plain::{Control, LEVELS, Name};
 use std::alloc::Global;
 use table_text::read::Saved;
 
@@ -69,6 +70,22 @@ fn list_makings(alloc: Global, saved: &Saved, plan: &Plan) -> Result<Vec<Making>
     Ok(makings)
 }
 
+/// The next draws in the namespace, and in those around it, begin at the numbers of the name. Most cursors stand there.
+fn put_cursors(draft: &mut Draft, places: &mut Vec<Place>, place: usize, name: &Name) {
+    let mut next = Some(place);
+    for _level in 0..LEVELS {
+        let Some(place) = next.and_then(|index| places.get_mut(index)) else {
+            return;
+        };
+        let number = number_at(name, place.level);
+        if place.cursor != number {
+            draft.set_cursor(place.id, number);
+        }
+        place.cursor = number.saturating_add(1);
+        next = place.outer;
+    }
+}
+
 impl Work {
     /// The root init is there from the start.
     fn begin(alloc: Global, saved: &Saved, mut plan: Plan) -> Result<Work, RestoreFault> {
@@ -76,7 +93,7 @@ impl Work {
             return Err(RestoreFault::BadSettings(1));
         };
         if let Some(root) = plan.init_of(0)
-            && let Some(member) = plan.members.get_mut(root)
+            && let Some(member) = plan.member_mut(root)
         {
             member.is_made = true;
         }
@@ -95,57 +112,49 @@ impl Work {
     }
 
     /// The task's later children go into the namespace of the init.
-    pub fn join(&mut self, member: usize, init: usize) -> Result<(), RestoreFault> {
-        let Some(space) = self.plan.members.get(init).map(|init| init.name.space) else {
+    pub fn join(&mut self, saved: &Saved, member: usize, init: usize) -> Result<(), RestoreFault> {
+        let Some(space) = self.plan.member(init).map(|init| init.space) else {
             return Ok(());
         };
-        let caller = self.plan.root(member);
-        let target = self.plan.number_for(init, member);
-        let line = self.plan.line(member);
-        let Some(joining) = self.plan.members.get_mut(member) else {
+        let Some(joining) = self.plan.member_mut(member) else {
             return Ok(());
         };
         if joining.children_space == space {
             return Ok(());
         }
         joining.children_space = space;
+        let line = joining.line;
+        let caller = joining.root;
+        let target = self.plan.number_for(saved, init, member);
         self.change(Call::Join { caller, target }, line)
     }
 
     /// The next draws in the namespace, and in those around it, begin at the numbers of the task.
-    fn put_cursors(&mut self, place: usize, member: usize) {
-        let Some(named) = self.plan.members.get(member) else {
-            return;
-        };
-        let path = path_up(self.plan.places.as_slice(), place);
-        for index in path.as_slice() {
-            let Some(place) = self.plan.places.get(*index) else {
-                continue;
-            };
-            let number = number_at(&named.name, place.level);
-            self.draft.set_cursor(place.id, number);
+    fn put_cursors(&mut self, saved: &Saved, place: usize, index: usize) {
+        if let Some(name) = self.plan.members.name(saved, index) {
+            put_cursors(&mut self.draft, &mut self.plan.places, place, name);
         }
     }
 
     /// Enters that the task was made, if it has the number that it is to have.
     fn settle(&mut self, index: usize, root: Option<Pid>) -> Result<(), RestoreFault> {
-        let line = self.plan.line(index);
-        let Some(root) = root else {
-            return Err(RestoreFault::Impossible(line));
+        let Some(member) = self.plan.member_mut(index) else {
+            return Ok(());
         };
-        if root != self.plan.root(index) {
-            return Err(RestoreFault::TakenNumber(line));
+        let Some(root) = root else {
+            return Err(RestoreFault::Impossible(member.line));
+        };
+        if root != member.root {
+            return Err(RestoreFault::TakenNumber(member.line));
         }
-        if let Some(member) = self.plan.members.get_mut(index) {
-            member.is_made = true;
-        }
+        member.is_made = true;
         Ok(())
     }
 
     /// Makes a task that is not the init of its namespace, by its parent.
-    fn make_task(&mut self, index: usize) -> Result<(), RestoreFault> {
+    fn make_task(&mut self, saved: &Saved, index: usize) -> Result<(), RestoreFault> {
         let line = self.plan.line(index);
-        let Some(place) = self.plan.members.get(index).map(|member| member.place) else {
+        let Some(place) = self.plan.member(index).map(|member| member.place) else {
             return Ok(());
         };
         let Some(parent) = self.plan.parent(index) else {
@@ -157,55 +166,55 @@ impl Work {
         if !self.plan.is_made(parent) || !self.plan.is_made(init) {
             return Err(RestoreFault::Impossible(line));
         }
-        self.join(parent, init)?;
-        self.put_cursors(place, index);
+        self.join(saved, parent, init)?;
+        self.put_cursors(saved, place, index);
         let root = self.draft.fork(self.plan.root(parent))?;
         self.settle(index, root)
     }
 
-    /// The tasks that are not yet made, from the given one upwards.
-    fn unmade_from(&self, index: usize) -> Result<Vec<usize>, RestoreFault> {
+    /// The tasks above a task that are not yet made, upwards.
+    fn unmade_above(&self, index: usize) -> Result<Vec<usize>, RestoreFault> {
         let mut unmade = Vec::new(self.alloc);
         let mut next = index;
-        for _step in 0..self.plan.members.len() {
-            if self.plan.is_made(next) {
-                return Ok(unmade);
-            }
-            if unmade.push(next).is_err() {
-                return Err(RestoreFault::NoMemory);
-            }
+        for _step in 0..self.plan.members.all.len() {
             let Some(parent) = self.plan.parent(next) else {
                 return Ok(unmade);
             };
+            if self.plan.is_made(parent) {
+                return Ok(unmade);
+            }
+            if unmade.push(parent).is_err() {
+                return Err(RestoreFault::NoMemory);
+            }
             next = parent;
         }
         Ok(unmade)
     }
 
     /// Makes a task, and before it all above it that are not there.
-    fn make_with_ancestors(&mut self, index: usize) -> Result<(), RestoreFault> {
+    fn make_with_ancestors(&mut self, saved: &Saved, index: usize) -> Result<(), RestoreFault> {
         if self.plan.is_made(index) {
             return Ok(());
         }
-        let unmade = self.unmade_from(index)?;
+        let unmade = self.unmade_above(index)?;
         for member in unmade.as_slice().iter().rev() {
-            self.make_task(*member)?;
+            self.make_task(saved, *member)?;
         }
-        Ok(())
+        self.make_task(saved, index)
     }
 
     /// Makes the namespace with the id in the one of the parent, and its init.
-    fn make_init(&mut self, id: u64, init: usize) -> Result<(), RestoreFault> {
+    fn make_init(&mut self, saved: &Saved, id: u64, init: usize) -> Result<(), RestoreFault> {
         let line = self.plan.line(init);
         let Some(parent) = self.plan.parent(init) else {
             return Err(RestoreFault::Impossible(line));
         };
-        self.make_with_ancestors(parent)?;
-        self.join(parent, parent)?;
-        let Some(place) = self.plan.members.get(parent).map(|member| member.place) else {
+        self.make_with_ancestors(saved, parent)?;
+        self.join(saved, parent, parent)?;
+        let Some(place) = self.plan.member(parent).map(|member| member.place) else {
             return Ok(());
         };
-        self.put_cursors(place, init);
+        self.put_cursors(saved, place, init);
         let root = self.draft.fork_into_new(self.plan.root(parent), id)?;
         self.settle(init, root)
     }
@@ -217,20 +226,20 @@ impl Work {
         };
         let id = place.id;
         if let Some(init) = place.init {
-            return self.make_init(id, init);
+            return self.make_init(saved, id, init);
         }
         let line = space_line(saved, index);
         let Some(outer) = place.outer else {
             return Err(RestoreFault::Impossible(line));
         };
         let init = self.plan.add_stand_in(id, outer, saved.pid_max, line)?;
-        if let Some(member) = self.plan.members.get_mut(init) {
+        if let Some(member) = self.plan.member_mut(init) {
             member.place = index;
         }
         if let Some(place) = self.plan.places.get_mut(index) {
             place.init = Some(init);
         }
-        self.make_init(id, init)
+        self.make_init(saved, id, init)
     }
 
     /// Makes a namespace that is not listed any more.
@@ -244,7 +253,7 @@ impl Work {
         if let Some(lost) = self.plan.lost.get_mut(index) {
             lost.init = Some(init);
         }
-        self.make_init(lost.id, init)
+        self.make_init(saved, lost.id, init)
     }
 
     /// Makes the control group of a line.
@@ -274,8 +283,8 @@ impl Work {
         for making in makings.as_slice() {
             self.make_one(saved, making.made)?;
         }
-        for index in 0..self.plan.members.len() {
-            self.make_with_ancestors(index)?;
+        for index in 0..self.plan.members.all.len() {
+            self.make_with_ancestors(saved, index)?;
         }
         Ok(())
     }
@@ -284,11 +293,11 @@ impl Work {
 /// A table that was made as the text says, as far as it can be: [`Draft::finish`] compares it with the text.
 pub fn make_table(alloc: Global, saved: &Saved) -> Result<Draft, RestoreFault> {
     let plan = plan_for(alloc, saved)?;
-    let named = plan.members.len();
+    let named = plan.members.all.len();
     let mut work = Work::begin(alloc, saved, plan)?;
     work.make_all(saved)?;
     work.mark_tasks(saved)?;
-    work.group_tasks(saved)?;
+    work.group_tasks(saved.rows.len())?;
     work.send_children(saved)?;
     work.end_tasks(saved, named)?;
     work.set_limits(saved)?;

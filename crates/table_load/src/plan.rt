@@ -2,8 +2,8 @@
 //! gone without a trace.
 
 use crate::fault::RestoreFault;
-use crate::lines::space_line;
-use crate::names::{Member, find, list_members, number_at, root_of};
+use crate::lines::{space_line, task_line};
+use crate::names::{Member, Members, list_members, member_of, number_at};
 use crate::spaces::{Place, check_controls, list_places, place_of};
 use arrayvec::ArrayVec;
 use pid_types::keys::Pid;
@@ -37,49 +37,18 @@ struct Taken {
 #[derive(Drop)]
 pub struct Plan {
     pub places: Vec<Place>,
-    /// The tasks, those of the text by their root numbers, with stand-ins behind them.
-    pub members: Vec<Member>,
+    pub members: Members,
     /// The lost namespaces, by their ids.
     pub lost: Vec<Lost>,
     /// The numbers of all names, which no stand-in may have.
     taken: Vec<Taken>,
 }
 
-/// Whether the task is number 1 of its own namespace.
-fn is_first(name: &Name) -> bool {
-    name.numbers.as_slice().last() == Some(&1)
-}
-
-/// Finds the init of each namespace.
-fn find_inits(places: &mut Vec<Place>, members: &[Member]) -> Result<(), RestoreFault> {
-    for (index, member) in members.iter().enumerate() {
-        if !is_first(&member.name) {
-            continue;
-        }
-        let Some(place) = places.get_mut(member.place) else {
-            continue;
-        };
-        if place.init.is_some() {
-            return Err(RestoreFault::TakenNumber(member.line));
-        }
-        place.init = Some(index);
-    }
-    Ok(())
-}
-
-/// Whether the task has a line of its own.
-fn has_line(members: &[Member], index: usize) -> bool {
-    match members.get(index) {
-        Some(member) => member.row.is_some(),
-        None => false,
-    }
-}
-
 /// Sees that each namespace that stands has an init with a line of its own.
-fn check_inits(saved: &Saved, places: &[Place], members: &[Member]) -> Result<(), RestoreFault> {
+fn check_inits(saved: &Saved, places: &[Place]) -> Result<(), RestoreFault> {
     for (index, place) in places.iter().enumerate() {
         let stands = match place.init {
-            Some(init) => has_line(members, init),
+            Some(init) => init < saved.rows.len(),
             None => false,
         };
         if !stands && !place.is_fallen {
@@ -89,67 +58,9 @@ fn check_inits(saved: &Saved, places: &[Place], members: &[Member]) -> Result<()
     Ok(())
 }
 
-/// The parent of a task with a line of its own: none for the root init alone.
-fn parent_of(members: &[Member], row: &Row, line: u64) -> Result<Option<usize>, RestoreFault> {
-    let Some(name) = &row.parent else {
-        if root_of(&row.name) == 1 && row.name.space == 0 {
-            return Ok(None);
-        }
-        return Err(RestoreFault::UnknownParent(line));
-    };
-    let Some(parent) = find(members, name) else {
-        return Err(RestoreFault::UnknownParent(line));
-    };
-    if !has_line(members, parent) {
-        return Err(RestoreFault::UnknownParent(line));
-    }
-    Ok(Some(parent))
-}
-
-/// The parent of the task, where its line says so.
-fn parent_at(
-    members: &[Member],
-    rows: &[Row],
-    index: usize,
-) -> Result<Option<usize>, RestoreFault> {
-    let Some(member) = members.get(index) else {
-        return Ok(None);
-    };
-    let Some(place) = member.row else {
-        return Ok(None);
-    };
-    let Some(row) = rows.get(place) else {
-        return Ok(None);
-    };
-    parent_of(members, row, member.line)
-}
-
-/// Finds the parents that the lines say.
-fn find_parents(members: &mut Vec<Member>, rows: &[Row]) -> Result<(), RestoreFault> {
-    for index in 0..members.len() {
-        let parent = parent_at(members.as_slice(), rows, index)?;
-        if let Some(member) = members.get_mut(index) {
-            member.parent = parent;
-        }
-    }
-    Ok(())
-}
-
-/// Marks the tasks that sessions are named after.
-fn mark_leaders(members: &mut Vec<Member>, rows: &[Row]) {
-    for row in rows {
-        if let Some(leader) = find(members.as_slice(), &row.session)
-            && let Some(member) = members.get_mut(leader)
-        {
-            member.leads_session = true;
-        }
-    }
-}
-
 /// The lost namespace that the children of the task go into, if they do.
-fn lost_of(places: &[Place], rows: &[Row], member: &Member) -> Option<Lost> {
-    let row = rows.get(member.row?)?;
-    if place_of(places, row.children_space).is_some() {
+fn lost_of(places: &[Place], row: &Row, member: &Member) -> Option<Lost> {
+    if row.children_space == member.space || place_of(places, row.children_space).is_some() {
         return None;
     }
     Some(Lost {
@@ -169,8 +80,8 @@ fn list_lost(
     members: &[Member],
 ) -> Result<Vec<Lost>, RestoreFault> {
     let mut all = Vec::new(alloc);
-    for member in members {
-        if let Some(lost) = lost_of(places, rows, member)
+    for (row, member) in rows.iter().zip(members) {
+        if let Some(lost) = lost_of(places, row, member)
             && all.push(lost).is_err()
         {
             return Err(RestoreFault::NoMemory);
@@ -183,7 +94,7 @@ fn list_lost(
 }
 
 /// The place and those around it, innermost first.
-pub fn path_up(places: &[Place], from: usize) -> ArrayVec<usize, LEVELS> {
+fn path_up(places: &[Place], from: usize) -> ArrayVec<usize, LEVELS> {
     let mut path = ArrayVec::new();
     let mut next = Some(from);
     for _level in 0..LEVELS {
@@ -203,13 +114,14 @@ pub fn path_up(places: &[Place], from: usize) -> ArrayVec<usize, LEVELS> {
 fn take_numbers(
     taken: &mut Vec<Taken>,
     places: &[Place],
-    member: &Member,
+    place: usize,
+    name: &Name,
 ) -> Result<(), RestoreFault> {
-    let path = path_up(places, member.place);
+    let path = path_up(places, place);
     let levels = path.len();
     for (steps, place) in path.as_slice().iter().enumerate() {
         let level = levels.saturating_sub(steps).saturating_sub(1);
-        let number = number_at(&member.name, level);
+        let number = number_at(name, level);
         if taken
             .push(Taken {
                 place: *place,
@@ -226,8 +138,9 @@ fn take_numbers(
 /// The numbers of all names, where a stand-in is needed.
 fn list_taken(
     alloc: Global,
+    saved: &Saved,
     places: &[Place],
-    members: &[Member],
+    members: &Members,
     lost: &[Lost],
 ) -> Result<Vec<Taken>, RestoreFault> {
     let mut taken = Vec::new(alloc);
@@ -235,8 +148,10 @@ fn list_taken(
     if all_stand && lost.is_empty() {
         return Ok(taken);
     }
-    for member in members {
-        take_numbers(&mut taken, places, member)?;
+    for (index, member) in members.all.iter().enumerate() {
+        if let Some(name) = members.name(saved, index) {
+            take_numbers(&mut taken, places, member.place, name)?;
+        }
     }
     taken.sort_unstable();
     Ok(taken)
@@ -262,23 +177,15 @@ pub fn plan_for(alloc: Global, saved: &Saved) -> Result<Plan, RestoreFault> {
     check_ids(saved)?;
     check_controls(saved)?;
     let mut places = list_places(alloc, saved)?;
-    let mut members = list_members(alloc, saved, places.as_slice())?;
-    find_inits(&mut places, members.as_slice())?;
-    check_inits(saved, places.as_slice(), members.as_slice())?;
-    find_parents(&mut members, saved.rows.as_slice())?;
-    mark_leaders(&mut members, saved.rows.as_slice());
+    let members = list_members(alloc, saved, places.as_mut_slice())?;
+    check_inits(saved, places.as_slice())?;
     let lost = list_lost(
         alloc,
         places.as_slice(),
         saved.rows.as_slice(),
-        members.as_slice(),
+        members.all.as_slice(),
     )?;
-    let taken = list_taken(
-        alloc,
-        places.as_slice(),
-        members.as_slice(),
-        lost.as_slice(),
-    )?;
+    let taken = list_taken(alloc, saved, places.as_slice(), &members, lost.as_slice())?;
     Ok(Plan {
         places,
         members,
@@ -328,22 +235,20 @@ impl Plan {
         let Some(numbers) = self.stand_in_numbers(outer, pid_max) else {
             return Err(RestoreFault::NoNumber(line));
         };
-        let index = self.members.len();
-        let member = Member {
-            name: Name { space: id, numbers },
-            line,
-            row: None,
-            place: outer,
-            parent: self.init_of(outer),
-            children_space: id,
-            is_made: false,
-            leads_session: false,
-            is_enlisted: true,
-        };
-        match self.members.push(member) {
-            Ok(()) => Ok(index),
-            Err(_) => Err(RestoreFault::NoMemory),
-        }
+        let name = Name { space: id, numbers };
+        let mut member = member_of(&name, line, outer, self.members.all.len());
+        member.parent = self.init_of(outer);
+        self.members.enter_unlisted(member, name)
+    }
+
+    /// The task at the place.
+    pub fn member(&self, index: usize) -> Option<&Member> {
+        self.members.all.get(index)
+    }
+
+    /// The same, to be changed.
+    pub fn member_mut(&mut self, index: usize) -> Option<&mut Member> {
+        self.members.all.get_mut(index)
     }
 
     /// The init of the namespace.
@@ -352,35 +257,35 @@ impl Plan {
     }
 
     /// The number of the task in the namespace of the other one, which is its own one or around it.
-    pub fn number_for(&self, member: usize, other: usize) -> Pid {
-        let Some(place) = self.members.get(other).map(|other| other.place) else {
+    pub fn number_for(&self, saved: &Saved, member: usize, other: usize) -> Pid {
+        let Some(place) = self.member(other).map(|other| other.place) else {
             return 0;
         };
         let Some(level) = self.places.get(place).map(|place| place.level) else {
             return 0;
         };
-        match self.members.get(member) {
-            Some(member) => number_at(&member.name, level),
+        match self.members.name(saved, member) {
+            Some(name) => number_at(name, level),
             None => 0,
         }
     }
 
     /// The root number of the task, by which it makes calls.
     pub fn root(&self, member: usize) -> Pid {
-        match self.members.get(member) {
-            Some(member) => root_of(&member.name),
-            None => 0,
-        }
+        self.member(member).map_or(0, |member| member.root)
     }
 
     /// The line that the task is first named in.
     pub fn line(&self, member: usize) -> u64 {
-        self.members.get(member).map_or(1, |member| member.line)
+        match self.member(member) {
+            Some(member) => member.line,
+            None => task_line(0),
+        }
     }
 
     /// Whether the task has been made.
     pub fn is_made(&self, member: usize) -> bool {
-        match self.members.get(member) {
+        match self.member(member) {
             Some(member) => member.is_made,
             None => false,
         }
@@ -389,7 +294,7 @@ impl Plan {
     /// Who makes the task: the parent that its line says, or else the init of its namespace; for an init that of the
     /// namespace around.
     pub fn parent(&self, index: usize) -> Option<usize> {
-        let member = self.members.get(index)?;
+        let member = self.member(index)?;
         if member.parent.is_some() {
             return member.parent;
         }

@@ -19,6 +19,8 @@ pub struct Place {
     /// The task that is number 1 in it.
     pub init: Option<usize>,
     pub is_fallen: bool,
+    /// Where its next draw begins, as far as is known.
+    pub cursor: Pid,
     /// The least number that a stand-in may have here.
     pub next_free: Pid,
 }
@@ -36,6 +38,7 @@ fn place_in(places: &[Place], space: &Space, line: u64) -> Result<Place, Restore
         outer: None,
         init: None,
         is_fallen: space.fallen,
+        cursor: 2,
         next_free: 2,
     };
     let Some(parent) = space.parent else {
@@ -102,14 +105,26 @@ pub fn check_controls(saved: &Saved) -> Result<(), RestoreFault> {
     Ok(())
 }
 
-/// The place of a name's namespace, where the name has a number in range for it and for each namespace around it.
+/// The place of the namespace with the id: often the near one, or else it is searched.
+fn place_near(places: &[Place], id: u64, near: usize) -> Option<usize> {
+    if let Some(place) = places.get(near)
+        && place.id == id
+    {
+        return Some(near);
+    }
+    place_of(places, id)
+}
+
+/// The place of a name's namespace, where the name has a number in range for it and for each namespace around it. It is
+/// often the near one.
 pub fn check_name(
     places: &[Place],
     name: &Name,
     pid_max: u32,
     line: u64,
+    near: usize,
 ) -> Result<usize, RestoreFault> {
-    let Some(index) = place_of(places, name.space) else {
+    let Some(index) = place_near(places, name.space, near) else {
         return Err(RestoreFault::UnknownNamespace(line));
     };
     let level = places.get(index).map(|place| place.level);
@@ -122,4 +137,25 @@ pub fn check_name(
         }
     }
     Ok(index)
+}
+
+/// Enters the task as the init of its namespace, where its name says so.
+pub fn claim_init(
+    places: &mut [Place],
+    place: usize,
+    name: &Name,
+    index: usize,
+    line: u64,
+) -> Result<(), RestoreFault> {
+    if name.numbers.as_slice().last() != Some(&1) {
+        return Ok(());
+    }
+    let Some(place) = places.get_mut(place) else {
+        return Ok(());
+    };
+    if place.init.is_some() {
+        return Err(RestoreFault::TakenNumber(line));
+    }
+    place.init = Some(index);
+    Ok(())
 }

@@ -1,12 +1,13 @@
 -- What is read of a text, from one place to another.
-use Rattle.std.proofs.Common.{◌≡◌, ℕ, ◌+◌, ◌-◌, ◌^◌, ◌<◌, ◌≤◌, Bool, true, false, eqb, List, [], ◌∷◌, ◌++◌, length, take, drop, Option, Some, decimal, codes, refl, sym, ap, ◌∙◌, subst, arith, take_all, take-add, length-drop, append_assoc, bytes_eq, length-append, length-take-le, take-append-drop, append-nil, Result, Ok, Err, take_at, true≢false, suc, None, get_or, get_or-drop, take-suc, drop-drop, OkIff}
+use Rattle.std.proofs.Common.{◌≡◌, ℕ, ◌+◌, ◌-◌, ◌*◌, ◌^◌, ◌<◌, ◌≤◌, Bool, true, false, eqb, List, [], ◌∷◌, ◌++◌, length, take, drop, Option, Some, decimal, codes, refl, sym, ap, ◌∙◌, subst, arith, take_all, take-add, length-drop, append_assoc, bytes_eq, length-append, length-take-le, take-append-drop, append-nil, Result, Ok, Err, take_at, true≢false, suc, None, get_or, get_or-drop, take-suc, drop-drop, OkIff}
 use Rattle.std.specs.Prelude.{if◌then◌else◌}
 use Rattle.std.specs.Result.{is_ok, is_err, result_ok}
 use Rattle.std.specs.List.{starts_with, flat_map}
 use Rattle.std.proofs.lemmas.List.Concat.{flat_map-append}
 use Rattle.std.proofs.lemmas.Slice.Eq.{bytes_eq-Decides}
 use Rattle.std.specs.Char.{digit_value}
-use Rattle.std.specs.Str.Parse.{AllDigits}
+use Rattle.std.specs.Str.Parse.{AllDigits, digits_value}
+use Rattle.std.proofs.lemmas.Int.Digits.{digits_value_more}
 use Rattle.std.proofs.lemmas.Fmt.{digits_decimal}
 use Rattle.std.proofs.lemmas.List.{append_cancel_left}
 use Rattle.std.specs.Option.{IfNone, IfSome}
@@ -32,9 +33,9 @@ word_read text word at starts =
     take-add at (length word) text ∙ ap (λ w. take at text ++ w) (sym (same ∙ ap (take (length word)) (rest_is text at)))
 
 -- a number that stands there
-pub number_read : (text : List ℕ) (at end n : ℕ) → at ≤ end → Some n ≡ number_below (2 ^ 64) (take (end - at) (drop at text)) → IsRead text at end (decimal n)
-number_read text at end n le says =
-    let written = (number_below-Some (2 ^ 64) (take (end - at) (drop at text)) n (sym says)).1 in
+pub number_read : (bound : ℕ) (text : List ℕ) (at end n : ℕ) → at ≤ end → Some n ≡ number_below bound (take (end - at) (drop at text)) → IsRead text at end (decimal n)
+number_read bound text at end n le says =
+    let written = (number_below-Some bound (take (end - at) (drop at text)) n (sym says)).1 in
     let whole : at + (end - at) ≡ end = omega arith in
     subst (λ e. take e text ≡ take at text ++ decimal n) whole (take-add at (end - at) text ∙ ap (λ w. take at text ++ w) (sym written))
 
@@ -141,6 +142,17 @@ digits_more text at index from within all one =
     let parts = take-suc (drop at text) (index - at) 0 lt in
     subst (λ k. AllDigits 10 (take k (drop at text))) further
     (subst (AllDigits 10) (sym parts) (digits_and_one _ _ all (subst (λ b. digit_value b < 10) (sym same) one)))
+
+-- and what they write
+pub value_more : (text : List ℕ) (at index : ℕ) → at ≤ index → index < length text → digits_value 10 (take (index + 1 - at) (drop at text))
+    ≡ digits_value 10 (take (index - at) (drop at text)) * 10 + digit_value (get_or text index 0)
+value_more text at index from within =
+    let long = length-drop at text in
+    let further : index + 1 - at ≡ index - at + 1 = omega arith in
+    let there : at + (index - at) ≡ index = omega arith in
+    let same : get_or (drop at text) (index - at) 0 ≡ get_or text index 0 = get_or-drop at text (index - at) 0 ∙ ap (λ i. get_or text i 0) there in
+    ap (λ k. digits_value 10 (take k (drop at text))) further ∙ digits_value_more 10 (drop at text) (index - at) (omega (arith, long))
+    ∙ ap (λ b. digits_value 10 (take (index - at) (drop at text)) * 10 + digit_value b) same
 
 -- a number that does not stand there
 pub number_missing : (text : List ℕ) (at end : ℕ) → AllDigits 10 (take (end - at) (drop at text)) → at ≤ end → Stops (drop end text)

@@ -22,7 +22,7 @@ use crate::scan::{
 };
 use arrayvec::ArrayVec;
 use pid_types::keys::Pid;
-use pid_types::plain::{Control, LEVELS, Name, Row, Space};
+use pid_types::plain::{Control, LEVELS, Life, Name, Row, Space};
 use std::alloc::Global;
 
 /// What a text says.
@@ -77,90 +77,105 @@ fn read_head(text: &[u8], at: &mut usize) -> Option<Head>
     Some(head)
 }
 
-/// Numbers with a comma between, from 1 to 33 of them.
-fn read_numbers(text: &[u8], at: &mut usize) -> Option<ArrayVec<Pid, LEVELS>>
+/// Numbers with a comma between, from 1 to 33 of them, are written over others.
+fn read_numbers(text: &[u8], at: &mut usize, numbers: &mut ArrayVec<Pid, LEVELS>) -> Option<()>
     requires { at.old ≤ length text.now }
     ensures within { at.new ≤ length text.now }
-    ensures read { IfSome result (λ numbers. IsRead text.now at.old at.new (joined 44 numbers.items)) }
-    ensures words { IfSome result (λ numbers. Each IsWord numbers.items) }
-    ensures some { IfSome result (λ numbers. 0 < length numbers.items) }
-    ensures whole { IfSome result (λ numbers. length numbers.items < 33 → Lacks (codes ",") text.now at.new) }
+    ensures read { OnSome result (IsRead text.now at.old at.new (joined 44 numbers.new.items)) }
+    ensures words { OnSome result (Each IsWord numbers.new.items) }
+    ensures some { OnSome result (0 < length numbers.new.items) }
+    ensures whole { OnSome result (length numbers.new.items < 33 → Lacks (codes ",") text.now at.new) }
     ensures missing { IfNone result (LacksNumbers text.now at.old) }
     ensures stops { OnSome result (Stops (drop at.new text.now)) }
 {
-    let mut numbers = ArrayVec::new();
+    numbers.clear();
     numbers.push(read_small(text, at)?);
     for _further in 1..LEVELS {
         if !read_mark(text, at, b",") {
-            return Some(numbers);
+            return Some(());
         }
         numbers.push(read_small(text, at)?);
     }
-    Some(numbers)
+    Some(())
 }
 
-/// The label, and a name in one word.
+/// The label, and a name in one word, which is written over another.
 #[tactic(auto, unfolding(crate::specs::Texts::name_word))]
-fn read_name(text: &[u8], at: &mut usize, label: &[u8]) -> Option<Name>
+fn read_name(text: &[u8], at: &mut usize, label: &[u8], name: &mut Name) -> Option<()>
     requires { at.old ≤ length text.now }
     ensures within { at.new ≤ length text.now }
-    ensures read { IfSome result (λ name. IsRead text.now at.old at.new (label.now ++ name_word name)) }
-    ensures words { IfSome result IsNameOfWords }
+    ensures read { OnSome result (IsRead text.now at.old at.new (label.now ++ name_word name.new)) }
+    ensures words { OnSome result (IsNameOfWords name.new) }
     ensures missing { IfNone result (LacksAny IsHeldName (λ name. label.now ++ name_word name) text.now at.old) }
     ensures stops { OnSome result (Stops (drop at.new text.now)) }
 {
     read_word(text, at, label)?;
-    let numbers = read_numbers(text, at)?;
-    let space = read_field(text, at, b"@")?;
-    Some(Name { space, numbers })
+    read_numbers(text, at, &mut name.numbers)?;
+    name.space = read_field(text, at, b"@")?;
+    Some(())
 }
 
-/// The name of a task's parent, `-` for none.
-fn read_parent_name(text: &[u8], at: &mut usize) -> Option<Option<Name>>
+/// A name to be written over.
+fn no_name() -> Name {
+    Name {
+        space: 0,
+        numbers: ArrayVec::new(),
+    }
+}
+
+/// The name of a task's parent, `-` for none, which is written over another.
+fn read_parent_name(text: &[u8], at: &mut usize, parent: &mut Option<Name>) -> Option<()>
     requires { at.old ≤ length text.now }
     ensures within { at.new ≤ length text.now }
-    ensures read { IfSome result (λ p. IsRead text.now at.old at.new (codes " parent " ++ parent_word p)) }
-    ensures words { IfSome result (λ p. IfSome p IsNameOfWords) }
+    ensures read { OnSome result (IsRead text.now at.old at.new (codes " parent " ++ parent_word parent.new)) }
+    ensures words { OnSome result (IfSome parent.new IsNameOfWords) }
     ensures missing { IfNone result
         (LacksAny (λ p. IfSome p IsHeldName) (λ p. codes " parent " ++ parent_word p) text.now at.old) }
-    ensures stops { IfSome result (λ p. IfSome p (λ name. Stops (drop at.new text.now))) }
+    ensures stops { OnSome result (IfSome parent.new (λ name. Stops (drop at.new text.now))) }
 {
     if read_mark(text, at, b" parent -") {
-        return Some(None);
+        *parent = None;
+        return Some(());
     }
-    Some(Some(read_name(text, at, b" parent ")?))
+    read_name(text, at, b" parent ", parent.get_or_insert_with(no_name))?;
+    Some(())
 }
 
-/// The line of a task.
+/// The line of a task, which is written over another row.
 #[tactic(auto, unfolding(crate::specs::Texts::task_line))]
-fn read_task(text: &[u8], at: &mut usize) -> Option<Row>
+fn read_task(text: &[u8], at: &mut usize, row: &mut Row) -> Option<()>
     requires { at.old ≤ length text.now }
     ensures within { at.new ≤ length text.now }
-    ensures read { IfSome result (λ row. IsRead text.now at.old at.new (task_line row)) }
-    ensures words { IfSome result IsRowOfWords }
+    ensures read { OnSome result (IsRead text.now at.old at.new (task_line row.new)) }
+    ensures words { OnSome result (IsRowOfWords row.new) }
     ensures missing { IfNone result (LacksLine IsHeldRow task_line text.now at.old) }
 {
-    let name = read_name(text, at, b"task ")?;
-    let parent = read_parent_name(text, at)?;
-    let group = read_name(text, at, b" group ")?;
-    let session = read_name(text, at, b" session ")?;
-    let home = read_field(text, at, b" control ")?;
-    let children_space = read_field(text, at, b" children ")?;
-    let life = read_life(text, at)?;
-    let executed = read_mark(text, at, b" executed");
-    let subreaper = read_mark(text, at, b" subreaper");
+    read_name(text, at, b"task ", &mut row.name)?;
+    read_parent_name(text, at, &mut row.parent)?;
+    read_name(text, at, b" group ", &mut row.group)?;
+    read_name(text, at, b" session ", &mut row.session)?;
+    row.home = read_field(text, at, b" control ")?;
+    row.children_space = read_field(text, at, b" children ")?;
+    row.life = read_life(text, at)?;
+    row.executed = read_mark(text, at, b" executed");
+    row.subreaper = read_mark(text, at, b" subreaper");
     read_word(text, at, b"\n")?;
-    Some(Row {
-        name,
-        parent,
-        group,
-        session,
-        executed,
-        life,
-        home,
-        children_space,
-        subreaper,
-    })
+    Some(())
+}
+
+/// A row to be written over.
+fn no_row() -> Row {
+    Row {
+        name: no_name(),
+        parent: Some(no_name()),
+        group: no_name(),
+        session: no_name(),
+        executed: false,
+        life: Life::Live,
+        home: 0,
+        children_space: 0,
+        subreaper: false,
+    }
 }
 
 /// The line of a namespace.
@@ -230,12 +245,14 @@ fn read_tasks(alloc: Global, text: &[u8], at: &mut usize, lines: u64) -> Result<
 {
     let mut rows = Vec::new(alloc);
     while begins_with(text, *at, b't') {
-        let Some(row) = read_task(text, at) else {
-            return Err(LoadFault::BadLine(line_behind(lines, rows.len())));
-        };
-        if rows.push(row).is_err() {
+        let line = line_behind(lines, rows.len());
+        if rows.push(no_row()).is_err() {
             return Err(LoadFault::NoMemory);
         }
+        let last = rows.len() - 1;
+        let Some(()) = read_task(text, at, &mut rows[last]) else {
+            return Err(LoadFault::BadLine(line));
+        };
     }
     Ok(rows)
 }

@@ -1,8 +1,9 @@
 //! Words and numbers of a text, each read from a place on. Where a function answers, the place is behind what it read;
 //! where it does not, the place is somewhere within the text.
 ghost use Rattle.std.specs.Prelude.{◌≡◌, ◌++◌, ◌<◌, ◌≤◌, length, take, decimal, codes};
-ghost use Rattle.std.specs.Prelude.{IsTrue, OnSome, IfSome, IfNone, false, drop, ◌-◌, ◌^◌};
-ghost use Rattle.std.specs.Str.Parse.{AllDigits};
+ghost use Rattle.std.specs.Prelude.{IsTrue, OnSome, IfSome, IfNone, false, drop, ◌+◌, ◌-◌, ◌^◌, ◌↔◌};
+ghost use Rattle.std.specs.Str.Parse.{AllDigits, digits_value};
+ghost use Rattle.pid_script.specs.Reading.{IsPlain};
 ghost use Rattle.pid_script.specs.Lists.{field, marked, parent_text, limit_text, life_text};
 ghost use Rattle.table_text.specs.Ranges.{IsWord, IsLifeOfWords};
 ghost use Rattle.table_text.specs.Reading.{IsRead, Lacks, LacksNumber, LacksField, LacksAny, IsSmall, Stops};
@@ -41,8 +42,51 @@ fn digits_end(text: &[u8], at: usize) -> usize
     text.len()
 }
 
-/// A number below 2^64.
-pub fn read_number(text: &[u8], at: &mut usize) -> Option<u64>
+/// Up to nine digits: where they end, and the number that they write.
+#[derive(Clone, Copy)]
+struct Front {
+    end: usize,
+    number: u32,
+}
+
+/// The digits from the place on, up to nine. So few write a number below 2^32, and are read without a test that it
+/// fits.
+#[inline(always)]
+fn read_front(text: &[u8], at: usize) -> Front
+    requires { at ≤ length text.now }
+    ensures from { at ≤ result.end }
+    ensures within { result.end ≤ length text.now }
+    ensures few { result.end ≤ at + 9 }
+    ensures digits { AllDigits 10 (take (result.end - at) (drop at text.now)) }
+    ensures value { result.number ≡ digits_value 10 (take (result.end - at) (drop at text.now)) }
+    ensures stops { result.end < at + 9 → Stops (drop result.end text.now) }
+{
+    let most = text.len().min(at.saturating_add(9));
+    let mut number = 0_u32;
+    for index in at..most {
+        let byte = text[index];
+        if !byte.is_ascii_digit() {
+            return Front { end: index, number };
+        }
+        number = number * 10 + u32::from(byte - b'0');
+    }
+    Front { end: most, number }
+}
+
+/// Whether the digits are some, without a leading zero.
+fn is_plain(digits: &[u8]) -> bool
+    ensures { IsTrue result ↔ IsPlain digits.now }
+{
+    match digits.first() {
+        None => false,
+        Some(b'0') => digits.len() == 1,
+        Some(_) => true,
+    }
+}
+
+/// A number below 2^64, of any length.
+#[inline(never)]
+fn read_long(text: &[u8], at: &mut usize) -> Option<u64>
     requires { at.old ≤ length text.now }
     ensures within { at.new ≤ length text.now }
     ensures read { IfSome result (λ n. IsRead text.now at.old at.new (decimal n)) }
@@ -54,6 +98,24 @@ pub fn read_number(text: &[u8], at: &mut usize) -> Option<u64>
     let number = read_u64(&text[*at..end])?;
     *at = end;
     Some(number)
+}
+
+/// A number below 2^64.
+pub fn read_number(text: &[u8], at: &mut usize) -> Option<u64>
+    requires { at.old ≤ length text.now }
+    ensures within { at.new ≤ length text.now }
+    ensures read { IfSome result (λ n. IsRead text.now at.old at.new (decimal n)) }
+    ensures words { IfSome result IsWord }
+    ensures missing { IfNone result (LacksNumber (2 ^ 64) text.now at.old) }
+    ensures stops { OnSome result (Stops (drop at.new text.now)) }
+{
+    let front = read_front(text, *at);
+    let word = &text[*at..front.end];
+    if word.len() < 9 && is_plain(word) {
+        *at = front.end;
+        return Some(u64::from(front.number));
+    }
+    read_long(text, at)
 }
 
 /// A number below 2^32.

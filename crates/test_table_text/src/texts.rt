@@ -8,7 +8,8 @@ use plain_table::table::PlainTable;
 use std::alloc::{AllocError, Global};
 use std::test::Fail;
 use table_text::dump::dump_text;
-use table_text::read::read_text;
+use table_text::laws::what_is_written_is_read;
+use table_text::read::{Saved, read_text};
 
 /// A table that a script left, and the stamp of its next call.
 #[derive(Drop)]
@@ -36,6 +37,29 @@ fn left_by(alloc: Global, config: &Config, lines: &[&[u8]]) -> Result<Left, Allo
 /// Whether the text is read. What is read then is what the text says.
 fn reads_back(alloc: Global, text: &[u8]) -> bool {
     read_text(alloc, text).is_ok()
+}
+
+/// Whether what was read is what the table shows.
+fn is_as_shown(saved: &Saved, left: &Left) -> bool {
+    let plain = &left.plain;
+    let controls = saved.controls.iter().zip(plain.controls.iter());
+    saved.stamp == left.stamp
+        && saved.pid_max == plain.pid_max
+        && saved.rows == plain.rows
+        && saved.spaces == plain.spaces
+        && saved.controls.len() == plain.controls.len()
+        && controls.into_iter().all(|(a, b)| a.id == b.id
+            && a.parent == b.parent
+            && a.limit == b.limit)
+}
+
+/// Whether what the lines leave is written and read back as it is.
+fn is_read_as_written(alloc: Global, config: &Config, lines: &[&[u8]]) -> Result<bool, AllocError> {
+    let left = left_by(alloc, config, lines)?;
+    match what_is_written_is_read(alloc, &left.plain, left.stamp) {
+        Ok(saved) => Ok(is_as_shown(&saved, &left)),
+        Err(_) => Ok(false),
+    }
 }
 
 /// The text of the table that the lines leave.
@@ -221,5 +245,41 @@ fn tells_tables_with_one_list_apart(rt: HostRuntime) -> Result<(), Fail> {
         dump_text(alloc, &one.plain, one.stamp)?.as_slice(),
         dump_text(alloc, &other.plain, other.stamp)?.as_slice()
     );
+    Ok(())
+}
+
+/// Tables with each part of the form: what the law of the crate answers is what they show.
+#[test]
+fn reads_what_the_law_says(rt: HostRuntime) -> Result<(), Fail> {
+    let alloc = rt.alloc();
+    let none: [&[u8]; 0] = [];
+    assert!(rt; is_read_as_written(alloc, &Config::default_values(), &none)?);
+    let ends: [&[u8]; 8] = [
+        b"fork 1",
+        b"fork 2 new",
+        b"fork 3",
+        b"join 2 3",
+        b"fork 2",
+        b"setpgid 5 0 0",
+        b"exit 3 0",
+        b"fork 1",
+    ];
+    assert!(rt; is_read_as_written(alloc, &Config::default_values(), &ends)?);
+    let marks: [&[u8]; 9] = [
+        b"mk 0",
+        b"limit 1 4294967295",
+        b"mk 1",
+        b"fork 1",
+        b"move 2 3",
+        b"subreaper 2 on",
+        b"exec 2",
+        b"setsid 2",
+        b"exit 2 255",
+    ];
+    let last = Config::new(4_194_304, u64::MAX - 9);
+    assert!(rt; last.is_ok());
+    if let Ok(config) = last {
+        assert!(rt; is_read_as_written(alloc, &config, &marks)?);
+    }
     Ok(())
 }

@@ -2,16 +2,16 @@ use Rattle.table_text.proofs.Scanned.{if_none}
 use Rattle.table_text.proofs.Named.{no_name_numbers, no_name_space}
 use Rattle.table_text.proofs.read.read_name.Goals as goal
 
-pub returns-in_err-numbers-clause-missing : goal.returns-in_err-numbers-clause-missing
-returns-in_err-numbers-clause-missing c =
-    if_none c.from_residual-in_err-numbers.result _ (λ name rest held stops is.
+pub returns-in_err-read_numbers-clause-missing : goal.returns-in_err-read_numbers-clause-missing
+returns-in_err-read_numbers-clause-missing c =
+    if_none c.from_residual-in_err-read_numbers.result _ (λ name rest held stops is.
     no_name_numbers c.args.text.now c.args.label.now name held rest stops c.args.at.now c.requires is
-    c.read_word.new.at c.in_ok-read_word.ensures.within c.in_ok-read_word.ensures.read c.in_err-numbers.ensures.missing)
+    c.read_word.new.at c.in_ok-read_word.ensures.within c.in_ok-read_word.ensures.read c.in_err-read_numbers.ensures.missing)
 
-pub returns-in_err-space-clause-missing : goal.returns-in_err-space-clause-missing
-returns-in_err-space-clause-missing c =
-    if_none c.from_residual-in_err-space.result _ (λ name rest held stops is.
+pub returns-in_err-name-clause-missing : goal.returns-in_err-name-clause-missing
+returns-in_err-name-clause-missing c =
+    if_none c.from_residual-in_err-name.result _ (λ name rest held stops is.
     no_name_space c.args.text.now c.args.label.now name held rest stops c.args.at.now c.requires is
     c.read_word.new.at c.in_ok-read_word.ensures.within c.in_ok-read_word.ensures.read
-    c.read_numbers.new.at _ c.in_ok-numbers.ensures.within c.in_ok-numbers.ensures.read c.in_ok-numbers.ensures.some c.in_ok-numbers.ensures.words
-    c.in_ok-numbers.ensures.stops c.in_ok-numbers.ensures.whole c.in_err-space.ensures.missing)
+    c.read_numbers.new.at _ c.in_ok-read_numbers.ensures.within c.in_ok-read_numbers.ensures.read c.in_ok-read_numbers.ensures.some c.in_ok-read_numbers.ensures.words
+    c.in_ok-read_numbers.ensures.stops c.in_ok-read_numbers.ensures.whole c.in_err-name.ensures.missing)

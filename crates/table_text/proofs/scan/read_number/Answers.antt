@@ -1,11 +1,11 @@
-use Rattle.table_text.proofs.Scanned.{number_read, number_missing, if_none}
+use Rattle.std.proofs.Common.{◌≡◌, ◌^◌, ◌∙◌, arith, rules, sym}
+use Rattle.pid_script.proofs.Numbers.{short_some}
+use Rattle.table_text.proofs.Scanned.{number_read}
 use Rattle.table_text.proofs.scan.read_number.Goals as goal
 
-pub returns-clause-read : goal.returns-clause-read
-returns-clause-read c =
-    number_read c.args.text.now c.args.at.now c.digits_end-end.result c.in_ok-number.number c.digits_end-end.ensures.from c.in_ok-number.ensures
-
-pub returns-in_err-number-clause-missing : goal.returns-in_err-number-clause-missing
-returns-in_err-number-clause-missing c =
-    if_none c.from_residual.result _
-    (number_missing c.args.text.now c.args.at.now c.digits_end-end.result c.digits_end-end.ensures.digits c.digits_end-end.ensures.from c.digits_end-end.ensures.stops c.in_err-number.ensures)
+pub returns-then-is_plain-clause-read : goal.returns-then-is_plain-clause-read
+returns-then-is_plain-clause-read c =
+    let front = c.read_front-front.ensures in
+    let same : c.from.result ≡ c.read_front-front.result.number = omega (arith, c.from.ensures) in
+    number_read (2 ^ 32) c.args.text.now c.args.at.now c.read_front-front.result.end c.from.result front.from
+    (sym (short_some _ c.from.result (omega arith) (c.if-is_plain.ensures.0 (search rules)) front.digits (same ∙ front.value)))
