@@ -70,6 +70,23 @@ static void *lists(void *unused)
 	return unused;
 }
 
+/* What the table was saved as. */
+static char text[1 << 20];
+static size_t length;
+
+static void *dumps(void *unused)
+{
+	CHECK(pidtab_dump(&table, text, sizeof text, &length) == PIDTAB_DONE && strncmp(text, "pidtab table 1 ", 15) == 0);
+	return unused;
+}
+
+static void *loads(void *unused)
+{
+	struct pidtab_fault fault;
+	CHECK(pidtab_load(&table, text, length, &fault) == PIDTAB_DONE);
+	return unused;
+}
+
 static void *closes(void *unused)
 {
 	CHECK(pidtab_close(&table) == PIDTAB_DONE);
@@ -82,10 +99,13 @@ static void each_function_is_busy(void)
 	size_t size = 7;
 	struct pidtab_call call = { PIDTAB_GETPID, 1, 0, 0, 0, 0, 0 };
 	struct pidtab_reply reply = { .kind = 77 };
+	struct pidtab_fault fault = { 77, 77 };
 
 	CHECK(pidtab_open(&table, 32768) == PIDTAB_BUSY && pidtab_open(&table, 0) == PIDTAB_BUSY);
 	CHECK(pidtab_line(&table, "getpid 1", 8, room, sizeof room, &size) == PIDTAB_BUSY);
 	CHECK(pidtab_list(&table, room, sizeof room, &size) == PIDTAB_BUSY);
+	CHECK(pidtab_dump(&table, room, sizeof room, &size) == PIDTAB_BUSY);
+	CHECK(pidtab_load(&table, room, sizeof room, &fault) == PIDTAB_BUSY && fault.kind == 0 && fault.line == 0);
 	CHECK(size == 7 && strcmp(room, "kept") == 0);
 	CHECK(pidtab_call(&table, &call, &reply) == PIDTAB_BUSY && reply.kind == 77);
 	CHECK(pidtab_fork(&table, 1, false, NULL) == -PIDTAB_BUSY);
@@ -215,6 +235,10 @@ static void in_the_middle_of_each(void)
 	while_another(lists, each_function_is_busy);
 	int64_t tasks = pidtab_count(&table, 0);
 	CHECK(tasks > 1 && pidtab_fork(&table, 1, false, NULL) > 1 && pidtab_count(&table, 0) == tasks + 1);
+	while_another(dumps, each_function_is_busy);
+	while_another(closes, each_function_is_busy);
+	while_another(loads, each_function_is_busy);
+	CHECK(pidtab_fork(&table, 1, false, NULL) > 1 && pidtab_count(&table, 0) == tasks + 2);
 	while_another(closes, each_function_is_busy);
 	CHECK(pidtab_getpid(&table, 1) == -PIDTAB_CLOSED && table.at == NULL && !table.is_open && !table.in_call);
 }
