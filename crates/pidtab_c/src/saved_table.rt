@@ -1,5 +1,5 @@
 //! A table as a text, for C: the text is written, and a table is opened as such a text says.
-ghost use Rattle.std.specs.Prelude.{◌≡◌, ◌≢◌, ◌<◌, ◌≤◌, ◌↔◌, ◌⊎◌, IsSome, Some, None, IfOk, IfSome};
+ghost use Rattle.std.specs.Prelude.{◌≡◌, ◌≢◌, ◌<◌, ◌≤◌, ◌↔◌, ◌⊎◌, IsSome, None, IfOk};
 ghost use Rattle.std.specs.Prelude.{length, take, drop};
 ghost use Rattle.table_load.specs.declared.fault.RestoreFault.TheVariants.{NoMemory};
 ghost use Rattle.table_text.specs.Texts.{text_of};
