@@ -497,6 +497,15 @@ uint32_t pidtab_record_checkpoint_at(struct pidtab_record *record, uint64_t seen
 uint32_t pidtab_record_list(struct pidtab_record *record, void *bytes, size_t room, size_t *size);
 uint32_t pidtab_record_opening(struct pidtab_record *record, void *bytes, size_t room, size_t *size);
 
+/* Writes the text of the present state with the stamp of the next call, as pidtab_dump does. DONE, CLOSED, NO_MEMORY, NO_ROOM. */
+uint32_t pidtab_record_dump(struct pidtab_record *record, void *bytes, size_t room, size_t *size);
+
+/* Opens a record that goes on as a text says: with its state, and its stamp for the next call. counts has how many calls of each of 1 to
+ * 16 workers were recorded before; their sum is the ordinal of the next call. The history begins there. DONE; BUSY where it is open
+ * already; then OUT_OF_RANGE for the workers; then BAD_TEXT and the fault, as pidtab_load has them; then OUT_OF_RANGE where the counts
+ * add up to the stamp or more; NO_MEMORY. */
+uint32_t pidtab_record_load(struct pidtab_record *record, const void *text, size_t length, const uint64_t *counts, size_t workers, struct pidtab_fault *fault);
+
 #ifdef __cplusplus
 }
 #endif

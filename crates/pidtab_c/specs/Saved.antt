@@ -1,7 +1,11 @@
--- What C is told of a text that no table is loaded from.
-use Rattle.std.specs.Prelude.{ℕ}
+-- What C is told of a text that no table is loaded from, and what a record is that goes on from one.
+use Rattle.std.specs.Prelude.{◌≡◌, ◌<◌, ◌≤◌, ℕ, List, length, sum}
+use Rattle.pid_types.specs.State.{State}
+use Rattle.table_text.specs.Texts.{text_of}
 use Rattle.table_load.specs.declared.fault.RestoreFault.{RestoreFault}
 use Rattle.table_load.specs.declared.fault.RestoreFault.TheVariants as why
+use Rattle.kept_table.specs.Calls.{resumed}
+use Rattle.kept_table.specs.Chronicle.{Chronicle, next_stamp}
 use Rattle.pidtab_c.specs.declared.saved_table.FaultNumbers.{FaultNumbers}
 
 -- no fault of a text
@@ -23,3 +27,18 @@ fault_numbers (why.TakenNumber n) = record { line = n; kind = 9 }
 fault_numbers (why.NoInit n) = record { line = n; kind = 10 }
 fault_numbers (why.NoNumber n) = record { line = n; kind = 11 }
 fault_numbers (why.Impossible n) = record { line = n; kind = 12 }
+
+-- a count for each worker of a record
+pub record HasWorkers (counts : List ℕ) : Type 0 where
+  pub some : 0 < length counts
+  pub few : length counts ≤ 16
+
+-- the text says a state and a stamp, and the counts add up to that stamp or more
+abbrev pub HasTooManyCalls : List ℕ → List ℕ → Type 0
+HasTooManyCalls text counts = (stamp : ℕ) × (state : State) × (text ≡ text_of stamp state) × (stamp ≤ sum counts)
+
+-- the record goes on as the text says, behind so many calls of each worker
+pub record IsResumed (text counts : List ℕ) (c : Chronicle) : Type 0 where
+  pub says : text ≡ text_of (next_stamp c) c.present
+  pub left : c ≡ resumed c.present (next_stamp c) counts c.room
+  pub before : sum counts < next_stamp c
