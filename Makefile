@@ -222,6 +222,8 @@ bindings-python:
 # From C, under the sanitizers for addresses and undefined behaviour, and under that for threads.
 HELD = -Dmalloc=test_malloc -Drealloc=test_realloc
 RECORD_TEST = test_record guard guard_record
+DUMP_TEST = test_dump guard
+DUMP_RECORD_TEST = test_dump_record shared guard guard_record
 THREADS_TEST = test_threads guard guard_record
 SHARED_TEST = test_shared shared guard guard_record heap
 SAVED_TEST = test_saved saved guard_record heap
@@ -235,6 +237,8 @@ bindings-c:
 		$(CC) $(CHECKED) -o out/test bindings/c/test.c bindings/c/guard.c out/test_heap.o out/proved.a && out/test && \
 		$(CC) $(CHECKED) -o out/test_words bindings/c/test_words.c bindings/c/guard.c bindings/c/heap.c out/proved.a && out/test_words && \
 		$(CC) $(CHECKED) -o out/test_record $(RECORD_TEST:%=bindings/c/%.c) out/test_heap.o out/proved.a && out/test_record && \
+		$(CC) $(CHECKED) -o out/test_dump $(DUMP_TEST:%=bindings/c/%.c) out/test_heap.o out/proved.a && out/test_dump && \
+		$(CC) $(CHECKED) -o out/test_dump_record $(DUMP_RECORD_TEST:%=bindings/c/%.c) out/test_heap.o out/proved.a && out/test_dump_record && \
 		$(CC) $(THREADED) $(HELD) -Dfree=test_free -c -o out/held_heap.o bindings/c/heap.c && \
 		$(CC) $(THREADED) -o out/test_threads $(THREADS_TEST:%=bindings/c/%.c) out/held_heap.o out/proved.a && out/test_threads && \
 		for sanitizer in '$(CHECKED)' '$(THREADED)'; do \

@@ -6,6 +6,8 @@ uint32_t proved_open(struct pidtab *table, uint32_t pid_max);
 void proved_close(struct pidtab *table);
 uint32_t proved_line(struct pidtab *table, const void *line, size_t length, void *answer, size_t room, size_t *size);
 uint32_t proved_list(struct pidtab *table, void *bytes, size_t room, size_t *size);
+uint32_t proved_dump(struct pidtab *table, void *bytes, size_t room, size_t *size);
+uint32_t proved_load(struct pidtab *table, const void *text, size_t length, struct pidtab_fault *fault);
 uint32_t proved_call(struct pidtab *table, const struct pidtab_call *call, struct pidtab_reply *reply);
 uint32_t proved_ask(struct pidtab *table, const struct pidtab_call *call, struct pidtab_reply *reply);
 uint32_t proved_stat(struct pidtab *table, uint32_t caller, uint32_t number, struct pidtab_task *task);
@@ -63,6 +65,25 @@ uint32_t pidtab_list(struct pidtab *table, void *bytes, size_t room, size_t *siz
 	if (!enter(table, &held))
 		return PIDTAB_BUSY;
 	return leave(table, &held, proved_list(&held, bytes, room, size));
+}
+
+uint32_t pidtab_dump(struct pidtab *table, void *bytes, size_t room, size_t *size)
+{
+	struct pidtab held;
+
+	if (!enter(table, &held))
+		return PIDTAB_BUSY;
+	return leave(table, &held, proved_dump(&held, bytes, room, size));
+}
+
+uint32_t pidtab_load(struct pidtab *table, const void *text, size_t length, struct pidtab_fault *fault)
+{
+	struct pidtab held;
+
+	*fault = (struct pidtab_fault){ 0, 0 };
+	if (!enter(table, &held))
+		return PIDTAB_BUSY;
+	return leave(table, &held, proved_load(&held, text, length, fault));
 }
 
 uint32_t pidtab_call(struct pidtab *table, const struct pidtab_call *call, struct pidtab_reply *reply)

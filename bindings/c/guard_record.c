@@ -16,6 +16,8 @@ uint32_t proved_record_checkpoint(struct pidtab_record *record);
 uint32_t proved_record_checkpoint_at(struct pidtab_record *record, uint64_t seen);
 uint32_t proved_record_list(struct pidtab_record *record, void *bytes, size_t room, size_t *size);
 uint32_t proved_record_opening(struct pidtab_record *record, void *bytes, size_t room, size_t *size);
+uint32_t proved_record_dump(struct pidtab_record *record, void *bytes, size_t room, size_t *size);
+uint32_t proved_record_load(struct pidtab_record *record, const void *text, size_t length, const uint64_t *counts, size_t workers, struct pidtab_fault *fault);
 
 /* Marks the record, and takes out what the proved function works on: it may write each byte of that, and would clear the mark. */
 static bool enter(struct pidtab_record *record, struct pidtab_record *held)
@@ -169,4 +171,23 @@ uint32_t pidtab_record_opening(struct pidtab_record *record, void *bytes, size_t
 	if (!enter(record, &held))
 		return PIDTAB_BUSY;
 	return leave(record, &held, proved_record_opening(&held, bytes, room, size));
+}
+
+uint32_t pidtab_record_dump(struct pidtab_record *record, void *bytes, size_t room, size_t *size)
+{
+	struct pidtab_record held;
+
+	if (!enter(record, &held))
+		return PIDTAB_BUSY;
+	return leave(record, &held, proved_record_dump(&held, bytes, room, size));
+}
+
+uint32_t pidtab_record_load(struct pidtab_record *record, const void *text, size_t length, const uint64_t *counts, size_t workers, struct pidtab_fault *fault)
+{
+	struct pidtab_record held;
+
+	*fault = (struct pidtab_fault){ 0, 0 };
+	if (!enter(record, &held))
+		return PIDTAB_BUSY;
+	return leave(record, &held, proved_record_load(&held, text, length, counts, workers, fault));
 }

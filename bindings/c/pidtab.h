@@ -44,7 +44,8 @@ enum pidtab_status {
 	PIDTAB_NO_ROOM = 34,      /* ERANGE: size says what is needed */
 	PIDTAB_EMPTY_LINE = 61,   /* ENODATA: a line of 0 bytes has no answer */
 	PIDTAB_BAD_LINE = 71,     /* EPROTO */
-	PIDTAB_SPENT = 75         /* EOVERFLOW: after 2^64 - 2 calls */
+	PIDTAB_SPENT = 75,        /* EOVERFLOW: after 2^64 - 2 calls */
+	PIDTAB_BAD_TEXT = 117     /* EUCLEAN: the text is that of no table; the fault says why */
 };
 
 /* What the functions of a record answer besides. Any status but PIDTAB_DONE says that the record is as it was, but of
@@ -77,6 +78,8 @@ static inline const char *pidtab_text(uint32_t status)
 		return "the line is none of the script language";
 	case PIDTAB_SPENT:
 		return "the table has made 2^64 - 2 calls, and makes no more";
+	case PIDTAB_BAD_TEXT:
+		return "the text is that of no table";
 	case PIDTAB_NOT_KEPT:
 		return "no entry with the ordinal is kept";
 	case PIDTAB_AGAIN:
@@ -109,6 +112,48 @@ uint32_t pidtab_line(struct pidtab *table, const void *line, size_t length, void
 /* Writes the list of the table, as `pidtab list` does. DONE, CLOSED, NO_MEMORY, and NO_ROOM where it is longer than the room; then
  * too size is its length. */
 uint32_t pidtab_list(struct pidtab *table, void *bytes, size_t room, size_t *size);
+
+/* Writes the text of the table with the stamp of its next call (docs/SCRIPT.md): all that there is to know of it. One table has one
+ * text, and its SHA-256 is in it. DONE, CLOSED, NO_MEMORY, and NO_ROOM as pidtab_list has it. */
+uint32_t pidtab_dump(struct pidtab *table, void *bytes, size_t room, size_t *size);
+
+/* Why a text is that of no table. */
+enum pidtab_fault_kind {
+	PIDTAB_FAULT_BAD_LINE = 1,      /* the line is none of those that the form has there */
+	PIDTAB_FAULT_WRONG_DIGEST,      /* the last line is not that of the text before it */
+	PIDTAB_FAULT_BAD_SETTINGS,      /* pid_max is out of range, or some id is not below the stamp */
+	PIDTAB_FAULT_UNSORTED,          /* the number or id is not above that of the line before */
+	PIDTAB_FAULT_UNKNOWN_PARENT,    /* no line has the task's parent, or the namespace around the namespace */
+	PIDTAB_FAULT_UNKNOWN_NAMESPACE, /* no line has the namespace */
+	PIDTAB_FAULT_UNKNOWN_GROUP,     /* no line has the control group */
+	PIDTAB_FAULT_BAD_NAME,          /* a name has too few numbers, too many, or one out of range */
+	PIDTAB_FAULT_TAKEN_NUMBER,      /* two names have one number */
+	PIDTAB_FAULT_NO_INIT,           /* no task is the init of a namespace that has not fallen */
+	PIDTAB_FAULT_NO_NUMBER,         /* no number is free for the init that a namespace once had */
+	PIDTAB_FAULT_IMPOSSIBLE         /* in no table is this line beside the others */
+};
+
+/* The first fault of a text that is met. */
+struct pidtab_fault {
+	uint64_t line; /* from 1 on */
+	uint32_t kind; /* enum pidtab_fault_kind */
+};
+
+/* What a kind of fault says of its line, in the words of docs/SCRIPT.md. */
+static inline const char *pidtab_fault_text(uint32_t kind)
+{
+	static const char *const words[] = {
+		"no fault",
+		"bad line", "wrong digest", "bad settings", "out of order", "unknown parent", "unknown namespace",
+		"unknown control group", "bad name", "number in use twice", "namespace without an init",
+		"no number left", "impossible line"
+	};
+	return words[kind < sizeof words / sizeof words[0] ? kind : 0];
+}
+
+/* Opens a table as a text of pidtab_dump says: each later call has the answer that it would have had there. Any bytes may be given. DONE;
+ * BUSY where it is open already; then BAD_TEXT and the fault; NO_MEMORY. The fault is zeroes but for BAD_TEXT. */
+uint32_t pidtab_load(struct pidtab *table, const void *text, size_t length, struct pidtab_fault *fault);
 
 /* A call as numbers. What an operation does not take is not looked at. */
 enum pidtab_operation {
@@ -451,6 +496,15 @@ uint32_t pidtab_record_checkpoint_at(struct pidtab_record *record, uint64_t seen
 /* The list of the present state, and of the state that the kept history begins in, as pidtab_list writes it. */
 uint32_t pidtab_record_list(struct pidtab_record *record, void *bytes, size_t room, size_t *size);
 uint32_t pidtab_record_opening(struct pidtab_record *record, void *bytes, size_t room, size_t *size);
+
+/* Writes the text of the present state with the stamp of the next call, as pidtab_dump does. DONE, CLOSED, NO_MEMORY, NO_ROOM. */
+uint32_t pidtab_record_dump(struct pidtab_record *record, void *bytes, size_t room, size_t *size);
+
+/* Opens a record that goes on as a text says: with its state, and its stamp for the next call. counts has how many calls of each of 1 to
+ * 16 workers were recorded before; their sum is the ordinal of the next call. The history begins there. DONE; BUSY where it is open
+ * already; then OUT_OF_RANGE for the workers; then BAD_TEXT and the fault, as pidtab_load has them; then OUT_OF_RANGE where the counts
+ * add up to the stamp or more; NO_MEMORY. */
+uint32_t pidtab_record_load(struct pidtab_record *record, const void *text, size_t length, const uint64_t *counts, size_t workers, struct pidtab_fault *fault);
 
 #ifdef __cplusplus
 }

@@ -32,6 +32,10 @@ struct pidtab_shared {
  * than DONE says that nothing is to be closed. */
 uint32_t pidtab_shared_open(struct pidtab_shared *shared, uint32_t pid_max, uint64_t first_stamp, uint32_t workers, uint64_t keep);
 
+/* The same, but the record goes on as a text says, as pidtab_record_load has it. No worker is seated. DONE, OUT_OF_RANGE, BAD_TEXT,
+ * NO_MEMORY. */
+uint32_t pidtab_shared_load(struct pidtab_shared *shared, const void *text, size_t length, const uint64_t *counts, size_t workers, uint64_t keep, struct pidtab_fault *fault);
+
 /* Closes it. No other thread is in a function of it, or calls one afterwards. */
 void pidtab_shared_close(struct pidtab_shared *shared);
 
@@ -55,6 +59,7 @@ uint32_t pidtab_shared_read(struct pidtab_shared *shared, uint64_t from, struct 
 uint32_t pidtab_shared_checkpoint(struct pidtab_shared *shared);
 uint32_t pidtab_shared_checkpoint_at(struct pidtab_shared *shared, uint64_t seen);
 uint32_t pidtab_shared_list(struct pidtab_shared *shared, void *bytes, size_t room, size_t *size);
+uint32_t pidtab_shared_dump(struct pidtab_shared *shared, void *bytes, size_t room, size_t *size);
 
 #ifdef __cplusplus
 }

@@ -7,17 +7,35 @@ static uint32_t unlocked(struct pidtab_shared *shared, uint32_t status)
 	return status;
 }
 
-uint32_t pidtab_shared_open(struct pidtab_shared *shared, uint32_t pid_max, uint64_t first_stamp, uint32_t workers, uint64_t keep)
+/* What is there before the record is open. Whether there was memory for the lock. */
+static bool begin(struct pidtab_shared *shared, uint32_t workers, uint64_t keep)
 {
-	uint32_t status;
-
 	*shared = (struct pidtab_shared){ .record = PIDTAB_RECORD_INIT, .keep = keep, .workers = workers };
-	if (pthread_mutex_init(&shared->lock, NULL) != 0)
-		return PIDTAB_NO_MEMORY;
-	status = pidtab_record_open(&shared->record, pid_max, first_stamp, workers);
+	return pthread_mutex_init(&shared->lock, NULL) == 0;
+}
+
+/* The status of the open, after which there is no lock where there is no record. */
+static uint32_t opened(struct pidtab_shared *shared, uint32_t status)
+{
 	if (status != PIDTAB_DONE)
 		pthread_mutex_destroy(&shared->lock);
 	return status;
+}
+
+uint32_t pidtab_shared_open(struct pidtab_shared *shared, uint32_t pid_max, uint64_t first_stamp, uint32_t workers, uint64_t keep)
+{
+	if (!begin(shared, workers, keep))
+		return PIDTAB_NO_MEMORY;
+	return opened(shared, pidtab_record_open(&shared->record, pid_max, first_stamp, workers));
+}
+
+uint32_t pidtab_shared_load(struct pidtab_shared *shared, const void *text, size_t length, const uint64_t *counts, size_t workers, uint64_t keep, struct pidtab_fault *fault)
+{
+	/* Other numbers of workers than those that a uint32_t has are out of range, and nothing is opened then. */
+	*fault = (struct pidtab_fault){ 0, 0 };
+	if (!begin(shared, (uint32_t)workers, keep))
+		return PIDTAB_NO_MEMORY;
+	return opened(shared, pidtab_record_load(&shared->record, text, length, counts, workers, fault));
 }
 
 void pidtab_shared_close(struct pidtab_shared *shared)
@@ -134,4 +152,10 @@ uint32_t pidtab_shared_list(struct pidtab_shared *shared, void *bytes, size_t ro
 {
 	pthread_mutex_lock(&shared->lock);
 	return unlocked(shared, pidtab_record_list(&shared->record, bytes, room, size));
+}
+
+uint32_t pidtab_shared_dump(struct pidtab_shared *shared, void *bytes, size_t room, size_t *size)
+{
+	pthread_mutex_lock(&shared->lock);
+	return unlocked(shared, pidtab_record_dump(&shared->record, bytes, room, size));
 }

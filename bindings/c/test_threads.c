@@ -70,6 +70,23 @@ static void *lists(void *unused)
 	return unused;
 }
 
+/* What the table was saved as. */
+static char text[1 << 20];
+static size_t length;
+
+static void *dumps(void *unused)
+{
+	CHECK(pidtab_dump(&table, text, sizeof text, &length) == PIDTAB_DONE && strncmp(text, "pidtab table 1 ", 15) == 0);
+	return unused;
+}
+
+static void *loads(void *unused)
+{
+	struct pidtab_fault fault;
+	CHECK(pidtab_load(&table, text, length, &fault) == PIDTAB_DONE);
+	return unused;
+}
+
 static void *closes(void *unused)
 {
 	CHECK(pidtab_close(&table) == PIDTAB_DONE);
@@ -82,10 +99,13 @@ static void each_function_is_busy(void)
 	size_t size = 7;
 	struct pidtab_call call = { PIDTAB_GETPID, 1, 0, 0, 0, 0, 0 };
 	struct pidtab_reply reply = { .kind = 77 };
+	struct pidtab_fault fault = { 77, 77 };
 
 	CHECK(pidtab_open(&table, 32768) == PIDTAB_BUSY && pidtab_open(&table, 0) == PIDTAB_BUSY);
 	CHECK(pidtab_line(&table, "getpid 1", 8, room, sizeof room, &size) == PIDTAB_BUSY);
 	CHECK(pidtab_list(&table, room, sizeof room, &size) == PIDTAB_BUSY);
+	CHECK(pidtab_dump(&table, room, sizeof room, &size) == PIDTAB_BUSY);
+	CHECK(pidtab_load(&table, room, sizeof room, &fault) == PIDTAB_BUSY && fault.kind == 0 && fault.line == 0);
 	CHECK(size == 7 && strcmp(room, "kept") == 0);
 	CHECK(pidtab_call(&table, &call, &reply) == PIDTAB_BUSY && reply.kind == 77);
 	CHECK(pidtab_fork(&table, 1, false, NULL) == -PIDTAB_BUSY);
@@ -149,6 +169,20 @@ static void *lists_opening(void *unused)
 	return unused;
 }
 
+static void *dumps_record(void *unused)
+{
+	CHECK(pidtab_record_dump(&record, text, sizeof text, &length) == PIDTAB_DONE && strncmp(text, "pidtab table 1 ", 15) == 0);
+	return unused;
+}
+
+static void *loads_record(void *unused)
+{
+	static const uint64_t counts[2] = { 0, 1 };
+	struct pidtab_fault fault;
+	CHECK(pidtab_record_load(&record, text, length, counts, 2, &fault) == PIDTAB_DONE);
+	return unused;
+}
+
 static void *cuts(void *unused)
 {
 	CHECK(pidtab_record_checkpoint(&record) == PIDTAB_DONE);
@@ -177,6 +211,7 @@ static void each_function_of_a_record_is_busy(void)
 	struct pidtab_call call = { .operation = PIDTAB_GETPID, .caller = 1 };
 	struct pidtab_reply reply = { .kind = 77 };
 	struct pidtab_entry entry = { .worker = 77 };
+	struct pidtab_fault fault = { 77, 77 };
 
 	CHECK(pidtab_record_open(&record, 32768, 1, 2) == PIDTAB_BUSY && pidtab_record_open(&record, 0, 0, 0) == PIDTAB_BUSY);
 	CHECK(pidtab_record_call(&record, 0, &call, &reply, &one) == PIDTAB_BUSY);
@@ -189,6 +224,8 @@ static void each_function_of_a_record_is_busy(void)
 	CHECK(pidtab_record_checkpoint(&record) == PIDTAB_BUSY && pidtab_record_checkpoint_at(&record, 0) == PIDTAB_BUSY);
 	CHECK(pidtab_record_list(&record, room, sizeof room, &size) == PIDTAB_BUSY);
 	CHECK(pidtab_record_opening(&record, room, sizeof room, &size) == PIDTAB_BUSY);
+	CHECK(pidtab_record_dump(&record, room, sizeof room, &size) == PIDTAB_BUSY);
+	CHECK(pidtab_record_load(&record, room, sizeof room, &one, 1, &fault) == PIDTAB_BUSY && fault.kind == 0 && fault.line == 0);
 	CHECK(pidtab_record_close(&record) == PIDTAB_BUSY);
 	CHECK(one == 7 && other == 7 && size == 7 && strcmp(room, "kept") == 0 && reply.kind == 77 && entry.worker == 77);
 }
@@ -215,6 +252,10 @@ static void in_the_middle_of_each(void)
 	while_another(lists, each_function_is_busy);
 	int64_t tasks = pidtab_count(&table, 0);
 	CHECK(tasks > 1 && pidtab_fork(&table, 1, false, NULL) > 1 && pidtab_count(&table, 0) == tasks + 1);
+	while_another(dumps, each_function_is_busy);
+	while_another(closes, each_function_is_busy);
+	while_another(loads, each_function_is_busy);
+	CHECK(pidtab_fork(&table, 1, false, NULL) > 1 && pidtab_count(&table, 0) == tasks + 2);
 	while_another(closes, each_function_is_busy);
 	CHECK(pidtab_getpid(&table, 1) == -PIDTAB_CLOSED && table.at == NULL && !table.is_open && !table.in_call);
 }
@@ -233,7 +274,8 @@ static void save_a_call(void)
 
 static void in_the_middle_of_each_of_a_record(void)
 {
-	void *(*const others[])(void *) = { calls, writes_lines, replays, lists_record, lists_opening, cuts, cuts_at, closes_record };
+	void *(*const others[])(void *) = { calls, writes_lines, replays, lists_record, lists_opening, dumps_record, cuts, cuts_at, closes_record,
+		loads_record, closes_record };
 
 	while_another(opens_record, each_function_of_a_record_is_busy);
 	save_a_call();

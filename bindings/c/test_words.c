@@ -90,7 +90,7 @@ static void no_refusal(void)
 static void each_status(void)
 {
 	static const uint32_t statuses[] = { PIDTAB_DONE, PIDTAB_CLOSED, PIDTAB_NO_MEMORY, PIDTAB_BUSY, PIDTAB_OUT_OF_RANGE,
-		PIDTAB_NO_ROOM, PIDTAB_EMPTY_LINE, PIDTAB_BAD_LINE, PIDTAB_SPENT, PIDTAB_NOT_KEPT, PIDTAB_AGAIN, PIDTAB_DIFFERS };
+		PIDTAB_NO_ROOM, PIDTAB_EMPTY_LINE, PIDTAB_BAD_LINE, PIDTAB_SPENT, PIDTAB_NOT_KEPT, PIDTAB_AGAIN, PIDTAB_DIFFERS, PIDTAB_BAD_TEXT };
 	const unsigned count = sizeof statuses / sizeof statuses[0];
 	unsigned known = 0;
 

@@ -9,3 +9,4 @@ pub mod Entries
 pub mod Asked
 pub mod Replays
 pub mod Tasks
+pub mod Saved

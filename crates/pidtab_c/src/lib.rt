@@ -37,6 +37,8 @@ pub mod record;
 mod record_calls;
 mod record_handle;
 mod replay;
+pub mod saved_record;
+pub mod saved_table;
 pub mod stamped;
 pub mod status;
 pub mod task;

@@ -5,6 +5,8 @@ ghost use Rattle.pid_types.specs.Step.{may_grow};
 ghost use Rattle.translate.specs.Stat.{stat_at};
 ghost use Rattle.kept_table.specs.Queries.{is_query};
 ghost use Rattle.pidtab_c.specs.Stamped.{IsInOrder, after_call, reply_to};
+ghost use Rattle.pid_types.specs.Sound.{IsSound, IsBelow};
+ghost use Rattle.table_text.specs.Texts.{text_of};
 ghost use Rattle.pidtab_c.specs.Listed.{list_of_state};
 
 use model_laws::soundness::{root_state_is_sound, soundness_is_kept};
@@ -15,6 +17,9 @@ use pid_types::config::Config;
 use pid_types::reply::{CallFault, Refusal, Reply};
 use std::alloc::{AllocError, Global};
 use std::marker::Model;
+use table_load::load::Loaded;
+use table_text::dump::dump_text;
+use table_text::laws::snapshots_have_their_state;
 use translate::stat::Stat;
 
 /// A table and the stamp of its next call. Between two calls its state is sound, and the ids in it are below the stamp.
@@ -96,5 +101,23 @@ impl StampedTable {
     {
         let plain = self.table.snapshot()?;
         list_text(alloc, &plain)
+    }
+    /// The text of the table, with the stamp of its next call. The error is want of memory.
+    pub(crate) fn dump(&self, alloc: Global) -> Result<Vec<u8>, AllocError>
+        ensures { IfOk result (λ text. text.items ≡ text_of self.now.stamp self.now.state) }
+    {
+        snapshots_have_their_state();
+        let plain = self.table.snapshot()?;
+        dump_text(alloc, &plain, self.stamp)
+    }
+
+    /// The table that was loaded from a text.
+    pub(crate) fn of_loaded(loaded: Loaded) -> StampedTable
+        requires sound { IsSound loaded.table }
+        requires below { IsBelow loaded.stamp loaded.table }
+        ensures { result ≡ record { state = loaded.table; stamp = loaded.stamp } }
+    {
+        let Loaded { table, stamp } = loaded;
+        StampedTable { table, stamp }
     }
 }

@@ -40,6 +40,9 @@ pub const DIFFERS: u32 = 74;
 /// `EOVERFLOW`: the stamps are used up.
 pub const SPENT: u32 = 75;
 
+/// `EUCLEAN`: the text is that of no table.
+pub const BAD_TEXT: u32 = 117;
+
 /// The status of a call that has no reply.
 pub(crate) fn status_of(fault: CallFault) -> u32
     ensures no_memory { fault ≡ NoMemory → result ≡ NO_MEMORY }

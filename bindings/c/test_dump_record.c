@@ -1,0 +1,363 @@
+/* Tests of records that go on from texts: each status, the ordinals and the counts of workers, and want of memory at each allocation in
+ * turn; and of shared records, whose threads go on. */
+#include "pidtab_shared.h"
+#include "test_dump.h"
+#include "test_heap.h"
+
+#define INIT "task 1@0 parent - group 1@0 session 1@0 control 0 children 0 live\n"
+#define REST "space 0 parent - cursor 2\ncontrol 0 parent - limit max\n"
+
+/* A fault that nothing has written. */
+#define UNTOLD (struct pidtab_fault){ 77, 77 }
+
+static const struct pidtab_call getpid_1 = { .operation = PIDTAB_GETPID, .caller = 1 };
+
+static bool fault_is(struct pidtab_fault fault, uint32_t kind, uint64_t line)
+{
+	return fault.kind == kind && fault.line == line;
+}
+
+static struct text record_dumped(struct pidtab_record *record)
+{
+	struct text text = { NULL, 0 };
+	char none[1];
+	size_t size = 0;
+
+	CHECK(pidtab_record_dump(record, none, 0, &text.size) == PIDTAB_NO_ROOM && text.size > 150);
+	text.bytes = malloc(text.size);
+	CHECK(text.bytes && pidtab_record_dump(record, text.bytes, text.size, &size) == PIDTAB_DONE && size == text.size);
+	return text;
+}
+
+static bool dumps_as(struct pidtab_record *record, struct text wanted)
+{
+	struct text text = record_dumped(record);
+	bool same = same_text(text, wanted);
+
+	free(text.bytes);
+	return same;
+}
+
+static void counts_are(struct pidtab_record *record, uint64_t first_kept, uint64_t recorded)
+{
+	uint64_t first = first_kept + 1, all = recorded + 1;
+	CHECK(pidtab_record_counts(record, &first, &all) == PIDTAB_DONE && first == first_kept && all == recorded);
+}
+
+static uint64_t calls_of(struct pidtab_record *record, uint32_t worker)
+{
+	uint64_t calls = 7;
+	CHECK(pidtab_record_worker(record, worker, &calls) == PIDTAB_DONE);
+	return calls;
+}
+
+/* The text with process 1 alone, and a stamp. */
+static struct text first_text(const char *stamp)
+{
+	char said[256];
+	int size = snprintf(said, sizeof said, "pidtab table 1 pid-max 301 stamp %s\n" INIT REST, stamp);
+	return sealed(said, (size_t)size);
+}
+
+static void statuses_of_a_dump(void)
+{
+	struct pidtab_record record = PIDTAB_RECORD_INIT;
+	struct text wanted = first_text("5");
+	char room[512] = "kept";
+	size_t size = 7;
+
+	CHECK(pidtab_record_dump(&record, room, sizeof room, &size) == PIDTAB_CLOSED && size == 7 && strcmp(room, "kept") == 0);
+	CHECK(pidtab_record_open(&record, 301, 5, 2) == PIDTAB_DONE && dumps_as(&record, wanted));
+	CHECK(pidtab_record_dump(&record, room, wanted.size - 1, &size) == PIDTAB_NO_ROOM && size == wanted.size && strcmp(room, "kept") == 0);
+	memset(room, 'x', sizeof room);
+	CHECK(pidtab_record_dump(&record, room, sizeof room, &size) == PIDTAB_DONE && room[size - 1] == '\n' && room[size] == 'x');
+	counts_are(&record, 0, 0);
+	CHECK(pidtab_record_close(&record) == PIDTAB_DONE);
+	free(wanted.bytes);
+}
+
+/* The load of a text with the stamp 7 behind so many calls. */
+static uint32_t loaded_behind(struct pidtab_record *record, const uint64_t *counts, size_t workers)
+{
+	struct text text = first_text("7");
+	struct pidtab_fault fault = UNTOLD;
+	uint32_t status = pidtab_record_load(record, text.bytes, text.size, counts, workers, &fault);
+
+	CHECK(fault_is(fault, 0, 0));
+	free(text.bytes);
+	return status;
+}
+
+static void statuses_of_a_load(void)
+{
+	static const uint64_t six[] = { 3, 3 }, seven[] = { 3, 4 }, past[] = { UINT64_MAX, 1 }, more[] = { 6, UINT64_MAX, UINT64_MAX };
+	static const uint64_t none[PIDTAB_MOST_WORKERS + 1];
+	struct pidtab_record record = PIDTAB_RECORD_INIT;
+	struct pidtab_fault fault = UNTOLD;
+
+	CHECK(loaded_behind(&record, none, 0) == PIDTAB_OUT_OF_RANGE);
+	CHECK(loaded_behind(&record, none, PIDTAB_MOST_WORKERS + 1) == PIDTAB_OUT_OF_RANGE);
+	CHECK(loaded_behind(&record, seven, 2) == PIDTAB_OUT_OF_RANGE && loaded_behind(&record, past, 2) == PIDTAB_OUT_OF_RANGE);
+	CHECK(loaded_behind(&record, more, 3) == PIDTAB_OUT_OF_RANGE && record.at == NULL && !record.is_open && !record.in_call);
+
+	/* The workers are looked at before the text, and the text before what they have made. */
+	CHECK(pidtab_record_load(&record, "?\n", 2, none, 0, &fault) == PIDTAB_OUT_OF_RANGE && fault_is(fault, 0, 0));
+	CHECK(pidtab_record_load(&record, "?\n", 2, past, 2, &fault) == PIDTAB_BAD_TEXT && fault_is(fault, PIDTAB_FAULT_BAD_LINE, 1));
+	CHECK(record.at == NULL && !record.is_open && !record.in_call);
+
+	CHECK(loaded_behind(&record, six, 2) == PIDTAB_DONE && calls_of(&record, 0) == 3 && calls_of(&record, 1) == 3);
+	counts_are(&record, 6, 6);
+	CHECK(loaded_behind(&record, six, 2) == PIDTAB_BUSY && loaded_behind(&record, none, 0) == PIDTAB_BUSY);
+	fault = UNTOLD;
+	CHECK(pidtab_record_load(&record, "?\n", 2, six, 2, &fault) == PIDTAB_BUSY && fault_is(fault, 0, 0));
+	CHECK(pidtab_record_close(&record) == PIDTAB_DONE);
+
+	/* No call was recorded before, by as many workers as there may be. */
+	CHECK(loaded_behind(&record, none, PIDTAB_MOST_WORKERS) == PIDTAB_DONE && calls_of(&record, PIDTAB_MOST_WORKERS - 1) == 0);
+	counts_are(&record, 0, 0);
+	CHECK(pidtab_record_close(&record) == PIDTAB_DONE);
+}
+
+#define WORKERS 3
+#define CALLS 600
+#define LATER 400
+
+/* Makes a drawn call of a drawn worker on both records: the ordinal and the reply are the same. */
+static void make_on_both(struct pidtab_record *one, struct pidtab_record *other, uint64_t *seed)
+{
+	struct pidtab_call call = drawn_call(seed);
+	uint32_t worker = drawn(seed, WORKERS), status;
+	struct pidtab_reply a, b;
+	uint64_t at = 7, place = 7;
+
+	status = pidtab_record_call(one, worker, &call, &a, &at);
+	CHECK(pidtab_record_call(other, worker, &call, &b, &place) == status && at == place);
+	CHECK(status == PIDTAB_OUT_OF_RANGE || (status == PIDTAB_DONE && same_reply(&a, &b)));
+}
+
+/* Opens a record and makes calls on it, and the same on a table, which then has the same text. */
+static void begin(struct pidtab_record *record, uint64_t first_stamp, uint64_t *seed)
+{
+	CHECK(pidtab_record_open(record, 32768, first_stamp, WORKERS) == PIDTAB_DONE);
+	for (int i = 0; i < CALLS; i++) {
+		struct pidtab_call call = drawn_call(seed);
+		struct pidtab_reply reply;
+		uint64_t ordinal;
+		uint32_t status = pidtab_record_call(record, drawn(seed, WORKERS), &call, &reply, &ordinal);
+		CHECK(status == PIDTAB_DONE || status == PIDTAB_OUT_OF_RANGE);
+	}
+}
+
+/* Opens a record that goes on as the other one is now. */
+static void go_on_from(struct pidtab_record *loaded, struct pidtab_record *record)
+{
+	struct text text = record_dumped(record);
+	struct pidtab_fault fault = UNTOLD;
+	uint64_t counts[WORKERS], sum = 0;
+
+	for (uint32_t i = 0; i < WORKERS; i++)
+		sum += counts[i] = calls_of(record, i);
+	CHECK(pidtab_record_load(loaded, text.bytes, text.size, counts, WORKERS, &fault) == PIDTAB_DONE && fault_is(fault, 0, 0));
+	CHECK(dumps_as(loaded, text));
+	counts_are(loaded, sum, sum);
+	free(text.bytes);
+}
+
+static void same_records(struct pidtab_record *one, struct pidtab_record *other)
+{
+	struct text text = record_dumped(one);
+
+	CHECK(dumps_as(other, text));
+	for (uint32_t i = 0; i < WORKERS; i++)
+		CHECK(calls_of(one, i) == calls_of(other, i));
+	free(text.bytes);
+}
+
+/* The entries of both from the ordinal on are the same, and have the same replies again on a third record. */
+static void same_entries(struct pidtab_record *one, struct pidtab_record *other, struct pidtab_record *third, uint64_t from)
+{
+	static struct pidtab_entry a[LATER + 1], b[LATER + 1];
+	size_t count = 0, many = 1, place;
+
+	CHECK(pidtab_record_read(one, from, a, LATER + 1, &count) == PIDTAB_DONE && pidtab_record_read(other, from, b, LATER + 1, &many) == PIDTAB_DONE);
+	CHECK(count == many && count > LATER / 2 && count <= LATER);
+	for (size_t i = 0; i < count; i++)
+		CHECK(a[i].worker == b[i].worker && a[i].call.operation == b[i].call.operation && same_reply(&a[i].reply, &b[i].reply));
+	CHECK(pidtab_record_replay(third, a, count, &place) == PIDTAB_DONE && place == count);
+	same_records(one, third);
+}
+
+/* A record that was loaded, beside one that never was: ordinals, stamps, counts and replies go on alike, and nothing before is kept. */
+static void a_record_goes_on(uint64_t seed, uint64_t first_stamp)
+{
+	struct pidtab_record record = PIDTAB_RECORD_INIT, loaded = PIDTAB_RECORD_INIT, third = PIDTAB_RECORD_INIT;
+	uint64_t first_kept, recorded;
+
+	begin(&record, first_stamp, &seed);
+	CHECK(pidtab_record_counts(&record, &first_kept, &recorded) == PIDTAB_DONE && first_kept == 0 && recorded > CALLS / 2);
+	go_on_from(&loaded, &record);
+	go_on_from(&third, &loaded);
+	for (int i = 0; i < LATER; i++)
+		make_on_both(&record, &loaded, &seed);
+	same_records(&record, &loaded);
+	same_entries(&record, &loaded, &third, recorded);
+	CHECK(pidtab_record_checkpoint(&loaded) == PIDTAB_DONE);
+	make_on_both(&record, &loaded, &seed);
+	CHECK(pidtab_record_close(&record) == PIDTAB_DONE && pidtab_record_close(&loaded) == PIDTAB_DONE && pidtab_record_close(&third) == PIDTAB_DONE);
+}
+
+/* What was before is not kept, and the opening is what was loaded. */
+static void nothing_before_is_kept(void)
+{
+	static const uint64_t six[] = { 2, 4 };
+	static const char wanted[] = "task 1 space 0 parent 0 group 1 session 1 control 0 live\nspace 0 parent - cursor 2\ncontrol 0 parent - limit max count 1\n";
+	struct pidtab_record record = PIDTAB_RECORD_INIT;
+	struct pidtab_entry entry = { .worker = 77 };
+	struct pidtab_reply reply;
+	char room[512], answer[PIDTAB_LONGEST_ANSWER];
+	uint64_t ordinal;
+	size_t size;
+
+	CHECK(loaded_behind(&record, six, 2) == PIDTAB_DONE);
+	CHECK(pidtab_record_read(&record, 5, &entry, 1, &size) == PIDTAB_NOT_KEPT && entry.worker == 77);
+	/* The id of a new cgroup is the stamp of its call. */
+	CHECK(pidtab_record_line(&record, 1, "mk 0", 4, answer, sizeof answer, &size, &ordinal) == PIDTAB_DONE && ordinal == 6);
+	CHECK(size == 9 && strncmp(answer, "control 7", 9) == 0 && calls_of(&record, 0) == 2 && calls_of(&record, 1) == 5);
+	CHECK(pidtab_record_call(&record, 2, &getpid_1, &reply, &ordinal) == PIDTAB_OUT_OF_RANGE);
+	CHECK(pidtab_record_read(&record, 6, &entry, 1, &size) == PIDTAB_DONE && size == 1 && entry.worker == 1 && entry.reply.first == 7);
+	CHECK(pidtab_record_opening(&record, room, sizeof room, &size) == PIDTAB_DONE && size == sizeof wanted - 1 && strncmp(room, wanted, size) == 0);
+	CHECK(pidtab_record_close(&record) == PIDTAB_DONE);
+}
+
+/* A record goes on up to the last stamp, and is saved behind it too. */
+static void the_last_stamp(void)
+{
+	static const uint64_t none[1];
+	struct text last = first_text("18446744073709551614"), spent = first_text("18446744073709551615");
+	struct pidtab_record record = PIDTAB_RECORD_INIT;
+	struct pidtab_fault fault;
+	struct pidtab_reply reply;
+	uint64_t ordinal = 7;
+
+	CHECK(pidtab_record_load(&record, last.bytes, last.size, none, 1, &fault) == PIDTAB_DONE);
+	CHECK(pidtab_record_call(&record, 0, &getpid_1, &reply, &ordinal) == PIDTAB_DONE && ordinal == 0);
+	CHECK(pidtab_record_call(&record, 0, &getpid_1, &reply, &ordinal) == PIDTAB_SPENT && dumps_as(&record, spent));
+	CHECK(pidtab_record_close(&record) == PIDTAB_DONE);
+	CHECK(pidtab_record_load(&record, spent.bytes, spent.size, &(uint64_t){ UINT64_MAX }, 1, &fault) == PIDTAB_OUT_OF_RANGE);
+	CHECK(pidtab_record_load(&record, spent.bytes, spent.size, &(uint64_t){ UINT64_MAX - 1 }, 1, &fault) == PIDTAB_DONE);
+	counts_are(&record, UINT64_MAX - 1, UINT64_MAX - 1);
+	CHECK(pidtab_record_call(&record, 0, &getpid_1, &reply, &ordinal) == PIDTAB_SPENT && dumps_as(&record, spent));
+	CHECK(pidtab_record_close(&record) == PIDTAB_DONE);
+	free(last.bytes);
+	free(spent.bytes);
+}
+
+static void want_of_memory(void)
+{
+	static const uint64_t counts[WORKERS] = { 1, 2, 3 };
+	struct pidtab_record record = PIDTAB_RECORD_INIT, loaded = PIDTAB_RECORD_INIT;
+	struct pidtab_fault fault = UNTOLD;
+	uint64_t seed = 7;
+	size_t size = 7;
+	int at;
+
+	begin(&record, 1, &seed);
+	struct text text = record_dumped(&record), again = { calloc(1, text.size), text.size };
+	for (at = 1; refuse_at = at, pidtab_record_dump(&record, again.bytes, again.size, &size) == PIDTAB_NO_MEMORY; at++)
+		CHECK(size == 7 && again.bytes[0] == 0);
+	refuse_at = 0;
+	CHECK(at > 5 && size == text.size && same_text(text, again));
+	for (at = 1; refuse_at = at, pidtab_record_load(&loaded, text.bytes, text.size, counts, WORKERS, &fault) == PIDTAB_NO_MEMORY; at++) {
+		CHECK(fault_is(fault, 0, 0) && loaded.at == NULL && !loaded.is_open && !loaded.in_call);
+		fault = UNTOLD;
+	}
+	refuse_at = 0;
+	CHECK(at > 50 && loaded.is_open && dumps_as(&loaded, text));
+	CHECK(pidtab_record_close(&record) == PIDTAB_DONE && pidtab_record_close(&loaded) == PIDTAB_DONE);
+	free(text.bytes);
+	free(again.bytes);
+}
+
+#define THREADS 4
+#define EACH 500
+
+static struct pidtab_shared shared;
+
+/* Control groups, whose ids are the stamps of their calls: those of the text's stamp on. */
+static void *makes_groups(void *at)
+{
+	const struct pidtab_call mk_0 = { .operation = PIDTAB_MK };
+	struct pidtab_reply reply;
+	uint64_t ordinal, last = 0;
+	uint32_t worker;
+
+	CHECK(pidtab_shared_seat(&shared, &worker) == PIDTAB_DONE && worker < THREADS);
+	for (int i = 0; i < EACH; i++, last = ordinal) {
+		CHECK(pidtab_shared_call(&shared, worker, &mk_0, &reply, &ordinal) == PIDTAB_DONE && ordinal > last);
+		CHECK(ordinal >= 80 && reply.kind == PIDTAB_CONTROL && reply.first == ordinal + 1);
+	}
+	return at;
+}
+
+/* Opens the shared record from the text, behind 20 calls of each worker, and has its threads go on. */
+static void share(struct text text, uint64_t keep)
+{
+	static const uint64_t counts[THREADS] = { 20, 20, 20, 20 };
+	struct pidtab_fault fault = UNTOLD;
+	pthread_t threads[THREADS];
+	uint64_t calls;
+
+	CHECK(pidtab_shared_load(&shared, text.bytes, text.size, counts, THREADS, keep, &fault) == PIDTAB_DONE && fault_is(fault, 0, 0));
+	for (int i = 0; i < THREADS; i++)
+		CHECK(pthread_create(&threads[i], NULL, makes_groups, NULL) == 0);
+	for (int i = 0; i < THREADS; i++)
+		CHECK(pthread_join(threads[i], NULL) == 0);
+	for (uint32_t i = 0; i < THREADS; i++)
+		CHECK(pidtab_shared_worker(&shared, i, &calls) == PIDTAB_DONE && calls == 20 + EACH);
+}
+
+/* What threads have made is what one thread makes from the same text; and a history with `keep` is never longer. */
+static void threads_go_on(void)
+{
+	static struct pidtab_entry entries[THREADS * EACH];
+	static const uint64_t counts[THREADS] = { 20, 20, 20, 20 };
+	struct text text = first_text("81"), end = { malloc(1 << 20), 1 << 20 };
+	struct pidtab_record record = PIDTAB_RECORD_INIT;
+	struct pidtab_fault fault = UNTOLD;
+	uint64_t first_kept, recorded;
+	size_t count, place;
+
+	share(text, 0);
+	CHECK(pidtab_shared_read(&shared, 80, entries, THREADS * EACH, &count) == PIDTAB_DONE && count == THREADS * EACH);
+	CHECK(end.bytes && pidtab_shared_dump(&shared, end.bytes, 3, &place) == PIDTAB_NO_ROOM && place > 1000);
+	CHECK(pidtab_shared_dump(&shared, end.bytes, end.size, &end.size) == PIDTAB_DONE && end.size == place);
+	pidtab_shared_close(&shared);
+	CHECK(pidtab_record_load(&record, text.bytes, text.size, counts, THREADS, &fault) == PIDTAB_DONE);
+	CHECK(pidtab_record_replay(&record, entries, count, &place) == PIDTAB_DONE && dumps_as(&record, end));
+	CHECK(pidtab_record_close(&record) == PIDTAB_DONE);
+
+	share(text, 300);
+	CHECK(pidtab_shared_counts(&shared, &first_kept, &recorded) == PIDTAB_DONE && recorded == 80 + THREADS * EACH && first_kept == 80 + 1800);
+	pidtab_shared_close(&shared);
+
+	/* Nothing is to be closed. */
+	CHECK(pidtab_shared_load(&shared, text.bytes, text.size, counts, 0, 0, &fault) == PIDTAB_OUT_OF_RANGE);
+	CHECK(pidtab_shared_load(&shared, text.bytes, text.size, counts, ((size_t)1 << 32) + 1, 0, &fault) == PIDTAB_OUT_OF_RANGE);
+	CHECK(pidtab_shared_load(&shared, text.bytes, text.size, &(uint64_t){ 81 }, 1, 0, &fault) == PIDTAB_OUT_OF_RANGE);
+	CHECK(pidtab_shared_load(&shared, text.bytes, text.size - 1, counts, 1, 0, &fault) == PIDTAB_BAD_TEXT && fault_is(fault, PIDTAB_FAULT_BAD_LINE, 5));
+	free(text.bytes);
+	free(end.bytes);
+}
+
+int main(void)
+{
+	statuses_of_a_dump();
+	statuses_of_a_load();
+	for (uint64_t seed = 1; seed <= 4; seed++)
+		a_record_goes_on(seed, seed == 4 ? UINT64_MAX - 2000 : seed);
+	nothing_before_is_kept();
+	the_last_stamp();
+	want_of_memory();
+	threads_go_on();
+	return 0;
+}
