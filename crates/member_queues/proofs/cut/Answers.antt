@@ -2,7 +2,7 @@
 use Rattle.std.proofs.Common.{◌≡◌, inl, inr, ℕ, ◌<◌, length, refl, sym, ap, ◌∙◌, arith, List, set}
 use Rattle.std.proofs.Math.Seq.{map-set_same}
 use Rattle.member_queues.specs.declared.Node.{Node}
-use Rattle.member_queues.specs.Heap.{nil, blank, node_at, member_in}
+use Rattle.member_queues.specs.Heap.{nil, node_at}
 use Rattle.member_queues.proofs.Trees as trees
 use Rattle.member_queues.proofs.Filling as filling
 use Rattle.member_queues.proofs.cut.Goals as goal
@@ -43,10 +43,4 @@ returns-clause-heap c =
     (λ some e. some (e ∙ beside))
 
 pub returns-clause-members : goal.returns-clause-members
-returns-clause-members c =
-    let ns : List Node = c.args.forest.now.nodes.items in
-    let n2 : List Node = c.set_above.new.nodes.items in
-    let key = trees.within ns c.args.key c.requires.owned in
-    let key2 : c.args.key < length n2 = let len1 = c.set_child.ensures.len in let len2 = c.set_above.ensures.len in omega (arith, key, len1, len2) in
-    map-set_same member_in n2 c.args.key _ blank (ap member_in (trees.node_is n2 c.args.key c.index_mut.result.now key2 c.index_mut.ensures.value))
-    ∙ c.set_above.ensures.members ∙ c.set_child.ensures.members
+returns-clause-members c = grind (arith, trees.within, map-set_same, trees.node_is)
