@@ -1,5 +1,5 @@
 -- The list of one owner comes before that of another.
-use Rattle.std.proofs.Common.{◌≡◌, ◌≢◌, ◌⊎◌, inl, inr, ℕ, ◌+◌, ◌<◌, ◌≤◌, ◌==◌, false, List, length, map, set, if◌then◌else◌, Some, option_map, refl, sym, ap, ◌∙◌, arith}
+use Rattle.std.proofs.Common.{◌≡◌, ◌≢◌, ◌⊎◌, inl, inr, ℕ, ◌+◌, ◌<◌, ◌==◌, false, List, length, map, set, if◌then◌else◌, option_map, refl, sym, ap, ◌∙◌, arith}
 use Rattle.std.proofs.lemmas.Bool.{cases_eq, eq-eqb}
 use Rattle.std.proofs.lemmas.List.{get_or_past, get_or-set_same, get_or-set_other, length-set}
 use Rattle.member_lists.specs.declared.Link.{Link}
@@ -62,9 +62,6 @@ module _ (hs hs' : List ℕ) (ls ls' : List Link) (from to last : ℕ) (w : IsLi
   behind_is : behind ≢ nil → ((link_at ls behind).owner ≡ to) × ((link_at ls behind).prev ≡ nil)
   behind_is more = w.head to more
 
-  to_not_from : to ≢ from
-  to_not_from e = differ (sym e)
-
   behind_not_from : behind ≢ nil → (link_at ls behind).owner ≢ from
   behind_not_from more e = differ (sym e ∙ (behind_is more).0)
 
@@ -90,10 +87,7 @@ module _ (hs hs' : List ℕ) (ls ls' : List Link) (from to last : ℕ) (w : IsLi
   ]
 
   rank_joint : behind ≢ nil → rank' last < rank' behind
-  rank_joint more =
-      let e = rank_other last (λ z. differ (sym is_last.0 ∙ z)) in
-      let f = rank_to behind (behind_is more).0 in
-      omega (arith, e, f)
+  rank_joint more = grind (arith, rank_other, rank_to, behind_is)
 
   known_ok : (k : ℕ) → (link_at ls' k).owner ≢ nil → (link_at ls' k).owner < length hs'
   known_ok k owned = elim (cases_eq (link_at ls k).owner from) [
@@ -195,20 +189,11 @@ module _ (hs hs' : List ℕ) (ls ls' : List Link) (from to last : ℕ) (w : IsLi
 
 -- where the one owner has no members, nothing is to be done
 pub none_handed : (ls : List Link) (from to : ℕ) → ((k : ℕ) → (link_at ls k).owner ≡ from → ⊥) → (k : ℕ) → owner_of (map owner_in ls) k ≡ option_map (handed from to) (owner_of (map owner_in ls) k)
-none_handed ls from to none k = owner_of-links ls k ∙ go (cases_eq (link_at ls k).owner nil) ∙ sym (ap (option_map (handed from to)) (owner_of-links ls k))
-  where
-    go : ((link_at ls k).owner ≡ nil) ⊎ ((link_at ls k).owner ≢ nil) → owner_in (link_at ls k) ≡ option_map (handed from to) (owner_in (link_at ls k))
-    go (inl free) = link_none (link_at ls k) free ∙ sym (ap (option_map (handed from to)) (link_none (link_at ls k) free))
-    go (inr owned) =
-        let is = link_some (link_at ls k) (link_at ls k).owner refl owned in
-        is ∙ sym (ap (option_map (handed from to)) is ∙ ap (λ (p : ℕ). Some p) (handed-other from to (link_at ls k).owner (none k)))
+none_handed ls from to none k = grind (arith, owner_of-links, cases_eq, link_none, link_some, handed-other)
 
 -- the last member is within what is written
 pub last_within : (hs : List ℕ) (ls told mid : List Link) (from to last : ℕ) → IsLinked hs ls → from < length hs → (link_at ls last).owner ≡ from → AreTold ls told from to → length mid ≡ length told → last < length mid
-last_within hs ls told mid from to last w room mine t len =
-    let some : from ≢ nil = omega (arith, room, w.few, w.rooms) in
-    let lt = within ls last (λ e. some (sym mine ∙ e)) in
-    omega (arith, lt, len, t.len)
+last_within hs ls told mid from to last w room mine t len = grind (arith, within)
 
 -- what the code of `move_list` writes
 module _ (hs : List ℕ) (ls told mid : List Link) (from to last b f : ℕ) (z : Link) (w : IsLinked hs ls) (differ : from ≢ to) (room_from : from < length hs) (room_to : to < length hs)
@@ -232,10 +217,7 @@ module _ (hs : List ℕ) (ls told mid : List Link) (from to last b f : ℕ) (z :
 
   -- past the end nothing is written
   mid_nil : b ≡ nil → link_at mid b ≡ link_at told b
-  mid_nil none = past mid told b len (omega (arith, none, t.len, w.few))
-    where
-      past : (xs ys : List Link) (i : ℕ) → length xs ≡ length ys → length ys ≤ i → link_at xs i ≡ link_at ys i
-      past xs ys i same over = get_or_past xs i lone (omega (arith, same, over)) ∙ sym (get_or_past ys i lone over)
+  mid_nil none = grind (arith, get_or_past)
 
   mid_owner : (k : ℕ) → ((link_at mid k).owner ≡ (link_at told k).owner) × ((link_at mid k).next ≡ (link_at told k).next)
   mid_owner k = elim (cases_eq k b) [
@@ -275,9 +257,7 @@ module _ (hs : List ℕ) (ls told mid : List Link) (from to last b f : ℕ) (z :
     next = λ k differs. ap (λ (y : Link). y.next) (at_other k differs) ∙ (mid_owner k).1 ∙ (told_rest k).0;
     next_last = ap (λ (y : Link). y.next) at_last ∙ sym was_b;
     prev = λ k apart. (end_owner k).1 ∙ mid_prev k (λ there e. apart (λ n. there (sym was_b ∙ n)) (e ∙ sym was_b)) ∙ (told_rest k).1;
-    prev_behind = λ there.
-        let more : b ≢ nil = λ n. there (was_b ∙ n) in
-        ap (λ i. (link_at (set mid last x) i).prev) was_b ∙ (end_owner b).1 ∙ ap (λ (y : Link). y.prev) (here more);
+    prev_behind = grind (arith, end_owner);
     head_to = get_or-set_other (set hs to f) from to nil nil (λ e. differ (sym e)) ∙ get_or-set_same hs to f nil room_to ∙ sym was_f;
     head_from = get_or-set_same (set hs to f) from nil nil (let l = length-set hs to f in omega (arith, l, room_from));
     heads = λ g other others. get_or-set_other (set hs to f) from g nil nil other ∙ get_or-set_other hs to g f nil others;

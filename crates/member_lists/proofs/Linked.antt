@@ -1,5 +1,5 @@
 -- Adding a key to a list and taking one out keep the links sound.
-use Rattle.std.proofs.Common.{◌≡◌, ◌≢◌, inl, inr, ℕ, zero, suc, ◌+◌, ◌<◌, ◌≤◌, List, [], ◌++◌, length, map, replicate, set, if◌then◌else◌, nat_eq, Some, None, IsSome, refl, sym, ap, ◌∙◌, arith, slice_index_or}
+use Rattle.std.proofs.Common.{◌≡◌, ◌≢◌, inl, inr, ℕ, zero, suc, ◌+◌, ◌<◌, ◌≤◌, List, [], ◌++◌, length, map, replicate, set, if◌then◌else◌, nat_eq, Some, None, refl, sym, ap, ◌∙◌, arith, slice_index_or}
 use Rattle.std.proofs.lemmas.Bool.{cases_eq}
 use Rattle.std.proofs.lemmas.List.{get_or_past, get_or_default, get_or-set_same, get_or-set_other, length-set, length-append, length-replicate, length-map}
 use Rattle.member_lists.specs.declared.Link.{Link}
@@ -55,23 +55,14 @@ module _ (hs hs' : List ℕ) (ls ls' : List Link) (k h f : ℕ) (w : IsLinked hs
       elim (cases_eq j k) [
         | inl same ↦ added same (ap (link_at ls') same ∙ a.here)
         | inr differs ↦ elim (cases_eq j f) [
-          | inl first ↦ elim (cases_eq f nil) [
-            | inl none ↦ other (λ some. absurd (some none)) differs (rw (first, none) (past_end ls ls' a.len w.few))
-            | inr some ↦ behind first some differs (ap (λ x. (link_at ls x).owner) first ∙ first_owner some) (ap (λ x. (link_at ls x).prev) first ∙ first_prev some) (rw first (a.behind some))
-          ]
+          | inl first ↦ grind (arith, cases_eq, past_end, first_owner, first_prev)
           | inr later ↦ other (λ _. later) differs (a.others j differs later)
         ]
       ]
 
   -- a key that had an owner and one before it is where it was
   inner : (j : ℕ) → (link_at ls j).owner ≢ nil → (link_at ls j).prev ≢ nil → link_at ls' j ≡ link_at ls j
-  inner j owned some = elim (cases_eq j f) [
-    | inl first ↦ elim (cases_eq f nil) [
-      | inl none ↦ rw (first, none) (past_end ls ls' a.len w.few)
-      | inr there ↦ absurd (some (ap (λ x. (link_at ls x).prev) first ∙ first_prev there))
-    ]
-    | inr later ↦ a.others j (not_k j owned) later
-  ]
+  inner j owned some = grind (arith, cases_eq, past_end, first_prev, not_k)
 
   abbrev NextOk : ℕ → Type 0
   NextOk j = ((link_at ls' (link_at ls' j).next).owner ≡ (link_at ls' j).owner) × ((link_at ls' (link_at ls' j).next).prev ≡ j)
@@ -79,23 +70,15 @@ module _ (hs hs' : List ℕ) (ls ls' : List Link) (k h f : ℕ) (w : IsLinked hs
   -- the one behind a key that was there already
   next_old : (j : ℕ) → (link_at ls j).owner ≢ nil → (link_at ls j).next ≢ nil → j ≢ nil
       → ((link_at ls' (link_at ls j).next).owner ≡ (link_at ls j).owner) × ((link_at ls' (link_at ls j).next).prev ≡ j)
-  next_old j owned more fits =
-      let n = w.next j owned more in
-      let same = inner (link_at ls j).next (λ z. owned (sym n.0 ∙ z)) (λ z. fits (sym n.1 ∙ z)) in
-      (ap (λ x. x.owner) same ∙ n.0, ap (λ x. x.prev) same ∙ n.1)
+  next_old j owned more fits = grind (arith, inner)
 
   fits : (j : ℕ) → (link_at ls j).owner ≢ nil → j ≢ nil
   fits j owned = let lt = within ls j owned in omega (arith, lt, w.few)
 
   next_ok : (j : ℕ) → Who ls ls' k h f j → (link_at ls' j).owner ≢ nil → (link_at ls' j).next ≢ nil → NextOk j
-  next_ok j (added same is) owned more =
-      let some : f ≢ nil = λ z. more (ap (λ x. x.next) is ∙ z) in
-      rw is (ap (λ x. x.owner) (a.behind some) ∙ first_owner some, ap (λ x. x.prev) (a.behind some) ∙ sym same)
-  next_ok j (behind first some differs owner none is) owned more =
-      rw is (next_old j (λ z. h_ok (sym owner ∙ z)) (λ z. more (ap (λ x. x.next) is ∙ z)) (fits j (λ z. h_ok (sym owner ∙ z))))
-  next_ok j (other later differs is) owned more =
-      let before : (link_at ls j).owner ≢ nil = λ z. owned (ap (λ x. x.owner) is ∙ z) in
-      rw is (next_old j before (λ z. more (ap (λ x. x.next) is ∙ z)) (fits j before))
+  next_ok j (added same is) owned more = grind (arith, first_owner)
+  next_ok j (behind first some differs owner none is) owned more = grind (arith, next_old, h_ok, fits)
+  next_ok j (other later differs is) owned more = grind (arith, next_old, fits)
 
   rank' : ℕ → ℕ
   rank' j = if nat_eq j k then 0 else w.rank j + 1
@@ -112,73 +95,16 @@ module _ (hs hs' : List ℕ) (ls ls' : List Link) (k h f : ℕ) (w : IsLinked hs
   PrevOk j = ((link_at ls' (link_at ls' j).prev).owner ≡ (link_at ls' j).owner) × ((link_at ls' (link_at ls' j).prev).next ≡ j) × (rank' (link_at ls' j).prev < rank' j)
 
   prev_ok : (j : ℕ) → Who ls ls' k h f j → (link_at ls' j).owner ≢ nil → (link_at ls' j).prev ≢ nil → PrevOk j
-  prev_ok j (added same is) owned more = absurd (more (ap (λ x. x.prev) is))
-  prev_ok j (behind first some differs owner none is) owned more =
-      rw is (ap (λ x. x.owner) a.here ∙ sym owner, ap (λ x. x.next) a.here ∙ sym first, omega (arith, rank_k, rank_other j differs))
-  prev_ok j (other later differs is) owned more =
-      let before : (link_at ls j).owner ≢ nil = λ z. owned (ap (λ x. x.owner) is ∙ z) in
-      let p = w.prev j before (λ z. more (ap (λ x. x.prev) is ∙ z)) in
-      let m = (link_at ls j).prev in
-      let had : (link_at ls m).owner ≢ nil = λ z. before (sym p.0 ∙ z) in
-      rw is (prev_same j m later p.0 p.1 had (who m), prev_next j m later p.1 had (who m), omega (arith, rank_other j differs, rank_other m (not_k m had), p.2))
-    where
-      prev_same : (j m : ℕ) → (f ≢ nil → j ≢ f) → (link_at ls m).owner ≡ (link_at ls j).owner → (link_at ls m).next ≡ j → (link_at ls m).owner ≢ nil → Who ls ls' k h f m → (link_at ls' m).owner ≡ (link_at ls j).owner
-      prev_same j m later e e' had (added same is) = absurd (not_k m had same)
-      prev_same j m later e e' had (behind first some differs owner none is) = ap (λ x. x.owner) is ∙ e
-      prev_same j m later e e' had (other _ _ is) = ap (λ x. x.owner) is ∙ e
-
-      prev_next : (j m : ℕ) → (f ≢ nil → j ≢ f) → (link_at ls m).next ≡ j → (link_at ls m).owner ≢ nil → Who ls ls' k h f m → (link_at ls' m).next ≡ j
-      prev_next j m later e' had (added same is) = absurd (not_k m had same)
-      prev_next j m later e' had (behind first some differs owner none is) = ap (λ x. x.next) is ∙ e'
-      prev_next j m later e' had (other _ _ is) = ap (λ x. x.next) is ∙ e'
+  prev_ok j given owned more = grind (arith, rank_k, rank_other, who, not_k)
 
   known_ok : (j : ℕ) → Who ls ls' k h f j → (link_at ls' j).owner ≢ nil → (link_at ls' j).owner < length hs'
-  known_ok j (added same is) owned = rw is (omega (arith, a.owner, a.owners))
-  known_ok j (behind first some differs owner none is) owned = rw (is, owner) (omega (arith, a.owner, a.owners))
-  known_ok j (other later differs is) owned =
-      let lt = w.known j (λ z. owned (ap (λ x. x.owner) is ∙ z)) in rw is (omega (arith, lt, a.owners))
+  known_ok j given owned = grind arith
 
   first_ok : (j : ℕ) → Who ls ls' k h f j → (link_at ls' j).owner ≢ nil → (link_at ls' j).prev ≡ nil → head_at hs' (link_at ls' j).owner ≡ j
-  first_ok j (added same is) owned none = rw is (a.head ∙ sym same)
-  first_ok j (behind first some differs owner none is) owned without = absurd (k_ok (sym (ap (λ x. x.prev) is) ∙ without))
-    where
-      k_ok : k ≢ nil
-      k_ok = omega (arith, a.key, w.few)
-  first_ok j (other later differs is) owned none =
-      let before : (link_at ls j).owner ≢ nil = λ z. owned (ap (λ x. x.owner) is ∙ z) in
-      let at : head_at hs (link_at ls j).owner ≡ j = w.first j before (sym (ap (λ x. x.prev) is) ∙ none) in
-      rw is (elim (cases_eq (link_at ls j).owner h) [
-        | inl mine ↦ absurd (later (λ z. fits j before (sym at ∙ ap (head_at hs) mine ∙ a.was ∙ z)) (sym at ∙ ap (head_at hs) mine ∙ a.was))
-        | inr others ↦ a.heads (link_at ls j).owner others ∙ at
-      ])
+  first_ok j given owned none = grind (arith, cases_eq, fits)
 
   head_ok : (g : ℕ) → head_at hs' g ≢ nil → ((link_at ls' (head_at hs' g)).owner ≡ g) × ((link_at ls' (head_at hs' g)).prev ≡ nil)
-  head_ok g some = elim (cases_eq g h) [
-    | inl same ↦ rw (same, a.head, a.here) (refl, refl)
-    | inr differs ↦
-        let e = a.heads g differs in
-        let was = w.head g (λ z. some (e ∙ z)) in
-        let past = get_or_past hs g nil in
-        let g_ok : g ≢ nil = λ z. some (e ∙ past (omega (arith, z, w.few, w.rooms))) in
-        rw e (other_head g (head_at hs g) differs was.0 was.1 g_ok (who (head_at hs g)))
-  ]
-    where
-      other_head : (g m : ℕ) → g ≢ h → (link_at ls m).owner ≡ g → (link_at ls m).prev ≡ nil → g ≢ nil → Who ls ls' k h f m → ((link_at ls' m).owner ≡ g) × ((link_at ls' m).prev ≡ nil)
-      other_head g m differs owner none ok (added same is) = absurd (not_k m (λ z. ok (sym owner ∙ z)) same)
-      other_head g m differs owner none ok (behind first some _ mine _ is) = absurd (differs (sym owner ∙ mine))
-      other_head g m differs owner none ok (other _ _ is) = (ap (λ x. x.owner) is ∙ owner, ap (λ x. x.prev) is ∙ none)
-
-  -- no other key's owner changes
-  owners_kept : (j : ℕ) → j ≢ k → Who ls ls' k h f j → (link_at ls' j).owner ≡ (link_at ls j).owner
-  owners_kept j differs (added same is) = absurd (differs same)
-  owners_kept j differs (behind first some _ mine _ is) = ap (λ x. x.owner) is
-  owners_kept j differs (other _ _ is) = ap (λ x. x.owner) is
-
-  pub owners-added : (j : ℕ) → j ≢ k → (link_at ls' j).owner ≡ (link_at ls j).owner
-  owners-added j differs = owners_kept j differs (who j)
-
-  pub owner-added : owner_in (link_at ls' k) ≡ Some h
-  owner-added = ap owner_in a.here ∙ grind (arith, h_ok)
+  head_ok g some = grind (arith, cases_eq, get_or_past, who, not_k)
 
   pub IsLinked-added : IsLinked hs' ls'
   IsLinked-added = record {
@@ -198,30 +124,14 @@ owner_of-links links k = get_or-map owner_in links k lone
 
 -- a key with no owner, by its link
 pub free_link : (links : List Link) (k : ℕ) → owner_of (map owner_in links) k ≡ None → (link_at links k).owner ≡ nil
-free_link links k free = go _ (sym (owner_of-links links k) ∙ free)
-  where
-    go : (o : ℕ) → (if nat_eq o 4294967295 then None else Some o) ≡ None → o ≡ nil
-    go o e = grind arith
-
--- a key with an owner, by its link
-pub owned_link : (links : List Link) (k : ℕ) → IsSome (owner_of (map owner_in links) k) → (link_at links k).owner ≢ nil
-owned_link links k owned z = go (link_at links k).owner z (rw (owner_of-links links k) at owned)
-  where
-    go : (o : ℕ) → o ≡ nil → IsSome (if nat_eq o 4294967295 then None else Some o) → ⊥
-    go o e some = grind arith
+free_link links k free = grind (arith, owner_of-links)
 
 -- the head that was read
 pub head_is : (hs : List ℕ) (h f : ℕ) → h < length hs → f ≡ slice_index_or hs h f → head_at hs h ≡ f
 head_is hs h f lt e = get_or_default hs h nil f lt ∙ sym e
 
 pub head_within : (hs : List ℕ) (ls : List Link) → IsLinked hs ls → (h f : ℕ) → head_at hs h ≡ f → f ≢ nil → f < length ls
-head_within hs ls w h f e some =
-    let owner = (w.head h (λ z. some (sym e ∙ z))).0 in
-    let owned : (link_at ls (head_at hs h)).owner ≢ nil = λ z. h_within (sym owner ∙ z) in
-    rw e at (within ls (head_at hs h) owned)
-  where
-    h_within : h ≢ nil
-    h_within z = some (sym e ∙ get_or_past hs h nil (omega (arith, z, w.few, w.rooms)))
+head_within hs ls w h f e some = grind (arith, within, get_or_past)
 
 -- what a key's own link says does not matter where it has no owner
 pub IsLinked-free : (hs : List ℕ) (ls ls' : List Link) (k : ℕ) → IsLinked hs ls → (link_at ls k).owner ≡ nil → (link_at ls' k).owner ≡ nil
@@ -240,9 +150,6 @@ IsLinked-free hs ls ls' k w free free' others len = record {
     not_k : (j : ℕ) → (link_at ls j).owner ≢ nil → j ≢ k
     not_k j owned same = owned (ap (λ x. (link_at ls x).owner) same ∙ free)
 
-    not_k' : (j : ℕ) → (link_at ls' j).owner ≢ nil → j ≢ k
-    not_k' j owned same = owned (ap (λ x. (link_at ls' x).owner) same ∙ free')
-
     same : (j : ℕ) → (link_at ls' j).owner ≢ nil → link_at ls' j ≡ link_at ls j
     same j owned = others j (λ z. owned (ap (λ x. (link_at ls' x).owner) z ∙ free'))
 
@@ -256,30 +163,7 @@ IsLinked-free hs ls ls' k w free free' others len = record {
 pub Added-set : (hs : List ℕ) (ls mid : List Link) (k h f : ℕ) → IsLinked hs (set ls k lone) → h < length hs → k < length ls
     → head_at hs h ≡ f → (f ≢ nil → link_at mid f ≡ record (link_at ls f) { prev = k }) → ((j : ℕ) → j ≢ f → link_at mid j ≡ link_at ls j)
     → length mid ≡ length ls → Added hs (set hs h k) (set ls k lone) (set mid k (record { owner = h; next = f; prev = nil })) k h f
-Added-set hs ls mid k h f w owner key was next_of others len = record {
-  free = free;
-  owner = owner;
-  key = simp length-set key;
-  was = was;
-  here = get_or-set_same mid k _ lone (omega (arith, key, len));
-  behind = λ some. get_or-set_other mid k f _ lone (first_not some) ∙ next_of some ∙ ap (λ (x : Link). record x { prev = k }) (sym (get_or-set_other ls k f lone lone (first_not some)));
-  others = λ j differs later. get_or-set_other mid k j _ lone differs ∙ others j later ∙ sym (get_or-set_other ls k j lone lone differs);
-  head = get_or-set_same hs h k nil owner;
-  heads = λ g differs. get_or-set_other hs h g k nil differs;
-  len = length-set mid k _ ∙ len ∙ sym (length-set ls k lone);
-  owners = length-set hs h k;
-}
-  where
-    free : (link_at (set ls k lone) k).owner ≡ nil
-    free = ap (λ (x : Link). x.owner) (get_or-set_same ls k lone lone key)
-
-    first_not : f ≢ nil → f ≢ k
-    first_not some z =
-        let mine = (w.head h (λ y. some (sym was ∙ y))).0 in
-        let e : head_at hs h ≡ k = was ∙ z in
-        let same : h ≡ nil = sym mine ∙ ap (λ x. (link_at (set ls k lone) x).owner) e ∙ ap (λ (x : Link). x.owner) (get_or-set_same ls k lone lone key) in
-        let l : length hs ≤ nil = omega (arith, w.few, w.rooms, length-set ls k lone) in
-        omega (arith, same, l, owner)
+Added-set hs ls mid k h f w owner key was next_of others len = grind (arith, length-set, get_or-set_same, get_or-set_other)
 
 -- what taking a key k from its owner makes of the links
 pub record Removed (hs hs' : List ℕ) (ls ls' : List Link) (k : ℕ) : Type 0 where
@@ -316,10 +200,7 @@ module _ (hs hs' : List ℕ) (ls ls' : List Link) (k : ℕ) (w : IsLinked hs ls)
   prev_k = w.prev k a.owned
 
   rank_n : n ≢ nil → w.rank k < w.rank n
-  rank_n some =
-      let e = next_k some in
-      let t = w.prev n (λ z. a.owned (sym e.0 ∙ z)) (λ z. key_ok (sym e.1 ∙ z)) in
-      rw e.1 at (t.2)
+  rank_n some = grind (arith, next_k, key_ok)
 
   n_not_k : n ≢ nil → n ≢ k
   n_not_k some z = let lt = rank_n some in let e = ap w.rank z in omega (arith, lt, e)
@@ -337,22 +218,12 @@ module _ (hs hs' : List ℕ) (ls ls' : List Link) (k : ℕ) (w : IsLinked hs ls)
   ok j owned z = let lt = within ls j owned in omega (arith, lt, z, w.few)
 
   known_left : (j : ℕ) → (link_at ls' j).owner ≢ nil → (link_at ls' j).owner < length hs'
-  known_left j owned =
-      let lt = w.known j (was_owned j owned) in
-      let e = a.own j (not_gone j owned) in
-      rw e (omega (arith, lt, a.owners))
+  known_left j owned = grind (arith, was_owned, not_gone)
 
   next_left : (j : ℕ) → (link_at ls' j).owner ≢ nil → (link_at ls' j).next ≢ nil
       → ((link_at ls' (link_at ls' j).next).owner ≡ (link_at ls' j).owner) × ((link_at ls' (link_at ls' j).next).prev ≡ j)
   next_left j owned more = elim (cases_eq j p) [
-    | inl at ↦
-        let some : p ≢ nil = λ z. ok j (was_owned j owned) (at ∙ z) in
-        let e : (link_at ls' j).next ≡ n = ap (λ x. (link_at ls' x).next) at ∙ a.before some in
-        let there : n ≢ nil = λ z. more (e ∙ z) in
-        rw e (
-          a.own n (n_not_k there) ∙ (next_k there).0 ∙ sym (prev_k some).0 ∙ sym (ap (λ x. (link_at ls x).owner) at) ∙ sym (a.own j (not_gone j owned)),
-          a.behind there ∙ sym at,
-        )
+    | inl at ↦ grind (arith, ok, was_owned, n_not_k, next_k, prev_k, not_gone)
     | inr differs ↦
         let e = a.next j (not_gone j owned) differs in
         let old = w.next j (was_owned j owned) (λ z. more (e ∙ z)) in
@@ -365,18 +236,7 @@ module _ (hs hs' : List ℕ) (ls ls' : List Link) (k : ℕ) (w : IsLinked hs ls)
   prev_left : (j : ℕ) → (link_at ls' j).owner ≢ nil → (link_at ls' j).prev ≢ nil
       → ((link_at ls' (link_at ls' j).prev).owner ≡ (link_at ls' j).owner) × ((link_at ls' (link_at ls' j).prev).next ≡ j) × (w.rank (link_at ls' j).prev < w.rank j)
   prev_left j owned more = elim (cases_eq j n) [
-    | inl at ↦
-        let some : n ≢ nil = λ z. ok j (was_owned j owned) (at ∙ z) in
-        let e : (link_at ls' j).prev ≡ p = ap (λ x. (link_at ls' x).prev) at ∙ a.behind some in
-        let there : p ≢ nil = λ z. more (e ∙ z) in
-        let r = ap w.rank at in
-        let lt = rank_n some in
-        let lt' = (prev_k there).2 in
-        rw e (
-          a.own p (p_not_k there) ∙ (prev_k there).0 ∙ sym (next_k some).0 ∙ sym (ap (λ x. (link_at ls x).owner) at) ∙ sym (a.own j (not_gone j owned)),
-          a.before there ∙ sym at,
-          omega (arith, r, lt, lt'),
-        )
+    | inl at ↦ grind (arith, ok, was_owned, rank_n, prev_k, p_not_k, next_k, not_gone)
     | inr differs ↦
         let e = a.prev j (not_gone j owned) differs in
         let old = w.prev j (was_owned j owned) (λ z. more (e ∙ z)) in
@@ -388,38 +248,15 @@ module _ (hs hs' : List ℕ) (ls ls' : List Link) (k : ℕ) (w : IsLinked hs ls)
 
   first_left : (j : ℕ) → (link_at ls' j).owner ≢ nil → (link_at ls' j).prev ≡ nil → head_at hs' (link_at ls' j).owner ≡ j
   first_left j owned none = elim (cases_eq j n) [
-    | inl at ↦
-        let some : n ≢ nil = λ z. ok j (was_owned j owned) (at ∙ z) in
-        let without : p ≡ nil = sym (a.behind some) ∙ sym (ap (λ x. (link_at ls' x).prev) at) ∙ none in
-        let mine : (link_at ls' j).owner ≡ o = a.own j (not_gone j owned) ∙ ap (λ x. (link_at ls x).owner) at ∙ (next_k some).0 in
-        rw mine (a.head without ∙ sym at)
-    | inr differs ↦
-        let e = a.prev j (not_gone j owned) differs in
-        let old = w.first j (was_owned j owned) (sym e ∙ none) in
-        let g = (link_at ls j).owner in
-        rw (a.own j (not_gone j owned)) (elim (cases_eq g o) [
-          | inr others ↦ a.heads g others ∙ old
-          | inl mine ↦ elim (cases_eq p nil) [
-            | inl without ↦ absurd (not_gone j owned (sym old ∙ ap (head_at hs) mine ∙ w.first k a.owned without))
-            | inr some ↦ ap (head_at hs') mine ∙ a.head_kept some ∙ ap (head_at hs) (sym mine) ∙ old
-          ]
-        ])
+    | inl at ↦ grind (arith, ok, was_owned, not_gone, next_k)
+    | inr differs ↦ grind (arith, not_gone, was_owned, cases_eq)
   ]
 
   head_left : (g : ℕ) → head_at hs' g ≢ nil → ((link_at ls' (head_at hs' g)).owner ≡ g) × ((link_at ls' (head_at hs' g)).prev ≡ nil)
   head_left g some = elim (cases_eq g o) [
-    | inr others ↦
-        let e = a.heads g others in
-        let old = w.head g (λ z. some (e ∙ z)) in
-        let m = head_at hs g in
-        let m_not_k : m ≢ k = λ z. others (sym old.0 ∙ ap (λ x. (link_at ls x).owner) z) in
-        let m_not_n : m ≢ n = λ z. key_ok (sym (next_k (λ y. some (e ∙ z ∙ y))).1 ∙ sym (ap (λ x. (link_at ls x).prev) z) ∙ old.1) in
-        rw e (a.own m m_not_k ∙ old.0, a.prev m m_not_k m_not_n ∙ old.1)
+    | inr others ↦ grind (arith, key_ok, next_k)
     | inl mine ↦ elim (cases_eq p nil) [
-      | inl without ↦
-          let e : head_at hs' g ≡ n = ap (head_at hs') mine ∙ a.head without in
-          let there : n ≢ nil = λ z. some (e ∙ z) in
-          rw e (a.own n (n_not_k there) ∙ (next_k there).0 ∙ sym mine, a.behind there ∙ without)
+      | inl without ↦ grind (arith, n_not_k, next_k)
       | inr there ↦
           let e : head_at hs' g ≡ head_at hs g = ap (head_at hs') mine ∙ a.head_kept there ∙ ap (head_at hs) (sym mine) in
           let old = w.head g (λ z. some (e ∙ z)) in
@@ -501,34 +338,14 @@ Removed-set hs hs' ls mid low k l w key is owned next-here next-others next-len 
     low_at : (j : ℕ) → ((link_at low j).owner ≡ (link_at mid j).owner) × ((link_at low j).prev ≡ (link_at mid j).prev)
     low_at j = elim (cases_eq j l.prev) [
       | inr later ↦ (ap (λ x. x.owner) (prev-others j later), ap (λ x. x.prev) (prev-others j later))
-      | inl same ↦ elim (cases_eq l.prev nil) [
-        | inl past ↦ let e = past_end mid low prev-len (omega (arith, next-len, w.few)) in rw (same, past, e) (refl, refl)
-        | inr some ↦ rw (same, prev-here some) (refl, refl)
-      ]
+      | inl same ↦ grind (arith, same, cases_eq, past_end)
     ]
 
     p_not : (link_at ls k).prev ≢ nil → (link_at ls k).prev ≢ k
     p_not some z = let lt = (w.prev k owned_k some).2 in let e = ap w.rank z in omega (arith, lt, e)
 
     n_not : (link_at ls k).next ≢ nil → (link_at ls k).next ≢ k
-    n_not some z =
-        let e = (w.next k owned_k some).1 in
-        let back : (link_at ls k).prev ≡ k = sym (ap (λ x. (link_at ls x).prev) z) ∙ e in
-        let lt = within ls k owned_k in
-        p_not (λ y. omega (arith, y, back, lt, w.few)) back
-
--- a key that an owner has is within
-pub next_within : (hs : List ℕ) (ls : List Link) → IsLinked hs ls → (k : ℕ) (l : Link) → l ≡ link_at ls k → l.owner ≢ nil → l.next ≢ nil → l.next < length ls
-next_within hs ls w k l is owned some =
-    let owned_k : (link_at ls k).owner ≢ nil = λ z. owned (ap (λ x. x.owner) is ∙ z) in
-    let e = (w.next k owned_k (λ z. some (ap (λ x. x.next) is ∙ z))).0 in
-    rw is (within ls (link_at ls k).next (λ z. owned_k (sym e ∙ z)))
-
-pub prev_within : (hs : List ℕ) (ls : List Link) → IsLinked hs ls → (k : ℕ) (l : Link) → l ≡ link_at ls k → l.owner ≢ nil → l.prev ≢ nil → l.prev < length ls
-prev_within hs ls w k l is owned some =
-    let owned_k : (link_at ls k).owner ≢ nil = λ z. owned (ap (λ x. x.owner) is ∙ z) in
-    let e = (w.prev k owned_k (λ z. some (ap (λ x. x.prev) is ∙ z))).0 in
-    rw is (within ls (link_at ls k).prev (λ z. owned_k (sym e ∙ z)))
+    n_not some z = grind (arith, owned_k, within, p_not)
 
 -- the link that was read
 pub link_is : (ls : List Link) (k : ℕ) (l : Link) → k < length ls → l ≡ slice_index_or ls k l → l ≡ link_at ls k
@@ -543,22 +360,7 @@ link_some l h e some = grind arith
 
 -- so many more keys and owners
 pub IsLinked-grown : (hs : List ℕ) (ls : List Link) (n : ℕ) → IsLinked hs ls → length ls + n ≤ nil → IsLinked (hs ++ replicate n 4294967295) (ls ++ replicate n lone)
-IsLinked-grown hs ls n w few = record {
-  rank = w.rank;
-  few = simp (length-append, length-replicate) few;
-  rooms = simp (length-append, length-replicate) (omega (arith, w.rooms));
-  known = λ k. rw (same k) (λ owned. simp (length-append, length-replicate) (let lt = w.known k owned in omega (arith, lt)));
-  next = λ k. rw (same k) (λ owned more. rw (same (link_at ls k).next) (w.next k owned more));
-  prev = λ k. rw (same k) (λ owned more. rw (same (link_at ls k).prev) (w.prev k owned more));
-  first = λ k. rw (same k) (λ owned none. rw (same_head (link_at ls k).owner) (w.first k owned none));
-  head = λ h. rw (same_head h) (λ some. rw (same (head_at hs h)) (w.head h some));
-}
-  where
-    same : (k : ℕ) → link_at (ls ++ replicate n lone) k ≡ link_at ls k
-    same k = get_or-append-replicate ls n lone k
-
-    same_head : (h : ℕ) → head_at (hs ++ replicate n 4294967295) h ≡ head_at hs h
-    same_head h = get_or-append-replicate hs n 4294967295 h
+IsLinked-grown hs ls n w few = grind (arith, length-append, length-replicate, get_or-append-replicate)
 
 pub IsLinked-none : IsLinked [] []
 IsLinked-none = record {

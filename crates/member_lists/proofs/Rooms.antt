@@ -6,9 +6,7 @@ use Rattle.std.proofs.lemmas.List.{get_or_past, map-append, take_all}
 
 -- a vector that was resized to so many more
 pub resized : {X Z : Type 0} (v : Vec X Z) (ys : List X) (k n : ℕ) (x : X) → k ≡ vec_len v → ys ≡ take (k + n) v.items ++ replicate (k + n - vec_len v) x → ys ≡ v.items ++ replicate n x
-resized v ys k n x same is =
-    let more : k + n - vec_len v ≡ n = omega (arith, same) in
-    rw (is, take_all (k + n) v.items (omega (arith, same, v.ok.0)), more) refl
+resized v ys k n x same is = grind (arith, take_all)
 
 map-replicate : {X Y : Type 0} (f : X → Y) (n : ℕ) (x : X) → map f (replicate n x) ≡ replicate n (f x)
 map-replicate f zero x = refl

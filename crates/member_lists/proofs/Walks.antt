@@ -14,15 +14,10 @@ module _ (ls : List Link) where
   next k = (link_at ls k).next
 
   chain-nil : (k n : ℕ) → k ≡ nil → chain ls k n ≡ []
-  chain-nil k zero none = refl
-  chain-nil k (suc n) none = rw none refl
+  chain-nil k n none = grind arith
 
   chain-some : (k n : ℕ) → k ≢ nil → chain ls k (suc n) ≡ k ∷ chain ls (next k) n
-  chain-some k n some = go (k == nil) refl
-    where
-      go : (b : Bool) → (k == nil) ≡ b → (if b then [] else k ∷ chain ls (next k) n) ≡ k ∷ chain ls (next k) n
-      go true e = absurd (some (grind (arith, e)))
-      go false e = refl
+  chain-some k n some = grind arith
 
   chain-more : (k n : ℕ) → Ends ls k n → chain ls k (suc n) ≡ chain ls k n
   chain-more k zero none = chain-nil k (suc zero) none
@@ -42,12 +37,7 @@ module _ (ls : List Link) where
     pub rest : chain ls k n ≡ k ∷ chain ls (next k) n
 
   pub step : (k n : ℕ) → Ends ls k n → k ≢ nil → Step k n
-  step k zero none some = absurd (some none)
-  step k (suc n) ends some = record {
-    inside = (ends some).0;
-    ends = ends-more (next k) n (ends some).1;
-    rest = chain-some k n some ∙ ap (λ xs. k ∷ xs) (sym (chain-more (next k) n (ends some).1));
-  }
+  step k n none some = grind (arith, ends-more, chain-some, chain-more)
 
   pub over : (k n : ℕ) → k ≡ nil → chain ls k n ≡ []
   over = chain-nil
@@ -59,11 +49,7 @@ times-here : (k : ℕ) (xs : List ℕ) → times k (k ∷ xs) ≡ 1 + times k xs
 times-here k xs = times-cons k k xs ∙ ap (λ (b : Bool). (if b then 1 else 0) + times k xs) (eq-eqb k k refl)
 
 pub times-later : (k j : ℕ) (xs : List ℕ) → k ≢ j → times j (k ∷ xs) ≡ times j xs
-times-later k j xs differs = times-cons j k xs ∙ go (k == j) refl
-  where
-    go : (b : Bool) → (k == j) ≡ b → (if b then 1 else 0) + times j xs ≡ times j xs
-    go true e = absurd (differs (grind (arith, e)))
-    go false e = omega arith
+times-later k j xs differs = grind (arith, times-cons)
 
 module _ (hs : List ℕ) (ls : List Link) (w : IsLinked hs ls) (h : ℕ) (room : h < length hs) where
   some_h : h ≢ nil
@@ -85,10 +71,7 @@ module _ (hs : List ℕ) (ls : List Link) (w : IsLinked hs ls) (h : ℕ) (room :
   next_owned k mine some = (w.next k (has_owner k mine) some).0 ∙ mine
 
   next_higher : (k : ℕ) → Owned k → next ls k ≢ nil → w.rank k < w.rank (next ls k)
-  next_higher k mine some =
-      let t = w.next k (has_owner k mine) some in
-      let p = w.prev (next ls k) (λ z. has_owner k mine (sym t.0 ∙ z)) (λ z. not_nil k mine (sym t.1 ∙ z)) in
-      rw t.1 at p.2
+  next_higher k mine some = grind (arith, has_owner, not_nil)
 
   -- the keys of a chain are the owner's, and rank no lower than the first
   above : (n k m : ℕ) → (k ≢ nil → Owned k × (m ≤ w.rank k)) → AllByRecursion (λ j. Owned j × (m ≤ w.rank j)) (chain ls k n)
@@ -108,11 +91,7 @@ module _ (hs : List ℕ) (ls : List Link) (w : IsLinked hs ls) (h : ℕ) (room :
 
   apart : (j : ℕ) (xs : List ℕ) → AllByRecursion (λ i. Owned i × (w.rank j + 1 ≤ w.rank i)) xs → AllByRecursion (λ i. (j == i) ≡ false) xs
   apart j [] all = tt
-  apart j (x ∷ xs) all = (go (j == x) refl, apart j xs all.1)
-    where
-      go : (b : Bool) → (j == x) ≡ b → b ≡ false
-      go false e = refl
-      go true e = let same : j ≡ x = grind (arith, e) in let r = ap w.rank same in absurd (omega (arith, r, all.0.1))
+  apart j (x ∷ xs) all = grind (arith, apart j xs all.1)
 
   distinct : (n k : ℕ) → (k ≢ nil → Owned k) → IsDistinct ◌==◌ (chain ls k n)
   unfolding IsDistinct
@@ -124,10 +103,7 @@ module _ (hs : List ℕ) (ls : List Link) (w : IsLinked hs ls) (h : ℕ) (room :
 
   -- a chain that does not end is as long as may be
   ends_or_full : (n k : ℕ) → (k ≢ nil → Owned k) → Ends ls k n ⊎ (length (chain ls k (suc n)) ≡ suc n)
-  ends_or_full zero k start = elim (cases_eq k nil) [
-    | inl none ↦ inl none
-    | inr some ↦ inr (rw (chain-some ls k zero some) refl)
-  ]
+  ends_or_full zero k start = grind (arith, cases_eq, chain-some)
   ends_or_full (suc n) k start = elim (cases_eq k nil) [
     | inl none ↦ inl (λ some. absurd (some none))
     | inr some ↦ elim (ends_or_full n (next ls k) (next_owned k (start some))) [
@@ -141,8 +117,7 @@ module _ (hs : List ℕ) (ls : List Link) (w : IsLinked hs ls) (h : ℕ) (room :
   any_all P q (x ∷ xs) all any = go (λ later. any_all P q xs all.1 later) (q == x) refl any
     where
       go : (list_any (λ y. q == y) xs ≡ true → P q) → (b : Bool) → (q == x) ≡ b → (b || list_any (λ y. q == y) xs) ≡ true → P q
-      go rest true e any = let same : q ≡ x = grind (arith, e) in rw same all.0
-      go rest false e any = rest any
+      go rest b e any = grind arith
 
   short : (n k : ℕ) → (k ≢ nil → Owned k) → length (chain ls k n) ≤ length ls
   short n k start = length-le_from_distinct_below (chain ls k n) (length ls) (distinct n k start)
@@ -159,18 +134,14 @@ module _ (hs : List ℕ) (ls : List Link) (w : IsLinked hs ls) (h : ℕ) (room :
 
   none_of : (j : ℕ) (xs : List ℕ) → AllByRecursion (λ i. Owned i × (w.rank j + 1 ≤ w.rank i)) xs → times j xs ≡ 0
   none_of j [] all = refl
-  none_of j (x ∷ xs) all = elim (cases_eq x j) [
-    | inl same ↦ let r = ap w.rank same in absurd (omega (arith, r, all.0.1))
-    | inr differs ↦ times-later x j xs differs ∙ none_of j xs all.1
-  ]
+  none_of j (x ∷ xs) all = grind (arith, cases_eq, times-later, none_of j xs all.1)
 
   times_all : (P : ℕ → Type 0) (j : ℕ) (xs : List ℕ) → AllByRecursion P xs → times j xs ≡ 1 → P j
   times_all P j [] all once = cc
   times_all P j (x ∷ xs) all once = go (λ later. times_all P j xs all.1 later) (x == j) refl (sym (times-cons j x xs) ∙ once)
     where
       go : (times j xs ≡ 1 → P j) → (b : Bool) → (x == j) ≡ b → (if b then 1 else 0) + times j xs ≡ 1 → P j
-      go rest true e once = let same : x ≡ j = grind (arith, e) in rw same at all.0
-      go rest false e once = rest (omega (arith, once))
+      go rest b e once = grind arith
 
   times-first : (n k : ℕ) → Owned k → Ends ls k n → times k (chain ls k n) ≡ 1
   times-first zero k mine none = absurd (not_nil k mine none)
@@ -186,10 +157,7 @@ module _ (hs : List ℕ) (ls : List Link) (w : IsLinked hs ls) (h : ℕ) (room :
     | inr some ↦
         let e : times j (k ∷ chain ls (next ls k) n) ≡ 1 = rw (chain-some ls k n some) at once in
         rw (chain-some ls k n some) (elim (cases_eq k j) [
-          | inl same ↦
-              let there : next ls k ≢ nil = λ z. more (sym (ap (next ls) same) ∙ z) in
-              let lower = next_higher k (start some) there in
-              ap (λ i. times (next ls i) (k ∷ chain ls (next ls k) n)) (sym same) ∙ (times-later k (next ls k) (chain ls (next ls k) n) (λ z. let r = ap w.rank z in omega (arith, r, lower)) ∙ times-first n (next ls k) (next_owned k (start some) there) (stop some).1)
+          | inl same ↦ grind (arith, next_higher, times-later, times-first, next_owned)
           | inr differs ↦
               let later : times j (chain ls (next ls k) n) ≡ 1 = sym (times-later k j (chain ls (next ls k) n) differs) ∙ e in
               let at = times_all (λ i. Owned i × (w.rank k + 1 ≤ w.rank i)) j (chain ls (next ls k) n) (behind n k (start some)) later in
@@ -202,9 +170,7 @@ module _ (hs : List ℕ) (ls : List Link) (w : IsLinked hs ls) (h : ℕ) (room :
   comes : (most k : ℕ) → Owned k → w.rank k < most → times k (chain ls (head_at hs h) (length ls)) ≡ 1
   comes zero k mine low = absurd (omega (arith, low))
   comes (suc most) k mine low = elim (cases_eq (link_at ls k).prev nil) [
-    | inl none ↦
-        let first : head_at hs h ≡ k = ap (head_at hs) (sym mine) ∙ w.first k (has_owner k mine) none in
-        rw first (times-first (length ls) k mine (rw first at all_end))
+    | inl none ↦ grind (arith, has_owner, times-first, all_end)
     | inr some ↦
         let p = w.prev k (has_owner k mine) some in
         let before = comes most (link_at ls k).prev (p.0 ∙ mine) (omega (arith, p.2, low)) in

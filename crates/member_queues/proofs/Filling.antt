@@ -47,16 +47,10 @@ module _ (rs : List ℕ) (ns : List Node) (k b o : ℕ) (w : IsHeap rs ns nil) (
   o_down some = w.tree.down k o owned some o_below
 
   b_not_o : b ≢ nil → b ≢ o
-  b_not_o some e = elim both [
-    | inl s ↦ w.tree.apart k owned (λ z. some (sym s.0 ∙ z)) (s.0 ∙ e ∙ sym s.1)
-    | inr s ↦ w.tree.apart k owned (λ z. some (e ∙ sym s.0 ∙ z)) (s.0 ∙ sym e ∙ sym s.1)
-  ]
+  b_not_o some e = grind arith
 
   only : (j : ℕ) → IsBelow ns k j → (j ≡ b) ⊎ (j ≡ o)
-  only j below = elim both [
-    | inl s ↦ elim below [ inl e ↦ inl (sym e ∙ s.0) | inr e ↦ inr (sym e ∙ s.1) ]
-    | inr s ↦ elim below [ inl e ↦ inr (sym e ∙ s.0) | inr e ↦ inl (sym e ∙ s.1) ]
-  ]
+  only j below = grind arith
 
   b_higher : b ≢ nil → (node_at ns k).rank < (node_at ns b).rank
   b_higher some = (side_after rs ns nil k b w owned some b_below).1
@@ -86,107 +80,43 @@ module _ (rs : List ℕ) (ns : List Node) (k b o : ℕ) (w : IsHeap rs ns nil) (
     -- who is below a key now: b below the one that was over k, or one that was
     back : (j m : ℕ) → j ≢ k → (node_at ns' j).owner ≢ nil → m ≢ nil → IsBelow ns' j m → ((m ≡ b) × (j ≡ u) × (root_at rs p ≢ k)) ⊎ (IsBelow ns j m × (m ≢ k))
     back j m gone mine some below = elim (cases_eq (root_at rs p) k) [
-      | inl first ↦
-          let s = f.sides j gone (inl first) in
-          let old : IsBelow ns j m = rw (s.0, s.1) at below in
-          inr (old, λ e. (w.tree.down j m (was j gone mine) some old).3 (ap (λ i. root_at rs (node_at ns i).owner) e ∙ first ∙ sym e))
+      | inl first ↦ grind (arith, was)
       | inr away ↦ elim (cases_eq j u) [
-        | inr differs ↦
-            let s = f.sides j gone (inr differs) in
-            let old : IsBelow ns j m = rw (s.0, s.1) at below in
-            inr (old, λ e. differs (sym (w.tree.down j m (was j gone mine) some old).1 ∙ ap (λ i. (node_at ns i).above) e))
-        | inl same ↦
-            let mine_u : (node_at ns u).owner ≢ nil = rw same at (was j gone mine) in
-            let below_u : IsBelow ns' u m = rw same at below in
-            elim (cases_eq (node_at ns u).next k) [
-              | inl at ↦
-                  let s = f.next away at in
-                  elim below_u [
-                    | inl e ↦ inl (sym e ∙ s.0, same, away)
-                    | inr e ↦ inr (rw same (inr (sym s.1 ∙ e)), λ z. w.tree.apart u mine_u (λ y. k_some (sym at ∙ y)) (at ∙ sym z ∙ sym e ∙ s.1))
-                  ]
-              | inr at ↦
-                  let s = f.beside away at in
-                  elim below_u [
-                    | inl e ↦ inr (rw same (inl (sym s.0 ∙ e)), λ z. at (sym s.0 ∙ e ∙ z))
-                    | inr e ↦ inl (sym e ∙ s.1, same, away)
-                  ]
-            ]
+        | inr differs ↦ grind (arith, was)
+        | inl same ↦ grind (arith, was, cases_eq, k_some)
       ]
     ]
 
     -- who was below a key still is, but for k
     into : (j m : ℕ) → j ≢ k → m ≢ k → IsBelow ns j m → IsBelow ns' j m
-    into j m other differs below = elim (cases_eq (root_at rs p) k) [
-      | inl first ↦ let s = f.sides j other (inl first) in rw (s.0, s.1) below
-      | inr away ↦ elim (cases_eq j u) [
-        | inr far ↦ let s = f.sides j other (inr far) in rw (s.0, s.1) below
-        | inl same ↦
-            let below_u : IsBelow ns u m = rw same at below in
-            rw same (elim (cases_eq (node_at ns u).next k) [
-              | inl at ↦
-                  let s = f.next away at in
-                  elim below_u [ inl e ↦ absurd (differs (sym e ∙ at)) | inr e ↦ inr (s.1 ∙ e) ]
-              | inr at ↦
-                  let s = f.beside away at in
-                  elim below_u [
-                    | inl e ↦ inl (s.0 ∙ e)
-                    | inr e ↦ elim (u_up away).2 [ inl e' ↦ absurd (at e') | inr e' ↦ absurd (differs (sym e ∙ e')) ]
-                  ]
-            ])
-      ]
-    ]
+    into j m other differs below = grind (arith, cases_eq, u_up)
 
     b_into : root_at rs p ≢ k → IsBelow ns' u b
     b_into away = elim (cases_eq (node_at ns u).next k) [ inl at ↦ inl (f.next away at).0 | inr at ↦ inr (f.beside away at).1 ]
 
     -- an owner that has its root as before, or k's, which b is
     roots_now : (q : ℕ) → ((root_at rs p ≡ k) × (q ≡ p) × (root_at rs' q ≡ b)) ⊎ (((root_at rs p ≢ k) ⊎ (q ≢ p)) × (root_at rs' q ≡ root_at rs q))
-    roots_now q = elim (cases_eq (root_at rs p) k) [
-      | inr away ↦ inr (inl away, f.roots q (inl away))
-      | inl first ↦ elim (cases_eq q p) [
-        | inl same ↦ inl (first, same, ap (root_at rs') same ∙ f.root first)
-        | inr differs ↦ inr (inr differs, f.roots q (inr differs))
-      ]
-    ]
+    roots_now q = grind (arith, cases_eq)
 
     -- k is no root but its owner's
     root_not_k : (q : ℕ) → root_at rs q ≢ nil → (root_at rs p ≢ k) ⊎ (q ≢ p) → root_at rs q ≢ k
-    root_not_k q some out z =
-        let same : q ≡ p = sym (w.tree.tops q some).0 ∙ ap (λ i. (node_at ns i).owner) z in
-        elim out [ inl away ↦ away (ap (root_at rs) (sym same) ∙ z) | inr differs ↦ differs same ]
+    root_not_k q some out z = grind arith
 
     -- what ranks above its owner's root is none
     still_away : (m : ℕ) → m ≢ k → m ≢ b → root_at rs (node_at ns m).owner ≢ m → root_at rs' (node_at ns' m).owner ≢ m
-    still_away m gone differs away z = elim (roots_now (node_at ns m).owner) [
-      | inl new ↦ differs (sym z ∙ ap (root_at rs') (f.own m gone) ∙ new.2)
-      | inr old ↦ away (sym old.1 ∙ ap (root_at rs') (sym (f.own m gone)) ∙ z)
-    ]
+    still_away m gone differs away z = grind (arith, roots_now)
 
     was_away : (j : ℕ) → j ≢ k → root_at rs' (node_at ns' j).owner ≢ j → root_at rs (node_at ns j).owner ≢ j
-    was_away j gone away z = elim (roots_now (node_at ns j).owner) [
-      | inl new ↦ gone (sym z ∙ ap (root_at rs) new.1 ∙ new.0)
-      | inr old ↦ away (ap (root_at rs') (f.own j gone) ∙ old.1 ∙ z)
-    ]
+    was_away j gone away z = grind (arith, roots_now)
 
     b_root : (j : ℕ) → j ≡ b → b ≢ nil → root_at rs' (node_at ns' j).owner ≢ j → root_at rs p ≢ k
-    b_root j same some away first =
-        away (ap (root_at rs') (ap (λ i. (node_at ns' i).owner) same ∙ f.own b (b_not_k some) ∙ (b_down some).0) ∙ f.root first ∙ sym same)
+    b_root j same some away first = grind (arith, b_not_k, b_down)
 
     up_spliced : (j : ℕ) → j ≢ k → (node_at ns' j).owner ≢ nil → j ≢ o → root_at rs' (node_at ns' j).owner ≢ j
         → ((node_at ns' (node_at ns' j).above).owner ≡ (node_at ns' j).owner)
         × ((node_at ns' (node_at ns' j).above).rank < (node_at ns' j).rank) × IsBelow ns' (node_at ns' j).above j
     up_spliced j gone mine free away = elim (cases_eq j b) [
-      | inl same ↦
-          let some : b ≢ nil = λ z. there j gone mine (same ∙ z) in
-          let below : root_at rs p ≢ k = b_root j same some away in
-          let e : (node_at ns' j).above ≡ u = ap (λ i. (node_at ns' i).above) same ∙ f.above_b some in
-          let a = u_up below in
-          rw e (
-            f.own u (u_not_k below) ∙ a.0 ∙ sym (b_down some).0 ∙ sym (f.own b (b_not_k some)) ∙ ap (λ i. (node_at ns' i).owner) (sym same),
-            (let r = b_higher some in let r1 = f.ranks u in let r2 = f.ranks b in let r3 = ap (λ i. (node_at ns' i).rank) same in omega (arith, r, r1, r2, r3, a.1)),
-            rw same (b_into below),
-          )
+      | inl same ↦ grind (arith, there, b_root, u_up, u_not_k, b_down, b_not_k, b_higher, b_into)
       | inr differs ↦
           let e = f.above j gone differs in
           let m = (node_at ns j).above in
@@ -200,59 +130,17 @@ module _ (rs : List ℕ) (ns : List Node) (k b o : ℕ) (w : IsHeap rs ns nil) (
     ]
 
     tops_spliced : (q : ℕ) → root_at rs' q ≢ nil → ((node_at ns' (root_at rs' q)).owner ≡ q) × (root_at rs' q ≢ o) × (root_at rs' q ≢ k)
-    tops_spliced q some = elim (roots_now q) [
-      | inl new ↦
-          let here : b ≢ nil = λ z. some (new.2 ∙ z) in
-          rw new.2 (f.own b (b_not_k here) ∙ (b_down here).0 ∙ sym new.1, b_not_o here, b_not_k here)
-      | inr old ↦
-          let here : root_at rs q ≢ nil = λ z. some (old.1 ∙ z) in
-          let t = w.tree.tops q here in
-          let gone = root_not_k q here old.0 in
-          rw old.1 (
-            f.own (root_at rs q) gone ∙ t.0,
-            λ z. (o_down (λ y. here (z ∙ y))).3 (ap (root_at rs) (ap (λ i. (node_at ns i).owner) (sym z) ∙ t.0) ∙ z),
-            gone,
-          )
-    ]
+    tops_spliced q some = grind (arith, roots_now, b_not_k, b_down, b_not_o, root_not_k, o_down)
 
     down_spliced : (j m : ℕ) → j ≢ k → (node_at ns' j).owner ≢ nil → m ≢ nil → IsBelow ns' j m
         → ((node_at ns' m).owner ≡ (node_at ns' j).owner) × ((node_at ns' m).above ≡ j) × (m ≢ o) × (m ≢ k) × (root_at rs' (node_at ns' m).owner ≢ m)
     down_spliced j m gone mine some below = elim (back j m gone mine some below) [
-      | inl new ↦
-          let here : b ≢ nil = λ z. some (new.0 ∙ z) in
-          let d = b_down here in
-          rw (new.0, new.1) (
-            f.own b (b_not_k here) ∙ d.0 ∙ sym (u_up new.2).0 ∙ sym (f.own u (u_not_k new.2)),
-            f.above_b here,
-            b_not_o here,
-            b_not_k here,
-            λ z. d.3 (sym (f.roots (node_at ns b).owner (inl new.2)) ∙ ap (root_at rs') (sym (f.own b (b_not_k here))) ∙ z),
-          )
-      | inr old ↦
-          let d = w.tree.down j m (was j gone mine) some old.0 in
-          let differs : m ≢ b = λ z. gone (sym d.1 ∙ ap (λ i. (node_at ns i).above) z ∙ (b_down (λ y. some (z ∙ y))).1) in (
-            f.own m old.1 ∙ d.0 ∙ sym (f.own j gone),
-            f.above m old.1 differs ∙ d.1,
-            λ z. gone (sym d.1 ∙ ap (λ i. (node_at ns i).above) z ∙ (o_down (λ y. some (z ∙ y))).1),
-            old.1,
-            still_away m old.1 differs d.3,
-          )
+      | inl new ↦ grind (arith, b_down, b_not_k, u_up, u_not_k, b_not_o)
+      | inr old ↦ grind (arith, was, b_down, o_down, still_away)
     ]
 
     apart_spliced : (j : ℕ) → j ≢ k → (node_at ns' j).owner ≢ nil → (node_at ns' j).next ≢ nil → (node_at ns' j).next ≢ (node_at ns' j).beside
-    apart_spliced j gone mine = elim (cases_eq (root_at rs p) k) [
-      | inl first ↦ let s = f.sides j gone (inl first) in rw (s.0, s.1) (w.tree.apart j (was j gone mine))
-      | inr away ↦ elim (cases_eq j u) [
-        | inr far ↦ let s = f.sides j gone (inr far) in rw (s.0, s.1) (w.tree.apart j (was j gone mine))
-        | inl same ↦
-            let mine_u : (node_at ns u).owner ≢ nil = rw same at (was j gone mine) in
-            let not_b : b ≢ nil → IsBelow ns u b → ⊥ = λ here below. u_not_k away (sym (w.tree.down u b mine_u here below).1 ∙ (b_down here).1) in
-            rw same (elim (cases_eq (node_at ns u).next k) [
-              | inl at ↦ let s = f.next away at in rw (s.0, s.1) (λ here e. not_b here (inr (sym e)))
-              | inr at ↦ let s = f.beside away at in rw (s.0, s.1) (λ here e. not_b (λ z. here (e ∙ z)) (inl e))
-            ])
-      ]
-    ]
+    apart_spliced j gone mine = grind (arith, cases_eq, was, u_not_k, b_down)
 
     -- the key has no owner, and its other side is held
     module _ (here : (node_at ns' k).owner ≡ nil) where
@@ -279,12 +167,7 @@ module _ (rs : List ℕ) (ns : List Node) (k b o : ℕ) (w : IsHeap rs ns nil) (
       }
 
       pub IsSinking-filled : (o ≢ nil → (b ≢ nil) × ((node_at ns b).rank < (node_at ns o).rank)) → IsSinking rs' ns' b o
-      IsSinking-filled order = record {
-        heap = record { ranked = ranked_filled; tree = tree_filled };
-        owned = λ some z. owned (sym (b_down (order some).0).0 ∙ sym (f.own b (b_not_k (order some).0)) ∙ z);
-        same = λ some. f.own o (o_not_k some) ∙ (o_down some).0 ∙ sym (b_down (order some).0).0 ∙ sym (f.own b (b_not_k (order some).0));
-        lower = λ some. let r1 = f.ranks b in let r2 = f.ranks o in let lt = (order some).1 in omega (arith, r1, r2, lt);
-      }
+      IsSinking-filled order = grind (arith, ranked_filled, tree_filled, b_down, b_not_k, o_not_k, o_down)
 
     -- the key keeps its owner and its other side, and is held
     module _ (mine : (node_at ns' k).owner ≡ p) (left : (m : ℕ) → m ≢ nil → IsBelow ns' k m → m ≡ o) (has : o ≢ nil → IsBelow ns' k o)
@@ -303,16 +186,7 @@ module _ (rs : List ℕ) (ns : List Node) (k b o : ℕ) (w : IsHeap rs ns nil) (
 
       tree_cut : IsTree rs' ns' k
       tree_cut = record {
-        above = λ j owned' free away. elim (cases_eq j o) [
-          | inr differs ↦ up_spliced j free owned' differs away
-          | inl same ↦
-              let some : o ≢ nil = λ z. there j free owned' (same ∙ z) in
-              rw same (rw (o_above some) (
-                sym (o_owner some),
-                (let lt = o_higher some in let r1 = f.ranks k in let r2 = f.ranks o in omega (arith, lt, r1, r2)),
-                has some,
-              ))
-        ];
+        above = grind (arith, cases_eq, up_spliced, there, o_above, o_owner, o_higher);
         tops = λ q some. let t = tops_spliced q some in (t.0, t.2);
         down = λ j m owned' some below. elim (cases_eq j k) [
           | inr differs ↦ let d = down_spliced j m differs owned' some below in (d.0, d.1, d.3, d.4)
@@ -361,13 +235,7 @@ module _ (rs rs' : List ℕ) (ns n1 n2 : List Node) (k b o : ℕ) (l x : Node) (
   at_1 : (j : ℕ) → ((node_at n1 j).owner ≡ (node_at ns j).owner) × ((node_at n1 j).rank ≡ (node_at ns j).rank) × ((node_at n1 j).above ≡ (node_at ns j).above)
   at_1 j = elim (cases_eq (root_at rs l.owner) k) [
     | inl first ↦ rw (others j (inl first)) (refl, refl, refl)
-    | inr away ↦ elim (cases_eq j l.above) [
-      | inr differs ↦ rw (others j (inr differs)) (refl, refl, refl)
-      | inl same ↦ elim (cases_eq (node_at ns l.above).next k) [
-        | inl e ↦ rw (same, next away e) (refl, refl, refl)
-        | inr e ↦ rw (same, beside away e) (refl, refl, refl)
-      ]
-    ]
+    | inr away ↦ grind (arith, cases_eq)
   ]
 
   at_2 : (j : ℕ) → ((node_at n2 j).owner ≡ (node_at n1 j).owner) × ((node_at n2 j).rank ≡ (node_at n1 j).rank)
@@ -381,9 +249,7 @@ module _ (rs rs' : List ℕ) (ns n1 n2 : List Node) (k b o : ℕ) (l x : Node) (
   ]
     where
       past : (j : ℕ) → j ≡ nil → node_at n2 j ≡ node_at n1 j
-      past j e =
-          get_or_past n2 j blank (let few = w.ranked.few in omega (arith, len1, len2, few, e))
-          ∙ sym (get_or_past n1 j blank (let few = w.ranked.few in omega (arith, len1, few, e)))
+      past j e = grind (arith, get_or_past)
 
   at_k : node_at last k ≡ x
   at_k = get_or-set_same n2 k x blank key
@@ -401,33 +267,19 @@ module _ (rs rs' : List ℕ) (ns n1 n2 : List Node) (k b o : ℕ) (l x : Node) (
   beside_u away = let P : ℕ → Type 0 = λ a. (node_at ns a).next ≢ k → node_at n1 a ≡ record (node_at ns a) { beside = b } in subst P up_is (beside (away' away))
 
   out : (j : ℕ) → (root_at rs (node_at ns k).owner ≡ k) ⊎ (j ≢ (node_at ns k).above) → (root_at rs l.owner ≡ k) ⊎ (j ≢ l.above)
-  out j (inl first) = inl (root' first)
-  out j (inr differs) = inr (λ z. differs (z ∙ up_is))
+  out j given = grind (arith, root', up_is)
 
   Spliced-set : Spliced rs rs' ns last k b
   Spliced-set = record {
     own = λ j differs. ap (λ (y : Node). y.owner) (at_other j differs) ∙ (at_2 j).0 ∙ (at_1 j).0;
-    ranks = λ j. elim (cases_eq j k) [
-      | inl e ↦ rw e (ap (λ (y : Node). y.rank) at_k ∙ ex ∙ (at_2 k).1 ∙ (at_1 k).1)
-      | inr differs ↦ ap (λ (y : Node). y.rank) (at_other j differs) ∙ (at_2 j).1 ∙ (at_1 j).1
-    ];
+    ranks = grind (arith, cases_eq, at_k, at_2, at_1, at_other);
     above_b = λ some. ap (λ (y : Node). y.above) (at_other b (b_not_k rs ns k b o w owned both some)) ∙ ap (λ (y : Node). y.above) (here some) ∙ up_is;
     above = λ j differs far. ap (λ (y : Node). y.above) (at_other j differs) ∙ ap (λ (y : Node). y.above) (later j far) ∙ (at_1 j).2;
     root = λ first. ap (root_at rs') (sym owner_is) ∙ root (root' first);
     roots = λ q far. roots q (elim far [ inl away ↦ inl (away' away) | inr other ↦ inr (λ y. other (y ∙ owner_is)) ]);
-    next = λ away at. let e = next_u away at in (
-      ap (λ (y : Node). y.next) (at_u away) ∙ (at_2 (node_at ns k).above).2 ∙ ap (λ (y : Node). y.next) e,
-      ap (λ (y : Node). y.beside) (at_u away) ∙ (at_2 (node_at ns k).above).3 ∙ ap (λ (y : Node). y.beside) e,
-    );
-    beside = λ away at. let e = beside_u away at in (
-      ap (λ (y : Node). y.next) (at_u away) ∙ (at_2 (node_at ns k).above).2 ∙ ap (λ (y : Node). y.next) e,
-      ap (λ (y : Node). y.beside) (at_u away) ∙ (at_2 (node_at ns k).above).3 ∙ ap (λ (y : Node). y.beside) e,
-    );
-    sides = λ j differs far.
-        let e = others j (out j far) in (
-          ap (λ (y : Node). y.next) (at_other j differs) ∙ (at_2 j).2 ∙ ap (λ (y : Node). y.next) e,
-          ap (λ (y : Node). y.beside) (at_other j differs) ∙ (at_2 j).3 ∙ ap (λ (y : Node). y.beside) e,
-        );
+    next = grind (arith, next_u, at_u, at_2);
+    beside = grind (arith, beside_u, at_u, at_2);
+    sides = grind (arith, out, at_other, at_2);
     len = length-set n2 k x ∙ len2 ∙ len1;
     rooms = rooms;
   }
@@ -456,11 +308,4 @@ by_within rs ns k b o w owned both some = side_within rs ns k b w owned (elim bo
 pub after_beside : (rs : List ℕ) (ns : List Node) (k : ℕ) (l : Node) → IsHeap rs ns nil → (node_at ns k).owner ≢ nil → l ≡ node_at ns k
     → ((l.next ≢ nil) × (l.beside ≢ nil → (node_at ns l.next).rank < (node_at ns l.beside).rank) → ⊥)
     → l.next ≢ nil → (l.beside ≢ nil) × ((node_at ns l.beside).rank < (node_at ns l.next).rank)
-after_beside rs ns k l w owned is not some =
-    let here : l.beside ≢ nil = λ z. not (some, λ more. absurd (more z)) in
-    let dn = w.tree.down k l.next owned some (inl (sym (ap (λ (x : Node). x.next) is))) in
-    let db = w.tree.down k l.beside owned here (inr (sym (ap (λ (x : Node). x.beside) is))) in
-    let apart : l.next ≢ l.beside = λ e. w.tree.apart k owned (λ z. some (ap (λ (x : Node). x.next) is ∙ z)) (sym (ap (λ (x : Node). x.next) is) ∙ e ∙ ap (λ (x : Node). x.beside) is) in
-    let differ : (node_at ns l.next).rank ≢ (node_at ns l.beside).rank = λ e. apart (w.ranked.distinct l.next l.beside (λ z. owned (sym dn.0 ∙ z)) (dn.0 ∙ sym db.0) e) in
-    let higher : (node_at ns l.next).rank < (node_at ns l.beside).rank → ⊥ = λ less. not (some, λ _. less) in
-    (here, omega (arith, differ, higher))
+after_beside rs ns k l w owned is not some = grind arith

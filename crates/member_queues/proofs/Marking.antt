@@ -32,9 +32,7 @@ pub root_owner : (rs : List ℕ) (ns : List Node) (p r : ℕ) → IsHeap rs ns n
 root_owner rs ns p r w is some = rw is at ((w.tree.tops p (λ z. some (sym is ∙ z))).0)
 
 pub root_owned : (rs : List ℕ) (ns : List Node) (p r : ℕ) → IsHeap rs ns nil → p < length rs → root_at rs p ≡ r → r ≢ nil → (node_at ns r).owner ≢ nil
-root_owned rs ns p r w room is some z =
-    let e : p ≡ nil = sym (root_owner rs ns p r w is some) ∙ z in
-    let few = w.ranked.few in let rooms = w.ranked.rooms in omega (arith, room, e, few, rooms)
+root_owned rs ns p r w room is some z = grind (arith, root_owner)
 
 pub root_within : (rs : List ℕ) (ns : List Node) (p r : ℕ) → IsHeap rs ns nil → p < length rs → root_at rs p ≡ r → r ≢ nil → r < length ns
 root_within rs ns p r w room is some = within ns r (root_owned rs ns p r w room is some)
@@ -62,9 +60,7 @@ IsHeap-topped rs ns ns' p r key w is here others len = IsHeap-marked rs ns ns' w
     mine = root_owner rs ns p r w is
 
     past : r ≡ nil → node_at ns' r ≡ node_at ns r
-    past none =
-        get_or_past ns' r blank (let few = w.ranked.few in omega (arith, len, few, none))
-        ∙ sym (get_or_past ns r blank (let few = w.ranked.few in omega (arith, few, none)))
+    past none = grind (arith, get_or_past)
 
     same_at : (f : Node → ℕ) → f (record (node_at ns r) { above = key }) ≡ f (node_at ns r) → f (node_at ns' r) ≡ f (node_at ns r)
     same_at f e = elim (cases_eq r nil) [ inl none ↦ ap f (past none) | inr some ↦ ap f (here some) ∙ e ]

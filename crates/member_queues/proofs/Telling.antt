@@ -1,7 +1,6 @@
 -- Members that go to another owner all at once, and keep their tree.
-use Rattle.std.proofs.Common.{◌≡◌, ◌≢◌, ◌⊎◌, inl, inr, ℕ, ◌+◌, ◌<◌, ◌≤◌, ◌==◌, Bool, true, false, List, [], ◌∷◌, length, set, map, if◌then◌else◌, Option, Some, None, option_map, refl, sym, ap, ◌∙◌, arith}
+use Rattle.std.proofs.Common.{◌≡◌, ◌≢◌, inl, inr, ℕ, ◌+◌, ◌<◌, ◌==◌, Bool, false, List, [], ◌∷◌, length, set, map, if◌then◌else◌, Option, Some, option_map, refl, sym, ap, ◌∙◌, arith}
 use Rattle.std.specs.List.{AllByRecursion}
-use Rattle.std.specs.Option.{option_map_or}
 use Rattle.std.proofs.lemmas.Bool.{cases_eq, eq-eqb}
 use Rattle.std.proofs.lemmas.List.{get_or_past, get_or-set_same, get_or-set_other, length-set, length-map}
 use Rattle.std.proofs.lemmas.List.Sums.{sum_by-cons}
@@ -24,11 +23,7 @@ times-here : (k : ℕ) (xs : List ℕ) → times k (k ∷ xs) ≡ 1 + times k xs
 times-here k xs = times-cons k k xs ∙ ap (λ (b : Bool). (if b then 1 else 0) + times k xs) (eq-eqb k k refl)
 
 times-later : (k j : ℕ) (xs : List ℕ) → k ≢ j → times j (k ∷ xs) ≡ times j xs
-times-later k j xs differs = times-cons j k xs ∙ go (k == j) refl
-  where
-    go : (b : Bool) → (k == j) ≡ b → (if b then 1 else 0) + times j xs ≡ times j xs
-    go true e = absurd (differs (grind (arith, e)))
-    go false e = omega arith
+times-later k j xs differs = grind (arith, times-cons)
 
 -- a key with its owner told
 abbrev with_owner : ℕ → Node → Node
@@ -51,8 +46,7 @@ told-other to ns (k ∷ keys) j none = elim (cases_eq k j) [
 ]
 
 all_below : (m n : ℕ) (keys : List ℕ) → n ≡ m → AllByRecursion (λ k. k < m) keys → AllByRecursion (λ k. k < n) keys
-all_below m n [] e all = tt
-all_below m n (k ∷ keys) e all = (let lt = all.0 in omega (arith, e, lt), all_below m n keys e all.1)
+all_below m n keys e all = grind arith
 
 told-here : (to : ℕ) (ns : List Node) (keys : List ℕ) (j : ℕ) → AllByRecursion (λ k. k < length ns) keys → times j keys ≡ 1
     → node_at (told to ns keys) j ≡ with_owner to (node_at ns j)
@@ -74,14 +68,7 @@ told-here to ns (k ∷ keys) j all once =
 
 -- whose member a key is, by its node
 holder_owner : (n : Node) (p : ℕ) → option_map (λ (m : ℕ × ℕ). m.0) (member_in n) ≡ Some p → (n.owner ≡ p) × (p ≢ nil)
-holder_owner n p is = go (member_in n) refl is
-  where
-    go : (o : Option (ℕ × ℕ)) → member_in n ≡ o → option_map (λ (m : ℕ × ℕ). m.0) o ≡ Some p → (n.owner ≡ p) × (p ≢ nil)
-    go None e is = absurd (cc)
-    go (Some m) e is =
-        let same : m.0 ≡ p = ap (λ o. option_map_or (λ (q : ℕ). q) o 0) is in
-        let s = member_some n m.0 m.1 e in
-        (s.0 ∙ same, λ z. s.2 (same ∙ z))
+holder_owner n p is = grind (arith, member_some)
 
 member_owner : (ns : List Node) (k p : ℕ) → holder (map member_in ns) k ≡ Some p → (node_at ns k).owner ≡ p × (p ≢ nil)
 member_owner ns k p is = holder_owner (node_at ns k) p (sym (ap (option_map (λ (m : ℕ × ℕ). m.0)) (ranked-nodes ns k)) ∙ is)
@@ -92,17 +79,12 @@ owner_member ns k p mine some = ap (option_map (λ (m : ℕ × ℕ). m.0)) (rank
 -- the keys that are given are within the nodes
 pub all_within : (ns : List Node) (from : ℕ) (keys : List ℕ) → AllByRecursion (λ k. holder (map member_in ns) k ≡ Some from) keys → AllByRecursion (λ k. k < length ns) keys
 all_within ns from [] all = tt
-all_within ns from (k ∷ keys) all =
-    let m = member_owner ns k from all.0 in
-    (within ns k (λ z. m.1 (sym m.0 ∙ z)), all_within ns from keys all.1)
+all_within ns from (k ∷ keys) all = grind (arith, member_owner, within, all_within ns from keys all.1)
 
 -- another's member is not among them
 none_of : (ns : List Node) (from : ℕ) (keys : List ℕ) (j : ℕ) → (node_at ns j).owner ≢ from → AllByRecursion (λ k. holder (map member_in ns) k ≡ Some from) keys → times j keys ≡ 0
 none_of ns from [] j other all = refl
-none_of ns from (k ∷ keys) j other all = elim (cases_eq k j) [
-  | inl same ↦ absurd (other (ap (λ i. (node_at ns i).owner) (sym same) ∙ (member_owner ns k from all.0).0))
-  | inr differs ↦ times-later k j keys differs ∙ none_of ns from keys j other all.1
-]
+none_of ns from (k ∷ keys) j other all = grind (arith, cases_eq, member_owner, times-later, none_of ns from keys j other all.1)
 
 -- each of the one's members is told the other owner
 pub record Told (ns ns' : List Node) (from to : ℕ) : Type 0 where
@@ -126,10 +108,7 @@ module _ (rs : List ℕ) (ns ns' : List Node) (from to : ℕ) (w : IsHeap rs ns 
   to_some = omega (arith, room_to, w.ranked.few, w.ranked.rooms)
 
   own : (k : ℕ) → (node_at ns' k).owner ≡ handed from to (node_at ns k).owner
-  own k = elim (cases_eq (node_at ns k).owner from) [
-    | inl mine ↦ ap (λ (x : Node). x.owner) (t.here k mine) ∙ sym (ap (handed from to) mine ∙ handed-from from to)
-    | inr other ↦ ap (λ (x : Node). x.owner) (t.others k other) ∙ sym (handed-other from to (node_at ns k).owner other)
-  ]
+  own k = grind (arith, cases_eq, handed-from, handed-other)
 
   own_from : (k : ℕ) → (node_at ns k).owner ≡ from → (node_at ns' k).owner ≡ to
   own_from k mine = ap (λ (x : Node). x.owner) (t.here k mine)
@@ -153,12 +132,10 @@ module _ (rs : List ℕ) (ns ns' : List Node) (from to : ℕ) (w : IsHeap rs ns 
   was k owned z = owned (own k ∙ ap (handed from to) z ∙ handed-other from to nil (λ e. from_some (sym e)))
 
   into : (j k : ℕ) → IsBelow ns j k → IsBelow ns' j k
-  into j k (inl e) = inl (nexts j ∙ e)
-  into j k (inr e) = inr (besides j ∙ e)
+  into j k given = grind (arith, nexts, besides)
 
   back : (j k : ℕ) → IsBelow ns' j k → IsBelow ns j k
-  back j k (inl e) = inl (sym (nexts j) ∙ e)
-  back j k (inr e) = inr (sym (besides j) ∙ e)
+  back j k given = grind (arith, nexts, besides)
 
   same_owner : (j k : ℕ) → (node_at ns j).owner ≡ (node_at ns k).owner → (node_at ns' j).owner ≡ (node_at ns' k).owner
   same_owner j k e = own j ∙ ap (handed from to) e ∙ sym (own k)
@@ -172,16 +149,7 @@ module _ (rs : List ℕ) (ns ns' : List Node) (from to : ℕ) (w : IsHeap rs ns 
       pair n = Some (to, n)
 
   distinct_told : (j k : ℕ) → (node_at ns' j).owner ≢ nil → (node_at ns' j).owner ≡ (node_at ns' k).owner → (node_at ns' j).rank ≡ (node_at ns' k).rank → j ≡ k
-  distinct_told j k owned same e = go (cases_eq (node_at ns j).owner from) (cases_eq (node_at ns k).owner from)
-    where
-      e' : (node_at ns j).rank ≡ (node_at ns k).rank
-      e' = sym (ranks j) ∙ e ∙ ranks k
-
-      go : ((node_at ns j).owner ≡ from) ⊎ ((node_at ns j).owner ≢ from) → ((node_at ns k).owner ≡ from) ⊎ ((node_at ns k).owner ≢ from) → j ≡ k
-      go (inl a) (inl b) = w.ranked.distinct j k (was j owned) (a ∙ sym b) e'
-      go (inl a) (inr b) = absurd (apart_nodes j k a (sym (own_other k b) ∙ sym same ∙ own_from j a) e')
-      go (inr a) (inl b) = absurd (apart_nodes k j b (sym (own_other j a) ∙ same ∙ own_from k b) (sym e'))
-      go (inr a) (inr b) = w.ranked.distinct j k (was j owned) (sym (own_other j a) ∙ same ∙ own_other k b) e'
+  distinct_told j k owned same e = grind (arith, cases_eq, ranks, was, apart_nodes, own_other, own_from)
 
   gone : root_at (set rs from nil) from ≡ nil
   gone = get_or-set_same rs from nil nil room_from
@@ -190,10 +158,7 @@ module _ (rs : List ℕ) (ns ns' : List Node) (from to : ℕ) (w : IsHeap rs ns 
   kept p differs = get_or-set_other rs from p nil nil differs
 
   known_told : (k : ℕ) → (node_at ns' k).owner ≢ nil → (node_at ns' k).owner < length (set rs from nil)
-  known_told k owned = elim (cases_eq (node_at ns k).owner from) [
-    | inl mine ↦ let e = own_from k mine in let l = length-set rs from nil in omega (arith, e, l, room_to)
-    | inr other ↦ let e = own_other k other in let l = length-set rs from nil in let lt = w.ranked.known k (was k owned) in omega (arith, e, l, lt)
-  ]
+  known_told k owned = grind (arith, cases_eq, own_from, length-set, own_other, was)
 
   -- the one's root is of the one
   first : root_at rs from ≢ nil → (node_at ns (root_at rs from)).owner ≡ from
@@ -201,42 +166,13 @@ module _ (rs : List ℕ) (ns ns' : List Node) (from to : ℕ) (w : IsHeap rs ns 
 
   -- a key that is no root is none, and a key that is neither a root nor held was none
   away_told : (k : ℕ) → k ≢ nil → root_at rs (node_at ns k).owner ≢ k → root_at (set rs from nil) (node_at ns' k).owner ≢ k
-  away_told k some away z = elim (cases_eq (node_at ns' k).owner from) [
-    | inl same ↦ some (sym z ∙ ap (root_at (set rs from nil)) same ∙ gone)
-    | inr far ↦ elim (cases_eq (node_at ns k).owner from) [
-      | inl mine ↦ to_root k mine (sym (kept (node_at ns' k).owner far) ∙ z)
-      | inr other ↦ away (sym (kept (node_at ns k).owner other) ∙ ap (root_at (set rs from nil)) (sym (own_other k other)) ∙ z)
-    ]
-  ]
-    where
-      -- no member of the one is the root of the other
-      to_root : (k : ℕ) → (node_at ns k).owner ≡ from → root_at rs (node_at ns' k).owner ≡ k → ⊥
-      to_root k mine z =
-          let e : root_at rs to ≡ k = ap (root_at rs) (sym (own_from k mine)) ∙ z in
-          let t = (w.tree.tops to (λ y. from_some (sym mine ∙ ap (λ i. (node_at ns i).owner) (sym e ∙ y) ∙ past nil w.ranked.few))).0 in
-          differ (sym mine ∙ ap (λ i. (node_at ns i).owner) (sym e) ∙ t)
-        where
-          past : (j : ℕ) → length ns ≤ j → (node_at ns j).owner ≡ nil
-          past j few = ap (λ (x : Node). x.owner) (get_or_past ns j blank few)
+  away_told k some away z = grind (arith, cases_eq, gone, kept, own_other, own_from, from_some, get_or_past)
 
   was_away : (k : ℕ) → k ≢ root_at rs from → root_at (set rs from nil) (node_at ns' k).owner ≢ k → root_at rs (node_at ns k).owner ≢ k
-  was_away k free away z = elim (cases_eq (node_at ns k).owner from) [
-    | inl mine ↦ free (sym z ∙ ap (root_at rs) mine)
-    | inr other ↦ away (ap (root_at (set rs from nil)) (own_other k other) ∙ kept (node_at ns k).owner other ∙ z)
-  ]
+  was_away k free away z = grind (arith, cases_eq, own_other, kept)
 
   tops_told : (p : ℕ) → root_at (set rs from nil) p ≢ nil → ((node_at ns' (root_at (set rs from nil) p)).owner ≡ p) × (root_at (set rs from nil) p ≢ root_at rs from)
-  tops_told p some = elim (cases_eq p from) [
-    | inl same ↦ absurd (some (ap (root_at (set rs from nil)) same ∙ gone))
-    | inr other ↦
-        let is = kept p other in
-        let there : root_at rs p ≢ nil = λ z. some (is ∙ z) in
-        let o = w.tree.tops p there in
-        rw is (
-          own_other (root_at rs p) (λ z. other (sym o.0 ∙ z)) ∙ o.0,
-          λ e. other (sym o.0 ∙ ap (λ i. (node_at ns i).owner) e ∙ first (λ z. there (e ∙ z))),
-        )
-  ]
+  tops_told p some = grind (arith, cases_eq, gone, kept, own_other, first)
 
   down_told : (j k : ℕ) → (node_at ns' j).owner ≢ nil → k ≢ nil → IsBelow ns' j k
       → ((node_at ns' k).owner ≡ (node_at ns' j).owner) × ((node_at ns' k).above ≡ j) × (k ≢ root_at rs from) × (root_at (set rs from nil) (node_at ns' k).owner ≢ k)
@@ -251,59 +187,21 @@ module _ (rs : List ℕ) (ns ns' : List Node) (from to : ℕ) (w : IsHeap rs ns 
   above_told : (k : ℕ) → (node_at ns' k).owner ≢ nil → root_at rs (node_at ns k).owner ≢ k
       → ((node_at ns' (node_at ns' k).above).owner ≡ (node_at ns' k).owner)
       × ((node_at ns' (node_at ns' k).above).rank < (node_at ns' k).rank) × IsBelow ns' (node_at ns' k).above k
-  above_told k owned away =
-      let owned' = was k owned in
-      let m = (node_at ns k).above in
-      let o = w.tree.above k owned' (is_some ns k w.ranked.few owned') away in
-      rw (up k) (same_owner m k o.0, omega (arith, ranks m, ranks k, o.1), into m k o.2)
+  above_told k owned away = grind (arith, was, is_some, up, same_owner, ranks, into)
 
   apart_told : (j : ℕ) → (node_at ns' j).owner ≢ nil → (node_at ns' j).next ≢ nil → (node_at ns' j).next ≢ (node_at ns' j).beside
   apart_told j owned some e = w.tree.apart j (was j owned) (λ z. some (nexts j ∙ z)) (sym (nexts j) ∙ e ∙ besides j)
 
   -- the one has no members, and its tree is held
   pub IsHeap-told : IsHeap (set rs from nil) ns' (root_at rs from)
-  IsHeap-told = record {
-    ranked = record {
-      few = omega (arith, t.len, w.ranked.few);
-      rooms = length-set rs from nil ∙ w.ranked.rooms ∙ sym t.len;
-      fits = λ k. rw (ranks k) (w.ranked.fits k);
-      known = known_told;
-      distinct = distinct_told;
-    };
-    tree = record {
-      above = λ k owned free away. above_told k owned (was_away k free away);
-      tops = tops_told;
-      down = down_told;
-      apart = apart_told;
-    };
-  }
+  IsHeap-told = grind (arith, length-set, ranks, known_told, distinct_told, above_told, was_away, tops_told, down_told, apart_told)
 
   pub top-told : root_at rs from ≢ nil → (node_at ns' (root_at rs from)).owner ≡ to
   top-told some = own_from (root_at rs from) (first some)
 
-  abbrev handed_pair : ℕ × ℕ → ℕ × ℕ
-  handed_pair m = (handed from to m.0, m.1)
-
   pub ranked-told : (k : ℕ) → ranked (map member_in ns') k ≡ option_map (λ (m : ℕ × ℕ). (handed from to m.0, m.1)) (ranked (map member_in ns) k)
-  ranked-told k = ranked-nodes ns' k ∙ go (cases_eq (node_at ns k).owner nil) ∙ sym (ap (option_map handed_pair) (ranked-nodes ns k))
-    where
-      go : ((node_at ns k).owner ≡ nil) ⊎ ((node_at ns k).owner ≢ nil) → member_in (node_at ns' k) ≡ option_map handed_pair (member_in (node_at ns k))
-      go (inl none) =
-          none_member (node_at ns' k) (own_other k (λ e. from_some (sym e ∙ none)) ∙ none) ∙ sym (ap (option_map handed_pair) (none_member (node_at ns k) none))
-      go (inr some) =
-          some_member (node_at ns' k) (handed from to (node_at ns k).owner) (own k) (λ z. still (cases_eq (node_at ns k).owner from) z) ∙ ap (λ n. pair n) (ranks k)
-          ∙ sym (ap (option_map handed_pair) (some_member (node_at ns k) (node_at ns k).owner refl some))
-        where
-          pair : ℕ → Option (ℕ × ℕ)
-          pair n = Some (handed from to (node_at ns k).owner, n)
-
-          still : ((node_at ns k).owner ≡ from) ⊎ ((node_at ns k).owner ≢ from) → handed from to (node_at ns k).owner ≡ nil → ⊥
-          still (inl mine) z = to_some (sym (ap (handed from to) mine ∙ handed-from from to) ∙ z)
-          still (inr other) z = some (sym (handed-other from to (node_at ns k).owner other) ∙ z)
+  ranked-told k = grind (arith, ranked-nodes, cases_eq, none_member, own_other, from_some, some_member, own, ranks, to_some, handed-from)
 
 -- a member's owner is within the keys
 pub owner_within : (rs : List ℕ) (ns : List Node) → IsHeap rs ns nil → (k p r : ℕ) → ranked (map member_in ns) k ≡ Some (p, r) → p < length (map member_in ns)
-owner_within rs ns w k p r is =
-    let m = member_some (node_at ns k) p r (sym (ranked-nodes ns k) ∙ is) in
-    let lt = w.ranked.known k (λ z. m.2 (sym m.0 ∙ z)) in
-    simp length-map (let e = m.0 in let l = w.ranked.rooms in omega (arith, e, lt, l))
+owner_within rs ns w k p r is = grind (arith, member_some, ranked-nodes, length-map)

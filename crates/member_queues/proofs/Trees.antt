@@ -1,5 +1,5 @@
 -- What the nodes of a tree say, and what their members are.
-use Rattle.std.proofs.Common.{◌≡◌, ◌≢◌, inl, inr, ℕ, zero, suc, ◌+◌, ◌<◌, ◌≤◌, ◌==◌, List, length, map, Bool, true, false, Option, Some, None, IsSome, if◌then◌else◌, refl, sym, ap, ◌∙◌, arith, slice_index_or}
+use Rattle.std.proofs.Common.{◌≡◌, ◌≢◌, inl, inr, ℕ, zero, suc, ◌+◌, ◌<◌, ◌≤◌, List, length, map, Some, None, IsSome, refl, sym, ap, ◌∙◌, arith, slice_index_or}
 use Rattle.std.proofs.lemmas.Bool.{cases_eq, eq-eqb}
 use Rattle.std.proofs.lemmas.List.{get_or_past, get_or_default}
 use Rattle.std.proofs.Math.ListN.{get_or-map}
@@ -31,25 +31,7 @@ pub ranked-nodes : (ns : List Node) (k : ℕ) → ranked (map member_in ns) k �
 ranked-nodes ns k = get_or-map member_in ns k blank
 
 pub member_some : (n : Node) (p r : ℕ) → member_in n ≡ Some (p, r) → (n.owner ≡ p) × (n.rank ≡ r) × (p ≢ nil)
-member_some n p r e = go (n.owner == nil) refl e
-  where
-    go : (b : Bool) → (n.owner == nil) ≡ b → (let pair : ℕ × ℕ = (n.owner, n.rank) in if b then None else Some pair) ≡ Some (p, r) → (n.owner ≡ p) × (n.rank ≡ r) × (p ≢ nil)
-    go true is e = cc
-    go false is e =
-        let owner : n.owner ≡ p = ap (λ o. owner_or o) e in
-        let rank : n.rank ≡ r = ap (λ o. rank_or o) e in
-        (owner, rank, λ z. let same : n.owner ≡ nil = owner ∙ z in absurd (not_true is (eq-eqb n.owner nil same)))
-      where
-        not_true : {b : Bool} → b ≡ false → b ≡ true → ⊥
-        not_true f t = cc
-
-        owner_or : Option (ℕ × ℕ) → ℕ
-        owner_or None = 0
-        owner_or (Some q) = q.0
-
-        rank_or : Option (ℕ × ℕ) → ℕ
-        rank_or None = 0
-        rank_or (Some q) = q.1
+member_some n p r e = grind (arith, eq-eqb)
 
 pub some_member : (n : Node) (p : ℕ) → n.owner ≡ p → p ≢ nil → member_in n ≡ Some (p, n.rank)
 some_member n p e some = grind arith
@@ -66,13 +48,7 @@ member_there n some z = grind arith
 -- owners and ranks that are as before keep their bounds
 pub AreRanked-kept : (rs rs' : List ℕ) (ns ns' : List Node) → AreRanked rs ns → ((j : ℕ) → (node_at ns' j).owner ≡ (node_at ns j).owner)
     → ((j : ℕ) → (node_at ns' j).rank ≡ (node_at ns j).rank) → length ns' ≡ length ns → length rs' ≡ length rs → AreRanked rs' ns'
-AreRanked-kept rs rs' ns ns' w own ranks len rooms = record {
-  few = omega (arith, len, w.few);
-  rooms = omega (arith, len, rooms, w.rooms);
-  fits = λ k. rw (ranks k) (w.fits k);
-  known = λ k owned. rw (own k) (let lt = w.known k (λ z. owned (own k ∙ z)) in omega (arith, rooms, lt));
-  distinct = λ j k owned same e. w.distinct j k (λ z. owned (own j ∙ z)) (sym (own j) ∙ same ∙ own k) (sym (ranks j) ∙ e ∙ ranks k);
-}
+AreRanked-kept rs rs' ns ns' w own ranks len rooms = grind arith
 
 -- what a node says but for its level, and at a root but for the key over it
 pub record Marked (rs : List ℕ) (ns ns' : List Node) : Type 0 where
@@ -107,11 +83,7 @@ IsHeap-marked rs ns ns' w t = record {
 -- a key's side has its owner and ranks higher
 pub side_after : (rs : List ℕ) (ns : List Node) (held j k : ℕ) → IsHeap rs ns held → (node_at ns j).owner ≢ nil → k ≢ nil → IsBelow ns j k
     → ((node_at ns k).owner ≡ (node_at ns j).owner) × ((node_at ns j).rank < (node_at ns k).rank)
-side_after rs ns held j k w owned some b =
-    let d = w.tree.down j k owned some b in
-    let a = w.tree.above k (λ z. owned (sym d.0 ∙ z)) d.2 d.3 in
-    let lt : (node_at ns j).rank < (node_at ns k).rank = rw d.1 at a.1 in
-    (d.0, lt)
+side_after rs ns held j k w owned some b = grind arith
 
 -- members that are as before keep their owner and rank
 pub same_member : (ns ns' : List Node) (k : ℕ) → map member_in ns' ≡ map member_in ns → (node_at ns k).owner ≢ nil
@@ -149,8 +121,5 @@ IsLeast-root rs ns w p r e some =
     record {
       rank = (node_at ns r).rank;
       is = ranked-nodes ns r ∙ some_member (node_at ns r) p mine p_some;
-      least = λ j s is.
-          let m = member_some (node_at ns j) p s (sym (ranked-nodes ns j) ∙ is) in
-          let low : (node_at ns r).rank ≤ (node_at ns j).rank = rw e at ((top rs ns w p j m.0 m.2).1) in
-          omega (arith, low, m.1);
+      least = grind (arith, member_some, ranked-nodes, top);
     }

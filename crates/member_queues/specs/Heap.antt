@@ -1,5 +1,6 @@
 -- For each owner a tree of its members, in which each key's rank is above that of the key over it.
-use Rattle.std.specs.Prelude.{◌≡◌, ◌≢◌, ◌⊎◌, ℕ, ◌<◌, ◌≤◌, ◌==◌, List, [], ◌∷◌, length, Option, Some, None, if◌then◌else◌, slice_index_or, slice_set}
+use Rattle.std.specs.Prelude.{◌≡◌, ◌≢◌, ◌⊎◌, ℕ, ◌<◌, ◌≤◌, ◌==◌, List, [], ◌∷◌, length, map, Option, Some, None, if◌then◌else◌, slice_index_or, slice_set}
+use Rattle.member_queues.specs.declared.Forest.{Forest}
 use Rattle.member_queues.specs.declared.Node.{Node}
 use Rattle.member_queues.specs.declared.Side.{Side}
 use Rattle.member_queues.specs.declared.Side.TheVariants.{Next, Beside}
@@ -70,6 +71,13 @@ pub record IsTree (roots : List ℕ) (nodes : List Node) (held : ℕ) : Type 0 w
 pub record IsHeap (roots : List ℕ) (nodes : List Node) (held : ℕ) : Type 0 where
   pub ranked : AreRanked roots nodes
   pub tree : IsTree roots nodes held
+
+-- the runs after a call: a heap again, of the same members, and of as many keys and owners
+pub record Keeps (old new : Forest) (held : ℕ) : Type 0 where
+  pub heap : IsHeap new.roots.items new.nodes.items held
+  pub members : map member_in new.nodes.items ≡ map member_in old.nodes.items
+  pub len : length new.nodes.items ≡ length old.nodes.items
+  pub rooms : length new.roots.items ≡ length old.roots.items
 
 -- the held key, if there is one, belongs somewhere below another
 pub record IsSinking (roots : List ℕ) (nodes : List Node) (at held : ℕ) : Type 0 where

@@ -13,7 +13,7 @@ ghost use Rattle.std.specs.List.{AllByRecursion};
 ghost use Rattle.member_lists.specs.Owners.{handed};
 ghost use Rattle.member_queues.specs.Ranks.{ranked, IsLeast, AreRankedMembers};
 ghost use Rattle.member_queues.specs.Heap.{nil, node_at, root_at, member_in, told, key_on, with_side, AreSides, IsHeap};
-ghost use Rattle.member_queues.specs.Heap.{IsSinking};
+ghost use Rattle.member_queues.specs.Heap.{IsSinking, Keeps};
 
 use member_lists::Members;
 use std::alloc::{AllocError, Global};
@@ -169,10 +169,7 @@ fn step(forest: &mut Forest, side: Side, at: u32, held: u32, rank: u32) -> (u32,
 #[inline(always)]
 fn sink(forest: &mut Forest, side: Side, mut at: u32, mut held: u32)
     requires { IsSinking forest.old.roots.items forest.old.nodes.items at held }
-    ensures heap { IsHeap forest.new.roots.items forest.new.nodes.items nil }
-    ensures members { map member_in forest.new.nodes.items ≡ map member_in forest.old.nodes.items }
-    ensures len { length forest.new.nodes.items ≡ length forest.old.nodes.items }
-    ensures rooms { length forest.new.roots.items ≡ length forest.old.roots.items }
+    ensures { Keeps forest.old forest.new nil }
 {
     let mut rank = rank_of(forest.nodes.as_slice(), held);
     while held != NIL {
@@ -223,10 +220,7 @@ fn set_above(nodes: &mut Vec<Node>, at: u32, above: u32)
 fn set_level(forest: &mut Forest, at: u32, level: u32)
     requires heap { IsHeap forest.old.roots.items forest.old.nodes.items nil }
     requires at { at ≢ nil → at < length forest.old.nodes.items }
-    ensures heap { IsHeap forest.new.roots.items forest.new.nodes.items nil }
-    ensures members { map member_in forest.new.nodes.items ≡ map member_in forest.old.nodes.items }
-    ensures len { length forest.new.nodes.items ≡ length forest.old.nodes.items }
-    ensures rooms { length forest.new.roots.items ≡ length forest.old.roots.items }
+    ensures { Keeps forest.old forest.new nil }
 {
     if at != NIL {
         forest.nodes[at as usize].level = level;
@@ -237,8 +231,7 @@ fn set_level(forest: &mut Forest, at: u32, level: u32)
 fn set_latest(forest: &mut Forest, owner: u32, key: u32)
     requires heap { IsHeap forest.old.roots.items forest.old.nodes.items nil }
     requires owner { owner < length forest.old.roots.items }
-    ensures heap { IsHeap forest.new.roots.items forest.new.nodes.items nil }
-    ensures members { map member_in forest.new.nodes.items ≡ map member_in forest.old.nodes.items }
+    ensures { Keeps forest.old forest.new nil }
 {
     let root = forest.roots[owner as usize];
     set_above(&mut forest.nodes, root, key);
@@ -266,10 +259,7 @@ fn fill(forest: &mut Forest, key: u32, by: u32, other: u32)
 fn cut(forest: &mut Forest, key: u32)
     requires heap { IsHeap forest.old.roots.items forest.old.nodes.items nil }
     requires owned { (node_at forest.old.nodes.items key).owner ≢ nil }
-    ensures heap { IsHeap forest.new.roots.items forest.new.nodes.items key }
-    ensures members { map member_in forest.new.nodes.items ≡ map member_in forest.old.nodes.items }
-    ensures len { length forest.new.nodes.items ≡ length forest.old.nodes.items }
-    ensures rooms { length forest.new.roots.items ≡ length forest.old.roots.items }
+    ensures { Keeps forest.old forest.new key }
 {
     let Node {
         owner,
@@ -288,10 +278,7 @@ fn join(forest: &mut Forest, run: u32, other: u32, level: u32)
     requires owned { (node_at forest.old.nodes.items run).owner ≢ nil }
     requires same { (node_at forest.old.nodes.items other).owner ≡ (node_at forest.old.nodes.items run).owner }
     requires lower { (node_at forest.old.nodes.items run).rank < (node_at forest.old.nodes.items other).rank }
-    ensures heap { IsHeap forest.new.roots.items forest.new.nodes.items nil }
-    ensures members { map member_in forest.new.nodes.items ≡ map member_in forest.old.nodes.items }
-    ensures len { length forest.new.nodes.items ≡ length forest.old.nodes.items }
-    ensures rooms { length forest.new.roots.items ≡ length forest.old.roots.items }
+    ensures { Keeps forest.old forest.new nil }
 {
     cut(forest, other);
     sink(forest, Side::Next, run, other);
@@ -335,10 +322,7 @@ fn join_two(forest: &mut Forest, owner: u32, level: u32) -> bool
     requires heap { IsHeap forest.old.roots.items forest.old.nodes.items nil }
     requires owner { owner < length forest.old.roots.items }
     requires level { level < 32 }
-    ensures heap { IsHeap forest.new.roots.items forest.new.nodes.items nil }
-    ensures members { map member_in forest.new.nodes.items ≡ map member_in forest.old.nodes.items }
-    ensures len { length forest.new.nodes.items ≡ length forest.old.nodes.items }
-    ensures rooms { length forest.new.roots.items ≡ length forest.old.roots.items }
+    ensures { Keeps forest.old forest.new nil }
 {
     let run = run_of(forest, forest.roots[owner as usize], level);
     if run == NIL {
@@ -356,10 +340,7 @@ fn join_two(forest: &mut Forest, owner: u32, level: u32) -> bool
 fn settle(forest: &mut Forest, owner: u32)
     requires heap { IsHeap forest.old.roots.items forest.old.nodes.items nil }
     requires owner { owner < length forest.old.roots.items }
-    ensures heap { IsHeap forest.new.roots.items forest.new.nodes.items nil }
-    ensures members { map member_in forest.new.nodes.items ≡ map member_in forest.old.nodes.items }
-    ensures len { length forest.new.nodes.items ≡ length forest.old.nodes.items }
-    ensures rooms { length forest.new.roots.items ≡ length forest.old.roots.items }
+    ensures { Keeps forest.old forest.new nil }
 {
     for level in 0..LEVELS {
         if !join_two(forest, owner, level) {
@@ -373,10 +354,7 @@ fn settle_level(forest: &mut Forest, owner: u32, level: u32)
     requires heap { IsHeap forest.old.roots.items forest.old.nodes.items nil }
     requires owner { owner < length forest.old.roots.items }
     requires level { level < 32 }
-    ensures heap { IsHeap forest.new.roots.items forest.new.nodes.items nil }
-    ensures members { map member_in forest.new.nodes.items ≡ map member_in forest.old.nodes.items }
-    ensures len { length forest.new.nodes.items ≡ length forest.old.nodes.items }
-    ensures rooms { length forest.new.roots.items ≡ length forest.old.roots.items }
+    ensures { Keeps forest.old forest.new nil }
 {
     for _ in 0..LEVELS {
         if !join_two(forest, owner, level) {
@@ -389,10 +367,7 @@ fn settle_level(forest: &mut Forest, owner: u32, level: u32)
 fn settle_all(forest: &mut Forest, owner: u32)
     requires heap { IsHeap forest.old.roots.items forest.old.nodes.items nil }
     requires owner { owner < length forest.old.roots.items }
-    ensures heap { IsHeap forest.new.roots.items forest.new.nodes.items nil }
-    ensures members { map member_in forest.new.nodes.items ≡ map member_in forest.old.nodes.items }
-    ensures len { length forest.new.nodes.items ≡ length forest.old.nodes.items }
-    ensures rooms { length forest.new.roots.items ≡ length forest.old.roots.items }
+    ensures { Keeps forest.old forest.new nil }
 {
     for level in 0..LEVELS {
         settle_level(forest, owner, level);
@@ -404,10 +379,7 @@ fn meld(forest: &mut Forest, owner: u32, held: u32)
     requires heap { IsHeap forest.old.roots.items forest.old.nodes.items held }
     requires owner { owner < length forest.old.roots.items }
     requires top { held ≢ nil → (node_at forest.old.nodes.items held).owner ≡ owner }
-    ensures heap { IsHeap forest.new.roots.items forest.new.nodes.items nil }
-    ensures members { map member_in forest.new.nodes.items ≡ map member_in forest.old.nodes.items }
-    ensures len { length forest.new.nodes.items ≡ length forest.old.nodes.items }
-    ensures rooms { length forest.new.roots.items ≡ length forest.old.roots.items }
+    ensures { Keeps forest.old forest.new nil }
 {
     let root = forest.roots[owner as usize];
     if is_before(forest.nodes.as_slice(), root, held) {
@@ -423,10 +395,7 @@ fn place(forest: &mut Forest, owner: u32, key: u32)
     requires heap { IsHeap forest.old.roots.items forest.old.nodes.items nil }
     requires owner { owner < length forest.old.roots.items }
     requires mine { (node_at forest.old.nodes.items key).owner ≡ owner }
-    ensures heap { IsHeap forest.new.roots.items forest.new.nodes.items nil }
-    ensures members { map member_in forest.new.nodes.items ≡ map member_in forest.old.nodes.items }
-    ensures len { length forest.new.nodes.items ≡ length forest.old.nodes.items }
-    ensures rooms { length forest.new.roots.items ≡ length forest.old.roots.items }
+    ensures { Keeps forest.old forest.new nil }
 {
     let other = forest.nodes[key as usize].beside;
     if other == NIL {
@@ -444,8 +413,7 @@ fn add(forest: &mut Forest, owner: u32, key: u32)
     requires owner { owner < length forest.old.roots.items }
     requires mine { (node_at forest.old.nodes.items key).owner ≡ owner }
     requires some { root_at forest.old.roots.items owner ≢ nil }
-    ensures heap { IsHeap forest.new.roots.items forest.new.nodes.items nil }
-    ensures members { map member_in forest.new.nodes.items ≡ map member_in forest.old.nodes.items }
+    ensures { Keeps forest.old forest.new nil }
 {
     let root = forest.roots[owner as usize];
     let latest = forest.nodes[root as usize].above;

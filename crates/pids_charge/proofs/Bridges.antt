@@ -1,5 +1,5 @@
 -- The model's words over ids, told by keys.
-use Rattle.std.proofs.Common.{◌≡◌, ◌≢◌, inl, inr, ℕ, zero, suc, ◌+◌, ◌≤◌, ◌==◌, Bool, true, false, ◌||◌, if◌then◌else◌, Option, Some, None, option_map, option_and_then, is_some, IsSome, List, [], length, map, refl, sym, ap, ◌∙◌, arith}
+use Rattle.std.proofs.Common.{◌≡◌, ℕ, zero, suc, ◌+◌, ◌≤◌, ◌==◌, Bool, true, false, ◌||◌, if◌then◌else◌, Option, Some, None, option_map, option_and_then, is_some, IsSome, List, [], length, map, refl, sym, ap, ◌∙◌, arith}
 use Rattle.std.specs.Option.{option_map_or}
 use Rattle.std.specs.List.{list_any}
 use Rattle.std.proofs.lemmas.Bool.{eq-eqb, cases_eq}
@@ -9,15 +9,14 @@ use Rattle.pid_types.specs.Controls.{parent_control, control_path, is_below}
 use Rattle.pids_charge.specs.declared.node.Node.{Node}
 use Rattle.pids_charge.specs.Sums.{sum_below}
 use Rattle.pids_charge.specs.Nodes.{Tree, tree_of, reaches, is_under, tasks_in, total_in, IsTree}
-use Rattle.pids_charge.specs.Charges.{Home, home_at, count, tasks_below}
-use Rattle.pids_charge.specs.Kept.{nearest, standing_key, seen, control_in, charges_of, IsListed, limit_in}
+use Rattle.pids_charge.specs.Charges.{home_at, count, tasks_below}
+use Rattle.pids_charge.specs.Kept.{nearest, seen, control_in, charges_of, IsListed, limit_in}
 use Rattle.pids_charge.proofs.Climbs.{eqb-apart, reaches-top, reaches-step, up_levels}
 use Rattle.pids_charge.proofs.Sums.{sum-ext, sum_by-places}
 use Rattle.pids_charge.proofs.Views.{kept_cases, same_key, parent-is, home_at-is, length-each}
 
 pub or_false : (b : Bool) → (b || false) ≡ b
-or_false true = refl
-or_false false = refl
+or_false b = grind arith
 
 module _ (t : Tree) (w : IsTree t) where
   -- more steps than there are levels reach no further
@@ -26,12 +25,7 @@ module _ (t : Tree) (w : IsTree t) where
   reaches-more (suc n) j k low = go (λ p lo. reaches-more n p k lo) (t.up j) refl
     where
       go : ((p : ℕ) → t.level p ≤ n → reaches t.up n p k ≡ is_under t p k) → (o : Option ℕ) → t.up j ≡ o → ((j == k) || option_map_or (λ p. reaches t.up n p k) (t.up j) false) ≡ is_under t j k
-      go rest None none = reaches-top t.up t.level (up_levels t w.levels) (suc n) j k none ∙ sym (reaches-top t.up t.level (up_levels t w.levels) (t.level j) j k none)
-      go rest (Some p) above =
-          let h = up_levels t w.levels j p above in
-          ap (λ o. (j == k) || option_map_or (λ q. reaches t.up n q k) o false) above
-          ∙ ap (λ b. (j == k) || b) (rest p (omega (arith, low, h)))
-          ∙ sym (reaches-step t.up t.level (up_levels t w.levels) j p k above)
+      go rest o none = grind (arith, reaches-top, up_levels, reaches-step)
 
   -- what does not stand is where the nearest above it is that stands
   pub under-nearest : (n j c : ℕ) → t.level j ≡ n → t.there j ≡ true → t.stand c ≡ true → is_under t (nearest t.stand t.up n j) c ≡ is_under t j c
@@ -42,11 +36,7 @@ module _ (t : Tree) (w : IsTree t) where
           → (b : Bool) → t.stand j ≡ b → (o : Option ℕ) → t.up j ≡ o → is_under t (if b then j else option_map_or (nearest t.stand t.up n) o j) c ≡ is_under t j c
       go rest true s o above = refl
       go rest false s None none = refl
-      go rest false s (Some p) above =
-          let h = w.levels j p above in
-          let apart : j ≢ c = λ e. let f = ap t.stand e in cc in
-          rest p (omega (arith, is, h.1)) h.0
-          ∙ sym (reaches-step t.up t.level (up_levels t w.levels) j p c above ∙ ap (λ b. b || is_under t p c) (eqb-apart j c apart))
+      go rest false s (Some p) above = grind (arith, reaches-step, up_levels, eqb-apart)
 
   pub nearest_stands : (n j : ℕ) → t.level j ≡ n → t.there j ≡ true → t.stand (nearest t.stand t.up n j) ≡ true
   nearest_stands zero j is on = go (t.stand j) refl
@@ -62,16 +52,11 @@ module _ (t : Tree) (w : IsTree t) where
     where
       go : ((p : ℕ) → t.level p ≡ n → t.there p ≡ true → t.stand (nearest t.stand t.up n p) ≡ true)
           → (b : Bool) → t.stand j ≡ b → (o : Option ℕ) → t.up j ≡ o → t.stand (if b then j else option_map_or (nearest t.stand t.up n) o j) ≡ true
-      go rest true s o above = s
-      go rest false s None none = absurd (let h : IsSome (t.up j) = w.rooted j on s in let f = ap is_some none in cc)
-      go rest false s (Some p) above = let h = w.levels j p above in rest p (omega (arith, is, h.1)) h.0
+      go rest b s o above = grind arith
 
   module _ (limits : ℕ → Option ℕ) (children : List (Option ℕ)) (ids : List (ℕ × ℕ)) (l : IsListed t children ids) where
     ids-same : (s c : ℕ) → t.stand s ≡ true → t.stand c ≡ true → (t.id s == t.id c) ≡ (s == c)
-    ids-same s c ss sc = elim (cases_eq s c) [
-      | inl same ↦ eq-eqb (t.id s) (t.id c) (ap t.id same) ∙ sym (eq-eqb s c same)
-      | inr differ ↦ eqb-apart (t.id s) (t.id c) (λ e. differ (same_key t limits children ids l s c ss sc e)) ∙ sym (eqb-apart s c differ)
-    ]
+    ids-same s c ss sc = grind (arith, cases_eq, eq-eqb, eqb-apart, same_key)
 
     abbrev above_id : ℕ → Option ℕ
     above_id = parent_control (map (control_in t limits) ids)
@@ -79,11 +64,7 @@ module _ (t : Tree) (w : IsTree t) where
     -- the way up by ids is the way up by keys
     pub contains-climb : (n s c : ℕ) → t.stand s ≡ true → t.stand c ≡ true → contains (climb above_id (suc n) (t.id s)) (t.id c) ≡ reaches t.up n s c
     unfolding climb
-    contains-climb zero s c ss sc = go (above_id (t.id s))
-      where
-        go : (o : Option ℕ) → ((t.id s == t.id c) || list_any (λ m. m == t.id c) (option_map_or (climb above_id zero) o [])) ≡ (s == c)
-        go None = ap (λ b. b || false) (ids-same s c ss sc) ∙ or_false (s == c)
-        go (Some i) = ap (λ b. b || false) (ids-same s c ss sc) ∙ or_false (s == c)
+    contains-climb zero s c ss sc = grind (arith, ids-same, or_false)
     contains-climb (suc n) s c ss sc = go (λ p sp. contains-climb n p c sp sc) (t.up s) refl
       where
         go : ((p : ℕ) → t.stand p ≡ true → contains (climb above_id (suc n) (t.id p)) (t.id c) ≡ reaches t.up n p c) → (o : Option ℕ) → t.up s ≡ o
@@ -103,16 +84,7 @@ module _ (t : Tree) (w : IsTree t) where
     -- the tasks of a key that are below a control group
     pub below-seen : (k c : ℕ) (o : Option Node) → (is_some o ≡ true → t.there k ≡ true) → t.stand c ≡ true
         → tasks_below (map (control_in t limits) ids) (t.id c) (option_and_then (seen t k) o) ≡ (if is_under t k c then option_map_or (λ n. n.live + n.zombies) o 0 else 0)
-    below-seen k c None on sc = let none : ℕ = 0 in elim (is_under t k c) as (λ (b : Bool). none ≡ (if b then none else none)) [ true ↦ refl | false ↦ refl ]
-    below-seen k c (Some n) on sc =
-        let h : Home = record { id = t.id (standing_key t k); stands = n.standing; live = n.live; zombies = n.zombies } in
-        let here = on refl in
-        let same : is_below (map (control_in t limits) ids) (t.id (standing_key t k)) (t.id c) ≡ is_under t k c =
-        below-is (standing_key t k) c (nearest_stands (t.level k) k refl here) sc ∙ under-nearest (t.level k) k c refl here sc in
-        elim (kept_cases h) [
-          | inl e ↦ ap (tasks_below (map (control_in t limits) ids) (t.id c)) e ∙ ap (λ (b : Bool). if b then n.live + n.zombies else 0) same
-          | inr e ↦ ap (tasks_below (map (control_in t limits) ids) (t.id c)) e.0 ∙ elim (is_under t k c) as (λ (b : Bool). 0 ≡ (if b then n.live + n.zombies else 0)) [ true ↦ sym e.2 | false ↦ refl ]
-        ]
+    below-seen k c o on sc = grind (arith, below-is, nearest_stands, under-nearest, kept_cases)
 
 -- the running count is the model's
 pub count-is : (nodes : Slab Node) (children : List (Option ℕ)) (ids : List (ℕ × ℕ)) → IsTree (tree_of nodes) → IsListed (tree_of nodes) children ids

@@ -1,5 +1,5 @@
 -- The way up from a key: what a step leaves of it.
-use Rattle.std.proofs.Common.{◌≡◌, ◌≢◌, inl, inr, ℕ, zero, suc, ◌+◌, ◌-◌, ◌<◌, ◌≤◌, ◌==◌, Bool, true, false, ◌||◌, if◌then◌else◌, Option, Some, None, option_and_then, refl, sym, ap, subst, ◌∙◌, arith, List, set, length}
+use Rattle.std.proofs.Common.{◌≡◌, ◌≢◌, ℕ, zero, suc, ◌+◌, ◌-◌, ◌<◌, ◌≤◌, ◌==◌, Bool, true, false, ◌||◌, if◌then◌else◌, Option, Some, None, option_and_then, refl, sym, ap, ◌∙◌, arith, List, set, length}
 use Rattle.std.specs.Option.{option_map_or}
 use Rattle.std.proofs.lemmas.Bool.{eq-eqb, eqb-true, ne_eqb, cases_eq}
 use Rattle.std.proofs.lemmas.List.{get_or-set_same, get_or-set_other}
@@ -20,19 +20,13 @@ eqb-apart a b differ = ne_eqb a b differ
 
 module _ (up : ℕ → Option ℕ) (lv : ℕ → ℕ) (levels : (j p : ℕ) → up j ≡ Some p → lv j ≡ suc (lv p)) where
   pub reaches-self : (n k : ℕ) → reaches up n k k ≡ true
-  reaches-self zero k = eqb-self k
-  reaches-self (suc n) k = rw (eqb-self k) refl
+  reaches-self n k = grind (arith, eqb-self)
 
   pub reaches-step : (j p k : ℕ) → up j ≡ Some p → reaches up (lv j) j k ≡ ((j == k) || reaches up (lv p) p k)
   reaches-step j p k above = rw (levels j p above) (rw above refl)
 
   pub reaches-top : (n j k : ℕ) → up j ≡ None → reaches up n j k ≡ (j == k)
-  reaches-top zero j k none = refl
-  reaches-top (suc n) j k none = rw none (go (j == k))
-    where
-      go : (b : Bool) → (b || false) ≡ b
-      go true = refl
-      go false = refl
+  reaches-top n j k none = grind arith
 
   -- who is above has a lower level
   pub reaches_low : (n j k : ℕ) → lv j ≡ n → reaches up n j k ≡ true → lv k ≤ n
@@ -40,29 +34,11 @@ module _ (up : ℕ → Option ℕ) (lv : ℕ → ℕ) (levels : (j p : ℕ) → 
   reaches_low (suc n) j k is on = go (λ p e. reaches_low n p k e) (j == k) refl (up j) refl on
     where
       go : ((p : ℕ) → lv p ≡ n → reaches up n p k ≡ true → lv k ≤ n) → (b : Bool) → (j == k) ≡ b → (o : Option ℕ) → up j ≡ o → (b || option_map_or (λ p. reaches up n p k) o false) ≡ true → lv k ≤ suc n
-      go rest true e o above on = let same : j ≡ k = eqb-true j k e in omega (arith, is, ap lv same)
-      go rest false e None above on = absurd (cc)
-      go rest false e (Some p) above on =
-          let h = levels j p above in
-          let low = rest p (omega (arith, is, h)) on in
-          omega (arith, low)
+      go rest b e o above on = grind (arith, eqb-true)
 
   -- what a key adds to itself, and then to those above
   pub one-step : (j k : ℕ) → one_if (reaches up (lv j) j k) ≡ one_if (j == k) + option_map_or (λ p. one_if (reaches up (lv p) p k)) (up j) 0
-  one-step j k = go (up j) refl
-    where
-      both : (p : ℕ) → up j ≡ Some p → (b c : Bool) → (j == k) ≡ b → reaches up (lv p) p k ≡ c → one_if (b || c) ≡ one_if b + one_if c
-      both p above true true e r =
-          let same : j ≡ k = eqb-true j k e in
-          let low = reaches_low (lv p) p k refl r in
-          let h = levels j p above in
-          absurd (omega (arith, low, h, ap lv same))
-      both p above true false e r = refl
-      both p above false c e r = omega arith
-
-      go : (o : Option ℕ) → up j ≡ o → one_if (reaches up (lv j) j k) ≡ one_if (j == k) + option_map_or (λ p. one_if (reaches up (lv p) p k)) o 0
-      go None none = rw (reaches-top (lv j) j k none) (omega arith)
-      go (Some p) above = rw (reaches-step j p k above) (both p above (j == k) (reaches up (lv p) p k) refl refl)
+  one-step j k = grind (arith, eqb-true, reaches_low, reaches-top, reaches-step)
 
 pub up_levels : (t : Tree) → HasLevels t → (j p : ℕ) → t.up j ≡ Some p → t.level j ≡ suc (t.level p)
 up_levels t w j p above = (w j p above).1
@@ -81,48 +57,20 @@ left-step t w at a next is above k =
 -- the walk comes nearer to the root
 pub left_smaller : (t : Tree) → HasLevels t → (at : Option ℕ) (a : ℕ) (next : Option ℕ) → at ≡ Some a → next ≡ t.up a
     → option_map_or (λ p. suc (t.level p)) next 0 < option_map_or (λ p. suc (t.level p)) at 0
-left_smaller t w at a next is above = rw is (go next above)
-  where
-    go : (o : Option ℕ) → o ≡ t.up a → option_map_or (λ p. suc (t.level p)) o 0 < suc (t.level a)
-    go None none = omega arith
-    go (Some p) above = let h = up_levels t w a p (sym above) in omega (arith, h)
+left_smaller t w at a next is above = grind (arith, up_levels)
 
 -- another total at one key
 pub set-plus : (xs : List Counter) (a k : ℕ) (x : Counter) → a < length xs → x ≡ counter_at xs a → total_at (set xs a (record x { total = x.total + 1 })) k ≡ total_at xs k + one_if (a == k)
-set-plus xs a k x lt is = elim (cases_eq a k) [
-  | inl same ↦ subst (λ i. total_at (set xs a (record x { total = x.total + 1 })) i ≡ total_at xs i + one_if (a == i)) same
-      (let here : total_at (set xs a (record x { total = x.total + 1 })) a ≡ x.total + 1 = ap (λ (c : Counter). c.total) (get_or-set_same xs a (record x { total = x.total + 1 }) (record { total = 0; limit = None; parent = None }) lt) in
-      let was = ap (λ (c : Counter). c.total) is in
-      let one = ap one_if (eqb-self a) in
-      omega (arith, here, was, one))
-  | inr differ ↦
-      let other : total_at (set xs a (record x { total = x.total + 1 })) k ≡ total_at xs k = ap (λ (c : Counter). c.total) (get_or-set_other xs a k (record x { total = x.total + 1 }) (record { total = 0; limit = None; parent = None }) (λ e. differ (sym e))) in
-      let none = ap one_if (eqb-apart a k differ) in
-      omega (arith, other, none)
-]
+set-plus xs a k x lt is = grind (arith, cases_eq, get_or-set_same, eqb-self, get_or-set_other, eqb-apart)
 
 pub set-minus : (xs : List Counter) (a k : ℕ) (x : Counter) → a < length xs → x ≡ counter_at xs a → 0 < x.total → total_at (set xs a (record x { total = x.total - 1 })) k + one_if (a == k) ≡ total_at xs k
-set-minus xs a k x lt is some = elim (cases_eq a k) [
-  | inl same ↦ subst (λ i. total_at (set xs a (record x { total = x.total - 1 })) i + one_if (a == i) ≡ total_at xs i) same
-      (let here : total_at (set xs a (record x { total = x.total - 1 })) a ≡ x.total - 1 = ap (λ (c : Counter). c.total) (get_or-set_same xs a (record x { total = x.total - 1 }) (record { total = 0; limit = None; parent = None }) lt) in
-      let was = ap (λ (c : Counter). c.total) is in
-      let one = ap one_if (eqb-self a) in
-      omega (arith, here, was, one, some))
-  | inr differ ↦
-      let other : total_at (set xs a (record x { total = x.total - 1 })) k ≡ total_at xs k = ap (λ (c : Counter). c.total) (get_or-set_other xs a k (record x { total = x.total - 1 }) (record { total = 0; limit = None; parent = None }) (λ e. differ (sym e))) in
-      let none = ap one_if (eqb-apart a k differ) in
-      omega (arith, other, none)
-]
+set-minus xs a k x lt is some = grind (arith, cases_eq, get_or-set_same, eqb-self, get_or-set_other, eqb-apart)
 
 pub one-own : (t : Tree) → HasLevels t → (at : Option ℕ) (a : ℕ) → at ≡ Some a → left t at a ≡ 1
 one-own t w at a is = rw (is, weight-self t a w) refl
 
 pub weight_true : (t : Tree) (j k : ℕ) → 1 ≤ weight t j k → is_under t j k ≡ true
-weight_true t j k some = go (is_under t j k) some
-  where
-    go : (b : Bool) → 1 ≤ one_if b → b ≡ true
-    go true some = refl
-    go false some = absurd (omega (arith, some))
+weight_true t j k some = grind arith
 
 pub weight_one : (t : Tree) (j k : ℕ) → is_under t j k ≡ true → weight t j k ≡ 1
 weight_one t j k is = ap one_if is

@@ -6,7 +6,7 @@ use Rattle.pids_charge.specs.declared.node.Node.{Node}
 use Rattle.pids_charge.specs.Nodes.{Tree, tree_of, IsTree}
 use Rattle.pids_charge.specs.Charges.{Home, Charges, home_at, id_at, kept}
 use Rattle.pids_charge.specs.Kept.{nearest, standing_key, seen, charges_of}
-use Rattle.pids_charge.proofs.Views.{home_at-is, kept_cases, nearest-self}
+use Rattle.pids_charge.proofs.Views.{home_at-is, kept_cases}
 
 -- a key that was removed is below another one, and both are in the same group
 pub standing-up : (t : Tree) → IsTree t → (k p : ℕ) → (if t.stand k then None else t.up k) ≡ Some p → (t.up k ≡ Some p) × (standing_key t k ≡ standing_key t p)
@@ -21,14 +21,6 @@ standing-up t w k p e = go (t.stand k) refl e
           ∙ ap (λ o. option_map_or (nearest t.stand t.up (t.level p)) o k) e,
     )
 
--- a key that stands is its own
-pub standing-end : (t : Tree) → IsTree t → (k : ℕ) → (if t.stand k then None else t.up k) ≡ None → standing_key t k ≡ k
-standing-end t w k e = go (t.stand k) refl e
-  where
-    go : (b : Bool) → t.stand k ≡ b → (if b then None else t.up k) ≡ None → standing_key t k ≡ k
-    go true is e = nearest-self t (t.level k) k is
-    go false is e = ap (λ n. nearest t.stand t.up n k) (w.top k e)
-
 -- what a contract sees of a key
 pub home-id : (nodes : Slab Node) (ids : List (ℕ × ℕ)) (v : Charges) → charges_of nodes ids ≡ v → (k : ℕ) → IsSome (home_at v k)
     → ContainsKey nodes k × (id_at v k ≡ (tree_of nodes).id (standing_key (tree_of nodes) k))
@@ -37,8 +29,7 @@ home-id nodes ids v is k some =
     go (get nodes k) refl (home_at v k) same some
   where
     nobody : (o : Option Home) → o ≡ None → IsSome o → ⊥
-    nobody None e some = cc
-    nobody (Some h) e some = cc
+    nobody o e some = cc
 
     one : (h : Home) (o : Option Home) → o ≡ kept h → IsSome o → option_map_or (λ (x : Home). x.id) o 0 ≡ h.id
     one h o e some = elim (kept_cases h) [

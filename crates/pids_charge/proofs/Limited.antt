@@ -30,8 +30,7 @@ parent_some nodes children ids v is l c up n found =
     ∙ go ((tree_of nodes).up c) ∙ ap is_some (up-is nodes c n found)
   where
     go : (o : Option ℕ) → is_some (option_map (tree_of nodes).id o) ≡ is_some o
-    go None = refl
-    go (Some p) = refl
+    go o = grind arith
 
 module _ (nodes new : Slab Node) (c : ℕ) (n : Node) (limit : Option ℕ) (found : get nodes c ≡ Some n) (is : new ≡ with_value nodes c (record n { limit = limit })) where
   writes : Writes nodes new c n (record n { limit = limit })
@@ -60,10 +59,7 @@ module _ (nodes new : Slab Node) (c : ℕ) (n : Node) (limit : Option ℕ) (foun
         room = (w.linked c (ap is_some found)).room
 
         total : (j : ℕ) → total_at (set counters c (record counter { limit = limit })) j ≡ total_at counters j
-        total j = elim (cases_eq j c) [
-          | inl e ↦ ap (total_at (set counters c (record counter { limit = limit }))) e ∙ ap (λ (x : Counter). x.total) (linked.counter-here counters c (record counter { limit = limit }) room) ∙ ap (λ (x : Counter). x.total) was ∙ sym (ap (total_at counters) e)
-          | inr d ↦ ap (λ (x : Counter). x.total) (linked.counter-others counters c (record counter { limit = limit }) room j d)
-        ]
+        total j = grind (arith, cases_eq, linked.counter-here, room, linked.counter-others)
 
         equal : (j : ℕ) → total_in new j ≡ total_in nodes j
         equal j = written.total-equal writes refl j
@@ -85,14 +81,7 @@ module _ (nodes new : Slab Node) (c : ℕ) (n : Node) (limit : Option ℕ) (foun
         other j differs = ap (option_and_then (λ (x : Node). x.limit)) (written.others writes j differs)
 
         same : (p : ℕ × ℕ) → IsEntry (tree_of nodes) p → control_in (tree_of nodes) (limit_in new) p ≡ limited ((tree_of nodes).id c) limit (control_in (tree_of nodes) (limit_in nodes) p)
-        same p e = elim (cases_eq p.1 c) [
-          | inl s ↦
-              let one : p.0 ≡ (tree_of nodes).id c = sym e.1 ∙ ap (tree_of nodes).id s in
-              ap (λ o. record { id = p.0; parent = option_map (tree_of nodes).id ((tree_of nodes).up p.1); limit = o }) (ap (limit_in new) s ∙ here ∙ sym (ap (λ (b : Bool). if b then limit else limit_in nodes p.1) (eq-eqb p.0 ((tree_of nodes).id c) one)))
-          | inr d ↦
-              let apart : p.0 ≢ (tree_of nodes).id c = λ q. d (same_key (tree_of nodes) (limit_in nodes) children ids w.listed p.1 c e.0 up (e.1 ∙ q)) in
-              ap (λ o. record { id = p.0; parent = option_map (tree_of nodes).id ((tree_of nodes).up p.1); limit = o }) (other p.1 d ∙ sym (ap (λ (b : Bool). if b then limit else limit_in nodes p.1) (eqb-apart p.0 ((tree_of nodes).id c) apart)))
-        ]
+        same p e = grind (arith, cases_eq, here, eq-eqb, same_key, other, eqb-apart)
 
     pub homes-limited : (k : ℕ) → home_at (charges_of new ids) k ≡ home_at (charges_of nodes ids) k
     homes-limited k = home_at-is new ids k ∙ ap (λ (t : Tree). option_and_then (seen t k) (get new k)) tree ∙ elim (cases_eq k c) [
@@ -103,12 +92,8 @@ module _ (nodes new : Slab Node) (c : ℕ) (n : Node) (limit : Option ℕ) (foun
 
 pub limit_refusal-is : (v : Charges) (c : ℕ) (limit : Option ℕ) (b d : Bool) → is_some (parent_control v.controls (id_at v c)) ≡ b → option_map_or (nat_lt greatest_limit) limit false ≡ d
     → limit_refusal v c limit ≡ (if b then (if d then Some BadLimit else None) else Some RootControl)
-limit_refusal-is v c limit b d e f =
-    ap (λ (x : Bool). if x then (if option_map_or (nat_lt greatest_limit) limit false then Some BadLimit else None) else Some RootControl) e
-    ∙ ap (λ (x : Bool). if b then (if x then Some BadLimit else None) else Some RootControl) f
+limit_refusal-is v c limit b d e f = grind arith
 
 pub remove_refusal-is : (v : Charges) (c : ℕ) (b d : Bool) → is_some (parent_control v.controls (id_at v c)) ≡ b → is_busy v c ≡ d
     → remove_refusal v c ≡ (if b then (if d then Some ControlBusy else None) else Some RootControl)
-remove_refusal-is v c b d e f =
-    ap (λ (x : Bool). if x then (if is_busy v c then Some ControlBusy else None) else Some RootControl) e
-    ∙ ap (λ (x : Bool). if b then (if x then Some ControlBusy else None) else Some RootControl) f
+remove_refusal-is v c b d e f = grind arith

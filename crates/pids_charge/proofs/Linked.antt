@@ -1,5 +1,5 @@
 -- The limits and parents that the counters have of the nodes: kept where nodes and counters change.
-use Rattle.std.proofs.Common.{◌≡◌, ◌≢◌, inl, inr, ℕ, ◌<◌, ◌≤◌, List, set, length, Some, None, option_and_then, is_some, refl, sym, ap, subst, ◌∙◌, arith}
+use Rattle.std.proofs.Common.{◌≡◌, ◌≢◌, ℕ, ◌<◌, ◌≤◌, List, set, length, Some, None, option_and_then, is_some, refl, sym, ap, subst, ◌∙◌, arith}
 use Rattle.std.proofs.lemmas.Bool.{cases_eq}
 use Rattle.std.proofs.lemmas.List.{get_or-set_same, get_or-set_other, length-set}
 use Rattle.slab.specs.Slab.{Slab, get, ContainsKey, with_value, Updates}
@@ -11,16 +11,7 @@ use Rattle.pids_charge.specs.Kept.{counter_at, IsLinked, AreLinked}
 -- a node and a counter change at one key
 pub linked-changed : (nodes new : Slab Node) (counters after : List Counter) (a : ℕ) → AreLinked nodes counters → ((k : ℕ) → k ≢ a → get new k ≡ get nodes k)
     → ((k : ℕ) → k ≢ a → counter_at after k ≡ counter_at counters k) → length counters ≤ length after → (ContainsKey new a → IsLinked new after a) → AreLinked new after
-linked-changed nodes new counters after a w others same longer here k on = elim (cases_eq k a) [
-  | inl e ↦ subst (λ i. IsLinked new after i) (sym e) (here (ap (λ i. is_some (get new i)) (sym e) ∙ on))
-  | inr d ↦
-      let r = w k (ap is_some (sym (others k d)) ∙ on) in
-      record {
-        room = (let l = r.room in omega (arith, l, longer));
-        limit = ap (λ (c : Counter). c.limit) (same k d) ∙ r.limit ∙ sym (ap (option_and_then (λ (n : Node). n.limit)) (others k d));
-        parent = ap (λ (c : Counter). c.parent) (same k d) ∙ r.parent ∙ sym (ap (option_and_then (λ (n : Node). n.parent)) (others k d));
-      }
-]
+linked-changed nodes new counters after a w others same longer here k on = grind (arith, cases_eq)
 
 -- a node is written, and keeps its limit and its parent
 pub linked-written : (nodes new : Slab Node) (counters : List Counter) → AreLinked nodes counters → (a : ℕ) (n m : Node) → get nodes a ≡ Some n → new ≡ with_value nodes a m
@@ -50,18 +41,9 @@ module _ (counters : List Counter) (a : ℕ) (c : Counter) (room : a < length co
 
   -- a counter is written, and keeps its limit and its parent
   pub linked-counted : (nodes : Slab Node) → AreLinked nodes counters → c.limit ≡ (counter_at counters a).limit → c.parent ≡ (counter_at counters a).parent → AreLinked nodes (set counters a c)
-  linked-counted nodes w limit parent = linked-changed nodes nodes counters (set counters a c) a w (λ k d. refl) counter-others (let l = length-set counters a c in omega (arith, l)) (λ on. record {
-    room = still;
-    limit = ap (λ (x : Counter). x.limit) counter-here ∙ limit ∙ (w a on).limit;
-    parent = ap (λ (x : Counter). x.parent) counter-here ∙ parent ∙ (w a on).parent;
-  })
+  linked-counted nodes w limit parent = grind (arith, linked-changed, counter-others, length-set, still, counter-here)
 
   -- a node is written with its counter
   pub linked-both : (nodes new : Slab Node) (before : List Counter) → AreLinked nodes before → ((k : ℕ) → counter_at counters k ≡ counter_at before k) → length before ≤ length counters
       → (n : Node) → Updates nodes new a (Some n) → c.limit ≡ n.limit → c.parent ≡ n.parent → AreLinked new (set counters a c)
-  linked-both nodes new before w same longer n u limit parent =
-      linked-changed nodes new before (set counters a c) a w u.others (λ k d. counter-others k d ∙ same k) (let l = length-set counters a c in omega (arith, l, longer)) (λ on. record {
-        room = still;
-        limit = ap (λ (x : Counter). x.limit) counter-here ∙ limit ∙ sym (ap (option_and_then (λ (x : Node). x.limit)) u.changed);
-        parent = ap (λ (x : Counter). x.parent) counter-here ∙ parent ∙ sym (ap (option_and_then (λ (x : Node). x.parent)) u.changed);
-      })
+  linked-both nodes new before w same longer n u limit parent = grind (arith, linked-changed, counter-others, length-set, still, counter-here)

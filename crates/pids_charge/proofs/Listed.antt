@@ -7,9 +7,7 @@ use Rattle.std.proofs.lemmas.Bool.{cases_lt, eq-eqb}
 use Rattle.std.proofs.lemmas.List.{get_or_past}
 use Rattle.std.proofs.lemmas.List.Sums.{sum_by-cons, length-filter}
 use Rattle.pid_types.specs.declared.plain.Control.{Control}
-use Rattle.pid_types.specs.declared.plain.Row.{Row}
-use Rattle.pid_types.specs.State.{State}
-use Rattle.pid_types.specs.Controls.{is_below, count as count_of_state}
+use Rattle.pid_types.specs.Controls.{is_below}
 use Rattle.pids_charge.specs.Sums.{sum_below}
 use Rattle.pids_charge.specs.Charges.{Home, Charges, home_at, id_at, live_at, zombies_at, tasks_of, tasks_below, count}
 use Rattle.pids_charge.proofs.Climbs.{eqb-apart}
@@ -82,24 +80,7 @@ tasks_of-both {X = X} home is_ended v k xs live zombies = omega (arith, both xs,
         omega (arith, both ys, sum_by-cons (λ y. cond (home y == k) 1 0) x ys, sum_by-cons (λ y. cond (not (is_ended y) && (home y == k)) 1 0) x ys, sum_by-cons (λ y. cond (is_ended y && (home y == k)) 1 0) x ys, one (is_ended x) (home x == k))
       where
         one : (b c : Bool) → cond c 1 0 ≡ cond (not b && c) 1 0 + cond (b && c) 1 0
-        one true c = omega arith
-        one false c = omega arith
+        one b c = grind arith
 
     here : (o : Option Home) → tasks_of o ≡ option_map_or (λ h. h.live) o 0 + option_map_or (λ h. h.zombies) o 0
-    here None = refl
-    here (Some h) = refl
-
--- the model's count, of rows whose homes are those of the keys
-pub count-rows : (v : Charges) (state : State) (key : Row → ℕ) → state.controls ≡ v.controls → AllByRecursion (λ r. id_at v (key r) ≡ r.home) state.rows
-    → ((k : ℕ) → count_by (λ r. key r == k) state.rows ≡ tasks_of (home_at v k)) → (id : ℕ) → count v id ≡ count_of_state state id
-unfolding count_of_state
-count-rows v state key same homes listed id =
-    count-listed key v state.rows listed id
-    ∙ ap length (filter-where (λ r. id_at v (key r)) (λ r. r.home) state.rows homes)
-    ∙ ap (λ controls. length (filter (λ r. is_below controls r.home id) state.rows)) (sym same)
-  where
-    filter-where : (f g : Row → ℕ) (rs : List Row) → AllByRecursion (λ r. f r ≡ g r) rs → filter (λ r. is_below v.controls (f r) id) rs ≡ filter (λ r. is_below v.controls (g r) id) rs
-    filter-where f g [] all = refl
-    filter-where f g (r ∷ rs) all =
-        let rest = filter (λ x. is_below v.controls (f x) id) rs in
-        ap (λ i. cond (is_below v.controls i id) (r ∷ rest) rest) all.0 ∙ ap (λ (ys : List Row). cond (is_below v.controls (g r) id) (r ∷ ys) ys) (filter-where f g rs all.1)
+    here o = grind arith

@@ -1,9 +1,9 @@
 -- The nearest limit that one task more would pass, by ids and by keys.
-use Rattle.std.proofs.Common.{◌≡◌, inl, inr, ℕ, zero, suc, ◌+◌, ◌≤◌, nat_lt, nat_le, Bool, true, false, cond, if◌then◌else◌, Option, Some, None, option_map, option_and_then, is_some, List, [], map, refl, sym, ap, ◌∙◌, arith}
+use Rattle.std.proofs.Common.{◌≡◌, ℕ, zero, suc, ◌+◌, ◌≤◌, nat_lt, nat_le, Bool, true, false, cond, if◌then◌else◌, Option, Some, None, option_map, List, [], map, refl, sym, ap, ◌∙◌, arith}
 use Rattle.std.specs.Prelude.{find}
 use Rattle.std.specs.Option.{option_map_or}
 use Rattle.std.proofs.lemmas.Bool.{cases_lt, lt-ltb, le-ltb, le-leb, lt-leb}
-use Rattle.slab.specs.Slab.{Slab, get, ContainsKey}
+use Rattle.slab.specs.Slab.{Slab, ContainsKey}
 use Rattle.pid_types.specs.Chains.{climb}
 use Rattle.pid_types.specs.Controls.{parent_control, control_path}
 use Rattle.pid_types.specs.declared.reply.Refusal.TheVariants.{PidsLimit}
@@ -16,10 +16,7 @@ use Rattle.pids_charge.proofs.Views.{parent-is, limit-is, there}
 use Rattle.pids_charge.proofs.Bridges.{count-is}
 
 lt-suc : (a b : ℕ) → nat_lt a (b + 1) ≡ nat_le a b
-lt-suc a b = elim (cases_lt b a) [
-  | inl less ↦ le-ltb a (b + 1) (omega (arith, less)) ∙ sym (lt-leb a b less)
-  | inr le ↦ lt-ltb a (b + 1) (omega (arith, le)) ∙ sym (le-leb a b le)
-]
+lt-suc a b = grind (arith, cases_lt, le-ltb, lt-leb, lt-ltb, le-leb)
 
 module _ (nodes : Slab Node) (totals : ℕ → ℕ) (children : List (Option ℕ)) (ids : List (ℕ × ℕ)) (w : IsTree (tree_of nodes)) (l : IsListed (tree_of nodes) children ids)
     (counts : (k : ℕ) → ContainsKey nodes k → totals k ≡ total_in nodes k) where
@@ -31,8 +28,7 @@ module _ (nodes : Slab Node) (totals : ℕ → ℕ) (children : List (Option ℕ
       ∙ go (limit_in nodes s)
     where
       go : (o : Option ℕ) → option_map_or (λ limit. nat_lt limit (totals s + 1)) o false ≡ option_map_or (λ limit. nat_le limit (totals s)) o false
-      go None = refl
-      go (Some limit) = lt-suc limit (totals s)
+      go o = grind (arith, lt-suc)
 
   abbrev above_id : ℕ → Option ℕ
   above_id = parent_control (map (control_in (tree_of nodes) (limit_in nodes)) ids)
@@ -42,12 +38,7 @@ module _ (nodes : Slab Node) (totals : ℕ → ℕ) (children : List (Option ℕ
 
   find-climb : (n s : ℕ) → (tree_of nodes).stand s ≡ true → find full (climb above_id (suc n) ((tree_of nodes).id s)) ≡ option_map (tree_of nodes).id (first_full nodes totals n s)
   unfolding climb
-  find-climb zero s up = ap (λ b. cond b (Some ((tree_of nodes).id s)) (find full (option_map_or (climb above_id zero) (above_id ((tree_of nodes).id s)) []))) (full-is s up) ∙ go (is_at_limit nodes totals s) (above_id ((tree_of nodes).id s))
-    where
-      go : (b : Bool) (o : Option ℕ) → cond b (Some ((tree_of nodes).id s)) (find full (option_map_or (climb above_id zero) o [])) ≡ option_map (tree_of nodes).id (if b then Some s else None)
-      go true o = refl
-      go false None = refl
-      go false (Some i) = refl
+  find-climb zero s up = grind (arith, full-is)
   find-climb (suc n) s up =
       ap (λ b. cond b (Some ((tree_of nodes).id s)) (find full (option_map_or (climb above_id (suc n)) (above_id ((tree_of nodes).id s)) []))) (full-is s up)
       ∙ ap (λ o. cond (is_at_limit nodes totals s) (Some ((tree_of nodes).id s)) (find full (option_map_or (climb above_id (suc n)) o []))) (parent-is (tree_of nodes) (limit_in nodes) children ids l s up)
@@ -56,9 +47,7 @@ module _ (nodes : Slab Node) (totals : ℕ → ℕ) (children : List (Option ℕ
       go : ((p : ℕ) → (tree_of nodes).stand p ≡ true → find full (climb above_id (suc n) ((tree_of nodes).id p)) ≡ option_map (tree_of nodes).id (first_full nodes totals n p))
           → (b : Bool) (o : Option ℕ) → (tree_of nodes).up s ≡ o
           → cond b (Some ((tree_of nodes).id s)) (find full (option_map_or (climb above_id (suc n)) (option_map (tree_of nodes).id o) [])) ≡ option_map (tree_of nodes).id (if b then Some s else option_map_or (first_full nodes totals n) o None)
-      go rest true o e = refl
-      go rest false None e = refl
-      go rest false (Some p) e = rest p (w.upright s p up e)
+      go rest b o e = grind arith
 
   first-more : (n s : ℕ) → (tree_of nodes).level s ≤ n → first_full nodes totals n s ≡ first_full nodes totals ((tree_of nodes).level s) s
   first-more zero s low = let e : (tree_of nodes).level s ≡ 0 = omega (arith, low) in ap (λ m. first_full nodes totals m s) (sym e)
@@ -66,14 +55,7 @@ module _ (nodes : Slab Node) (totals : ℕ → ℕ) (children : List (Option ℕ
     where
       go : ((p : ℕ) → (tree_of nodes).level p ≤ n → first_full nodes totals n p ≡ first_full nodes totals ((tree_of nodes).level p) p) → (o : Option ℕ) → (tree_of nodes).up s ≡ o
           → first_full nodes totals (suc n) s ≡ first_full nodes totals ((tree_of nodes).level s) s
-      go rest None none =
-          ap (λ o. if is_at_limit nodes totals s then Some s else option_map_or (first_full nodes totals n) o None) none
-          ∙ sym (ap (λ m. first_full nodes totals m s) (w.top s none))
-      go rest (Some p) above =
-          let h = up_levels (tree_of nodes) w.levels s p above in
-          ap (λ o. if is_at_limit nodes totals s then Some s else option_map_or (first_full nodes totals n) o None) above
-          ∙ ap (λ r. if is_at_limit nodes totals s then Some s else r) (rest p (omega (arith, low, h)))
-          ∙ sym (ap (λ m. first_full nodes totals m s) h ∙ ap (λ o. if is_at_limit nodes totals s then Some s else option_map_or (first_full nodes totals ((tree_of nodes).level p)) o None) above)
+      go rest o none = grind (arith, up_levels)
 
   pub charge-is : (s : ℕ) → (tree_of nodes).stand s ≡ true → charge_refusal (charges_of nodes ids) ((tree_of nodes).id s) ≡ option_map PidsLimit (option_map (tree_of nodes).id (first_full nodes totals ((tree_of nodes).level s) s))
   unfolding control_path
@@ -83,21 +65,11 @@ pub first_there : (nodes : Slab Node) (totals : ℕ → ℕ) (n s k : ℕ) → f
 first_there nodes totals n s k is = go n s is
   where
     here : (s : ℕ) → is_at_limit nodes totals s ≡ true → ContainsKey nodes s
-    here s e = look (get nodes s) e
-      where
-        look : (o : Option Node) → option_map_or (λ limit. nat_le limit (totals s)) (option_and_then (λ (n : Node). n.limit) o) false ≡ true → is_some o ≡ true
-        look None e = absurd (cc)
-        look (Some n) e = refl
+    here s e = grind arith
 
     go : (n s : ℕ) → first_full nodes totals n s ≡ Some k → ContainsKey nodes k
-    go zero s is = pick (is_at_limit nodes totals s) refl is
-      where
-        pick : (b : Bool) → is_at_limit nodes totals s ≡ b → (if b then Some s else None) ≡ Some k → ContainsKey nodes k
-        pick true e is = let same : s ≡ k = cc in ap (λ i. is_some (get nodes i)) (sym same) ∙ here s e
-        pick false e is = absurd (cc)
+    go zero s is = grind (arith, here)
     go (suc n) s is = pick (λ p e. go n p e) (is_at_limit nodes totals s) refl ((tree_of nodes).up s) is
       where
         pick : ((p : ℕ) → first_full nodes totals n p ≡ Some k → ContainsKey nodes k) → (b : Bool) → is_at_limit nodes totals s ≡ b → (o : Option ℕ) → (if b then Some s else option_map_or (first_full nodes totals n) o None) ≡ Some k → ContainsKey nodes k
-        pick rest true e o is = let same : s ≡ k = cc in ap (λ i. is_some (get nodes i)) (sym same) ∙ here s e
-        pick rest false e None is = absurd (cc)
-        pick rest false e (Some p) is = rest p is
+        pick rest b e o is = grind (arith, here)

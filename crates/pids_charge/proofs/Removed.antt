@@ -1,5 +1,5 @@
 -- The removal of a control group: its node stands no more.
-use Rattle.std.proofs.Common.{◌≡◌, ◌≢◌, inl, inr, ℕ, zero, suc, ◌+◌, ◌<◌, ◌≤◌, ◌==◌, nat_lt, Bool, true, false, not, ◌||◌, cond, if◌then◌else◌, Option, Some, None, option_map, option_and_then, is_some, MatchOption, List, [], ◌∷◌, length, set, map, refl, sym, ap, subst, ◌∙◌, arith}
+use Rattle.std.proofs.Common.{◌≡◌, ◌≢◌, inl, inr, ℕ, zero, suc, ◌+◌, ◌<◌, ◌≤◌, ◌==◌, nat_lt, Bool, true, false, not, cond, if◌then◌else◌, Option, Some, None, option_map, option_and_then, is_some, MatchOption, List, [], ◌∷◌, length, set, map, refl, sym, ap, subst, ◌∙◌, arith}
 use Rattle.std.specs.Option.{option_map_or, option_eq}
 use Rattle.std.specs.List.{AllByRecursion, filter, list_any}
 use Rattle.std.proofs.Math.Path.{fun_ext}
@@ -156,11 +156,7 @@ module _ {nodes new : Slab Node} {c p : ℕ} {n : Node} (removes : Removes nodes
   module _ (children : List (Option ℕ)) (ids : List (ℕ × ℕ)) (l : IsListed (tree_of nodes) children ids) where
     key_of-without : (ps : List (ℕ × ℕ)) (i j : ℕ) → i ≢ j → key_of (without ps j) i ≡ key_of ps i
     key_of-without [] i j d = refl
-    key_of-without (q ∷ ps) i j d = go (q.0 == j) refl (key_of-without ps i j d)
-      where
-        go : (b : Bool) → (q.0 == j) ≡ b → key_of (without ps j) i ≡ key_of ps i → key_of (cond (not b) (q ∷ without ps j) (without ps j)) i ≡ (if q.0 == i then Some q.1 else key_of ps i)
-        go true e rest = rest ∙ sym (ap (λ (b : Bool). if b then Some q.1 else key_of ps i) (eqb-apart q.0 i (λ s. d (sym s ∙ eqb-true q.0 j e))))
-        go false e rest = ap (λ o. if q.0 == i then Some q.1 else o) rest
+    key_of-without (q ∷ ps) i j d = grind (arith, eqb-apart, eqb-true, key_of-without ps i j d)
 
     all-without : (ps : List (ℕ × ℕ)) → AllByRecursion (IsEntry (tree_of nodes)) ps → AllByRecursion (IsEntry (tree_of new)) (without ps ((tree_of nodes).id c))
     all-without [] all = tt
@@ -175,12 +171,7 @@ module _ {nodes new : Slab Node} {c p : ℕ} {n : Node} (removes : Removes nodes
 
     pub IsListed-unstood : c < length children → IsListed (tree_of new) (set children c None) (without ids ((tree_of nodes).id c))
     IsListed-unstood room = record {
-      owners = λ k. elim (cases_eq k c) [
-        | inl e ↦ ap (λ i. owner_of (set children c None) i) e ∙ get_or-set_same children c None None room
-            ∙ sym (ap (child_of (tree_of new)) e ∙ ap (λ (b : Bool). if b then (tree_of new).up c else None) stand_here)
-        | inr d ↦ get_or-set_other children c k None None d ∙ l.owners k
-            ∙ sym (ap (λ (b : Bool). if b then (tree_of new).up k else None) (stand_others k d) ∙ ap (λ f. if (tree_of nodes).stand k then f k else None) ups)
-      ];
+      owners = grind (arith, cases_eq, get_or-set_same, up, stand_here, get_or-set_other, stand_others, ups);
       entries = all-without ids l.entries;
       listed = λ k s.
           let d = apart k s in
@@ -201,20 +192,10 @@ module _ {nodes new : Slab Node} {c p : ℕ} {n : Node} (removes : Removes nodes
 
         go : (ps : List (ℕ × ℕ)) → map (control_in (tree_of nodes) (limit_in nodes)) (without ps ((tree_of nodes).id c)) ≡ filter (λ g. not (g.id == (tree_of nodes).id c)) (map (control_in (tree_of nodes) (limit_in nodes)) ps)
         go [] = refl
-        go (q ∷ ps) = pick (q.0 == (tree_of nodes).id c) (go ps)
-          where
-            pick : (b : Bool) → map (control_in (tree_of nodes) (limit_in nodes)) (without ps ((tree_of nodes).id c)) ≡ filter (λ g. not (g.id == (tree_of nodes).id c)) (map (control_in (tree_of nodes) (limit_in nodes)) ps)
-                → map (control_in (tree_of nodes) (limit_in nodes)) (cond (not b) (q ∷ without ps ((tree_of nodes).id c)) (without ps ((tree_of nodes).id c)))
-                ≡ cond (not b) (control_in (tree_of nodes) (limit_in nodes) q ∷ filter (λ g. not (g.id == (tree_of nodes).id c)) (map (control_in (tree_of nodes) (limit_in nodes)) ps)) (filter (λ g. not (g.id == (tree_of nodes).id c)) (map (control_in (tree_of nodes) (limit_in nodes)) ps))
-            pick true rest = rest
-            pick false rest = ap (λ cs. control_in (tree_of nodes) (limit_in nodes) q ∷ cs) rest
+        go (q ∷ ps) = grind (arith, go ps)
 
 pub kept-id : (h : Home) (i : ℕ) → kept (record h { id = i }) ≡ option_map (λ (x : Home). record x { id = i }) (kept h)
-kept-id h i = go (h.stands || nat_lt 0 (h.live + h.zombies))
-  where
-    go : (b : Bool) → (if b then Some (let x : Home = record h { id = i } in x) else None) ≡ option_map (λ (x : Home). record x { id = i }) (if b then Some h else None)
-    go true = refl
-    go false = refl
+kept-id h i = grind arith
 
 module _ {nodes new : Slab Node} {c p : ℕ} {n : Node} (removes : Removes nodes new c p n) (children : List (Option ℕ)) (ids : List (ℕ × ℕ)) (l : IsListed (tree_of nodes) children ids) where
   old_near : ℕ → ℕ → ℕ
@@ -248,9 +229,7 @@ module _ {nodes new : Slab Node} {c p : ℕ} {n : Node} (removes : Removes nodes
 
       go : ((q : ℕ) → (tree_of nodes).level q ≡ m → nearest (tree_of new).stand (tree_of nodes).up m q ≡ redirect (old_near m q)) → j ≢ c → (b : Bool) (o : Option ℕ) → (tree_of nodes).up j ≡ o
           → (if b then j else option_map_or (nearest (tree_of new).stand (tree_of nodes).up m) o j) ≡ redirect (if b then j else option_map_or (old_near m) o j)
-      go rest d true o e = sym (ap (λ (b : Bool). if b then p else j) (eqb-apart j c d))
-      go rest d false None e = sym (ap (λ (b : Bool). if b then p else j) (eqb-apart j c d))
-      go rest d false (Some q) e = rest q (let h = up_levels (tree_of nodes) removes.tree.levels j q e in omega (arith, h, low))
+      go rest d b o e = grind (arith, eqb-apart, up_levels)
 
   key-unstood : (k : ℕ) → standing_key (tree_of new) k ≡ redirect (standing_key (tree_of nodes) k)
   unfolding old_near
@@ -288,21 +267,15 @@ module _ {nodes new : Slab Node} {c p : ℕ} {n : Node} (removes : Removes nodes
             let lies : x.standing ≡ false = false_from_ne_true x.standing (λ t. d (sym (nearest-self (tree_of nodes) ((tree_of nodes).level k) k (ap (λ o. option_map_or (λ (y : Node). y.standing) o false) e ∙ t)) ∙ s)) in
             ap (λ i. kept (record h { id = i })) (id_k k ∙ ap (λ (b : Bool). (tree_of nodes).id (if b then p else standing_key (tree_of nodes) k)) (eq-eqb (standing_key (tree_of nodes) k) c s))
             ∙ elim (kept_cases h) [
-              | inl some ↦
-                  sym (ap (option_and_then (handed_on ((tree_of nodes).id c) ((tree_of nodes).id p))) some
-                  ∙ ap (λ (b : Bool). if b then kept (record h { id = (tree_of nodes).id p; stands = false }) else Some h) (eq-eqb h.id ((tree_of nodes).id c) (ap (tree_of nodes).id s))
-                  ∙ ap (λ b. kept (record h { id = (tree_of nodes).id p; stands = b })) (sym lies))
-              | inr none ↦ kept-id h ((tree_of nodes).id p) ∙ ap (option_map (λ (x : Home). record x { id = (tree_of nodes).id p })) none.0
-                  ∙ sym (ap (option_and_then (handed_on ((tree_of nodes).id c) ((tree_of nodes).id p))) none.0)
+              | inl some ↦ grind (arith, eq-eqb)
+              | inr none ↦ grind (arith, kept-id)
             ]
         | inr s ↦
             let far : (tree_of nodes).id (standing_key (tree_of nodes) k) ≢ (tree_of nodes).id c = λ q. s (same_key (tree_of nodes) (limit_in nodes) children ids l (standing_key (tree_of nodes) k) c
             (nearest_stands (tree_of nodes) removes.tree ((tree_of nodes).level k) k refl (ap is_some e)) (stood removes) q) in
             ap (λ i. kept (record h { id = i })) (id_k k ∙ ap (λ (b : Bool). (tree_of nodes).id (if b then p else standing_key (tree_of nodes) k)) (eqb-apart (standing_key (tree_of nodes) k) c s))
             ∙ elim (kept_cases h) [
-              | inl some ↦ some
-                  ∙ sym (ap (option_and_then (handed_on ((tree_of nodes).id c) ((tree_of nodes).id p))) some
-                  ∙ ap (λ (b : Bool). if b then kept (record h { id = (tree_of nodes).id p; stands = false }) else Some h) (eqb-apart h.id ((tree_of nodes).id c) far))
+              | inl some ↦ grind (arith, eqb-apart)
               | inr none ↦ none.0 ∙ sym (ap (option_and_then (handed_on ((tree_of nodes).id c) ((tree_of nodes).id p))) none.0)
             ]
       ]
@@ -327,8 +300,7 @@ module _ (nodes : Slab Node) (children : List (Option ℕ)) (ids : List (ℕ × 
       ∙ any ids (l.listed k stand_k))
     where
       cases : (b : Bool) → (tree_of nodes).stand k ≡ b → (if b then (tree_of nodes).up k else None) ≡ Some c → ((tree_of nodes).stand k ≡ true) × ((tree_of nodes).up k ≡ Some c)
-      cases true s e = (s, e)
-      cases false s e = absurd (cc)
+      cases b s e = grind arith
 
       both : ((tree_of nodes).stand k ≡ true) × ((tree_of nodes).up k ≡ Some c)
       both = cases ((tree_of nodes).stand k) refl e
@@ -359,29 +331,23 @@ module _ (nodes : Slab Node) (children : List (Option ℕ)) (ids : List (ℕ × 
       ∙ nobody ids l.entries)
     where
       miss : (q : ℕ × ℕ) → (tree_of nodes).stand q.1 ≡ true → (o : Option ℕ) → (tree_of nodes).up q.1 ≡ o → option_eq ◌==◌ (option_map (tree_of nodes).id o) (Some ((tree_of nodes).id c)) ≡ false
-      miss q s None e = refl
-      miss q s (Some x) e = eqb-apart ((tree_of nodes).id x) ((tree_of nodes).id c) (λ same.
-          let one = same_key (tree_of nodes) (limit_in nodes) children ids l x c (w.upright q.1 x s e) up same in
-          childless q.1 (ap (λ (b : Bool). if b then (tree_of nodes).up q.1 else None) s ∙ e ∙ ap Some one))
+      miss q s o e = grind (arith, eqb-apart, same_key, up, childless)
 
       nobody : (ps : List (ℕ × ℕ)) → AllByRecursion (IsEntry (tree_of nodes)) ps → list_any is_in (map (control_in (tree_of nodes) (limit_in nodes)) ps) ≡ false
       nobody [] all = refl
       nobody (q ∷ ps) all = or_from (is_in (control_in (tree_of nodes) (limit_in nodes) q)) _ (miss q all.0.0 ((tree_of nodes).up q.1) refl) (nobody ps all.1)
 
 pub some_of : (o : Option ℕ) → is_some o ≡ true → (p : ℕ) × (o ≡ Some p)
-some_of None e = absurd (cc)
-some_of (Some p) e = (p, refl)
+some_of o e = grind arith
 
 -- no first member: no child
 pub childless_of : (t : Tree) (children : List (Option ℕ)) (ids : List (ℕ × ℕ)) → IsListed t children ids → (c : ℕ) (o : Option ℕ)
     → MatchOption o ((k : ℕ) → owner_of children k ≢ Some c) (λ k. owner_of children k ≡ Some c) → is_some o ≡ false → (k : ℕ) → child_of t k ≢ Some c
-childless_of t children ids l c None m none k e = m k (l.owners k ∙ e)
-childless_of t children ids l c (Some x) m none k e = absurd (cc)
+childless_of t children ids l c o m none k e = grind arith
 
 pub child_found : (t : Tree) (children : List (Option ℕ)) (ids : List (ℕ × ℕ)) → IsListed t children ids → (c : ℕ) (o : Option ℕ)
     → MatchOption o ((k : ℕ) → owner_of children k ≢ Some c) (λ k. owner_of children k ≡ Some c) → is_some o ≡ true → (k : ℕ) × (child_of t k ≡ Some c)
-child_found t children ids l c None m some = absurd (cc)
-child_found t children ids l c (Some x) m some = (x, sym (l.owners x) ∙ m)
+child_found t children ids l c o m some = grind arith
 
 pub stands_is_field : (nodes : Slab Node) (c : ℕ) (n : Node) → get nodes c ≡ Some n → (tree_of nodes).stand c ≡ true → n.standing ≡ true
 stands_is_field nodes c n found up = sym (ap (λ o. option_map_or (λ (x : Node). x.standing) o false) found) ∙ up

@@ -1,18 +1,16 @@
 -- How sums over keys change.
-use Rattle.std.proofs.Common.{◌≡◌, ◌≢◌, ◌⊎◌, inl, inr, ℕ, zero, suc, ◌+◌, ◌<◌, ◌≤◌, List, [], ◌∷◌, length, get_or, refl, sym, arith}
+use Rattle.std.proofs.Common.{◌≡◌, ◌≢◌, ℕ, zero, suc, ◌+◌, ◌<◌, ◌≤◌, List, [], ◌∷◌, length, get_or, refl, arith}
 use Rattle.std.specs.List.{sum_by}
 use Rattle.std.proofs.lemmas.List.Sums.{sum_by-cons}
 use Rattle.pids_charge.specs.Sums.{sum_below}
 
 pub sum-ext : (n : ℕ) (f g : ℕ → ℕ) → ((k : ℕ) → f k ≡ g k) → sum_below n f ≡ sum_below n g
-sum-ext zero f g same = refl
-sum-ext (suc n) f g same = omega (arith, same 0, sum-ext n (λ k. f (suc k)) (λ k. g (suc k)) (λ k. same (suc k)))
+sum-ext n f g same = grind arith
 
 -- two functions that differ at one key
 pub sum-at : (n a : ℕ) (f g : ℕ → ℕ) → a < n → ((k : ℕ) → k ≢ a → f k ≡ g k) → sum_below n f + g a ≡ sum_below n g + f a
 sum-at zero a f g lt same = absurd (omega (arith, lt))
-sum-at (suc n) zero f g lt same =
-    omega (arith, sum-ext n (λ k. f (suc k)) (λ k. g (suc k)) (λ k. same (suc k) (λ e. omega (arith, e))))
+sum-at (suc n) zero f g lt same = grind (arith, sum-ext)
 sum-at (suc n) (suc a) f g lt same =
     omega (arith, same 0 (λ e. omega (arith, e)), sum-at n a (λ k. f (suc k)) (λ k. g (suc k)) (omega (arith, lt)) (λ k ne. same (suc k) (λ e. ne (omega (arith, e)))))
 
@@ -28,16 +26,7 @@ sum-tail (suc n) (suc m) f le none =
     omega (arith, sum-tail n m (λ k. f (suc k)) (omega (arith, le)) (λ k from. none (suc k) (omega (arith, from))))
 
 pub sum-bounds : (n m : ℕ) (f : ℕ → ℕ) → ((k : ℕ) → n ≤ k → f k ≡ 0) → ((k : ℕ) → m ≤ k → f k ≡ 0) → sum_below n f ≡ sum_below m f
-sum-bounds n m f past_n past_m = go (le_or n m)
-  where
-    le_or : (a b : ℕ) → (a ≤ b) ⊎ (b ≤ a)
-    le_or zero b = inl (omega arith)
-    le_or (suc a) zero = inr (omega arith)
-    le_or (suc a) (suc b) = elim (le_or a b) [ inl l ↦ inl (omega (arith, l)) | inr l ↦ inr (omega (arith, l)) ]
-
-    go : (n ≤ m) ⊎ (m ≤ n) → sum_below n f ≡ sum_below m f
-    go (inl le) = sym (sum-tail n m f le past_n)
-    go (inr le) = sum-tail m n f le past_m
+sum-bounds n m f past_n past_m = grind (arith, sum-tail)
 
 pub sum_le : (n : ℕ) (f g : ℕ → ℕ) → ((k : ℕ) → f k ≤ g k) → sum_below n f ≤ sum_below n g
 sum_le zero f g le = omega arith

@@ -1,5 +1,5 @@
 -- What a contract sees of the nodes, by look-ups.
-use Rattle.std.proofs.Common.{◌≡◌, ◌⊎◌, inl, inr, ℕ, zero, suc, ◌+◌, ◌<◌, ◌==◌, nat_lt, Bool, true, false, cond, if◌then◌else◌, Option, Some, None, option_map, option_and_then, is_some, IsSome, IfSome, MatchOption, List, [], ◌∷◌, get_or, length, map, refl, sym, ap, ◌∙◌, arith}
+use Rattle.std.proofs.Common.{◌≡◌, ◌⊎◌, inl, inr, ℕ, zero, suc, ◌+◌, ◌<◌, ◌==◌, Bool, true, false, if◌then◌else◌, Option, Some, None, option_map, option_and_then, is_some, IsSome, IfSome, MatchOption, List, [], ◌∷◌, get_or, length, map, refl, sym, ap, ◌∙◌, arith}
 use Rattle.std.specs.Option.{option_map_or}
 use Rattle.std.specs.List.{AllByRecursion}
 use Rattle.std.proofs.lemmas.Bool.{eqb-true, lt-ltb, cases_lt}
@@ -31,55 +31,24 @@ home_at-is nodes ids k = get-each (λ j slot. option_and_then (seen (tree_of nod
 
 -- a key is seen, or it stands not and has no tasks
 pub kept_cases : (h : Home) → (kept h ≡ Some h) ⊎ ((kept h ≡ None) × (h.stands ≡ false) × (h.live + h.zombies ≡ 0))
-kept_cases h = go h.stands refl (nat_lt 0 (h.live + h.zombies)) refl
-  where
-    go : (b : Bool) → h.stands ≡ b → (d : Bool) → nat_lt 0 (h.live + h.zombies) ≡ d → (kept h ≡ Some h) ⊎ ((kept h ≡ None) × (h.stands ≡ false) × (h.live + h.zombies ≡ 0))
-    go true e d f = inl (rw e refl)
-    go false e true f = inl (rw (e, f) refl)
-    go false e false f = inr (
-      rw (e, f) refl,
-      e,
-      elim (cases_lt 0 (h.live + h.zombies)) [
-        | inl lt ↦ absurd (let t = lt-ltb 0 (h.live + h.zombies) lt in cc)
-        | inr le ↦ omega (arith, le)
-      ],
-    )
+kept_cases h = grind (arith, cases_lt, lt-ltb)
 
 module _ (t : Tree) (k : ℕ) where
   stands-seen : (o : Option Node) → option_map_or (λ (h : Home). h.stands) (option_and_then (seen t k) o) false ≡ option_map_or (λ (n : Node). n.standing) o false
-  stands-seen None = refl
-  stands-seen (Some n) =
-      let h : Home = record { id = t.id (standing_key t k); stands = n.standing; live = n.live; zombies = n.zombies } in
-      elim (kept_cases h) [
-        | inl e ↦ ap (λ (o : Option Home). option_map_or (λ (x : Home). x.stands) o false) e
-        | inr e ↦ ap (λ (o : Option Home). option_map_or (λ (x : Home). x.stands) o false) e.0 ∙ sym e.1
-      ]
+  stands-seen o = grind (arith, kept_cases)
 
   number-seen : (f : Home → ℕ) (g : Node → ℕ)
       → ((h : Home) → h.live + h.zombies ≡ 0 → f h ≡ 0)
       → ((n : Node) → f (record { id = t.id (standing_key t k); stands = n.standing; live = n.live; zombies = n.zombies }) ≡ g n)
       → (o : Option Node) → option_map_or f (option_and_then (seen t k) o) 0 ≡ option_map_or g o 0
-  number-seen f g empty same None = refl
-  number-seen f g empty same (Some n) =
-      let h : Home = record { id = t.id (standing_key t k); stands = n.standing; live = n.live; zombies = n.zombies } in
-      elim (kept_cases h) [
-        | inl e ↦ ap (λ (o : Option Home). option_map_or f o 0) e ∙ same n
-        | inr e ↦ ap (λ (o : Option Home). option_map_or f o 0) e.0 ∙ sym (sym (same n) ∙ empty h e.2)
-      ]
+  number-seen f g empty same o = grind (arith, kept_cases)
 
   id-seen : (o : Option Node) → option_map_or (λ (n : Node). n.standing) o false ≡ true
       → option_map_or (λ (h : Home). h.id) (option_and_then (seen t k) o) 0 ≡ t.id (standing_key t k)
-  id-seen None is = absurd (cc)
-  id-seen (Some n) is =
-      let h : Home = record { id = t.id (standing_key t k); stands = n.standing; live = n.live; zombies = n.zombies } in
-      elim (kept_cases h) [
-        | inl e ↦ ap (λ (o : Option Home). option_map_or (λ (x : Home). x.id) o 0) e
-        | inr e ↦ absurd (let f = e.1 in cc)
-      ]
+  id-seen o is = grind (arith, kept_cases)
 
 pub nearest-self : (t : Tree) (n k : ℕ) → t.stand k ≡ true → nearest t.stand t.up n k ≡ k
-nearest-self t zero k is = refl
-nearest-self t (suc n) k is = rw is refl
+nearest-self t n k is = grind arith
 
 module _ (nodes : Slab Node) (ids : List (ℕ × ℕ)) (k : ℕ) where
   pub stands-is : stands (charges_of nodes ids) k ≡ (tree_of nodes).stand k
@@ -109,37 +78,23 @@ all-is nodes ids =
 
 -- who stands is there
 pub there : (nodes : Slab Node) (k : ℕ) → (tree_of nodes).stand k ≡ true → ContainsKey nodes k
-there nodes k is = go (get nodes k) is
-  where
-    go : (o : Option Node) → option_map_or (λ (n : Node). n.standing) o false ≡ true → is_some o ≡ true
-    go None e = absurd (cc)
-    go (Some n) e = refl
+there nodes k is = grind arith
 
 module _ (t : Tree) (limits : ℕ → Option ℕ) where
   pub control-is : (ids : List (ℕ × ℕ)) (id : ℕ) → control_at (map (control_in t limits) ids) id ≡ option_map (λ k. control_in t limits (id, k)) (key_of ids id)
   control-is [] id = refl
-  control-is (p ∷ ids) id = go (p.0 == id) refl (control-is ids id)
-    where
-      go : (b : Bool) → (p.0 == id) ≡ b → control_at (map (control_in t limits) ids) id ≡ option_map (λ k. control_in t limits (id, k)) (key_of ids id)
-          → cond b (Some (control_in t limits p)) (control_at (map (control_in t limits) ids) id) ≡ option_map (λ k. control_in t limits (id, k)) (if b then Some p.1 else key_of ids id)
-      go true e rest = ap (λ i. Some (control_in t limits (i, p.1))) (eqb-true p.0 id e)
-      go false e rest = rest
+  control-is (p ∷ ids) id = grind (arith, eqb-true, control-is ids id)
 
   pub entry_of : (ids : List (ℕ × ℕ)) (id k : ℕ) → AllByRecursion (IsEntry t) ids → key_of ids id ≡ Some k → (t.stand k ≡ true) × (t.id k ≡ id)
   entry_of [] id k all is = absurd (cc)
   entry_of (p ∷ ids) id k all is = go (p.0 == id) refl (λ e. entry_of ids id k all.1 e) is
     where
       go : (b : Bool) → (p.0 == id) ≡ b → (key_of ids id ≡ Some k → (t.stand k ≡ true) × (t.id k ≡ id)) → (if b then Some p.1 else key_of ids id) ≡ Some k → (t.stand k ≡ true) × (t.id k ≡ id)
-      go true e rest is = let same : p.1 ≡ k = cc in (ap t.stand (sym same) ∙ all.0.0, ap t.id (sym same) ∙ all.0.1 ∙ eqb-true p.0 id e)
-      go false e rest is = rest is
+      go b e rest is = grind (arith, eqb-true)
 
   module _ (children : List (Option ℕ)) (ids : List (ℕ × ℕ)) (w : IsListed t children ids) where
     pub same_key : (j c : ℕ) → t.stand j ≡ true → t.stand c ≡ true → t.id j ≡ t.id c → j ≡ c
-    same_key j c sj sc same =
-        let a = w.listed j sj in
-        let b = w.listed c sc in
-        let e : Some j ≡ Some c = sym a ∙ ap (key_of ids) same ∙ b in
-        cc
+    same_key j c sj sc same = grind arith
 
     pub found : (c : ℕ) → t.stand c ≡ true → control_at (map (control_in t limits) ids) (t.id c) ≡ Some (control_in t limits (t.id c, c))
     found c sc = control-is ids (t.id c) ∙ ap (option_map (λ k. control_in t limits (t.id c, k))) (w.listed c sc)
@@ -174,12 +129,10 @@ parent_seen nodes children ids v is w l c up o above = (go o above, sits o above
     stand_up p e = sym (ap (λ (x : Charges). stands x p) is) ∙ stands-is nodes ids p ∙ w.upright c p (stand_in nodes ids v is c up) e
 
     go : (o : Option ℕ) → (tree_of nodes).up c ≡ o → option_map (id_at v) o ≡ parent_control v.controls (id_at v c)
-    go None e = sym (ap (option_map (tree_of nodes).id) e) ∙ up_is
-    go (Some p) e = ap Some (id_in nodes ids v is p (stand_up p e)) ∙ sym (ap (option_map (tree_of nodes).id) e) ∙ up_is
+    go o e = grind (arith, up_is, id_in, stand_up)
 
     sits : (o : Option ℕ) → (tree_of nodes).up c ≡ o → IfSome o (λ p. stands v p ≡ true)
-    sits None e = tt
-    sits (Some p) e = stand_up p e
+    sits o e = grind (arith, stand_up)
 
 pub kept_standing : (h : Home) → h.stands ≡ true → kept h ≡ Some h
 kept_standing h up = elim (kept_cases h) [ inl e ↦ e | inr e ↦ absurd (let f = e.1 in cc) ]
@@ -206,11 +159,7 @@ find_is nodes children ids v is l id (Some c) e =
     )
 
 pub zombie_there : (nodes : Slab Node) (k : ℕ) → 0 < zombies_in nodes k → ContainsKey nodes k
-zombie_there nodes k some = go (get nodes k) some
-  where
-    go : (o : Option Node) → 0 < option_map_or (λ (n : Node). n.zombies) o 0 → is_some o ≡ true
-    go None e = absurd (omega (arith, e))
-    go (Some n) e = refl
+zombie_there nodes k some = grind arith
 
 pub ids-of : (t : Tree) (limits : ℕ → Option ℕ) (ids : List (ℕ × ℕ)) → map (λ p. p.0) ids ≡ map (λ (g : Control). g.id) (map (control_in t limits) ids)
 ids-of t limits [] = refl

@@ -24,12 +24,7 @@ tree_from there up level stand id = record { there = there; up = up; level = lev
 pub same_trees : (s t : Tree) → ((j : ℕ) → s.there j ≡ t.there j) → ((j : ℕ) → s.up j ≡ t.up j) → ((j : ℕ) → s.level j ≡ t.level j) → ((j : ℕ) → s.stand j ≡ t.stand j)
     → ((j : ℕ) → s.id j ≡ t.id j) → s ≡ t
 unfolding tree_from
-same_trees s t a b c d e =
-    ap (λ x. tree_from x s.up s.level s.stand s.id) (fun_ext a)
-    ∙ ap (λ x. tree_from t.there x s.level s.stand s.id) (fun_ext b)
-    ∙ ap (λ x. tree_from t.there t.up x s.stand s.id) (fun_ext c)
-    ∙ ap (λ x. tree_from t.there t.up t.level x s.id) (fun_ext d)
-    ∙ ap (λ x. tree_from t.there t.up t.level t.stand x) (fun_ext e)
+same_trees s t a b c d e = grind (arith, tree_from)
 
 -- who is under a node that is there
 pub reaches_there : (t : Tree) → HasLevels t → (n j k : ℕ) → t.there j ≡ true → reaches t.up n j k ≡ true → t.there k ≡ true
@@ -49,20 +44,13 @@ reaches_stand t w (suc n) j k on is = go (λ p o e. reaches_stand t w n p k o e)
   where
     go : ((p : ℕ) → t.stand p ≡ true → reaches t.up n p k ≡ true → t.stand k ≡ true) → (b : Bool) → (j == k) ≡ b → (o : Option ℕ) → t.up j ≡ o
         → (b || option_map_or (λ p. reaches t.up n p k) o false) ≡ true → t.stand k ≡ true
-    go rest true e o above is = ap t.stand (sym (eqb-true j k e)) ∙ on
-    go rest false e None above is = absurd (cc)
-    go rest false e (Some p) above is = rest p (w.upright j p on above) is
+    go rest b e o above is = grind (arith, eqb-true)
 
 pub weight_none : (t : Tree) → IsTree t → (j k : ℕ) → t.stand j ≡ true → t.stand k ≡ false → weight t j k ≡ 0
-weight_none t w j k on gone = go (is_under t j k) refl
-  where
-    go : (b : Bool) → is_under t j k ≡ b → one_if b ≡ 0
-    go true e = absurd (let h = reaches_stand t w (t.level j) j k on e in cc)
-    go false e = refl
+weight_none t w j k on gone = grind (arith, one_if, reaches_stand)
 
 pub if_le : (b : Bool) (x : ℕ) → (if b then x else 0) ≤ x
-if_le true x = omega arith
-if_le false x = omega arith
+if_le b x = grind arith
 
 -- a count is at most all tasks
 pub total_le : (nodes : Slab Node) (k : ℕ) → total_in nodes k ≤ all_in nodes
@@ -86,16 +74,11 @@ module _ (nodes : Slab Node) (k : ℕ) (n : Node) (found : get nodes k ≡ Some 
 
   -- one with a live task stands
   pub live_stands : (totals : ℕ → ℕ) (at : Option ℕ) → IsCounted nodes totals at → 0 < n.live → (tree_of nodes).stand k ≡ true
-  live_stands totals at w some = go n.standing (ap (λ o. option_map_or (λ (x : Node). x.standing) o false) found)
-    where
-      go : (b : Bool) → (tree_of nodes).stand k ≡ b → (tree_of nodes).stand k ≡ true
-      go true e = e
-      go false e = absurd (let h = w.ended k e in let l = ap (λ o. option_map_or (λ (x : Node). x.live) o 0) found in omega (arith, h, l, some))
+  live_stands totals at w some = grind arith
 
   -- one that was removed has no live task
   pub none_live : (totals : ℕ → ℕ) (at : Option ℕ) → IsCounted nodes totals at → n.standing ≡ false → n.live ≡ 0
-  none_live totals at w gone =
-      sym (ap (λ o. option_map_or (λ (x : Node). x.live) o 0) found) ∙ w.ended k (ap (λ o. option_map_or (λ (x : Node). x.standing) o false) found ∙ gone)
+  none_live totals at w gone = grind arith
 
 -- the node of key k is written, and keeps all but its tasks and its limit
 pub record Writes (nodes new : Slab Node) (k : ℕ) (n m : Node) : Type 0 where
@@ -169,25 +152,13 @@ module _ {nodes new : Slab Node} {k : ℕ} {n m : Node} (writes : Writes nodes n
       omega (arith, t, l, e, a, b)
 
   pub total-more : m.live + m.zombies ≡ n.live + n.zombies + 1 → (c : ℕ) → total_in new c ≡ total_in nodes c + weight (tree_of nodes) k c
-  total-more more c = go (is_under (tree_of nodes) k c) (total-changed c)
-    where
-      go : (b : Bool) → total_in new c + (if b then n.live + n.zombies else 0) ≡ total_in nodes c + (if b then m.live + m.zombies else 0) → total_in new c ≡ total_in nodes c + (if b then 1 else 0)
-      go true e = omega (arith, e, more)
-      go false e = omega (arith, e)
+  total-more more c = grind (arith, total-changed)
 
   pub total-less : m.live + m.zombies + 1 ≡ n.live + n.zombies → (c : ℕ) → total_in new c + weight (tree_of nodes) k c ≡ total_in nodes c
-  total-less less c = go (is_under (tree_of nodes) k c) (total-changed c)
-    where
-      go : (b : Bool) → total_in new c + (if b then n.live + n.zombies else 0) ≡ total_in nodes c + (if b then m.live + m.zombies else 0) → total_in new c + (if b then 1 else 0) ≡ total_in nodes c
-      go true e = omega (arith, e, less)
-      go false e = omega (arith, e)
+  total-less less c = grind (arith, total-changed)
 
   pub total-equal : m.live + m.zombies ≡ n.live + n.zombies → (c : ℕ) → total_in new c ≡ total_in nodes c
-  total-equal equal c = go (is_under (tree_of nodes) k c) (total-changed c)
-    where
-      go : (b : Bool) → total_in new c + (if b then n.live + n.zombies else 0) ≡ total_in nodes c + (if b then m.live + m.zombies else 0) → total_in new c ≡ total_in nodes c
-      go true e = omega (arith, e, equal)
-      go false e = omega (arith, e)
+  total-equal equal c = grind (arith, total-changed)
 
   module _ (at : Option ℕ) (totals : ℕ → ℕ) (w : IsTree (tree_of nodes)) (counted : IsCounted nodes totals at) where
     -- the totals on the way up have room
@@ -246,8 +217,7 @@ home-changed nodes new home change w ids v is g none same =
     (ChangesHome-tasks nodes new home change w ids (g (home_at (charges_of nodes ids) home)) (go (get nodes home) refl ∙ ap g (sym (home_at-is nodes ids home))))
   where
     go : (o : Option Node) → get nodes home ≡ o → option_and_then (seen (tree_of nodes) home) (option_map change o) ≡ g (option_and_then (seen (tree_of nodes) home) o)
-    go None e = sym none
-    go (Some n) e = same n e
+    go o e = grind arith
 
 pub field_of : {X : Type 0} (f : Node → X) (d : X) (nodes : Slab Node) (k : ℕ) (n : Node) → get nodes k ≡ Some n → option_map_or f (get nodes k) d ≡ f n
 field_of f d nodes k n is = ap (λ o. option_map_or f o d) is

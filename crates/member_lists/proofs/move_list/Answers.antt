@@ -12,15 +12,10 @@ first_owner : (hs : List ℕ) (ls : List Link) (from first : ℕ) → IsLinked h
 first_owner hs ls from first w some is = rw is at ((w.head from some).0)
 
 pub tell_owner-last-requires-clause-ends : goal.tell_owner-last-requires-clause-ends
-tell_owner-last-requires-clause-ends c =
-    let is = linked.head_is c.args.heads.now.items c.args.from c.index-first.result.now c.requires.from c.index-first.ensures in
-    rw is at (walks.all_end c.args.heads.now.items c.args.links.now.items c.requires.linked c.args.from c.requires.from)
+tell_owner-last-requires-clause-ends c = grind (arith, linked.head_is, walks.all_end)
 
 pub tell_owner-last-requires-clause-members : goal.tell_owner-last-requires-clause-members
-tell_owner-last-requires-clause-members c =
-    let is = linked.head_is c.args.heads.now.items c.args.from c.index-first.result.now c.requires.from c.index-first.ensures in
-    let mine = first_owner c.args.heads.now.items c.args.links.now.items c.args.from c.index-first.result.now c.requires.linked c.requires.some is in
-    rw mine (rw is at (walks.are_members c.args.heads.now.items c.args.links.now.items c.requires.linked c.args.from c.requires.from))
+tell_owner-last-requires-clause-members c = grind (arith, linked.head_is, first_owner, walks.are_members)
 
 pub set_prev-requires : goal.set_prev-requires
 set_prev-requires c some =

@@ -1,8 +1,9 @@
 -- What was beside the key hangs where the key hung: the key ranked between the two, so ranks still rise, and the key itself is held
 use Rattle.std.proofs.Common.{◌≡◌, inl, inr, ℕ, ◌<◌, length, refl, sym, ap, ◌∙◌, arith, List, set}
 use Rattle.std.proofs.Math.Seq.{map-set_same}
+use Rattle.std.proofs.lemmas.List.{length-set}
 use Rattle.member_queues.specs.declared.Node.{Node}
-use Rattle.member_queues.specs.Heap.{nil, blank, node_at, member_in}
+use Rattle.member_queues.specs.Heap.{nil, node_at}
 use Rattle.member_queues.proofs.Trees as trees
 use Rattle.member_queues.proofs.Filling as filling
 use Rattle.member_queues.proofs.cut.Goals as goal
@@ -15,8 +16,8 @@ set_above-requires c some =
     let len = c.set_child.ensures.len in
     omega (arith, lt, len)
 
-pub returns-clause-heap : goal.returns-clause-heap
-returns-clause-heap c =
+pub returns : goal.returns
+returns c =
     let rs : List ℕ = c.args.forest.now.roots.items in
     let rs' : List ℕ = c.set_child.new.forest.roots.items in
     let ns : List Node = c.args.forest.now.nodes.items in
@@ -36,17 +37,13 @@ returns-clause-heap c =
     c.set_above.ensures.here c.set_above.ensures.others len2 (ap (λ (n : Node). n.rank) ez) in
     let next : (node_at (set n2 k x) k).next ≡ o = ap (λ (n : Node). n.next) t.1 ∙ ap (λ (n : Node). n.next) ez ∙ t.3 in
     let beside : (node_at (set n2 k x) k).beside ≡ nil = ap (λ (n : Node). n.beside) t.1 in
-    filling.IsHeap-cut rs ns k c.index.result.now.beside o c.requires.heap c.requires.owned (inr (refl, sym (ap (λ (n : Node). n.beside) is))) rs' (set n2 k x) t.0
-    (ap (λ (n : Node). n.owner) t.1 ∙ ap (λ (n : Node). n.owner) ez ∙ t.2)
-    (λ m some below. elim below [ inl e ↦ sym e ∙ next | inr e ↦ absurd (some (sym e ∙ beside)) ])
-    (λ _. inl next)
-    (λ some e. some (e ∙ beside))
-
-pub returns-clause-members : goal.returns-clause-members
-returns-clause-members c =
-    let ns : List Node = c.args.forest.now.nodes.items in
-    let n2 : List Node = c.set_above.new.nodes.items in
-    let key = trees.within ns c.args.key c.requires.owned in
-    let key2 : c.args.key < length n2 = let len1 = c.set_child.ensures.len in let len2 = c.set_above.ensures.len in omega (arith, key, len1, len2) in
-    map-set_same member_in n2 c.args.key _ blank (ap member_in (trees.node_is n2 c.args.key c.index_mut.result.now key2 c.index_mut.ensures.value))
-    ∙ c.set_above.ensures.members ∙ c.set_child.ensures.members
+    record {
+      heap = filling.IsHeap-cut rs ns k c.index.result.now.beside o c.requires.heap c.requires.owned (inr (refl, sym (ap (λ (n : Node). n.beside) is))) rs' (set n2 k x) t.0
+          (ap (λ (n : Node). n.owner) t.1 ∙ ap (λ (n : Node). n.owner) ez ∙ t.2)
+          (λ m some below. elim below [ inl e ↦ sym e ∙ next | inr e ↦ absurd (some (sym e ∙ beside)) ])
+          (λ _. inl next)
+          (λ some e. some (e ∙ beside));
+      members = grind (arith, trees.within, map-set_same, trees.node_is);
+      len = grind (arith, length-set);
+      rooms = s.rooms;
+    }

@@ -26,12 +26,7 @@ returns-clause-heap c =
     rw is at (telling.IsHeap-told rs ns c.tell_owner.new.nodes.items c.args.from c.args.to c.requires.heap c.requires.differ c.requires.from c.requires.to t c.requires.apart)
 
 pub returns-clause-top : goal.returns-clause-top
-returns-clause-top c =
-    let rs : List ℕ = c.args.forest.now.roots.items in
-    let ns : List Node = c.args.forest.now.nodes.items in
-    let is : root_at rs c.args.from ≡ c.index-root.result.now = trees.root_is rs c.args.from c.index-root.result.now c.requires.from c.index-root.ensures in
-    let t = all_told rs ns c.tell_owner.new.nodes.items c.args.from c.args.to c.args.members c.requires.heap c.requires.from c.requires.all c.tell_owner.ensures in
-    rw is at (telling.top-told rs ns c.tell_owner.new.nodes.items c.args.from c.args.to c.requires.heap c.requires.differ c.requires.from c.requires.to t c.requires.apart)
+returns-clause-top c = grind (arith, trees.root_is, all_told, telling.top-told)
 
 pub returns-clause-members : goal.returns-clause-members
 returns-clause-members c =
@@ -41,6 +36,4 @@ returns-clause-members c =
     telling.ranked-told rs ns c.tell_owner.new.nodes.items c.args.from c.args.to c.requires.heap c.requires.differ c.requires.from c.requires.to t c.requires.apart
 
 pub returns-clause-len : goal.returns-clause-len
-returns-clause-len c =
-    (all_told c.args.forest.now.roots.items c.args.forest.now.nodes.items c.tell_owner.new.nodes.items c.args.from c.args.to c.args.members
-    c.requires.heap c.requires.from c.requires.all c.tell_owner.ensures).len
+returns-clause-len c = grind (arith, all_told)

@@ -1,9 +1,9 @@
 -- A key written as a run of one is a tree held beside the heap: nothing leads to it yet, and its rank is new to its owner
-use Rattle.std.proofs.Common.{◌≡◌, ◌≢◌, ℕ, ◌<◌, ◌≤◌, length, Some, None, refl, sym, ap, ◌∙◌, arith, List, set, map, slice_index_or}
+use Rattle.std.proofs.Common.{◌≡◌, ◌≢◌, ℕ, ◌<◌, ◌≤◌, length, Some, None, sym, ap, ◌∙◌, arith, List, set, map, slice_index_or}
 use Rattle.std.proofs.lemmas.List.{map-set, get_or-set_same}
 use Rattle.member_queues.specs.declared.Node.{Node}
 use Rattle.member_queues.specs.Ranks.{ranked}
-use Rattle.member_queues.specs.Heap.{nil, blank, node_at, root_at, member_in, IsHeap}
+use Rattle.member_queues.specs.Heap.{nil, blank, node_at, member_in, IsHeap}
 use Rattle.member_queues.proofs.Trees as trees
 use Rattle.member_queues.proofs.Entering as entering
 use Rattle.member_queues.proofs.enter.Goals as goal
@@ -30,14 +30,8 @@ module _ (rs : List ℕ) (ns : List Node) (k p r : ℕ) (w : IsHeap rs ns nil) (
   first : (root : ℕ) → root ≡ slice_index_or rs p root → root ≡ nil → IsHeap (set rs p k) ns' nil
   first root read is = entering.IsHeap-first rs ns' k p entered some room mine (trees.root_is rs p root room read ∙ is)
 
-  there : (root : ℕ) → root ≡ slice_index_or rs p root → root ≢ nil → root_at rs p ≢ nil
-  there root read more z = more (sym (trees.root_is rs p root room read) ∙ z)
-
   written : map member_in ns' ≡ set (map member_in ns) k (Some (p, r))
-  written =
-      let node : Node = record { owner = p; rank = r; above = k; next = 4294967295; beside = 4294967295; level = 0 } in
-      let owner : p ≢ nil = let few = w.ranked.few in let rooms = w.ranked.rooms in omega (arith, room, few, rooms) in
-      map-set member_in ns k node ∙ rw (trees.some_member node p refl owner) refl
+  written = grind (arith, map-set, trees.some_member)
 
 pub add-requires-clause-heap : goal.add-requires-clause-heap
 add-requires-clause-heap c =

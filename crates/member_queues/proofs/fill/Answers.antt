@@ -1,7 +1,6 @@
-use Rattle.std.proofs.Common.{◌<◌, length, refl, ap, ◌∙◌, arith, List}
+use Rattle.std.proofs.Common.{◌<◌, length, ap, arith, List}
 use Rattle.std.proofs.lemmas.List.{map-set}
 use Rattle.member_queues.specs.declared.Node.{Node}
-use Rattle.member_queues.specs.Heap.{member_in}
 use Rattle.member_queues.proofs.Trees as trees
 use Rattle.member_queues.proofs.Filling as filling
 use Rattle.member_queues.proofs.fill.Goals as goal
@@ -32,5 +31,4 @@ sink-requires c =
     (ap (λ (n : Node). n.owner) t.1) c.requires.order
 
 pub returns-clause-members : goal.returns-clause-members
-returns-clause-members c =
-    c.sink.ensures.members ∙ map-set member_in c.set_above.new.nodes.items c.args.key _ ∙ rw (c.set_above.ensures.members, c.set_child.ensures.members) refl
+returns-clause-members c = grind (arith, map-set)

@@ -1,5 +1,5 @@
 -- A run beside another begins with a higher rank: so of the two runs found, the second may go below the first
-use Rattle.std.proofs.Common.{◌≡◌, ◌≢◌, ◌<◌, inr, ℕ, List, length, refl, sym, ap, ◌∙◌, arith, slice_index_or}
+use Rattle.std.proofs.Common.{◌≡◌, ◌≢◌, ◌<◌, ℕ, List, length, refl, sym, ◌∙◌, arith, slice_index_or}
 use Rattle.member_queues.specs.declared.Node.{Node}
 use Rattle.member_queues.specs.Heap.{nil, node_at, IsHeap}
 use Rattle.member_queues.proofs.Trees as trees
@@ -14,14 +14,10 @@ module _ (rs : List ℕ) (ns : List Node) (p first run : ℕ) (w : IsHeap rs ns 
 
   beside_after : (q : ℕ) (n : Node) → q ≡ n.beside → n ≡ slice_index_or ns run n → q ≢ nil
       → ((node_at ns q).owner ≡ (node_at ns run).owner) × ((node_at ns run).rank < (node_at ns q).rank)
-  beside_after q n e read more =
-      let at = trees.node_is ns run n (trees.within ns run owned) read in
-      trees.side_after rs ns nil run q w owned more (inr (ap (λ (x : Node). x.beside) (sym at) ∙ sym e))
+  beside_after q n e read more = grind (arith, trees.node_is, trees.within, owned, trees.side_after)
 
 pub run_of-run-requires-clause-owned : goal.run_of-run-requires-clause-owned
-run_of-run-requires-clause-owned c =
-    marking.root_owned c.args.forest.now.roots.items c.args.forest.now.nodes.items c.args.owner c.index.result.now c.requires.heap c.requires.owner
-    (trees.root_is c.args.forest.now.roots.items c.args.owner c.index.result.now c.requires.owner c.index.ensures)
+run_of-run-requires-clause-owned c = grind (arith, marking.root_owned, trees.root_is)
 
 pub index-requires-2 : goal.index-requires-2
 index-requires-2 c =

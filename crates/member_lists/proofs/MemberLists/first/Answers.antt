@@ -13,9 +13,4 @@ returns-then-key c k mine =
     linked.no_members _ _ c.self.invariant c.args.owner (linked.head_is c.self.inside.heads.items c.args.owner c.index-key.result.now (rw c.self.invariant.rooms (simp length-map at owner)) c.index-key.ensures ∙ c.if-key.true) k l.0 l.1
 
 pub returns-else-key : goal.returns-else-key
-returns-else-key c =
-    let owner : c.args.owner < length (map owner_in c.self.inside.links.items) = rw (← c.self.view_is) at c.requires in
-    let below : c.args.owner < length c.self.inside.links.items = simp length-map at owner in
-    let e = linked.head_is c.self.inside.heads.items c.args.owner c.index-key.result.now (rw c.self.invariant.rooms below) c.index-key.ensures in
-    let h = c.self.invariant.head c.args.owner (λ z. c.if-key.false (sym e ∙ z)) in
-    rw (← c.self.view_is) (linked.owner_of-links c.self.inside.links.items _ ∙ linked.link_some (link_at c.self.inside.links.items c.index-key.result.now) _ (rw e at h.0) (omega (arith, below, c.self.invariant.few)))
+returns-else-key c = grind (arith, length-map, linked.head_is, linked.owner_of-links, linked.link_some)

@@ -16,7 +16,4 @@ invariant_of-self-2 c =
     rw (nodes, roots, c.try_reserve.ensures.items) (entering.IsHeap-grown _ _ _ c.self.invariant (omega (arith, few)))
 
 pub returns-clause-ok : goal.returns-clause-ok
-returns-clause-ok c =
-    let forest = c.self.inside.forest in
-    let nodes : c.resize.new.self.items ≡ forest.nodes.items ++ replicate c.args.more blank = resized forest.nodes _ c.len.result _ _ c.len.ensures c.in_ok-resize.ensures.items in
-    rw (nodes, ← c.self.view_is) (map-append-replicate member_in _ c.args.more blank)
+returns-clause-ok c = grind (arith, resized, map-append-replicate)

@@ -1,5 +1,5 @@
 -- Two runs lose what led to them: the one that begins lower takes the key's place, and not being lower must mean the other is
-use Rattle.std.proofs.Common.{◌≡◌, ◌≢◌, inl, inr, ℕ, IsSome, sym, ap, List, Option, map, Bool, true, false, arith}
+use Rattle.std.proofs.Common.{◌≡◌, ◌≢◌, inl, inr, ℕ, IsSome, sym, ap, List, Option, map, arith}
 use Rattle.member_queues.specs.declared.Node.{Node}
 use Rattle.member_queues.specs.Ranks.{ranked}
 use Rattle.member_queues.specs.Heap.{nil, node_at, member_in}
@@ -9,9 +9,7 @@ use Rattle.member_queues.proofs.MemberQueues.remove.Goals as goal
 use Rattle.member_queues.proofs.MemberQueues.remove.Goals.{then-is_before, else-is_before}
 
 owned : (ns : List Node) (view : List (Option (ℕ × ℕ))) (k : ℕ) → map member_in ns ≡ view → IsSome (ranked view k) → (node_at ns k).owner ≢ nil
-owned ns view k is some =
-    let some' : IsSome (ranked (map member_in ns) k) = rw is some in
-    trees.member_there (node_at ns k) (rw (trees.ranked-nodes ns k) at some')
+owned ns view k is some = grind (arith, trees.member_there, trees.ranked-nodes)
 
 pub is_before-requires-clause-a : goal.is_before-requires-clause-a
 is_before-requires-clause-a c =
@@ -28,15 +26,7 @@ is_before-requires-clause-b c =
     rw c.as_slice.ensures.value (filling.side_within _ ns c.args.key c.index.result.now.beside c.self.invariant mine (inr (sym (ap (λ (x : Node). x.beside) is))))
 
 pub fill-requires-else-is_before-clause-order : goal.fill-requires-else-is_before-clause-order
-fill-requires-else-is_before-clause-order c =
-    let ns : List Node = c.self.inside.forest.nodes.items in
-    let mine = owned ns c.args.self.now c.args.key c.self.view_is c.requires.owned in
-    let is = trees.node_is ns c.args.key c.index.result.now (trees.within ns c.args.key mine) c.index.ensures in
-    filling.after_beside _ ns c.args.key c.index.result.now c.self.invariant mine is
-    (λ facts. not_both c.if-is_before.false (c.is_before.ensures.1 (facts.0, λ more. rw c.as_slice.ensures.value (facts.1 more))))
-  where
-    not_both : {b : Bool} → b ≡ false → b ≡ true → ⊥
-    not_both f t = cc
+fill-requires-else-is_before-clause-order c = grind (arith, owned, trees.node_is, trees.within, filling.after_beside)
 
 pub set_level-requires-clause-at : goal.set_level-requires-clause-at
 set_level-requires-clause-at c some =

@@ -3,7 +3,7 @@ use Rattle.std.proofs.Common.{◌≡◌, ◌+◌, ◌<◌, ℕ, suc, Some, None,
 use Rattle.std.specs.List.{AllByRecursion}
 use Rattle.std.proofs.lemmas.Result.{err_from_is_err_and}
 use Rattle.std.proofs.lemmas.List.{length-set}
-use Rattle.slab.specs.Slab.{Slab, get, Updates}
+use Rattle.slab.specs.Slab.{Slab}
 use Rattle.pid_types.specs.Controls.{control_path}
 use Rattle.pid_types.specs.declared.plain.Control.{Control}
 use Rattle.pids_charge.specs.declared.node.Node.{Node}
@@ -31,28 +31,13 @@ level c = views.field-is (λ (n : Node). n.level) 0 c.self.inside.nodes c.args.p
 
 -- the new control group
 makes : (c : After-insert_reserved) → Makes c.self.inside.nodes c.insert_reserved.new.self c.in_ok-key.key c.args.parent c.args.stamp (c.node_at-level.result.level + 1)
-makes c =
-    let level = views.field-is (λ (n : Node). n.level) 0 c.self.inside.nodes c.args.parent c.node_at-level.result c.node_at-level.ensures in
-    let kv : c.insert_reserved.result ≡ c.in_ok-key.key = c.insert_reserved.ensures.key ∙ sym c.in_ok-key.ensures.key in
-    record {
-      old = ap (get c.self.inside.nodes) (sym kv) ∙ sym (ap (λ (s : Slab Node). get s c.insert_reserved.result) c.in_ok-key.ensures.nodes) ∙ c.insert_reserved.ensures.was_vacant;
-      updates = subst (λ k. Updates c.self.inside.nodes c.insert_reserved.new.self k (Some (node c.args.stamp c.args.parent (c.node_at-level.result.level + 1)))) kv
-          (made.updates-from c.self.inside.nodes c.make_room.new.nodes c.insert_reserved.new.self c.make_room.new.nodes.capacity c.insert_reserved.result _ c.in_ok-key.ensures.nodes
-          (subst (λ n. Updates c.make_room.new.nodes c.insert_reserved.new.self c.insert_reserved.result (Some n)) c.new.ensures c.insert_reserved.ensures.updates));
-      tree = c.self.invariant.tree;
-      stands = views.stand_in c.self.inside.nodes c.self.inside.ids c.args.self.now c.self.view_is c.args.parent c.requires.stands;
-      next = omega (arith, level);
-      low = omega (arith, c.if-level-gt-DEEPEST_CONTROL.false);
-    }
+makes c = grind (arith, level, views.field-is, node, made.updates-from, views.stand_in)
 
 pub node_at-level-requires : goal.node_at-level-requires
 node_at-level-requires c = views.there c.self.inside.nodes c.args.parent (views.stand_in c.self.inside.nodes c.self.inside.ids c.args.self.now c.self.view_is c.args.parent c.requires.stands)
 
 pub returns-then-level-gt-DEEPEST_CONTROL-clause-deep : goal.returns-then-level-gt-DEEPEST_CONTROL-clause-deep
-returns-then-level-gt-DEEPEST_CONTROL-clause-deep c =
-    let long = long (goal.at.returns-then-level-gt-DEEPEST_CONTROL-clause-deep c).After-node_at-level in
-    let level = level (goal.at.returns-then-level-gt-DEEPEST_CONTROL-clause-deep c).After-node_at-level in
-    (λ e. omega (arith, long, level, c.if-level-gt-DEEPEST_CONTROL.true), λ h. refl)
+returns-then-level-gt-DEEPEST_CONTROL-clause-deep c = grind (arith, long, level)
 
 pub invariant_of-self : goal.invariant_of-self
 invariant_of-self c = made.IsKept-room c.self.inside.nodes c.make_room.new.nodes c.make_room.new.nodes.capacity c.in_err-key.ensures.nodes c.self.inside.counters.items c.make_room.new.counters.items c.self.inside.children c.make_room.new.children c.self.inside.ids c.self.invariant c.in_err-key.ensures.counters c.in_err-key.ensures.children c.in_err-key.ensures.longer c.in_err-key.ensures.more c.in_err-key.ensures.small
@@ -63,11 +48,7 @@ returns-in_err-key-clause-err c =
     rw p.1 (ap (λ (s : Slab Node). charges_of s c.self.inside.ids) c.in_err-key.ensures.nodes ∙ c.self.view_is)
 
 pub returns-in_err-key-clause-deep : goal.returns-in_err-key-clause-deep
-returns-in_err-key-clause-deep c =
-    let long = long (goal.at.returns-in_err-key-clause-deep c).After-node_at-level in
-    let level = level (goal.at.returns-in_err-key-clause-deep c).After-node_at-level in
-    let p = err_from_is_err_and c.from_residual.result c.from_residual.ensures.1 in
-    rw (p.1, p.2) (λ e. absurd (cc), λ h. absurd (omega (arith, h, long, level, c.if-level-gt-DEEPEST_CONTROL.false)))
+returns-in_err-key-clause-deep c = grind (arith, long, level, err_from_is_err_and)
 
 pub push-requires : goal.push-requires
 push-requires c = made.below-ids (tree_of c.self.inside.nodes) (limit_in c.self.inside.nodes) c.args.stamp c.self.inside.ids (subst (λ (v : Charges). AllByRecursion (λ (g : Control). g.id < c.args.stamp) v.controls) (sym c.self.view_is) c.requires.above)
@@ -81,17 +62,10 @@ returns-in_err-push-clause-err c =
     rw p.1 (ap (λ ids. charges_of c.make_room.new.nodes ids) c.in_err-push.ensures.err ∙ ap (λ (s : Slab Node). charges_of s c.self.inside.ids) c.in_ok-key.ensures.nodes ∙ c.self.view_is)
 
 pub returns-in_err-push-clause-deep : goal.returns-in_err-push-clause-deep
-returns-in_err-push-clause-deep c =
-    let long = long (goal.at.returns-in_err-push-clause-deep c).After-node_at-level in
-    let level = level (goal.at.returns-in_err-push-clause-deep c).After-node_at-level in
-    let p = err_from_is_err_and c.from_residual-in_err-push.result c.from_residual-in_err-push.ensures.1 in
-    rw (p.1, p.2) (λ e. absurd (cc), λ h. absurd (omega (arith, h, long, level, c.if-level-gt-DEEPEST_CONTROL.false)))
+returns-in_err-push-clause-deep c = grind (arith, long, level, err_from_is_err_and)
 
 pub add-requires-clause-free : goal.add-requires-clause-free
-add-requires-clause-free c =
-    let kv : c.insert_reserved.result ≡ c.in_ok-key.key = c.insert_reserved.ensures.key ∙ sym c.in_ok-key.ensures.key in
-    let old : get c.self.inside.nodes c.in_ok-key.key ≡ None = ap (get c.self.inside.nodes) (sym kv) ∙ sym (ap (λ (s : Slab Node). get s c.insert_reserved.result) c.in_ok-key.ensures.nodes) ∙ c.insert_reserved.ensures.was_vacant in
-    c.in_ok-key.ensures.children c.in_ok-key.key ∙ c.self.invariant.listed.owners c.in_ok-key.key ∙ made.no_child c.self.inside.nodes c.in_ok-key.key old
+add-requires-clause-free c = grind (arith, made.no_child)
 
 pub invariant_of-self-2 : goal.invariant_of-self-2
 invariant_of-self-2 c =
@@ -134,10 +108,7 @@ returns-clause-others c k d =
     views.home_at-is c.insert_reserved.new.self c.push.new.self k ∙ made.home-others m k d ∙ sym (views.home_at-is c.self.inside.nodes c.self.inside.ids k) ∙ ap (λ (v : Charges). home_at v k) c.self.view_is
 
 pub returns-clause-deep : goal.returns-clause-deep
-returns-clause-deep c =
-    let long = long (goal.at.returns-clause-deep c).After-node_at-level in
-    let level = level (goal.at.returns-clause-deep c).After-node_at-level in
-    (λ e. absurd (cc), λ h. absurd (omega (arith, h, long, level, c.if-level-gt-DEEPEST_CONTROL.false)))
+returns-clause-deep c = grind (arith, long, level)
 
 pub returns-clause-tasks : goal.returns-clause-tasks
 returns-clause-tasks c =

@@ -1,5 +1,5 @@
 -- The group goes from the list; its node goes too where it is empty, and stays for its zombies, whose home is then the nearest group above that stands
-use Rattle.std.proofs.Common.{◌≡◌, ℕ, not, true, false, Bool, Some, None, Option, is_some, if◌then◌else◌, option_and_then, map, set, refl, sym, ap, subst, ◌∙◌, arith}
+use Rattle.std.proofs.Common.{◌≡◌, ℕ, not, true, false, Some, None, Option, option_and_then, map, set, refl, sym, ap, subst, ◌∙◌, arith}
 use Rattle.std.specs.Prelude.{filter, ◌==◌}
 use Rattle.std.proofs.lemmas.List.{length-set}
 use Rattle.pid_types.specs.declared.plain.Control.{Control}
@@ -20,16 +20,7 @@ use Rattle.pids_charge.proofs.Controls.remove.Goals.{After-set_node}
 
 -- the removal
 removes : (c : After-set_node) → Removes c.self.inside.nodes c.set_node.new.nodes c.args.c (removed.some_of c.node_at-node.result.parent (c.is_none.ensures ∙ ap not c.if-is_none.false)).0 c.node_at-node.result
-removes c =
-    let s = views.stand_in c.self.inside.nodes c.self.inside.ids c.args.self.now c.self.view_is c.args.c c.requires in
-    record {
-      found = c.node_at-node.ensures;
-      up = removed.stands_is_field c.self.inside.nodes c.args.c c.node_at-node.result c.node_at-node.ensures s;
-      parent = (removed.some_of c.node_at-node.result.parent (c.is_none.ensures ∙ ap not c.if-is_none.false)).1;
-      is = c.set_node.ensures;
-      tree = c.self.invariant.tree;
-      childless = removed.childless_of (tree_of c.self.inside.nodes) c.self.inside.children c.self.inside.ids c.self.invariant.listed c.args.c c.first.result c.first.ensures (sym c.is_some.ensures ∙ c.if-is_some.false);
-    }
+removes c = grind (arith, views.stand_in, removed.stands_is_field, removed.some_of, removed.childless_of)
 
 pub node_at-node-requires : goal.node_at-node-requires
 node_at-node-requires c = views.there c.self.inside.nodes c.args.c (views.stand_in c.self.inside.nodes c.self.inside.ids c.args.self.now c.self.view_is c.args.c c.requires)
@@ -53,10 +44,7 @@ returns-then-is_some-clause-refusal c =
     (sym (ap (λ (v : Charges). is_busy v c.args.c) c.self.view_is) ∙ removed.busy-child c.self.inside.nodes c.self.inside.children c.self.inside.ids c.self.invariant.tree c.self.invariant.listed c.args.c (views.stand_in c.self.inside.nodes c.self.inside.ids c.args.self.now c.self.view_is c.args.c c.requires) k.0 k.1))
 
 pub remove-requires-2-clause-owned : goal.remove-requires-2-clause-owned
-remove-requires-2-clause-owned c =
-    let s = views.stand_in c.self.inside.nodes c.self.inside.ids c.args.self.now c.self.view_is c.args.c c.requires in
-    let up : is_some ((tree_of c.self.inside.nodes).up c.args.c) ≡ true = ap is_some (climbs.up-is c.self.inside.nodes c.args.c c.node_at-node.result c.node_at-node.ensures) ∙ c.is_none.ensures ∙ ap not c.if-is_none.false in
-    ap is_some (c.self.invariant.listed.owners c.args.c ∙ ap (λ (b : Bool). if b then (tree_of c.self.inside.nodes).up c.args.c else None) s) ∙ up
+remove-requires-2-clause-owned c = grind (arith, views.stand_in, climbs.up-is)
 
 pub drop_empty-requires-clause-tree : goal.drop_empty-requires-clause-tree
 drop_empty-requires-clause-tree c =

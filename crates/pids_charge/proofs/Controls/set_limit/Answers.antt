@@ -24,9 +24,7 @@ returns-then-is_too_high-clause-refusal c =
     sym (limited.limit_refusal-is c.args.self.now c.args.c c.args.limit true true (some ∙ c.is_none.ensures ∙ ap not c.if-is_none.false) (sym c.is_too_high.ensures ∙ c.if-is_too_high.true))
 
 pub index_mut-requires : goal.index_mut-requires
-index_mut-requires c =
-    let room = (c.self.invariant.linked c.args.c (views.there c.self.inside.nodes c.args.c (views.stand_in c.self.inside.nodes c.self.inside.ids c.args.self.now c.self.view_is c.args.c c.requires))).room in
-    omega (arith, room)
+index_mut-requires c = grind (arith, views.there, views.stand_in)
 
 pub invariant_of-self : goal.invariant_of-self
 invariant_of-self c = limited.IsKept-limited c.self.inside.nodes c.set_node.new.nodes c.args.c c.node_at-node.result c.args.limit c.node_at-node.ensures c.set_node.ensures c.self.inside.counters.items c.self.inside.children c.self.inside.ids c.self.invariant c.index_mut.result.now (get_or_read c.self.inside.counters.items c.args.c c.index_mut.result.now (c.self.invariant.linked c.args.c (views.there c.self.inside.nodes c.args.c (views.stand_in c.self.inside.nodes c.self.inside.ids c.args.self.now c.self.view_is c.args.c c.requires))).room c.index_mut.ensures.value (record { total = 0; limit = None; parent = None }))

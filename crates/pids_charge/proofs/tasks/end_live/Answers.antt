@@ -14,9 +14,7 @@ writes : (c : After-set_node) → Writes c.args.nodes.now c.set_node.new.nodes c
 writes c = record { found = c.node_at-node.ensures; shape = refl; is = c.set_node.ensures }
 
 pub overflow_add-zombies : goal.overflow_add-zombies
-overflow_add-zombies c =
-    let own = views.field-is (λ (n : Node). n.live) 0 c.args.nodes.now c.args.home c.node_at-node.result c.node_at-node.ensures in
-    omega (arith, own, c.requires.some, c.requires.counted.few, written.own_all c.args.nodes.now c.args.home c.node_at-node.result c.node_at-node.ensures)
+overflow_add-zombies c = grind (arith, views.field-is, written.own_all)
 
 pub returns-clause-changes : goal.returns-clause-changes
 returns-clause-changes c = written.changes (writes (goal.at.returns-clause-changes c).After-set_node) refl (λ (n : Node). record n { live = n.live - 1; zombies = n.zombies + 1 }) refl

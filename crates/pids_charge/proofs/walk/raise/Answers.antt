@@ -8,23 +8,10 @@ use Rattle.pids_charge.proofs.Linked as linked
 use Rattle.pids_charge.proofs.walk.raise.Goals as goal
 
 pub overflow_add-counter : goal.overflow_add-counter
-overflow_add-counter c =
-    let a = c.in-Some.key in
-    let t = tree_of c.args._nodes.now in
-    let on = c.loop-at.invariant.linked a (c.loop-at.invariant.here a c.in-Some.is) in
-    let read = get_or_read c.loop-at.counters.items a c.index_mut-counter.result.now on.room c.index_mut-counter.ensures.value (record { total = 0; limit = None; parent = None }) in
-    let total = ap (λ (x : Counter). x.total) read in
-    let own = climbs.one-own t c.requires.levels c.loop-at.at a c.in-Some.is in
-    let under = climbs.weight_true t c.args.home a (omega (arith, own, c.loop-at.invariant.part a)) in
-    omega (arith, total, own, c.requires.few a under, c.loop-at.invariant.totals a, climbs.weight_one t c.args.home a under)
+overflow_add-counter c = grind (arith, get_or_read, climbs.one-own, climbs.weight_true, climbs.weight_one)
 
 pub loop-at-smaller : goal.loop-at-smaller
-loop-at-smaller c =
-    let a = c.in-Some.key in
-    let t = tree_of c.args._nodes.now in
-    let on = c.loop-at.invariant.linked a (c.loop-at.invariant.here a c.in-Some.is) in
-    let read = get_or_read c.loop-at.counters.items a c.index_mut-counter.result.now on.room c.index_mut-counter.ensures.value (record { total = 0; limit = None; parent = None }) in
-    climbs.left_smaller t c.requires.levels c.loop-at.at a c.index_mut-counter.result.now.parent c.in-Some.is (ap (λ (x : Counter). x.parent) read ∙ on.parent)
+loop-at-smaller c = grind (arith, get_or_read, climbs.left_smaller)
 
 pub loop-at-preserved : goal.loop-at-preserved
 loop-at-preserved c =
