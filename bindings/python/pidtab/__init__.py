@@ -12,6 +12,7 @@ from pidtab.calls import Calls, Kind, Queries
 from pidtab.etcd_log import EtcdLog
 from pidtab.faults import (
     BadHistory,
+    BadText,
     Diverged,
     LibraryFault,
     LibraryMissing,
@@ -47,6 +48,7 @@ __all__ = [
     "Ask",
     "BadHistory",
     "BadList",
+    "BadText",
     "Calls",
     "Control",
     "Counts",

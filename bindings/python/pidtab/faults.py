@@ -29,6 +29,13 @@ class BadHistory(ValueError):
     place: int = 0
 
 
+class BadText(ValueError):
+    """A text that is that of no table. `why` says what is wrong with the line, which counts from 1."""
+
+    line: int = 0
+    why: str = ""
+
+
 class NotKnown(RuntimeError):
     """Whether calls on many hosts were made is not known: the log did not answer within the patience, or the replica was closed or stopped.
 
@@ -125,6 +132,21 @@ WORDS = (
 
 # Behind these words stands the id of the namespace, or the control group, that refuses.
 WORDS_WITH_ID = ("no-number", "pids-limit")
+
+
+# What a text is that of no table for, by the numbers of the faults from 1 on.
+TEXT_FAULTS = (
+    "bad line", "wrong digest", "bad settings", "out of order", "unknown parent", "unknown namespace", "unknown control group", "bad name",
+    "number in use twice", "namespace without an init", "no number left", "impossible line",
+)  # fmt: skip
+
+
+def bad_text(line: int, kind: int) -> BadText:
+    """The fault of a text."""
+    why = TEXT_FAULTS[kind - 1]
+    fault = BadText(f"line {line}: {why}")
+    fault.line, fault.why = line, why
+    return fault
 
 
 def shorten(text: str) -> str:

@@ -9,7 +9,16 @@ from typing import TypeVar
 
 from pidtab.faults import LibraryFault, LibraryMissing
 from pidtab.places import HERE, PREFIX, REPOSITORY
-from pidtab.raw import FUNCTIONS, LATER_FUNCTIONS, SAVED_FUNCTIONS, SHARED_FUNCTIONS, VERSION, VERSION_FUNCTION, Function
+from pidtab.raw import (
+    FUNCTIONS,
+    LATER_FUNCTIONS,
+    LATER_SHARED_FUNCTIONS,
+    SAVED_FUNCTIONS,
+    SHARED_FUNCTIONS,
+    VERSION,
+    VERSION_FUNCTION,
+    Function,
+)
 
 # Interfaces that would not fit together have other names.
 SONAME = "libpidtab.so.1"
@@ -46,14 +55,16 @@ def load_library(path: str) -> ctypes.PyDLL:
     if not has_lock():
         raise LibraryFault("an interpreter without its lock would let two threads into one table: pidtab.Shared has a lock of its own")
     library = load(ctypes.PyDLL, path, FUNCTIONS)
-    declare_functions(library, {name: it for name, it in LATER_FUNCTIONS.items() if hasattr(library, name)}, path)
+    declare_those_there(library, LATER_FUNCTIONS, path)
     return library
 
 
 @functools.cache
 def load_shared(path: str) -> ctypes.CDLL:
     """The functions on a table behind a lock. A CDLL gives the interpreter's lock up for each call, so a wait for the other holds nobody up."""
-    return load(ctypes.CDLL, path, VERSION_FUNCTION | SHARED_FUNCTIONS | SAVED_FUNCTIONS)
+    library = load(ctypes.CDLL, path, VERSION_FUNCTION | SHARED_FUNCTIONS | SAVED_FUNCTIONS)
+    declare_those_there(library, LATER_SHARED_FUNCTIONS, path)
+    return library
 
 
 def load(kind: type[L], path: str, functions: Mapping[str, Function]) -> L:
@@ -76,6 +87,18 @@ def declare_functions(library: ctypes.CDLL, functions: Mapping[str, Function], p
         if function is None:
             raise LibraryFault(lacks(path, name))
         function.restype, function.argtypes = answered, taken
+
+
+def declare_those_there(library: ctypes.CDLL, functions: Mapping[str, Function], path: str) -> None:
+    """The same of those that an earlier library may lack."""
+    declare_functions(library, {name: it for name, it in functions.items() if hasattr(library, name)}, path)
+
+
+def call_later(library: ctypes.CDLL, path: str, name: str, *arguments: object) -> int:
+    """What a function answers that an earlier library may lack."""
+    if not hasattr(library, name):
+        raise LibraryFault(lacks(path, name))
+    return int(getattr(library, name)(*arguments))
 
 
 def lacks(path: str, name: str) -> str:

@@ -9,9 +9,10 @@ from typing import TYPE_CHECKING, NoReturn, Protocol, SupportsIndex, TypeVar
 from pidtab.answers import Form, Stat, tell_stat
 from pidtab.bounds import check_range
 from pidtab.calls import Call, Calls, Queries
-from pidtab.faults import LibraryFault, TableClosed, read_fault, refusal_of, say_why
+from pidtab.faults import LibraryFault, TableClosed, bad_text, read_fault, refusal_of, say_why
 from pidtab.raw import (
     BAD_LINE,
+    BAD_TEXT,
     CALL_FIELDS,
     CLOSED,
     DONE,
@@ -22,12 +23,13 @@ from pidtab.raw import (
     SPENT,
     Answer,
     PidtabCall,
+    PidtabFault,
     PidtabReply,
     PidtabTask,
 )
 
-# The room for a first try of a list.
-SHORT_LIST = 4096
+# The room for a first try of a list or a text.
+SHORT_TEXT = 4096
 
 GREATEST_PID = 2**32 - 1
 
@@ -66,17 +68,40 @@ def unpack(packed: PidtabCall) -> Call:
     return Call._make(CALL_FIELDS.unpack(packed))
 
 
-def read_list_text(write: Callable[["ctypes.Array[ctypes.c_char]", ctypes.c_size_t], int]) -> str:
-    """The list that is written into a room, whose function answers a status, and its size too where the room is short."""
-    size = ctypes.c_size_t(SHORT_LIST)
+def read_written(write: Callable[["ctypes.Array[ctypes.c_char]", ctypes.c_size_t], int], what: str) -> str:
+    """The text that is written into a room, whose function answers a status, and its size too where the room is short."""
+    size = ctypes.c_size_t(SHORT_TEXT)
     while True:
-        # Until the next try, other threads may make the list longer.
+        # Until the next try, other threads may make the text longer.
         room = ctypes.create_string_buffer(size.value + size.value // 8)
         status = write(room, size)
         if status == DONE:
             return ctypes.string_at(room, size.value).decode("ascii")
         if status != NO_ROOM:
-            raise fault_of(status, "list")
+            raise fault_of(status, what)
+
+
+def text_bytes(text: str | bytes | bytearray | memoryview) -> bytes:
+    """The bytes of a text, of whatever kind they are."""
+    if isinstance(text, str):
+        return text.encode("utf-8", "surrogatepass")
+    if not isinstance(text, (bytes, bytearray, memoryview)):
+        raise TypeError(f"the text of a table is a str or bytes, not {type(text).__name__}")
+    return bytes(text)
+
+
+def check_loaded(status: int, fault: PidtabFault) -> None:
+    """Raises what says why no table was loaded."""
+    if status == BAD_TEXT:
+        raise bad_text(fault.line, fault.kind)
+    if status != DONE:
+        raise fault_of(status, "load")
+
+
+def head_of(text: bytes) -> tuple[int, int]:
+    """`pid_max` and the stamp of the next call, of a text that was loaded: `pidtab table 1 pid-max N stamp S`."""
+    words = text.partition(b"\n")[0].split()
+    return int(words[4]), int(words[6])
 
 
 def make_call(call: Call, form: Form[T], make: Callable[[PidtabCall, PidtabReply], int]) -> T:
@@ -133,7 +158,7 @@ class NumberCalls(Calls):
 
     def _list_text(self) -> str:
         self._check_owner()
-        return read_list_text(self._list)
+        return read_written(self._list, "list")
 
 
 class Asked(Protocol):

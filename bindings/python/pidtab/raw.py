@@ -14,6 +14,7 @@ NO_ROOM = 34
 EMPTY_LINE = 61
 BAD_LINE = 71
 SPENT = 75
+BAD_TEXT = 117
 
 # Of a history besides.
 NOT_KEPT = 2
@@ -123,6 +124,15 @@ class PidtabTask(ctypes.Structure):
     ]
 
 
+class PidtabFault(ctypes.Structure):
+    """Why a text is that of no table."""
+
+    line: int
+    kind: int
+
+    _fields_ = [("line", ctypes.c_uint64), ("kind", ctypes.c_uint32)]
+
+
 class PidtabEntry(ctypes.Structure):
     """A recorded call: whose it was, the call and its reply."""
 
@@ -184,6 +194,7 @@ SAVED_HEAD = ctypes.POINTER(PidtabSavedHead)
 CALL = ctypes.POINTER(PidtabCall)
 REPLY = ctypes.POINTER(PidtabReply)
 TASK = ctypes.POINTER(PidtabTask)
+FAULT = ctypes.POINTER(PidtabFault)
 ENTRIES = ctypes.POINTER(PidtabEntry)
 BYTES = ctypes.POINTER(ctypes.c_char)
 NUMBER_32 = ctypes.POINTER(U32)
@@ -206,7 +217,12 @@ FUNCTIONS: dict[str, Function] = {
 }
 
 # Those that an earlier library may lack.
-LATER_FUNCTIONS: dict[str, Function] = {"pidtab_ask": (U32, [TABLE, CALL, REPLY]), "pidtab_stat": (U32, [TABLE, U32, U32, TASK])}
+LATER_FUNCTIONS: dict[str, Function] = {
+    "pidtab_ask": (U32, [TABLE, CALL, REPLY]),
+    "pidtab_stat": (U32, [TABLE, U32, U32, TASK]),
+    "pidtab_dump": (U32, [TABLE, BYTES, SIZE_T, SIZE]),
+    "pidtab_load": (U32, [TABLE, ctypes.c_char_p, SIZE_T, FAULT]),
+}
 
 # Those on a table behind a lock.
 SHARED_FUNCTIONS: dict[str, Function] = {
@@ -224,6 +240,12 @@ SHARED_FUNCTIONS: dict[str, Function] = {
     "pidtab_shared_checkpoint": (U32, [SHARED]),
     "pidtab_shared_checkpoint_at": (U32, [SHARED, U64]),
     "pidtab_shared_list": (U32, [SHARED, BYTES, SIZE_T, SIZE]),
+}
+
+# Those of these that an earlier library may lack.
+LATER_SHARED_FUNCTIONS: dict[str, Function] = {
+    "pidtab_shared_dump": (U32, [SHARED, BYTES, SIZE_T, SIZE]),
+    "pidtab_shared_load": (U32, [SHARED, ctypes.c_char_p, SIZE_T, NUMBER_64, SIZE_T, U64, FAULT]),
 }
 
 # Those on the file of its saved history.

@@ -10,10 +10,23 @@ from pidtab.bounds import DEFAULT_PID_MAX, check_pid_max, check_range
 from pidtab.calls import Listed
 from pidtab.faults import NotKept, SeatsTaken, TableClosed
 from pidtab.history import Counts, Entry, read_entry
-from pidtab.library import find_library, load_shared
-from pidtab.native import Ask, NumberCalls, fault_of, read_list_text
+from pidtab.library import call_later, find_library, load_shared
+from pidtab.native import Ask, NumberCalls, check_loaded, fault_of, head_of, read_written, text_bytes
 from pidtab.owner import TABLES, Owner
-from pidtab.raw import AGAIN, DONE, MOST_WORKERS, NOT_KEPT, PidtabCall, PidtabEntry, PidtabReply, PidtabSavedHead, PidtabShared, PidtabTask
+from pidtab.raw import (
+    AGAIN,
+    DONE,
+    MOST_WORKERS,
+    NOT_KEPT,
+    OUT_OF_RANGE,
+    PidtabCall,
+    PidtabEntry,
+    PidtabFault,
+    PidtabReply,
+    PidtabSavedHead,
+    PidtabShared,
+    PidtabTask,
+)
 from pidtab.saved import FilePath, Saved, SavedFile
 
 GREATEST_NUMBER = 2**64 - 1
@@ -131,6 +144,8 @@ class Shared(Listed, Owner):
     _hold: Hold | None = None
     # None where it was neither loaded nor saved.
     _file: SavedFile | None = None
+    # Whether it was made of the text of another table, so that its history does not begin with the root init.
+    _goes_on = False
 
     def __init__(
         self,
@@ -204,6 +219,39 @@ class Shared(Listed, Owner):
         shared._begin(hold)
         return shared
 
+    @classmethod
+    def from_dump(
+        cls,
+        text: str | bytes | bytearray | memoryview,
+        workers: int = 4,
+        *,
+        recorded: Sequence[int] | None = None,
+        keep: int = 0,
+        library: str | os.PathLike[str] | None = None,
+    ) -> "Shared":
+        """A table as a text of `dump` says, with a history that begins there: each later call has the answer, and the stamp, that it would have had.
+
+        Any text may be given. One that is that of no table is a `BadText`. Ordinals begin at 0, or where `recorded` says how many calls of each
+        worker were recorded before, at their sum, and the workers are as many as these numbers. Such a history is in no file: see `save`.
+        """
+        written = text_bytes(text)
+        before = [0] * check_range("workers", workers, 1, MOST_WORKERS) if recorded is None else check_counts(recorded)
+        shared = cls.__new__(cls)
+        shared.workers, shared._goes_on = len(before), True
+        shared.keep = check_range("keep", keep, 0, GREATEST_NUMBER)
+        shared.library = find_library(library)
+        functions = load_shared(shared.library)
+        counts, fault = (ctypes.c_uint64 * len(before))(*before), PidtabFault()
+        arguments = written, len(written), counts, len(before), shared.keep, fault
+        hold = Hold(functions, lambda at: call_later(functions, shared.library, "pidtab_shared_load", at, *arguments))
+        if hold.status == OUT_OF_RANGE:
+            raise ValueError(f"recorded: {sum(before)} calls are as many as the stamp of the text, or more")
+        check_loaded(hold.status, fault)
+        shared.pid_max, stamp = head_of(written)
+        shared.first_stamp = stamp - sum(before)
+        shared._begin(hold)
+        return shared
+
     def _begin(self, hold: Hold) -> None:
         """Has the table."""
         # One thread at a time is at the file. A handler of a signal may come between two steps of a save, and save too.
@@ -215,6 +263,14 @@ class Shared(Listed, Owner):
         """Frees the table with its history. A second time nothing is done. Calls that other threads are in are made before."""
         self._hold = self._file = None
 
+    def dump(self) -> str:
+        """All that there is to know of the table as it is now, as text (docs/SCRIPT.md). It has no history, and no workers.
+
+        One table has one text, on every machine. It costs a copy of the table, while all threads wait.
+        """
+        hold = self._check_open()
+        return read_written(lambda room, size: call_later(hold.functions, self.library, "pidtab_shared_dump", hold.at, room, len(room), size), "dump")
+
     @property
     def saved(self) -> Saved | None:
         """What the table's file has, by the last `save` or as it was loaded; None where there is none."""
@@ -225,7 +281,8 @@ class Shared(Listed, Owner):
         """Writes the calls that the file does not have yet, and tells what it has then. Other threads may make calls meanwhile.
 
         The file of the table is the one that it was loaded from or saved to last; a torn end is cut off it. Another is begun, if it is not there
-        or empty, and is the table's from then on; else it is a FileExistsError. `NotKept` is raised where the next call to be saved was cut away.
+        or empty, and is the table's from then on; else it is a FileExistsError. `NotKept` is raised where the next call to be saved was cut away, and
+        of a table that was made by `from_dump`: a file has all calls from the first on.
         With `sync` the machine may crash: that is fsync(2).
 
         A device that fails is an OSError. Behind it, and behind an interrupt, the next save goes on with the same byte.
@@ -243,6 +300,8 @@ class Shared(Listed, Owner):
         """The file at the path, which has a head."""
         before = file = self._file
         if file is None or not file.is_at(path):
+            if self._goes_on:
+                raise NotKept(f"the table was made of the text of another one, whose calls it does not have to save to {path}")
             if self.counts().first_kept != 0:
                 raise NotKept(f"call 0 is not kept: it was cut away before it was saved to {path}")
             file = self._file = SavedFile(functions, path, os.O_RDWR | os.O_CREAT)
@@ -342,7 +401,7 @@ class Shared(Listed, Owner):
         return self._status("pidtab_shared_list", room, len(room), size)
 
     def _list_text(self) -> str:
-        return read_list_text(self._list)
+        return read_written(self._list, "list")
 
     def _first_block(self, start: int | None) -> Sequence[Entry]:
         """The first block from the start on, or from the first kept entry, which may be cut away before it is read."""
@@ -366,6 +425,15 @@ class Shared(Listed, Owner):
             following = block[-1].ordinal + 1
             # Behind the end nothing is read, as it may be cut away by now.
             block = self._read(following) if following < end else ()
+
+
+def check_counts(recorded: Sequence[int]) -> list[int]:
+    """How many calls of each worker were recorded, for 1 to 16 workers."""
+    if isinstance(recorded, (str, bytes, bytearray)):
+        raise TypeError(f"recorded is a number for each worker, not {type(recorded).__name__}")
+    counts = [check_range("recorded", count, 0, GREATEST_NUMBER) for count in recorded]
+    check_range("the numbers of `recorded`", len(counts), 1, MOST_WORKERS)
+    return counts
 
 
 def check(status: int, what: str) -> None:

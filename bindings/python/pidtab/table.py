@@ -4,10 +4,9 @@ import ctypes
 import os
 
 from pidtab.bounds import DEFAULT_PID_MAX, check_pid_max
-from pidtab.faults import LibraryFault
-from pidtab.library import find_library, lacks, load_library
-from pidtab.native import Ask, NumberCalls, fault_of
-from pidtab.raw import DONE, Pidtab, PidtabCall, PidtabReply, PidtabTask
+from pidtab.library import call_later, find_library, load_library
+from pidtab.native import Ask, NumberCalls, check_loaded, fault_of, head_of, read_written, text_bytes
+from pidtab.raw import DONE, Pidtab, PidtabCall, PidtabFault, PidtabReply, PidtabTask
 
 
 class Table(NumberCalls):
@@ -25,6 +24,31 @@ class Table(NumberCalls):
         if status != DONE:
             raise fault_of(status, "open")
         self._keep(self._functions.pidtab_close, self._table)
+
+    @classmethod
+    def from_dump(cls, text: str | bytes | bytearray | memoryview, library: str | os.PathLike[str] | None = None) -> "Table":
+        """A table as a text of `dump` says: each later call has the answer that it would have had there.
+
+        Any text may be given. One that is that of no table is a `BadText`, which has the line and what is wrong with it.
+        """
+        written = text_bytes(text)
+        table = cls.__new__(cls)
+        table.library = find_library(library)
+        table._functions = load_library(table.library)
+        table._table, fault = Pidtab(), PidtabFault()
+        # Before it is open, so that no interrupt loses it.
+        table._keep(table._functions.pidtab_close, table._table)
+        check_loaded(table._later("pidtab_load", written, len(written), fault), fault)
+        table.pid_max = head_of(written)[0]
+        return table
+
+    def dump(self) -> str:
+        """All that there is to know of the table, as text (docs/SCRIPT.md), of which `from_dump` makes the table again.
+
+        One table has one text, on every machine. It costs a copy of the table.
+        """
+        self._check_owner()
+        return read_written(lambda room, size: self._later("pidtab_dump", room, len(room), size), "dump")
 
     def close(self) -> None:
         """Frees the table. A second time nothing is done."""
@@ -44,9 +68,7 @@ class Table(NumberCalls):
 
     def _later(self, name: str, *arguments: object) -> int:
         """What a function answers that an earlier library may lack."""
-        if not hasattr(self._functions, name):
-            raise LibraryFault(lacks(self.library, name))
-        return int(getattr(self._functions, name)(self._table, *arguments))
+        return call_later(self._functions, self.library, name, self._table, *arguments)
 
     def _call(self, call: PidtabCall, reply: PidtabReply) -> int:
         return int(self._functions.pidtab_call(self._table, call, reply))

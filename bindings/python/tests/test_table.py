@@ -18,7 +18,7 @@ from unittest import mock
 
 from pidtab import Calls, LibraryFault, LibraryMissing, Process, Table, TableClosed, find_library, raw
 from pidtab.calls import KINDS
-from pidtab.faults import WORDS
+from pidtab.faults import TEXT_FAULTS, WORDS
 from pidtab.language import FORMS
 from pidtab.library import load_library
 from tests.pages import REPOSITORY, quoted, read_page, rows, section
@@ -37,8 +37,9 @@ TYPES: dict[str, Any] = {
 
 # What is passed for them: for bytes that are read, and that are written, and for the address of what else.
 PASSED: dict[str, type] = {
-    "const void *line": ctypes.c_char_p, "void *": raw.BYTES, "struct pidtab *": raw.TABLE, "struct pidtab_shared *": raw.SHARED,
-    "struct pidtab_call *": raw.CALL, "struct pidtab_reply *": raw.REPLY, "struct pidtab_task *": raw.TASK, "struct pidtab_entry *": raw.ENTRIES, "size_t *": raw.SIZE,
+    "const void *line": ctypes.c_char_p, "const void *text": ctypes.c_char_p, "void *": raw.BYTES, "struct pidtab *": raw.TABLE, "struct pidtab_shared *": raw.SHARED,
+    "struct pidtab_call *": raw.CALL, "struct pidtab_reply *": raw.REPLY, "struct pidtab_task *": raw.TASK, "struct pidtab_fault *": raw.FAULT,
+    "struct pidtab_entry *": raw.ENTRIES, "size_t *": raw.SIZE,
     "struct pidtab_saved *": raw.SAVED, "struct pidtab_saved_head *": raw.SAVED_HEAD, "int ": ctypes.c_int,
     "uint32_t *": raw.NUMBER_32, "uint64_t *": raw.NUMBER_64, "size_t ": raw.SIZE_T, "uint32_t ": raw.U32, "uint64_t ": raw.U64,
 }  # fmt: skip
@@ -82,7 +83,7 @@ class Header(unittest.TestCase):
 
     def test_the_enums(self) -> None:
         enums = [read_enum(name) for name in ("status", "record_status", "saved_status", "operation", "which", "use", "kind")]
-        self.assertEqual([len(enum) for enum in enums], [9, 3, 6, 19, 4, 3, 10])
+        self.assertEqual([len(enum) for enum in enums], [10, 3, 6, 19, 4, 3, 10])
         for word, number in [entry for enum in enums for entry in enum.items()]:
             self.assertEqual(getattr(raw, word), number, word)
 
@@ -96,7 +97,7 @@ class Header(unittest.TestCase):
 
     def test_the_structs(self) -> None:
         tables = (("pidtab", raw.Pidtab), ("pidtab_call", raw.PidtabCall), ("pidtab_reply", raw.PidtabReply), ("pidtab_entry", raw.PidtabEntry))
-        for name, known in (*tables, ("pidtab_task", raw.PidtabTask), ("pidtab_saved_head", raw.PidtabSavedHead), ("pidtab_saved", raw.PidtabSaved)):
+        for name, known in (*tables, ("pidtab_task", raw.PidtabTask), ("pidtab_fault", raw.PidtabFault), ("pidtab_saved_head", raw.PidtabSavedHead), ("pidtab_saved", raw.PidtabSaved)):
             fields = re.findall(r"(void \*|struct \w+|\w+) ?(\w+)(\[PIDTAB_LEVELS_MAX\])?;", body(f"struct {name}"))
             wanted = [(name, TYPES[kind] * raw.LEVELS_MAX if many else TYPES[kind]) for kind, name, many in fields]
             self.assertEqual(list(known._fields_), wanted)
@@ -126,7 +127,7 @@ class Header(unittest.TestCase):
         left_out |= {f"pidtab_saved_{it}" for it in ("sum", "put", "put_head", "take", "take_head", "append", "load", "resume")}
         text = header() + header("pidtab_shared.h") + header("pidtab_saved.h")
         declared = dict(re.findall(r"(?<!inline )(?:uint32_t |uint64_t |void |\*)(pidtab_(?!record_)\w+)\(([^)]*)\);", text))
-        known = {**raw.FUNCTIONS, **raw.LATER_FUNCTIONS, **raw.SHARED_FUNCTIONS, **raw.SAVED_FUNCTIONS}
+        known = {**raw.FUNCTIONS, **raw.LATER_FUNCTIONS, **raw.SHARED_FUNCTIONS, **raw.LATER_SHARED_FUNCTIONS, **raw.SAVED_FUNCTIONS}
         self.assertEqual(set(declared) - left_out, set(known))
         self.assertLessEqual(left_out, set(declared))
         for name, (_, arguments) in known.items():
@@ -136,6 +137,11 @@ class Header(unittest.TestCase):
         self.assertEqual(list(WORDS), REFUSALS)
         page = [quoted(row[0])[0].split(" ")[1] for row in rows(section(read_page("docs/SCRIPT.md"), "## Refusals"))]
         self.assertEqual(sorted(page), sorted(WORDS))
+
+
+    def test_the_words_of_faults_of_a_text(self) -> None:
+        (words,) = re.findall(r'"no fault", ((?:"[a-z ]+",? ?)+) }', header())
+        self.assertEqual(list(TEXT_FAULTS), re.findall(r'"([a-z ]+)"', words))
 
 
 class Libraries(unittest.TestCase):
