@@ -318,6 +318,134 @@ impl From<LineError> for io::Error {
     }
 }
 
+/// What is wrong with a text, or with its line: the text is that of no table. More may come.
+#[derive(Clone, Copy, Debug, PartialEq, Eq, Hash)]
+#[non_exhaustive]
+pub enum TextFault {
+    /// The line is none of those that the form has there.
+    BadLine,
+    /// The last line is not that of the text before it.
+    WrongDigest,
+    /// `pid_max` is out of its range, or some id is not below the stamp.
+    BadSettings,
+    /// The number or the id is not above that of the line before.
+    OutOfOrder,
+    /// No line has the task's parent, or the namespace around the namespace.
+    UnknownParent,
+    /// No line has the namespace.
+    UnknownNamespace,
+    /// No line has the control group.
+    UnknownControl,
+    /// A name has too few numbers, too many, or one out of range.
+    BadName,
+    /// Two names have one number.
+    TakenNumber,
+    /// No task is the init of a namespace that has not fallen.
+    NoInit,
+    /// No number is free for the init that a namespace once had.
+    NoNumber,
+    /// In no table is this line beside the others.
+    Impossible,
+}
+
+impl TextFault {
+    /// The fault with the number.
+    pub(crate) fn of(number: u32) -> TextFault {
+        match number {
+            1 => TextFault::BadLine,
+            2 => TextFault::WrongDigest,
+            3 => TextFault::BadSettings,
+            4 => TextFault::OutOfOrder,
+            5 => TextFault::UnknownParent,
+            6 => TextFault::UnknownNamespace,
+            7 => TextFault::UnknownControl,
+            8 => TextFault::BadName,
+            9 => TextFault::TakenNumber,
+            10 => TextFault::NoInit,
+            11 => TextFault::NoNumber,
+            12 => TextFault::Impossible,
+            _ => unreachable!("no fault of a text has the number {number}"),
+        }
+    }
+}
+
+impl fmt::Display for TextFault {
+    fn fmt(&self, to: &mut fmt::Formatter<'_>) -> fmt::Result {
+        to.write_str(match self {
+            TextFault::BadLine => "bad line",
+            TextFault::WrongDigest => "wrong digest",
+            TextFault::BadSettings => "bad settings",
+            TextFault::OutOfOrder => "out of order",
+            TextFault::UnknownParent => "unknown parent",
+            TextFault::UnknownNamespace => "unknown namespace",
+            TextFault::UnknownControl => "unknown control group",
+            TextFault::BadName => "bad name",
+            TextFault::TakenNumber => "number in use twice",
+            TextFault::NoInit => "namespace without an init",
+            TextFault::NoNumber => "no number left",
+            TextFault::Impossible => "impossible line",
+        })
+    }
+}
+
+/// Why no table is made of a text. More reasons may come.
+#[derive(Clone, Copy, Debug, PartialEq, Eq, Hash)]
+#[non_exhaustive]
+pub enum TextError {
+    /// The text is that of no table.
+    Bad {
+        /// The line at fault, from 1 on.
+        line: u64,
+        /// What is wrong with it.
+        fault: TextFault,
+    },
+    /// There are not 1 to 16 workers, or the calls before add up to the stamp of the text or more.
+    OutOfRange,
+    /// There was no memory for the table.
+    NoMemory,
+}
+
+impl TextError {
+    /// What a status says other than that it was done.
+    pub(crate) fn of(status: u32, fault: raw::Fault) -> TextError {
+        match status {
+            raw::BAD_TEXT => TextError::Bad {
+                line: fault.line,
+                fault: TextFault::of(fault.kind),
+            },
+            raw::OUT_OF_RANGE => TextError::OutOfRange,
+            raw::NO_MEMORY => TextError::NoMemory,
+            _ => unreachable!("the library answers the status {status}"),
+        }
+    }
+}
+
+impl fmt::Display for TextError {
+    fn fmt(&self, to: &mut fmt::Formatter<'_>) -> fmt::Result {
+        match self {
+            TextError::Bad { line, fault } => write!(to, "line {line}: {fault}"),
+            TextError::OutOfRange => to.write_str(
+                "out of range: workers (1 to 16), or calls before that add up to the stamp",
+            ),
+            TextError::NoMemory => to.write_str("no memory"),
+        }
+    }
+}
+
+impl std::error::Error for TextError {}
+
+impl From<TextError> for io::Error {
+    /// `InvalidData` for a bad text; the error itself is within.
+    fn from(error: TextError) -> io::Error {
+        let kind = match error {
+            TextError::Bad { .. } => io::ErrorKind::InvalidData,
+            TextError::OutOfRange => io::ErrorKind::InvalidInput,
+            TextError::NoMemory => io::ErrorKind::OutOfMemory,
+        };
+        io::Error::new(kind, error)
+    }
+}
+
 #[cfg(test)]
 mod tests {
     use super::*;

@@ -1,6 +1,6 @@
 //! That `raw.rs` is `bindings/c/pidtab.h`, and what it has of `pidtab_saved.h`: numbers, structs and functions.
 use crate::raw::*;
-use crate::Refusal;
+use crate::{Refusal, TextFault};
 use std::fs;
 
 /// `pidtab.h`.
@@ -55,6 +55,7 @@ fn the_numbers_are_those_of_the_header() {
             ("EMPTY_LINE", EMPTY_LINE),
             ("BAD_LINE", BAD_LINE),
             ("SPENT", SPENT),
+            ("BAD_TEXT", BAD_TEXT),
         ],
     );
     same_enum(
@@ -139,6 +140,17 @@ fn the_refusals_are_those_of_the_header() {
     assert_eq!(told, refusals.map(|it| it.1).collect::<Vec<_>>());
 }
 
+/// The words of the header, in the order of their numbers from 1 on.
+#[test]
+fn the_faults_of_a_text_are_those_of_the_header() {
+    let header = header();
+    let (_, behind) = header.split_once("\"no fault\", ").expect("the words");
+    let words = behind.split_once(" }").expect("a closing brace").0;
+    let told: Vec<_> = words.split(", ").map(|it| it.trim_matches('"')).collect();
+    let known: Vec<_> = (1..=12).map(|it| TextFault::of(it).to_string()).collect();
+    assert_eq!(told, known);
+}
+
 #[test]
 fn the_bounds_are_those_of_the_header() {
     let header = header();
@@ -177,6 +189,7 @@ fn the_structs_are_those_of_the_header() {
         "pidtab_reply",
         "uint32_t kind; uint32_t error; uint32_t refusal; uint32_t count; uint64_t first; uint64_t second; uint32_t levels[PIDTAB_LEVELS_MAX];",
     );
+    same_struct(&header, "pidtab_fault", "uint64_t line; uint32_t kind;");
     let entry = "uint64_t worker; struct pidtab_call call; struct pidtab_reply reply;";
     same_struct(&header, "pidtab_entry", entry);
 }
@@ -199,6 +212,11 @@ fn the_functions_are_those_of_the_header() {
             ", const void *line, size_t length, void *answer, size_t room, size_t *size",
         ),
         ("list", ", void *bytes, size_t room, size_t *size"),
+        ("dump", ", void *bytes, size_t room, size_t *size"),
+        (
+            "load",
+            ", const void *text, size_t length, struct pidtab_fault *fault",
+        ),
         (
             "call",
             ", const struct pidtab_call *call, struct pidtab_reply *reply",
@@ -230,6 +248,8 @@ fn the_functions_on_a_record_are_those_of_the_header() {
         ("checkpoint_at", ", uint64_t seen"),
         ("list", ", void *bytes, size_t room, size_t *size"),
         ("opening", ", void *bytes, size_t room, size_t *size"),
+        ("dump", ", void *bytes, size_t room, size_t *size"),
+        ("load", ", const void *text, size_t length, const uint64_t *counts, size_t workers, struct pidtab_fault *fault"),
     ] {
         let name = format!("record_{name}");
         same_function(&header, &name, "pidtab_record *record", others);

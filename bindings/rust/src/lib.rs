@@ -34,7 +34,7 @@ mod shared;
 mod texts;
 
 pub use calls::{Call, Calls, Kind, Reply, Which};
-pub use fault::{Error, LineError, Refusal, ReplayError};
+pub use fault::{Error, LineError, Refusal, ReplayError, TextError, TextFault};
 pub use listing::{BadList, Control, Listing, Space, Task};
 pub use saved::{Saved, SavedError, SavedFault};
 pub use shared::{Counts, Entry, Locked, Options, Record, Seat, Shared, Turn};
@@ -86,6 +86,21 @@ pub struct Reaped {
 /// use pidtab::SavedFault::*;
 /// fn all(it: pidtab::SavedFault) {
 ///     match it { Io(_) | Torn | NotSaved | OtherVersion | WrongByte | Settings | OtherTable | Table(_) => {} }
+/// }
+/// ```
+///
+/// ```compile_fail,E0004
+/// use pidtab::TextError::*;
+/// fn all(it: pidtab::TextError) { match it { Bad { .. } | OutOfRange | NoMemory => {} } }
+/// ```
+///
+/// ```compile_fail,E0004
+/// use pidtab::TextFault::*;
+/// fn all(it: pidtab::TextFault) {
+///     match it {
+///         BadLine | WrongDigest | BadSettings | OutOfOrder | UnknownParent | UnknownNamespace | UnknownControl | BadName => {}
+///         TakenNumber | NoInit | NoNumber | Impossible => {}
+///     }
 /// }
 /// ```
 ///
@@ -168,6 +183,45 @@ impl Table {
         Ok(Table { raw })
     }
 
+    /// A table as a text of [`Table::dump`] says: each later call has the answer that it would have had there. Any bytes may be given.
+    ///
+    /// ```
+    /// use pidtab::{Calls, Table, TextError, TextFault};
+    ///
+    /// let mut table = Table::open(32768)?;
+    /// table.fork(1, true)?;
+    /// let text = table.dump()?;
+    /// let mut again = Table::from_dump(&text)?;
+    /// assert_eq!(again.dump()?, text);
+    /// assert_eq!(again.fork(2, false)?, table.fork(2, false)?);
+    /// let (line, fault) = (1, TextFault::BadLine);
+    /// assert_eq!(Table::from_dump("fork 1").unwrap_err(), TextError::Bad { line, fault });
+    /// # Ok::<(), std::io::Error>(())
+    /// ```
+    ///
+    /// It costs some times what the forks cost that made the tasks.
+    ///
+    /// # Errors
+    /// `Bad` with the line, `NoMemory`.
+    ///
+    /// # Panics
+    /// As [`Table::open`].
+    pub fn from_dump(text: impl AsRef<[u8]>) -> Result<Table, TextError> {
+        let mut fault = raw::Fault::default();
+        let loaded = raw::Table::load(text.as_ref(), &mut fault);
+        let raw = loaded.map_err(|status| TextError::of(status, fault))?;
+        Ok(Table { raw })
+    }
+
+    /// All that there is to know of the table, as text: `docs/SCRIPT.md` has the form. One table has one text, on every machine. It costs a copy
+    /// of the whole table, and two where it is longer than 4,096 bytes.
+    ///
+    /// # Errors
+    /// `NoMemory`, `Busy`.
+    pub fn dump(&mut self) -> Result<String, Error> {
+        texts::whole(|room, size| self.raw.dump(room, size))
+    }
+
     /// Answers a query as its call would be answered, refusals too. It is no call: nothing changes, and it is not counted. It takes no memory.
     ///
     /// A query is a `Getpid`, `Getppid`, `Getpgid`, `Getsid`, `Nspid`, `Next` or `Count`.
@@ -193,7 +247,7 @@ impl Table {
     /// # Errors
     /// `NoMemory`, `Busy`.
     pub fn list(&mut self) -> Result<String, Error> {
-        texts::list(|room, size| self.raw.list(room, size))
+        texts::whole(|room, size| self.raw.list(room, size))
     }
 
     /// The same list, read: the tasks, the namespaces and the control groups.
@@ -234,6 +288,7 @@ mod tests {
         assert_eq!(table.ask(Call::Getpid { caller: 1 }), Err(Error::Busy));
         assert_eq!(table.line("getpid 1"), Err(LineError::Busy));
         assert_eq!(table.list(), Err(Error::Busy));
+        assert_eq!(table.dump(), Err(Error::Busy));
         table.raw.mark(false);
         assert_eq!(table.getpid(1), Ok(1));
     }

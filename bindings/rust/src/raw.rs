@@ -16,6 +16,7 @@ pub(crate) const NO_ROOM: u32 = 34;
 pub(crate) const EMPTY_LINE: u32 = 61;
 pub(crate) const BAD_LINE: u32 = 71;
 pub(crate) const SPENT: u32 = 75;
+pub(crate) const BAD_TEXT: u32 = 117;
 
 pub(crate) const NOT_KEPT: u32 = 2;
 pub(crate) const AGAIN: u32 = 11;
@@ -106,6 +107,14 @@ pub(crate) struct Call {
     pub(crate) pgid: i32,
 }
 
+/// Why a text is that of no table: a line, from 1 on, and a kind.
+#[repr(C)]
+#[derive(Clone, Copy, Debug, Default, PartialEq)]
+pub(crate) struct Fault {
+    pub(crate) line: u64,
+    pub(crate) kind: u32,
+}
+
 /// A reply as numbers.
 #[repr(C)]
 #[derive(Clone, Copy, Debug, PartialEq)]
@@ -194,9 +203,25 @@ extern "C" {
         size: *mut usize,
     ) -> u32;
     fn pidtab_list(table: *mut Held, bytes: *mut c_void, room: usize, size: *mut usize) -> u32;
+    fn pidtab_dump(table: *mut Held, bytes: *mut c_void, room: usize, size: *mut usize) -> u32;
+    fn pidtab_load(table: *mut Held, text: *const c_void, length: usize, fault: *mut Fault) -> u32;
     fn pidtab_call(table: *mut Held, call: *const Call, reply: *mut Reply) -> u32;
     fn pidtab_ask(table: *mut Held, call: *const Call, reply: *mut Reply) -> u32;
     fn pidtab_record_open(record: *mut Held, pid_max: u32, first_stamp: u64, workers: u32) -> u32;
+    fn pidtab_record_dump(
+        record: *mut Held,
+        bytes: *mut c_void,
+        room: usize,
+        size: *mut usize,
+    ) -> u32;
+    fn pidtab_record_load(
+        record: *mut Held,
+        text: *const c_void,
+        length: usize,
+        counts: *const u64,
+        workers: usize,
+        fault: *mut Fault,
+    ) -> u32;
     fn pidtab_record_close(record: *mut Held) -> u32;
     fn pidtab_record_call(
         record: *mut Held,
@@ -324,6 +349,22 @@ impl Table {
         done(status, Table { held })
     }
 
+    /// A table as the text says; where it is that of no table, the fault says why.
+    pub(crate) fn load(text: &[u8], fault: &mut Fault) -> Result<Table, u32> {
+        compare_versions();
+        let mut held = Held::none();
+        let (bytes, length) = (text.as_ptr().cast(), text.len());
+        // SAFETY: the pointer is to a struct of zeroes that is this call's alone; the text is a slice with this length.
+        let status = unsafe { pidtab_load(&mut *held, bytes, length, fault) };
+        done(status, Table { held })
+    }
+
+    pub(crate) fn dump(&mut self, text: &mut [u8], size: &mut usize) -> u32 {
+        let (room, most) = (text.as_mut_ptr().cast(), text.len());
+        // SAFETY: the table is open and lent to this call alone; the room is a slice with this length.
+        unsafe { pidtab_dump(&mut *self.held, room, most, size) }
+    }
+
     pub(crate) fn call(&mut self, call: &Call, reply: &mut Reply) -> u32 {
         // SAFETY: the table is open and lent to this call alone; no two of the three overlap.
         unsafe { pidtab_call(&mut *self.held, call, reply) }
@@ -377,6 +418,23 @@ impl Record {
         // SAFETY: the pointer is to a struct of zeroes that is this call's alone.
         let status = unsafe { pidtab_record_open(&mut *held, pid_max, first_stamp, workers) };
         done(status, Record { held })
+    }
+
+    /// A record that goes on as the text says, with so many calls of each worker before; where it is that of no table, the fault says why.
+    pub(crate) fn load(text: &[u8], counts: &[u64], fault: &mut Fault) -> Result<Record, u32> {
+        compare_versions();
+        let mut held = Held::none();
+        let (bytes, length) = (text.as_ptr().cast(), text.len());
+        let (at, workers) = (counts.as_ptr(), counts.len());
+        // SAFETY: the pointer is to a struct of zeroes that is this call's alone; the text and the counts are slices with these lengths.
+        let status = unsafe { pidtab_record_load(&mut *held, bytes, length, at, workers, fault) };
+        done(status, Record { held })
+    }
+
+    pub(crate) fn dump(&mut self, text: &mut [u8], size: &mut usize) -> u32 {
+        let (room, most) = (text.as_mut_ptr().cast(), text.len());
+        // SAFETY: the record is open and lent to this call alone; the room is a slice with this length.
+        unsafe { pidtab_record_dump(&mut *self.held, room, most, size) }
     }
 
     pub(crate) fn call(&mut self, worker: u32, call: &Call, reply: &mut Reply) -> Result<u64, u32> {

@@ -137,7 +137,8 @@ impl Shared {
     ///
     /// # Errors
     /// `Io`: behind it, the next save to the same writer goes on with the byte that is missing, so nothing is lost or doubled. Short and
-    /// interrupted writes are gone on with. `Table(NotKept)` where the next call to be saved was cut away. `OtherTable`; `Torn` where a load
+    /// interrupted writes are gone on with. `Table(NotKept)` where the next call to be saved was cut away, and of a
+    /// table that [`Shared::from_dump`] made. `OtherTable`; `Torn` where a load
     /// has left out a torn end that is not trimmed; `Table(Busy)`.
     pub fn save<W: Write>(&self, saved: &mut Saved, mut to: W) -> Result<(), SavedError> {
         let done = self.save_on(saved, &mut to);
@@ -170,6 +171,9 @@ impl Shared {
         }
         if saved.is_torn {
             return Err(SavedFault::Torn);
+        }
+        if self.goes_on {
+            return Err(Error::NotKept.into());
         }
         let counts = self.counts()?;
         if saved.calls < counts.first_kept {

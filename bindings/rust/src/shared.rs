@@ -3,7 +3,7 @@
 //! The lock is std's and not that of `pidtab_shared.h`. A pthread mutex that its own thread takes again has no defined behaviour, and Rust has
 //! no name for its size.
 use crate::calls::sealed::Sealed;
-use crate::{raw, texts, Call, Calls, Error, LineError, Listing, ReplayError, Reply};
+use crate::{raw, texts, Call, Calls, Error, LineError, Listing, ReplayError, Reply, TextError};
 use std::fmt;
 use std::ops::{Deref, DerefMut};
 use std::sync::atomic::{AtomicU32, AtomicU64, Ordering};
@@ -69,16 +69,12 @@ impl Options {
             raw: raw.map_err(Error::of)?,
             keep: self.keep,
         };
-        Ok(Shared {
-            record: Mutex::new(record),
-            head: raw::SavedHead {
-                pid_max: self.pid_max,
-                workers: self.workers,
-                first_stamp: self.first_stamp,
-            },
-            number: NEXT_NUMBER.fetch_add(1, Ordering::Relaxed),
-            seated: AtomicU32::new(0),
-        })
+        let head = raw::SavedHead {
+            pid_max: self.pid_max,
+            workers: self.workers,
+            first_stamp: self.first_stamp,
+        };
+        Ok(Shared::of(record, head, false))
     }
 }
 
@@ -115,11 +111,74 @@ static NEXT_NUMBER: AtomicU64 = AtomicU64::new(1);
 pub struct Shared {
     record: Mutex<Record>,
     pub(crate) head: raw::SavedHead,
+    /// Whether it was made of the text of another table, so that its history does not begin with the root init alone.
+    pub(crate) goes_on: bool,
     pub(crate) number: u64,
     seated: AtomicU32,
 }
 
 impl Shared {
+    /// The record behind a lock, before any seat is given.
+    fn of(record: Record, head: raw::SavedHead, goes_on: bool) -> Shared {
+        Shared {
+            record: Mutex::new(record),
+            head,
+            goes_on,
+            number: NEXT_NUMBER.fetch_add(1, Ordering::Relaxed),
+            seated: AtomicU32::new(0),
+        }
+    }
+
+    /// A table as a text of [`Shared::dump`] or [`Table::dump`](crate::Table::dump) says, with a history that begins there: each later call has
+    /// the answer, and the stamp, that it would have had there. Any bytes may be given. No seat is given yet.
+    ///
+    /// `counts` has how many calls of each of 1 to 16 workers were recorded before; their sum is the ordinal of the next call. Zeroes begin to
+    /// count anew. The text has no workers: who dumps a `Shared` asks [`Record::worker`] of each, under one [`Shared::lock`]. `keep` is as
+    /// [`Options::keep`] has it.
+    ///
+    /// ```
+    /// use pidtab::{Calls, Shared};
+    ///
+    /// let shared = Shared::open(32768, 2)?;
+    /// shared.seat()?.fork(1, true)?;
+    /// let again = Shared::from_dump(shared.dump()?, &[1, 0], 0)?;
+    /// let mut seat = again.seat()?;
+    /// assert_eq!((seat.mk(0)?, seat.ordinal()), (2, Some(1)));
+    /// # Ok::<(), std::io::Error>(())
+    /// ```
+    ///
+    /// Its calls are saved to no writer, as those before them are not there: [`Shared::save`] is `Table(NotKept)`.
+    ///
+    /// # Errors
+    /// `Bad` with the line; `OutOfRange` for another number of workers, and where the counts add up to the stamp of the text or more; `NoMemory`.
+    ///
+    /// # Panics
+    /// As [`Shared::open`].
+    pub fn from_dump(
+        text: impl AsRef<[u8]>,
+        counts: &[u64],
+        keep: u64,
+    ) -> Result<Shared, TextError> {
+        let (text, mut fault) = (text.as_ref(), raw::Fault::default());
+        let loaded = raw::Record::load(text, counts, &mut fault);
+        let raw = loaded.map_err(|status| TextError::of(status, fault))?;
+        let (pid_max, stamp) = head_of(text);
+        let head = raw::SavedHead {
+            pid_max,
+            workers: counts.len() as u32,
+            first_stamp: stamp - counts.iter().sum::<u64>(),
+        };
+        Ok(Shared::of(Record { raw, keep }, head, true))
+    }
+
+    /// As [`Record::dump`]: all that there is to know of the present table, as text.
+    ///
+    /// # Errors
+    /// `NoMemory`, `Busy`.
+    pub fn dump(&self) -> Result<String, Error> {
+        self.lock().dump()
+    }
+
     /// A table with the root init alone, whose numbers are below `pid_max`, for 1 to 16 workers. Its first call has the stamp 1, and its
     /// history is never cut unasked; [`Shared::options`] has other ways.
     ///
@@ -386,10 +445,19 @@ impl Record {
     /// # Errors
     /// `NoMemory`, `Busy`.
     pub fn list(&mut self) -> Result<String, Error> {
-        texts::list(|room, size| self.raw.list(room, size))
+        texts::whole(|room, size| self.raw.list(room, size))
     }
 
-    /// The same list, read: the tasks, the namespaces and the control groups.
+    /// All that there is to know of the present table, as text, without its history: `docs/SCRIPT.md` has the form, and [`Shared::from_dump`]
+    /// makes the table again. It costs as a list does.
+    ///
+    /// # Errors
+    /// `NoMemory`, `Busy`.
+    pub fn dump(&mut self) -> Result<String, Error> {
+        texts::whole(|room, size| self.raw.dump(room, size))
+    }
+
+    /// The list, read: the tasks, the namespaces and the control groups.
     ///
     /// # Errors
     /// `NoMemory`, `Busy`.
@@ -402,7 +470,7 @@ impl Record {
     /// # Errors
     /// `NoMemory`, `Busy`.
     pub fn opening(&mut self) -> Result<String, Error> {
-        texts::list(|room, size| self.raw.opening(room, size))
+        texts::whole(|room, size| self.raw.opening(room, size))
     }
 
     /// Makes the calls of saved entries, in their order, each for the worker that it names, and compares their replies. Their ordinals are not
@@ -626,6 +694,18 @@ impl DerefMut for Turn<'_> {
     }
 }
 
+/// `pid_max` and the stamp of the next call, of a text that was loaded: `pidtab table 1 pid-max N stamp S`.
+fn head_of(text: &[u8]) -> (u32, u64) {
+    let line = text.split(|byte| *byte == b'\n').next().unwrap_or(text);
+    let line = String::from_utf8_lossy(line);
+    let mut words = line.split(' ').skip(4).step_by(2);
+    let mut number = || words.next().and_then(|word| word.parse::<u64>().ok());
+    match (number(), number()) {
+        (Some(pid_max), Some(stamp)) => (pid_max as u32, stamp),
+        _ => unreachable!("a text that was loaded has a head"),
+    }
+}
+
 #[cfg(test)]
 mod tests {
     use super::*;
@@ -648,6 +728,7 @@ mod tests {
         assert_eq!(shared.checkpoint_at(0), Err(Error::Busy));
         assert_eq!(shared.list(), Err(Error::Busy));
         assert_eq!(shared.opening(), Err(Error::Busy));
+        assert_eq!(shared.dump(), Err(Error::Busy));
         let (mut saved, mut bytes) = (Saved::new(), Vec::new());
         let busy = shared.save(&mut saved, &mut bytes).expect_err("busy").fault;
         assert!(matches!(busy, SavedFault::Table(Error::Busy)) && bytes.is_empty());

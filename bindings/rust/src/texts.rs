@@ -1,8 +1,8 @@
 //! The texts that the library writes, with the room that it needs.
 use crate::{raw, Error, LineError};
 
-/// The room for a first try of a list, in bytes.
-const SHORT_LIST: usize = 4096;
+/// The room for a first try of a whole text, in bytes.
+const SHORT_TEXT: usize = 4096;
 
 /// The answer that the library writes to a line: it has room for each, and is given the place for the answer's size.
 pub(crate) fn answer(
@@ -14,9 +14,9 @@ pub(crate) fn answer(
     Ok(String::from_utf8_lossy(&answer[..size]).into_owned())
 }
 
-/// The list that the library writes: where the room was too short, it is asked again with as much as it said.
-pub(crate) fn list(mut write: impl FnMut(&mut [u8], &mut usize) -> u32) -> Result<String, Error> {
-    let (mut text, mut size) = (Vec::<u8>::new(), SHORT_LIST);
+/// The list, or the text of a table, that the library writes: where the room was too short, it is asked again with as much as it said.
+pub(crate) fn whole(mut write: impl FnMut(&mut [u8], &mut usize) -> u32) -> Result<String, Error> {
+    let (mut text, mut size) = (Vec::<u8>::new(), SHORT_TEXT);
     loop {
         text.try_reserve_exact(size).map_err(|_| Error::NoMemory)?;
         text.resize(size, 0);
