@@ -20,6 +20,7 @@ var (
 	ErrWrongByte    = errors.New("pidtab: a byte is not the one that was written")
 	ErrBadSettings  = errors.New("pidtab: no table has the settings of the head")
 	ErrOtherTable   = errors.New("pidtab: what is saved is of another table")
+	ErrNil          = errors.New("pidtab: nil where a writer, a reader, a file or a Saved is needed")
 )
 
 // SavedError is why a history was not saved or not loaded, and where. A reader's or a writer's own error is wrapped as it is.
@@ -100,9 +101,12 @@ func (saved *Saved) Trim(file *os.File) error {
 // Saved.Calls.
 //
 // Each error is a SavedError. Behind that of the writer, the next Save to the same writer goes on with the byte that is missing, so nothing is lost
-// or doubled. ErrNotKept where the next call to be saved was cut away; ErrOtherTable; ErrTorn where a load has left out a torn end that is not
-// trimmed; ErrClosed, ErrBusy.
+// or doubled. ErrNotKept where the next call to be saved was cut away, and of a table of SharedFromDump; ErrOtherTable; ErrTorn where a load has left out a torn end that is not
+// trimmed; ErrClosed, ErrBusy; ErrNil.
 func (shared *Shared) Save(to io.Writer, saved *Saved) error {
+	if to == nil || saved == nil {
+		return SavedError{Err: ErrNil}
+	}
 	saved.lock.Lock()
 	defer saved.lock.Unlock()
 	return saved.at(shared.save(to, saved))
@@ -115,9 +119,12 @@ func (shared *Shared) Save(to io.Writer, saved *Saved) error {
 // whenever it has so many entries; later it is not.
 //
 // Each error is a SavedError, with the place of the call at fault: ErrTorn where there is no whole head, ErrNotSaved, ErrOtherVersion, ErrWrongByte,
-// ErrBadSettings; ErrDiffers where its reply is another one; ErrOutOfRange, ErrSpent or ErrNoMemory where it was not made; or that of the reader.
+// ErrBadSettings; ErrDiffers where its reply is another one; ErrOutOfRange, ErrSpent or ErrNoMemory where it was not made; or that of the reader. ErrNil.
 func LoadShared(from io.Reader, keep uint64) (*Shared, *Saved, error) {
 	saved := new(Saved)
+	if from == nil {
+		return nil, nil, saved.at(ErrNil)
+	}
 	shared, err := loadInto(saved, from, keep)
 	if err != nil {
 		return nil, nil, saved.at(err)
@@ -131,9 +138,12 @@ func LoadShared(from io.Reader, keep uint64) (*Shared, *Saved, error) {
 // Settings.Keep is never used: no call is cut unasked that is not saved.
 //
 // The file is opened to be read and to be written, as by os.O_RDWR|os.O_CREATE. One process at a time has it. The errors are those of LoadShared but
-// for ErrTorn, ErrOutOfRange for settings outside their ranges, and those of the file.
+// for ErrTorn, ErrOutOfRange for settings outside their ranges, and those of the file. ErrNil.
 func ResumeShared(file *os.File, settings Settings) (*Shared, *Saved, error) {
 	saved := new(Saved)
+	if file == nil {
+		return nil, nil, saved.at(ErrNil)
+	}
 	shared, err := resumeInto(saved, file, settings)
 	if err != nil {
 		return nil, nil, saved.at(err)
@@ -149,6 +159,9 @@ func (shared *Shared) save(to io.Writer, saved *Saved) error {
 	}
 	if saved.isTorn {
 		return ErrTorn
+	}
+	if held.goesOn {
+		return ErrNotKept
 	}
 	counts, err := shared.Counts()
 	if err == nil && saved.calls < counts.FirstKept {

@@ -37,6 +37,7 @@ type heldRecord struct {
 	lock     sync.Mutex
 	raw      C.struct_pidtab_record
 	settings Settings
+	goesOn   bool // made of the text of another table, so that its history does not begin with the root init alone
 	seated   uint32
 }
 
@@ -195,7 +196,7 @@ func (shared *Shared) List() (string, error) {
 	held := shared.held()
 	held.lock.Lock()
 	defer held.lock.Unlock()
-	return list(func(room unsafe.Pointer, most C.size_t, size *C.size_t) C.uint32_t {
+	return whole(func(room unsafe.Pointer, most C.size_t, size *C.size_t) C.uint32_t {
 		return C.pidtab_record_list(&held.raw, room, most, size)
 	})
 }
@@ -211,7 +212,7 @@ func (shared *Shared) Opening() (string, error) {
 	held := shared.held()
 	held.lock.Lock()
 	defer held.lock.Unlock()
-	return list(func(room unsafe.Pointer, most C.size_t, size *C.size_t) C.uint32_t {
+	return whole(func(room unsafe.Pointer, most C.size_t, size *C.size_t) C.uint32_t {
 		return C.pidtab_record_opening(&held.raw, room, most, size)
 	})
 }

@@ -5,13 +5,12 @@ import "C"
 
 import "unsafe"
 
-// The room for a first try of a list, in bytes.
-const shortList = 4096
+// The room for a first try of a whole text, in bytes.
+const shortText = 4096
 
 // answer is what the library writes to a line. It is given the line, its length, the room for each answer, and the place for its size.
 func answer(line string, write func(unsafe.Pointer, C.size_t, unsafe.Pointer, *C.size_t) C.uint32_t) (string, error) {
-	// One byte more, so that there is one to point to.
-	bytes := append([]byte(line), '\n')
+	bytes := withByte(line)
 	var answer [C.PIDTAB_LONGEST_ANSWER]C.uint8_t
 	var size C.size_t
 	status := write(unsafe.Pointer(&bytes[0]), C.size_t(len(line)), unsafe.Pointer(&answer[0]), &size)
@@ -21,10 +20,10 @@ func answer(line string, write func(unsafe.Pointer, C.size_t, unsafe.Pointer, *C
 	return text(answer[:size]), nil
 }
 
-// list is what the library writes. It is given the room, how long that is, and the place for the size; where the room was too short, it is
+// whole is the list, or the text of a table, that the library writes. It is given the room, how long that is, and the place for the size; where the room was too short, it is
 // asked again with as much as it said.
-func list(write func(unsafe.Pointer, C.size_t, *C.size_t) C.uint32_t) (string, error) {
-	size := C.size_t(shortList)
+func whole(write func(unsafe.Pointer, C.size_t, *C.size_t) C.uint32_t) (string, error) {
+	size := C.size_t(shortText)
 	for {
 		room := make([]C.uint8_t, size)
 		status := write(unsafe.Pointer(&room[0]), C.size_t(len(room)), &size)
