@@ -1,12 +1,18 @@
 """The scripts of examples/: their lists, the walk-throughs of their page, and a session that goes on after a crash."""
 
+import os
+import re
 import subprocess
+import sys
 import unittest
 from pathlib import Path
 
-from pidtab import Process, find_program
-from tests.pages import EXAMPLES, quoted, rows, script_lines
-from tests.ways import need_program
+from pidtab import Process, Table, find_program
+from tests.pages import EXAMPLES, REPOSITORY, quoted, rows, script_lines
+from tests.ways import need_library, need_program
+
+# With this package, wherever a program is started.
+PACKAGE = {**os.environ, "PYTHONPATH": str(REPOSITORY / "bindings" / "python")}
 
 # Two jobs for `pidtab work`, whose answers depend on the schedule.
 JOBS = {"worker0", "worker1"}
@@ -90,6 +96,44 @@ class Recovery(unittest.TestCase):
         process._child.kill()
         self.assertLess(process.close(), 0)
         return answers
+
+
+class RecoveryByText(unittest.TestCase):
+    """A table that is lost is had again of the text that was written at the crash."""
+
+    CRASH = 9
+
+    @classmethod
+    def setUpClass(cls) -> None:
+        need_library()
+
+    def test_the_text_at_the_crash(self) -> None:
+        lines = script_lines(EXAMPLES / "recovery.script")
+        text = (EXAMPLES / "recovery.text").read_text(encoding="ascii")
+        with Table() as table:
+            table.answers(lines[: self.CRASH])
+            self.assertEqual(table.dump(), text)
+
+    def test_the_lines_behind_it(self) -> None:
+        lines = script_lines(EXAMPLES / "recovery.script")
+        answers = tuple(script_lines(EXAMPLES / "recovery.answers"))
+        with Table.from_dump((EXAMPLES / "recovery.text").read_bytes()) as table:
+            self.assertEqual(table.answers(lines[self.CRASH :]), answers[self.CRASH :])
+            self.assertEqual(table._list_text().splitlines(), script_lines(EXAMPLES / "recovery.list"))
+
+    def test_a_text_after_each_line(self) -> None:
+        lines = script_lines(EXAMPLES / "recovery.script")
+        answers = tuple(script_lines(EXAMPLES / "recovery.answers"))
+        for place in range(len(lines) + 1):
+            with self.subTest(place), Table() as table:
+                table.answers(lines[:place])
+                with Table.from_dump(table.dump()) as again:
+                    self.assertEqual(again.answers(lines[place:]), answers[place:])
+
+    def test_the_page_shows_what_is_so(self) -> None:
+        (code,) = re.findall(r"```python\n(.*?)```", page_section("A crash, and the same lines again"), flags=re.DOTALL)
+        done = subprocess.run([sys.executable, "-c", code], cwd=EXAMPLES, env=PACKAGE, capture_output=True, text=True, check=True)
+        self.assertEqual(done.stdout, "('reaped 3 exit 6', 'child 4 root 5', 'control 12')\n")
 
 
 if __name__ == "__main__":
