@@ -10,6 +10,7 @@
  *
  * - One thread at a time works on a struct pidtab_saved. The others may make calls on the shared record meanwhile.
  * - One process at a time writes the file, and by one descriptor.
+ * - A saved history is one from the first call on. A record that pidtab_record_load or pidtab_shared_load has opened has no such one.
  * - What a write has given to the kernel survives the process. To have it survive the machine, call fsync or fdatasync.
  * - A pipe without a reader is SIGPIPE, as for any write. Ignored, it is PIDTAB_DEVICE with EPIPE.
  */
