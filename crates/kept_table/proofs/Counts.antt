@@ -4,16 +4,18 @@ use Rattle.std.proofs.lemmas.Bool.{ne_eqb}
 use Rattle.std.proofs.lemmas.Bool.Decides.{eqb_tells}
 use Rattle.std.proofs.lemmas.List.Sums.{sum_by-set, sum_by_push}
 use Rattle.std.proofs.lemmas.List.{get_or-set_same, get_or-set_other}
-use Rattle.std.specs.Prelude.{slice_index, ◌==◌}
+use Rattle.std.specs.Prelude.{slice_index, ◌==◌, ◌-◌}
 use Rattle.pid_types.specs.declared.entry.Entry.{Entry}
 use Rattle.pid_types.specs.Settings.{Settings, HasGoodPidMax}
 use Rattle.pid_types.specs.State.{State, root_state}
 use Rattle.pid_types.specs.Outcome.{Outcome}
 use Rattle.pid_types.specs.Step.{step}
 use Rattle.model_laws.specs.StepLaws.{BoundStays, RootStateIsSound, RunsKeepSoundness}
+use Rattle.pid_types.specs.Sound.{IsSound, IsBelow}
+use Rattle.kept_table.specs.Calls.{resumed}
 use Rattle.kept_table.specs.Chronicle.{Chronicle, IsKept, by_worker, next_stamp, total, recorded}
 use Rattle.kept_table.specs.Whole.{IsKeptCounted, IsKeptWhole, one_of, room_of, told}
-use Rattle.kept_table.proofs.Invariant.{kept-new, kept-entry, kept-checkpoint}
+use Rattle.kept_table.proofs.Invariant.{kept-new, kept-resumed, kept-entry, kept-checkpoint}
 use Rattle.kept_table.proofs.Totals.{sum_of_noughts}
 
 one_yes : (i w : ℕ) → eqb i w ≡ true → one_of i w ≡ 1
@@ -51,7 +53,7 @@ by_worker_push w entries e = sum_by_push (λ (x : Entry). cond (x.worker == w) 1
 -- a new record
 pub counted-new : RootStateIsSound → (workers : ℕ) (config : Settings) (opening present : State) (cut calls : List ℕ) (entries : List Entry) (room : ℕ) → HasGoodPidMax config.pid_max → 0 < config.first_stamp → config.first_stamp < 2 ^ 64 → opening ≡ root_state config.pid_max → present ≡ root_state config.pid_max → entries ≡ []
     → cut ≡ replicate workers 0 → calls ≡ replicate workers 0
-    → IsKeptCounted calls (record { config = config; opening = opening; first_kept = 0; cut = cut; entries = entries; present = present; booked = sum calls; room = room })
+    → IsKeptCounted calls (record { config = config; is_resumed = false; opening = opening; first_kept = 0; cut = cut; entries = entries; present = present; booked = sum calls; room = room })
 counted-new law workers config opening present cut calls entries room good some fits from is none cuts all =
     let zero_cut : sum cut ≡ 0 = ap sum cuts ∙ sum_of_noughts workers in
     let zero_all : sum calls ≡ 0 = ap sum all ∙ sum_of_noughts workers in
@@ -64,6 +66,26 @@ counted-new law workers config opening present cut calls entries room good some 
           let equal : slice_index calls w ≡ slice_index cut w = ap (λ xs. slice_index xs w) same in
           omega (arith, none_of, equal);
     }
+
+-- a record that goes on from a saved state, by its parts
+pub resumed-is : (config : Settings) (state : State) (stamp first : ℕ) (counts cut calls : List ℕ) (entries : List Entry) (r : ℕ) → config.pid_max ≡ state.pid_max → config.first_stamp ≡ stamp - first → first ≡ sum counts → cut ≡ counts → calls ≡ counts → entries ≡ []
+    → told config true None first cut entries state calls r ≡ resumed state stamp counts 0
+resumed-is config state stamp first counts cut calls entries r bound starts at cuts all none = rw (bound, starts, at, cuts, all, none) refl
+
+pub whole-resumed : (config : Settings) (state : State) (stamp first : ℕ) (counts cut calls : List ℕ) (entries : List Entry) (r : ℕ) → IsSound state → IsBelow stamp state → sum counts < stamp → stamp < 2 ^ 64 → config.pid_max ≡ state.pid_max → config.first_stamp ≡ stamp - first → first ≡ sum counts → cut ≡ counts → calls ≡ counts → entries ≡ []
+    → IsKeptWhole None calls (told config true None first cut entries state calls r)
+whole-resumed config state stamp first counts cut calls entries r sound below fewer fits bound starts at cuts all none =
+    subst (λ c. IsKeptWhole None calls c) (sym (resumed-is config state stamp first counts cut calls entries r bound starts at cuts all none)) (record {
+      counted = record {
+        kept = kept-resumed state stamp counts 0 sound below fewer fits;
+        len = ap length all;
+        each = λ w lt.
+            let none_of : by_worker w [] ≡ 0 = refl in
+            let equal : slice_index calls w ≡ slice_index counts w = ap (λ xs. slice_index xs w) all in
+            omega (arith, none_of, equal);
+      };
+      bare = λ _. refl;
+    })
 
 -- one recorded call more
 pub counted-push : (calls calls' : List ℕ) (c : Chronicle) (e : Entry) (entries : List Entry) (present : State) (room : ℕ) → IsKeptCounted calls c → c.booked ≡ sum calls → entries ≡ c.entries ++ e ∷ [] → e.worker < length c.cut → (next_stamp c + 1) < 2 ^ 64
@@ -102,14 +124,14 @@ recorded-cut calls cut c opening first room k same w lt =
     omega (arith, none_of, equal, k.each w lt)
 
 -- the same beside a copy, without which there is no room
-pub whole-push : (copy : Option State) (config : Settings) (first : ℕ) (cut calls calls' : List ℕ) (before entries : List Entry) (old present : State) (r room : ℕ) (e : Entry) → 1 ≤ room_of copy r
-    → IsKeptWhole copy calls (told config copy first cut before old calls r) → entries ≡ before ++ e ∷ [] → e.worker < length cut → (next_stamp (told config copy first cut before old calls r) + 1) < 2 ^ 64
-    → (let o : Outcome = record { state = present; reply = e.reply } in o) ≡ step old (next_stamp (told config copy first cut before old calls r)) e.call
+pub whole-push : (copy : Option State) (config : Settings) (resumed : Bool) (first : ℕ) (cut calls calls' : List ℕ) (before entries : List Entry) (old present : State) (r room : ℕ) (e : Entry) → 1 ≤ room_of copy r
+    → IsKeptWhole copy calls (told config resumed copy first cut before old calls r) → entries ≡ before ++ e ∷ [] → e.worker < length cut → (next_stamp (told config resumed copy first cut before old calls r) + 1) < 2 ^ 64
+    → (let o : Outcome = record { state = present; reply = e.reply } in o) ≡ step old (next_stamp (told config resumed copy first cut before old calls r)) e.call
     → ((w : ℕ) → slice_index calls' w ≡ slice_index calls w + one_of e.worker w) → sum calls' ≡ sum calls + 1 → length calls' ≡ length calls
-    → IsKeptWhole copy calls' (told config copy first cut entries present calls' room)
-whole-push None config first cut calls calls' before entries old present r room e some k are known fits is each all len = absurd (omega (arith, some))
-whole-push (Some copy) config first cut calls calls' before entries old present r room e some k are known fits is each all len = record {
-  counted = counted-push calls calls' (told config (Some copy) first cut before old calls r) e entries present room k.counted refl are known fits is each all len;
+    → IsKeptWhole copy calls' (told config resumed copy first cut entries present calls' room)
+whole-push None config resumed first cut calls calls' before entries old present r room e some k are known fits is each all len = absurd (omega (arith, some))
+whole-push (Some copy) config resumed first cut calls calls' before entries old present r room e some k are known fits is each all len = record {
+  counted = counted-push calls calls' (told config resumed (Some copy) first cut before old calls r) e entries present room k.counted refl are known fits is each all len;
   bare = λ none. absurd (cc);
 }
 

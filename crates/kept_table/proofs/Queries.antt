@@ -1,6 +1,6 @@
 -- A query leaves the state as it is.
 use Rattle.std.proofs.Common.{◌≡◌, ℕ, refl, ◌∙◌}
-use Rattle.std.specs.Prelude.{Option, Some, None, Bool, true, false, Result, Ok, Err, is_err, OnOk}
+use Rattle.std.specs.Prelude.{Option, Some, None, true, false, Result, Ok, Err, is_err, OnOk}
 use Rattle.pid_types.specs.declared.call.Call.{Call}
 use Rattle.pid_types.specs.declared.call.Call.TheVariants.{Fork, GetPid, NsPid, Exec, Exit, Wait, GetPpid, SetPgid}
 use Rattle.pid_types.specs.declared.call.Call.TheVariants.{SetSid, MakeControl, RemoveControl, SetLimit, Move, Count}

@@ -1,5 +1,5 @@
 -- What a record is at first, and what a call makes of it.
-use Rattle.std.specs.Prelude.{ℕ, ◌+◌, [], List, replicate}
+use Rattle.std.specs.Prelude.{ℕ, ◌+◌, ◌-◌, [], List, replicate, sum, true, false}
 use Rattle.pid_types.specs.declared.call.Call.{Call}
 use Rattle.pid_types.specs.declared.entry.Entry.{Entry}
 use Rattle.pid_types.specs.Outcome.{Outcome}
@@ -12,12 +12,27 @@ use Rattle.kept_table.specs.Chronicle.{Chronicle, next_stamp}
 abbrev pub begun : Settings → ℕ → ℕ → Chronicle
 begun config workers room = record {
   config = config;
+  is_resumed = false;
   opening = root_state config.pid_max;
   first_kept = 0;
   cut = replicate workers 0;
   entries = [];
   present = root_state config.pid_max;
   booked = 0;
+  room = room;
+}
+
+-- a record that goes on from a saved state: the next call has the stamp, and so many calls of each worker were recorded before
+abbrev pub resumed : State → ℕ → List ℕ → ℕ → Chronicle
+resumed state stamp counts room = record {
+  config = record { pid_max = state.pid_max; first_stamp = stamp - sum counts };
+  is_resumed = true;
+  opening = state;
+  first_kept = sum counts;
+  cut = counts;
+  entries = [];
+  present = state;
+  booked = sum counts;
   room = room;
 }
 

@@ -1,5 +1,5 @@
 -- The record, as contracts see it.
-use Rattle.std.specs.Prelude.{◌≡◌, ℕ, ◌+◌, ◌^◌, ◌<◌, List, length, All, sum, count_by, ◌==◌, ◌-◌, slice_index, slice_get, nat_lt, zero, suc, Option, None, option_map, if◌then◌else◌}
+use Rattle.std.specs.Prelude.{◌≡◌, ℕ, ◌+◌, ◌^◌, ◌<◌, Bool, false, List, length, All, sum, count_by, ◌==◌, ◌-◌, slice_index, slice_get, nat_lt, zero, suc, Option, None, option_map, if◌then◌else◌}
 use Rattle.pid_types.specs.declared.entry.Entry.{Entry}
 use Rattle.pid_types.specs.declared.reply.Reply.{Reply}
 use Rattle.pid_types.specs.Settings.{Settings}
@@ -7,10 +7,12 @@ use Rattle.pid_types.specs.State.{State, root_state}
 use Rattle.pid_types.specs.Replay.{IsRun}
 use Rattle.pid_types.specs.Sound.{IsSound, IsBelow}
 
--- the configuration, the state before the kept entries, the ordinal of the first kept entry, how many entries of each worker were cut
--- away before it, the kept entries, the present state, how many calls were counted, and for how many entries there is room
+-- the configuration, whether it goes on from a saved table, the state before the kept entries, the ordinal of the first kept entry, how
+-- many entries of each worker were cut away before it, the kept entries, the present state, how many calls were counted, and for how
+-- many entries there is room
 pub record Chronicle : Type 0 where
   pub config : Settings
+  pub is_resumed : Bool
   pub opening : State
   pub first_kept : ℕ
   pub cut : List ℕ
@@ -59,8 +61,8 @@ last_reply c = option_map (λ (e : Entry). e.reply) (slice_get c.entries (length
 -- the history replays, reply for reply, as one thread's, from the opening to the present state
 pub record IsReplayed (c : Chronicle) : Type 0 where
   pub run : IsRun c.opening (first_kept_stamp c) c.entries c.present
-  -- until a checkpoint, the opening is the state with the root init alone
-  pub starts : c.first_kept ≡ 0 → c.opening ≡ root_state c.config.pid_max
+  -- where it goes on from no saved table: until a checkpoint, the opening is the state with the root init alone
+  pub starts : c.is_resumed ≡ false → c.first_kept ≡ 0 → c.opening ≡ root_state c.config.pid_max
 
 -- each recorded call is counted, and for its worker
 pub record IsCounted (workers : ℕ) (c : Chronicle) : Type 0 where

@@ -1,5 +1,5 @@
 -- What a record keeps, and how contracts see it.
-use Rattle.std.specs.Prelude.{◌≡◌, ◌<◌, ℕ, List, length, sum, slice_index, if◌then◌else◌, ◌==◌, Option, None, Some, []}
+use Rattle.std.specs.Prelude.{◌≡◌, ◌<◌, ℕ, Bool, List, length, sum, slice_index, if◌then◌else◌, ◌==◌, Option, None, Some, []}
 use Rattle.pid_types.specs.declared.entry.Entry.{Entry}
 use Rattle.pid_types.specs.Settings.{Settings}
 use Rattle.pid_types.specs.State.{State}
@@ -20,9 +20,10 @@ room_of None room = 0
 room_of (Some copy) room = room
 
 -- the record, by what is kept of it: the copy of the opening, if one was taken, and a count of calls for each worker
-abbrev pub told : Settings → Option State → ℕ → List ℕ → List Entry → State → List ℕ → ℕ → Chronicle
-told config copy first_kept cut entries present calls room = record {
+abbrev pub told : Settings → Bool → Option State → ℕ → List ℕ → List Entry → State → List ℕ → ℕ → Chronicle
+told config is_resumed copy first_kept cut entries present calls room = record {
   config = config;
+  is_resumed = is_resumed;
   opening = opening_of copy present;
   first_kept = first_kept;
   cut = cut;

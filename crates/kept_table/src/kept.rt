@@ -12,7 +12,7 @@ ghost use Rattle.pid_types.specs.Shown.{Shows};
 ghost use Rattle.pid_types.specs.Sound.{IsBelow};
 ghost use Rattle.pid_types.specs.Step.{step, may_grow};
 ghost use Rattle.translate.specs.Stat.{stat_at, glimpse_in, IsSeen};
-ghost use Rattle.kept_table.specs.Calls.{begun, outcome, entry_of, counted, cut_at};
+ghost use Rattle.kept_table.specs.Calls.{begun, resumed, outcome, entry_of, counted, cut_at};
 ghost use Rattle.kept_table.specs.Chronicle.{Chronicle, total, next_stamp, recorded, recorded_by_all, kept_entry};
 ghost use Rattle.kept_table.specs.Chronicle.{last_reply, by_worker};
 ghost use Rattle.kept_table.specs.Promise.{IsSubtreeCount, KeepsPromise};
@@ -38,6 +38,7 @@ use translate::stat::Stat;
 /// history, what was cut away before it, and the room for more entries.
 pub struct Kept {
     config: Config,
+    is_resumed: bool,
     // The opening. There is none while the opening is the present state and the history is empty.
     copy: Option<Opening>,
     first_kept: u64,
@@ -52,6 +53,7 @@ impl Drop for Kept {
     fn drop(self) {
         let Kept {
             config: _,
+            is_resumed: _,
             copy: _,
             first_kept: _,
             cut: _,
@@ -69,11 +71,11 @@ impl Model for Kept {
 
     ghost Value = { Chronicle };
 
-    ghost view = { λ a. told a.config a.copy a.first_kept a.cut.items a.history.items a.table a.calls.items
+    ghost view = { λ a. told a.config a.is_resumed a.copy a.first_kept a.cut.items a.history.items a.table a.calls.items
         (vec_capacity a.history - vec_len a.history) };
 
     ghost invariant = { λ a. IsKeptWhole a.copy a.calls.items
-        (told a.config a.copy a.first_kept a.cut.items a.history.items a.table a.calls.items
+        (told a.config a.is_resumed a.copy a.first_kept a.cut.items a.history.items a.table a.calls.items
         (vec_capacity a.history - vec_len a.history)) };
 }
 
@@ -92,8 +94,52 @@ impl Kept {
         let table = PidTable::new(alloc, config)?;
         let kept = Kept {
             config: *config,
+            is_resumed: false,
             copy: None,
             first_kept: 0,
+            cut,
+            calls,
+            history: Vec::new(alloc),
+            table,
+        };
+        Ok(kept)
+    }
+
+    /// Whether a record can go on at the stamp with these counts: they add up to less.
+    pub fn can_resume(stamp: u64, counts: &[u64]) -> bool
+        ensures { IsTrue result ↔ (sum counts.now < stamp) }
+    {
+        added(counts) < stamp
+    }
+
+    /// A record that goes on from a table that was loaded. The table's state is the opening, the history is empty, and
+    /// the next call has the stamp. `counts` says for each worker how many calls were recorded before: their sum is the
+    /// ordinal of the next call, and the first stamp of the configuration is so much below the stamp.
+    ///
+    /// The promise holds of it as of a new one. It says nothing of the calls before, not that there were any. The error
+    /// is want of memory.
+    pub fn resume(
+        alloc: Global,
+        table: PidTable,
+        stamp: u64,
+        counts: &[u64],
+    ) -> Result<Kept, AllocError>
+        requires below { IsBelow stamp table }
+        requires fits { sum counts.now < stamp }
+        ensures { IfOk result (λ r. r ≡ resumed table stamp counts.now r.room) }
+    {
+        table.laws();
+        let before = added(counts);
+        let Ok(config) = Config::new(table.pid_max(), stamp - before) else {
+            unreachable!()
+        };
+        let cut = counts.to_vec(alloc)?;
+        let calls = counts.to_vec(alloc)?;
+        let kept = Kept {
+            config,
+            is_resumed: true,
+            copy: None,
+            first_kept: before,
             cut,
             calls,
             history: Vec::new(alloc),
@@ -158,6 +204,16 @@ impl Kept {
         ensures { result ≡ recorded self.now worker }
     {
         self.calls[worker]
+    }
+
+    /// How many calls of each worker were recorded, the cut ones among them. It costs nothing.
+    pub fn counts(&self) -> &[u64]
+        ensures len { length result.now ≡ length self.now.cut }
+        ensures each { (worker : ℕ) → worker < length self.now.cut
+            → slice_index result.now worker ≡ recorded self.now worker }
+        ensures all { sum result.now ≡ self.now.booked }
+    {
+        self.calls.as_slice()
     }
 
     /// The entry with the ordinal; none where it was cut away, or is not reached yet. It costs the
@@ -361,6 +417,18 @@ impl Kept {
         forget(&mut self.copy);
         Ok(())
     }
+}
+
+/// The numbers added up, or the greatest number where the sum is above it.
+fn added(counts: &[u64]) -> u64
+    ensures exact { sum counts.now < u64.MAX → result ≡ sum counts.now }
+    ensures great { u64.MAX ≤ sum counts.now → result ≡ u64.MAX }
+{
+    let mut all = 0u64;
+    for place in 0..counts.len() {
+        all = all.saturating_add(counts[place]);
+    }
+    all
 }
 
 /// Where the opening is the present state, makes a copy of that the opening. The error is want of memory.

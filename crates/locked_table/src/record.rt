@@ -6,20 +6,22 @@
 ghost use Rattle.std.specs.Prelude.{◌≡◌, ℕ, ◌+◌, ◌^◌, ◌<◌, ◌≤◌, [], ◌∷◌, ◌++◌, ◌↔◌, IsTrue};
 ghost use Rattle.std.specs.Prelude.{IfOk, OnOk, OnErr, IsOk, IfSome, Some, None, Err};
 ghost use Rattle.std.specs.Option.{option_copied};
-ghost use Rattle.std.specs.Prelude.{◌≢◌, length};
+ghost use Rattle.std.specs.Prelude.{◌≢◌, length, sum};
 ghost use Rattle.pid_types.specs.declared.plain.Control.{Control};
 ghost use Rattle.pid_types.specs.Membership.{IsIn};
 ghost use Rattle.pid_types.specs.Shown.{Shows};
+ghost use Rattle.pid_types.specs.Sound.{IsBelow};
 ghost use Rattle.pid_types.specs.Step.{may_grow};
-ghost use Rattle.kept_table.specs.Calls.{begun, outcome, entry_of, counted, cut_at};
+ghost use Rattle.kept_table.specs.Calls.{begun, resumed, outcome, entry_of, counted, cut_at};
 ghost use Rattle.kept_table.specs.Chronicle.{Chronicle, total, next_stamp, recorded, recorded_by_all, kept_entry};
 ghost use Rattle.kept_table.specs.Chronicle.{last_reply};
 ghost use Rattle.kept_table.specs.Promise.{IsSubtreeCount, KeepsPromise};
 ghost use Rattle.kept_table.specs.Whole.{one_of};
-ghost use Rattle.locked_table.specs.SeatState.{AreSeats, AreNew, calls_of_seats};
+ghost use Rattle.locked_table.specs.SeatState.{AreSeats, AreCounted, AreRecorded, AreNew, calls_of_seats};
 
 use crate::seat::Seat;
 use kept_table::Kept;
+use pid_table::PidTable;
 use pid_types::call::Call;
 use pid_types::config::Config;
 use pid_types::entry::{Entry, Receipt};
@@ -77,10 +79,32 @@ impl<L: Ledger, const N: usize> Record<L, N> {
         ensures record { IfOk result (λ r. r.0 ≡ begun config.now N r.0.room) }
         ensures seats { IfOk result (λ r. AreSeats N r.1.items × AreNew r.1.items) }
     {
-        let (book, rest) = blank.open::<L>();
-        let seats = take_seats::<L, N>(alloc, rest)?;
-        let kept = Kept::new(alloc, config, N)?;
-        Ok((Record { kept, book }, seats))
+        with_seats(alloc, blank, Kept::new(alloc, config, N)?)
+    }
+
+    /// A record that goes on from a table that was loaded, and the seats of its workers. The table's state is the
+    /// opening, the history is empty, and the next call has the stamp. `counts` says for each worker how many calls
+    /// were recorded before: so many its seat begins with, and their sum is the ordinal of the next call. The first
+    /// stamp of the configuration is so much below the stamp.
+    ///
+    /// The promise holds of it as of a new one. It says nothing of the calls before, not that there were any. The error
+    /// is want of memory.
+    pub fn resume(
+        alloc: Global,
+        blank: Blank,
+        table: PidTable,
+        stamp: u64,
+        counts: &[u64],
+    ) -> Result<(Record<L, N>, Vec<Seat<L, N>>), AllocError>
+        requires name { blank.name ≡ L.name }
+        requires parts { (blank.parts ≡ L.parts) × (L.parts ≡ N) }
+        requires workers { length counts.now ≡ N }
+        requires below { IsBelow stamp table }
+        requires fits { sum counts.now < stamp }
+        ensures record { IfOk result (λ r. r.0 ≡ resumed table stamp counts.now r.0.room) }
+        ensures seats { IfOk result (λ r. AreSeats N r.1.items × AreCounted N counts.now r.1.items) }
+    {
+        with_seats(alloc, blank, Kept::resume(alloc, table, stamp, counts)?)
     }
 
     /// What the record was made with.
@@ -324,21 +348,44 @@ fn book_call<L: Ledger, const N: usize>(book: &mut Book<L>, seat: &mut Seat<L, N
     seat.calls += 1;
 }
 
-/// A seat for each worker, with one part of the ledger each.
+/// The record of what is kept, and its seats. The ledger's book has as many calls as were recorded.
+fn with_seats<L: Ledger, const N: usize>(
+    alloc: Global,
+    blank: Blank,
+    kept: Kept,
+) -> Result<(Record<L, N>, Vec<Seat<L, N>>), AllocError>
+    requires name { blank.name ≡ L.name }
+    requires parts { (blank.parts ≡ L.parts) × (L.parts ≡ N) }
+    requires workers { length kept.cut ≡ N }
+    ensures record { IfOk result (λ r. r.0 ≡ kept) }
+    ensures seats { IfOk result (λ r. AreSeats N r.1.items × AreRecorded N kept r.1.items) }
+{
+    let (mut book, rest) = blank.open::<L>();
+    let seats = take_seats::<L, N>(alloc, &mut book, rest, kept.counts())?;
+    Ok((Record { kept, book }, seats))
+}
+
+/// A seat for each worker, with one part of the ledger and so many recorded calls each.
 fn take_seats<L: Ledger, const N: usize>(
     alloc: Global,
+    book: &mut Book<L>,
     rest: Share<L>,
+    counts: &[u64],
 ) -> Result<Vec<Seat<L, N>>, AllocError>
-    requires { (rest.parts ≡ N) × (rest.amount ≡ 0) }
-    ensures { IfOk result (λ seats. AreSeats N seats.items × AreNew seats.items) }
+    requires rest { (rest.parts ≡ N) × (rest.amount ≡ 0) }
+    requires workers { length counts.now ≡ N }
+    ensures seats { IfOk result (λ seats. AreSeats N seats.items × AreCounted N counts.now seats.items) }
+    ensures book { OnOk result (book.new.total ≡ book.old.total + sum counts.now) }
 {
     let mut rest = rest;
     let mut seats = Vec::with_capacity(alloc, N)?;
     for worker in 0..N {
-        let share = rest.split_off(1, 0);
+        let mut share = rest.split_off(1, 0);
+        let calls = counts[worker];
+        book.add(&mut share, calls);
         seats.push_reserved(Seat {
             worker,
-            calls: 0,
+            calls,
             share,
         });
     }

@@ -4,4 +4,6 @@
 #![tactic(auto)]
 
 #[cfg(test)]
+mod resumed;
+#[cfg(test)]
 mod tests;

@@ -13,15 +13,15 @@ use std::sync::Wait;
 use std::sync::ledger::{Blank, Ledger};
 use std::test::Fail;
 
-const FORK: Call = Call::Fork {
+pub(crate) const FORK: Call = Call::Fork {
     caller: 1,
     new_space: false,
 };
 
-const MAKE: Call = Call::MakeControl { parent: 0 };
+pub(crate) const MAKE: Call = Call::MakeControl { parent: 0 };
 
 /// The receipt of a call that is answered so.
-fn want(ordinal: u64, worker: usize, call: Call, reply: Reply) -> Receipt {
+pub(crate) fn want(ordinal: u64, worker: usize, call: Call, reply: Reply) -> Receipt {
     Receipt {
         ordinal,
         worker,
@@ -47,7 +47,7 @@ fn act<L: Ledger, const N: usize>(
 }
 
 /// Makes each call by its worker's seat, and compares the receipts.
-fn act_all<L: Ledger, const N: usize>(
+pub(crate) fn act_all<L: Ledger, const N: usize>(
     rt: &impl Abort,
     record: &mut Record<L, N>,
     seats: &mut [Seat<L, N>],
@@ -71,7 +71,7 @@ fn call<L: Ledger, R: Wait + Abort, const N: usize>(
 }
 
 /// Makes each call by its worker's seat, at the shared table, and compares the receipts.
-fn call_all<L: Ledger, R: Wait + Abort, const N: usize>(
+pub(crate) fn call_all<L: Ledger, R: Wait + Abort, const N: usize>(
     rt: &R,
     shared: &Shared<L, N>,
     seats: &mut [Seat<L, N>],
@@ -84,7 +84,7 @@ fn call_all<L: Ledger, R: Wait + Abort, const N: usize>(
 }
 
 /// Whether worker w's seat is at place w.
-fn are_in_order<L: Ledger, const N: usize>(seats: &[Seat<L, N>]) -> bool
+pub(crate) fn are_in_order<L: Ledger, const N: usize>(seats: &[Seat<L, N>]) -> bool
     ensures { result ≡ true → AreSeats N seats.now }
 {
     for (worker, seat) in seats.iter().enumerate() {

@@ -8,11 +8,11 @@ pub invariant_of-self : goal.invariant_of-self
 invariant_of-self c =
     let i = c.self.inside in
     let same : c.step.new.self ≡ i.table = query_leaves c.step.result _ _ _ _ c.requires (sym c.is_err.ensures.value ∙ c.if-is_err.false) c.step.ensures.state in
-    subst (λ (t : State). IsKeptWhole i.copy i.calls.items (told i.config i.copy i.first_kept i.cut.items i.history.items t i.calls.items (vec_capacity i.history - vec_len i.history)))
+    subst (λ (t : State). IsKeptWhole i.copy i.calls.items (told i.config i.is_resumed i.copy i.first_kept i.cut.items i.history.items t i.calls.items (vec_capacity i.history - vec_len i.history)))
     (sym same) c.self.invariant
 
 pub returns-clause-same : goal.returns-clause-same
 returns-clause-same c =
     let i = c.self.inside in
     let same : c.step.new.self ≡ i.table = query_leaves c.step.result _ _ _ _ c.requires (sym c.is_err.ensures.value ∙ c.if-is_err.false) c.step.ensures.state in
-    ap (λ (t : State). told i.config i.copy i.first_kept i.cut.items i.history.items t i.calls.items (vec_capacity i.history - vec_len i.history)) same ∙ c.self.view_is
+    ap (λ (t : State). told i.config i.is_resumed i.copy i.first_kept i.cut.items i.history.items t i.calls.items (vec_capacity i.history - vec_len i.history)) same ∙ c.self.view_is

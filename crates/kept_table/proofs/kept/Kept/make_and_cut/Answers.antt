@@ -5,7 +5,6 @@ use Rattle.pid_types.specs.declared.entry.Entry.{Entry}
 use Rattle.pid_types.specs.Sound.{IsBelow}
 use Rattle.pid_types.specs.Step.{step}
 use Rattle.kept_table.specs.Chronicle.{next_stamp}
-use Rattle.kept_table.specs.Whole.{IsKeptWhole, told}
 use Rattle.kept_table.proofs.Counts.{cut_by_one, whole-cut}
 use Rattle.kept_table.proofs.Invariant.{outcome-of, present-sound}
 use Rattle.kept_table.proofs.kept.Kept.make_and_cut.Goals as goal

@@ -12,7 +12,7 @@ use Rattle.kept_table.proofs.kept.Kept.make_call.Goals as goal
 pub invariant_of-self-2 : goal.invariant_of-self-2
 invariant_of-self-2 c =
     let e : Entry = record { worker = c.args.worker; call = c.args.call; reply = (step c.self.inside.table c.in-Some.stamp c.args.call).reply } in
-    whole-push c.self.inside.copy _ _ _ _ _ _ _ _ _ _ _ e
+    whole-push c.self.inside.copy _ _ _ _ _ _ _ _ _ _ _ _ e
     (search rules)
     c.self.invariant
     c.in_ok-enter_call.ensures.history
