@@ -11,11 +11,8 @@ use std::test::Fail;
 /// How many calls are made before each look at the table.
 const BETWEEN_LOOKS: u64 = 10;
 
-/// How many looks are taken in a run.
+/// How many looks are taken before the table is saved.
 const LOOKS: u64 = 40;
-
-/// How many looks are taken before each save.
-const BETWEEN_SAVES: u64 = 4;
 
 /// How many calls both tables are asked then.
 const MORE: u64 = 50;
@@ -55,7 +52,7 @@ fn compare(
     Ok(())
 }
 
-/// Makes the calls of a run, and saves the table ten times.
+/// Makes the calls of a run, and saves the table at its middle and at its end.
 fn run(alloc: Global, setting: &Setting) -> Result<(), Wrong> {
     let Ok(config) = Config::new(setting.pid_max, 1) else {
         return Ok(());
@@ -73,7 +70,7 @@ fn run(alloc: Global, setting: &Setting) -> Result<(), Wrong> {
             let _reply = table.call(generator.call())?;
         }
         generator.look(table.look()?);
-        if look % BETWEEN_SAVES == 3 {
+        if look % 10 == 9 {
             compare(alloc, &mut table, &mut generator, look)?;
         }
     }
