@@ -142,13 +142,13 @@ struct pidtab_fault {
 /* What a kind of fault says of its line, in the words of docs/SCRIPT.md. */
 static inline const char *pidtab_fault_text(uint32_t kind)
 {
-	static const char *const words[] = {
+	static const char *const faults[] = {
 		"no fault",
 		"bad line", "wrong digest", "bad settings", "out of order", "unknown parent", "unknown namespace",
 		"unknown control group", "bad name", "number in use twice", "namespace without an init",
 		"no number left", "impossible line"
 	};
-	return words[kind < sizeof words / sizeof words[0] ? kind : 0];
+	return faults[kind < sizeof faults / sizeof faults[0] ? kind : 0];
 }
 
 /* Opens a table as a text of pidtab_dump says: each later call has the answer that it would have had there. Any bytes may be given. DONE;
