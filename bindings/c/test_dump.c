@@ -313,7 +313,7 @@ static void want_of_memory(void)
 		fault = UNTOLD;
 	}
 	refuse_at = 0;
-	CHECK(at > 50 && other.is_open && same_tables(&table, &other));
+	CHECK(at > 20 && other.is_open && same_tables(&table, &other));
 	/* A text that is refused is refused as soon as there is memory to see why. */
 	for (at = 1, pidtab_close(&other); refuse_at = at, pidtab_load(&other, text.bytes, text.size - 1, &fault) == PIDTAB_NO_MEMORY; at++)
 		CHECK(fault_is(fault, 0, 0));

@@ -72,7 +72,7 @@ func (table *Table) Dump() (string, error) {
 	held := table.held()
 	held.lock.Lock()
 	defer held.lock.Unlock()
-	return whole(func(room unsafe.Pointer, most C.size_t, size *C.size_t) C.uint32_t {
+	return wholeText(func(room unsafe.Pointer, most C.size_t, size *C.size_t) C.uint32_t {
 		return C.pidtab_dump(&held.raw, room, most, size)
 	})
 }
@@ -116,7 +116,7 @@ func (shared *Shared) Dump() (string, error) {
 	held := shared.held()
 	held.lock.Lock()
 	defer held.lock.Unlock()
-	return whole(func(room unsafe.Pointer, most C.size_t, size *C.size_t) C.uint32_t {
+	return wholeText(func(room unsafe.Pointer, most C.size_t, size *C.size_t) C.uint32_t {
 		return C.pidtab_record_dump(&held.raw, room, most, size)
 	})
 }

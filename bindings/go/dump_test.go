@@ -62,8 +62,8 @@ func TestTheWorkedText(t *testing.T) {
 	want(t, "fork", of(again.Fork(1, false)), Child{4, 4}, nil)
 }
 
-// wantFault compares why a text is that of no table.
-func wantFault(t *testing.T, text string, wanted TextError) {
+// wantTextFault compares why a text is that of no table.
+func wantTextFault(t *testing.T, text string, wanted TextError) {
 	t.Helper()
 	_, err := FromDump(text)
 	var fault TextError
@@ -81,7 +81,7 @@ func TestFaultsOfATextByTheirLines(t *testing.T) {
 		wanted   TextError
 	}{
 		{"pid-max 32768", "pid-max 300", TextError{1, "bad settings"}},
-		{"task 2@0 parent", "task 1@0 parent", TextError{3, "out of order"}},
+		{"space 0 parent - cursor 4\nspace 2 parent 0 cursor 2 fallen", "space 2 parent 0 cursor 2 fallen\nspace 0 parent - cursor 4", TextError{4, "out of order"}},
 		{"parent 1@0", "parent 5@0", TextError{3, "unknown parent"}},
 		{"group 3,1@2", "group 3,1@5", TextError{3, "unknown namespace"}},
 		{"group 3,1@2", "group 3@2", TextError{3, "bad name"}},
@@ -89,13 +89,13 @@ func TestFaultsOfATextByTheirLines(t *testing.T) {
 		{"cursor 2 fallen", "cursor 2", TextError{5, "namespace without an init"}},
 		{"cursor 2 fallen", "cursor 02 fallen", TextError{5, "bad line"}},
 	} {
-		wantFault(t, ended(strings.Replace(dumpBody, it.old, it.new, 1)), it.wanted)
+		wantTextFault(t, ended(strings.Replace(dumpBody, it.old, it.new, 1)), it.wanted)
 	}
-	wantFault(t, strings.Replace(dumpText, "parent 1@0", "parent 5@0", 1), TextError{7, "wrong digest"})
+	wantTextFault(t, strings.Replace(dumpText, "parent 1@0", "parent 5@0", 1), TextError{7, "wrong digest"})
 	for _, text := range []string{"", "\n", "fork 1\n", "\xff\x00", strings.Repeat("x", 100000)} {
-		wantFault(t, text, TextError{1, "bad line"})
+		wantTextFault(t, text, TextError{1, "bad line"})
 	}
-	wantFault(t, dumpText+"\n", TextError{8, "bad line"})
+	wantTextFault(t, dumpText+"\n", TextError{7, "bad line"})
 	told := "pidtab: the text is that of no table: line 3: unknown parent"
 	if fault := (TextError{3, "unknown parent"}); fault.Error() != told {
 		t.Error(fault)

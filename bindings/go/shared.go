@@ -196,7 +196,7 @@ func (shared *Shared) List() (string, error) {
 	held := shared.held()
 	held.lock.Lock()
 	defer held.lock.Unlock()
-	return whole(func(room unsafe.Pointer, most C.size_t, size *C.size_t) C.uint32_t {
+	return wholeText(func(room unsafe.Pointer, most C.size_t, size *C.size_t) C.uint32_t {
 		return C.pidtab_record_list(&held.raw, room, most, size)
 	})
 }
@@ -212,7 +212,7 @@ func (shared *Shared) Opening() (string, error) {
 	held := shared.held()
 	held.lock.Lock()
 	defer held.lock.Unlock()
-	return whole(func(room unsafe.Pointer, most C.size_t, size *C.size_t) C.uint32_t {
+	return wholeText(func(room unsafe.Pointer, most C.size_t, size *C.size_t) C.uint32_t {
 		return C.pidtab_record_opening(&held.raw, room, most, size)
 	})
 }

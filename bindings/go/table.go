@@ -86,7 +86,7 @@ func (table *Table) List() (string, error) {
 	held := table.held()
 	held.lock.Lock()
 	defer held.lock.Unlock()
-	return whole(func(room unsafe.Pointer, most C.size_t, size *C.size_t) C.uint32_t {
+	return wholeText(func(room unsafe.Pointer, most C.size_t, size *C.size_t) C.uint32_t {
 		return C.pidtab_list(&held.raw, room, most, size)
 	})
 }

@@ -285,7 +285,7 @@ func TestTheDeepestLevels(t *testing.T) {
 		numbers[i] = uint32(33 - i)
 	}
 	want(t, "nspid", of(table.Nspid(1, 33)), numbers, nil)
-	if list, err := table.List(); err != nil || len(list) <= shortList || !strings.HasSuffix(list, "count 33\n") {
+	if list, err := table.List(); err != nil || len(list) <= shortText || !strings.HasSuffix(list, "count 33\n") {
 		t.Error(list, err)
 	}
 }

@@ -20,9 +20,9 @@ func answer(line string, write func(unsafe.Pointer, C.size_t, unsafe.Pointer, *C
 	return text(answer[:size]), nil
 }
 
-// whole is the list, or the text of a table, that the library writes. It is given the room, how long that is, and the place for the size; where the room was too short, it is
+// wholeText is the list, or the text of a table, that the library writes. It is given the room, how long that is, and the place for the size; where the room was too short, it is
 // asked again with as much as it said.
-func whole(write func(unsafe.Pointer, C.size_t, *C.size_t) C.uint32_t) (string, error) {
+func wholeText(write func(unsafe.Pointer, C.size_t, *C.size_t) C.uint32_t) (string, error) {
 	size := C.size_t(shortText)
 	for {
 		room := make([]C.uint8_t, size)

@@ -37,7 +37,8 @@ def closed(body: str) -> str:
 FAULTS = [
     ("pid-max 32768", "pid-max 300", "line 1: bad settings"),
     ("stamp 7", "stamp 2", "line 1: bad settings"),
-    ("task 2@0 parent", "task 1@0 parent", "line 3: out of order"),
+    ("task 2@0 parent", "task 1@0 parent", "line 3: number in use twice"),
+    ("space 0 parent - cursor 4\nspace 2 parent 0 cursor 2 fallen", "space 2 parent 0 cursor 2 fallen\nspace 0 parent - cursor 4", "line 4: out of order"),
     ("parent 1@0", "parent 5@0", "line 3: unknown parent"),
     ("group 3,1@2", "group 3,1@5", "line 3: unknown namespace"),
     ("session 1@0 control 0 children 0 live\nspace", "session 1@0 control 4 children 0 live\nspace", "line 3: unknown control group"),

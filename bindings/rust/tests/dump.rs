@@ -91,7 +91,8 @@ fn what_is_no_text() {
         let refused = Table::from_dump(bytes).expect_err("a fault");
         assert_eq!(refused, TextError::Bad { line, fault });
     }
-    let (line, fault) = (8, TextFault::BadLine);
+    // The last line is not the last.
+    let (line, fault) = (7, TextFault::BadLine);
     let refused = Table::from_dump(text() + "\n").expect_err("a fault");
     assert_eq!(refused, TextError::Bad { line, fault });
 }
