@@ -10,7 +10,6 @@
  *
  * - One thread at a time works on a struct pidtab_saved. The others may make calls on the shared record meanwhile.
  * - One process at a time writes the file, and by one descriptor.
- * - A saved history is one from the first call on. A record that pidtab_record_load or pidtab_shared_load has opened has no such one.
  * - What a write has given to the kernel survives the process. To have it survive the machine, call fsync or fdatasync.
  * - A pipe without a reader is SIGPIPE, as for any write. Ignored, it is PIDTAB_DEVICE with EPIPE.
  */
@@ -103,7 +102,8 @@ struct pidtab_saved {
 };
 
 /* Begins a saved history: writes the head into an empty file. The settings are those that the record is opened with; nobody compares
- * them. DONE; OUT_OF_RANGE; NOT_EMPTY; DEVICE, and then pidtab_saved_trim takes away what was written of the head. */
+ * them. No record of pidtab_record_load is saved so: it goes on from a text, which the file has not. DONE; OUT_OF_RANGE; NOT_EMPTY;
+ * DEVICE, and then pidtab_saved_trim takes away what was written of the head. */
 uint32_t pidtab_saved_begin(struct pidtab_saved *saved, int file, const struct pidtab_saved_head *head);
 
 /* Writes the calls that were recorded since, and perhaps some that are recorded meanwhile. The lock of a shared record is held for

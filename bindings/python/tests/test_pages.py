@@ -29,6 +29,7 @@ EXAMPLES = [
     ("bindings/python/README.md", "## For many threads, with its history", "python"),
     ("bindings/python/README.md", "## A saved history", "python"),
     ("bindings/c/README.md", "## Example", "c"),
+    ("bindings/c/README.md", "## A table as text", "c"),
     ("bindings/c/README.md", "## A saved history", "c"),
     ("bindings/rust/README.md", "## Example", "rust"),
     ("bindings/rust/README.md", "## A table for many threads, with its history", "rust"),
@@ -41,7 +42,7 @@ EXAMPLES = [
 # The pages of the library's functions.
 LIBRARY_PAGES = sorted(path.name for path in MANUAL.glob("*.3"))
 
-STATUSES = {"DONE", "NOT_KEPT", "CLOSED", "AGAIN", "NO_MEMORY", "BUSY", "OUT_OF_RANGE", "NO_ROOM", "EMPTY_LINE", "BAD_LINE", "DIFFERS", "SPENT"}
+STATUSES = {"DONE", "NOT_KEPT", "CLOSED", "AGAIN", "NO_MEMORY", "BUSY", "OUT_OF_RANGE", "NO_ROOM", "EMPTY_LINE", "BAD_LINE", "DIFFERS", "SPENT", "BAD_TEXT"}
 
 # What the header says of these by the name of another.
 INNER = {"pidtab_record_close": "pidtab_close", "pidtab_record_list": "pidtab_list", "pidtab_record_opening": "pidtab_list"}
