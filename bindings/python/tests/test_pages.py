@@ -28,15 +28,18 @@ EXAMPLES = [
     ("bindings/python/README.md", "## In its own process", "python"),
     ("bindings/python/README.md", "## For many threads, with its history", "python"),
     ("bindings/python/README.md", "## A saved history", "python"),
+    ("bindings/python/README.md", "## A table that is saved", "python"),
     ("bindings/c/README.md", "## Example", "c"),
     ("bindings/c/README.md", "## A table as text", "c"),
     ("bindings/c/README.md", "## A saved history", "c"),
     ("bindings/rust/README.md", "## Example", "rust"),
     ("bindings/rust/README.md", "## A table for many threads, with its history", "rust"),
     ("bindings/rust/README.md", "## A saved history", "rust"),
+    ("bindings/rust/README.md", "## A table that is saved", "rust"),
     ("bindings/go/README.md", "## Example", "go"),
     ("bindings/go/README.md", "## A table for many goroutines, with its history", "go"),
     ("bindings/go/README.md", "## A saved history", "go"),
+    ("bindings/go/README.md", "## A table that is saved", "go"),
 ]
 
 # The pages of the library's functions.
@@ -116,6 +119,7 @@ class Examples(unittest.TestCase):
     def test_python_in_its_own_process(self) -> None:
         need_library()
         self.check("python", run_python, "## In its own process")
+        self.check("python", run_python, "## A table that is saved")
         self.check("python", run_python, "### From Python")
 
     def test_python_for_many_threads(self) -> None:
