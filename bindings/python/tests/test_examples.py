@@ -7,7 +7,7 @@ import sys
 import unittest
 from pathlib import Path
 
-from pidtab import Process, Table, find_program
+from pidtab import Process, Table, find_library, find_program
 from tests.pages import EXAMPLES, REPOSITORY, quoted, rows, script_lines
 from tests.ways import need_library, need_program
 
@@ -132,7 +132,7 @@ class RecoveryByText(unittest.TestCase):
 
     def test_the_page_shows_what_is_so(self) -> None:
         (code,) = re.findall(r"```python\n(.*?)```", page_section("A crash, and the same lines again"), flags=re.DOTALL)
-        done = subprocess.run([sys.executable, "-c", code], cwd=EXAMPLES, env=PACKAGE, capture_output=True, text=True, check=True)
+        done = subprocess.run([sys.executable, "-c", code], cwd=EXAMPLES, env={**PACKAGE, "PIDTAB_LIBRARY": find_library()}, capture_output=True, text=True, check=True)
         self.assertEqual(done.stdout, "('reaped 3 exit 6', 'child 4 root 5', 'control 12')\n")
 
 
