@@ -52,7 +52,7 @@ func withByte(text string) []byte {
 }
 
 // FromDump makes a table as a text of Dump says: each later call has the answer that it would have had there. Any text may be given; a TextError
-// says why one is that of no table. It costs some times what the forks cost that made the tasks. ErrNoMemory.
+// says why one is that of no table. It costs some ten times what the forks cost that made the tasks. ErrNoMemory.
 func FromDump(text string) (*Table, error) {
 	if err := compareVersions(); err != nil {
 		return nil, err

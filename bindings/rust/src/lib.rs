@@ -199,7 +199,7 @@ impl Table {
     /// # Ok::<(), std::io::Error>(())
     /// ```
     ///
-    /// It costs some times what the forks cost that made the tasks.
+    /// It costs some ten times what the forks cost that made the tasks.
     ///
     /// # Errors
     /// `Bad` with the line, `NoMemory`.
