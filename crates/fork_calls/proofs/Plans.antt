@@ -1,5 +1,5 @@
 -- Why a fork has no room, in the model and in a store.
-use Rattle.std.proofs.Common.{◌≡◌, ℕ, find, Some, None, is_none, sym, ap, ◌∙◌, option_map}
+use Rattle.std.proofs.Common.{◌≡◌, ℕ, find, Option, Some, None, is_none, is_some, true, IsSome, sym, ap, ◌∙◌, option_map, refl}
 use Rattle.std.specs.Option.{option_map_or}
 use Rattle.pid_types.specs.declared.reply.Refusal.TheVariants.{NoNumber, PidsLimit}
 use Rattle.pid_types.specs.declared.plain.Row.{Row}
@@ -8,13 +8,18 @@ use Rattle.pid_types.specs.Controls.{passed_limit}
 use Rattle.pid_types.specs.Draw.{draw}
 use Rattle.pid_types.specs.Fork.{no_room}
 use Rattle.model_laws.proofs.Lists.{find-Some}
-use Rattle.pid_numbers.specs.Numbering.{id_at, path_at, draw_in}
+use Rattle.pid_numbers.specs.Numbering.{Namespace, id_at, namespace_at, path_at, draw_in}
 use Rattle.task_table.specs.Store.{Store}
 use Rattle.task_table.specs.View.{state_of}
 use Rattle.task_table.specs.Lawful.{IsLawful}
 use Rattle.task_table.proofs.Keys.{id_for, path-is, path-there}
 use Rattle.fork_calls.proofs.Draws.{find-draws}
 use Rattle.fork_calls.proofs.Cursors.{IsPlanned-own}
+
+-- what has an id is there
+has-id : (o : Option Namespace) (i : ℕ) → option_map (λ t. t.id) o ≡ Some i → is_some o ≡ true
+has-id None i e = absurd (cc)
+has-id (Some x) i e = refl
 
 module _ (s : Store) (l : IsLawful s) (sp t : ℕ) (at : id_at s.numbering sp ≡ Some t) (caller : Row) where
   -- the first namespace with no number to give
@@ -35,5 +40,5 @@ module _ (s : Store) (l : IsLawful s) (sp t : ℕ) (at : id_at s.numbering sp �
       ∙ ap (λ o. option_map NoNumber o) z
 
   -- the namespace that has none is there
-  pub full-there : (q : ℕ) → find (λ q. is_none (draw_in s.numbering q)) (path_at s.numbering sp) ≡ Some q → id_at s.numbering q ≡ Some (id_for s.numbering l.numbering 0 q)
-  full-there q full = path-there s.numbering l.numbering sp 0 q (find-Some (λ q. is_none (draw_in s.numbering q)) (path_at s.numbering sp) q full).0
+  pub full-there : (q : ℕ) → find (λ q. is_none (draw_in s.numbering q)) (path_at s.numbering sp) ≡ Some q → IsSome (namespace_at s.numbering q)
+  full-there q full = has-id (namespace_at s.numbering q) _ (path-there s.numbering l.numbering sp 0 q (find-Some (λ q. is_none (draw_in s.numbering q)) (path_at s.numbering sp) q full).0)

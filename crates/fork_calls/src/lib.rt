@@ -28,13 +28,12 @@ ghost use Rattle.task_table.specs.View.{name_at, row_of, state_of};
 ghost use Rattle.task_table.specs.Whole.{IsWhole, HasParents};
 
 use arrayvec::ArrayVec;
-use pid_numbers::PlanFault;
 use pid_types::keys::{Pid, SpaceKey, TaskKey};
 use pid_types::plain::{DEEPEST_SPACE, LEVELS, Life};
 use pid_types::reply::{Refusal, ShortReply};
 use std::alloc::AllocError;
 use task_table::Tasks;
-use task_table::view::{Found, find_live, laws, own_space};
+use task_table::view::{Found, find_live, laws};
 use task_tree::Task;
 
 /// The control group whose limit one task more beside the caller would pass.
@@ -127,14 +126,13 @@ fn reply_for(store: &Tasks, key: TaskKey, own: SpaceKey, numbers: &[Pid]) -> Sho
 fn fork_planned(
     store: &mut Tasks,
     found: &Found,
-    own: SpaceKey,
     space: SpaceKey,
     numbers: &[Pid],
 ) -> Result<ShortReply, AllocError>
     requires whole { IsWhole store.old }
     requires there { task_at store.old.tree found.now.key ≡ Some found.now.task }
     requires live { lives found.now.task ≡ true }
-    requires own { id_at store.old.numbering own ≡ Some (name_at store.old.numbering found.now.key).space }
+    requires own { id_at store.old.numbering found.now.space ≡ Some (name_at store.old.numbering found.now.key).space }
     requires id { id_at store.old.numbering space ≡ Some found.now.task.children_space }
     requires all { find (λ s. is_none (draw_in store.old.numbering s)) (path_at store.old.numbering space) ≡ None }
     requires planned { numbers.now ≡ map (λ s. unwrap_or (draw_in store.old.numbering s) 0)
@@ -152,20 +150,15 @@ fn fork_planned(
     let task = child_of(found, found.task.children_space);
     let key = store.fork(Some(found.key), space, numbers, task)?;
     laws(store);
-    Ok(reply_for(store, key, own, numbers))
+    Ok(reply_for(store, key, found.space, numbers))
 }
 
 /// The caller's child in a namespace that stands. The error is want of memory.
-fn fork_into(
-    store: &mut Tasks,
-    found: &Found,
-    own: SpaceKey,
-    space: SpaceKey,
-) -> Result<ShortReply, AllocError>
+fn fork_into(store: &mut Tasks, found: &Found, space: SpaceKey) -> Result<ShortReply, AllocError>
     requires whole { IsWhole store.old }
     requires there { task_at store.old.tree found.now.key ≡ Some found.now.task }
     requires live { lives found.now.task ≡ true }
-    requires own { id_at store.old.numbering own ≡ Some (name_at store.old.numbering found.now.key).space }
+    requires own { id_at store.old.numbering found.now.space ≡ Some (name_at store.old.numbering found.now.key).space }
     requires id { id_at store.old.numbering space ≡ Some found.now.task.children_space }
     ensures state { OnOk result (state_of store.new ≡ (child_there store.old found.now.key found.now.task).state) }
     ensures reply { IfOk result (λ reply. reply_of reply
@@ -177,17 +170,17 @@ fn fork_into(
     let mut numbers = ArrayVec::<Pid, LEVELS>::new();
     match store.numbers().plan_into(space, &mut numbers) {
         Err(full) => Ok(ShortReply::Refused(Refusal::NoNumber(id_of(store, full)))),
-        Ok(()) => fork_planned(store, found, own, space, numbers.as_slice()),
+        Ok(()) => fork_planned(store, found, space, numbers.as_slice()),
     }
 }
 
 /// The caller's child in the root namespace, where one number is planned and no list of them. The error is want of
 /// memory.
-fn fork_into_root(store: &mut Tasks, found: &Found, own: SpaceKey) -> Result<ShortReply, AllocError>
+fn fork_into_root(store: &mut Tasks, found: &Found) -> Result<ShortReply, AllocError>
     requires whole { IsWhole store.old }
     requires there { task_at store.old.tree found.now.key ≡ Some found.now.task }
     requires live { lives found.now.task ≡ true }
-    requires own { id_at store.old.numbering own ≡ Some (name_at store.old.numbering found.now.key).space }
+    requires own { id_at store.old.numbering found.now.space ≡ Some (name_at store.old.numbering found.now.key).space }
     requires id { id_at store.old.numbering 0 ≡ Some found.now.task.children_space }
     ensures state { OnOk result (state_of store.new ≡ (child_there store.old found.now.key found.now.task).state) }
     ensures reply { IfOk result (λ reply. reply_of reply
@@ -198,7 +191,7 @@ fn fork_into_root(store: &mut Tasks, found: &Found, own: SpaceKey) -> Result<Sho
     laws(store);
     match store.numbers().plan_one(0) {
         None => Ok(ShortReply::Refused(Refusal::NoNumber(id_of(store, 0)))),
-        Some(number) => fork_planned(store, found, own, 0, &[number]),
+        Some(number) => fork_planned(store, found, 0, &[number]),
     }
 }
 
@@ -207,7 +200,6 @@ fn fork_into_root(store: &mut Tasks, found: &Found, own: SpaceKey) -> Result<Sho
 fn fork_new_planned(
     store: &mut Tasks,
     found: &Found,
-    own: SpaceKey,
     stamp: u64,
     numbers: &[Pid],
 ) -> Result<ShortReply, AllocError>
@@ -215,13 +207,14 @@ fn fork_new_planned(
     requires below { IsBelow stamp (state_of store.old) }
     requires there { task_at store.old.tree found.now.key ≡ Some found.now.task }
     requires live { lives found.now.task ≡ true }
-    requires own { id_at store.old.numbering own ≡ Some (name_at store.old.numbering found.now.key).space }
-    requires id { id_at store.old.numbering own ≡ Some found.now.task.children_space }
+    requires own { id_at store.old.numbering found.now.space ≡ Some (name_at store.old.numbering found.now.key).space }
+    requires id { id_at store.old.numbering found.now.space ≡ Some found.now.task.children_space }
     requires stands { is_gone (state_of store.old) found.now.task.children_space ≡ false }
     requires shallow { nat_le deepest_space (level (state_of store.old).spaces found.now.task.children_space) ≡ false }
-    requires all { find (λ s. is_none (draw_in store.old.numbering s)) (path_at store.old.numbering own) ≡ None }
+    requires all { find (λ s. is_none (draw_in store.old.numbering s)) (path_at store.old.numbering found.now.space)
+        ≡ None }
     requires planned { numbers.now ≡ 1 ∷ map (λ s. unwrap_or (draw_in store.old.numbering s) 0)
-        (path_at store.old.numbering own) }
+        (path_at store.old.numbering found.now.space) }
     ensures state { OnOk result (state_of store.new
         ≡ (child_below store.old found.now.key found.now.task stamp).state) }
     ensures reply { IfOk result (λ reply. reply_of reply
@@ -234,25 +227,20 @@ fn fork_new_planned(
         return Ok(ShortReply::Refused(refusal));
     }
     let task = child_of(found, stamp);
-    let keys = store.fork_new(found.key, own, stamp, numbers, task)?;
+    let keys = store.fork_new(found.key, found.space, stamp, numbers, task)?;
     laws(store);
-    Ok(reply_for(store, keys.0, own, numbers))
+    Ok(reply_for(store, keys.0, found.space, numbers))
 }
 
 /// The caller's child in a new namespace inside the caller's own, in which it is the init. The error is want of
 /// memory.
-fn fork_inside(
-    store: &mut Tasks,
-    found: &Found,
-    own: SpaceKey,
-    stamp: u64,
-) -> Result<ShortReply, AllocError>
+fn fork_inside(store: &mut Tasks, found: &Found, stamp: u64) -> Result<ShortReply, AllocError>
     requires whole { IsWhole store.old }
     requires below { IsBelow stamp (state_of store.old) }
     requires there { task_at store.old.tree found.now.key ≡ Some found.now.task }
     requires live { lives found.now.task ≡ true }
-    requires own { id_at store.old.numbering own ≡ Some (name_at store.old.numbering found.now.key).space }
-    requires id { id_at store.old.numbering own ≡ Some found.now.task.children_space }
+    requires own { id_at store.old.numbering found.now.space ≡ Some (name_at store.old.numbering found.now.key).space }
+    requires id { id_at store.old.numbering found.now.space ≡ Some found.now.task.children_space }
     requires stands { is_gone (state_of store.old) found.now.task.children_space ≡ false }
     requires shallow { nat_le deepest_space (level (state_of store.old).spaces found.now.task.children_space) ≡ false }
     ensures state { OnOk result (state_of store.new
@@ -264,14 +252,9 @@ fn fork_inside(
 {
     laws(store);
     let mut numbers = ArrayVec::<Pid, LEVELS>::new();
-    match store.numbers().plan_new_into(own, &mut numbers) {
-        Err(fault) => match fault {
-            PlanFault::TooDeep => unreachable!(),
-            PlanFault::NoNumber(full) => {
-                Ok(ShortReply::Refused(Refusal::NoNumber(id_of(store, full))))
-            }
-        },
-        Ok(()) => fork_new_planned(store, found, own, stamp, numbers.as_slice()),
+    match store.numbers().plan_new_into(found.space, &mut numbers) {
+        Err(full) => Ok(ShortReply::Refused(Refusal::NoNumber(id_of(store, full)))),
+        Ok(()) => fork_new_planned(store, found, stamp, numbers.as_slice()),
     }
 }
 
@@ -352,25 +335,20 @@ fn find_space(store: &Tasks, id: u64, own: SpaceKey) -> Option<SpaceKey>
 }
 
 /// The namespace for the caller's children, or why it can have none there or in a new one below it.
-fn namespace_for(
-    store: &Tasks,
-    found: &Found,
-    own: SpaceKey,
-    new_space: bool,
-) -> Result<SpaceKey, Refusal>
+fn namespace_for(store: &Tasks, found: &Found, new_space: bool) -> Result<SpaceKey, Refusal>
     requires there { task_at store.now.tree found.now.key ≡ Some found.now.task }
-    requires own { id_at store.now.numbering own ≡ Some (name_at store.now.numbering found.now.key).space }
+    requires own { id_at store.now.numbering found.now.space ≡ Some (name_at store.now.numbering found.now.key).space }
     ensures ok { IfOk result (λ space. (space_refusal (state_of store.now)
         (row_of store.now found.now.key found.now.task) new_space ≡ None)
         × (id_at store.now.numbering space ≡ Some found.now.task.children_space)) }
     ensures err { IfErr result (λ r. space_refusal (state_of store.now)
         (row_of store.now found.now.key found.now.task) new_space ≡ Some r) }
 {
-    let space = find_space(store, found.task.children_space, own);
+    let space = find_space(store, found.task.children_space, found.space);
     if !new_space {
         return standing(store, found, space);
     }
-    match nest_refusal(store, space, own) {
+    match nest_refusal(store, space, found.space) {
         Some(refusal) => Err(refusal),
         None => standing(store, found, space),
     }
@@ -397,11 +375,10 @@ pub fn fork(
     let Some(found) = find_live(store, caller) else {
         return Ok(ShortReply::Refused(Refusal::NoCaller));
     };
-    let own = own_space(store, found.key);
-    match namespace_for(store, &found, own, new_space) {
+    match namespace_for(store, &found, new_space) {
         Err(refusal) => Ok(ShortReply::Refused(refusal)),
-        Ok(_) if new_space => fork_inside(store, &found, own, stamp),
-        Ok(0) => fork_into_root(store, &found, own),
-        Ok(space) => fork_into(store, &found, own, space),
+        Ok(_) if new_space => fork_inside(store, &found, stamp),
+        Ok(0) => fork_into_root(store, &found),
+        Ok(space) => fork_into(store, &found, space),
     }
 }

@@ -19,8 +19,7 @@ mod teardown;
 use pid_types::keys::{Pid, SpaceKey, TaskKey};
 use pid_types::reply::{Refusal, ShortReply};
 use task_table::Tasks;
-use task_table::view::{find_live, laws, own_space};
-use task_tree::Task;
+use task_table::view::{Found, find_live, laws};
 pub use teardown::{fall, new_parent};
 
 /// Whether the task has number 1 in the namespace.
@@ -31,31 +30,36 @@ fn is_first(store: &Tasks, space: SpaceKey, key: TaskKey) -> bool
 }
 
 /// A live task that is no init ends, and its children have a new parent.
-fn end_task(store: &mut Tasks, key: TaskKey, task: Task, status: u8)
+fn end_task(store: &mut Tasks, found: &Found, status: u8)
     requires whole { IsWhole store.old }
-    requires there { task_at store.old.tree key ≡ Some task }
-    requires live { lives task ≡ true }
-    requires inner { (u : Identifier) → identifier_at store.old.numbering key ≡ Some u
-        → number_of store.old.numbering key u.space ≢ Some 1 }
+    requires there { task_at store.old.tree found.now.key ≡ Some found.now.task }
+    requires live { lives found.now.task ≡ true }
+    requires own { (u : Identifier) → identifier_at store.old.numbering found.now.key ≡ Some u
+        → found.now.space ≡ u.space }
+    requires inner { (u : Identifier) → identifier_at store.old.numbering found.now.key ≡ Some u
+        → number_of store.old.numbering found.now.key u.space ≢ Some 1 }
     ensures state { state_of store.new ≡ sweep (record (state_of store.old) {
       rows = rows_after_exit
-          (state_of store.old) (row_of store.old key task) status;
+          (state_of store.old) (row_of store.old found.now.key found.now.task) status;
     }) }
     ensures parents { HasParents store.new }
 {
     laws(store);
-    teardown::exit(store, key, task, status);
+    teardown::exit(store, found, status);
     laws(store);
 }
 
 /// The live init of a namespace other than the root ends, and the namespace falls.
-fn end_init(store: &mut Tasks, init: TaskKey, task: Task, status: u8)
+fn end_init(store: &mut Tasks, init: &Found, status: u8)
     requires whole { IsWhole store.old }
-    requires there { task_at store.old.tree init ≡ Some task }
-    requires live { lives task ≡ true }
-    requires top { (u : Identifier) → identifier_at store.old.numbering init ≡ Some u
-        → (number_of store.old.numbering init u.space ≡ Some 1) × (u.space ≢ 0) }
-    ensures state { state_of store.new ≡ sweep (fall_of (state_of store.old) (row_of store.old init task) status) }
+    requires there { task_at store.old.tree init.now.key ≡ Some init.now.task }
+    requires live { lives init.now.task ≡ true }
+    requires own { (u : Identifier) → identifier_at store.old.numbering init.now.key ≡ Some u
+        → init.now.space ≡ u.space }
+    requires top { (u : Identifier) → identifier_at store.old.numbering init.now.key ≡ Some u
+        → (number_of store.old.numbering init.now.key u.space ≡ Some 1) × (u.space ≢ 0) }
+    ensures state { state_of store.new
+        ≡ sweep (fall_of (state_of store.old) (row_of store.old init.now.key init.now.task) status) }
     ensures parents { HasParents store.new }
 {
     laws(store);
@@ -89,11 +93,10 @@ pub fn exit(store: &mut Tasks, caller: Pid, status: u8) -> ShortReply
     if is_first(store, 0, found.key) {
         return ShortReply::Refused(Refusal::RootInit);
     }
-    let space = own_space(store, found.key);
-    if is_first(store, space, found.key) {
-        end_init(store, found.key, found.task, status);
+    if is_first(store, found.space, found.key) {
+        end_init(store, &found, status);
     } else {
-        end_task(store, found.key, found.task, status);
+        end_task(store, &found, status);
     }
     ShortReply::Done
 }

@@ -26,25 +26,22 @@ ghost use Rattle.ns_teardown.specs.Fall.{slot_at, member_after_fall, slot_after_
 
 use crate::heirs::nearest_subreaper;
 use crate::members::end_members;
-use pid_types::keys::TaskKey;
+use pid_types::keys::{SpaceKey, TaskKey};
 use pid_types::plain::Ended;
 use task_table::Tasks;
-use task_table::view::laws;
-use task_tree::Task;
+use task_table::view::{Found, laws};
 
-/// Who takes the children of a live task when it ends: the nearest subreaper of its own namespace among its
-/// ancestors (`PR_SET_CHILD_SUBREAPER(2const)`), or else the init there. Ancestors in other namespaces take
-/// no children. It costs a few reads where no task is a subreaper, or else a step for each ancestor up to the first
-/// such subreaper, or up to the first in another namespace.
-pub fn new_parent(store: &Tasks, key: TaskKey) -> TaskKey
+/// Who takes the children of a live task when it ends, which is in the namespace: the nearest subreaper of that
+/// namespace among its ancestors (`PR_SET_CHILD_SUBREAPER(2const)`), or else the init there. Ancestors in other
+/// namespaces take no children. It costs a few reads where no task is a subreaper, or else a step for each ancestor
+/// up to the first such subreaper, or up to the first in another namespace.
+pub fn new_parent(store: &Tasks, key: TaskKey, space: SpaceKey) -> TaskKey
     requires good { HasGoodTasks store.now }
     requires live { option_map_or lives (task_at store.now.tree key) false ≡ true }
+    requires own { (u : Identifier) → identifier_at store.now.numbering key ≡ Some u → space ≡ u.space }
     ensures { IsHeir store.now key result }
 {
     laws(store);
-    let Some(space) = store.numbers().space_of(key) else {
-        unreachable!()
-    };
     if let Some(ancestor) = nearest_subreaper(store, space, key) {
         return ancestor;
     }
@@ -56,9 +53,10 @@ pub fn new_parent(store: &Tasks, key: TaskKey) -> TaskKey
 
 /// The children of a live task that is no init get their new parent. It costs a few writes for each child,
 /// and, if there is one, what [`new_parent`] costs.
-fn hand_children(store: &mut Tasks, key: TaskKey)
+fn hand_children(store: &mut Tasks, key: TaskKey, space: SpaceKey)
     requires good { HasGoodTasks store.old }
     requires live { option_map_or lives (task_at store.old.tree key) false ≡ true }
+    requires own { (u : Identifier) → identifier_at store.old.numbering key ≡ Some u → space ≡ u.space }
     requires inner { (u : Identifier) → identifier_at store.old.numbering key ≡ Some u
         → number_of store.old.numbering key u.space ≢ Some 1 }
     ensures parents { (heir : ℕ) × IsHeir store.old key heir
@@ -70,31 +68,33 @@ fn hand_children(store: &mut Tasks, key: TaskKey)
     if store.tree().first_child(key).is_none() {
         return;
     }
-    let heir = new_parent(store, key);
+    let heir = new_parent(store, key, space);
     store.hand_on(key, heir);
 }
 
 /// A live task that is no init of its own namespace ends (`_exit(2)`): its children get their new parent,
 /// and it waits for its own as a zombie. A task without children needs no new parent.
-pub fn exit(store: &mut Tasks, key: TaskKey, task: Task, status: u8)
+pub fn exit(store: &mut Tasks, found: &Found, status: u8)
     requires good { HasGoodTasks store.old }
-    requires there { task_at store.old.tree key ≡ Some task }
-    requires live { lives task ≡ true }
-    requires inner { (u : Identifier) → identifier_at store.old.numbering key ≡ Some u
-        → number_of store.old.numbering key u.space ≢ Some 1 }
-    ensures tasks { store.new.tree.tasks ≡ slice_set store.old.tree.tasks key
-        (Some (record task { life = Life.Zombie (Ended.Exited status) })) }
-    ensures parents { (heir : ℕ) × IsHeir store.old key heir
-        × ((k : ℕ) → parent_of store.new.tree k ≡ option_map (handed key heir) (parent_of store.old.tree k)) }
-    ensures home { ChangesHome store.old.charges store.new.charges task.home
+    requires there { task_at store.old.tree found.now.key ≡ Some found.now.task }
+    requires live { lives found.now.task ≡ true }
+    requires own { (u : Identifier) → identifier_at store.old.numbering found.now.key ≡ Some u
+        → found.now.space ≡ u.space }
+    requires inner { (u : Identifier) → identifier_at store.old.numbering found.now.key ≡ Some u
+        → number_of store.old.numbering found.now.key u.space ≢ Some 1 }
+    ensures tasks { store.new.tree.tasks ≡ slice_set store.old.tree.tasks found.now.key
+        (Some (record found.now.task { life = Life.Zombie (Ended.Exited status) })) }
+    ensures parents { (heir : ℕ) × IsHeir store.old found.now.key heir × ((k : ℕ) → parent_of store.new.tree k
+        ≡ option_map (handed found.now.key heir) (parent_of store.old.tree k)) }
+    ensures home { ChangesHome store.old.charges store.new.charges found.now.task.home
         (option_map (λ (h : Home). record h { live = h.live - 1; zombies = h.zombies + 1 })
-        (home_at store.old.charges task.home)) }
+        (home_at store.old.charges found.now.task.home)) }
     ensures rest { (store.new.numbering ≡ store.old.numbering) × (store.new.members ≡ store.old.members) }
     ensures tree { HasParents store.new }
 {
     laws(store);
-    hand_children(store, key);
-    store.finish(key, task, Ended::Exited(status));
+    hand_children(store, found.key, found.space);
+    store.finish(found.key, found.task, Ended::Exited(status));
 }
 
 /// The live init of a namespace other than the root ends, and the namespace falls with all inside it: of
@@ -104,25 +104,25 @@ pub fn exit(store: &mut Tasks, key: TaskKey, task: Task, status: u8)
 ///
 /// It costs a search for each member and each level of its identifier, and looks at no namespace but those inside,
 /// where there are more than a few.
-pub fn fall(store: &mut Tasks, init: TaskKey, status: u8)
+pub fn fall(store: &mut Tasks, init: &Found, status: u8)
     requires good { HasGoodTasks store.old }
     requires bound { HasGoodPidMax store.old.numbering.pid_max }
-    requires live { option_map_or lives (task_at store.old.tree init) false ≡ true }
-    requires top { (u : Identifier) → identifier_at store.old.numbering init ≡ Some u
-        → (number_of store.old.numbering init u.space ≡ Some 1) × (u.space ≢ 0) }
-    ensures slots { (u : Identifier) → identifier_at store.old.numbering init ≡ Some u → (k : ℕ)
-        → slot_at store.new k ≡ slot_after_fall store.old u.space init status k }
-    ensures init { slot_at store.new init ≡ member_after_fall false true status (slot_at store.old init) }
-    ensures numbers { (u : Identifier) → identifier_at store.old.numbering init ≡ Some u
+    requires live { option_map_or lives (task_at store.old.tree init.now.key) false ≡ true }
+    requires own { (u : Identifier) → identifier_at store.old.numbering init.now.key ≡ Some u
+        → init.now.space ≡ u.space }
+    requires top { (u : Identifier) → identifier_at store.old.numbering init.now.key ≡ Some u
+        → (number_of store.old.numbering init.now.key u.space ≡ Some 1) × (u.space ≢ 0) }
+    ensures slots { (u : Identifier) → identifier_at store.old.numbering init.now.key ≡ Some u → (k : ℕ)
+        → slot_at store.new k ≡ slot_after_fall store.old u.space init.now.key status k }
+    ensures init { slot_at store.new init.now.key
+        ≡ member_after_fall false true status (slot_at store.old init.now.key) }
+    ensures numbers { (u : Identifier) → identifier_at store.old.numbering init.now.key ≡ Some u
         → (b : Numbering) × FallsWithin u.space store.old.numbering b × HasLaws b × IsLess b store.new.numbering }
     ensures homes { KeepsHomes store.old.charges store.new.charges }
     ensures tree { HasParents store.new }
 {
     laws(store);
-    let Some(space) = store.numbers().space_of(init) else {
-        unreachable!()
-    };
-    store.fell(space);
+    store.fell(init.space);
     laws(store);
-    end_members(store, space, init, status);
+    end_members(store, init.space, init.key, status);
 }

@@ -121,6 +121,23 @@ impl Idents {
         }
     }
 
+    /// The key of the next identifier. The error is that there are 2^30 places, none of them vacant.
+    #[inline(always)]
+    pub(crate) fn next_key(&self) -> Result<IdentKey, AllocError>
+        ensures key { IfOk result (λ key. key ≡ self.now.vacant_key) }
+        ensures few { IfOk result (λ key. key < 2 ^ 30) }
+        ensures vacant { IfOk result (λ key. get self.now key ≡ None) }
+    {
+        if let Some(&key) = self.vacant.last() {
+            return Ok(key);
+        }
+        let places = self.places.len();
+        if places >= 1 << 30 {
+            return Err(AllocError);
+        }
+        Ok(places as IdentKey)
+    }
+
     /// Takes the memory for one more identifier, and answers its key. The error is want of memory, or that there are
     /// 2^30 places.
     pub(crate) fn make_room(&mut self) -> Result<IdentKey, AllocError>
@@ -130,16 +147,12 @@ impl Idents {
         ensures few { IfOk result (λ key. key < 2 ^ 30) }
         ensures vacant { IfOk result (λ key. get self.old key ≡ None) }
     {
-        if let Some(&key) = self.vacant.last() {
-            return Ok(key);
+        let key = self.next_key()?;
+        if self.vacant.is_empty() {
+            self.places.try_reserve(1)?;
+            self.vacant.try_reserve(self.places.len() + 1)?;
         }
-        let places = self.places.len();
-        if places >= 1 << 30 {
-            return Err(AllocError);
-        }
-        self.places.try_reserve(1)?;
-        self.vacant.try_reserve(places + 1)?;
-        Ok(places as IdentKey)
+        Ok(key)
     }
 
     /// Puts an identifier into the place that there is room for, and answers its key.

@@ -362,13 +362,13 @@ impl Numbers {
         plan_at(&self.ids, space)
     }
 
-    /// Takes the memory for one identifier, and answers the key that the next one will have, which is below
-    /// 2^30. The error is want of memory.
-    pub fn reserve(&mut self) -> Result<IdentKey, AllocError>
-        ensures same { self.new ≡ self.old }
-        ensures next { IfOk result (λ key. (key ≡ self.new.next) × (key < 2 ^ 30)) }
+    /// The key that the next identifier will have, which is below 2^30. It takes no memory: [`draw`](Numbers::draw) and
+    /// [`draw_new`](Numbers::draw_new) do. The error is that there are 2^30 identifiers.
+    #[inline(always)]
+    pub fn next_key(&self) -> Result<IdentKey, AllocError>
+        ensures { IfOk result (λ key. (key ≡ self.now.next) × (key < 2 ^ 30)) }
     {
-        self.idents.make_room()
+        self.idents.next_key()
     }
 
     /// Gives the planned numbers to a new identifier, which one task uses, and answers its key. The
@@ -405,43 +405,41 @@ impl Numbers {
     }
 
     /// Writes the numbers that a new namespace inside the parent and those around it give next over others, innermost
-    /// first: 1 in the new one. It costs one or two searches for each level.
-    ///
-    /// The error is that the parent has the deepest level, 32 (`pid_namespaces(7)`, "Nesting PID
-    /// namespaces"), or else the first namespace that has no number to give.
+    /// first: 1 in the new one. Or it answers the first namespace that has none to give. It costs one or two searches
+    /// for each level.
     #[inline(always)]
     pub fn plan_new_into(
         &self,
         parent: SpaceKey,
         numbers: &mut ArrayVec<Pid, LEVELS>,
-    ) -> Result<(), PlanFault>
-        ensures ok { OnOk result ((length (path_at self.now parent) ≤ deepest_space)
-            × (find (λ s. is_none (draw_in self.now s)) (path_at self.now parent) ≡ None)
+    ) -> Result<(), SpaceKey>
+        requires shallow { length (path_at self.now parent) ≤ deepest_space }
+        ensures ok { OnOk result ((find (λ s. is_none (draw_in self.now s)) (path_at self.now parent) ≡ None)
             × (numbers.new.items ≡ 1 ∷ map (λ s. unwrap_or (draw_in self.now s) 0) (path_at self.now parent))) }
-        ensures err { IfErr result (λ fault. IsPlanFault self.now parent fault) }
+        ensures err { IfErr result (λ s. find (λ s. is_none (draw_in self.now s)) (path_at self.now parent) ≡ Some s) }
     {
-        if self.tree.levels(parent) > DEEPEST_SPACE {
-            return Err(PlanFault::TooDeep);
-        }
         numbers.clear();
         numbers.push(1);
-        match plan_path(&self.ids, self.tree.path_up(parent), numbers) {
-            Ok(()) => Ok(()),
-            Err(space) => Err(PlanFault::NoNumber(space)),
-        }
+        plan_path(&self.ids, self.tree.path_up(parent), numbers)
     }
 
-    /// The numbers of [`plan_new_into`](Numbers::plan_new_into) in a list of their own, of 33 places.
+    /// The numbers of [`plan_new_into`](Numbers::plan_new_into) in a list of their own, of 33 places, at any depth.
+    ///
+    /// The error is that the parent has the deepest level, 32 (`pid_namespaces(7)`, "Nesting PID
+    /// namespaces"), or else the first namespace that has no number to give.
     pub fn plan_new(&self, parent: SpaceKey) -> Result<ArrayVec<Pid, LEVELS>, PlanFault>
         ensures ok { IfOk result (λ numbers. (length (path_at self.now parent) ≤ deepest_space)
             × (find (λ s. is_none (draw_in self.now s)) (path_at self.now parent) ≡ None)
             × (numbers.items ≡ 1 ∷ map (λ s. unwrap_or (draw_in self.now s) 0) (path_at self.now parent))) }
         ensures err { IfErr result (λ fault. IsPlanFault self.now parent fault) }
     {
+        if self.tree.levels(parent) > DEEPEST_SPACE {
+            return Err(PlanFault::TooDeep);
+        }
         let mut numbers = ArrayVec::new();
         match self.plan_new_into(parent, &mut numbers) {
             Ok(()) => Ok(numbers),
-            Err(fault) => Err(fault),
+            Err(space) => Err(PlanFault::NoNumber(space)),
         }
     }
 

@@ -20,10 +20,10 @@ ghost use Rattle.set_calls.specs.declared.groups.Move.{Move};
 ghost use Rattle.set_calls.specs.Asked.{IsTarget, IsNamed, MayJoin};
 
 use groups_sessions::{GroupAsk, Target};
-use pid_types::keys::{IdentKey, Pid, SpaceKey, TaskKey};
+use pid_types::keys::{IdentKey, Pid, TaskKey};
 use pid_types::reply::{Refusal, ShortReply};
 use task_table::Tasks;
-use task_table::view::{Found, find_live, find_task, laws, own_space};
+use task_table::view::{Found, find_live, find_task, laws};
 
 /// Which task goes into which group, both by their keys.
 #[derive(Clone, Copy)]
@@ -33,16 +33,17 @@ struct Move {
 }
 
 /// The task that the number names: 0 the caller, and a negative number nobody.
-fn find_target(store: &Tasks, caller: &Found, space: SpaceKey, pid: i32) -> Option<Found>
+fn find_target(store: &Tasks, caller: &Found, pid: i32) -> Option<Found>
     requires there { task_at store.now.tree caller.now.key ≡ Some caller.now.task }
-    requires own { id_at store.now.numbering space ≡ Some (name_at store.now.numbering caller.now.key).space }
+    requires own { id_at store.now.numbering caller.now.space
+        ≡ Some (name_at store.now.numbering caller.now.key).space }
     ensures there { IfSome result (λ f. task_at store.now.tree f.key ≡ Some f.task) }
     ensures row { target_of (state_of store.now) (row_of store.now caller.now.key caller.now.task) pid
         ≡ option_map (λ (f : Found). row_of store.now f.key f.task) result }
 {
     match u32::try_from(pid) {
         Ok(0) => Some(*caller),
-        Ok(number) => find_task(store, space, number),
+        Ok(number) => find_task(store, caller.space, number),
         Err(_) => None,
     }
 }
@@ -63,12 +64,13 @@ fn target(store: &Tasks, caller: IdentKey, found: &Found) -> Target
 }
 
 /// The same about the task that the number names.
-fn named_target(store: &Tasks, caller: &Found, space: SpaceKey, pid: i32) -> Option<Target>
+fn named_target(store: &Tasks, caller: &Found, pid: i32) -> Option<Target>
     requires there { task_at store.now.tree caller.now.key ≡ Some caller.now.task }
-    requires own { id_at store.now.numbering space ≡ Some (name_at store.now.numbering caller.now.key).space }
+    requires own { id_at store.now.numbering caller.now.space
+        ≡ Some (name_at store.now.numbering caller.now.key).space }
     ensures { IsNamed store.now caller.now.key caller.now.task pid result }
 {
-    let found = find_target(store, caller, space, pid)?;
+    let found = find_target(store, caller, pid)?;
     Some(target(store, caller.key, &found))
 }
 
@@ -87,13 +89,12 @@ fn choose(store: &Tasks, caller: Pid, pid: i32, pgid: i32) -> Result<Move, Refus
     let Some(found) = find_live(store, caller) else {
         return Err(Refusal::NoCaller);
     };
-    let space = own_space(store, found.key);
-    let target = named_target(store, &found, space, pid);
+    let target = named_target(store, &found, pid);
     let session = store.members().session(found.key);
     let ask = GroupAsk {
         caller: found.key,
         session,
-        space,
+        space: found.space,
         pgid,
         target,
     };
@@ -136,14 +137,17 @@ pub fn set_pgid(store: &mut Tasks, caller: Pid, pid: i32, pgid: i32) -> ShortRep
 }
 
 /// The number of a task in its own namespace.
-fn own_number(store: &Tasks, key: TaskKey) -> Pid
-    requires { IsSome (task_at store.now.tree key) }
-    ensures { result ≡ number_or_zero (state_of store.now).spaces (name_at store.now.numbering key)
-        (name_at store.now.numbering key).space }
+fn own_number(store: &Tasks, found: &Found) -> Pid
+    requires there { task_at store.now.tree found.now.key ≡ Some found.now.task }
+    requires own { id_at store.now.numbering found.now.space ≡ Some (name_at store.now.numbering found.now.key).space }
+    ensures { result ≡ number_or_zero (state_of store.now).spaces (name_at store.now.numbering found.now.key)
+        (name_at store.now.numbering found.now.key).space }
 {
     laws(store);
-    let space = own_space(store, key);
-    store.numbers().number_in(key, space).unwrap_or(0)
+    store
+        .numbers()
+        .number_in(found.key, found.space)
+        .unwrap_or(0)
 }
 
 /// `setsid(2)`: the caller leads a new session and a new group in it, and its number is answered.
@@ -165,7 +169,7 @@ pub fn set_sid(store: &mut Tasks, caller: Pid) -> ShortReply
     match store.members().may_setsid(found.key) {
         Err(is_leader) => ShortReply::Refused(is_leader),
         Ok(()) => {
-            let number = own_number(store, found.key);
+            let number = own_number(store, &found);
             store.start_session(found.key);
             laws(store);
             ShortReply::Number(number)

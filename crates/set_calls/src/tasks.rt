@@ -4,18 +4,17 @@
 //! Each costs a search or two in a tree of numbers, and a step for each control group around those of a
 //! move. They take no memory.
 
-ghost use Rattle.std.specs.Prelude.{◌≡◌, IsSome};
-ghost use Rattle.task_tree.specs.Tree.{task_at};
+ghost use Rattle.std.specs.Prelude.{◌≡◌};
 ghost use Rattle.pid_types.specs.Changes.{exec as exec_of, join as join_of, set_subreaper as set_subreaper_of};
 ghost use Rattle.pid_types.specs.Changes.{move_task as move_of};
 ghost use Rattle.pid_types.specs.Short.{reply_of};
-ghost use Rattle.task_table.specs.View.{name_at, state_of};
+ghost use Rattle.task_table.specs.View.{state_of};
 ghost use Rattle.task_table.specs.Whole.{IsWhole, HasParents};
 
-use pid_types::keys::{Pid, TaskKey};
+use pid_types::keys::Pid;
 use pid_types::reply::{Refusal, ShortReply};
 use task_table::Tasks;
-use task_table::view::{find_live, find_task, is_live, laws, own_space};
+use task_table::view::{find_live, find_task, is_live, laws, own_id};
 use task_tree::Task;
 
 /// `execve(2)`: the caller has executed.
@@ -55,14 +54,13 @@ pub fn join(store: &mut Tasks, caller: Pid, target: Pid) -> ShortReply
     let Some(found) = find_live(store, caller) else {
         return ShortReply::Refused(Refusal::NoCaller);
     };
-    let space = own_space(store, found.key);
-    let Some(other) = find_task(store, space, target) else {
+    let Some(other) = find_task(store, found.space, target) else {
         return ShortReply::Refused(Refusal::NoTask);
     };
     if !is_live(&other.task) {
         return ShortReply::Refused(Refusal::NoTask);
     }
-    let children_space = id_of(store, other.key);
+    let children_space = own_id(store, &other);
     store.update(
         found.key,
         Task {
@@ -72,18 +70,6 @@ pub fn join(store: &mut Tasks, caller: Pid, target: Pid) -> ShortReply
     );
     laws(store);
     ShortReply::Done
-}
-
-/// The id of a task's own namespace.
-fn id_of(store: &Tasks, key: TaskKey) -> u64
-    requires { IsSome (task_at store.now.tree key) }
-    ensures { result ≡ (name_at store.now.numbering key).space }
-{
-    let space = own_space(store, key);
-    match store.numbers().id(space) {
-        Some(id) => id,
-        None => unreachable!(),
-    }
 }
 
 /// `prctl(2)`: the caller takes the subreaper's mark, or gives it back.

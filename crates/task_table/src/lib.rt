@@ -382,8 +382,8 @@ impl Tasks {
         self.numbers.put_cursor(space, cursor);
     }
 
-    /// Takes the memory for one task more, and answers its key. The error is want of memory. Nothing changes
-    /// but the room.
+    /// Takes the memory for one task more in the tree and among the members, and answers its key. The identifier's own
+    /// comes with its draw. The error is want of memory. Nothing changes but the room.
     #[inline(always)]
     fn make_room(&mut self) -> Result<TaskKey, AllocError>
         ensures same { IsSame self.old self.new }
@@ -392,7 +392,7 @@ impl Tasks {
         ensures members { IfOk result (λ key. key < length self.new.members) }
         ensures kept { length self.old.members ≤ length self.new.members }
     {
-        let key = self.numbers.reserve()?;
+        let key = self.numbers.next_key()?;
         room_for(&mut self.tree, key)?;
         self.members.reserve(key, key)?;
         Ok(key)

@@ -19,11 +19,13 @@ use pid_types::keys::{Pid, SpaceKey, TaskKey};
 use pid_types::plain::Life;
 use task_tree::Task;
 
-/// A task that was found: its key, and what it is.
+/// A task that was found: its key, its own namespace, and what it is.
 #[derive(Clone, Copy, Debug)]
 pub struct Found {
     /// Its key in the store, which is that of its identifier: below the number of keys there is room for.
     pub key: TaskKey,
+    /// The key of its own namespace, the innermost in which it has a number.
+    pub space: SpaceKey,
     /// What the store has at the key: its home is a control group's key, and its life says whether it has ended.
     pub task: Task,
 }
@@ -56,11 +58,28 @@ pub fn is_live(task: &Task) -> bool
     }
 }
 
+/// The key of a task's own namespace.
+fn own_space(store: &Tasks, key: TaskKey) -> SpaceKey
+    requires { IsSome (task_at store.now.tree key) }
+    ensures own { (u : Identifier) → identifier_at store.now.numbering key ≡ Some u → result ≡ u.space }
+    ensures id { id_at store.now.numbering result ≡ Some (name_at store.now.numbering key).space }
+{
+    laws(store);
+    match store.numbers().space_of(key) {
+        Some(space) => space,
+        None => unreachable!(),
+    }
+}
+
 /// The task with the number in the namespace, zombies among them. It costs one search in the namespace's
 /// tree of numbers.
 pub fn find_task(store: &Tasks, space: SpaceKey, number: Pid) -> Option<Found>
     ensures there { IfSome result (λ f. (task_at store.now.tree f.key ≡ Some f.task)
         × (number_of store.now.numbering f.key space ≡ Some number)) }
+    ensures own { IfSome result (λ f. (u : Identifier) → identifier_at store.now.numbering f.key ≡ Some u
+        → f.space ≡ u.space) }
+    ensures id { IfSome result (λ f. id_at store.now.numbering f.space
+        ≡ Some (name_at store.now.numbering f.key).space) }
     ensures nobody { result ≡ None → (k : ℕ) → (t : Task) → task_at store.now.tree k ≡ Some t
         → number_of store.now.numbering k space ≢ Some number }
     ensures row { (i : ℕ) → id_at store.now.numbering space ≡ Some i
@@ -71,7 +90,11 @@ pub fn find_task(store: &Tasks, space: SpaceKey, number: Pid) -> Option<Found>
         return None;
     };
     match store.tree().task(key) {
-        Some(task) => Some(Found { key, task }),
+        Some(task) => Some(Found {
+            key,
+            space: own_space(store, key),
+            task,
+        }),
         None => None,
     }
 }
@@ -79,6 +102,10 @@ pub fn find_task(store: &Tasks, space: SpaceKey, number: Pid) -> Option<Found>
 /// The live task with the number in the root namespace. It costs one search in the root's tree of numbers.
 pub fn find_live(store: &Tasks, number: Pid) -> Option<Found>
     ensures there { IfSome result (λ f. (task_at store.now.tree f.key ≡ Some f.task) × (lives f.task ≡ true)) }
+    ensures own { IfSome result (λ f. (u : Identifier) → identifier_at store.now.numbering f.key ≡ Some u
+        → f.space ≡ u.space) }
+    ensures id { IfSome result (λ f. id_at store.now.numbering f.space
+        ≡ Some (name_at store.now.numbering f.key).space) }
     ensures row { live_row (state_of store.now).rows number
         ≡ option_map (λ (f : Found). row_of store.now f.key f.task) result }
 {
@@ -89,15 +116,13 @@ pub fn find_live(store: &Tasks, number: Pid) -> Option<Found>
     }
 }
 
-/// The key of a task's own namespace.
-pub fn own_space(store: &Tasks, key: TaskKey) -> SpaceKey
-    requires { IsSome (task_at store.now.tree key) }
-    ensures own { (u : Identifier) → identifier_at store.now.numbering key ≡ Some u → result ≡ u.space }
-    ensures id { id_at store.now.numbering result ≡ Some (name_at store.now.numbering key).space }
+/// The id of the own namespace of a task that was found. It costs one read.
+pub fn own_id(store: &Tasks, found: &Found) -> u64
+    requires { id_at store.now.numbering found.now.space ≡ Some (name_at store.now.numbering found.now.key).space }
+    ensures { result ≡ (name_at store.now.numbering found.now.key).space }
 {
-    laws(store);
-    match store.numbers().space_of(key) {
-        Some(space) => space,
+    match store.numbers().id(found.space) {
+        Some(id) => id,
         None => unreachable!(),
     }
 }

@@ -16,7 +16,7 @@ use pid_types::call::Kind;
 use pid_types::keys::{IdentKey, Pid, SpaceKey, TaskKey};
 use pid_types::reply::{Refusal, Reply, ShortReply};
 use task_table::Tasks;
-use task_table::view::{Found, find_live, find_task, laws, own_space};
+use task_table::view::{Found, find_live, find_task, laws};
 
 /// The number of an identifier in a namespace, 0 where it is not visible there.
 fn seen(store: &Tasks, space: SpaceKey, key: IdentKey) -> Pid
@@ -85,8 +85,7 @@ pub(crate) fn get_pid(store: &Tasks, caller: Pid) -> ShortReply
     let Some(found) = find_live(store, caller) else {
         return ShortReply::Refused(Refusal::NoCaller);
     };
-    let space = own_space(store, found.key);
-    ShortReply::Number(seen_task(store, space, found.key))
+    ShortReply::Number(seen_task(store, found.space, found.key))
 }
 
 /// `getppid(2)`: 0 for a parent that the caller cannot see, and for the root init.
@@ -98,27 +97,24 @@ pub(crate) fn get_ppid(store: &Tasks, caller: Pid) -> ShortReply
     let Some(found) = find_live(store, caller) else {
         return ShortReply::Refused(Refusal::NoCaller);
     };
-    let space = own_space(store, found.key);
-    ShortReply::Number(seen_parent(store, space, found.key))
+    ShortReply::Number(seen_parent(store, found.space, found.key))
 }
 
 /// The task with the number in the caller's namespace, where 0 is the caller.
-pub(crate) fn self_or_task(
-    store: &Tasks,
-    caller: &Found,
-    space: SpaceKey,
-    pid: Pid,
-) -> Option<Found>
+pub(crate) fn self_or_task(store: &Tasks, caller: &Found, pid: Pid) -> Option<Found>
     requires there { task_at store.now.tree caller.now.key ≡ Some caller.now.task }
-    requires own { id_at store.now.numbering space ≡ Some (name_at store.now.numbering caller.now.key).space }
+    requires own { id_at store.now.numbering caller.now.space
+        ≡ Some (name_at store.now.numbering caller.now.key).space }
     ensures there { IfSome result (λ f. task_at store.now.tree f.key ≡ Some f.task) }
+    ensures own { IfSome result (λ f. id_at store.now.numbering f.space
+        ≡ Some (name_at store.now.numbering f.key).space) }
     ensures row { option_map (λ (f : Found). row_of store.now f.key f.task) result
         ≡ self_or_task (state_of store.now) (row_of store.now caller.now.key caller.now.task) pid }
 {
     if pid == 0 {
         Some(*caller)
     } else {
-        find_task(store, space, pid)
+        find_task(store, caller.space, pid)
     }
 }
 
@@ -131,11 +127,10 @@ pub(crate) fn get_pgid(store: &Tasks, caller: Pid, pid: Pid) -> ShortReply
     let Some(found) = find_live(store, caller) else {
         return ShortReply::Refused(Refusal::NoCaller);
     };
-    let space = own_space(store, found.key);
-    let Some(task) = self_or_task(store, &found, space, pid) else {
+    let Some(task) = self_or_task(store, &found, pid) else {
         return ShortReply::Refused(Refusal::NoTask);
     };
-    ShortReply::Number(seen_group(store, space, &task))
+    ShortReply::Number(seen_group(store, found.space, &task))
 }
 
 /// `getsid(2)`: 0 for a session that the caller cannot see.
@@ -147,11 +142,10 @@ pub(crate) fn get_sid(store: &Tasks, caller: Pid, pid: Pid) -> ShortReply
     let Some(found) = find_live(store, caller) else {
         return ShortReply::Refused(Refusal::NoCaller);
     };
-    let space = own_space(store, found.key);
-    let Some(task) = self_or_task(store, &found, space, pid) else {
+    let Some(task) = self_or_task(store, &found, pid) else {
         return ShortReply::Refused(Refusal::NoTask);
     };
-    ShortReply::Number(seen_session(store, space, &task))
+    ShortReply::Number(seen_session(store, found.space, &task))
 }
 
 /// Writes `NSpid` of `proc_pid_status(5)` over another reply: the target's numbers from the caller's namespace inwards.
@@ -166,12 +160,11 @@ pub(crate) fn ns_pid(store: &Tasks, caller: Pid, target: Pid, reply: &mut Reply)
         *reply = Reply::Refused(Refusal::NoCaller);
         return;
     };
-    let space = own_space(store, found.key);
-    let Some(task) = find_task(store, space, target) else {
+    let Some(task) = find_task(store, found.space, target) else {
         *reply = Reply::Refused(Refusal::NoTask);
         return;
     };
-    *reply = Reply::Levels(store.numbers().levels_from(task.key, space));
+    *reply = Reply::Levels(store.numbers().levels_from(task.key, found.space));
 }
 
 /// The least number from the given one on that is in use as the kind, in the caller's namespace. It costs one
@@ -185,8 +178,7 @@ pub(crate) fn next(store: &Tasks, caller: Pid, kind: Kind, from: Pid) -> ShortRe
     let Some(found) = find_live(store, caller) else {
         return ShortReply::Refused(Refusal::NoCaller);
     };
-    let space = own_space(store, found.key);
-    match store.numbers().next_used(space, kind, from) {
+    match store.numbers().next_used(found.space, kind, from) {
         Some(number) => ShortReply::Number(number),
         None => ShortReply::End,
     }

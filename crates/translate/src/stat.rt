@@ -1,6 +1,6 @@
 //! One read of a task as the caller's namespace sees it: what `status` and `stat` of `proc(5)` tell of a process.
 
-ghost use Rattle.std.specs.Prelude.{◌≡◌, ℕ, Some, IsSome, IfOk};
+ghost use Rattle.std.specs.Prelude.{◌≡◌, ℕ, Some, IfOk};
 ghost use Rattle.pid_numbers.specs.Numbering.{id_at};
 ghost use Rattle.task_tree.specs.Tree.{task_at};
 ghost use Rattle.task_table.specs.View.{name_at, row_of, state_of};
@@ -9,11 +9,11 @@ ghost use Rattle.translate.specs.Stat.{stat_of, stat_at, glimpse_in, IsSeen};
 
 use crate::queries::{seen_group, seen_parent, seen_session, self_or_task};
 use arrayvec::ArrayVec;
-use pid_types::keys::{Pid, SpaceKey, TaskKey};
+use pid_types::keys::{Pid, SpaceKey};
 use pid_types::plain::{LEVELS, Life};
 use pid_types::reply::Refusal;
 use task_table::Tasks;
-use task_table::view::{Found, find_live, laws, own_space};
+use task_table::view::{Found, find_live, laws, own_id};
 
 /// What is read of a task. The numbers are those in the caller's namespace, 0 where there is none.
 #[derive(Clone, Debug, Drop, PartialEq, Eq)]
@@ -36,29 +36,18 @@ pub struct Stat {
     pub subreaper: bool,
 }
 
-/// The id of a task's own namespace.
-fn own_id(store: &Tasks, key: TaskKey) -> u64
-    requires { IsSome (task_at store.now.tree key) }
-    ensures { result ≡ (name_at store.now.numbering key).space }
-{
-    let space = own_space(store, key);
-    match store.numbers().id(space) {
-        Some(id) => id,
-        None => unreachable!(),
-    }
-}
-
 /// Reads a task as the namespace sees it.
 fn read_task(store: &Tasks, space: SpaceKey, found: &Found) -> Stat
     requires parents { HasParents store.now }
     requires there { task_at store.now.tree found.now.key ≡ Some found.now.task }
+    requires own { id_at store.now.numbering found.now.space ≡ Some (name_at store.now.numbering found.now.key).space }
     ensures { (i : ℕ) → id_at store.now.numbering space ≡ Some i
         → result ≡ stat_of (state_of store.now) i (row_of store.now found.now.key found.now.task) }
 {
     laws(store);
     Stat {
         numbers: store.numbers().levels_from(found.key, space),
-        space: own_id(store, found.key),
+        space: own_id(store, found),
         parent: seen_parent(store, space, found.key),
         group: seen_group(store, space, found),
         session: seen_session(store, space, found),
@@ -83,9 +72,8 @@ pub fn read_stat(store: &Tasks, caller: Pid, pid: Pid) -> Result<Stat, Refusal>
     let Some(found) = find_live(store, caller) else {
         return Err(Refusal::NoCaller);
     };
-    let space = own_space(store, found.key);
-    let Some(task) = self_or_task(store, &found, space, pid) else {
+    let Some(task) = self_or_task(store, &found, pid) else {
         return Err(Refusal::NoTask);
     };
-    Ok(read_task(store, space, &task))
+    Ok(read_task(store, found.space, &task))
 }

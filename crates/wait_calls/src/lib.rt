@@ -5,6 +5,7 @@ ghost use Rattle.std.specs.Prelude.{◌≡◌, Some, IsSome, MatchOption, false}
 ghost use Rattle.pid_types.specs.Outcome.{sweep};
 ghost use Rattle.pid_types.specs.Wait.{end_of, without_row, wait as wait_of};
 ghost use Rattle.pid_types.specs.Short.{reply_of};
+ghost use Rattle.pid_numbers.specs.Numbering.{Identifier, identifier_at};
 ghost use Rattle.task_tree.specs.declared.Task.{Task};
 ghost use Rattle.task_tree.specs.Tree.{task_at, lives};
 ghost use Rattle.task_table.specs.View.{row_of, state_of};
@@ -20,7 +21,7 @@ use pid_types::plain::{Ended, Life};
 use pid_types::reply::{Refusal, ShortReply};
 use selection::{Choice, Selected, choose};
 use task_table::Tasks;
-use task_table::view::{find_live, laws, own_space};
+use task_table::view::{Found, find_live, laws};
 use task_tree::Task;
 
 /// By which key the wait selects; none where it names a number that nobody has in the caller's namespace.
@@ -39,19 +40,19 @@ fn selected(store: &Tasks, caller: TaskKey, space: SpaceKey, which: Which) -> Op
 }
 
 /// Whom the caller's wait reaps.
-fn choose_child(store: &Tasks, caller: TaskKey, which: Which) -> Choice
+fn choose_child(store: &Tasks, caller: &Found, which: Which) -> Choice
     requires parents { HasParents store.now }
-    requires caller { IsSome (task_at store.now.tree caller) }
-    ensures { (t : Task) → task_at store.now.tree caller ≡ Some t
-        → IsTold store.now (row_of store.now caller t) which result }
+    requires caller { task_at store.now.tree caller.now.key ≡ Some caller.now.task }
+    requires own { (u : Identifier) → identifier_at store.now.numbering caller.now.key ≡ Some u
+        → caller.now.space ≡ u.space }
+    ensures { IsTold store.now (row_of store.now caller.now.key caller.now.task) which result }
 {
     laws(store);
     store.tree().laws();
-    let space = own_space(store, caller);
-    let Some(selected) = selected(store, caller, space, which) else {
+    let Some(selected) = selected(store, caller.key, caller.space, which) else {
         return Choice::NoChild;
     };
-    choose(store, caller, selected)
+    choose(store, caller.key, selected)
 }
 
 /// A zombie is gone, and how it ended is answered.
@@ -86,7 +87,7 @@ pub fn wait(store: &mut Tasks, caller: Pid, which: Which) -> ShortReply
     let Some(found) = find_live(store, caller) else {
         return ShortReply::Refused(Refusal::NoCaller);
     };
-    match choose_child(store, found.key, which) {
+    match choose_child(store, &found, which) {
         Choice::NoChild => ShortReply::Refused(Refusal::NoChild),
         Choice::NoneEnded => ShortReply::NoneYet,
         Choice::Ended { child, rank } => {

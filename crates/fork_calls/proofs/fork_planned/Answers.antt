@@ -36,7 +36,7 @@ returns-clause-reply c =
     (into.id-after c.args.store.now c.fork.new.self c.laws.ensures c.laws-2.ensures c.requires.whole.parents c.in_ok-key.key c.args.found.now.key c.child_of-task.result c.args.found.now.task c.requires.there
     c.args.space c.args.found.now.task.children_space c.args.numbers.now c.in_ok-key.ensures.begun c.in_ok-key.ensures.order c.in_ok-key.ensures.namespaces c.requires.id c.requires.planned
     c.child_of-task.ensures room
-    c.args.own own c.requires.own)
+    c.args.found.now.space own c.requires.own)
     ∙ into.into-reply c.args.store.now c.fork.new.self c.laws.ensures c.laws-2.ensures c.requires.whole.parents c.in_ok-key.key c.args.found.now.key c.child_of-task.result c.args.found.now.task c.requires.there
     c.args.space c.args.found.now.task.children_space c.args.numbers.now c.in_ok-key.ensures.begun c.in_ok-key.ensures.order c.in_ok-key.ensures.namespaces c.requires.id c.requires.planned
     c.child_of-task.ensures room

@@ -11,6 +11,6 @@ returns-clause-state c =
     let old = c.args.store.now in
     let new = c.exit.new.store in
     let h = c.exit.ensures.parents in
-    let e : HasEnded old new c.args.key h.0 c.args.task c.args.status =
+    let e : HasEnded old new c.args.found.now.key h.0 c.args.found.now.task c.args.status =
     record { tasks = c.exit.ensures.tasks; parents = h.2; home = c.exit.ensures.home; numbering = c.exit.ensures.rest.0; members = c.exit.ensures.rest.1 } in
-    sym (ended old new c.laws.ensures c.laws-2.ensures c.requires.whole c.args.key h.0 c.args.task c.args.status c.requires.there e c.requires.live c.requires.inner h.1)
+    sym (ended old new c.laws.ensures c.laws-2.ensures c.requires.whole c.args.found.now.key h.0 c.args.found.now.task c.args.status c.requires.there e c.requires.live c.requires.inner h.1)

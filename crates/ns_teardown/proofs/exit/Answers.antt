@@ -18,15 +18,15 @@ pub end_init-requires-clause-top : goal.end_init-requires-clause-top
 end_init-requires-clause-top c u at =
     let b = c.args.store.now.numbering in
     let key = c.in-Some.found.key in
-    let space = c.own_space-space.ensures.own u at in
-    let first = is-one (number_of b key c.own_space-space.result) (sym c.is_first-2.ensures ∙ c.if-is_first-2.true) in
+    let space = c.in-Some.ensures.own u at in
+    let first = is-one (number_of b key c.in-Some.found.space) (sym c.is_first-2.ensures ∙ c.if-is_first-2.true) in
     (ap (number_of b key) (sym space) ∙ first, λ root. is-not-one (number_of b key 0) (sym c.is_first.ensures ∙ c.if-is_first.false) (ap (number_of b key) (sym root ∙ sym space) ∙ first))
 
 pub end_task-requires-clause-inner : goal.end_task-requires-clause-inner
 end_task-requires-clause-inner c u at same =
     let b = c.args.store.now.numbering in
     let key = c.in-Some.found.key in
-    is-not-one (number_of b key c.own_space-space.result) (sym c.is_first-2.ensures ∙ c.if-is_first-2.false) (ap (number_of b key) (c.own_space-space.ensures.own u at) ∙ same)
+    is-not-one (number_of b key c.in-Some.found.space) (sym c.is_first-2.ensures ∙ c.if-is_first-2.false) (ap (number_of b key) (c.in-Some.ensures.own u at) ∙ same)
 
 pub returns-then-is_first-2 : goal.returns-then-is_first-2
 returns-then-is_first-2 c =
@@ -35,7 +35,7 @@ returns-then-is_first-2 c =
     let row = row_of old found.key found.task in
     let there = c.in-Some.ensures.there.0 in
     let top = sym (first-in-root old c.laws.ensures found.key found.task there) ∙ sym c.is_first.ensures ∙ c.if-is_first.false in
-    let own = first-in-own old c.laws.ensures found.key found.task there c.own_space-space.result c.own_space-space.ensures.id ∙ sym c.is_first-2.ensures in
+    let own = first-in-own old c.laws.ensures found.key found.task there c.in-Some.found.space c.in-Some.ensures.id ∙ sym c.is_first-2.ensures in
     let is = exit-falls (state_of old) c.args.caller c.args.status row c.in-Some.ensures.row top (own ∙ c.if-is_first-2.true) in
     record { state = c.end_init.ensures.state ∙ sym (ap (λ (o : Outcome). o.state) is); reply = sym (ap (λ (o : Outcome). o.reply) is); parents = c.end_init.ensures.parents }
 
@@ -46,6 +46,6 @@ returns-else-is_first-2 c =
     let row = row_of old found.key found.task in
     let there = c.in-Some.ensures.there.0 in
     let top = sym (first-in-root old c.laws.ensures found.key found.task there) ∙ sym c.is_first.ensures ∙ c.if-is_first.false in
-    let own = first-in-own old c.laws.ensures found.key found.task there c.own_space-space.result c.own_space-space.ensures.id ∙ sym c.is_first-2.ensures in
+    let own = first-in-own old c.laws.ensures found.key found.task there c.in-Some.found.space c.in-Some.ensures.id ∙ sym c.is_first-2.ensures in
     let is = exit-ends (state_of old) c.args.caller c.args.status row c.in-Some.ensures.row top (own ∙ c.if-is_first-2.false) in
     record { state = c.end_task.ensures.state ∙ sym (ap (λ (o : Outcome). o.state) is); reply = sym (ap (λ (o : Outcome). o.reply) is); parents = c.end_task.ensures.parents }

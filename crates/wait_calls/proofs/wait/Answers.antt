@@ -13,7 +13,7 @@ pub returns-in-Some-task-clause-reply : goal.returns-in-Some-task-clause-reply
 returns-in-Some-task-clause-reply c =
     let s = c.args.store.now in
     let child = c.in-Ended.child in
-    let h = c.in-Ended.ensures c.in-Some.found.task c.in-Some.ensures.there.0 in
+    let h = c.in-Ended.ensures in
     let row = row_of s child (h.1).0 in
     let task : Some c.in-Some-task.task ≡ Some (h.1).0 = c.in-Some-task.ensures ∙ ap (λ (t : Tree). task_at t child) c.tree.ensures ∙ (h.1).1 in
     let same : c.in-Some-task.task ≡ (h.1).0 = cc in

@@ -15,17 +15,17 @@ finish-requires-clause-visible c p child =
     let same : c.hand_children.new.store.numbering ≡ c.args.store.now.numbering = ap (λ (s : Store). s.numbering) c.hand_children.ensures.rest in
     let live = ap (λ o. option_map_or lives o false) c.requires.there ∙ c.requires.live in
     let h = c.hand_children.ensures.parents in
-    let was : option_map (handed c.args.key h.0) (parent_of c.args.store.now.tree c.args.key) ≡ Some p = sym (h.2 c.args.key) ∙ child in
-    let seen = parents.seen_by_parent c.args.store.now c.laws.ensures c.requires.good c.args.key h.0 p live was in
-    subst (λ (b : Numbering). (v : Identifier) × (identifier_at b p ≡ Some v) × IsSome (number_of b c.args.key v.space)) (sym same) seen
+    let was : option_map (handed c.args.found.now.key h.0) (parent_of c.args.store.now.tree c.args.found.now.key) ≡ Some p = sym (h.2 c.args.found.now.key) ∙ child in
+    let seen = parents.seen_by_parent c.args.store.now c.laws.ensures c.requires.good c.args.found.now.key h.0 p live was in
+    subst (λ (b : Numbering). (v : Identifier) × (identifier_at b p ≡ Some v) × IsSome (number_of b c.args.found.now.key v.space)) (sym same) seen
 
 pub returns-clause-tree : goal.returns-clause-tree
 returns-clause-tree c =
     let live = ap (λ o. option_map_or lives o false) c.requires.there ∙ c.requires.live in
     let h = c.hand_children.ensures.parents in
-    let heir = (parents.heir-beside c.args.store.now c.laws.ensures c.requires.good c.args.key h.0 live c.requires.inner h.1).1 in
-    let task : Task = record c.args.task { life = Life.Zombie (Ended.Exited c.args.status) } in
-    parents.handed-parents c.args.store.now c.finish.new.self c.requires.good.parents c.args.key h.0 heir
+    let heir = (parents.heir-beside c.args.store.now c.laws.ensures c.requires.good c.args.found.now.key h.0 live c.requires.inner h.1).1 in
+    let task : Task = record c.args.found.now.task { life = Life.Zombie (Ended.Exited c.args.status) } in
+    parents.handed-parents c.args.store.now c.finish.new.self c.requires.good.parents c.args.found.now.key h.0 heir
     (λ k. ap (λ l. slice_index_or l k None) c.finish.ensures.parents ∙ h.2 k)
-    (λ k some. ap is_some (ap (λ l. slice_index_or l k None) (c.finish.ensures.tasks ∙ ap (λ l. slice_set l c.args.key (Some task)) c.hand_children.ensures.tasks))
-    ∙ parents.still-tasks c.args.store.now.tree.tasks c.args.key task k some)
+    (λ k some. ap is_some (ap (λ l. slice_index_or l k None) (c.finish.ensures.tasks ∙ ap (λ l. slice_set l c.args.found.now.key (Some task)) c.hand_children.ensures.tasks))
+    ∙ parents.still-tasks c.args.store.now.tree.tasks c.args.found.now.key task k some)

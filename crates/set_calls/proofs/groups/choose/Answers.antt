@@ -17,12 +17,12 @@ pub returns-in-Err-clause-outcome : goal.returns-in-Err-clause-outcome
 returns-in-Err-clause-outcome c =
     let s = c.args.store.now in
     let found = c.in-Some.found in
-    let asked : ℤ → GroupAsk = λ z. record { caller = found.key; session = c.session-session.result; space = c.own_space-space.result; pgid = z; target = c.named_target-target.result } in
+    let asked : ℤ → GroupAsk = λ z. record { caller = found.key; session = c.session-session.result; space = found.space; pgid = z; target = c.named_target-target.result } in
     let ask = asked c.args.pgid in
     let asks : IsAsk s found.task c.args.pid ask = record {
       there = c.in-Some.ensures.there.0;
       session = ap (λ m. session_of m found.key) (sym c.members-2.ensures) ∙ c.session-session.ensures;
-      space = c.own_space-space.ensures.id;
+      space = c.in-Some.ensures.id;
       target = subst (λ (z : ℤ). IsNamed s found.key found.task z c.named_target-target.result) (to_z-of_z w32 c.args.pid c.ranges.pid) c.named_target-target.ensures;
     } in
     refuses s c.laws.ensures c.requires found.task c.args.pid ask asks c.args.caller c.in-Some.ensures.row c.in-Err.refusal
@@ -32,12 +32,12 @@ pub returns-in-Some-target : goal.returns-in-Some-target
 returns-in-Some-target c =
     let s = c.args.store.now in
     let found = c.in-Some.found in
-    let asked : ℤ → GroupAsk = λ z. record { caller = found.key; session = c.session-session.result; space = c.own_space-space.result; pgid = z; target = c.named_target-target.result } in
+    let asked : ℤ → GroupAsk = λ z. record { caller = found.key; session = c.session-session.result; space = found.space; pgid = z; target = c.named_target-target.result } in
     let ask = asked c.args.pgid in
     let asks : IsAsk s found.task c.args.pid ask = record {
       there = c.in-Some.ensures.there.0;
       session = ap (λ m. session_of m found.key) (sym c.members-2.ensures) ∙ c.session-session.ensures;
-      space = c.own_space-space.ensures.id;
+      space = c.in-Some.ensures.id;
       target = subst (λ (z : ℤ). IsNamed s found.key found.task z c.named_target-target.result) (to_z-of_z w32 c.args.pid c.ranges.pid) c.named_target-target.ensures;
     } in
     let answer : setpgid_answer s.members s.numbering ask ≡ Ok c.in-Ok.group =

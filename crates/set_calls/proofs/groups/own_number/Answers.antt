@@ -1,8 +1,6 @@
 use Rattle.std.proofs.Common.{◌∙◌, sym, ap}
 use Rattle.std.specs.Prelude.{unwrap_or}
 use Rattle.pid_numbers.specs.Numbering.{number_of}
-use Rattle.task_tree.specs.Tree.{task_at}
-use Rattle.task_table.proofs.Groups.{held}
 use Rattle.task_table.specs.View.{name_at}
 use Rattle.task_table.proofs.LookUps.{named, seen}
 use Rattle.set_calls.proofs.groups.own_number.Goals as goal
@@ -10,7 +8,7 @@ use Rattle.set_calls.proofs.groups.own_number.Goals as goal
 pub returns : goal.returns
 returns c =
     let s = c.args.store.now in
-    let t = held (task_at s.tree c.args.key) c.requires in
-    let u = named s c.laws.ensures c.args.key t.0 t.1 in
-    c.unwrap_or.ensures ∙ ap (λ o. unwrap_or o 0) (c.number_in.ensures ∙ ap (λ b. number_of b c.args.key c.own_space-space.result) c.numbers.ensures)
-    ∙ sym (seen s c.laws.ensures c.own_space-space.result (name_at s.numbering c.args.key).space c.args.key u.0 c.own_space-space.ensures.id u.1)
+    let found = c.args.found.now in
+    let u = named s c.laws.ensures found.key found.task c.requires.there in
+    c.unwrap_or.ensures ∙ ap (λ o. unwrap_or o 0) (c.number_in.ensures ∙ ap (λ b. number_of b found.key found.space) c.numbers.ensures)
+    ∙ sym (seen s c.laws.ensures found.space (name_at s.numbering found.key).space found.key u.0 c.requires.own u.1)

@@ -16,12 +16,12 @@ returns-clause-state c =
     let new = c.update.new.self in
     let found = c.in-Some.found in
     let other = c.in-Some-find_task.other in
-    let task = record found.task { children_space = c.id_of-children_space.result } in
+    let task = record found.task { children_space = c.own_id-children_space.result } in
     let goes : Row → Outcome = λ row. changed (with_row (state_of old) (name_at old.numbering found.key) (set_children_space row.name.space)) Done in
     let asked : Row → Outcome = λ row. refuse_if (state_of old) (not (is_live row)) NoTask (goes row) in
     sym (ap (λ o. (for_found (state_of old) o NoCaller (λ caller. for_found (state_of old) (task_in (state_of old) caller.name.space c.args.target) NoTask (λ row.
     refuse_if (state_of old) (not (is_live row)) NoTask (changed (with_row (state_of old) caller.name (set_children_space row.name.space)) Done)))).state) c.in-Some.ensures.row
-    ∙ ap (λ o. (for_found (state_of old) o NoTask asked).state) (c.in-Some-find_task.ensures.row (name_at old.numbering found.key).space c.own_space-space.ensures.id)
+    ∙ ap (λ o. (for_found (state_of old) o NoTask asked).state) (c.in-Some-find_task.ensures.row (name_at old.numbering found.key).space c.in-Some.ensures.id)
     ∙ ap (λ b. (refuse_if (state_of old) (not b) NoTask (goes (row_of old other.key other.task))).state) (sym c.is_live.ensures ∙ c.if-not-is_live.false)
     ∙ retasked old new c.laws.ensures c.laws-2.ensures found.key found.task task c.in-Some.ensures.there.0 (updated old new found.key task c.update.ensures.tasks c.update.ensures.rest)
-    (set_children_space (name_at old.numbering other.key).space) (λ i. record (row_of old found.key found.task) { children_space = sym c.id_of-children_space.ensures i }))
+    (set_children_space (name_at old.numbering other.key).space) (λ i. record (row_of old found.key found.task) { children_space = sym c.own_id-children_space.ensures i }))

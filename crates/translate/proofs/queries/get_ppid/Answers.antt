@@ -13,5 +13,5 @@ unfolding get_ppid
 returns c =
     let s = c.args.store.now in
     let space = (name_at s.numbering c.in-Some.found.key).space in
-    ap Number (c.seen_parent.ensures space c.own_space-space.ensures.id)
+    ap Number (c.seen_parent.ensures space c.in-Some.ensures.id)
     ∙ sym (ap (λ o. option_map_or (λ (caller : Row). Number (option_map_or (λ parent. number_or_zero (state_of s).spaces parent caller.name.space) caller.parent 0)) o (Refused NoCaller)) c.in-Some.ensures.row)

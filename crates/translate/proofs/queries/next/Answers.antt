@@ -18,8 +18,8 @@ returns-in-Some-next_used c =
     let asked : Row → Option ℕ = λ caller. least_of (filter (nat_le c.args.from) (numbers_by (state_of s) c.args.kind caller.name.space)) in
     sym (ap (λ o. option_map_or (λ caller. option_map_or Number (asked caller) End) o (Refused NoCaller)) c.in-Some.ensures.row
     ∙ ap (λ o. option_map_or Number o End)
-    (next-is s c.laws.ensures c.own_space-space.result (name_at s.numbering c.in-Some.found.key).space c.own_space-space.ensures.id c.args.kind c.args.from c.next_used.result
-    (subst (λ b. IsNextUsed b c.args.kind c.own_space-space.result c.args.from c.next_used.result) c.numbers.ensures c.next_used.ensures) ∙ c.in-Some-next_used.is))
+    (next-is s c.laws.ensures c.in-Some.found.space (name_at s.numbering c.in-Some.found.key).space c.in-Some.ensures.id c.args.kind c.args.from c.next_used.result
+    (subst (λ b. IsNextUsed b c.args.kind c.in-Some.found.space c.args.from c.next_used.result) c.numbers.ensures c.next_used.ensures) ∙ c.in-Some-next_used.is))
 
 pub returns-in-None : goal.returns-in-None
 unfolding next
@@ -28,5 +28,5 @@ returns-in-None c =
     let asked : Row → Option ℕ = λ caller. least_of (filter (nat_le c.args.from) (numbers_by (state_of s) c.args.kind caller.name.space)) in
     sym (ap (λ o. option_map_or (λ caller. option_map_or Number (asked caller) End) o (Refused NoCaller)) c.in-Some.ensures.row
     ∙ ap (λ o. option_map_or Number o End)
-    (next-is s c.laws.ensures c.own_space-space.result (name_at s.numbering c.in-Some.found.key).space c.own_space-space.ensures.id c.args.kind c.args.from c.next_used.result
-    (subst (λ b. IsNextUsed b c.args.kind c.own_space-space.result c.args.from c.next_used.result) c.numbers.ensures c.next_used.ensures) ∙ c.in-None.is))
+    (next-is s c.laws.ensures c.in-Some.found.space (name_at s.numbering c.in-Some.found.key).space c.in-Some.ensures.id c.args.kind c.args.from c.next_used.result
+    (subst (λ b. IsNextUsed b c.args.kind c.in-Some.found.space c.args.from c.next_used.result) c.numbers.ensures c.next_used.ensures) ∙ c.in-None.is))

@@ -23,6 +23,6 @@ returns c =
     let told : List ℕ → Reply = λ ns. Levels (record { items = ns }) in
     sym (ap (λ o. option_map_or (λ (caller : Row). option_map_or (λ (row : Row). Levels (record { items = numbers_from (state_of s).spaces row.name caller.name.space })) (task_in (state_of s) caller.name.space c.args.target) (Refused NoTask)) o (Refused NoCaller))
     c.in-Some.ensures.row
-    ∙ ap (λ o. option_map_or levels o (Refused NoTask)) (c.in-Some-find_task.ensures.row space c.own_space-space.ensures.id)
-    ∙ ap told (levels-are s.numbering c.laws.ensures.numbering c.own_space-space.result space task.key u.0 c.own_space-space.ensures.id u.1
-    ∙ ap (λ b. levels_of b task.key c.own_space-space.result) (sym c.numbers.ensures) ∙ sym c.levels_from.ensures))
+    ∙ ap (λ o. option_map_or levels o (Refused NoTask)) (c.in-Some-find_task.ensures.row space c.in-Some.ensures.id)
+    ∙ ap told (levels-are s.numbering c.laws.ensures.numbering c.in-Some.found.space space task.key u.0 c.in-Some.ensures.id u.1
+    ∙ ap (λ b. levels_of b task.key c.in-Some.found.space) (sym c.numbers.ensures) ∙ sym c.levels_from.ensures))
