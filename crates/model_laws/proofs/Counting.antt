@@ -31,7 +31,7 @@ use Rattle.model_laws.specs.CountLaws.{one_if, may_change_counts}
 use Rattle.model_laws.proofs.Lists.{IsIn-map, IsIn-from_filter, IsIn-from_contains, contains-from_IsIn, filter-same, filter-all}
 use Rattle.model_laws.proofs.Names.{on_row-keeps, same_name-true, same_name-refl}
 use Rattle.model_laws.proofs.Trees.{control_to_root, control_at-Some, live_row-Some}
-use Rattle.model_laws.proofs.Calls.{fork_cases, exit_cases, wait_cases, set_pgid_cases, set_sid_cases, exec_cases, make_control_cases, remove_control_cases, set_limit_cases, move_task_cases, join_cases, set_subreaper_cases}
+use Rattle.model_laws.proofs.Comes.{Comes, still, born, born_first, fell, handed_on, reaped, grouped, led, executed, control_made, control_removed, limit_set, moved, joined, marked, no_answer}
 use Rattle.pid_types.specs.Fork.{forked}
 use Rattle.model_laws.proofs.EndsKept.{reaped_row}
 use Rattle.model_laws.proofs.ControlsKept.{with_made, path_old, others, other_path, no_child, control_path-map, path_of_parent, path_of_child}
@@ -109,10 +109,6 @@ count-swept state c = refl
 
 -- ---- fork
 
--- the count after a fork that was made
-record CountsOne (state : State) (caller : Row) (o : Outcome) : Type 0 where
-  more : (child root : ℕ) → o.reply ≡ Forked child root → (c : ℕ) → count o.state c ≡ count state c + one_if (is_below state.controls caller.home c)
-
 -- a fork that is made counts one more up from the caller's home
 count-forked_one : (state : State) (caller : Row) (t c : ℕ)
     → count (forked state caller t).state c ≡ count state c + one_if (is_below state.controls caller.home c)
@@ -122,84 +118,52 @@ count-forked_one state caller t c =
     ∙ length-cond (is_below state.controls caller.home c) (child_of state caller t) (filter (λ row. is_below state.controls row.home c) state.rows)
 
 -- so does every fork that is answered
-pub fork_counts_one : (state : State) (stamp n : ℕ) (new_space : Bool) (caller : Row) (child root : ℕ) → live_row state.rows n ≡ Some caller
-    → (step state stamp (Fork n new_space)).reply ≡ Forked child root
-    → (c : ℕ) → count (step state stamp (Fork n new_space)).state c ≡ count state c + one_if (is_below state.controls caller.home c)
-unfolding step count
-fork_counts_one state stamp n new_space caller child root found told =
-    (fork_cases (CountsOne state caller) state stamp n new_space (λ r. record { more = λ x y e. absurd (cc) })
-    (λ other there stands may. subst (λ (z : Row). CountsOne state z (forked state other other.children_space)) (let same : other ≡ caller = cc in same) (record { more = λ x y e c. count-forked_one state other other.children_space c }))
-    (λ other there stands shallow here may. subst (λ (z : Row). CountsOne state z (forked (with_space state other.children_space stamp) other stamp)) (let same : other ≡ caller = cc in same)
-    (record { more = λ x y e c. count-forked_one (with_space state other.children_space stamp) other stamp c }))).more child root told
+pub comes_fork : (state : State) (stamp n : ℕ) (new_space : Bool) (o : Outcome) → Comes state stamp (Fork n new_space) o → (caller : Row) (child root : ℕ)
+    → live_row state.rows n ≡ Some caller → o.reply ≡ Forked child root → (c : ℕ) → count o.state c ≡ count state c + one_if (is_below state.controls caller.home c)
+unfolding count
+comes_fork state stamp n new_space o (still _ reply answer) caller child root found told c = absurd (no_answer reply (Forked child root) answer refl told)
+comes_fork state stamp n new_space o (born _ _ other plain there stands may) caller child root found told c =
+    count-forked_one state other other.children_space c ∙ ap (λ (z : Row). count state c + one_if (is_below state.controls z.home c)) (let same : other ≡ caller = cc in same)
+comes_fork state stamp n new_space o (born_first _ other there stands shallow here may) caller child root found told c =
+    count-forked_one (with_space state other.children_space stamp) other stamp c
+    ∙ ap (λ (z : Row). count state c + one_if (is_below state.controls z.home c)) (let same : other ≡ caller = cc in same)
 
 -- ---- reaping
 
-record ReapsOne (state : State) (caller : Row) (o : Outcome) : Type 0 where
-  less : (child : ℕ) (ended : Ended) → o.reply ≡ Reaped child ended
-      → (row : Row) × IsIn row state.rows × (is_live row ≡ false) × (number_or_zero state.spaces row.name caller.name.space ≡ child)
-      × ((c : ℕ) → count state c ≡ count o.state c + one_if (is_below state.controls row.home c))
-
 -- a reaping counts one less up from the home of the task that it takes
-pub wait_counts_one : (state : State) (stamp n : ℕ) (which : Which) (caller : Row) (child : ℕ) (ended : Ended) → IsSound state
-    → live_row state.rows n ≡ Some caller
-    → (step state stamp (Wait n which)).reply ≡ Reaped child ended
+pub comes_reaping : (state : State) (stamp n : ℕ) (which : Which) (o : Outcome) → Comes state stamp (Wait n which) o → (caller : Row) (child : ℕ) (ended : Ended)
+    → IsSound state → live_row state.rows n ≡ Some caller → o.reply ≡ Reaped child ended
     → (row : Row) × IsIn row state.rows × (is_live row ≡ false) × (number_or_zero state.spaces row.name caller.name.space ≡ child)
-    × ((c : ℕ) → count state c ≡ count (step state stamp (Wait n which)).state c + one_if (is_below state.controls row.home c))
-unfolding step count sweep without_row
-wait_counts_one state stamp n which caller child ended sound found told =
-    (wait_cases (ReapsOne state caller) state n which (λ r. record { less = λ x y e. absurd (cc) }) (record { less = λ x y e. absurd (cc) })
-    (λ other row there least. subst (λ (z : Row). ReapsOne state z (reaped other row)) (let same : other ≡ caller = cc in same) (one other row (reaped_row state other row which least)))).less child ended told
-  where
-    reaped : Row → Row → Outcome
-    reaped other row = changed (without_row state row) (Reaped (number_or_zero state.spaces row.name other.name.space) (end_of row))
-
-    one : (other row : Row) → IsIn row state.rows × (is_live row ≡ false) → ReapsOne state other (reaped other row)
-    one other row r = record {
-      less = λ x y e. (
-        row,
-        r.0,
-        r.1,
-        (let same : number_or_zero state.spaces row.name other.name.space ≡ x = cc in same),
-        λ c. length-filter-without (λ z. is_below state.controls z.home c) state.rows sound.coherent.rows_rise row r.0,
-      );
-    }
+    × ((c : ℕ) → count state c ≡ count o.state c + one_if (is_below state.controls row.home c))
+unfolding count sweep without_row
+comes_reaping state stamp n which o (still _ reply answer) caller child ended sound found told = absurd (no_answer reply (Reaped child ended) answer refl told)
+comes_reaping state stamp n which o (reaped _ _ other row there least) caller child ended sound found told =
+    let same : other ≡ caller = cc in
+    let r = reaped_row state other row which least in (
+      row,
+      r.0,
+      r.1,
+      ap (λ (z : Row). number_or_zero state.spaces row.name z.name.space) (sym same) ∙ (let e : number_or_zero state.spaces row.name other.name.space ≡ child = cc in e),
+      λ c. length-filter-without (λ z. is_below state.controls z.home c) state.rows sound.coherent.rows_rise row r.0,
+    )
 
 -- ---- fall
 
-record TakesRows (state : State) (init : Row) (o : Outcome) : Type 0 where
-  less : (c : ℕ)
-      → count state c ≡ count o.state c + length (filter (λ row. goes_in_fall state init row && is_below state.controls row.home c) state.rows)
-
 -- a fall counts as many less as it takes
-count-fall : (state : State) (init : Row) (status : ℕ) → TakesRows state init (changed (fall state init status) Done)
+pub comes_fall : (state : State) (stamp n status : ℕ) (o : Outcome) → Comes state stamp (Exit n status) o → (init : Row) → live_row state.rows n ≡ Some init
+    → is_init state init ≡ true → o.reply ≡ Done
+    → (c : ℕ) → count state c ≡ count o.state c + length (filter (λ row. goes_in_fall state init row && is_below state.controls row.home c) state.rows)
 unfolding count sweep fall rows_after_fall
-count-fall state init status = record {
-  less = λ c.
-      length-filter-split (λ row. is_below state.controls row.home c) (goes_in_fall state init) state.rows
-      ∙ ap (λ k. k + length (filter (λ row. goes_in_fall state init row && is_below state.controls row.home c) state.rows))
-      (sym (length-filter-map (λ row. is_below state.controls row.home c) (row_after_fall state init status) (filter (λ row. not (goes_in_fall state init row)) state.rows)));
-}
-
--- an exit that is not refused, of the init of a namespace
-record ExitsAs (state : State) (init : Row) (o : Outcome) : Type 0 where
-  falls : o.reply ≡ Done → is_init state init ≡ true → TakesRows state init o
-
--- so does every exit by which a namespace falls
-pub fall_counts_taken : (state : State) (stamp n status : ℕ) (init : Row) → live_row state.rows n ≡ Some init → is_init state init ≡ true
-    → (step state stamp (Exit n status)).reply ≡ Done
-    → (c : ℕ)
-    → count state c ≡ count (step state stamp (Exit n status)).state c + length (filter (λ row. goes_in_fall state init row && is_below state.controls row.home c) state.rows)
-unfolding step
-fall_counts_taken state stamp n status init found first told =
-    ((exit_cases (ExitsAs state init) state n status (λ r. record { falls = λ e. absurd (cc) })
-    (λ other there deep one. subst (λ (z : Row). ExitsAs state z (changed (fall state other status) Done)) (let same : other ≡ init = cc in same) (record { falls = λ e f. count-fall state other status }))
-    (λ other there deep none. record { falls = λ e f. (let same : other ≡ init = cc in let no : is_init state init ≡ false = ap (is_init state) (sym same) ∙ none in absurd (cc)) })).falls told first).less
+comes_fall state stamp n status o (still _ reply answer) init found first told c = absurd (no_answer reply Done answer refl told)
+comes_fall state stamp n status o (handed_on _ _ other there none) init found first told c =
+    absurd (let same : other ≡ init = cc in let no : is_init state init ≡ false = ap (is_init state) (sym same) ∙ none in cc)
+comes_fall state stamp n status o (fell _ _ other there deep one) init found first told c =
+    length-filter-split (λ row. is_below state.controls row.home c) (goes_in_fall state other) state.rows
+    ∙ ap (λ k. k + length (filter (λ row. goes_in_fall state other row && is_below state.controls row.home c) state.rows))
+    (sym (length-filter-map (λ row. is_below state.controls row.home c) (row_after_fall state other status) (filter (λ row. not (goes_in_fall state other row)) state.rows)))
+    ∙ ap (λ (z : Row). count (changed (fall state other status) Done).state c + length (filter (λ row. goes_in_fall state z row && is_below state.controls row.home c) state.rows)) (let same : other ≡ init = cc in same)
 
 -- ---- move
-
-record MovesOne (state : State) (task : Row) (id : ℕ) (o : Outcome) : Type 0 where
-  both : o.reply ≡ Done → (c : ℕ)
-      → count o.state c + one_if (is_below state.controls task.home c) ≡ count state c + one_if (is_below state.controls id c)
 
 -- those who are not the task count as before
 count-moved : (state : State) → IsSound state → (task : Row) (id c : ℕ) → IsIn task state.rows
@@ -221,27 +185,19 @@ count-moved state sound task id c i =
     omega arith
 
 -- so does every move that is answered
-pub move_counts_both : (state : State) (stamp n id : ℕ) (task : Row) → IsSound state → live_row state.rows n ≡ Some task
-    → (step state stamp (Move n id)).reply ≡ Done
-    → (c : ℕ)
-    → count (step state stamp (Move n id)).state c + one_if (is_below state.controls task.home c) ≡ count state c + one_if (is_below state.controls id c)
-unfolding step
-move_counts_both state stamp n id task sound found told =
-    (move_task_cases (MovesOne state task id) state n id (λ r. record { both = λ e. absurd (cc) })
-    (λ other g there at. subst (λ (z : Row). MovesOne state z id (changed (with_row state other.name (set_home id)) Done)) (let same : other ≡ task = cc in same) (one other (live_row-Some state.rows n other there).0))).both told
-  where
-    one : (other : Row) → IsIn other state.rows → MovesOne state other id (changed (with_row state other.name (set_home id)) Done)
-    one other i = record { both = λ e c. ap (λ k. k + one_if (is_below state.controls other.home c)) (count-swept (with_row state other.name (set_home id)) c) ∙ count-moved state sound other id c i }
+pub comes_move : (state : State) (stamp n id : ℕ) (o : Outcome) → Comes state stamp (Move n id) o → (task : Row) → IsSound state → live_row state.rows n ≡ Some task
+    → o.reply ≡ Done → (c : ℕ) → count o.state c + one_if (is_below state.controls task.home c) ≡ count state c + one_if (is_below state.controls id c)
+comes_move state stamp n id o (still _ reply answer) task sound found told c = absurd (no_answer reply Done answer refl told)
+comes_move state stamp n id o (moved _ _ other g there at) task sound found told c =
+    let same : other ≡ task = cc in
+    subst (λ (z : Row). count (sweep (with_row state z.name (set_home id))) c + one_if (is_below state.controls task.home c) ≡ count state c + one_if (is_below state.controls id c)) (sym same)
+    (ap (λ k. k + one_if (is_below state.controls task.home c)) (count-swept (with_row state task.name (set_home id)) c) ∙ count-moved state sound task id c (live_row-Some state.rows n task found).0)
 
 -- ---- nothing else
 
 -- a control group that is there before and after counts the same
-record CountsSame (state : State) (c : ℕ) (o : Outcome) : Type 0 where
-  same : (g h : Control) → control_at state.controls c ≡ Some g → control_at o.state.controls c ≡ Some h → count o.state c ≡ count state c
-
--- a call that changes nothing changes no count
-CountsSame-still : (state : State) (c : ℕ) (reply : Reply) → CountsSame state c (answered state reply)
-CountsSame-still state c reply = record { same = λ g h d e. refl }
+pub record CountsSame (state : State) (c : ℕ) (o : Outcome) : Type 0 where
+  pub same : (g h : Control) → control_at state.controls c ≡ Some g → control_at o.state.controls c ≡ Some h → count o.state c ≡ count state c
 
 -- a change of rows that changes no home
 CountsSame-map : (state : State) (c : ℕ) (f : Row → Row) (reply : Reply) → ((r : Row) → (f r).home ≡ r.home)
@@ -326,46 +282,23 @@ CountsSame-removed state sound id parent c g reply found under idle = record {
     home differs x false e = ap (λ p. contains p c) (other_path state.controls tree id childless x (eqb-false x id e))
 
 -- no other call changes a count
-nothing_else : (state : State) (stamp : ℕ) (call : Call) → IsSound state → IsBelow stamp state → may_change_counts state call ≡ false
-    → (c : ℕ) → CountsSame state c (step state stamp call)
-unfolding step rows_after_exit count_tasks
-nothing_else state stamp (Fork caller new_space) sound below quiet c = absurd (cc)
-nothing_else state stamp (GetPid caller) sound below quiet c = CountsSame-still state c _
-nothing_else state stamp (NsPid caller target) sound below quiet c = CountsSame-still state c _
-nothing_else state stamp (Exec caller) sound below quiet c =
-    exec_cases (CountsSame state c) state caller (λ r. CountsSame-still state c _) (λ row found. CountsSame-on_row state c row.name set_executed _ (λ r. refl))
-nothing_else state stamp (Exit caller status) sound below quiet c =
-    exit_cases (CountsSame state c) state caller status (λ r. CountsSame-still state c _)
-    (λ row found deep one. let fell : may_change_counts state (Exit caller status) ≡ true = ap (λ o. option_map_or (is_init state) o false) found ∙ one in absurd (cc))
-    (λ row found deep none. CountsSame-map state c (row_after_exit row (new_parent state row) (Exited status)) _ (λ r. refl))
-nothing_else state stamp (Wait caller which) sound below quiet c = absurd (cc)
-nothing_else state stamp (GetPpid caller) sound below quiet c = CountsSame-still state c _
-nothing_else state stamp (SetPgid caller pid pgid) sound below quiet c =
-    set_pgid_cases (CountsSame state c) state caller pid pgid (λ r. CountsSame-still state c _) (λ row target group found aimed same own there. CountsSame-on_row state c target.name (set_group group) _ (λ r. refl))
-nothing_else state stamp (SetSid caller) sound below quiet c =
-    set_sid_cases (CountsSame state c) state caller (λ r. CountsSame-still state c _) (λ row found none. CountsSame-on_row state c row.name start_session _ (λ r. refl))
-nothing_else state stamp (MakeControl parent) sound below quiet c =
-    make_control_cases (CountsSame state c) state stamp parent (λ r. CountsSame-still state c _) (λ g found shallow. CountsSame-made state sound stamp below parent c _)
-nothing_else state stamp (RemoveControl id) sound below quiet c =
-    remove_control_cases (CountsSame state c) state id (λ r. CountsSame-still state c _) (λ g parent found under idle. CountsSame-removed state sound id parent c g _ found under idle)
-nothing_else state stamp (SetLimit id limit) sound below quiet c =
-    set_limit_cases (CountsSame state c) state id limit (λ r. CountsSame-still state c _) (λ g parent found under good. CountsSame-limited state id limit c _)
-nothing_else state stamp (Move task id) sound below quiet c = absurd (cc)
-nothing_else state stamp (Count id) sound below quiet c = go (control_at state.controls id)
-  where
-    go : (o : Option Control) → CountsSame state c (for_found state o NoControl (λ g. answered state (Counted (count state id))))
-    go None = CountsSame-still state c _
-    go (Some g) = CountsSame-still state c _
-nothing_else state stamp (GetPgid caller pid) sound below quiet c = CountsSame-still state c _
-nothing_else state stamp (GetSid caller pid) sound below quiet c = CountsSame-still state c _
-nothing_else state stamp (Next caller kind from) sound below quiet c = CountsSame-still state c _
-nothing_else state stamp (Join caller target) sound below quiet c =
-    join_cases (CountsSame state c) state caller target (λ r. CountsSame-still state c _) (λ row target found there live. CountsSame-on_row state c row.name (set_children_space target.name.space) _ (λ r. refl))
-nothing_else state stamp (SetSubreaper caller on) sound below quiet c =
-    set_subreaper_cases (CountsSame state c) state caller on (λ r. CountsSame-still state c _) (λ row found. CountsSame-on_row state c row.name (set_mark on) _ (λ r. refl))
-
--- the same, as an equation
-pub counts_same : (state : State) (stamp : ℕ) (call : Call) → IsSound state → IsBelow stamp state → may_change_counts state call ≡ false
-    → (c : ℕ) (g h : Control) → control_at state.controls c ≡ Some g → control_at (step state stamp call).state.controls c ≡ Some h
-    → count (step state stamp call).state c ≡ count state c
-counts_same state stamp call sound below quiet c = (nothing_else state stamp call sound below quiet c).same
+pub nothing_else : (state : State) (stamp : ℕ) (call : Call) (o : Outcome) → Comes state stamp call o → IsSound state → IsBelow stamp state
+    → may_change_counts state call ≡ false
+    → (c : ℕ) → CountsSame state c o
+unfolding rows_after_exit
+nothing_else state stamp call o (still _ reply answer) sound below quiet c = record { same = λ g h d e. refl }
+nothing_else state stamp call o (executed n caller found) sound below quiet c = CountsSame-on_row state c caller.name set_executed _ (λ r. refl)
+nothing_else state stamp call o (fell n status caller found deep one) sound below quiet c =
+    let yes : may_change_counts state (Exit n status) ≡ true = ap (λ o. option_map_or (is_init state) o false) found ∙ one in absurd (cc)
+nothing_else state stamp call o (handed_on n status caller found none) sound below quiet c =
+    CountsSame-map state c (row_after_exit caller (new_parent state caller) (Exited status)) _ (λ r. refl)
+nothing_else state stamp call o (grouped n pid pgid caller target group found aimed same own there) sound below quiet c =
+    CountsSame-on_row state c target.name (set_group group) _ (λ r. refl)
+nothing_else state stamp call o (led n caller found none) sound below quiet c = CountsSame-on_row state c caller.name start_session _ (λ r. refl)
+nothing_else state stamp call o (control_made parent g found shallow) sound below quiet c = CountsSame-made state sound stamp below parent c _
+nothing_else state stamp call o (control_removed id parent g found under idle) sound below quiet c = CountsSame-removed state sound id parent c g _ found under idle
+nothing_else state stamp call o (limit_set id parent limit g found under good) sound below quiet c = CountsSame-limited state id limit c _
+nothing_else state stamp call o (joined n target caller row found there live) sound below quiet c =
+    CountsSame-on_row state c caller.name (set_children_space row.name.space) _ (λ r. refl)
+nothing_else state stamp call o (marked n on caller found) sound below quiet c = CountsSame-on_row state c caller.name (set_mark on) _ (λ r. refl)
+nothing_else state stamp call o _ sound below quiet c = absurd (cc)
