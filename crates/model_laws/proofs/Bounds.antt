@@ -10,7 +10,7 @@ use Rattle.pid_types.specs.Names.{with_row}
 use Rattle.pid_types.specs.Changes.{with_control, without_control, with_limit}
 use Rattle.pid_types.specs.Step.{step}
 use Rattle.pid_types.specs.Replay.{state_after}
-use Rattle.model_laws.proofs.Comes.{Comes, still, step_comes}
+use Rattle.model_laws.proofs.Calls.{Comes, still, step_comes}
 
 -- whatever a call comes to
 comes_bound : (state : State) (stamp : ℕ) (call : Call) (o : Outcome) → Comes state stamp call o → o.state.pid_max ≡ state.pid_max

@@ -11,7 +11,7 @@ use Rattle.pid_types.specs.Chains.{climb}
 use Rattle.pid_types.specs.State.{State}
 use Rattle.pid_types.specs.Names.{is_live}
 use Rattle.pid_types.specs.Controls.{control_at, parent_control, control_path}
-use Rattle.pid_types.specs.Changes.{with_control, make_control, is_busy, rehome, without_control, remove_control, limited, with_limit, set_limit}
+use Rattle.pid_types.specs.Changes.{with_control, is_busy, rehome, without_control, limited, with_limit}
 use Rattle.pid_types.specs.Membership.{IsIn}
 use Rattle.pid_types.specs.Sound.{IsTreeOfControls, HasGoodLimit, IsCoherent, IsSound, IsBelow}
 use Rattle.model_laws.proofs.Lists.{IsIn-append, IsIn-from_filter, IsIn-from_map, find-filter, list_any-from_one}
@@ -21,8 +21,9 @@ use Rattle.model_laws.proofs.Rising.{IsRising-filter}
 use Rattle.model_laws.proofs.Trees.{control_to_root, control_at-Some, root_control_parent, control_path_listed}
 use Rattle.model_laws.proofs.Forests.{at-map, chain-map, IsTree-map, at-push_old, chain-push, IsIn-chain_new, IsTree-push}
 use Rattle.model_laws.proofs.RowMaps.{IsCoherent-map_rows, HasGoodGroups-map, each_of_map}
-use Rattle.model_laws.proofs.Kept.{Keeps, Keeps-same, Keeps-next, Keeps-changed}
-use Rattle.model_laws.proofs.Calls.{make_control_cases, remove_control_cases, set_limit_cases}
+use Rattle.model_laws.proofs.Kept.{Keeps, Keeps-changed}
+use Rattle.pid_types.specs.declared.reply.Reply.{Reply}
+use Rattle.pid_types.specs.Outcome.{changed}
 
 -- a coherent state with other control groups, where each home is
 IsCoherent-controls : (state : State) (controls : List Control) → IsCoherent state → IsTreeOfControls controls
@@ -88,10 +89,11 @@ module _ (controls : List Control) (tree : IsTreeOfControls controls) (stamp par
       (λ c i. path_old c.id (tree.chains c i)) (path_new on short) elder tree
 
 -- a new control group leaves a sound state
-pub make_control_keeps : (state : State) (stamp parent : ℕ) → IsSound state → IsBelow stamp state → Keeps (stamp + 1) (make_control state stamp parent)
+pub make_control_keeps : (state : State) (stamp parent : ℕ) (c : Control) (reply : Reply) → IsSound state → IsBelow stamp state
+    → control_at state.controls parent ≡ Some c → nat_lt 64 (length (control_path state.controls parent)) ≡ false
+    → Keeps (stamp + 1) (changed (with_control state parent stamp) reply)
 unfolding with_control
-make_control_keeps state stamp parent sound below =
-    make_control_cases (Keeps (stamp + 1)) state stamp parent (λ r. Keeps-next stamp _ (Keeps-same stamp state _ sound below)) (λ c found shallow.
+make_control_keeps state stamp parent c reply sound below found shallow =
     let tree : IsTreeOfControls state.controls = sound.coherent.controls in
     let on : IsIn 0 (control_path state.controls parent) = control_to_root state.controls tree parent c found in
     Keeps-changed (stamp + 1) (with_control state parent stamp) _
@@ -110,7 +112,7 @@ make_control_keeps state stamp parent sound below =
         | inr j ↦ elim j [ inl e ↦ let same : d.id ≡ stamp = ap (λ (x : Control). x.id) e in omega arith | inr none ↦ elim none [ ] ]
       ];
       children = λ r i. omega (arith, below.children r i);
-    }))
+    })
 
 -- ---- the end of a control group
 
@@ -196,10 +198,10 @@ path_of_child controls id parent g found under c differs i = elim (climb_cases (
 ]
 
 -- the end of a control group leaves a sound state
-pub remove_control_keeps : (state : State) (stamp id : ℕ) → IsSound state → IsBelow stamp state → Keeps stamp (remove_control state id)
+pub remove_control_keeps : (state : State) (stamp id parent : ℕ) (c : Control) (reply : Reply) → IsSound state → IsBelow stamp state
+    → control_at state.controls id ≡ Some c → c.parent ≡ Some parent → is_busy state id ≡ false → Keeps stamp (changed (without_control state id parent) reply)
 unfolding without_control is_busy
-remove_control_keeps state stamp id sound below =
-    remove_control_cases (Keeps stamp) state id (λ r. Keeps-same stamp state _ sound below) (λ c parent found under idle.
+remove_control_keeps state stamp id parent c reply sound below found under idle =
     let tree : IsTreeOfControls state.controls = sound.coherent.controls in
     let childless : (d : Control) → IsIn d state.controls → d.parent ≡ Some id → ⊥ = no_child state id idle in
     let root : id ≡ 0 → ⊥ = λ e.
@@ -230,7 +232,7 @@ remove_control_keeps state stamp id sound below =
       spaces = λ s i. omega (arith, below.spaces s i);
       controls = λ d i. omega (arith, below.controls d (IsIn-from_filter (λ c. not (c.id == id)) d state.controls i).0);
       children = each_of_map (λ r. r.children_space < stamp) (rehome id parent) state.rows (λ r i. omega (arith, below.children r i));
-    }))
+    })
 
 -- ---- a limit
 
@@ -269,10 +271,11 @@ HasGoodLimit-limited controls tree id parent limit g found under good c old = go
     go true e = record { root = λ zero. absurd (below_root (sym (eqb-true c.id id e) ∙ zero)); bounded = bounded limit good }
 
 -- a limit leaves a sound state
-pub set_limit_keeps : (state : State) (stamp id : ℕ) (limit : Option ℕ) → IsSound state → IsBelow stamp state → Keeps stamp (set_limit state id limit)
+pub set_limit_keeps : (state : State) (stamp id parent : ℕ) (limit : Option ℕ) (g : Control) (reply : Reply) → IsSound state → IsBelow stamp state
+    → control_at state.controls id ≡ Some g → g.parent ≡ Some parent → option_map_or (nat_lt greatest_limit) limit false ≡ false
+    → Keeps stamp (changed (with_limit state id limit) reply)
 unfolding with_limit
-set_limit_keeps state stamp id limit sound below =
-    set_limit_cases (Keeps stamp) state id limit (λ r. Keeps-same stamp state _ sound below) (λ g parent found under good.
+set_limit_keeps state stamp id parent limit g reply sound below found under good =
     Keeps-changed stamp (with_limit state id limit) _
     (IsCoherent-controls state (map (limited id limit) state.controls) sound.coherent
     (IsTreeOfControls-map state.controls (limited id limit) (λ c. refl) (λ c. refl) sound.coherent.controls)
@@ -285,4 +288,4 @@ set_limit_keeps state stamp id limit sound below =
       spaces = λ s i. omega (arith, below.spaces s i);
       controls = λ c i. let r = IsIn-from_map (limited id limit) c state.controls i in omega (arith, below.controls r.0 r.1, ap (λ (d : Control). d.id) r.2);
       children = λ r i. omega (arith, below.children r i);
-    }))
+    })

@@ -1,10 +1,10 @@
 -- What changes a control group's count.
-use Rattle.std.proofs.Common.{◌≡◌, ℕ, suc, ◌+◌, ◌<◌, Bool, true, false, not, ◌&&◌, ◌==◌, List, [], ◌∷◌, map, length, Option, Some, None, cond, refl, sym, ap, ◌∙◌, subst, inl, inr, arith}
+use Rattle.std.proofs.Common.{◌≡◌, ℕ, suc, ◌+◌, ◌<◌, Bool, true, false, not, ◌&&◌, ◌==◌, List, [], ◌∷◌, map, length, Option, Some, cond, refl, sym, ap, ◌∙◌, subst, inl, inr, arith}
 use Rattle.std.specs.Prelude.{filter, if◌then◌else◌}
 use Rattle.std.specs.Option.{option_map_or}
 use Rattle.std.proofs.lemmas.Bool.{cases_Bool, not-true, eqb-true, eqb-false, not_from_false, false_from_ne_true}
 use Rattle.pid_types.specs.declared.call.Call.{Call}
-use Rattle.pid_types.specs.declared.call.Call.TheVariants.{Fork, GetPid, NsPid, Exec, Exit, Wait, GetPpid, SetPgid, SetSid, MakeControl, RemoveControl, SetLimit, Move, Count, GetPgid, GetSid, Next, Join, SetSubreaper}
+use Rattle.pid_types.specs.declared.call.Call.TheVariants.{Fork, Exit, Wait, Move}
 use Rattle.pid_types.specs.declared.call.Which.{Which}
 use Rattle.pid_types.specs.declared.plain.Name.{Name}
 use Rattle.pid_types.specs.declared.plain.Row.{Row}
@@ -12,37 +12,29 @@ use Rattle.pid_types.specs.declared.plain.Ended.{Ended}
 use Rattle.pid_types.specs.declared.plain.Ended.TheVariants.{Exited}
 use Rattle.pid_types.specs.declared.plain.Control.{Control}
 use Rattle.pid_types.specs.declared.reply.Reply.{Reply}
-use Rattle.pid_types.specs.declared.reply.Reply.TheVariants.{Forked, Done, Reaped, Counted}
-use Rattle.pid_types.specs.declared.reply.Refusal.TheVariants.{NoControl}
+use Rattle.pid_types.specs.declared.reply.Reply.TheVariants.{Forked, Done, Reaped}
 use Rattle.pid_types.specs.Chains.{contains}
 use Rattle.pid_types.specs.State.{State}
 use Rattle.pid_types.specs.Names.{root_number, same_name, is_live, live_row, number_or_zero, on_row, with_row}
 use Rattle.pid_types.specs.Controls.{control_at, control_path, count, is_below}
-use Rattle.pid_types.specs.Outcome.{Outcome, sweep, answered, changed, for_found}
-use Rattle.pid_types.specs.Fork.{with_space, child_of}
+use Rattle.pid_types.specs.Outcome.{Outcome, sweep, changed}
+use Rattle.pid_types.specs.Fork.{with_space}
 use Rattle.pid_types.specs.Exit.{is_init, goes_in_fall, row_after_exit, rows_after_exit, row_after_fall, rows_after_fall, new_parent, fall}
-use Rattle.pid_types.specs.Wait.{end_of, without_row}
+use Rattle.pid_types.specs.Wait.{without_row}
 use Rattle.pid_types.specs.Groups.{set_group, start_session}
-use Rattle.pid_types.specs.Changes.{set_executed, with_control, is_busy, rehome, without_control, limited, with_limit, set_home, count_tasks, set_children_space, set_mark}
-use Rattle.pid_types.specs.Step.{step}
+use Rattle.pid_types.specs.Changes.{set_executed, with_control, is_busy, rehome, without_control, limited, with_limit, set_home, set_children_space, set_mark}
 use Rattle.pid_types.specs.Membership.{IsIn}
 use Rattle.pid_types.specs.Sound.{IsRising, IsTreeOfControls, IsSound, IsBelow}
 use Rattle.model_laws.specs.CountLaws.{one_if, may_change_counts}
 use Rattle.model_laws.proofs.Lists.{IsIn-map, IsIn-from_filter, IsIn-from_contains, contains-from_IsIn, filter-same, filter-all}
 use Rattle.model_laws.proofs.Names.{on_row-keeps, same_name-true, same_name-refl}
 use Rattle.model_laws.proofs.Trees.{control_to_root, control_at-Some, live_row-Some}
-use Rattle.model_laws.proofs.Comes.{Comes, still, born, born_first, fell, handed_on, reaped, grouped, led, executed, control_made, control_removed, limit_set, moved, joined, marked, no_answer}
-use Rattle.pid_types.specs.Fork.{forked}
+use Rattle.model_laws.proofs.Calls.{Comes, still, born, born_first, fell, handed_on, waits, reaped, grouped, led, executed, control_made, control_removed, limit_set, moved, joined, marked, no_answer}
 use Rattle.model_laws.proofs.EndsKept.{reaped_row}
 use Rattle.model_laws.proofs.ControlsKept.{with_made, path_old, others, other_path, no_child, control_path-map, path_of_parent, path_of_child}
-use Rattle.model_laws.proofs.Limits.{length-filter-insert}
+use Rattle.model_laws.proofs.Limits.{length-cond, count-forked}
 
 -- ---- how many pass a test
-
--- one row more, if the test holds
-length-cond : (b : Bool) (row : Row) (rows : List Row) → length (cond b (row ∷ rows) rows) ≡ length rows + one_if b
-length-cond true row rows = omega arith
-length-cond false row rows = omega arith
 
 -- as many pass after the change as pass the test of what they become
 length-filter-map : (p : Row → Bool) (f : Row → Row) (rows : List Row) → length (filter p (map f rows)) ≡ length (filter (λ r. p (f r)) rows)
@@ -109,23 +101,15 @@ count-swept state c = refl
 
 -- ---- fork
 
--- a fork that is made counts one more up from the caller's home
-count-forked_one : (state : State) (caller : Row) (t c : ℕ)
-    → count (forked state caller t).state c ≡ count state c + one_if (is_below state.controls caller.home c)
-unfolding count sweep
-count-forked_one state caller t c =
-    length-filter-insert (λ row. is_below state.controls row.home c) (child_of state caller t) state.rows
-    ∙ length-cond (is_below state.controls caller.home c) (child_of state caller t) (filter (λ row. is_below state.controls row.home c) state.rows)
-
--- so does every fork that is answered
+-- a fork that is answered counts one more up from the caller's home
 pub comes_fork : (state : State) (stamp n : ℕ) (new_space : Bool) (o : Outcome) → Comes state stamp (Fork n new_space) o → (caller : Row) (child root : ℕ)
     → live_row state.rows n ≡ Some caller → o.reply ≡ Forked child root → (c : ℕ) → count o.state c ≡ count state c + one_if (is_below state.controls caller.home c)
 unfolding count
 comes_fork state stamp n new_space o (still _ reply answer) caller child root found told c = absurd (no_answer reply (Forked child root) answer refl told)
 comes_fork state stamp n new_space o (born _ _ other plain there stands may) caller child root found told c =
-    count-forked_one state other other.children_space c ∙ ap (λ (z : Row). count state c + one_if (is_below state.controls z.home c)) (let same : other ≡ caller = cc in same)
+    count-forked state other other.children_space c ∙ ap (λ (z : Row). count state c + one_if (is_below state.controls z.home c)) (let same : other ≡ caller = cc in same)
 comes_fork state stamp n new_space o (born_first _ other there stands shallow here may) caller child root found told c =
-    count-forked_one (with_space state other.children_space stamp) other stamp c
+    count-forked (with_space state other.children_space stamp) other stamp c
     ∙ ap (λ (z : Row). count state c + one_if (is_below state.controls z.home c)) (let same : other ≡ caller = cc in same)
 
 -- ---- reaping
@@ -137,6 +121,7 @@ pub comes_reaping : (state : State) (stamp n : ℕ) (which : Which) (o : Outcome
     × ((c : ℕ) → count state c ≡ count o.state c + one_if (is_below state.controls row.home c))
 unfolding count sweep without_row
 comes_reaping state stamp n which o (still _ reply answer) caller child ended sound found told = absurd (no_answer reply (Reaped child ended) answer refl told)
+comes_reaping state stamp n which o (waits _ _ other there none) caller child ended sound found told = absurd (cc)
 comes_reaping state stamp n which o (reaped _ _ other row there least) caller child ended sound found told =
     let same : other ≡ caller = cc in
     let r = reaped_row state other row which least in (

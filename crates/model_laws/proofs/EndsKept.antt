@@ -13,18 +13,19 @@ use Rattle.pid_types.specs.declared.plain.Life.TheVariants.{Live, Zombie}
 use Rattle.pid_types.specs.declared.plain.Ended.TheVariants.{Exited, Killed}
 use Rattle.pid_types.specs.State.{State}
 use Rattle.pid_types.specs.Names.{path_up, is_within, number, number_or_zero, root_number, same_name, is_parent, is_live, is_member}
-use Rattle.pid_types.specs.Wait.{is_selected, matching, least_row, without_row, ended_children, wait}
+use Rattle.pid_types.specs.Wait.{is_selected, matching, least_row, without_row, ended_children}
 use Rattle.pid_types.specs.Exit.{has_parent_within, goes_in_fall, row_after_fall, rows_after_fall, fallen_below, fall}
 use Rattle.pid_types.specs.Membership.{IsIn}
 use Rattle.pid_types.specs.Sound.{IsCoherent, IsSound, IsBelow}
 use Rattle.model_laws.proofs.Lists.{IsIn-from_filter, IsIn-from_map, IsIn-from_contains, contains-from_IsIn}
 use Rattle.model_laws.proofs.Names.{same_name-true, own_name_in_use, number-on_path, number-off_path}
-use Rattle.model_laws.proofs.Trees.{same_row, live_row-Some, path_first, path_trans, path_antisym}
+use Rattle.model_laws.proofs.Trees.{same_row, path_first, path_trans, path_antisym}
 use Rattle.model_laws.proofs.RowMaps.{each_of_map}
 use Rattle.model_laws.proofs.Survivors.{KeepsSurvivors, IsCoherent-survivors}
 use Rattle.model_laws.proofs.Ancestry.{number-root_of_row, root_path, row_on_tree}
-use Rattle.model_laws.proofs.Kept.{Keeps, Keeps-same, Keeps-changed}
-use Rattle.model_laws.proofs.Calls.{wait_cases}
+use Rattle.model_laws.proofs.Kept.{Keeps, Keeps-changed}
+use Rattle.pid_types.specs.declared.reply.Reply.{Reply}
+use Rattle.pid_types.specs.Outcome.{changed}
 
 -- ---- wait
 
@@ -81,17 +82,17 @@ IsCoherent-without_row state sound gone caller i ended j lives =
         let dead : is_live r ≡ false = ap (λ (x : Row). is_live x) one ∙ ended in cc))
 
 -- a wait leaves a sound state
-pub wait_keeps : (state : State) (stamp n : ℕ) (which : Which) → IsSound state → IsBelow stamp state → Keeps stamp (wait state n which)
+pub wait_keeps : (state : State) (stamp : ℕ) (which : Which) (caller row : Row) (reply : Reply) → IsSound state → IsBelow stamp state
+    → IsIn caller state.rows → is_live caller ≡ true → least_row state caller.name.space (ended_children state caller which) ≡ Some row
+    → Keeps stamp (changed (without_row state row) reply)
 unfolding without_row
-wait_keeps state stamp n which sound below =
-    wait_cases (Keeps stamp) state n which (λ r. Keeps-same stamp state _ sound below) (Keeps-same stamp state _ sound below) (λ caller row found least.
-    let c = live_row-Some state.rows n caller found in
+wait_keeps state stamp which caller row reply sound below i live least =
     let r = reaped_row state caller row which least in
-    Keeps-changed stamp (without_row state row) _ (IsCoherent-without_row state sound.coherent row caller r.0 r.1 c.0 c.2) (record {
+    Keeps-changed stamp (without_row state row) _ (IsCoherent-without_row state sound.coherent row caller r.0 r.1 i live) (record {
       spaces = λ s i. omega (arith, below.spaces s i);
       controls = λ d i. omega (arith, below.controls d i);
       children = λ x i. omega (arith, below.children x (IsIn-from_filter (λ r. not (same_name r.name row.name)) x state.rows i).0);
-    }))
+    })
 
 -- ---- the fall
 

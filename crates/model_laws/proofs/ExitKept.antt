@@ -14,19 +14,19 @@ use Rattle.pid_types.specs.Chains.{climb}
 use Rattle.pid_types.specs.State.{State}
 use Rattle.pid_types.specs.Names.{path_up, number, is_numbered, root_number, same_name, is_parent, is_live, row_at, task_at, names_in_use}
 use Rattle.pid_types.specs.Controls.{control_at}
-use Rattle.pid_types.specs.Exit.{is_init, parent_number, ancestors, is_subreaper_in, nearest_subreaper, new_parent, row_after_exit, rows_after_exit, fall, exit}
+use Rattle.pid_types.specs.Exit.{is_init, parent_number, ancestors, is_subreaper_in, nearest_subreaper, new_parent, row_after_exit, rows_after_exit}
 use Rattle.pid_types.specs.Membership.{IsIn}
 use Rattle.pid_types.specs.Sound.{IsRising, IsGoodParent, HasGoodParents, HasGoodChildrenSpace, IsCoherent, IsSound, IsBelow}
 use Rattle.model_laws.proofs.Lists.{IsIn-map, find-Some, find-only}
 use Rattle.model_laws.proofs.Chains.{climb_cases, climb_child}
 use Rattle.model_laws.proofs.Names.{is_parent-true, is_parent-from, same_name-true, is_numbered-true, is_numbered-from, own_name_in_use, group_in_use, session_in_use, number-on_path}
 use Rattle.model_laws.proofs.Rising.{unique_key}
-use Rattle.model_laws.proofs.Trees.{same_row, live_row-Some, row_at-listed, row_at-Some, space_at-Some, path_first, path_trans, path_antisym}
+use Rattle.model_laws.proofs.Trees.{same_row, row_at-listed, row_at-Some, space_at-Some, path_first, path_trans, path_antisym}
 use Rattle.model_laws.proofs.RowMaps.{row_at-map, roots-map, in_use_before, each_of_map, HasGoodGroups-map}
 use Rattle.model_laws.proofs.Ancestry.{Far, Far-unique, Far-same, IsIn-roots, parent_number-at, chain-in_rows, row_on_tree, root_init_row, top_row, row_far, parent_row}
-use Rattle.model_laws.proofs.EndsKept.{IsCoherent-fall, IsBelow-fall}
-use Rattle.model_laws.proofs.Kept.{Keeps, Keeps-same, Keeps-changed}
-use Rattle.model_laws.proofs.Calls.{exit_cases}
+use Rattle.model_laws.proofs.Kept.{Keeps, Keeps-changed}
+use Rattle.pid_types.specs.declared.reply.Reply.{Reply}
+use Rattle.pid_types.specs.Outcome.{changed}
 
 -- ---- the rows after a task ended
 
@@ -397,19 +397,14 @@ module _ (state : State) (sound : IsCoherent state) (task : Row) (ended : Ended)
 
 -- ---- the call
 
--- an exit leaves a sound state
-pub exit_keeps : (state : State) (stamp n status : ℕ) → IsSound state → IsBelow stamp state → Keeps stamp (exit state n status)
+-- an exit that lets no namespace fall leaves a sound state
+pub exit_keeps : (state : State) (stamp status : ℕ) (caller : Row) (reply : Reply) → IsSound state → IsBelow stamp state
+    → IsIn caller state.rows → is_live caller ≡ true → is_init state caller ≡ false
+    → Keeps stamp (changed (record state { rows = rows_after_exit state caller status }) reply)
 unfolding rows_after_exit
-exit_keeps state stamp n status sound below =
-    exit_cases (Keeps stamp) state n status (λ r. Keeps-same stamp state _ sound below)
-    (λ caller found deep one.
-    let c = live_row-Some state.rows n caller found in
-    let first : number state.spaces caller.name caller.name.space ≡ Some 1 = is_numbered-true state.spaces caller.name caller.name.space 1 one in
-    Keeps-changed stamp (fall state caller status) _ (IsCoherent-fall state sound.coherent caller status c.0 first deep) (IsBelow-fall state sound.coherent caller status c.0 first deep stamp below))
-    (λ caller found deep none.
-    let c = live_row-Some state.rows n caller found in
+exit_keeps state stamp status caller reply sound below i live none =
     let no_init : number state.spaces caller.name caller.name.space ≡ Some 1 → ⊥ = λ e. (let yes : is_init state caller ≡ true = is_numbered-from state.spaces caller.name caller.name.space 1 e in cc) in
-    let h : Heir state sound.coherent caller (Exited status) c.0 c.2 no_init = heir state sound.coherent caller (Exited status) c.0 c.2 no_init in
+    let h : Heir state sound.coherent caller (Exited status) i live no_init = heir state sound.coherent caller (Exited status) i live no_init in
     Keeps-changed stamp (record state { rows = rows_after_exit state caller status }) _
     (subst (λ o. IsCoherent (record state { rows = map (row_after_exit caller o (Exited status)) state.rows })) (sym h.taken) h.coherent)
     (record {
@@ -417,4 +412,4 @@ exit_keeps state stamp n status sound below =
       controls = λ d i. omega (arith, below.controls d i);
       children =
           each_of_map (λ r. r.children_space < stamp) (row_after_exit caller (new_parent state caller) (Exited status)) state.rows (λ r i. omega (arith, below.children r i));
-    }))
+    })

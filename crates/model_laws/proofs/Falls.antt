@@ -15,15 +15,17 @@ use Rattle.pid_types.specs.State.{State}
 use Rattle.pid_types.specs.Names.{path_up, number, is_within, is_member, same_name, is_live}
 use Rattle.pid_types.specs.Outcome.{Outcome, sweep}
 use Rattle.pid_types.specs.Exit.{is_init, has_parent_within, goes_in_fall, row_after_fall, rows_after_fall, fallen_below, fall}
-use Rattle.pid_types.specs.Step.{step}
 use Rattle.pid_types.specs.Sound.{IsSound}
-use Rattle.model_laws.specs.FallLaws.{IsMember, HasMemberParent, IsOtherMember, HasFallen, ExitOfInitFalls}
+use Rattle.model_laws.specs.FallLaws.{IsMember, HasMemberParent, IsOtherMember, HasFallen}
 use Rattle.model_laws.proofs.Lists.{IsIn-map, IsIn-from_map, IsIn-filter, IsIn-from_filter, IsIn-from_contains, contains-from_IsIn}
 use Rattle.model_laws.proofs.Names.{same_name-true, same_name-refl, own_name_in_use, number-on_path, number-within}
 use Rattle.model_laws.proofs.Rising.{unique_key}
 use Rattle.model_laws.proofs.Trees.{path_first, same_row, live_row-Some}
 use Rattle.model_laws.proofs.Sweeps.{from_kept, to_kept}
-use Rattle.model_laws.proofs.Calls.{exit_cases}
+use Rattle.model_laws.proofs.Calls.{Comes, still, fell, handed_on, no_answer}
+use Rattle.pid_types.specs.declared.call.Call.TheVariants.{Exit}
+use Rattle.pid_types.specs.declared.reply.Reply.TheVariants.{Done}
+use Rattle.pid_types.specs.Names.{live_row}
 
 module _ (state : State) (sound : IsSound state) (init : Row) (status : ℕ) (there : IsIn init state.rows) where
   -- the namespace that falls
@@ -152,17 +154,16 @@ module _ (state : State) (sound : IsSound state) (init : Row) (status : ℕ) (th
           let stay : goes_in_fall state init r ≡ false = subst (λ y. goes_in_fall state init y ≡ false) same (not-true (goes_in_fall state init q.0) f.1) in
           cc
 
--- what an exit that is no refusal makes, where the caller is the init
-record FallsBy (state : State) (init : Row) (status root : ℕ) (o : Outcome) : Type 0 where
-  fallen : o.reply ≡ Done → HasFallen state o.state init status
-
 -- the exit of a namespace's init lets the namespace fall
-pub exit_of_init_falls : ExitOfInitFalls
-unfolding step sweep fall
-exit_of_init_falls state stamp n status init sound found one told =
-    (exit_cases (FallsBy state init status n) state n status (λ r. record { fallen = λ e. absurd (cc) })
-    (λ caller there deep is. record { fallen = λ e. (let same : init ≡ caller = cc in subst (λ (x : Row). HasFallen state (sweep (fall state x status)) init status) same (falls (live_row-Some state.rows n init found).0)) })
-    (λ caller there deep none. record { fallen = λ e. (let same : init ≡ caller = cc in let yes : is_init state caller ≡ true = subst (λ (x : Row). is_init state x ≡ true) same one in absurd (cc)) })).fallen told
+pub comes_fallen : (state : State) (stamp n status : ℕ) (o : Outcome) → Comes state stamp (Exit n status) o → (init : Row) → IsSound state
+    → live_row state.rows n ≡ Some init → is_init state init ≡ true → o.reply ≡ Done → HasFallen state o.state init status
+unfolding sweep fall
+comes_fallen state stamp n status o (still _ reply answer) init sound found one told = absurd (no_answer reply Done answer refl told)
+comes_fallen state stamp n status o (handed_on _ _ caller there none) init sound found one told =
+    absurd (let same : init ≡ caller = cc in let yes : is_init state caller ≡ true = subst (λ (x : Row). is_init state x ≡ true) same one in cc)
+comes_fallen state stamp n status o (fell _ _ caller there deep is) init sound found one told =
+    let same : init ≡ caller = cc in
+    subst (λ (x : Row). HasFallen state (sweep (fall state x status)) init status) same (falls (live_row-Some state.rows n init found).0)
   where
     falls : IsIn init state.rows → HasFallen state (sweep (fall state init status)) init status
     falls there = fallen_rows state sound init status there (sweep (fall state init status)) refl

@@ -1,5 +1,5 @@
 -- Fork leaves a sound state.
-use Rattle.std.proofs.Common.{◌≡◌, ℕ, suc, ◌+◌, ◌<◌, ◌≤◌, Bool, true, false, List, [], ◌∷◌, ◌++◌, map, length, Option, Some, None, refl, sym, ap, ◌∙◌, subst, ◌⊎◌, inl, inr, arith}
+use Rattle.std.proofs.Common.{◌≡◌, ℕ, suc, ◌+◌, ◌<◌, ◌≤◌, true, false, List, [], ◌∷◌, ◌++◌, map, length, Option, Some, None, refl, sym, ap, ◌∙◌, subst, ◌⊎◌, inl, inr, arith}
 use Rattle.std.specs.Prelude.{option_map, nat_le, unwrap_or}
 use Rattle.std.specs.Option.{option_map_or}
 use Rattle.std.proofs.lemmas.List.{length-map, length-reverse}
@@ -10,24 +10,25 @@ use Rattle.pid_types.specs.declared.plain.Space.{Space}
 use Rattle.pid_types.specs.declared.plain.Control.{Control}
 use Rattle.pid_types.specs.Chains.{climb, contains}
 use Rattle.pid_types.specs.State.{State}
-use Rattle.pid_types.specs.Names.{live_row, space_at, parent_space, path_up, level, number, root_number, is_live, row_at, names_in_use, taken}
+use Rattle.pid_types.specs.Names.{space_at, parent_space, path_up, level, number, root_number, is_live, row_at, names_in_use, taken}
 use Rattle.pid_types.specs.Draw.{cyclic_draw, cursor_of, draw}
 use Rattle.pid_types.specs.Controls.{control_at}
 use Rattle.pid_types.specs.Exit.{parent_number}
-use Rattle.pid_types.specs.Fork.{forked, insert_row, with_space, drawn, moved_cursor, with_cursors, child_of, is_gone, with_child, fork}
+use Rattle.pid_types.specs.Fork.{forked, insert_row, with_space, drawn, moved_cursor, with_cursors, child_of, is_gone, with_child}
 use Rattle.pid_types.specs.Membership.{IsIn}
 use Rattle.model_laws.specs.Draws.{IsCyclicDraw, IsLeastFree}
 use Rattle.pid_types.specs.Sound.{IsRising, IsWellNumbered, IsGoodParent, HasGoodParents, HasGoodChildrenSpace, HasLiveInit, IsEmptied, IsTreeOfSpaces, RootStands, IsCoherent, IsSound, IsBelow}
 use Rattle.model_laws.proofs.Lists.{IsIn-append, IsIn-append_right, IsIn-from_map, IsIn-reverse, contains-from_IsIn}
 use Rattle.model_laws.proofs.Names.{Uses, user_of_name, IsIn-names_in_use, own_name_in_use, group_in_use, number-within, number-off_path, number-same_path, IsIn-taken, user_of_number}
 use Rattle.model_laws.proofs.Draws.{cyclic_draw-IsCyclicDraw}
-use Rattle.model_laws.proofs.Trees.{IsOnTree, IsOnTree-listed, IsOnTree-name, space_at-Some, path_first, path_listed, live_row-Some, row_at-listed}
+use Rattle.model_laws.proofs.Trees.{IsOnTree, IsOnTree-listed, IsOnTree-name, space_at-Some, path_first, path_listed, row_at-listed}
 use Rattle.model_laws.proofs.Forests.{at-push_old, at-push_none, at-push_new, not_there, chain-push, chain-new_cases, IsIn-chain_new, IsTree-push}
 use Rattle.model_laws.proofs.SpaceMaps.{path_up-map, number-map_spaces, IsTreeOfSpaces-map, IsWellNumbered-map, HasGoodChildrenSpace-map}
 use Rattle.model_laws.proofs.Ancestry.{Far, Far-same, roots, IsIn-roots, parent_number-at, chain-in_rows, number-root, top_row, row_far, parent_row}
 use Rattle.model_laws.proofs.Inserts.{IsIn-from_insert, IsIn-insert_new, IsIn-insert_old, IsRising-insert, number-child_of, number-child_of_at, drawn-free}
-use Rattle.model_laws.proofs.Kept.{Keeps, Keeps-same, Keeps-next, Keeps-changed, IsBelow-next}
-use Rattle.model_laws.proofs.Calls.{MayFork, fork_cases, fork_plain_cases}
+use Rattle.model_laws.proofs.Kept.{Keeps, Keeps-changed, IsBelow-next}
+use Rattle.model_laws.proofs.Calls.{MayFork}
+use Rattle.std.specs.Prelude.{◌==◌}
 
 -- the namespaces are ready for a child of the caller in t: those of a coherent state, perhaps with t new among them
 pub record IsReady (old : State) (spaces : List Space) (caller : Row) (t : ℕ) : Type 0 where
@@ -526,34 +527,27 @@ module _ (state : State) (sound : IsCoherent state) (stamp : ℕ) (below : IsBel
 -- ---- the call
 
 -- a child in the children's namespace leaves a sound state
-forked_keeps : (state : State) (stamp n : ℕ) → IsSound state → IsBelow stamp state → (caller : Row) → live_row state.rows n ≡ Some caller
+pub forked_keeps : (state : State) (stamp : ℕ) (caller : Row) → IsSound state → IsBelow stamp state → IsIn caller state.rows → is_live caller ≡ true
     → is_gone state caller.children_space ≡ false → MayFork state caller caller.children_space → Keeps stamp (forked state caller caller.children_space)
-forked_keeps state stamp n sound below caller found stands may =
-    let c = live_row-Some state.rows n caller found in
-    let ready : IsReady state state.spaces caller caller.children_space = IsReady-old state sound.coherent caller c.0 stands may in
+forked_keeps state stamp caller sound below there live stands may =
+    let ready : IsReady state state.spaces caller caller.children_space = IsReady-old state sound.coherent caller there stands may in
     Keeps-changed stamp (with_child state (child_of state caller caller.children_space) (path_up state.spaces caller.children_space)) _
-    (IsCoherent-forked state sound.coherent state.spaces caller caller.children_space ready c.0 c.2 may)
-    (IsBelow-forked state sound.coherent state.spaces caller caller.children_space ready c.0 c.2 may stamp below below.spaces)
+    (IsCoherent-forked state sound.coherent state.spaces caller caller.children_space ready there live may)
+    (IsBelow-forked state sound.coherent state.spaces caller caller.children_space ready there live may stamp below below.spaces)
 
--- so a fork into it makes no id
-pub fork_plain_keeps : (state : State) (stamp n : ℕ) → IsSound state → IsBelow stamp state → Keeps stamp (fork state stamp n false)
-fork_plain_keeps state stamp n sound below =
-    fork_plain_cases (Keeps stamp) state stamp n (λ r. Keeps-same stamp state _ sound below) (forked_keeps state stamp n sound below)
-
--- a fork leaves a sound state
-pub fork_keeps : (state : State) (stamp n : ℕ) (new_space : Bool) → IsSound state → IsBelow stamp state → Keeps (stamp + 1) (fork state stamp n new_space)
-fork_keeps state stamp n new_space sound below =
-    fork_cases (Keeps (stamp + 1)) state stamp n new_space (λ r. Keeps-next stamp _ (Keeps-same stamp state _ sound below))
-    (λ caller found stands may. Keeps-next stamp _ (forked_keeps state stamp n sound below caller found stands may))
-    (λ caller found stands shallow here may.
-    let c = live_row-Some state.rows n caller found in
+-- and so does one in a new namespace
+pub forked_first_keeps : (state : State) (stamp : ℕ) (caller : Row) → IsSound state → IsBelow stamp state → IsIn caller state.rows → is_live caller ≡ true
+    → is_gone state caller.children_space ≡ false → nat_le 32 (level state.spaces caller.children_space) ≡ false
+    → (caller.children_space == caller.name.space) ≡ true → MayFork (with_space state caller.children_space stamp) caller stamp
+    → Keeps (stamp + 1) (forked (with_space state caller.children_space stamp) caller stamp)
+forked_first_keeps state stamp caller sound below there live stands shallow here may =
     let p : ℕ = caller.children_space in
     let spaces : List Space = with_new state sound.coherent stamp below p stands shallow in
-    let ready : IsReady state spaces caller stamp = IsReady-new state sound.coherent stamp below p stands shallow caller c.0 (eqb-true p caller.name.space here) may in
+    let ready : IsReady state spaces caller stamp = IsReady-new state sound.coherent stamp below p stands shallow caller there (eqb-true p caller.name.space here) may in
     Keeps-changed (stamp + 1) (with_child (with_space state p stamp) (child_of (with_space state p stamp) caller stamp) (path_up spaces stamp)) _
-    (IsCoherent-forked state sound.coherent spaces caller stamp ready c.0 c.2 may)
-    (IsBelow-forked state sound.coherent spaces caller stamp ready c.0 c.2 may (stamp + 1) (IsBelow-next stamp state below) (λ s i.
+    (IsCoherent-forked state sound.coherent spaces caller stamp ready there live may)
+    (IsBelow-forked state sound.coherent spaces caller stamp ready there live may (stamp + 1) (IsBelow-next stamp state below) (λ s i.
     elim (IsIn-append s state.spaces (new state sound.coherent stamp below p stands shallow ∷ []) i) [
       | inl j ↦ omega (arith, below.spaces s j)
       | inr j ↦ elim j [ inl e ↦ (let same : s.id ≡ stamp = ap (λ (t : Space). t.id) e in omega arith) | inr none ↦ elim none [ ] ]
-    ])))
+    ]))

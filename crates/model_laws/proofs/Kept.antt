@@ -1,7 +1,7 @@
 -- Calls that change fields of rows leave a sound state.
-use Rattle.std.proofs.Common.{◌≡◌, ℕ, ℤ, pos, negsuc, ◌+◌, ◌<◌, Bool, true, false, ◌&&◌, ◌||◌, not, ◌==◌, map, Option, Some, None, refl, sym, ap, ◌∙◌, subst, ◌⊎◌, inl, inr, arith}
+use Rattle.std.proofs.Common.{◌≡◌, ℕ, ℤ, pos, negsuc, ◌+◌, ◌<◌, Bool, true, false, ◌&&◌, ◌||◌, not, ◌==◌, map, Option, Some, None, refl, sym, ap, ◌∙◌, subst, inl, inr, arith}
 use Rattle.std.specs.Prelude.{find, option_map, if◌then◌else◌}
-use Rattle.std.proofs.lemmas.Bool.{cases_Bool, and_parts, or_cases, not-false}
+use Rattle.std.proofs.lemmas.Bool.{and_parts, or_cases, not-false}
 use Rattle.pid_types.specs.declared.plain.Name.{Name}
 use Rattle.pid_types.specs.declared.plain.Row.{Row}
 use Rattle.pid_types.specs.declared.plain.Control.{Control}
@@ -10,17 +10,16 @@ use Rattle.pid_types.specs.State.{State}
 use Rattle.pid_types.specs.Names.{is_live, path_up, is_numbered, same_name, is_parent, task_at, names_in_use, on_row, with_row}
 use Rattle.pid_types.specs.Controls.{control_at}
 use Rattle.pid_types.specs.Outcome.{Outcome, sweep, answered, changed}
-use Rattle.pid_types.specs.Groups.{target_of, session_group, group_for, set_group, set_pgid, has_members, start_session, set_sid}
-use Rattle.pid_types.specs.Changes.{set_executed, exec, set_home, move_task, set_children_space, join, set_mark, set_subreaper}
+use Rattle.pid_types.specs.Groups.{target_of, session_group, group_for, has_members}
+use Rattle.pid_types.specs.Changes.{set_children_space}
 use Rattle.pid_types.specs.Membership.{IsIn}
 use Rattle.pid_types.specs.Sound.{HasGoodChildrenSpace, IsCoherent, IsSound, IsBelow}
 use Rattle.model_laws.proofs.Lists.{find-Some, list_any-from_one}
 use Rattle.model_laws.proofs.Names.{on_row-keeps, on_row-both, same_name-true, same_name-refl, own_name_in_use, group_in_use, session_in_use, number-within, is_numbered-true}
-use Rattle.model_laws.proofs.Trees.{space_at-Some, same_row, live_row-Some, path_first}
+use Rattle.model_laws.proofs.Trees.{space_at-Some, same_row, path_first}
 use Rattle.model_laws.proofs.Sweeps.{from_kept, IsSound-sweep}
 use Rattle.model_laws.proofs.RowMaps.{KeepsRows, IsCoherent-map_rows, HasGoodGroups-map, each_of_map}
 use Rattle.model_laws.proofs.Placed.{IsOpen, KeepsRows-placed}
-use Rattle.model_laws.proofs.Calls.{set_pgid_cases, set_sid_cases, exec_cases, move_task_cases, join_cases, set_subreaper_cases}
 
 -- ---- what each call has to leave
 
@@ -70,64 +69,48 @@ Keeps-map_rows stamp state f reply sound below keeps children =
     })
 
 -- a change of one task's row that keeps whose it is: its name, parent, life, group and session
-Keeps-on_row : (stamp : ℕ) (state : State) (name : Name) (change : Row → Row) (reply : Reply) → IsSound state → IsBelow stamp state
-    → ((r : Row) → (change r).name ≡ r.name) → ((r : Row) → (change r).parent ≡ r.parent) → ((r : Row) → is_live (change r) ≡ is_live r)
-    → ((r : Row) → (change r).group ≡ r.group) → ((r : Row) → (change r).session ≡ r.session)
+pub Keeps-on_row : (stamp : ℕ) (state : State) (name : Name) (change : Row → Row) (reply : Reply) → IsSound state → IsBelow stamp state
+    → ((r : Row) → change r ≡ record r { executed = (change r).executed; home = (change r).home; children_space = (change r).children_space; subreaper = (change r).subreaper })
     → ((r : Row) → IsIn r state.rows → r.name ≡ name → HasGoodChildrenSpace state.spaces (change r))
     → ((r : Row) → IsIn r state.rows → (c : Control) × (control_at state.controls (change r).home ≡ Some c))
     → ((r : Row) → IsIn r state.rows → (change r).children_space < stamp) → Keeps stamp (changed (with_row state name change) reply)
 unfolding with_row
-Keeps-on_row stamp state name change reply sound below names parents lives groups sessions children homes below_stamp =
+Keeps-on_row stamp state name change reply sound below same children homes below_stamp =
     Keeps-map_rows stamp state (on_row name change) reply sound below (record {
-      names = on_row-keeps name change (λ r. r.name) names;
-      parents = on_row-keeps name change (λ r. r.parent) parents;
-      lives = on_row-keeps name change (λ r. is_live r) lives;
-      group = λ r i. subst (λ a. IsIn a (names_in_use state.rows)) (sym (on_row-keeps name change (λ r. r.group) groups r)) (group_in_use state.rows r i);
-      session = λ r i. subst (λ a. IsIn a (names_in_use state.rows)) (sym (on_row-keeps name change (λ r. r.session) sessions r)) (session_in_use state.rows r i);
+      names = names;
+      parents = on_row-keeps name change (λ r. r.parent) (λ r. ap (λ (x : Row). x.parent) (same r));
+      lives = on_row-keeps name change (λ r. is_live r) (λ r. ap is_live (same r));
+      group = λ r i. subst (λ a. IsIn a (names_in_use state.rows)) (sym (groups r)) (group_in_use state.rows r i);
+      session = λ r i. subst (λ a. IsIn a (names_in_use state.rows)) (sym (sessions r)) (session_in_use state.rows r i);
       children = λ r i. on_row-both (HasGoodChildrenSpace state.spaces) name change r (children r i) (sound.coherent.children r i);
-      groups = HasGoodGroups-map state.rows (on_row name change) (on_row-keeps name change (λ r. r.name) names) (on_row-keeps name change (λ r. r.group) groups) (on_row-keeps name change (λ r. r.session) sessions) sound.coherent.groups;
+      groups = HasGoodGroups-map state.rows (on_row name change) names groups sessions sound.coherent.groups;
       homes = λ r i. on_row-both (λ x. (c : Control) × (control_at state.controls x.home ≡ Some c)) name change r (λ e. homes r i) (sound.coherent.homes r i);
     }) (λ r i. on_row-both (λ x. x.children_space < stamp) name change r (λ e. below_stamp r i) (below.children r i))
+  where
+    names : (r : Row) → (on_row name change r).name ≡ r.name
+    names = on_row-keeps name change (λ r. r.name) (λ r. ap (λ (x : Row). x.name) (same r))
 
--- either the row has the name, or it has not
-name_cases : (r : Row) (name : Name) → ((same_name r.name name ≡ true) × (r.name ≡ name)) ⊎ (same_name r.name name ≡ false)
-name_cases r name = elim (cases_Bool (same_name r.name name)) [ inl e ↦ inl (e, same_name-true r.name name e) | inr e ↦ inr e ]
+    groups : (r : Row) → (on_row name change r).group ≡ r.group
+    groups = on_row-keeps name change (λ r. r.group) (λ r. ap (λ (x : Row). x.group) (same r))
 
--- ---- exec, the subreaper's mark, move and join
+    sessions : (r : Row) → (on_row name change r).session ≡ r.session
+    sessions = on_row-keeps name change (λ r. r.session) (λ r. ap (λ (x : Row). x.session) (same r))
 
--- an exec leaves a sound state
-pub exec_keeps : (state : State) (stamp n : ℕ) → IsSound state → IsBelow stamp state → Keeps stamp (exec state n)
-exec_keeps state stamp n sound below =
-    exec_cases (Keeps stamp) state n (λ r. Keeps-same stamp state _ sound below) (λ caller found.
-    Keeps-on_row stamp state caller.name set_executed _ sound below (λ r. refl) (λ r. refl) (λ r. refl) (λ r. refl) (λ r. refl)
-    (λ r i e. sound.coherent.children r i) sound.coherent.homes below.children)
+-- ---- join
 
--- and so does the subreaper's mark
-pub set_subreaper_keeps : (state : State) (stamp n : ℕ) (on : Bool) → IsSound state → IsBelow stamp state → Keeps stamp (set_subreaper state n on)
-set_subreaper_keeps state stamp n on sound below =
-    set_subreaper_cases (Keeps stamp) state n on (λ r. Keeps-same stamp state _ sound below) (λ caller found.
-    Keeps-on_row stamp state caller.name (set_mark on) _ sound below (λ r. refl) (λ r. refl) (λ r. refl) (λ r. refl) (λ r. refl)
-    (λ r i e. sound.coherent.children r i) sound.coherent.homes below.children)
-
--- a move does
-pub move_task_keeps : (state : State) (stamp n id : ℕ) → IsSound state → IsBelow stamp state → Keeps stamp (move_task state n id)
-move_task_keeps state stamp n id sound below =
-    move_task_cases (Keeps stamp) state n id (λ r. Keeps-same stamp state _ sound below) (λ task c found there.
-    Keeps-on_row stamp state task.name (set_home id) _ sound below (λ r. refl) (λ r. refl) (λ r. refl) (λ r. refl) (λ r. refl)
-    (λ r i e. sound.coherent.children r i) (λ r i. (c, there)) below.children)
-
--- a join does
-pub join_keeps : (state : State) (stamp n target : ℕ) → IsSound state → IsBelow stamp state → Keeps stamp (join state n target)
+-- a join leaves a sound state
+pub join_keeps : (state : State) (stamp target : ℕ) (caller row : Row) (reply : Reply) → IsSound state → IsBelow stamp state
+    → task_at state caller.name.space target ≡ Some row
+    → Keeps stamp (changed (with_row state caller.name (set_children_space row.name.space)) reply)
 unfolding task_at
-join_keeps state stamp n target sound below =
-    join_cases (Keeps stamp) state n target (λ r. Keeps-same stamp state _ sound below) (λ caller row found there live.
+join_keeps state stamp target caller row reply sound below there =
     let seen = find-Some (λ r. is_numbered state.spaces r.name caller.name.space target) state.rows row there in
     let within : IsIn caller.name.space (path_up state.spaces row.name.space) = (number-within state.spaces row.name caller.name.space target (is_numbered-true state.spaces row.name caller.name.space target seen.1)).0 in
     let listed = (sound.coherent.numbered row.name (own_name_in_use state.rows row seen.0)).listed row.name.space (path_first state.spaces row.name.space) in
     let at = space_at-Some state.spaces row.name.space listed.0 listed.1 in
-    Keeps-on_row stamp state caller.name (set_children_space row.name.space) _ sound below (λ r. refl) (λ r. refl) (λ r. refl) (λ r. refl) (λ r. refl)
+    Keeps-on_row stamp state caller.name (set_children_space row.name.space) reply sound below (λ r. refl)
     (λ r i e. inr (subst (λ (a : Name). IsIn a.space (path_up state.spaces row.name.space)) (sym e) within)) sound.coherent.homes
-    (λ r i. subst (λ x. x < stamp) at.1 (below.spaces listed.0 at.0)))
+    (λ r i. subst (λ x. x < stamp) at.1 (below.spaces listed.0 at.0))
 
 -- ---- setpgid
 
@@ -153,7 +136,7 @@ IsOpen-session state sound target row i j same = record {
 }
 
 -- the group that setpgid finds is open to the target
-group_for-IsOpen : (state : State) → IsSound state → (caller target : Row) (pgid : ℤ) (group : Name) → IsIn target state.rows
+pub group_for-IsOpen : (state : State) → IsSound state → (caller target : Row) (pgid : ℤ) (group : Name) → IsIn target state.rows
     → target.session ≡ caller.session
     → group_for state caller target pgid ≡ Some group → IsOpen state target group target.session
 unfolding session_group
@@ -176,7 +159,7 @@ group_for-IsOpen state sound caller target (pos n) group i same h = go ((n == 0)
     go false e = other (find p state.rows) refl e
 
 -- whom setpgid names is one of the rows
-target_of-IsIn : (state : State) (caller target : Row) (pid : ℤ) → IsIn caller state.rows → target_of state caller pid ≡ Some target
+pub target_of-IsIn : (state : State) (caller target : Row) (pid : ℤ) → IsIn caller state.rows → target_of state caller pid ≡ Some target
     → IsIn target state.rows
 unfolding task_at
 target_of-IsIn state caller target (negsuc n) i h = absurd (cc)
@@ -187,7 +170,7 @@ target_of-IsIn state caller target (pos n) i h = go (n == 0) h
     go false e = (find-Some (λ row. is_numbered state.spaces row.name caller.name.space n) state.rows target e).0
 
 -- the target is in the caller's session
-target_session : (state : State) → IsSound state → (caller target : Row) → IsIn caller state.rows → IsIn target state.rows
+pub target_session : (state : State) → IsSound state → (caller target : Row) → IsIn caller state.rows → IsIn target state.rows
     → (is_parent caller.name target && not (same_name target.session caller.session)) ≡ false
     → not (is_parent caller.name target || same_name target.name caller.name) ≡ false
     → target.session ≡ caller.session
@@ -218,7 +201,7 @@ placed_keeps state target change sound i same free = (
 )
 
 -- and so does a call that does this
-Keeps-placed : (stamp : ℕ) (state : State) (target : Row) (change : Row → Row) (reply : Reply) → IsSound state → IsBelow stamp state
+pub Keeps-placed : (stamp : ℕ) (state : State) (target : Row) (change : Row → Row) (reply : Reply) → IsSound state → IsBelow stamp state
     → IsIn target state.rows → ((r : Row) → change r ≡ record r { group = (change r).group; session = (change r).session })
     → IsOpen state target (change target).group (change target).session
     → Keeps stamp (changed (with_row state target.name change) reply)
@@ -226,19 +209,10 @@ Keeps-placed stamp state target change reply sound below i same free =
     let k = placed_keeps state target change sound i same free in
     Keeps-changed stamp (with_row state target.name change) reply k.0 (k.1 stamp below)
 
--- a setpgid leaves a sound state
-pub set_pgid_keeps : (state : State) (stamp n : ℕ) (pid pgid : ℤ) → IsSound state → IsBelow stamp state → Keeps stamp (set_pgid state n pid pgid)
-set_pgid_keeps state stamp n pid pgid sound below =
-    set_pgid_cases (Keeps stamp) state n pid pgid (λ r. Keeps-same stamp state _ sound below) (λ caller target group found aimed same own there.
-    let i : IsIn caller state.rows = (live_row-Some state.rows n caller found).0 in
-    let j : IsIn target state.rows = target_of-IsIn state caller target pid i aimed in
-    Keeps-placed stamp state target (set_group group) _ sound below j (λ r. refl)
-    (group_for-IsOpen state sound caller target pgid group j (target_session state sound caller target i j same own) there))
-
 -- ---- setsid
 
 -- where nobody is in a group of the task's name, that group and that session are open to it
-IsOpen-new : (state : State) (caller : Row) → IsIn caller state.rows → has_members state caller.name ≡ false
+pub IsOpen-new : (state : State) (caller : Row) → IsIn caller state.rows → has_members state caller.name ≡ false
     → IsOpen state caller caller.name caller.name
 IsOpen-new state caller i none = record {
   group_used = own_name_in_use state.rows caller i;
@@ -251,10 +225,3 @@ IsOpen-new state caller i none = record {
     no_member : (r : Row) → IsIn r state.rows → r.group ≡ caller.name → ⊥
     no_member r j e =
         let yes : has_members state caller.name ≡ true = list_any-from_one (λ (row : Row). same_name row.group caller.name) state.rows r j (same_name-refl r.group caller.name e) in cc
-
--- a setsid leaves a sound state
-pub set_sid_keeps : (state : State) (stamp n : ℕ) → IsSound state → IsBelow stamp state → Keeps stamp (set_sid state n)
-set_sid_keeps state stamp n sound below =
-    set_sid_cases (Keeps stamp) state n (λ r. Keeps-same stamp state _ sound below) (λ caller found none.
-    let i : IsIn caller state.rows = (live_row-Some state.rows n caller found).0 in
-    Keeps-placed stamp state caller start_session _ sound below i (λ r. refl) (IsOpen-new state caller i none))

@@ -2,7 +2,6 @@ pub mod Computed
 pub mod Lists
 pub mod Draws
 pub mod Calls
-pub mod Comes
 pub mod Chains
 pub mod Names
 pub mod Rising

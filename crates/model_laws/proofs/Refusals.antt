@@ -11,9 +11,8 @@ use Rattle.pid_types.specs.declared.call.Which.TheVariants.{Any, Pid, OwnGroup, 
 use Rattle.pid_types.specs.declared.plain.Name.{Name}
 use Rattle.pid_types.specs.declared.plain.Row.{Row}
 use Rattle.pid_types.specs.declared.plain.Space.{Space}
-use Rattle.pid_types.specs.declared.plain.Ended.{Ended}
 use Rattle.pid_types.specs.declared.reply.Reply.{Reply}
-use Rattle.pid_types.specs.declared.reply.Reply.TheVariants.{Forked as ForkReply, Done, Number, Reaped, NoneYet, Counted, Control as ControlMade, End, Refused}
+use Rattle.pid_types.specs.declared.reply.Reply.TheVariants.{Done, Number, Reaped, NoneYet, End, Refused}
 use Rattle.pid_types.specs.declared.plain.Control.{Control}
 use Rattle.pid_types.specs.declared.reply.Refusal.{Refusal}
 use Rattle.pid_types.specs.declared.reply.Refusal.TheVariants.{NoCaller, NoTask, NoChild, NoNumber, PidsLimit, SpaceFallen, TooDeep, Elsewhere, BadGroup, OtherSession, IsLeader, NoGroup, Executed, RootInit, NoControl, ControlBusy, RootControl, BadLimit, ControlDepth}
@@ -38,6 +37,7 @@ use Rattle.model_laws.proofs.Lists.{IsIn-filter, IsIn-from_filter, find-Some, fi
 use Rattle.model_laws.proofs.Names.{is_parent-true, is_parent-from, same_name-true, same_name-refl, is_numbered-true, is_numbered-from}
 use Rattle.model_laws.proofs.Draws.{cyclic_draw-IsCyclicDraw}
 use Rattle.model_laws.proofs.Trees.{space_at-Some, control_at-Some, live_row-Some}
+use Rattle.model_laws.proofs.Calls.{Comes, still, waits}
 use Rattle.model_laws.proofs.ControlsKept.{no_child}
 
 -- ---- nothing changes
@@ -47,108 +47,16 @@ pub record Stays (state : State) (o : Outcome) : Type 0 where
   pub refused : (r : Refusal) → o.reply ≡ Refused r → o.state ≡ state
   pub none_yet : o.reply ≡ NoneYet → o.state ≡ state
 
--- a call that changes nothing
-Stays-answered : (state : State) (reply : Reply) → Stays state (answered state reply)
-Stays-answered state reply = record { refused = λ r h. refl; none_yet = λ h. refl }
-
--- a choice between two outcomes
-Stays-if : (state : State) (b : Bool) (x y : Outcome) → Stays state x → Stays state y → Stays state (if b then x else y)
-Stays-if state true x y p q = p
-Stays-if state false x y p q = q
-
--- a test that refuses
-Stays-refuse_if : (state : State) (b : Bool) (r : Refusal) (o : Outcome) → Stays state o → Stays state (refuse_if state b r o)
-Stays-refuse_if state true r o p = Stays-answered state (Refused r)
-Stays-refuse_if state false r o p = p
-
--- a search that refuses where it finds nothing
-Stays-for_found : {A : Type 0} (state : State) (o : Option A) (r : Refusal) (f : A → Outcome) → ((a : A) → Stays state (f a))
-    → Stays state (for_found state o r f)
-Stays-for_found state None r f p = Stays-answered state (Refused r)
-Stays-for_found state (Some a) r f p = p a
-
--- a search that refuses what it finds
-Stays-unless_found : {A : Type 0} (state : State) (found : Option A) (r : A → Refusal) (o : Outcome) → Stays state o
-    → Stays state (unless_found state found r o)
-Stays-unless_found state None r o p = p
-Stays-unless_found state (Some a) r o p = Stays-answered state (Refused (r a))
-
--- an outcome for what was found, or another
-Stays-option_map_or : {A : Type 0} (state : State) (found : Option A) (f : A → Outcome) (o : Outcome) → Stays state o
-    → ((a : A) → Stays state (f a)) → Stays state (option_map_or f found o)
-Stays-option_map_or state None f o p q = p
-Stays-option_map_or state (Some a) f o p q = q a
-
--- a reply that is no refusal asks for nothing
-Stays-Done : (state new : State) → Stays state (changed new Done)
-Stays-Done state new = record { refused = λ r h. cc; none_yet = λ h. cc }
-
--- a number
-Stays-Number : (state new : State) (n : ℕ) → Stays state (changed new (Number n))
-Stays-Number state new n = record { refused = λ r h. cc; none_yet = λ h. cc }
-
--- a reaped child
-Stays-Reaped : (state new : State) (n : ℕ) (ended : Ended) → Stays state (changed new (Reaped n ended))
-Stays-Reaped state new n ended = record { refused = λ r h. cc; none_yet = λ h. cc }
-
--- a new task
-Stays-Forked : (state new : State) (n m : ℕ) → Stays state (changed new (ForkReply n m))
-Stays-Forked state new n m = record { refused = λ r h. cc; none_yet = λ h. cc }
-
--- a control group
-Stays-ControlMade : (state new : State) (n : ℕ) → Stays state (changed new (ControlMade n))
-Stays-ControlMade state new n = record { refused = λ r h. cc; none_yet = λ h. cc }
-
-ruleset stays = (Stays-answered, Stays-if, Stays-refuse_if, Stays-for_found, Stays-unless_found, Stays-option_map_or, Stays-Done, Stays-Number, Stays-Reaped, Stays-ControlMade)
-
--- a fork
-Stays-fork : (state : State) (stamp n : ℕ) (new_space : Bool) → Stays state (fork state stamp n new_space)
-unfolding fork
-Stays-fork state stamp n new_space = search (stays, Stays-Forked) depth 9
-
--- a change of a group
-Stays-set_group_of : (state : State) (caller target : Row) (pgid : ℤ) → Stays state (set_group_of state caller target pgid)
-unfolding set_group_of
-Stays-set_group_of state caller target pgid = search stays depth 9
-
 -- a refused call leaves the state as it was, and so does a wait that reaps nothing
-pub Stays-step : (state : State) (stamp : ℕ) (call : Call) → Stays state (step state stamp call)
-unfolding step exec exit wait set_pgid set_sid make_control remove_control set_limit move_task count_tasks join set_subreaper
-Stays-step state stamp (Fork caller new_space) = Stays-fork state stamp caller new_space
-Stays-step state stamp (GetPid caller) = search stays
-Stays-step state stamp (NsPid caller target) = search stays
-Stays-step state stamp (Exec caller) = search stays
-Stays-step state stamp (Exit caller status) = search stays
-Stays-step state stamp (Wait caller which) = search stays
-Stays-step state stamp (GetPpid caller) = search stays
-Stays-step state stamp (SetPgid caller pid pgid) = search (stays, Stays-set_group_of)
-Stays-step state stamp (SetSid caller) = search stays
-Stays-step state stamp (MakeControl parent) = search stays
-Stays-step state stamp (RemoveControl id) = search stays
-Stays-step state stamp (SetLimit id limit) = search stays
-Stays-step state stamp (Move task id) = search stays
-Stays-step state stamp (Count id) = search stays
-Stays-step state stamp (GetPgid caller pid) = search stays
-Stays-step state stamp (GetSid caller pid) = search stays
-Stays-step state stamp (Next caller kind from) = search stays
-Stays-step state stamp (Join caller target) = search stays
-Stays-step state stamp (SetSubreaper caller on) = search stays
+pub comes_stays : (state : State) (stamp : ℕ) (call : Call) (o : Outcome) → Comes state stamp call o → Stays state o
+comes_stays state stamp call o (still _ reply answer) = record { refused = λ r h. refl; none_yet = λ h. refl }
+comes_stays state stamp call o (waits n which caller found none) = record { refused = λ r h. refl; none_yet = λ h. refl }
+comes_stays state stamp call o _ = record { refused = λ r h. absurd (cc); none_yet = λ h. absurd (cc) }
 
 -- a query leaves the state as it was
-pub query_stays : (state : State) (stamp : ℕ) (call : Call) → IsTrue (is_query call) → (step state stamp call).state ≡ state
-unfolding step count_tasks
-query_stays state stamp (GetPid caller) h = refl
-query_stays state stamp (NsPid caller target) h = refl
-query_stays state stamp (GetPpid caller) h = refl
-query_stays state stamp (GetPgid caller pid) h = refl
-query_stays state stamp (GetSid caller pid) h = refl
-query_stays state stamp (Next caller kind from) h = refl
-query_stays state stamp (Count id) h = found (control_at state.controls id)
-  where
-    found : (o : Option Control) → (for_found state o NoControl (λ c. answered state (Counted (count state id)))).state ≡ state
-    found None = refl
-    found (Some c) = refl
-query_stays state stamp _ h = absurd (cc)
+pub query_stays : (state : State) (stamp : ℕ) (call : Call) (o : Outcome) → Comes state stamp call o → IsTrue (is_query call) → o.state ≡ state
+query_stays state stamp call o (still _ reply answer) query = refl
+query_stays state stamp call o _ query = absurd (cc)
 
 -- ---- the first that applies
 

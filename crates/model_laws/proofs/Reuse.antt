@@ -1,11 +1,10 @@
 -- No number is handed out twice.
-use Rattle.std.proofs.Common.{◌≡◌, ℕ, zero, suc, ◌+◌, ◌<◌, Bool, true, List, [], ◌∷◌, length, take, Some, refl, sym, ap, ◌∙◌, subst, inl, inr, arith, add-one}
+use Rattle.std.proofs.Common.{◌≡◌, ℕ, zero, suc, ◌+◌, ◌<◌, true, List, [], ◌∷◌, length, take, Some, refl, sym, ap, ◌∙◌, subst, inl, arith, add-one}
 use Rattle.std.specs.Prelude.{slice_get}
 use Rattle.std.proofs.lemmas.Bool.{eqb-true}
 use Rattle.std.proofs.lemmas.List.{length-map, length-take-le}
 use Rattle.std.proofs.lemmas.Option.{slice_get_within}
 use Rattle.pid_types.specs.declared.call.Call.{Call}
-use Rattle.pid_types.specs.declared.call.Call.TheVariants.{Fork}
 use Rattle.pid_types.specs.declared.plain.Name.{Name}
 use Rattle.pid_types.specs.declared.plain.Row.{Row}
 use Rattle.pid_types.specs.declared.plain.Space.{Space}
@@ -14,7 +13,7 @@ use Rattle.pid_types.specs.declared.entry.Entry.{Entry}
 use Rattle.pid_types.specs.State.{State}
 use Rattle.pid_types.specs.Names.{path_up, number, root_number, is_live, row_at, names_in_use}
 use Rattle.pid_types.specs.Outcome.{Outcome, sweep}
-use Rattle.pid_types.specs.Fork.{child_of, with_child, with_cursors, fork}
+use Rattle.pid_types.specs.Fork.{child_of, with_child, with_cursors}
 use Rattle.pid_types.specs.Step.{step}
 use Rattle.pid_types.specs.Replay.{calls_of, Along, RepliesAsOne, Replays}
 use Rattle.pid_types.specs.Membership.{IsIn}
@@ -24,10 +23,9 @@ use Rattle.model_laws.proofs.Names.{user_of_name, IsIn-names_in_use}
 use Rattle.model_laws.proofs.Trees.{row_at-listed, live_row-Some}
 use Rattle.model_laws.proofs.Inserts.{IsIn-insert_new, IsIn-insert_old}
 use Rattle.model_laws.proofs.Sweeps.{name_number}
-use Rattle.model_laws.proofs.Calls.{MayFork, fork_cases}
+use Rattle.model_laws.proofs.Calls.{MayFork, Comes, still, born, born_first, no_answer, step_comes}
 use Rattle.pid_types.specs.Fork.{forked}
 use Rattle.model_laws.proofs.ForkKept.{IsReady, IsReady-old, IsReady-new, with_new, fresh, number_after, IsCoherent-forked}
-use Rattle.model_laws.proofs.Limits.{fork_or_not}
 use Rattle.model_laws.proofs.StepKept.{step_keeps, run_keeps}
 
 -- ---- one fork
@@ -83,30 +81,18 @@ module _ (old : State) (sound : IsCoherent old) (spaces : List Space) (caller : 
   }
 
 -- after a call in a sound state a new task shares no number with a name that was in use
-step_fresh : (state : State) (stamp : ℕ) (call : Call) → IsSound state → IsBelow stamp state → (name : Name) → IsInUse name state
-    → (child root : ℕ) (row : Row) → (step state stamp call).reply ≡ Forked child root → row_at (step state stamp call).state.rows root ≡ Some row
-    → ShareNumber (step state stamp call).state name row.name → ⊥
-unfolding step
-step_fresh state stamp call sound below name i child root row told found share = elim (fork_or_not state stamp call) [
-  | inl f ↦ (of_fork f.0 f.1).apart child root row
-      (subst (λ c. (step state stamp c).reply ≡ Forked child root) f.2 told)
-      (step_keeps state stamp (Fork f.0 f.1) sound below).sound
-      (subst (λ c. row_at (step state stamp c).state.rows root ≡ Some row) f.2 found)
-      (subst (λ c. ShareNumber (step state stamp c).state name row.name) f.2 share)
-  | inr h ↦ h.never child root told
-]
-  where
-    of_fork : (n : ℕ) (new_space : Bool) → IsFresh name (fork state stamp n new_space)
-    of_fork n new_space =
-        fork_cases (IsFresh name) state stamp n new_space (λ r. record { apart = λ c m x e. absurd (cc) })
-        (λ caller seen stands may.
-        let c = live_row-Some state.rows n caller seen in
-        IsFresh-forked state sound.coherent state.spaces caller caller.children_space (IsReady-old state sound.coherent caller c.0 stands may) c.0 c.2 may name i)
-        (λ caller seen stands shallow here may.
-        let c = live_row-Some state.rows n caller seen in
-        let p : ℕ = caller.children_space in
-        IsFresh-forked state sound.coherent (with_new state sound.coherent stamp below p stands shallow) caller stamp
-        (IsReady-new state sound.coherent stamp below p stands shallow caller c.0 (eqb-true p caller.name.space here) may) c.0 c.2 may name i)
+comes_fresh : (state : State) (stamp : ℕ) (call : Call) (o : Outcome) → Comes state stamp call o → IsSound state → IsBelow stamp state → (name : Name)
+    → IsInUse name state → IsFresh name o
+comes_fresh state stamp call o (still _ reply answer) sound below name i = record { apart = λ child root row told. absurd (no_answer reply (Forked child root) answer refl told) }
+comes_fresh state stamp call o (born n new_space caller plain found stands may) sound below name i =
+    let c = live_row-Some state.rows n caller found in
+    IsFresh-forked state sound.coherent state.spaces caller caller.children_space (IsReady-old state sound.coherent caller c.0 stands may) c.0 c.2 may name i
+comes_fresh state stamp call o (born_first n caller found stands shallow here may) sound below name i =
+    let c = live_row-Some state.rows n caller found in
+    let p : ℕ = caller.children_space in
+    IsFresh-forked state sound.coherent (with_new state sound.coherent stamp below p stands shallow) caller stamp
+    (IsReady-new state sound.coherent stamp below p stands shallow caller c.0 (eqb-true p caller.name.space here) may) c.0 c.2 may name i
+comes_fresh state stamp call o _ sound below name i = record { apart = λ child root row told. absurd (cc) }
 
 -- ---- replays
 
@@ -138,5 +124,6 @@ no_reuse opening first entries sound below run k e child root row name at used t
     let kept = run_keeps opening first (calls_of (take k entries)) sound below in
     let long : length (calls_of (take k entries)) ≡ k = length-map (take k entries) (λ (x : Entry). x.call) ∙ length-take-le k entries (let l : k < length entries = slice_get_within entries k e at in omega arith) in
     let next : state_at opening first entries (k + 1) ≡ (step now (first + k) e.call).state = ap (state_at opening first entries) (add-one k) ∙ state_at-suc opening first entries k e at in
-    step_fresh now (first + k) e.call kept.0 (subst (λ n. IsBelow (first + n) now) long kept.1) name used child root row (Along-at RepliesAsOne opening first entries run k e at ∙ told)
-    (subst (λ (x : State). row_at x.rows root ≡ Some row) next found) (subst (λ (x : State). ShareNumber x name row.name) next share)
+    let below : IsBelow (first + k) now = subst (λ n. IsBelow (first + n) now) long kept.1 in
+    (comes_fresh now (first + k) e.call _ (step_comes now (first + k) e.call) kept.0 below name used).apart child root row (Along-at RepliesAsOne opening first entries run k e at ∙ told)
+    (step_keeps now (first + k) e.call kept.0 below).sound (subst (λ (x : State). row_at x.rows root ≡ Some row) next found) (subst (λ (x : State). ShareNumber x name row.name) next share)
