@@ -85,13 +85,14 @@ pub number-same_path : (spaces others : List Space) (a : Name) (s : ℕ) → pat
 unfolding number
 number-same_path spaces others a s e = ap (λ path. beside s (reverse path) a.numbers.items) e
 
+-- an option is the one, where the test says so
+pub option_eq-true : {A : Type 0} (eq : A → A → Bool) → ((x y : A) → eq x y ≡ true → x ≡ y) → (o : Option A) (a : A) → option_eq eq o (Some a) ≡ true → o ≡ Some a
+option_eq-true eq same None a h = absurd (cc)
+option_eq-true eq same (Some x) a h = ap Some (same x a h)
+
 -- a name that has the number by the test has it
 pub is_numbered-true : (spaces : List Space) (a : Name) (s n : ℕ) → is_numbered spaces a s n ≡ true → number spaces a s ≡ Some n
-is_numbered-true spaces a s n h = go (number spaces a s) refl h
-  where
-    go : (o : Option ℕ) → number spaces a s ≡ o → option_eq ◌==◌ o (Some n) ≡ true → number spaces a s ≡ Some n
-    go None e f = absurd (cc)
-    go (Some m) e f = e ∙ ap Some (eqb-true m n f)
+is_numbered-true spaces a s n h = option_eq-true ◌==◌ eqb-true (number spaces a s) n h
 
 -- and is found by the test
 pub is_numbered-from : (spaces : List Space) (a : Name) (s n : ℕ) → number spaces a s ≡ Some n → is_numbered spaces a s n ≡ true
@@ -153,11 +154,7 @@ on_row-both P name change r changed same = go (same_name r.name name) refl
 
 -- a child's parent is the name
 pub is_parent-true : (a : Name) (r : Row) → is_parent a r ≡ true → r.parent ≡ Some a
-is_parent-true a r h = go r.parent refl h
-  where
-    go : (o : Option Name) → r.parent ≡ o → option_eq same_name o (Some a) ≡ true → r.parent ≡ Some a
-    go None e f = absurd (cc)
-    go (Some b) e f = e ∙ ap Some (same_name-true b a f)
+is_parent-true a r h = option_eq-true same_name same_name-true r.parent a h
 
 -- a row with that parent is a child
 pub is_parent-from : (a : Name) (r : Row) → r.parent ≡ Some a → is_parent a r ≡ true

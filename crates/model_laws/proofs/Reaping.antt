@@ -21,7 +21,7 @@ use Rattle.model_laws.proofs.Names.{is_parent-true, is_parent-from}
 use Rattle.model_laws.proofs.Calls.{Comes, still, waits, reaped, no_answer}
 use Rattle.pid_types.specs.declared.call.Call.TheVariants.{Wait}
 use Rattle.model_laws.proofs.EndsKept.{least_row-IsIn}
-use Rattle.model_laws.proofs.Refusals.{selected-true, selected-from}
+use Rattle.model_laws.proofs.Refusals.{Decides-selected}
 
 -- none of the list has a lesser number than its least row
 least_row-least : (state : State) (s : ℕ) (rows : List Row) (row other : Row) → least_row state s rows ≡ Some row → IsIn other rows
@@ -65,7 +65,7 @@ to_ended : (state : State) (caller : Row) (which : Which) (row : Row) → MayBeR
 unfolding matching
 to_ended state caller which row may ended =
     IsIn-filter (λ r. not (is_live r)) row (matching state caller which)
-    (IsIn-filter (λ r. is_parent caller.name r && is_selected state caller which r) row state.rows may.0 (and_from _ _ (is_parent-from caller.name row may.1) (selected-from state caller which row may.2)))
+    (IsIn-filter (λ r. is_parent caller.name r && is_selected state caller which r) row state.rows may.0 (and_from _ _ (is_parent-from caller.name row may.1) ((Decides-selected state caller which row).1 may.2)))
     (not_from_false (is_live row) ended)
 
 -- and back
@@ -76,7 +76,7 @@ from_ended state caller which row i =
     let f = IsIn-from_filter (λ r. not (is_live r)) row (matching state caller which) i in
     let g = IsIn-from_filter (λ r. is_parent caller.name r && is_selected state caller which r) row state.rows f.0 in
     let t = and_parts (is_parent caller.name row) (is_selected state caller which row) g.1 in
-    ((g.0, is_parent-true caller.name row t.0, selected-true state caller which row t.1), not-true (is_live row) f.1)
+    ((g.0, is_parent-true caller.name row t.0, (Decides-selected state caller which row).0 t.1), not-true (is_live row) f.1)
 
 -- a task that has ended is a zombie of its end
 zombie_of : (row : Row) → is_live row ≡ false → row.life ≡ Zombie (end_of row)
