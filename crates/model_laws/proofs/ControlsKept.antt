@@ -20,7 +20,8 @@ use Rattle.model_laws.proofs.Names.{group_in_use, session_in_use}
 use Rattle.model_laws.proofs.Rising.{IsRising-filter}
 use Rattle.model_laws.proofs.Trees.{control_to_root, control_at-Some, root_control_parent, control_path_listed}
 use Rattle.model_laws.proofs.Forests.{at-map, chain-map, IsTree-map, at-push_old, chain-push, IsIn-chain_new, IsTree-push}
-use Rattle.model_laws.proofs.RowMaps.{IsCoherent-map_rows, HasGoodGroups-map, each_of_map}
+use Rattle.model_laws.proofs.Survivors.{IsCoherent-map_rows}
+use Rattle.model_laws.proofs.RowMaps.{HasGoodGroups-map, each_of_map}
 use Rattle.model_laws.proofs.Kept.{Keeps, Keeps-changed}
 use Rattle.pid_types.specs.declared.reply.Reply.{Reply}
 use Rattle.pid_types.specs.Outcome.{changed}

@@ -18,10 +18,10 @@ use Rattle.pid_types.specs.Exit.{has_parent_within, goes_in_fall, row_after_fall
 use Rattle.pid_types.specs.Membership.{IsIn}
 use Rattle.pid_types.specs.Sound.{IsCoherent, IsSound, IsBelow}
 use Rattle.model_laws.proofs.Lists.{IsIn-from_filter, IsIn-from_map, IsIn-from_contains, contains-from_IsIn}
-use Rattle.model_laws.proofs.Names.{same_name-true, own_name_in_use, number-on_path, number-off_path}
+use Rattle.model_laws.proofs.Names.{same_name-true, own_name_in_use, group_in_use, session_in_use, number-on_path, number-off_path}
 use Rattle.model_laws.proofs.Trees.{same_row, path_first, path_trans, path_antisym}
-use Rattle.model_laws.proofs.RowMaps.{each_of_map}
-use Rattle.model_laws.proofs.Survivors.{KeepsSurvivors, IsCoherent-survivors}
+use Rattle.model_laws.proofs.RowMaps.{each_of_map, HasGoodGroups-map}
+use Rattle.model_laws.proofs.Survivors.{KeepsRest, IsCoherent-survivors, parents_stay}
 use Rattle.model_laws.proofs.Ancestry.{number-root_of_row, root_path, row_on_tree}
 use Rattle.model_laws.proofs.Kept.{Keeps, Keeps-changed}
 use Rattle.pid_types.specs.declared.reply.Reply.{Reply}
@@ -61,11 +61,15 @@ IsCoherent-without_row : (state : State) → IsCoherent state → (gone caller :
     → IsCoherent (without_row state gone)
 unfolding without_row
 IsCoherent-without_row state sound gone caller i ended j lives =
-    subst IsCoherent same (IsCoherent-survivors state p (λ r. r) (λ s. s) sound (record {
-      rows = λ r. (refl, refl, refl, refl, refl, refl);
+    subst IsCoherent same (IsCoherent-survivors state p (λ r. r) (λ s. s) sound (λ r. refl) (record {
+      group = group_in_use state.rows;
+      session = session_in_use state.rows;
+      parents = parents_stay state sound p (λ r. r) (λ r. refl) (λ r. refl) (λ r q k l e there live. (stays q l live, live));
+      children = sound.children;
+      groups = HasGoodGroups-map state.rows (λ r. r) (λ r. refl) (λ r. refl) (λ r. refl) sound.groups;
+      homes = sound.homes;
       spaces = λ s. (refl, refl);
-      parents = λ r q k l e there live. (stays q l live, live);
-      standing = λ s k e. (e, λ r l live here. (stays r l live, live));
+      standing = λ s k e. (e, λ r l live here one. (stays r l live, live));
       fallen = λ s k e. let em = sound.fallen s k e in (λ r l stay live. em.ended r l live, em.below);
       root = sound.root;
     }))
@@ -197,15 +201,19 @@ module _ (state : State) (sound : IsCoherent state) (init : Row) (status : ℕ) 
           g.outside one (path_antisym state.spaces sound.spaces space q.name.space (row_on_tree state sound init there) g.around w)
 
   -- what the fall keeps
-  KeepsSurvivors-fall : KeepsSurvivors state stays_in_fall after_fall after_fall_space
-  KeepsSurvivors-fall = record {
-    rows = λ r. (refl, refl, refl, refl, refl, refl);
+  KeepsRest-fall : KeepsRest state stays_in_fall after_fall after_fall_space
+  KeepsRest-fall = record {
+    group = group_in_use state.rows;
+    session = session_in_use state.rows;
+    parents = parents_stay state sound stays_in_fall after_fall (λ r. refl) (λ r. refl) (λ r q i j stays up live. outsider_stays q (parent_outside r q i j stays up) live);
+    children = sound.children;
+    groups = HasGoodGroups-map state.rows after_fall (λ r. refl) (λ r. refl) (λ r. refl) sound.groups;
+    homes = sound.homes;
     spaces = λ s. (refl, refl);
-    parents = λ r q i j stays up live. outsider_stays q (parent_outside r q i j stays up) live;
     standing = λ s i e.
         let o = or_parts s.fallen (is_within state.spaces s.id space) e in (
           o.0,
-          λ r j live here. outsider_stays r (λ w.
+          λ r j live here first. outsider_stays r (λ w.
               let yes : is_within state.spaces s.id space ≡ true = contains-from_IsIn (path_up state.spaces s.id) space (subst (λ x. IsIn space (path_up state.spaces x)) here w) in
               let never : is_within state.spaces s.id space ≡ false = o.1 in cc) live,
         );
@@ -235,7 +243,7 @@ module _ (state : State) (sound : IsCoherent state) (init : Row) (status : ℕ) 
   -- a fall leaves a coherent state
   pub IsCoherent-fall : IsCoherent (fall state init status)
   unfolding fall rows_after_fall
-  IsCoherent-fall = IsCoherent-survivors state stays_in_fall after_fall after_fall_space sound KeepsSurvivors-fall
+  IsCoherent-fall = IsCoherent-survivors state stays_in_fall after_fall after_fall_space sound (λ r. refl) KeepsRest-fall
 
   -- and its ids below the stamp
   pub IsBelow-fall : (stamp : ℕ) → IsBelow stamp state → IsBelow stamp (fall state init status)

@@ -17,13 +17,14 @@ use Rattle.pid_types.specs.Controls.{control_at}
 use Rattle.pid_types.specs.Exit.{is_init, parent_number, ancestors, is_subreaper_in, nearest_subreaper, new_parent, row_after_exit, rows_after_exit}
 use Rattle.pid_types.specs.Membership.{IsIn}
 use Rattle.pid_types.specs.Sound.{IsRising, IsGoodParent, HasGoodParents, HasGoodChildrenSpace, IsCoherent, IsSound, IsBelow}
-use Rattle.model_laws.proofs.Lists.{IsIn-map, find-Some, find-only}
+use Rattle.model_laws.proofs.Lists.{IsIn-map, find-Some, find-only, filter-all}
 use Rattle.model_laws.proofs.Chains.{climb_cases, climb_child}
 use Rattle.model_laws.proofs.Names.{is_parent-true, is_parent-from, same_name-true, is_numbered-true, is_numbered-from, own_name_in_use, group_in_use, session_in_use, number-on_path}
 use Rattle.model_laws.proofs.Rising.{unique_key}
 use Rattle.model_laws.proofs.Trees.{same_row, row_at-listed, row_at-Some, space_at-Some, path_first, path_trans, path_antisym}
-use Rattle.model_laws.proofs.RowMaps.{row_at-map, roots-map, in_use_before, each_of_map, HasGoodGroups-map}
+use Rattle.model_laws.proofs.RowMaps.{row_at-map, each_of_map, HasGoodGroups-map}
 use Rattle.model_laws.proofs.Ancestry.{Far, Far-unique, Far-same, IsIn-roots, parent_number-at, chain-in_rows, row_on_tree, root_init_row, top_row, row_far, parent_row}
+use Rattle.model_laws.proofs.Survivors.{all_stay, IsCoherent-all_stay}
 use Rattle.model_laws.proofs.Kept.{Keeps, Keeps-changed}
 use Rattle.pid_types.specs.declared.reply.Reply.{Reply}
 use Rattle.pid_types.specs.Outcome.{changed}
@@ -223,35 +224,20 @@ module _ (state : State) (sound : IsCoherent state) (task heir : Row) (ended : E
             }
 
     IsCoherent-exit : IsCoherent (record state { rows = rows_after })
-    IsCoherent-exit = record {
-      distinct = λ a b i j. sound.distinct a b (before a i) (before b j);
-      numbered = λ a i. sound.numbered a (before a i);
-      parents = each_of_map (HasGoodParents rows_after state.spaces) after state.rows parents_after;
-      children = each_of_map (HasGoodChildrenSpace state.spaces) after state.rows sound.children;
-      root = sound.root;
-      standing = λ s i e.
-          let r = sound.standing s i e in (
-            after r.0,
-            IsIn-map after r.0 state.rows r.1,
-            others_live r.0 (λ same.
-                let here : s.id ≡ task.name.space = sym r.3 ∙ ap (λ (a : Name). a.space) same in
-                no_init (subst (λ a. number state.spaces a task.name.space ≡ Some 1) same (subst (λ x. number state.spaces r.0.name x ≡ Some 1) here r.4))) r.2,
-            r.3,
-            r.4,
-          );
-      fallen = λ s i e.
-          let em = sound.fallen s i e in
-          record { ended = each_of_map (λ r. is_live r ≡ true → number state.spaces r.name s.id ≡ None) after state.rows (λ r j live. em.ended r j (lived r live)); below = em.below };
+    IsCoherent-exit = IsCoherent-all_stay state after sound (λ r. refl) (record {
+      group = group_in_use state.rows;
+      session = session_in_use state.rows;
+      parents = λ r i stays. subst (λ rows. HasGoodParents (map after rows) state.spaces (after r)) (sym (filter-all all_stay state.rows (λ x j. refl))) (parents_after r i);
+      children = sound.children;
       groups = HasGoodGroups-map state.rows after (λ r. refl) (λ r. refl) (λ r. refl) sound.groups;
-      rows_rise = subst IsRising (sym (roots-map after (λ r. refl) state.rows)) sound.rows_rise;
-      spaces = sound.spaces;
-      controls = sound.controls;
-      limits = sound.limits;
-      homes = each_of_map (λ r. (c : Control) × (control_at state.controls r.home ≡ Some c)) after state.rows sound.homes;
-    }
-      where
-        before : (a : Name) → IsIn a (names_in_use rows_after) → IsIn a (names_in_use state.rows)
-        before = in_use_before after (λ r. refl) state.rows (λ r i. group_in_use state.rows r i) (λ r i. session_in_use state.rows r i)
+      homes = sound.homes;
+      spaces = λ s. (refl, refl);
+      standing = λ s i e. (e, λ r j live here one. (refl, others_live r (λ same.
+          let own : s.id ≡ task.name.space = sym here ∙ ap (λ (a : Name). a.space) same in
+          no_init (subst (λ a. number state.spaces a task.name.space ≡ Some 1) same (subst (λ x. number state.spaces r.name x ≡ Some 1) own one))) live));
+      fallen = λ s i e. let em = sound.fallen s i e in (λ r j stays live. em.ended r j (lived r live), em.below);
+      root = sound.root;
+    })
 
 -- ---- who takes the children
 

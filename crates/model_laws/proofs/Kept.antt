@@ -18,7 +18,8 @@ use Rattle.model_laws.proofs.Lists.{find-Some, list_any-from_one}
 use Rattle.model_laws.proofs.Names.{on_row-keeps, on_row-both, same_name-true, same_name-refl, own_name_in_use, group_in_use, session_in_use, number-within, is_numbered-true}
 use Rattle.model_laws.proofs.Trees.{space_at-Some, same_row, path_first}
 use Rattle.model_laws.proofs.Sweeps.{from_kept, IsSound-sweep}
-use Rattle.model_laws.proofs.RowMaps.{KeepsRows, IsCoherent-map_rows, HasGoodGroups-map, each_of_map}
+use Rattle.model_laws.proofs.Survivors.{IsCoherent-map_rows}
+use Rattle.model_laws.proofs.RowMaps.{KeepsRows, HasGoodGroups-map, each_of_map}
 use Rattle.model_laws.proofs.Placed.{IsOpen, KeepsRows-placed}
 
 -- ---- what each call has to leave

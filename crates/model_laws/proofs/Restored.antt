@@ -18,7 +18,8 @@ use Rattle.model_laws.proofs.Lists.{IsIn-from_map, list_any-from_one}
 use Rattle.model_laws.proofs.Names.{same_name-true, same_name-refl, own_name_in_use, session_in_use}
 use Rattle.model_laws.proofs.Trees.{same_row, live_row-Some}
 use Rattle.model_laws.proofs.Sweeps.{IsSound-sweep}
-use Rattle.model_laws.proofs.SpaceMaps.{path_up-map, number-map_spaces, IsTreeOfSpaces-map, IsWellNumbered-map, HasGoodChildrenSpace-map}
+use Rattle.model_laws.proofs.SpaceMaps.{number-map_spaces}
+use Rattle.model_laws.proofs.Survivors.{IsCoherent-map_spaces}
 use Rattle.model_laws.proofs.Placed.{IsOpen}
 use Rattle.model_laws.proofs.Kept.{placed_keeps, IsBelow-sweep}
 
@@ -66,79 +67,23 @@ enlisted_keeps state n m sound = task (live_row state.rows n) refl
 
 -- ---- the cursors
 
--- a change of namespaces that keeps their ids and parents, and which have fallen, leaves a sound state
-module _ (state : State) (h : Space → Space) (ids : (s : Space) → (h s).id ≡ s.id) (parents : (s : Space) → (h s).parent ≡ s.parent)
-    (falls : (s : Space) → (h s).fallen ≡ s.fallen) (sound : IsSound state) where
-  abbrev changed_spaces : List Space
-  changed_spaces = map h state.spaces
-
-  -- the namespace from before, with its id and with whether it has fallen
-  before : (s : Space) → IsIn s changed_spaces → (t : Space) × IsIn t state.spaces × (s.id ≡ t.id) × (s.fallen ≡ t.fallen)
-  before s i =
-      let q = IsIn-from_map h s state.spaces i in
-      (q.0, q.1, ap (λ (x : Space). x.id) q.2 ∙ ids q.0, ap (λ (x : Space). x.fallen) q.2 ∙ falls q.0)
-
-  -- numbers stay
-  numbers : (a : Name) (s : ℕ) → number changed_spaces a s ≡ number state.spaces a s
-  numbers a s = number-map_spaces state.spaces h ids parents a s
-
-  paths : (x : ℕ) → path_up changed_spaces x ≡ path_up state.spaces x
-  paths x = path_up-map state.spaces h ids parents x
-
-  pub IsSound-map_spaces : IsSound (record state { spaces = map h state.spaces })
-  IsSound-map_spaces = record {
-    coherent = record {
-      distinct = λ a b i j s n e f. sound.coherent.distinct a b i j s n (sym (numbers a s) ∙ e) (sym (numbers b s) ∙ f);
-      numbered = λ a i. IsWellNumbered-map state.spaces h ids parents state.pid_max a (sound.coherent.numbered a i);
-      parents = λ r i.
-          let p = sound.coherent.parents r i in
-          record {
-            first = p.first;
-            good = λ parent e.
-                let g = p.good parent e in
-                record {
-                  lives = g.lives;
-                  around = subst (IsIn parent.space) (sym (paths r.name.space)) g.around;
-                  outside = λ one. g.outside (sym (numbers r.name r.name.space) ∙ one);
-                };
-            chain = p.chain;
-          };
-      children = λ r i. HasGoodChildrenSpace-map state.spaces h ids parents r (sound.coherent.children r i);
-      root = λ s i zero. let t = before s i in t.3 ∙ sound.coherent.root t.0 t.1 (sym t.2 ∙ zero);
-      standing = λ s i up.
-          let t = before s i in
-          let r = sound.coherent.standing t.0 t.1 (sym t.3 ∙ up) in
-          subst (HasLiveInit state.rows changed_spaces) (sym t.2) (r.0, r.1, r.2, r.3, numbers r.0.name t.0.id ∙ r.4);
-      fallen = λ s i down.
-          let t = before s i in
-          let em = sound.coherent.fallen t.0 t.1 (sym t.3 ∙ down) in
-          subst (IsEmptied state.rows changed_spaces) (sym t.2) (record {
-            ended = λ r j live. numbers r.name t.0.id ∙ em.ended r j live;
-            below = λ u j inside.
-                let v = before u j in
-                v.3 ∙ em.below v.0 v.1 (subst (IsIn t.0.id) (paths v.0.id) (subst (λ x. IsIn t.0.id (path_up changed_spaces x)) v.2 inside));
-          });
-      groups = sound.coherent.groups;
-      rows_rise = sound.coherent.rows_rise;
-      spaces = IsTreeOfSpaces-map state.spaces h ids parents sound.coherent.spaces;
-      controls = sound.coherent.controls;
-      limits = sound.coherent.limits;
-      homes = sound.coherent.homes;
-    };
-    named = λ s i down.
-        let t = before s i in
-        let u = sound.named t.0 t.1 (sym t.3 ∙ down) in
-        (u.0, u.1, u.2, ap (number changed_spaces u.0) t.2 ∙ numbers u.0 t.0.id ∙ u.3);
-  }
-
 -- a cursor that is put elsewhere leaves a sound state, and no new id
 pub with_cursor_keeps : (state : State) (id n : ℕ) → IsSound state → StaysSound state (with_cursor state id n)
 unfolding with_cursor
 with_cursor_keeps state id n sound = (
-  IsSound-map_spaces state (put_cursor id n) (λ s. refl) (λ s. refl) (λ s. refl) sound,
+  record {
+    coherent = IsCoherent-map_spaces state put (λ s. refl) (λ s. refl) (λ s. refl) sound.coherent;
+    named = λ s i down.
+        let q = IsIn-from_map put s state.spaces i in
+        let u = sound.named q.0 q.1 (ap (λ (x : Space). x.fallen) (sym q.2) ∙ down) in
+        (u.0, u.1, u.2, ap (λ (x : Space). number (map put state.spaces) u.0 x.id) q.2 ∙ number-map_spaces state.spaces put (λ t. refl) (λ t. refl) u.0 q.0.id ∙ u.3);
+  },
   λ stamp below. record {
-    spaces = λ s i. let q = IsIn-from_map (put_cursor id n) s state.spaces i in subst (λ (x : Space). x.id < stamp) (sym q.2) (below.spaces q.0 q.1);
+    spaces = λ s i. let q = IsIn-from_map put s state.spaces i in subst (λ (x : Space). x.id < stamp) (sym q.2) (below.spaces q.0 q.1);
     controls = below.controls;
     children = below.children;
   },
 )
+  where
+    put : Space → Space
+    put = put_cursor id n

@@ -6,7 +6,7 @@ use Rattle.pid_types.specs.declared.plain.Row.{Row}
 use Rattle.pid_types.specs.declared.plain.Space.{Space}
 use Rattle.pid_types.specs.Names.{space_at, path_up, number}
 use Rattle.pid_types.specs.Membership.{IsIn}
-use Rattle.pid_types.specs.Sound.{IsWellNumbered, HasGoodChildrenSpace, IsTreeOfSpaces}
+use Rattle.pid_types.specs.Sound.{IsWellNumbered, HasGoodParents, HasGoodChildrenSpace, IsTreeOfSpaces}
 use Rattle.model_laws.proofs.Forests.{at-map, chain-map, IsTree-map}
 use Rattle.model_laws.proofs.Names.{number-same_path}
 
@@ -40,3 +40,17 @@ module _ (spaces : List Space) (h : Space → Space) (ids : (s : Space) → (h s
   pub HasGoodChildrenSpace-map : (r : Row) → HasGoodChildrenSpace spaces r → HasGoodChildrenSpace (map h spaces) r
   HasGoodChildrenSpace-map r (inl none) = inl (space_at-map r.children_space ∙ ap (option_map h) none)
   HasGoodChildrenSpace-map r (inr i) = inr (subst (IsIn r.name.space) (sym (path_up-map r.children_space)) i)
+
+  -- parents stay good
+  pub HasGoodParents-map : (rows : List Row) (r : Row) → HasGoodParents rows spaces r → HasGoodParents rows (map h spaces) r
+  HasGoodParents-map rows r old = record {
+    first = old.first;
+    good = λ parent e.
+        let g = old.good parent e in
+        record {
+          lives = g.lives;
+          around = subst (IsIn parent.space) (sym (path_up-map r.name.space)) g.around;
+          outside = λ one. g.outside (sym (number-map_spaces r.name r.name.space) ∙ one);
+        };
+    chain = old.chain;
+  }
