@@ -23,7 +23,7 @@ use Rattle.model_laws.proofs.Names.{Uses, user_of_name, IsIn-names_in_use, own_n
 use Rattle.model_laws.proofs.Draws.{cyclic_draw-IsCyclicDraw}
 use Rattle.model_laws.proofs.Trees.{IsOnTree, IsOnTree-listed, IsOnTree-name, space_at-Some, path_first, path_listed, row_at-listed}
 use Rattle.model_laws.proofs.Forests.{at-push_old, at-push_none, at-push_new, not_there, chain-push, chain-new_cases, IsIn-chain_new, IsTree-push}
-use Rattle.model_laws.proofs.SpaceMaps.{path_up-map, number-map_spaces, IsTreeOfSpaces-map, IsWellNumbered-map, HasGoodChildrenSpace-map}
+use Rattle.model_laws.proofs.Survivors.{IsCoherent-map_spaces}
 use Rattle.model_laws.proofs.Ancestry.{Far, Far-same, roots, IsIn-roots, parent_number-at, chain-in_rows, number-root, top_row, row_far, parent_row}
 use Rattle.model_laws.proofs.Inserts.{IsIn-from_insert, IsIn-insert_new, IsIn-insert_old, IsRising-insert, number-child_of, number-child_of_at, drawn-free}
 use Rattle.model_laws.proofs.Kept.{Keeps, Keeps-changed, IsBelow-next}
@@ -62,14 +62,6 @@ module _ (old : State) (sound : IsCoherent old) (spaces : List Space) (caller : 
   abbrev rows_after : List Row
   rows_after = insert_row child old.rows
 
-  -- a namespace after the draw
-  abbrev cursor_after : Space → Space
-  cursor_after = moved_cursor state path
-
-  -- the namespaces after the draw
-  abbrev spaces_after : List Space
-  spaces_after = map cursor_after spaces
-
   -- the path ends at the root
   on_tree : IsOnTree spaces t
   on_tree = subst (IsOnTree spaces) ready.target.2 (ready.tree.chains ready.target.0 ready.target.1)
@@ -77,10 +69,6 @@ module _ (old : State) (sound : IsCoherent old) (spaces : List Space) (caller : 
   -- the numbers in use are those of the state before
   number_kept : (a : Name) → IsIn a (names_in_use old.rows) → (s : ℕ) → number spaces a s ≡ number old.spaces a s
   number_kept a i s = number-same_path old.spaces spaces a s (ready.paths a i)
-
-  -- moved cursors change no number
-  pub number_after : (a : Name) (s : ℕ) → number spaces_after a s ≡ number spaces a s
-  number_after a s = number-map_spaces spaces cursor_after (λ s. refl) (λ s. refl) a s
 
   -- the names in use stay well numbered
   well_kept : (a : Name) → IsIn a (names_in_use old.rows) → IsWellNumbered spaces old.pid_max a
@@ -138,8 +126,8 @@ module _ (old : State) (sound : IsCoherent old) (spaces : List Space) (caller : 
 
   -- no two names share a number
   distinct_after : (a b : Name) → IsIn a (names_in_use rows_after) → IsIn b (names_in_use rows_after) → (s n : ℕ)
-      → number spaces_after a s ≡ Some n → number spaces_after b s ≡ Some n → a ≡ b
-  distinct_after a b i j s n e f = go (used_before a i) (used_before b j) (sym (number_after a s) ∙ e) (sym (number_after b s) ∙ f)
+      → number spaces a s ≡ Some n → number spaces b s ≡ Some n → a ≡ b
+  distinct_after a b i j s n e f = go (used_before a i) (used_before b j) e f
     where
       go : (a ≡ child.name) ⊎ IsIn a (names_in_use old.rows) → (b ≡ child.name) ⊎ IsIn b (names_in_use old.rows)
           → number spaces a s ≡ Some n → number spaces b s ≡ Some n → a ≡ b
@@ -149,12 +137,8 @@ module _ (old : State) (sound : IsCoherent old) (spaces : List Space) (caller : 
       go (inr p) (inr q) x y = sound.distinct a b p q s n (sym (number_kept a p s) ∙ x) (sym (number_kept b q s) ∙ y)
 
   -- all names are well numbered
-  well_after : (a : Name) → IsIn a (names_in_use rows_after) → IsWellNumbered spaces_after old.pid_max a
-  well_after a i = IsWellNumbered-map spaces cursor_after (λ s. refl) (λ s. refl) old.pid_max a (go (used_before a i))
-    where
-      go : (a ≡ child.name) ⊎ IsIn a (names_in_use old.rows) → IsWellNumbered spaces old.pid_max a
-      go (inl e) = subst (IsWellNumbered spaces old.pid_max) (sym e) well_child
-      go (inr j) = well_kept a j
+  well_after : (a : Name) → IsIn a (names_in_use rows_after) → IsWellNumbered spaces old.pid_max a
+  well_after a i = elim (used_before a i) [ inl e ↦ subst (IsWellNumbered spaces old.pid_max) (sym e) well_child | inr j ↦ well_kept a j ]
 
   -- ---- chains of parents
 
@@ -199,7 +183,7 @@ module _ (old : State) (sound : IsCoherent old) (spaces : List Space) (caller : 
       (IsIn-roots rows_after 1 one.0 (subst (λ m. row_at rows_after m ≡ Some one.0) one.2 (row_after one.0 (IsIn-insert_old child old.rows one.0 one.1)))) k n far
 
   -- the rows from before have good parents
-  parents_old : (r : Row) → IsIn r old.rows → HasGoodParents rows_after spaces_after r
+  parents_old : (r : Row) → IsIn r old.rows → HasGoodParents rows_after spaces r
   parents_old r i =
       let p = sound.parents r i in
       let own = own_name_in_use old.rows r i in
@@ -210,25 +194,24 @@ module _ (old : State) (sound : IsCoherent old) (spaces : List Space) (caller : 
             let g = p.good parent e in
             record {
               lives = (g.lives.0, IsIn-insert_old child old.rows g.lives.0 g.lives.1, g.lives.2, g.lives.3);
-              around =
-                  subst (IsIn parent.space) (sym (path_up-map spaces cursor_after (λ s. refl) (λ s. refl) r.name.space ∙ ready.paths r.name own)) g.around;
-              outside = λ one. g.outside (sym (number_after r.name r.name.space ∙ number_kept r.name own r.name.space) ∙ one);
+              around = subst (IsIn parent.space) (sym (ready.paths r.name own)) g.around;
+              outside = λ one. g.outside (sym (number_kept r.name own r.name.space) ∙ one);
             };
         chain = chain_after (root_number r.name) far.0 far.1;
       }
 
   -- and so has the child
-  parents_child : HasGoodParents rows_after spaces_after child
+  parents_child : HasGoodParents rows_after spaces child
   parents_child =
       let far = (old_far caller there).0 in
       let up : parent_number rows_after (root_number child.name) ≡ Some (root_number caller.name) = parent_number-at rows_after (root_number child.name) child (row_after child (IsIn-insert_new child old.rows)) in
       record {
         first = λ none. absurd (cc);
         good = λ parent e. let same : caller.name ≡ parent = cc in
-            subst (IsGoodParent rows_after spaces_after child) same (record {
+            subst (IsGoodParent rows_after spaces child) same (record {
               lives = (caller, IsIn-insert_old child old.rows caller there, refl, lives);
-              around = subst (IsIn caller.name.space) (sym (path_up-map spaces cursor_after (λ s. refl) (λ s. refl) t)) ready.around;
-              outside = λ one here. ready.outside (number-child_of state caller t t 1 (sym (number_after child.name t) ∙ one)).0 here;
+              around = ready.around;
+              outside = λ one here. ready.outside (number-child_of state caller t t 1 one).0 here;
             });
         chain = chain_after (root_number child.name) (suc far.0) (root_number caller.name, up, far.1);
       }
@@ -246,28 +229,25 @@ module _ (old : State) (sound : IsCoherent old) (spaces : List Space) (caller : 
       let stands : ready.target.0.fallen ≡ false = ready.target.3 in cc)
 
   -- a namespace that stands has its live init, perhaps the child
-  standing_after : (s : Space) → IsIn s spaces → s.fallen ≡ false → HasLiveInit rows_after spaces_after s.id
+  standing_after : (s : Space) → IsIn s spaces → s.fallen ≡ false → HasLiveInit rows_after spaces s.id
   standing_after s i e = elim (ready.standing s i e) [
-    | inl r ↦ (r.0, IsIn-insert_old child old.rows r.0 r.1, r.2, r.3, number_after r.0.name s.id ∙ r.4)
+    | inl r ↦ (r.0, IsIn-insert_old child old.rows r.0 r.1, r.2, r.3, r.4)
     | inr new ↦ (
       child,
       IsIn-insert_new child old.rows,
       refl,
       sym new.0,
-      subst (λ x. number spaces_after child.name x ≡ Some 1) (sym new.0) (number_after child.name t ∙ number-child_of_at state caller t t (path_first spaces t) ∙ ap Some new.1),
+      subst (λ x. number spaces child.name x ≡ Some 1) (sym new.0) (number-child_of_at state caller t t (path_first spaces t) ∙ ap Some new.1),
     )
   ]
 
   -- a fallen one stays without a live task
-  fallen_after : (s : Space) → IsIn s spaces → s.fallen ≡ true → IsEmptied rows_after spaces_after s.id
+  fallen_after : (s : Space) → IsIn s spaces → s.fallen ≡ true → IsEmptied rows_after spaces s.id
   fallen_after s i e =
       let em = ready.fallen s i e in
       record {
-        ended = each_after (λ r. is_live r ≡ true → number spaces_after r.name s.id ≡ None)
-            (λ live. number_after child.name s.id ∙ child_outside s i e) (λ r j live. number_after r.name s.id ∙ em.ended r j live);
-        below = λ u j k.
-            let q = IsIn-from_map cursor_after u spaces j in
-            ap (λ (x : Space). x.fallen) q.2 ∙ em.below q.0 q.1 (subst (IsIn s.id) (path_up-map spaces cursor_after (λ s. refl) (λ s. refl) q.0.id) (subst (λ (x : Space). IsIn s.id (path_up spaces_after x.id)) q.2 k));
+        ended = each_after (λ r. is_live r ≡ true → number spaces r.name s.id ≡ None) (λ live. child_outside s i e) (λ r j live. em.ended r j live);
+        below = em.below;
       }
 
   -- one group, one session
@@ -290,35 +270,31 @@ module _ (old : State) (sound : IsCoherent old) (spaces : List Space) (caller : 
   -- a fork that is made leaves a coherent state
   pub IsCoherent-forked : IsCoherent (with_child state child path)
   unfolding with_cursors
-  IsCoherent-forked = record {
+  IsCoherent-forked = IsCoherent-map_spaces (record state { rows = rows_after }) (moved_cursor state path) (λ s. refl) (λ s. refl) (λ s. refl) (record {
     distinct = distinct_after;
     numbered = well_after;
-    parents = each_after (HasGoodParents rows_after spaces_after) parents_child parents_old;
-    children = each_after (HasGoodChildrenSpace spaces_after) (inr (path_first spaces_after t))
-        (λ r i. HasGoodChildrenSpace-map spaces cursor_after (λ s. refl) (λ s. refl) r (ready.children r i));
-    root = λ s i e. let q = IsIn-from_map cursor_after s spaces i in
-        ap (λ (x : Space). x.fallen) q.2 ∙ ready.root q.0 q.1 (sym (ap (λ (x : Space). x.id) q.2) ∙ e);
-    standing = λ s i e. let q = IsIn-from_map cursor_after s spaces i in
-        subst (HasLiveInit rows_after spaces_after) (sym (ap (λ (x : Space). x.id) q.2)) (standing_after q.0 q.1 (sym (ap (λ (x : Space). x.fallen) q.2) ∙ e));
-    fallen = λ s i e. let q = IsIn-from_map cursor_after s spaces i in
-        subst (IsEmptied rows_after spaces_after) (sym (ap (λ (x : Space). x.id) q.2)) (fallen_after q.0 q.1 (sym (ap (λ (x : Space). x.fallen) q.2) ∙ e));
+    parents = each_after (HasGoodParents rows_after spaces) parents_child parents_old;
+    children = each_after (HasGoodChildrenSpace spaces) (inr (path_first spaces t)) ready.children;
+    root = ready.root;
+    standing = standing_after;
+    fallen = fallen_after;
     groups = record {
       together = λ a b i j. together_after a b (IsIn-from_insert child old.rows a i) (IsIn-from_insert child old.rows b j);
       leader = λ a b i j. leader_after a b (IsIn-from_insert child old.rows a i) (IsIn-from_insert child old.rows b j);
     };
     rows_rise = rise_after;
-    spaces = IsTreeOfSpaces-map spaces cursor_after (λ s. refl) (λ s. refl) ready.tree;
+    spaces = ready.tree;
     controls = sound.controls;
     limits = sound.limits;
     homes = each_after (λ r. (c : Control) × (control_at old.controls r.home ≡ Some c)) (sound.homes caller there) sound.homes;
-  }
+  })
 
   -- and its ids below the stamp
   pub IsBelow-forked : (stamp : ℕ) → IsBelow stamp old → ((s : Space) → IsIn s spaces → s.id < stamp)
       → IsBelow stamp (with_child state child path)
   unfolding with_cursors
   IsBelow-forked stamp below ids = record {
-    spaces = λ s i. let q = IsIn-from_map cursor_after s spaces i in let l = ids q.0 q.1 in omega (arith, l, ap (λ (x : Space). x.id) q.2);
+    spaces = λ s i. let q = IsIn-from_map (moved_cursor state path) s spaces i in let l = ids q.0 q.1 in omega (arith, l, ap (λ (x : Space). x.id) q.2);
     controls = λ c i. omega (arith, below.controls c i);
     children =
         each_after (λ r. r.children_space < stamp) (let l = ids ready.target.0 ready.target.1 in omega (arith, l, ready.target.2)) (λ r i. omega (arith, below.children r i));

@@ -25,7 +25,9 @@ use Rattle.model_laws.proofs.Inserts.{IsIn-insert_new, IsIn-insert_old}
 use Rattle.model_laws.proofs.Sweeps.{name_number}
 use Rattle.model_laws.proofs.Calls.{MayFork, Comes, still, born, born_first, no_answer, step_comes}
 use Rattle.pid_types.specs.Fork.{forked}
-use Rattle.model_laws.proofs.ForkKept.{IsReady, IsReady-old, IsReady-new, with_new, fresh, number_after, IsCoherent-forked}
+use Rattle.model_laws.proofs.ForkKept.{IsReady, IsReady-old, IsReady-new, with_new, fresh, IsCoherent-forked}
+use Rattle.model_laws.proofs.SpaceMaps.{number-map_spaces}
+use Rattle.pid_types.specs.Fork.{moved_cursor}
 use Rattle.model_laws.proofs.StepKept.{step_keeps, run_keeps}
 
 -- ---- one fork
@@ -74,7 +76,7 @@ module _ (old : State) (sound : IsCoherent old) (spaces : List Space) (caller : 
         let s : ℕ = share.0 in
         let n : ℕ = share.1 in
         let swept : (a : Name) → IsIn a (names_in_use made.rows) → number o.state.spaces a s ≡ number spaces a s =
-        λ a j. name_number made made_coherent a j s ∙ number_after old sound spaces caller t ready there live may a s in
+        λ a j. name_number made made_coherent a j s ∙ number-map_spaces spaces (moved_cursor state (path_up spaces t)) (λ x. refl) (λ x. refl) a s in
         fresh old sound spaces caller t ready there live may name i s n
         (sym (swept child.name child_in_use) ∙ subst (λ (r : Row). number o.state.spaces r.name s ≡ Some n) same share.3)
         (sym (swept name (in_use_after name i)) ∙ share.2);
