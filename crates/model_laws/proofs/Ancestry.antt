@@ -1,17 +1,8 @@
 -- Chains of parents among the rows.
-use Rattle.std.proofs.Common.{◌≡◌, ℕ, zero, suc, ◌+◌, ◌-◌, ◌<◌, ◌≤◌, Bool, true, false, not, ◌==◌, List, [], ◌∷◌, ◌++◌, map, reverse, length, Option, Some, None, cond, refl, sym, ap, ◌∙◌, subst, inl, inr, arith}
-use Rattle.std.specs.Prelude.{filter, option_map, option_and_then, slice_index}
+use Rattle.std.proofs.Common.{◌≡◌, ℕ, zero, suc, ◌+◌, ◌-◌, ◌<◌, ◌≤◌, Bool, true, false, not, ◌==◌, List, [], ◌∷◌, ◌++◌, map, reverse, length, Option, Some, None, cond, refl, sym, ap, ◌∙◌, subst, inl, inr, arith, filter, option_map, option_and_then, slice_index}
 use Rattle.std.proofs.lemmas.Bool.{eq-eqb, ne_eqb, not_from_false, not_from_true}
 use Rattle.std.proofs.lemmas.List.{length-map, reverse-append, length-reverse}
-use Rattle.pid_types.specs.declared.plain.Name.{Name}
-use Rattle.pid_types.specs.declared.plain.Row.{Row}
-use Rattle.pid_types.specs.declared.plain.Space.{Space}
-use Rattle.pid_types.specs.Chains.{climb}
-use Rattle.pid_types.specs.State.{State}
-use Rattle.pid_types.specs.Names.{parent_space, path_up, beside, number, root_number, is_live, row_at}
-use Rattle.pid_types.specs.Exit.{parent_number}
-use Rattle.pid_types.specs.Membership.{IsIn}
-use Rattle.pid_types.specs.Sound.{IsWellNumbered, IsTreeOfSpaces, IsCoherent}
+use Rattle.model_laws.proofs.Words.{Name, Row, Space, climb, State, parent_space, path_up, beside, number, root_number, is_live, row_at, parent_number, IsIn, IsWellNumbered, IsTreeOfSpaces, IsCoherent}
 use Rattle.model_laws.proofs.Lists.{IsIn-map, IsIn-filter}
 use Rattle.model_laws.proofs.Chains.{Stops-at_root, climb-None, climb_cases, climb_suffix, IsIn-climb_first, IsIn-climb_parent, IsIn-climb_more}
 use Rattle.model_laws.proofs.Names.{own_name_in_use}

@@ -1,15 +1,6 @@
 -- No call changes the bound of all numbers.
 use Rattle.std.proofs.Common.{◌≡◌, ℕ, ◌+◌, List, [], ◌∷◌, refl, ◌∙◌}
-use Rattle.pid_types.specs.declared.call.Call.{Call}
-use Rattle.pid_types.specs.State.{State}
-use Rattle.pid_types.specs.Outcome.{Outcome, sweep}
-use Rattle.pid_types.specs.Fork.{with_cursors}
-use Rattle.pid_types.specs.Exit.{fall}
-use Rattle.pid_types.specs.Wait.{without_row}
-use Rattle.pid_types.specs.Names.{with_row}
-use Rattle.pid_types.specs.Changes.{with_control, without_control, with_limit}
-use Rattle.pid_types.specs.Step.{step}
-use Rattle.pid_types.specs.Replay.{state_after}
+use Rattle.model_laws.proofs.Words.{Call, State, Outcome, sweep, with_cursors, fall, without_row, with_row, with_control, without_control, with_limit, step, state_after}
 use Rattle.model_laws.proofs.Calls.{Comes, still, step_comes}
 
 -- whatever a call comes to

@@ -1,32 +1,8 @@
 -- What a call comes to: an answer that changes nothing, or one of the changes that a call can make.
-use Rattle.std.proofs.Common.{◌≡◌, ℕ, ℤ, Bool, true, false, not, ◌&&◌, ◌||◌, ◌==◌, Option, Some, None, refl, ap}
-use Rattle.pid_types.specs.Bounds.{greatest_limit}
-use Rattle.std.specs.Prelude.{if◌then◌else◌, find, filter, length, is_none, nat_lt, nat_le, option_map}
+use Rattle.std.proofs.Common.{◌≡◌, ℕ, ℤ, Bool, true, false, not, ◌&&◌, ◌||◌, ◌==◌, Option, Some, None, refl, ap, if◌then◌else◌, find, filter, length, is_none, nat_lt, nat_le, option_map}
 use Rattle.std.specs.Option.{option_map_or}
 use Rattle.std.proofs.lemmas.Bool.{not-false}
-use Rattle.pid_types.specs.declared.call.Call.{Call}
-use Rattle.pid_types.specs.declared.call.Call.TheVariants.{Fork, GetPid, NsPid, Exec, Exit, Wait, GetPpid, SetPgid, SetSid, MakeControl, RemoveControl, SetLimit, Move, Count, GetPgid, GetSid, Next, Join, SetSubreaper}
-use Rattle.pid_types.specs.declared.call.Which.{Which}
-use Rattle.pid_types.specs.declared.plain.Name.{Name}
-use Rattle.pid_types.specs.declared.plain.Row.{Row}
-use Rattle.pid_types.specs.declared.plain.Control.{Control}
-use Rattle.pid_types.specs.declared.reply.Reply.{Reply}
-use Rattle.pid_types.specs.declared.reply.Reply.TheVariants.{Forked, Done, Number, Reaped, NoneYet, Counted, Control as ControlMade, End, Refused}
-use Rattle.pid_types.specs.declared.reply.Refusal.{Refusal}
-use Rattle.pid_types.specs.declared.reply.Refusal.TheVariants.{NoCaller, NoTask, NoChild, NoNumber, PidsLimit, SpaceFallen, TooDeep, Elsewhere, BadGroup, OtherSession, IsLeader, NoGroup, Executed, RootInit, NoControl, ControlBusy, RootControl, BadLimit, ControlDepth}
-use Rattle.pid_types.specs.Chains.{least_of}
-use Rattle.pid_types.specs.State.{State}
-use Rattle.pid_types.specs.Names.{path_up, level, root_number, number_or_zero, same_name, is_parent, is_live, live_row, task_at, with_row}
-use Rattle.pid_types.specs.Draw.{draw}
-use Rattle.pid_types.specs.Controls.{control_at, control_path, count, passed_limit}
-use Rattle.pid_types.specs.Outcome.{Outcome, answered, changed, for_found, unless_found, refuse_if}
-use Rattle.pid_types.specs.Fork.{fork, no_room, forked, with_space, is_gone}
-use Rattle.pid_types.specs.Exit.{is_init, rows_after_exit, fall, exit}
-use Rattle.pid_types.specs.Wait.{least_row, end_of, without_row, ended_children, wait}
-use Rattle.pid_types.specs.Groups.{is_negative, target_of, group_for, set_group, set_group_of, set_pgid, has_members, start_session, set_sid}
-use Rattle.pid_types.specs.Queries.{self_or_task, numbers_by, get_pid, get_ppid, get_pgid, get_sid, ns_pid, next}
-use Rattle.pid_types.specs.Changes.{set_executed, exec, with_control, make_control, is_busy, without_control, remove_control, with_limit, set_limit, set_home, move_task, count_tasks, set_children_space, join, set_mark, set_subreaper}
-use Rattle.pid_types.specs.Step.{step}
+use Rattle.model_laws.proofs.Words.{greatest_limit, Call, Fork, GetPid, NsPid, Exec, Exit, Wait, GetPpid, SetPgid, SetSid, MakeControl, RemoveControl, SetLimit, Move, Count, GetPgid, GetSid, Next, Join, SetSubreaper, Which, Name, Row, Control, Reply, Forked, Done, Number, Reaped, NoneYet, Counted, ControlMade, End, Refused, Refusal, NoCaller, NoTask, NoChild, NoNumber, PidsLimit, SpaceFallen, TooDeep, Elsewhere, BadGroup, OtherSession, IsLeader, NoGroup, Executed, RootInit, NoControl, ControlBusy, RootControl, BadLimit, ControlDepth, least_of, State, path_up, level, root_number, number_or_zero, same_name, is_parent, is_live, live_row, task_at, with_row, draw, control_at, control_path, count, passed_limit, Outcome, answered, changed, for_found, unless_found, refuse_if, fork, no_room, forked, with_space, is_gone, is_init, rows_after_exit, fall, exit, least_row, end_of, without_row, ended_children, wait, is_negative, target_of, group_for, set_group, set_group_of, set_pgid, has_members, start_session, set_sid, self_or_task, numbers_by, get_pid, get_ppid, get_pgid, get_sid, ns_pid, next, set_executed, exec, with_control, make_control, is_busy, without_control, remove_control, with_limit, set_limit, set_home, move_task, count_tasks, set_children_space, join, set_mark, set_subreaper, step}
 
 -- each namespace from t to the root has a number to give, and no control group from the caller's home up is at its limit
 pub record MayFork (state : State) (caller : Row) (t : ℕ) : Type 0 where

@@ -1,8 +1,7 @@
 -- Chains of parents.
 use Rattle.std.proofs.Common.{◌≡◌, ℕ, zero, suc, List, [], ◌∷◌, ◌++◌, length, Option, Some, None, refl, sym, ap, ◌∙◌, subst, ◌⊎◌, inl, inr, ◌+◌, ◌≤◌, arith, length-append}
 use Rattle.std.specs.Option.{option_map_or}
-use Rattle.pid_types.specs.Chains.{climb}
-use Rattle.pid_types.specs.Membership.{IsIn}
+use Rattle.model_laws.proofs.Words.{climb, IsIn}
 use Rattle.model_laws.proofs.Lists.{IsIn-append_right}
 
 -- the chain ends before it is cut off

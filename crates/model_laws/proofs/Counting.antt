@@ -1,30 +1,8 @@
 -- What changes a control group's count.
-use Rattle.std.proofs.Common.{◌≡◌, ℕ, suc, ◌+◌, ◌<◌, Bool, true, false, not, ◌&&◌, ◌==◌, List, [], ◌∷◌, map, length, Option, Some, cond, refl, sym, ap, ◌∙◌, subst, inl, inr, arith}
-use Rattle.std.specs.Prelude.{filter, if◌then◌else◌}
+use Rattle.std.proofs.Common.{◌≡◌, ℕ, suc, ◌+◌, ◌<◌, Bool, true, false, not, ◌&&◌, ◌==◌, List, [], ◌∷◌, map, length, Option, Some, cond, refl, sym, ap, ◌∙◌, subst, inl, inr, arith, filter, if◌then◌else◌}
 use Rattle.std.specs.Option.{option_map_or}
 use Rattle.std.proofs.lemmas.Bool.{cases_Bool, not-true, eqb-true, eqb-false, not_from_false, false_from_ne_true}
-use Rattle.pid_types.specs.declared.call.Call.{Call}
-use Rattle.pid_types.specs.declared.call.Call.TheVariants.{Fork, Exit, Wait, Move}
-use Rattle.pid_types.specs.declared.call.Which.{Which}
-use Rattle.pid_types.specs.declared.plain.Name.{Name}
-use Rattle.pid_types.specs.declared.plain.Row.{Row}
-use Rattle.pid_types.specs.declared.plain.Ended.{Ended}
-use Rattle.pid_types.specs.declared.plain.Ended.TheVariants.{Exited}
-use Rattle.pid_types.specs.declared.plain.Control.{Control}
-use Rattle.pid_types.specs.declared.reply.Reply.{Reply}
-use Rattle.pid_types.specs.declared.reply.Reply.TheVariants.{Forked, Done, Reaped}
-use Rattle.pid_types.specs.Chains.{contains}
-use Rattle.pid_types.specs.State.{State}
-use Rattle.pid_types.specs.Names.{root_number, same_name, is_live, live_row, number_or_zero, on_row, with_row}
-use Rattle.pid_types.specs.Controls.{control_at, control_path, count, is_below}
-use Rattle.pid_types.specs.Outcome.{Outcome, sweep, changed}
-use Rattle.pid_types.specs.Fork.{with_space}
-use Rattle.pid_types.specs.Exit.{is_init, goes_in_fall, row_after_exit, rows_after_exit, row_after_fall, rows_after_fall, new_parent, fall}
-use Rattle.pid_types.specs.Wait.{without_row}
-use Rattle.pid_types.specs.Groups.{set_group, start_session}
-use Rattle.pid_types.specs.Changes.{set_executed, with_control, is_busy, rehome, without_control, limited, with_limit, set_home, set_children_space, set_mark}
-use Rattle.pid_types.specs.Membership.{IsIn}
-use Rattle.pid_types.specs.Sound.{IsRising, IsTreeOfControls, IsSound, IsBelow}
+use Rattle.model_laws.proofs.Words.{Call, Fork, Exit, Wait, Move, Which, Name, Row, Ended, Exited, Control, Reply, Forked, Done, Reaped, contains, State, root_number, same_name, is_live, live_row, number_or_zero, on_row, with_row, control_at, control_path, count, is_below, Outcome, sweep, changed, with_space, is_init, goes_in_fall, row_after_exit, rows_after_exit, row_after_fall, rows_after_fall, new_parent, fall, without_row, set_group, start_session, set_executed, with_control, is_busy, rehome, without_control, limited, with_limit, set_home, set_children_space, set_mark, IsIn, IsRising, IsTreeOfControls, IsSound, IsBelow}
 use Rattle.model_laws.specs.CountLaws.{one_if, may_change_counts}
 use Rattle.model_laws.proofs.Lists.{IsIn-map, IsIn-from_filter, IsIn-from_contains, contains-from_IsIn, filter-same, filter-all}
 use Rattle.model_laws.proofs.Names.{on_row-keeps, same_name-true, same_name-refl}

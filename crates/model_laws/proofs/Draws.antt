@@ -1,9 +1,7 @@
 -- The draw is the cyclic one.
-use Rattle.std.proofs.Common.{◌≡◌, ℕ, ◌<◌, ◌≤◌, max, Bool, true, false, cond, List, Some, None, refl, arith, inl, inr}
-use Rattle.std.specs.Prelude.{nat_lt}
+use Rattle.std.proofs.Common.{◌≡◌, ℕ, ◌<◌, ◌≤◌, max, Bool, true, false, cond, List, Some, None, refl, arith, inl, inr, nat_lt}
 use Rattle.std.proofs.lemmas.Bool.{ltb-true, ltb-false, cond_both}
-use Rattle.pid_types.specs.Chains.{contains}
-use Rattle.pid_types.specs.Draw.{least_free, restart, cyclic_draw}
+use Rattle.model_laws.proofs.Words.{contains, least_free, restart, cyclic_draw}
 use Rattle.pid_types.proofs.LeastFree as LeastFree
 use Rattle.model_laws.specs.Draws.{IsLeastFree, IsFull, IsCyclicDraw}
 

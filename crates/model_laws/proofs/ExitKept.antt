@@ -1,22 +1,8 @@
 -- Exit leaves a sound state.
-use Rattle.std.proofs.Common.{◌≡◌, ℕ, zero, suc, ◌+◌, ◌<◌, ◌≤◌, Bool, true, false, ◌&&◌, ◌==◌, List, [], map, length, drop, Option, Some, None, refl, sym, ap, ◌∙◌, subst, ◌⊎◌, inl, inr, arith}
-use Rattle.std.specs.Prelude.{find, option_map, option_and_then, if◌then◌else◌}
+use Rattle.std.proofs.Common.{◌≡◌, ℕ, zero, suc, ◌+◌, ◌<◌, ◌≤◌, Bool, true, false, ◌&&◌, ◌==◌, List, [], map, length, drop, Option, Some, None, refl, sym, ap, ◌∙◌, subst, ◌⊎◌, inl, inr, arith, find, option_map, option_and_then, if◌then◌else◌}
 use Rattle.std.specs.Option.{option_map_or}
 use Rattle.std.proofs.lemmas.Bool.{cases_eq, and_parts, eqb-true, false_from_ne_true}
-use Rattle.pid_types.specs.declared.plain.Name.{Name}
-use Rattle.pid_types.specs.declared.plain.Row.{Row}
-use Rattle.pid_types.specs.declared.plain.Space.{Space}
-use Rattle.pid_types.specs.declared.plain.Control.{Control}
-use Rattle.pid_types.specs.declared.plain.Ended.{Ended}
-use Rattle.pid_types.specs.declared.plain.Ended.TheVariants.{Exited}
-use Rattle.pid_types.specs.declared.plain.Life.TheVariants.{Zombie}
-use Rattle.pid_types.specs.Chains.{climb}
-use Rattle.pid_types.specs.State.{State}
-use Rattle.pid_types.specs.Names.{path_up, number, is_numbered, root_number, same_name, is_parent, is_live, row_at, task_at, names_in_use}
-use Rattle.pid_types.specs.Controls.{control_at}
-use Rattle.pid_types.specs.Exit.{is_init, parent_number, ancestors, is_subreaper_in, nearest_subreaper, new_parent, row_after_exit, rows_after_exit}
-use Rattle.pid_types.specs.Membership.{IsIn}
-use Rattle.pid_types.specs.Sound.{IsRising, IsGoodParent, HasGoodParents, HasGoodChildrenSpace, IsCoherent, IsSound, IsBelow}
+use Rattle.model_laws.proofs.Words.{Name, Row, Space, Ended, Exited, Zombie, climb, State, path_up, number, is_numbered, root_number, same_name, is_parent, is_live, row_at, task_at, is_init, parent_number, ancestors, is_subreaper_in, nearest_subreaper, new_parent, row_after_exit, rows_after_exit, IsIn, IsGoodParent, HasGoodParents, IsCoherent, IsSound, IsBelow, Reply, changed}
 use Rattle.model_laws.proofs.Lists.{IsIn-map, find-Some, find-only, filter-all}
 use Rattle.model_laws.proofs.Chains.{climb_cases, climb_child}
 use Rattle.model_laws.proofs.Names.{is_parent-true, is_parent-from, same_name-true, is_numbered-true, is_numbered-from, own_name_in_use, group_in_use, session_in_use, number-on_path}
@@ -26,8 +12,6 @@ use Rattle.model_laws.proofs.RowMaps.{row_at-map, each_of_map, HasGoodGroups-map
 use Rattle.model_laws.proofs.Ancestry.{Far, Far-unique, Far-same, IsIn-roots, parent_number-at, chain-in_rows, row_on_tree, root_init_row, top_row, row_far, parent_row}
 use Rattle.model_laws.proofs.Survivors.{all_stay, IsCoherent-all_stay}
 use Rattle.model_laws.proofs.Kept.{Keeps, Keeps-changed}
-use Rattle.pid_types.specs.declared.reply.Reply.{Reply}
-use Rattle.pid_types.specs.Outcome.{changed}
 
 -- ---- the rows after a task ended
 
@@ -232,9 +216,15 @@ module _ (state : State) (sound : IsCoherent state) (task heir : Row) (ended : E
       groups = HasGoodGroups-map state.rows after (λ r. refl) (λ r. refl) (λ r. refl) sound.groups;
       homes = sound.homes;
       spaces = λ s. (refl, refl);
-      standing = λ s i e. (e, λ r j live here one. (refl, others_live r (λ same.
-          let own : s.id ≡ task.name.space = sym here ∙ ap (λ (a : Name). a.space) same in
-          no_init (subst (λ a. number state.spaces a task.name.space ≡ Some 1) same (subst (λ x. number state.spaces r.name x ≡ Some 1) own one))) live));
+      standing = λ s i e. (
+        e,
+        λ r j live here one. (
+          refl,
+          others_live r (λ same.
+              let own : s.id ≡ task.name.space = sym here ∙ ap (λ (a : Name). a.space) same in
+              no_init (subst (λ a. number state.spaces a task.name.space ≡ Some 1) same (subst (λ x. number state.spaces r.name x ≡ Some 1) own one))) live,
+        ),
+      );
       fallen = λ s i e. let em = sound.fallen s i e in (λ r j stays live. em.ended r j (lived r live), em.below);
       root = sound.root;
     })

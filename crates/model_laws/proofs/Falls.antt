@@ -1,21 +1,8 @@
 -- What a fall does to each task.
-use Rattle.std.proofs.Common.{◌≡◌, ℕ, Bool, true, false, ◌&&◌, not, Option, Some, None, refl, sym, ap, ◌∙◌, subst}
-use Rattle.std.specs.Prelude.{filter, is_some, if◌then◌else◌}
+use Rattle.std.proofs.Common.{◌≡◌, ℕ, Bool, true, false, ◌&&◌, not, Option, Some, None, refl, sym, ap, ◌∙◌, subst, filter, is_some, if◌then◌else◌}
 use Rattle.std.specs.Option.{option_map_or}
 use Rattle.std.proofs.lemmas.Bool.{and_left, or_from, or_right, not_from_false, not-true, false_from_ne_true}
-use Rattle.pid_types.specs.declared.plain.Name.{Name}
-use Rattle.pid_types.specs.declared.plain.Row.{Row}
-use Rattle.pid_types.specs.declared.plain.Space.{Space}
-use Rattle.pid_types.specs.declared.plain.Life.{Life}
-use Rattle.pid_types.specs.declared.plain.Life.TheVariants.{Zombie}
-use Rattle.pid_types.specs.declared.plain.Ended.TheVariants.{Exited, Killed}
-use Rattle.pid_types.specs.declared.reply.Reply.TheVariants.{Done}
-use Rattle.pid_types.specs.Membership.{IsIn}
-use Rattle.pid_types.specs.State.{State}
-use Rattle.pid_types.specs.Names.{path_up, number, is_within, is_member, same_name, is_live}
-use Rattle.pid_types.specs.Outcome.{Outcome, sweep}
-use Rattle.pid_types.specs.Exit.{is_init, has_parent_within, goes_in_fall, row_after_fall, rows_after_fall, fallen_below, fall}
-use Rattle.pid_types.specs.Sound.{IsSound}
+use Rattle.model_laws.proofs.Words.{Name, Row, Space, Life, Zombie, Exited, Killed, Done, IsIn, State, path_up, number, is_within, is_member, same_name, is_live, Outcome, sweep, is_init, has_parent_within, goes_in_fall, row_after_fall, rows_after_fall, fallen_below, fall, IsSound, Exit, live_row}
 use Rattle.model_laws.specs.FallLaws.{IsMember, HasMemberParent, IsOtherMember, HasFallen}
 use Rattle.model_laws.proofs.Lists.{IsIn-map, IsIn-from_map, IsIn-filter, IsIn-from_filter, IsIn-from_contains, contains-from_IsIn}
 use Rattle.model_laws.proofs.Names.{same_name-true, same_name-refl, own_name_in_use, number-on_path, number-within}
@@ -23,9 +10,6 @@ use Rattle.model_laws.proofs.Rising.{unique_key}
 use Rattle.model_laws.proofs.Trees.{path_first, same_row, live_row-Some}
 use Rattle.model_laws.proofs.Sweeps.{from_kept, to_kept}
 use Rattle.model_laws.proofs.Calls.{Comes, still, fell, handed_on, no_answer}
-use Rattle.pid_types.specs.declared.call.Call.TheVariants.{Exit}
-use Rattle.pid_types.specs.declared.reply.Reply.TheVariants.{Done}
-use Rattle.pid_types.specs.Names.{live_row}
 
 module _ (state : State) (sound : IsSound state) (init : Row) (status : ℕ) (there : IsIn init state.rows) where
   -- the namespace that falls

@@ -1,23 +1,10 @@
 -- Fork leaves a sound state.
-use Rattle.std.proofs.Common.{◌≡◌, ℕ, suc, ◌+◌, ◌<◌, ◌≤◌, true, false, List, [], ◌∷◌, ◌++◌, map, length, Option, Some, None, refl, sym, ap, ◌∙◌, subst, ◌⊎◌, inl, inr, arith}
-use Rattle.std.specs.Prelude.{option_map, nat_le, unwrap_or}
+use Rattle.std.proofs.Common.{option_map, nat_le, unwrap_or, ◌≡◌, ℕ, suc, ◌+◌, ◌<◌, ◌≤◌, true, false, List, [], ◌∷◌, ◌++◌, map, length, Option, Some, None, refl, sym, ap, ◌∙◌, subst, ◌⊎◌, inl, inr, arith, ◌==◌}
 use Rattle.std.specs.Option.{option_map_or}
 use Rattle.std.proofs.lemmas.List.{length-map, length-reverse}
 use Rattle.std.proofs.lemmas.Bool.{cases_order, eqb-true, leb-false}
-use Rattle.pid_types.specs.declared.plain.Name.{Name}
-use Rattle.pid_types.specs.declared.plain.Row.{Row}
-use Rattle.pid_types.specs.declared.plain.Space.{Space}
-use Rattle.pid_types.specs.declared.plain.Control.{Control}
-use Rattle.pid_types.specs.Chains.{climb, contains}
-use Rattle.pid_types.specs.State.{State}
-use Rattle.pid_types.specs.Names.{space_at, parent_space, path_up, level, number, root_number, is_live, row_at, names_in_use, taken}
-use Rattle.pid_types.specs.Draw.{cyclic_draw, cursor_of, draw}
-use Rattle.pid_types.specs.Controls.{control_at}
-use Rattle.pid_types.specs.Exit.{parent_number}
-use Rattle.pid_types.specs.Fork.{forked, insert_row, with_space, drawn, moved_cursor, with_cursors, child_of, is_gone, with_child}
-use Rattle.pid_types.specs.Membership.{IsIn}
+use Rattle.model_laws.proofs.Words.{Name, Row, Space, Control, climb, contains, State, space_at, parent_space, path_up, level, number, root_number, is_live, row_at, names_in_use, taken, cyclic_draw, cursor_of, draw, control_at, parent_number, forked, insert_row, with_space, drawn, moved_cursor, with_cursors, child_of, is_gone, with_child, IsIn, IsRising, IsWellNumbered, IsGoodParent, HasGoodParents, HasGoodChildrenSpace, HasLiveInit, IsEmptied, IsTreeOfSpaces, RootStands, IsCoherent, IsSound, IsBelow}
 use Rattle.model_laws.specs.Draws.{IsCyclicDraw, IsLeastFree}
-use Rattle.pid_types.specs.Sound.{IsRising, IsWellNumbered, IsGoodParent, HasGoodParents, HasGoodChildrenSpace, HasLiveInit, IsEmptied, IsTreeOfSpaces, RootStands, IsCoherent, IsSound, IsBelow}
 use Rattle.model_laws.proofs.Lists.{IsIn-append, IsIn-append_right, IsIn-from_map, IsIn-reverse, contains-from_IsIn}
 use Rattle.model_laws.proofs.Names.{Uses, user_of_name, IsIn-names_in_use, own_name_in_use, group_in_use, number-within, number-off_path, number-same_path, IsIn-taken, user_of_number}
 use Rattle.model_laws.proofs.Draws.{cyclic_draw-IsCyclicDraw}
@@ -28,7 +15,6 @@ use Rattle.model_laws.proofs.Ancestry.{Far, Far-same, roots, IsIn-roots, parent_
 use Rattle.model_laws.proofs.Inserts.{IsIn-from_insert, IsIn-insert_new, IsIn-insert_old, IsRising-insert, number-child_of, number-child_of_at, drawn-free}
 use Rattle.model_laws.proofs.Kept.{Keeps, Keeps-changed, IsBelow-next}
 use Rattle.model_laws.proofs.Calls.{MayFork}
-use Rattle.std.specs.Prelude.{◌==◌}
 
 -- the namespaces are ready for a child of the caller in t: those of a coherent state, perhaps with t new among them
 pub record IsReady (old : State) (spaces : List Space) (caller : Row) (t : ℕ) : Type 0 where

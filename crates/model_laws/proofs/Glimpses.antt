@@ -1,24 +1,11 @@
 -- Queries are answered from what the caller's namespace sees.
-use Rattle.std.proofs.Common.{◌≡◌, ℕ, zero, suc, Bool, true, false, cond, ◌||◌, ◌&&◌, ◌==◌, ◌<◌, ◌≤◌, List, [], ◌∷◌, map, reverse, Option, Some, None, refl, sym, ap, ◌∙◌, subst, arith, inl, inr}
-use Rattle.std.specs.Prelude.{nat_lt, nat_le, find, filter, filter_map, is_some, unwrap_or, option_map, slice_index, if◌then◌else◌}
+use Rattle.std.proofs.Common.{◌≡◌, ℕ, zero, suc, Bool, true, false, cond, ◌||◌, ◌&&◌, ◌==◌, ◌<◌, ◌≤◌, List, [], ◌∷◌, map, reverse, Option, Some, None, refl, sym, ap, ◌∙◌, subst, arith, inl, inr, nat_lt, nat_le, find, filter, filter_map, is_some, unwrap_or, option_map, slice_index, if◌then◌else◌}
 use Rattle.std.specs.List.{cons_option}
 use Rattle.std.specs.Option.{option_eq, option_map_or}
 use Rattle.std.proofs.Math.Path.{fun_ext}
 use Rattle.std.proofs.lemmas.Bool.{cases_Bool, lt-ltb, ltb-true, ltb-false, eqb-true, ne_eqb, eqb-false, and_parts}
-use Rattle.pid_types.specs.declared.plain.Name.{Name}
-use Rattle.pid_types.specs.declared.plain.Row.{Row}
-use Rattle.pid_types.specs.declared.call.Kind.{Kind}
+use Rattle.model_laws.proofs.Words.{Name, Row, Kind, Reply, Number, LevelList, End, least_of, State, number, number_or_zero, numbers_from, beside, beside_from, is_numbered, live_row, task_at, path_up, names_in_use, of_task, self_or_task, name_by, numbers_by, get_pid, get_ppid, get_pgid, get_sid, ns_pid, next, Glimpse, sight, seen, is_seen, glimpse_of, glimpse_at, self_or_glimpse, number_by, of_glimpse, step, IsIn, IsCoherent}
 use Rattle.pid_types.specs.declared.call.Kind.TheVariants.{Task, Group, Session}
-use Rattle.pid_types.specs.declared.reply.Reply.{Reply}
-use Rattle.pid_types.specs.declared.reply.Reply.TheVariants.{Number, Levels as LevelList, End}
-use Rattle.pid_types.specs.Chains.{least_of}
-use Rattle.pid_types.specs.State.{State}
-use Rattle.pid_types.specs.Names.{number, number_or_zero, numbers_from, beside, beside_from, is_numbered, live_row, task_at, path_up, names_in_use}
-use Rattle.pid_types.specs.Queries.{of_task, self_or_task, name_by, numbers_by, get_pid, get_ppid, get_pgid, get_sid, ns_pid, next}
-use Rattle.pid_types.specs.Sight.{Glimpse, sight, seen, is_seen, glimpse_of, glimpse_at, self_or_glimpse, number_by, of_glimpse}
-use Rattle.pid_types.specs.Step.{step}
-use Rattle.pid_types.specs.Membership.{IsIn}
-use Rattle.pid_types.specs.Sound.{IsCoherent}
 use Rattle.model_laws.specs.SightLaws.{Query, IsQuery, own_number, parent_number, group_of, session_of, numbers_of, next_from, IsCaller, SeesSame}
 use Rattle.model_laws.proofs.Lists.{IsIn-map, IsIn-from_map, IsIn-filter, IsIn-from_filter, find-Some, find-None, find-none, find-only}
 use Rattle.model_laws.proofs.Names.{number-within, is_numbered-true, is_numbered-from, own_name_in_use, group_in_use, session_in_use}

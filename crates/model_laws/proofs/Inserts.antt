@@ -1,16 +1,8 @@
 -- Rows with one more, and the numbers that a new name is made of.
-use Rattle.std.proofs.Common.{◌≡◌, ℕ, ◌<◌, Bool, true, false, ◌==◌, List, [], ◌∷◌, ◌++◌, map, reverse, Option, Some, None, cond, refl, sym, ap, ◌∙◌, subst, ◌⊎◌, inl, inr, arith}
-use Rattle.std.specs.Prelude.{nat_lt, is_none, unwrap_or, find}
+use Rattle.std.proofs.Common.{◌≡◌, ℕ, ◌<◌, Bool, true, false, ◌==◌, List, [], ◌∷◌, ◌++◌, map, reverse, Option, Some, None, cond, refl, sym, ap, ◌∙◌, subst, ◌⊎◌, inl, inr, arith, nat_lt, is_none, unwrap_or, find}
 use Rattle.std.proofs.lemmas.List.{reverse-append, map-append}
 use Rattle.std.proofs.lemmas.Bool.{eqb-true, eq-eqb, ltb-true, ltb-false}
-use Rattle.pid_types.specs.declared.plain.Row.{Row}
-use Rattle.pid_types.specs.Chains.{contains}
-use Rattle.pid_types.specs.State.{State}
-use Rattle.pid_types.specs.Names.{path_up, beside, number, root_number, taken}
-use Rattle.pid_types.specs.Draw.{cursor_of, draw}
-use Rattle.pid_types.specs.Fork.{insert_row, drawn, child_of}
-use Rattle.pid_types.specs.Membership.{IsIn}
-use Rattle.pid_types.specs.Sound.{IsRising}
+use Rattle.model_laws.proofs.Words.{Row, contains, State, path_up, beside, number, root_number, taken, cursor_of, draw, insert_row, drawn, child_of, IsIn, IsRising}
 use Rattle.model_laws.proofs.Lists.{IsIn-map, IsIn-from_map, IsIn-reverse, IsIn-to_reverse, find-None}
 use Rattle.model_laws.proofs.Draws.{draw-Some}
 

@@ -1,19 +1,7 @@
 -- Calls that change fields of rows leave a sound state.
-use Rattle.std.proofs.Common.{◌≡◌, ℕ, ℤ, pos, negsuc, ◌+◌, ◌<◌, Bool, true, false, ◌&&◌, ◌||◌, not, ◌==◌, map, Option, Some, None, refl, sym, ap, ◌∙◌, subst, inl, inr, arith}
-use Rattle.std.specs.Prelude.{find, option_map, if◌then◌else◌}
+use Rattle.std.proofs.Common.{◌≡◌, ℕ, ℤ, pos, negsuc, ◌+◌, ◌<◌, Bool, true, false, ◌&&◌, ◌||◌, not, ◌==◌, map, Option, Some, None, refl, sym, ap, ◌∙◌, subst, inl, inr, arith, find, option_map, if◌then◌else◌}
 use Rattle.std.proofs.lemmas.Bool.{and_parts, or_cases, not-false}
-use Rattle.pid_types.specs.declared.plain.Name.{Name}
-use Rattle.pid_types.specs.declared.plain.Row.{Row}
-use Rattle.pid_types.specs.declared.plain.Control.{Control}
-use Rattle.pid_types.specs.declared.reply.Reply.{Reply}
-use Rattle.pid_types.specs.State.{State}
-use Rattle.pid_types.specs.Names.{is_live, path_up, is_numbered, same_name, is_parent, task_at, names_in_use, on_row, with_row}
-use Rattle.pid_types.specs.Controls.{control_at}
-use Rattle.pid_types.specs.Outcome.{Outcome, sweep, answered, changed}
-use Rattle.pid_types.specs.Groups.{target_of, session_group, group_for, has_members}
-use Rattle.pid_types.specs.Changes.{set_children_space}
-use Rattle.pid_types.specs.Membership.{IsIn}
-use Rattle.pid_types.specs.Sound.{HasGoodChildrenSpace, IsCoherent, IsSound, IsBelow}
+use Rattle.model_laws.proofs.Words.{Name, Row, Control, Reply, State, is_live, path_up, is_numbered, same_name, is_parent, task_at, names_in_use, on_row, with_row, control_at, Outcome, sweep, answered, changed, target_of, session_group, group_for, has_members, set_children_space, IsIn, HasGoodChildrenSpace, IsCoherent, IsSound, IsBelow}
 use Rattle.model_laws.proofs.Lists.{find-Some, list_any-from_one}
 use Rattle.model_laws.proofs.Names.{on_row-keeps, on_row-both, same_name-true, same_name-refl, own_name_in_use, group_in_use, session_in_use, number-within, is_numbered-true}
 use Rattle.model_laws.proofs.Trees.{space_at-Some, same_row, path_first}

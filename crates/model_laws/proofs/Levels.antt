@@ -1,18 +1,8 @@
 -- A name's number in a namespace is the entry at the namespace's level.
-use Rattle.std.proofs.Common.{◌≡◌, ◌≤◌, ◌↔◌, ℕ, zero, suc, ◌+◌, Bool, true, false, not, ◌==◌, List, [], ◌∷◌, ◌++◌, reverse, length, drop, Option, Some, None, refl, sym, ap, ◌∙◌, inl, inr, arith, length-append}
-use Rattle.std.specs.Prelude.{slice_get, is_some}
+use Rattle.std.proofs.Common.{◌≡◌, ◌≤◌, ◌↔◌, ℕ, zero, suc, ◌+◌, Bool, true, false, not, ◌==◌, List, [], ◌∷◌, ◌++◌, reverse, length, drop, Option, Some, None, refl, sym, ap, ◌∙◌, inl, inr, arith, length-append, slice_get, is_some}
 use Rattle.std.proofs.lemmas.List.{reverse-append, length-reverse, append_assoc}
 use Rattle.std.proofs.lemmas.Bool.{eq-eqb, ne_eqb, and_left, not_from_false}
-use Rattle.pid_types.specs.declared.plain.Name.{Name}
-use Rattle.pid_types.specs.declared.plain.Space.{Space}
-use Rattle.pid_types.specs.declared.plain.Control.{Control}
-use Rattle.pid_types.specs.State.{State}
-use Rattle.pid_types.specs.Chains.{climb}
-use Rattle.pid_types.specs.Names.{parent_space, path_up, level, beside, beside_from, number, numbers_from, names_in_use, taken}
-use Rattle.pid_types.specs.Controls.{parent_control, control_path}
-use Rattle.pid_types.specs.Outcome.{is_dead, sweep}
-use Rattle.pid_types.specs.Membership.{IsIn}
-use Rattle.pid_types.specs.Sound.{IsSound}
+use Rattle.model_laws.proofs.Words.{Name, Space, Control, State, climb, parent_space, path_up, level, beside, beside_from, number, numbers_from, names_in_use, taken, parent_control, control_path, is_dead, sweep, IsIn, IsSound}
 use Rattle.model_laws.proofs.Lists.{IsIn-reverse, filter-all}
 use Rattle.model_laws.proofs.Names.{number-within, number-on_path}
 use Rattle.model_laws.proofs.Chains.{Stops, Stops-at_root, climb-None, climb-Some, climb-stopped, climb_suffix, length-climb}

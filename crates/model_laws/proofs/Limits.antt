@@ -1,29 +1,13 @@
 -- No fork raises a count above its limit.
-use Rattle.std.proofs.Common.{◌≡◌, ℕ, suc, ◌+◌, ◌≤◌, Bool, true, false, List, [], ◌∷◌, length, Option, Some, None, cond, refl, sym, ap, ◌∙◌, subst, inl, inr, arith}
-use Rattle.std.specs.Prelude.{filter, nat_lt, option_and_then}
+use Rattle.std.proofs.Common.{◌≡◌, ℕ, suc, ◌+◌, ◌≤◌, Bool, true, false, List, [], ◌∷◌, length, Option, Some, None, cond, refl, sym, ap, ◌∙◌, subst, inl, inr, arith, filter, nat_lt, option_and_then}
 use Rattle.std.specs.Option.{option_map_or}
 use Rattle.std.proofs.lemmas.Bool.{cases_Bool, ltb-false, le-ltb}
-use Rattle.pid_types.specs.declared.call.Call.{Call}
-use Rattle.pid_types.specs.declared.call.Call.TheVariants.{Fork}
-use Rattle.pid_types.specs.declared.plain.Row.{Row}
-use Rattle.pid_types.specs.declared.plain.Control.{Control}
-use Rattle.pid_types.specs.declared.entry.Entry.{Entry}
-use Rattle.pid_types.specs.declared.reply.Reply.TheVariants.{Forked}
-use Rattle.pid_types.specs.State.{State}
-use Rattle.pid_types.specs.Names.{root_number, live_row}
-use Rattle.pid_types.specs.Controls.{control_at, control_path, count, is_below, is_limited_below, passed_limit}
-use Rattle.pid_types.specs.Outcome.{Outcome, sweep}
-use Rattle.pid_types.specs.Fork.{insert_row, with_space, child_of}
-use Rattle.pid_types.specs.Step.{step}
-use Rattle.pid_types.specs.Limits.{ForkedWithinLimits, ForksStayWithinLimits}
-use Rattle.pid_types.specs.Membership.{IsIn}
-use Rattle.pid_types.specs.Sound.{IsSound, IsBelow}
+use Rattle.model_laws.proofs.Words.{Call, Fork, Row, Control, Entry, Forked, State, root_number, live_row, control_at, control_path, count, is_below, is_limited_below, passed_limit, Outcome, sweep, insert_row, with_space, child_of, step, ForkedWithinLimits, ForksStayWithinLimits, IsIn, IsSound, IsBelow, forked}
 use Rattle.model_laws.proofs.Lists.{find-None}
 use Rattle.model_laws.proofs.Rising.{find-key}
 use Rattle.model_laws.proofs.Trees.{row_at-listed}
 use Rattle.model_laws.proofs.Inserts.{IsIn-insert_new}
 use Rattle.model_laws.proofs.Calls.{MayFork, Comes, still, born, born_first, no_answer, step_comes}
-use Rattle.pid_types.specs.Fork.{forked}
 use Rattle.model_laws.specs.CountLaws.{one_if}
 use Rattle.model_laws.proofs.StepKept.{step_keeps}
 

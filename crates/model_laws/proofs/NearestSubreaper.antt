@@ -1,15 +1,8 @@
 -- The new parent is the nearest subreaper, or else the init.
-use Rattle.std.proofs.Common.{◌≡◌, ℕ, zero, suc, ◌+◌, ◌<◌, ◌≤◌, Bool, true, false, ◌&&◌, ◌==◌, [], length, Option, Some, None, cond, refl, sym, ap, ◌∙◌, subst, inl, inr, arith}
-use Rattle.std.specs.Prelude.{find, option_map, drop}
+use Rattle.std.proofs.Common.{◌≡◌, ℕ, zero, suc, ◌+◌, ◌<◌, ◌≤◌, Bool, true, false, ◌&&◌, ◌==◌, [], length, Option, Some, None, cond, refl, sym, ap, ◌∙◌, subst, inl, inr, arith, find, option_map, drop}
 use Rattle.std.specs.Option.{option_map_or}
 use Rattle.std.proofs.lemmas.Bool.{eqb-true, eq-eqb, and_parts, and_from}
-use Rattle.pid_types.specs.declared.plain.Row.{Row}
-use Rattle.pid_types.specs.Membership.{IsIn}
-use Rattle.pid_types.specs.Chains.{climb}
-use Rattle.pid_types.specs.State.{State}
-use Rattle.pid_types.specs.Names.{root_number, is_live, row_at, task_at}
-use Rattle.pid_types.specs.Exit.{parent_number, ancestors, is_subreaper_in, nearest_subreaper, new_parent}
-use Rattle.pid_types.specs.Sound.{IsCoherent}
+use Rattle.model_laws.proofs.Words.{Row, IsIn, climb, State, root_number, is_live, row_at, task_at, parent_number, ancestors, is_subreaper_in, nearest_subreaper, new_parent, IsCoherent}
 use Rattle.model_laws.specs.ParentLaws.{IsAbove, IsNearestSubreaper, HasNoSubreaper, TakesOrphans, NewParentIsNearest}
 use Rattle.model_laws.proofs.Chains.{climb-None, climb-Some, climb_cases}
 use Rattle.model_laws.proofs.Rising.{unique_key}

@@ -1,15 +1,7 @@
 -- A task that is put into a group and a session.
-use Rattle.std.proofs.Common.{◌≡◌, true, Some, map, sym, ap, ◌∙◌, subst, ◌⊎◌, inl, inr}
-use Rattle.std.specs.Prelude.{if◌then◌else◌}
+use Rattle.std.proofs.Common.{◌≡◌, true, Some, map, sym, ap, ◌∙◌, subst, ◌⊎◌, inl, inr, if◌then◌else◌}
 use Rattle.std.proofs.lemmas.Bool.{cases_Bool}
-use Rattle.pid_types.specs.declared.plain.Name.{Name}
-use Rattle.pid_types.specs.declared.plain.Row.{Row}
-use Rattle.pid_types.specs.declared.plain.Control.{Control}
-use Rattle.pid_types.specs.State.{State}
-use Rattle.pid_types.specs.Names.{is_live, same_name, names_in_use, on_row}
-use Rattle.pid_types.specs.Controls.{control_at}
-use Rattle.pid_types.specs.Membership.{IsIn}
-use Rattle.pid_types.specs.Sound.{HasGoodChildrenSpace, HasGoodGroups, IsSound}
+use Rattle.model_laws.proofs.Words.{Name, Row, Control, State, is_live, same_name, names_in_use, on_row, control_at, IsIn, HasGoodChildrenSpace, HasGoodGroups, IsSound}
 use Rattle.model_laws.proofs.Lists.{IsIn-from_map}
 use Rattle.model_laws.proofs.Names.{on_row-keeps, on_row-both, same_name-true, same_name-refl, group_in_use, session_in_use}
 use Rattle.model_laws.proofs.Trees.{same_row}

@@ -1,25 +1,12 @@
 -- What a wait reaps is the least of the selected children that have ended.
-use Rattle.std.proofs.Common.{◌≡◌, ℕ, ◌≤◌, Bool, true, false, not, ◌&&◌, List, [], ◌∷◌, Option, Some, None, refl, ap, ◌∙◌, subst, inl, inr, arith}
-use Rattle.std.specs.Prelude.{nat_lt, if◌then◌else◌}
+use Rattle.std.proofs.Common.{◌≡◌, ℕ, ◌≤◌, Bool, true, false, not, ◌&&◌, List, [], ◌∷◌, Option, Some, None, refl, ap, ◌∙◌, subst, inl, inr, arith, nat_lt, if◌then◌else◌}
 use Rattle.std.specs.Option.{option_map_or}
 use Rattle.std.proofs.lemmas.Bool.{and_parts, and_from, ltb-true, ltb-false, not-true, not_from_false, cases_Bool}
-use Rattle.pid_types.specs.declared.call.Which.{Which}
-use Rattle.pid_types.specs.declared.plain.Row.{Row}
-use Rattle.pid_types.specs.declared.plain.Ended.{Ended}
-use Rattle.pid_types.specs.declared.plain.Life.{Life}
-use Rattle.pid_types.specs.declared.plain.Life.TheVariants.{Live, Zombie}
-use Rattle.pid_types.specs.declared.plain.Ended.TheVariants.{Killed}
-use Rattle.pid_types.specs.declared.reply.Reply.TheVariants.{Reaped, NoneYet}
-use Rattle.pid_types.specs.Membership.{IsIn}
-use Rattle.pid_types.specs.State.{State}
-use Rattle.pid_types.specs.Names.{number_or_zero, is_parent, is_live, live_row}
-use Rattle.pid_types.specs.Outcome.{Outcome}
-use Rattle.pid_types.specs.Wait.{is_selected, matching, least_row, end_of, ended_children}
+use Rattle.model_laws.proofs.Words.{Which, Row, Ended, Life, Live, Zombie, Killed, Reaped, NoneYet, IsIn, State, number_or_zero, is_parent, is_live, live_row, Outcome, is_selected, matching, least_row, end_of, ended_children, Wait}
 use Rattle.model_laws.specs.WaitLaws.{MayBeReaped, IsReaped}
 use Rattle.model_laws.proofs.Lists.{IsIn-filter, IsIn-from_filter}
 use Rattle.model_laws.proofs.Names.{is_parent-true, is_parent-from}
 use Rattle.model_laws.proofs.Calls.{Comes, still, waits, reaped, no_answer}
-use Rattle.pid_types.specs.declared.call.Call.TheVariants.{Wait}
 use Rattle.model_laws.proofs.EndsKept.{least_row-IsIn}
 use Rattle.model_laws.proofs.Refusals.{Decides-selected}
 

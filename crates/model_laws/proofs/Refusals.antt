@@ -1,43 +1,16 @@
 -- Refusals come in their order, and change nothing.
-use Rattle.std.proofs.Common.{◌≡◌, ℕ, suc, ◌+◌, ◌<◌, ◌≤◌, ℤ, pos, negsuc, max, Bool, true, false, not, ◌&&◌, ◌||◌, ◌==◌, List, [], ◌∷◌, length, Option, Some, None, cond, Decides, refl, sym, ap, ◌∙◌, subst, inl, inr, arith}
-use Rattle.std.specs.Prelude.{if◌then◌else◌, find, filter, is_none, nat_lt, nat_le, option_map, IsTrue}
+use Rattle.std.proofs.Common.{◌≡◌, ℕ, suc, ◌+◌, ◌<◌, ◌≤◌, ℤ, pos, negsuc, max, Bool, true, false, not, ◌&&◌, ◌||◌, ◌==◌, List, [], ◌∷◌, length, Option, Some, None, cond, Decides, refl, sym, ap, ◌∙◌, subst, inl, inr, arith, if◌then◌else◌, find, filter, is_none, nat_lt, nat_le, option_map, IsTrue}
 use Rattle.std.specs.Option.{option_map_or, option_eq}
 use Rattle.std.specs.List.{list_any}
 use Rattle.std.proofs.lemmas.Bool.{eqb-true, eq-eqb, eqb-false, ne_eqb, and_parts, and_from, not-true, not_from_false, ltb-true, lt-ltb, leb-true, le-leb}
 use Rattle.std.proofs.lemmas.Bool.Decides.{Decides-eqb, Decides-ltb, Decides-and, Decides-or, Decides-not, Decides-like, not_from_Decides}
-use Rattle.pid_types.specs.declared.call.Call.{Call}
-use Rattle.pid_types.specs.declared.call.Call.TheVariants.{Fork, GetPid, NsPid, Exec, Exit, Wait, GetPpid, SetPgid, SetSid, MakeControl, RemoveControl, SetLimit, Move, Count, GetPgid, GetSid, Next, Join, SetSubreaper}
-use Rattle.pid_types.specs.declared.call.Which.{Which}
+use Rattle.model_laws.proofs.Words.{Call, Fork, GetPid, NsPid, Exec, Exit, Wait, GetPpid, SetPgid, SetSid, MakeControl, RemoveControl, SetLimit, Move, Count, GetPgid, GetSid, Next, Join, SetSubreaper, Which, Name, Row, Space, Reply, Done, Number, Reaped, NoneYet, End, Refused, Control, Refusal, NoCaller, NoTask, NoChild, NoNumber, PidsLimit, SpaceFallen, TooDeep, Elsewhere, BadGroup, OtherSession, IsLeader, NoGroup, Executed, RootInit, NoControl, ControlBusy, RootControl, BadLimit, ControlDepth, deepest_space, deepest_control, greatest_limit, IsIn, contains, least_of, State, space_at, path_up, level, number, root_number, number_or_zero, is_numbered, same_name, is_parent, is_live, live_row, task_at, taken, restart, cyclic_draw, cursor_of, draw, control_at, control_path, count, is_limited_below, passed_limit, Outcome, answered, changed, for_found, unless_found, refuse_if, by_caller, fork, forked, no_room, with_space, is_gone, is_init, rows_after_exit, fall, exit, is_selected, matching, least_row, end_of, without_row, wait, is_negative, target_of, session_group, group_for, has_members, set_group_of, set_pgid, set_sid, asked_by, self_or_task, numbers_by, get_pid, get_ppid, get_pgid, get_sid, ns_pid, next, on_control, is_busy, exec, make_control, remove_control, set_limit, move_task, count_tasks, join, set_subreaper, step}
 use Rattle.pid_types.specs.declared.call.Which.TheVariants.{Any, Pid, OwnGroup, Group}
-use Rattle.pid_types.specs.declared.plain.Name.{Name}
-use Rattle.pid_types.specs.declared.plain.Row.{Row}
-use Rattle.pid_types.specs.declared.plain.Space.{Space}
-use Rattle.pid_types.specs.declared.reply.Reply.{Reply}
-use Rattle.pid_types.specs.declared.reply.Reply.TheVariants.{Done, Number, Reaped, NoneYet, End, Refused}
-use Rattle.pid_types.specs.declared.plain.Control.{Control}
-use Rattle.pid_types.specs.declared.reply.Refusal.{Refusal}
-use Rattle.pid_types.specs.declared.reply.Refusal.TheVariants.{NoCaller, NoTask, NoChild, NoNumber, PidsLimit, SpaceFallen, TooDeep, Elsewhere, BadGroup, OtherSession, IsLeader, NoGroup, Executed, RootInit, NoControl, ControlBusy, RootControl, BadLimit, ControlDepth}
-use Rattle.pid_types.specs.Bounds.{deepest_space, deepest_control, greatest_limit}
-use Rattle.pid_types.specs.Membership.{IsIn}
-use Rattle.pid_types.specs.Chains.{contains, least_of}
-use Rattle.pid_types.specs.State.{State}
-use Rattle.pid_types.specs.Names.{space_at, path_up, level, number, root_number, number_or_zero, is_numbered, same_name, is_parent, is_live, live_row, task_at, taken}
-use Rattle.pid_types.specs.Draw.{restart, cyclic_draw, cursor_of, draw}
-use Rattle.pid_types.specs.Controls.{control_at, control_path, count, is_limited_below, passed_limit}
-use Rattle.pid_types.specs.Outcome.{Outcome, answered, changed, for_found, unless_found, refuse_if, by_caller}
-use Rattle.pid_types.specs.Fork.{fork, forked, no_room, with_space, is_gone}
-use Rattle.pid_types.specs.Exit.{is_init, rows_after_exit, fall, exit}
-use Rattle.pid_types.specs.Wait.{is_selected, matching, least_row, end_of, without_row, wait}
-use Rattle.pid_types.specs.Groups.{is_negative, target_of, session_group, group_for, has_members, set_group_of, set_pgid, set_sid}
-use Rattle.pid_types.specs.Queries.{asked_by, self_or_task, numbers_by, get_pid, get_ppid, get_pgid, get_sid, ns_pid, next}
-use Rattle.pid_types.specs.Changes.{on_control, is_busy, exec, make_control, remove_control, set_limit, move_task, count_tasks, join, set_subreaper}
-use Rattle.pid_types.specs.Step.{step}
 use Rattle.model_laws.specs.Draws.{IsCyclicDraw, IsLeastFree}
 use Rattle.model_laws.specs.Refusals.{goes_on, refuse, find_one, refuse_first, IsLiveTask, IsTaskTo, IsSelfOrTask, IsTarget, IsChild, IsSelected, NamesTarget, IsSessionGroup, IsGroupFor, IsSpace, IsControl, IsBusy, HasNoNumber, wants_room, forks, changes_group, by_live, wants_number, verdict, refusal_in, is_query}
 use Rattle.model_laws.proofs.Lists.{IsIn-filter, IsIn-from_filter, find-Some, find-None, some_passes, list_any-from_one}
 use Rattle.model_laws.proofs.Names.{option_eq-true, is_parent-true, is_parent-from, same_name-true, same_name-refl, is_numbered-true, is_numbered-from}
 use Rattle.model_laws.proofs.Draws.{cyclic_draw-IsCyclicDraw}
-use Rattle.model_laws.proofs.Trees.{space_at-Some, control_at-Some, live_row-Some}
 use Rattle.model_laws.proofs.Calls.{Comes, still, waits}
 
 -- ---- nothing changes

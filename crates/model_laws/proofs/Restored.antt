@@ -1,18 +1,8 @@
 -- What makes a saved table again leaves a sound state.
-use Rattle.std.proofs.Common.{◌≡◌, ℕ, ◌<◌, Bool, true, false, not, List, map, Option, Some, None, refl, sym, ap, ◌∙◌, subst, inl, inr}
-use Rattle.std.specs.Prelude.{if◌then◌else◌}
+use Rattle.std.proofs.Common.{◌≡◌, ℕ, ◌<◌, Bool, true, false, not, map, Option, Some, None, refl, sym, ap, ◌∙◌, subst, inl, inr, if◌then◌else◌}
 use Rattle.std.specs.Option.{option_map_or}
 use Rattle.std.proofs.lemmas.Bool.{or_cases, not-true}
-use Rattle.pid_types.specs.declared.plain.Name.{Name}
-use Rattle.pid_types.specs.declared.plain.Row.{Row}
-use Rattle.pid_types.specs.declared.plain.Space.{Space}
-use Rattle.pid_types.specs.State.{State}
-use Rattle.pid_types.specs.Names.{path_up, number, same_name, live_row, with_row}
-use Rattle.pid_types.specs.Outcome.{sweep}
-use Rattle.pid_types.specs.Groups.{has_members}
-use Rattle.pid_types.specs.Restore.{enlist, may_enlist, enlisted, put_cursor, with_cursor}
-use Rattle.pid_types.specs.Membership.{IsIn}
-use Rattle.pid_types.specs.Sound.{HasLiveInit, IsEmptied, IsSound}
+use Rattle.model_laws.proofs.Words.{Row, Space, State, number, same_name, live_row, with_row, sweep, has_members, enlist, may_enlist, enlisted, put_cursor, with_cursor, IsIn, IsSound}
 use Rattle.model_laws.specs.RestoreLaws.{StaysSound}
 use Rattle.model_laws.proofs.Lists.{IsIn-from_map, list_any-from_one}
 use Rattle.model_laws.proofs.Names.{same_name-true, same_name-refl, own_name_in_use, session_in_use}

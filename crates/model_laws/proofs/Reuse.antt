@@ -1,33 +1,17 @@
 -- No number is handed out twice.
-use Rattle.std.proofs.Common.{◌≡◌, ℕ, zero, suc, ◌+◌, ◌<◌, true, List, [], ◌∷◌, length, take, Some, refl, sym, ap, ◌∙◌, subst, inl, arith, add-one}
-use Rattle.std.specs.Prelude.{slice_get}
+use Rattle.std.proofs.Common.{◌≡◌, ℕ, zero, suc, ◌+◌, ◌<◌, true, List, [], ◌∷◌, length, take, Some, refl, sym, ap, ◌∙◌, subst, inl, arith, add-one, slice_get}
 use Rattle.std.proofs.lemmas.Bool.{eqb-true}
 use Rattle.std.proofs.lemmas.List.{length-map, length-take-le}
 use Rattle.std.proofs.lemmas.Option.{slice_get_within}
-use Rattle.pid_types.specs.declared.call.Call.{Call}
-use Rattle.pid_types.specs.declared.plain.Name.{Name}
-use Rattle.pid_types.specs.declared.plain.Row.{Row}
-use Rattle.pid_types.specs.declared.plain.Space.{Space}
-use Rattle.pid_types.specs.declared.reply.Reply.TheVariants.{Forked}
-use Rattle.pid_types.specs.declared.entry.Entry.{Entry}
-use Rattle.pid_types.specs.State.{State}
-use Rattle.pid_types.specs.Names.{path_up, number, root_number, is_live, row_at, names_in_use}
-use Rattle.pid_types.specs.Outcome.{Outcome, sweep}
-use Rattle.pid_types.specs.Fork.{child_of, with_child, with_cursors}
-use Rattle.pid_types.specs.Step.{step}
-use Rattle.pid_types.specs.Replay.{calls_of, Along, RepliesAsOne, Replays}
-use Rattle.pid_types.specs.Membership.{IsIn}
-use Rattle.pid_types.specs.Sound.{IsCoherent, IsSound, IsBelow}
+use Rattle.model_laws.proofs.Words.{Call, Name, Row, Space, Forked, Entry, State, path_up, number, root_number, is_live, row_at, names_in_use, Outcome, sweep, child_of, with_child, with_cursors, step, calls_of, Along, RepliesAsOne, Replays, IsIn, IsCoherent, IsSound, IsBelow, forked, moved_cursor}
 use Rattle.model_laws.specs.ReuseLaws.{state_at, IsInUse, ShareNumber}
 use Rattle.model_laws.proofs.Names.{user_of_name, IsIn-names_in_use}
 use Rattle.model_laws.proofs.Trees.{row_at-listed, live_row-Some}
 use Rattle.model_laws.proofs.Inserts.{IsIn-insert_new, IsIn-insert_old}
 use Rattle.model_laws.proofs.Sweeps.{name_number}
 use Rattle.model_laws.proofs.Calls.{MayFork, Comes, still, born, born_first, no_answer, step_comes}
-use Rattle.pid_types.specs.Fork.{forked}
 use Rattle.model_laws.proofs.ForkKept.{IsReady, IsReady-old, IsReady-new, with_new, fresh, IsCoherent-forked}
 use Rattle.model_laws.proofs.SpaceMaps.{number-map_spaces}
-use Rattle.pid_types.specs.Fork.{moved_cursor}
 use Rattle.model_laws.proofs.StepKept.{step_keeps, run_keeps}
 
 -- ---- one fork

@@ -1,9 +1,7 @@
 -- Lists that rise by a key.
-use Rattle.std.proofs.Common.{◌≡◌, ℕ, ◌<◌, Bool, true, false, ◌==◌, List, [], ◌∷◌, ◌++◌, map, Some, cond, refl, sym, ap, ◌∙◌, subst, inl, inr, arith}
-use Rattle.std.specs.Prelude.{filter, find}
+use Rattle.std.proofs.Common.{◌≡◌, ℕ, ◌<◌, Bool, true, false, ◌==◌, List, [], ◌∷◌, ◌++◌, map, Some, cond, refl, sym, ap, ◌∙◌, subst, inl, inr, arith, filter, find}
 use Rattle.std.proofs.lemmas.Bool.{eqb-true, eq-eqb}
-use Rattle.pid_types.specs.Membership.{IsIn}
-use Rattle.pid_types.specs.Sound.{IsRising}
+use Rattle.model_laws.proofs.Words.{IsIn, IsRising}
 use Rattle.model_laws.proofs.Lists.{IsIn-map, IsIn-from_map, IsIn-from_filter, find-Some, find-only, IsIn-append}
 
 -- what is left out of a rising list leaves it rising

@@ -1,20 +1,7 @@
 -- Calls that change fields of rows, and no name, parent or life.
-use Rattle.std.proofs.Common.{◌≡◌, ℕ, true, ◌==◌, List, [], ◌∷◌, map, length, Option, Some, None, refl, sym, ap, ◌∙◌, subst, inl, inr}
-use Rattle.std.specs.Prelude.{option_map, option_and_then}
-use Rattle.std.proofs.Math.Path.{fun_ext}
-use Rattle.std.proofs.lemmas.List.{length-map}
-use Rattle.pid_types.specs.declared.plain.Name.{Name}
-use Rattle.pid_types.specs.declared.plain.Row.{Row}
-use Rattle.pid_types.specs.declared.plain.Control.{Control}
-use Rattle.pid_types.specs.Chains.{climb}
-use Rattle.pid_types.specs.State.{State}
-use Rattle.pid_types.specs.Names.{path_up, number, root_number, is_live, row_at, names_in_use}
-use Rattle.pid_types.specs.Controls.{control_at}
-use Rattle.pid_types.specs.Exit.{parent_number}
-use Rattle.pid_types.specs.Membership.{IsIn}
-use Rattle.pid_types.specs.Sound.{IsRising, HasGoodParents, HasGoodChildrenSpace, HasGoodGroups, IsCoherent}
-use Rattle.model_laws.proofs.Lists.{IsIn-map, IsIn-from_map, find-map, find-same}
-use Rattle.model_laws.proofs.Names.{Uses, user_of_name, own_name_in_use}
+use Rattle.std.proofs.Common.{◌≡◌, ℕ, ◌==◌, List, [], ◌∷◌, map, Some, refl, sym, ap, ◌∙◌, subst, option_map}
+use Rattle.model_laws.proofs.Words.{Row, Control, State, root_number, is_live, row_at, names_in_use, control_at, IsIn, HasGoodChildrenSpace, HasGoodGroups}
+use Rattle.model_laws.proofs.Lists.{IsIn-from_map, find-map, find-same}
 
 -- ---- rows that keep their names
 

@@ -1,12 +1,6 @@
 -- Changes of namespaces that keep their ids and parents.
-use Rattle.std.proofs.Common.{◌≡◌, ℕ, List, map, length, sym, ap, ◌∙◌, subst, inl, inr}
-use Rattle.std.specs.Prelude.{option_map}
-use Rattle.pid_types.specs.declared.plain.Name.{Name}
-use Rattle.pid_types.specs.declared.plain.Row.{Row}
-use Rattle.pid_types.specs.declared.plain.Space.{Space}
-use Rattle.pid_types.specs.Names.{space_at, path_up, number}
-use Rattle.pid_types.specs.Membership.{IsIn}
-use Rattle.pid_types.specs.Sound.{IsWellNumbered, HasGoodParents, HasGoodChildrenSpace, IsTreeOfSpaces}
+use Rattle.std.proofs.Common.{◌≡◌, ℕ, List, map, length, sym, ap, ◌∙◌, subst, inl, inr, option_map}
+use Rattle.model_laws.proofs.Words.{Name, Row, Space, space_at, path_up, number, IsIn, IsWellNumbered, HasGoodParents, HasGoodChildrenSpace, IsTreeOfSpaces}
 use Rattle.model_laws.proofs.Forests.{at-map, chain-map, IsTree-map}
 use Rattle.model_laws.proofs.Names.{number-same_path}
 

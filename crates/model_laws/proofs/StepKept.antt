@@ -1,24 +1,8 @@
 -- Every call leaves a sound state, and the root namespace stands.
-use Rattle.std.proofs.Common.{◌≡◌, ℕ, suc, ◌+◌, ◌<◌, true, false, List, [], ◌∷◌, length, Some, refl, sym, ap, ◌∙◌, subst, inl, inr, arith}
-use Rattle.std.specs.Prelude.{IfSome}
+use Rattle.std.proofs.Common.{◌≡◌, ℕ, suc, ◌+◌, ◌<◌, true, false, List, [], ◌∷◌, length, Some, refl, sym, ap, ◌∙◌, subst, inl, inr, arith, IfSome}
 use Rattle.std.specs.Option.{option_map_or}
-use Rattle.pid_types.specs.declared.call.Call.{Call}
-use Rattle.pid_types.specs.declared.plain.Row.{Row}
-use Rattle.pid_types.specs.declared.plain.Space.{Space}
-use Rattle.pid_types.specs.declared.plain.Control.{Control}
-use Rattle.pid_types.specs.Settings.{HasGoodPidMax}
-use Rattle.pid_types.specs.Chains.{climb}
-use Rattle.pid_types.specs.State.{State, root_state, root_init, root_name}
-use Rattle.pid_types.specs.Membership.{IsIn}
-use Rattle.pid_types.specs.declared.plain.Name.{Name}
-use Rattle.pid_types.specs.Names.{path_up, number, names_in_use}
-use Rattle.pid_types.specs.Controls.{control_at, control_path}
-use Rattle.pid_types.specs.Fork.{is_gone}
-use Rattle.pid_types.specs.Step.{step, makes_id}
-use Rattle.pid_types.specs.Replay.{state_after}
-use Rattle.pid_types.specs.Sound.{IsSound, IsBelow, IsWellNumbered, HasGoodParents}
+use Rattle.model_laws.proofs.Words.{Call, Row, Space, Control, HasGoodPidMax, climb, State, root_state, root_init, root_name, IsIn, Name, path_up, number, names_in_use, control_at, control_path, is_gone, step, makes_id, state_after, IsSound, IsBelow, IsWellNumbered, HasGoodParents, space_at, Outcome, fall, set_group, start_session, set_executed, set_home, set_mark}
 use Rattle.model_laws.specs.Script.{EndsSound}
-use Rattle.pid_types.specs.Names.{space_at}
 use Rattle.model_laws.proofs.Trees.{space_at-Some, live_row-Some}
 use Rattle.model_laws.proofs.Names.{is_numbered-true}
 use Rattle.model_laws.proofs.Kept.{Keeps, Keeps-same, Keeps-next, Keeps-changed, Keeps-on_row, Keeps-placed, join_keeps, group_for-IsOpen, target_of-IsIn, target_session, IsOpen-new}
@@ -26,10 +10,6 @@ use Rattle.model_laws.proofs.ControlsKept.{make_control_keeps, remove_control_ke
 use Rattle.model_laws.proofs.EndsKept.{wait_keeps, IsCoherent-fall, IsBelow-fall}
 use Rattle.model_laws.proofs.ExitKept.{exit_keeps}
 use Rattle.model_laws.proofs.ForkKept.{forked_keeps, forked_first_keeps}
-use Rattle.pid_types.specs.Outcome.{Outcome}
-use Rattle.pid_types.specs.Exit.{fall}
-use Rattle.pid_types.specs.Groups.{set_group, start_session}
-use Rattle.pid_types.specs.Changes.{set_executed, set_home, set_mark}
 use Rattle.model_laws.proofs.Calls.{Comes, still, born, born_first, fell, handed_on, waits, reaped, grouped, led, executed, control_made, control_removed, limit_set, moved, joined, marked, step_comes}
 
 -- a call that makes nothing with an id leaves a sound state, whose ids are below the stamp

@@ -1,20 +1,6 @@
 -- Paths are chains of parents, and a count is the number of tasks whose home is in the subtree.
-use Rattle.std.proofs.Common.{◌≡◌, ℕ, zero, suc, Bool, true, false, List, [], ◌∷◌, length, Option, Some, None, refl, sym, ap, ◌∙◌, subst, inl, inr}
-use Rattle.std.specs.Prelude.{filter, option_and_then}
-use Rattle.pid_types.specs.declared.plain.Row.{Row}
-use Rattle.pid_types.specs.declared.plain.Control.{Control}
-use Rattle.pid_types.specs.declared.plain.ControlRow.{ControlRow}
-use Rattle.pid_types.specs.declared.reply.Reply.TheVariants.{Counted}
-use Rattle.pid_types.specs.declared.reply.Refusal.TheVariants.{NoControl}
-use Rattle.pid_types.specs.Membership.{IsIn}
-use Rattle.pid_types.specs.Chains.{climb}
-use Rattle.pid_types.specs.Names.{parent_space, path_up}
-use Rattle.pid_types.specs.Controls.{control_at, parent_control, control_path, is_below, count}
-use Rattle.pid_types.specs.Outcome.{answered, for_found}
-use Rattle.pid_types.specs.Changes.{count_tasks}
-use Rattle.pid_types.specs.Step.{step}
-use Rattle.pid_types.specs.Shown.{with_count}
-use Rattle.pid_types.specs.Sound.{IsTreeOfControls}
+use Rattle.std.proofs.Common.{◌≡◌, ℕ, zero, suc, Bool, true, false, List, [], ◌∷◌, length, Option, Some, None, refl, sym, ap, ◌∙◌, subst, inl, inr, filter, option_and_then}
+use Rattle.model_laws.proofs.Words.{Row, Control, ControlRow, Counted, NoControl, IsIn, climb, parent_space, path_up, control_at, parent_control, control_path, is_below, count, answered, for_found, count_tasks, step, with_count, IsTreeOfControls}
 use Rattle.model_laws.specs.PathLaws.{IsChain, IsPathOf, IsInSubtree, PathsAreChains, CountIsOfSubtree, SubtreeIsTold, CountsAreOfSubtrees}
 use Rattle.model_laws.proofs.Lists.{IsIn-from_map, IsIn-from_contains, contains-from_IsIn}
 use Rattle.model_laws.proofs.Chains.{Stops, Stops-at_root, climb-None, climb-Some, climb_cases, IsIn-climb_first}

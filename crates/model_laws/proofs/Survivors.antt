@@ -1,23 +1,12 @@
 -- Changes by which rows go and change, and namespaces fall.
-use Rattle.std.proofs.Common.{◌≡◌, ℕ, Bool, true, false, List, map, length, Some, None, refl, sym, ap, ◌∙◌, subst, inl, inr}
-use Rattle.std.specs.Prelude.{filter, option_map}
-use Rattle.pid_types.specs.declared.plain.Name.{Name}
-use Rattle.pid_types.specs.declared.plain.Row.{Row}
-use Rattle.pid_types.specs.declared.plain.Space.{Space}
-use Rattle.pid_types.specs.declared.plain.Control.{Control}
-use Rattle.pid_types.specs.Chains.{climb}
-use Rattle.pid_types.specs.State.{State}
-use Rattle.pid_types.specs.Names.{space_at, path_up, number, root_number, is_live, row_at, names_in_use}
-use Rattle.pid_types.specs.Controls.{control_at}
-use Rattle.pid_types.specs.Exit.{parent_number}
-use Rattle.pid_types.specs.Membership.{IsIn}
-use Rattle.pid_types.specs.Sound.{IsRising, HasGoodParents, HasGoodChildrenSpace, HasGoodGroups, HasLiveInit, IsEmptied, IsCoherent}
+use Rattle.std.proofs.Common.{◌≡◌, ℕ, Bool, true, false, List, map, length, Some, None, refl, sym, ap, ◌∙◌, subst, inl, inr, filter, option_map}
 use Rattle.std.proofs.lemmas.List.{map-id}
+use Rattle.model_laws.proofs.Words.{Name, Row, Space, Control, climb, State, path_up, number, root_number, is_live, row_at, names_in_use, control_at, parent_number, IsIn, IsRising, HasGoodParents, HasGoodChildrenSpace, HasGoodGroups, HasLiveInit, IsEmptied, IsCoherent}
 use Rattle.model_laws.proofs.Lists.{IsIn-map, IsIn-from_map, IsIn-filter, IsIn-from_filter, filter-all}
 use Rattle.model_laws.proofs.Names.{Uses, user_of_name, IsIn-names_in_use, group_in_use, session_in_use}
 use Rattle.model_laws.proofs.Rising.{IsRising-filter, unique_key}
 use Rattle.model_laws.proofs.Trees.{row_at-listed}
-use Rattle.model_laws.proofs.RowMaps.{KeepsRows, roots-map, HasGoodGroups-map}
+use Rattle.model_laws.proofs.RowMaps.{KeepsRows, roots-map}
 use Rattle.model_laws.proofs.SpaceMaps.{HasGoodParents-map, HasGoodChildrenSpace-map, path_up-map, number-map_spaces, IsTreeOfSpaces-map, IsWellNumbered-map}
 use Rattle.model_laws.proofs.Ancestry.{Far-same, IsIn-roots, parent_number-at, chain-in_rows, top_row, row_far, parent_row}
 

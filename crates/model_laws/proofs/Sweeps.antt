@@ -1,15 +1,7 @@
 -- The sweep takes away no namespace in which a name in use has a number, and leaves a sound state.
-use Rattle.std.proofs.Common.{◌≡◌, ℕ, Bool, true, false, not, ◌==◌, List, [], ◌∷◌, length, Option, Some, None, refl, sym, ap, ◌∙◌, subst, inl, inr, arith}
-use Rattle.std.specs.Prelude.{option_and_then}
+use Rattle.std.proofs.Common.{◌≡◌, ℕ, Bool, true, false, not, ◌==◌, List, [], ◌∷◌, length, Option, Some, None, refl, sym, ap, ◌∙◌, subst, inl, inr, arith, option_and_then}
 use Rattle.std.proofs.lemmas.Bool.{eqb-true, ne_eqb, and_left, and_right, not_from_false, not-true}
-use Rattle.pid_types.specs.declared.plain.Name.{Name}
-use Rattle.pid_types.specs.declared.plain.Row.{Row}
-use Rattle.pid_types.specs.declared.plain.Space.{Space}
-use Rattle.pid_types.specs.State.{State}
-use Rattle.pid_types.specs.Names.{space_at, parent_space, path_up, number, names_in_use, taken}
-use Rattle.pid_types.specs.Outcome.{is_dead, sweep}
-use Rattle.pid_types.specs.Membership.{IsIn}
-use Rattle.pid_types.specs.Sound.{HasGoodChildrenSpace, IsTreeOfSpaces, IsCoherent, IsSound}
+use Rattle.model_laws.proofs.Words.{Name, Row, Space, State, space_at, parent_space, path_up, number, names_in_use, taken, is_dead, sweep, IsIn, HasGoodChildrenSpace, IsTreeOfSpaces, IsCoherent, IsSound}
 use Rattle.model_laws.proofs.Lists.{IsIn-filter, IsIn-from_filter, find-filter}
 use Rattle.model_laws.proofs.Chains.{climb-same}
 use Rattle.model_laws.proofs.Names.{number-on_path, number-within, number-same_path, own_name_in_use, IsIn-taken, user_of_number}
