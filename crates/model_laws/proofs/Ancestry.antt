@@ -50,22 +50,12 @@ Far-unique f top (suc j) (suc k) n a b =
 -- a filter that leaves an element out is shorter
 length-filter_less : {X : Type 0} (p : X → Bool) (xs : List X) → length (filter p xs) ≤ length xs
 length-filter_less p [] = omega arith
-length-filter_less {X} p (x ∷ xs) = go (length-filter_less p xs) (p x)
-  where
-    go : length (filter p xs) ≤ length xs → (b : Bool) → length (cond b (x ∷ filter p xs) (filter p xs)) ≤ suc (length xs)
-    go h true = omega arith
-    go h false = omega arith
+length-filter_less p (x ∷ xs) = grind (arith, length-filter_less p xs)
 
 -- and by one element less at least, where one does not pass
 length-filter_out : {X : Type 0} (p : X → Bool) (xs : List X) (x : X) → IsIn x xs → p x ≡ false → length (filter p xs) < length xs
 length-filter_out p [] x i e = elim i [ ]
-length-filter_out p (y ∷ xs) x (inl same) e =
-    rw (ap p (sym same) ∙ e) (let l : length (filter p xs) ≤ length xs = length-filter_less p xs in omega arith)
-length-filter_out {X} p (y ∷ xs) x (inr i) e = go (length-filter_out p xs x i e) (p y)
-  where
-    go : length (filter p xs) < length xs → (b : Bool) → length (cond b (y ∷ filter p xs) (filter p xs)) < suc (length xs)
-    go h true = omega arith
-    go h false = omega arith
+length-filter_out p (y ∷ xs) x i e = grind (arith, length-filter_less p xs, length-filter_out p xs x)
 
 -- the numbers from which number 1 is reached are at least as many as the steps
 steps_below_length : (f : ℕ → Option ℕ) → f 1 ≡ None → (k n : ℕ) (ns : List ℕ) → Far f k n → ((j x : ℕ) → j ≤ k → Far f j x → IsIn x ns)
@@ -87,17 +77,7 @@ steps_below_length f top (suc k) n ns far all =
 -- the row at a number, and its parent
 parent_number-row : (rows : List Row) (n p : ℕ) → parent_number rows n ≡ Some p
     → (r : Row) × (a : Name) × (row_at rows n ≡ Some r) × (r.parent ≡ Some a) × (root_number a ≡ p)
-parent_number-row rows n p h = go (row_at rows n) refl h
-  where
-    named : (r : Row) (o : Option Name) → row_at rows n ≡ Some r → r.parent ≡ o → option_map root_number o ≡ Some p
-        → (r : Row) × (a : Name) × (row_at rows n ≡ Some r) × (r.parent ≡ Some a) × (root_number a ≡ p)
-    named r None e f g = absurd (cc)
-    named r (Some a) e f g = (r, a, e, f, (let same : root_number a ≡ p = cc in same))
-
-    go : (o : Option Row) → row_at rows n ≡ o → option_and_then (λ (r : Row). option_map root_number r.parent) o ≡ Some p
-        → (r : Row) × (a : Name) × (row_at rows n ≡ Some r) × (r.parent ≡ Some a) × (root_number a ≡ p)
-    go None e g = absurd (cc)
-    go (Some r) e g = named r r.parent e refl g
+parent_number-row rows n p h = grind arith
 
 -- the number of the parent of the row that stands there
 pub parent_number-at : (rows : List Row) (n : ℕ) (r : Row) → row_at rows n ≡ Some r → parent_number rows n ≡ option_map root_number r.parent

@@ -30,12 +30,7 @@ same_name-refl a b e =
 pub beside-IsIn : (s : ℕ) (ts ns : List ℕ) (n : ℕ) → beside s ts ns ≡ Some n → IsIn s ts × IsIn n ns
 beside-IsIn s [] ns n h = absurd (cc)
 beside-IsIn s (t ∷ ts) [] n h = absurd (cc)
-beside-IsIn s (t ∷ ts) (m ∷ ns) n h = go (λ e. beside-IsIn s ts ns n e) (t == s) refl h
-  where
-    go : (beside s ts ns ≡ Some n → IsIn s ts × IsIn n ns) → (b : Bool) → (t == s) ≡ b → cond b (Some m) (beside s ts ns) ≡ Some n
-        → IsIn s (t ∷ ts) × IsIn n (m ∷ ns)
-    go rest true e f = let same : n ≡ m = cc in (inl (sym (eqb-true t s e)), inl same)
-    go rest false e f = (inr (rest f).0, inr (rest f).1)
+beside-IsIn s (t ∷ ts) (m ∷ ns) n h = grind (arith, beside-IsIn s ts ns n, eqb-true t s)
 
 -- where there is a number for each id, there is one beside each
 pub beside-Some : (s : ℕ) (ts ns : List ℕ) → length ts ≤ length ns → IsIn s ts → (n : ℕ) × (beside s ts ns ≡ Some n)
@@ -46,8 +41,7 @@ beside-Some s (t ∷ ts) (m ∷ ns) h i = go (λ j. beside-Some s ts ns (omega a
     go : (IsIn s ts → (n : ℕ) × (beside s ts ns ≡ Some n)) → (b : Bool) → (t == s) ≡ b → IsIn s (t ∷ ts)
         → (n : ℕ) × (cond b (Some m) (beside s ts ns) ≡ Some n)
     go rest true e j = (m, refl)
-    go rest false e (inl same) = let yes : (t == s) ≡ true = eq-eqb t s (sym same) in absurd (cc)
-    go rest false e (inr j) = rest j
+    go rest false e j = grind (arith, rest, eq-eqb t s)
 
 -- ---- the number of a name in a namespace
 
@@ -67,11 +61,7 @@ number-on_path spaces a s h i =
 
 -- off its path a name has no number
 pub number-off_path : (spaces : List Space) (a : Name) (s : ℕ) → (IsIn s (path_up spaces a.space) → ⊥) → number spaces a s ≡ None
-number-off_path spaces a s off = go (number spaces a s) refl
-  where
-    go : (o : Option ℕ) → number spaces a s ≡ o → number spaces a s ≡ None
-    go None e = e
-    go (Some n) e = absurd (off (number-within spaces a s n e).0)
+number-off_path spaces a s off = grind (arith, number-within spaces a s)
 
 -- a name's numbers are the same where its path is
 pub number-same_path : (spaces others : List Space) (a : Name) (s : ℕ) → path_up others a.space ≡ path_up spaces a.space
