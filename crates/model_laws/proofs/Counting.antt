@@ -2,6 +2,7 @@
 use Rattle.std.proofs.Common.{◌≡◌, ℕ, suc, ◌+◌, ◌<◌, Bool, true, false, not, ◌&&◌, ◌==◌, List, [], ◌∷◌, map, length, Option, Some, cond, refl, sym, ap, ◌∙◌, subst, inl, inr, arith, filter, if◌then◌else◌}
 use Rattle.std.specs.Option.{option_map_or}
 use Rattle.std.proofs.lemmas.Bool.{cases_Bool, not-true, eqb-true, eqb-false, not_from_false, false_from_ne_true}
+use Rattle.std.proofs.lemmas.Bool.Decides.{same_from_decides}
 use Rattle.model_laws.proofs.Words.{Call, Fork, Exit, Wait, Move, Which, Name, Row, Ended, Exited, Control, Reply, Forked, Done, Reaped, contains, State, root_number, same_name, is_live, live_row, number_or_zero, on_row, with_row, control_at, control_path, count, is_below, Outcome, sweep, changed, with_space, is_init, goes_in_fall, row_after_exit, rows_after_exit, row_after_fall, rows_after_fall, new_parent, fall, without_row, set_group, start_session, set_executed, with_control, is_busy, rehome, without_control, limited, with_limit, set_home, set_children_space, set_mark, IsIn, IsRising, IsTreeOfControls, IsSound, IsBelow}
 use Rattle.model_laws.specs.CountLaws.{one_if, may_change_counts}
 use Rattle.model_laws.proofs.Lists.{IsIn-map, IsIn-from_filter, IsIn-from_contains, contains-from_IsIn, filter-same, filter-all}
@@ -17,29 +18,13 @@ use Rattle.model_laws.proofs.Limits.{length-cond, count-forked}
 -- as many pass after the change as pass the test of what they become
 length-filter-map : (p : Row → Bool) (f : Row → Row) (rows : List Row) → length (filter p (map f rows)) ≡ length (filter (λ r. p (f r)) rows)
 length-filter-map p f [] = refl
-length-filter-map p f (r ∷ rows) = elim (cases_Bool (p (f r))) [
-  | inl e ↦ rw e (ap suc (length-filter-map p f rows))
-  | inr e ↦ rw e (length-filter-map p f rows)
-]
+length-filter-map p f (r ∷ rows) = grind (arith, length-filter-map p f rows)
 
 -- those that pass are those that stay and pass, and those that go and pass
 length-filter-split : (p t : Row → Bool) (rows : List Row)
     → length (filter p rows) ≡ length (filter p (filter (λ r. not (t r)) rows)) + length (filter (λ r. t r && p r) rows)
 length-filter-split p t [] = omega arith
-length-filter-split p t (r ∷ rows) = go (t r) (p r) refl (length-filter-split p t rows)
-  where
-    stay : List Row
-    stay = filter (λ x. not (t x)) rows
-
-    taken : List Row
-    taken = filter (λ x. t x && p x) rows
-
-    go : (a b : Bool) → p r ≡ b → length (filter p rows) ≡ length (filter p stay) + length taken
-        → length (cond b (r ∷ filter p rows) (filter p rows)) ≡ length (filter p (cond (not a) (r ∷ stay) stay)) + length (cond (a && b) (r ∷ taken) taken)
-    go true true e h = omega arith
-    go true false e h = h
-    go false true e h = rw e (omega arith)
-    go false false e h = rw e h
+length-filter-split p t (r ∷ rows) = grind (arith, length-filter-split p t rows)
 
 -- of rising rows the one that has the name
 length-filter-without : (p : Row → Bool) (rows : List Row) → IsRising (map (λ r. root_number r.name) rows) → (x : Row) → IsIn x rows
@@ -201,13 +186,7 @@ CountsSame-limited state id limit c reply = record {
 
 -- a number that is in one list exactly where it is in the other
 same_contains : (n : ℕ) (ns ms : List ℕ) → (IsIn n ns → IsIn n ms) → (IsIn n ms → IsIn n ns) → contains ns n ≡ contains ms n
-same_contains n ns ms to from = go (contains ns n) (contains ms n) refl refl
-  where
-    go : (a b : Bool) → contains ns n ≡ a → contains ms n ≡ b → contains ns n ≡ contains ms n
-    go true true e f = e ∙ sym f
-    go false false e f = e ∙ sym f
-    go true false e f = let yes : contains ms n ≡ true = contains-from_IsIn ms n (to (IsIn-from_contains ns n e)) in absurd (cc)
-    go false true e f = let yes : contains ns n ≡ true = contains-from_IsIn ns n (from (IsIn-from_contains ms n f)) in absurd (cc)
+same_contains n ns ms to from = same_from_decides _ _ (IsIn-from_contains ns n, contains-from_IsIn ns n) (λ e. from (IsIn-from_contains ms n e), λ i. contains-from_IsIn ms n (to i))
 
 -- zombies that go to the parent count in each control group above it as before
 CountsSame-removed : (state : State) → IsSound state → (id parent c : ℕ) (g : Control) (reply : Reply)

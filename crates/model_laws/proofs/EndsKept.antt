@@ -17,20 +17,7 @@ use Rattle.model_laws.proofs.Kept.{Keeps, Keeps-changed}
 -- the row with the least number is one of them
 pub least_row-IsIn : (state : State) (s : ℕ) (rows : List Row) (row : Row) → least_row state s rows ≡ Some row → IsIn row rows
 least_row-IsIn state s [] row h = absurd (cc)
-least_row-IsIn state s (r ∷ rows) row h = go (λ e. least_row-IsIn state s rows row e) (least_row state s rows) refl h
-  where
-    less : Row → Bool
-    less other = nat_lt (number_or_zero state.spaces other.name s) (number_or_zero state.spaces r.name s)
-
-    pick : (other : Row) (b : Bool) → (if b then other else r) ≡ row → (other ≡ row → IsIn row rows) → IsIn row (r ∷ rows)
-    pick other true e k = inr (k e)
-    pick other false e k = inl (sym e)
-
-    go : (least_row state s rows ≡ Some row → IsIn row rows) → (o : Option Row) → least_row state s rows ≡ o
-        → Some (option_map_or (λ other. if less other then other else r) o r) ≡ Some row → IsIn row (r ∷ rows)
-    go rest None e k = inl (let same : row ≡ r = cc in same)
-    go rest (Some other) e k =
-        pick other (less other) (let same : (if less other then other else r) ≡ row = cc in same) (λ same. rest (e ∙ ap Some same))
+least_row-IsIn state s (r ∷ rows) row h = grind (arith, least_row-IsIn state s rows)
 
 -- what a wait reaps is a row that has ended
 pub reaped_row : (state : State) (caller row : Row) (which : Which) → least_row state caller.name.space (ended_children state caller which) ≡ Some row
@@ -124,39 +111,11 @@ module _ (state : State) (sound : IsCoherent state) (init : Row) (status : ℕ) 
 
   -- a row outside stays, and lives on
   outsider_stays : (r : Row) → (Within r → ⊥) → is_live r ≡ true → (stays_in_fall r ≡ true) × (is_live (after_fall r) ≡ true)
-  outsider_stays r off live = (
-    go (not (same_name r.name init.name)) (is_member state.spaces space r) (has_parent_within state space r) (outsider r off),
-    subst (λ l. alive l ≡ true) (sym (life (same_name r.name init.name) (is_member state.spaces space r) (not_init r off) (outsider r off))) live,
-  )
-    where
-      go : (a b c : Bool) → b ≡ false → not (a && b && c) ≡ true
-      go true true c e = absurd (cc)
-      go true false c e = refl
-      go false true c e = absurd (cc)
-      go false false c e = refl
-
-      alive : Life → Bool
-      alive l = elim l [ Live ↦ true | Zombie ended ↦ false ]
-
-      life : (a b : Bool) → a ≡ false → b ≡ false
-          → (if a then Zombie (Exited status) else (if b && is_live r then Zombie Killed else r.life)) ≡ r.life
-      life a b e f = rw (e, f) refl
+  outsider_stays r off live = grind (arith, outsider r off, not_init r off)
 
   -- what lives after the fall lived before, and is not within
   lives_after : (r : Row) → IsIn r state.rows → is_live (after_fall r) ≡ true → (is_live r ≡ true) × (Within r → ⊥)
-  lives_after r i live = go (same_name r.name init.name) (is_member state.spaces space r) r.life refl live (λ w. member-from_within r i w)
-    where
-      alive : Life → Bool
-      alive l = elim l [ Live ↦ true | Zombie ended ↦ false ]
-
-      go : (a b : Bool) (l : Life) → r.life ≡ l
-          → alive (if a then Zombie (Exited status) else (if b && alive l then Zombie Killed else l)) ≡ true → (Within r → b ≡ true)
-          → (alive l ≡ true) × (Within r → ⊥)
-      go true b l e h m = absurd (cc)
-      go false true Live e h m = absurd (cc)
-      go false true (Zombie ended) e h m = absurd (cc)
-      go false false Live e h m = (refl, λ w. let k : false ≡ true = m w in cc)
-      go false false (Zombie ended) e h m = absurd (cc)
+  lives_after r i live = grind (arith, member-from_within r i)
 
   -- the parent of a row that stays is outside
   parent_outside : (r q : Row) → IsIn r state.rows → IsIn q state.rows → stays_in_fall r ≡ true → r.parent ≡ Some q.name → Within q → ⊥

@@ -48,20 +48,11 @@ module _ (state : State) (sound : IsCoherent state) (task heir : Row) (ended : E
 
   -- who is not the task lives on
   others_live : (r : Row) → (r.name ≡ task.name → ⊥) → is_live r ≡ true → is_live (after r) ≡ true
-  others_live r differs live =
-      go (same_name r.name task.name) (false_from_ne_true (same_name r.name task.name) (λ e. differs (same_name-true r.name task.name e)))
-    where
-      go : (b : Bool) → b ≡ false → is_live (record r { parent = (after r).parent; life = if b then Zombie ended else r.life }) ≡ true
-      go true e = absurd (cc)
-      go false e = live
+  others_live r differs live = grind (arith, same_name-true r.name task.name)
 
   -- who lives after lived before
   lived : (r : Row) → is_live (after r) ≡ true → is_live r ≡ true
-  lived r live = go (same_name r.name task.name) live
-    where
-      go : (b : Bool) → is_live (record r { parent = (after r).parent; life = if b then Zombie ended else r.life }) ≡ true → is_live r ≡ true
-      go true e = absurd (cc)
-      go false e = e
+  lived r live = grind arith
 
   -- ---- chains of parents
 
@@ -240,15 +231,9 @@ ancestors-IsIn : (rows : List Row) (row : Row) (n : ℕ) → IsIn n (ancestors r
     → (p : ℕ) × (parent_number rows (root_number row.name) ≡ Some p) × IsIn n (climb (parent_number rows) (length rows) p)
 unfolding climb
 ancestors-IsIn rows row n i =
-    go (parent_number rows (root_number row.name)) refl (subst (λ k. IsIn n (drop 1 (climb (parent_number rows) k (root_number row.name)))) more i)
-  where
-    more : length rows + 1 ≡ suc (length rows)
-    more = omega arith
-
-    go : (o : Option ℕ) → parent_number rows (root_number row.name) ≡ o → IsIn n (option_map_or (climb (parent_number rows) (length rows)) o [])
-        → (p : ℕ) × (parent_number rows (root_number row.name) ≡ Some p) × IsIn n (climb (parent_number rows) (length rows) p)
-    go None e j = elim j [ ]
-    go (Some p) e j = (p, e, j)
+    let more : length rows + 1 ≡ suc (length rows) = omega arith in
+    let j : IsIn n (drop 1 (climb (parent_number rows) (suc (length rows)) (root_number row.name))) = subst (λ k. IsIn n (drop 1 (climb (parent_number rows) k (root_number row.name)))) more i in
+    grind arith
 
 -- what is on a chain is no farther than where it begins
 far_on_chain : (f : ℕ → Option ℕ) → f 1 ≡ None → (l k p n : ℕ) → Far f k p → IsIn n (climb f l p) → (j : ℕ) × Far f j n × (j ≤ k)

@@ -1,5 +1,5 @@
 -- What a fall does to each task.
-use Rattle.std.proofs.Common.{◌≡◌, ℕ, Bool, true, false, ◌&&◌, not, Option, Some, None, refl, sym, ap, ◌∙◌, subst, filter, is_some, if◌then◌else◌}
+use Rattle.std.proofs.Common.{◌≡◌, ℕ, Bool, true, false, ◌&&◌, not, Option, Some, None, refl, sym, ap, ◌∙◌, subst, filter, is_some, if◌then◌else◌, arith}
 use Rattle.std.specs.Option.{option_map_or}
 use Rattle.std.proofs.lemmas.Bool.{and_left, or_from, or_right, not_from_false, not-true, false_from_ne_true}
 use Rattle.model_laws.proofs.Words.{Name, Row, Space, Life, Zombie, Exited, Killed, Done, IsIn, State, path_up, number, is_within, is_member, same_name, is_live, Outcome, sweep, is_init, has_parent_within, goes_in_fall, row_after_fall, rows_after_fall, fallen_below, fall, IsSound, Exit, live_row}
@@ -30,11 +30,7 @@ module _ (state : State) (sound : IsSound state) (init : Row) (status : ℕ) (th
 
   -- and nobody else is
   member-false : (r : Row) → (IsMember state space r → ⊥) → is_member state.spaces space r ≡ false
-  member-false r none = go (number state.spaces r.name space) refl
-    where
-      go : (o : Option ℕ) → number state.spaces r.name space ≡ o → is_some o ≡ false
-      go None e = refl
-      go (Some n) e = absurd (none (n, e))
+  member-false r none = grind (arith, none)
 
   -- a parent that is a member is within the namespace
   parent-true : (r : Row) → HasMemberParent state space r → has_parent_within state space r ≡ true
@@ -71,21 +67,15 @@ module _ (state : State) (sound : IsSound state) (init : Row) (status : ℕ) (th
 
   -- three tests of which the first does not hold
   first_fails : (a b c : Bool) → a ≡ true → (not a && b && c) ≡ false
-  first_fails true b c e = refl
-  first_fails false b c e = absurd (cc)
+  first_fails a b c e = grind arith
 
   -- or the second
   second_fails : (a b c : Bool) → b ≡ false → (not a && b && c) ≡ false
-  second_fails true b c e = refl
-  second_fails false true c e = absurd (cc)
-  second_fails false false c e = refl
+  second_fails a b c e = grind arith
 
   -- or the third
   third_fails : (a b c : Bool) → c ≡ false → (not a && b && c) ≡ false
-  third_fails true b c e = refl
-  third_fails false true true e = absurd (cc)
-  third_fails false true false e = refl
-  third_fails false false c e = refl
+  third_fails a b c e = grind arith
 
   -- the life after the fall, by the tests
   life_after : (r : Row) (a b c : Bool) → same_name r.name init.name ≡ a → is_member state.spaces space r ≡ b → is_live r ≡ c

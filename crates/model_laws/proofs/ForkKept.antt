@@ -113,14 +113,7 @@ module _ (old : State) (sound : IsCoherent old) (spaces : List Space) (caller : 
   -- no two names share a number
   distinct_after : (a b : Name) → IsIn a (names_in_use rows_after) → IsIn b (names_in_use rows_after) → (s n : ℕ)
       → number spaces a s ≡ Some n → number spaces b s ≡ Some n → a ≡ b
-  distinct_after a b i j s n e f = go (used_before a i) (used_before b j) e f
-    where
-      go : (a ≡ child.name) ⊎ IsIn a (names_in_use old.rows) → (b ≡ child.name) ⊎ IsIn b (names_in_use old.rows)
-          → number spaces a s ≡ Some n → number spaces b s ≡ Some n → a ≡ b
-      go (inl p) (inl q) x y = p ∙ sym q
-      go (inl p) (inr q) x y = absurd (fresh b q s n (subst (λ c. number spaces c s ≡ Some n) p x) y)
-      go (inr p) (inl q) x y = absurd (fresh a p s n (subst (λ c. number spaces c s ≡ Some n) q y) x)
-      go (inr p) (inr q) x y = sound.distinct a b p q s n (sym (number_kept a p s) ∙ x) (sym (number_kept b q s) ∙ y)
+  distinct_after a b i j s n e f = grind (arith, used_before a i, used_before b j, fresh a, fresh b, sound.distinct a b, number_kept a, number_kept b)
 
   -- all names are well numbered
   well_after : (a : Name) → IsIn a (names_in_use rows_after) → IsWellNumbered spaces old.pid_max a
@@ -290,12 +283,7 @@ module _ (old : State) (sound : IsCoherent old) (spaces : List Space) (caller : 
 
 -- the namespace that a fork goes into is there, and stands
 pub standing_space : (state : State) (s : ℕ) → is_gone state s ≡ false → (t : Space) × (space_at state.spaces s ≡ Some t) × (t.fallen ≡ false)
-standing_space state s h = go (space_at state.spaces s) refl h
-  where
-    go : (o : Option Space) → space_at state.spaces s ≡ o → option_map_or (λ t. t.fallen) o true ≡ false
-        → (t : Space) × (space_at state.spaces s ≡ Some t) × (t.fallen ≡ false)
-    go None e f = absurd (cc)
-    go (Some t) e f = (t, e, f)
+standing_space state s h = grind arith
 
 -- a namespace that stands is ready for a child
 pub IsReady-old : (state : State) → IsCoherent state → (caller : Row) → IsIn caller state.rows → is_gone state caller.children_space ≡ false

@@ -3,7 +3,7 @@ use Rattle.std.proofs.Common.{◌≡◌, ℕ, zero, suc, Bool, true, false, cond
 use Rattle.std.specs.List.{cons_option}
 use Rattle.std.specs.Option.{option_eq, option_map_or}
 use Rattle.std.proofs.Math.Path.{fun_ext}
-use Rattle.std.proofs.lemmas.Bool.{cases_Bool, lt-ltb, ltb-true, ltb-false, eqb-true, ne_eqb, eqb-false, and_parts}
+use Rattle.std.proofs.lemmas.Bool.{false_from_ne_true, cases_Bool, lt-ltb, ltb-true, ltb-false, eqb-true, ne_eqb, eqb-false, and_parts}
 use Rattle.model_laws.proofs.Words.{Name, Row, Kind, Reply, Number, LevelList, End, least_of, State, number, number_or_zero, numbers_from, beside, beside_from, is_numbered, live_row, task_at, path_up, names_in_use, of_task, self_or_task, name_by, numbers_by, get_pid, get_ppid, get_pgid, get_sid, ns_pid, next, Glimpse, sight, seen, is_seen, glimpse_of, glimpse_at, self_or_glimpse, number_by, of_glimpse, step, IsIn, IsCoherent}
 use Rattle.pid_types.specs.declared.call.Kind.TheVariants.{Task, Group, Session}
 use Rattle.model_laws.specs.SightLaws.{Query, IsQuery, own_number, parent_number, group_of, session_of, numbers_of, next_from, IsCaller, SeesSame}
@@ -17,16 +17,13 @@ use Rattle.model_laws.proofs.Trees.{same_row, live_row-Some}
 find-map-filter : (p : Glimpse → Bool) (f : Row → Glimpse) (q : Row → Bool) (rows : List Row)
     → find p (map f (filter q rows)) ≡ option_map f (find (λ row. q row && p (f row)) rows)
 find-map-filter p f q [] = refl
-find-map-filter p f q (row ∷ rows) = elim (cases_Bool (q row)) [
-  | inl e ↦ elim (cases_Bool (p (f row))) [ inl g ↦ rw (e, g) refl | inr g ↦ rw (e, g) (find-map-filter p f q rows) ]
-  | inr e ↦ rw e (find-map-filter p f q rows)
-]
+find-map-filter p f q (row ∷ rows) = grind (arith, find-map-filter p f q rows)
 
 -- the first of the numbers from the namespace inwards is the number there
 first-beside_from : (s : ℕ) (ts ns : List ℕ) → slice_index (beside_from s ts ns) 0 ≡ unwrap_or (beside s ts ns) 0
 first-beside_from s [] ns = refl
 first-beside_from s (t ∷ ts) [] = refl
-first-beside_from s (t ∷ ts) (n ∷ ns) = elim (cases_Bool (t == s)) [ inl e ↦ rw e refl | inr e ↦ rw e (first-beside_from s ts ns) ]
+first-beside_from s (t ∷ ts) (n ∷ ns) = grind (arith, first-beside_from s ts ns)
 
 -- the same of a row's numbers
 first-numbers_from : (state : State) (s : ℕ) (row : Row)
@@ -36,8 +33,7 @@ first-numbers_from state s row = first-beside_from s (reverse (path_up state.spa
 
 -- with a test that fails both fail
 and-false : (b : Bool) → (b && false) ≡ false
-and-false true = refl
-and-false false = refl
+and-false b = grind arith
 
 -- a glimpse has the number where its task has it
 one_test : (a b : Bool) (o : Option ℕ) (n : ℕ) → 0 < n → ((is_some o || a || b) && (nat_lt 0 n && (unwrap_or o 0 == n))) ≡ option_eq ◌==◌ o (Some n)
@@ -88,14 +84,8 @@ module _ (state : State) (sound : IsCoherent state) (root : ℕ) (caller : Row) 
   -- no task has number 0
   no_task : task_at state caller.name.space 0 ≡ None
   unfolding task_at
-  no_task = go (find (λ row. is_numbered state.spaces row.name caller.name.space 0) state.rows) refl
-    where
-      go : (o : Option Row) → find (λ row. is_numbered state.spaces row.name caller.name.space 0) state.rows ≡ o
-          → find (λ row. is_numbered state.spaces row.name caller.name.space 0) state.rows ≡ None
-      go None e = e
-      go (Some row) e =
-          let r = find-Some (λ row. is_numbered state.spaces row.name caller.name.space 0) state.rows row e in
-          absurd (let l : 0 < 0 = above_zero row.name (own_name_in_use state.rows row r.0) caller.name.space 0 (is_numbered-true state.spaces row.name caller.name.space 0 r.1) in omega arith)
+  no_task = find-none (λ row. is_numbered state.spaces row.name caller.name.space 0) state.rows (λ row i. false_from_ne_true _ (λ e.
+      let l : 0 < 0 = above_zero row.name (own_name_in_use state.rows row i) caller.name.space 0 (is_numbered-true state.spaces row.name caller.name.space 0 e) in omega arith))
 
   -- whom a number names, 0 being the caller, is seen so
   self_seen : (pid : ℕ)
@@ -132,19 +122,8 @@ module _ (state : State) (sound : IsCoherent state) (root : ℕ) (caller : Row) 
   kind_seen : (kind : Kind) (row : Row) (m : ℕ) → number state.spaces (name_by kind row) caller.name.space ≡ Some m
       → is_seen state caller.name.space row ≡ true
   kind_seen Task row m e = rw e refl
-  kind_seen Group row m e =
-      rw e (or_true (is_some (number state.spaces row.name caller.name.space)) (is_some (number state.spaces row.session caller.name.space)))
-    where
-      or_true : (a b : Bool) → (a || true || b) ≡ true
-      or_true true b = refl
-      or_true false b = refl
-  kind_seen Session row m e =
-      rw e (or_true (is_some (number state.spaces row.name caller.name.space)) (is_some (number state.spaces row.group caller.name.space)))
-    where
-      or_true : (a b : Bool) → (a || b || true) ≡ true
-      or_true true b = refl
-      or_true false true = refl
-      or_true false false = refl
+  kind_seen Group row m e = rw e (grind arith)
+  kind_seen Session row m e = rw e (grind arith)
 
   -- the numbers in use as the kind are those that are seen so, but for 0
   next_seen : (kind : Kind) (from : ℕ) (rows : List Row) → ((row : Row) → IsIn row rows → IsIn row state.rows)

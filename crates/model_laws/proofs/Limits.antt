@@ -16,22 +16,11 @@ use Rattle.model_laws.proofs.StepKept.{step_keeps}
 -- as many pass a test after the insertion as if the row stood first
 length-filter-insert : (p : Row → Bool) (new : Row) (rows : List Row) → length (filter p (insert_row new rows)) ≡ length (filter p (new ∷ rows))
 length-filter-insert p new [] = refl
-length-filter-insert p new (row ∷ rows) = elim (cases_Bool (nat_lt (root_number new.name) (root_number row.name))) [
-  | inl e ↦ rw e refl
-  | inr e ↦ rw e (both (p row) (p new) (filter p rows) (length-filter-insert p new rows))
-]
-  where
-    both : (a b : Bool) (rs : List Row) → length (filter p (insert_row new rows)) ≡ length (cond b (new ∷ rs) rs)
-        → length (cond a (row ∷ filter p (insert_row new rows)) (filter p (insert_row new rows))) ≡ length (cond b (new ∷ cond a (row ∷ rs) rs) (cond a (row ∷ rs) rs))
-    both true true rs e = ap suc e
-    both true false rs e = ap suc e
-    both false true rs e = e
-    both false false rs e = e
+length-filter-insert p new (row ∷ rows) = grind (arith, length-filter-insert p new rows)
 
 -- one row more, if the test holds
 pub length-cond : (b : Bool) (row : Row) (rows : List Row) → length (cond b (row ∷ rows) rows) ≡ length rows + one_if b
-length-cond true row rows = omega arith
-length-cond false row rows = omega arith
+length-cond b row rows = grind arith
 
 -- a fork that is made counts one more up from the caller's home
 pub count-forked : (state : State) (caller : Row) (t c : ℕ) → count (forked state caller t).state c ≡ count state c + one_if (is_below state.controls caller.home c)
@@ -42,8 +31,7 @@ count-forked state caller t c =
 
 -- which is no more than one
 one_at_most : (b : Bool) → one_if b ≤ 1
-one_at_most true = omega arith
-one_at_most false = omega arith
+one_at_most b = grind arith
 
 -- a limit that is not below the greater number is not below the smaller one
 limit_falls : (limit : Option ℕ) (n m : ℕ) → n ≤ m → option_map_or (λ l. nat_lt l m) limit false ≡ false

@@ -122,11 +122,7 @@ user_of_number state s n i = IsIn-from_filter_map (λ name. number state.spaces 
 -- what the change of a row keeps, its change at one name keeps
 pub on_row-keeps : {A : Type 0} (name : Name) (change : Row → Row) (part : Row → A) → ((r : Row) → part (change r) ≡ part r) → (r : Row)
     → part (on_row name change r) ≡ part r
-on_row-keeps {A} name change part keeps r = go (same_name r.name name)
-  where
-    go : (b : Bool) → part (if b then change r else r) ≡ part r
-    go true = keeps r
-    go false = refl
+on_row-keeps name change part keeps r = grind (arith, keeps r)
 
 -- what holds of a row changed, and of it as it was, holds of it after the change at one name
 pub on_row-both : (P : Row → Type 0) (name : Name) (change : Row → Row) (r : Row) → (r.name ≡ name → P (change r)) → P r → P (on_row name change r)

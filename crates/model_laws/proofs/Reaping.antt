@@ -67,12 +67,7 @@ from_ended state caller which row i =
 
 -- a task that has ended is a zombie of its end
 zombie_of : (row : Row) → is_live row ≡ false → row.life ≡ Zombie (end_of row)
-zombie_of row h = go row.life refl h
-  where
-    go : (l : Life) → row.life ≡ l → elim l as (λ x. Bool) [ Live ↦ true | Zombie ended ↦ false ] ≡ false
-        → l ≡ Zombie (elim l as (λ x. Ended) [ Live ↦ Killed | Zombie ended ↦ ended ])
-    go Live e f = absurd (cc)
-    go (Zombie ended) e f = refl
+zombie_of row h = grind arith
 
 -- a wait reaps the least
 pub comes_reaped : (state : State) (stamp n : ℕ) (which : Which) (o : Outcome) → Comes state stamp (Wait n which) o → (caller : Row) (child : ℕ) (ended : Ended)

@@ -74,13 +74,7 @@ run_keeps opening first (call ∷ calls) sound below =
 
 -- the names in use are all the root init's
 only_name : (a : Name) → IsIn a (names_in_use (root_init ∷ [])) → a ≡ root_name
-only_name a i = elim i [
-  | inl e ↦ e
-  | inr j ↦ elim j [
-    | inl e ↦ e
-    | inr k ↦ elim k [ inl e ↦ e | inr none ↦ elim none [ ] ]
-  ]
-]
+only_name a i = grind arith
 
 -- the state that a table begins with is sound
 pub root_state_sound : (pid_max : ℕ) → HasGoodPidMax pid_max → IsSound (root_state pid_max)
