@@ -157,11 +157,8 @@ parent_listed controls tree id parent c found below =
 pub no_child : (state : State) (id : ℕ) → is_busy state id ≡ false → (d : Control) → IsIn d state.controls → d.parent ≡ Some id → ⊥
 unfolding is_busy
 no_child state id idle d i e =
-    let r = or_parts (list_any (λ row. (row.home == id) && is_live row) state.rows) (list_any (λ c. option_eq ◌==◌ c.parent (Some id)) state.controls) idle in
-    let some : option_eq ◌==◌ d.parent (Some id) ≡ true = rw e (eq-eqb id id refl) in
-    let yes : list_any (λ c. option_eq ◌==◌ c.parent (Some id)) state.controls ≡ true = list_any-from_one (λ c. option_eq ◌==◌ c.parent (Some id)) state.controls d i some in
-    let never : list_any (λ c. option_eq ◌==◌ c.parent (Some id)) state.controls ≡ false = r.1 in
-    cc
+    let yes : list_any (λ c. option_eq ◌==◌ c.parent (Some id)) state.controls ≡ true = list_any-from_one (λ c. option_eq ◌==◌ c.parent (Some id)) state.controls d i (rw e (eq-eqb id id refl)) in
+    let never = or_parts (list_any (λ row. (row.home == id) && is_live row) state.rows) _ idle in cc
 
 -- what is above the parent is above the child
 pub path_of_parent : (controls : List Control) → IsTreeOfControls controls → (id parent : ℕ) (g : Control) → control_at controls id ≡ Some g

@@ -37,25 +37,13 @@ length-filter-without p (r ∷ rows) rise x (inl same) =
     let k : root_number y.name ≡ root_number x.name = ap root_number (same_name-true y.name x.name e) in
     let m : root_number x.name ≡ root_number r.name = ap (λ (z : Row). root_number z.name) same in omega arith))) in
     let gone : same_name r.name x.name ≡ true = same_name-refl r.name x.name (ap (λ (z : Row). z.name) (sym same)) in
-    length-cond (p r) r (filter p rows) ∙ ap (λ z. length (filter p rows) + one_if (p z)) (sym same)
-    ∙ ap (λ ys. length (filter p ys) + one_if (p x)) (sym others ∙ ap (λ b. cond (not b) (r ∷ filter (λ y. not (same_name y.name x.name)) rows) (filter (λ y. not (same_name y.name x.name)) rows)) (sym gone))
-length-filter-without p (r ∷ rows) rise x (inr i) = go (same_name r.name x.name) refl (length-filter-without p rows rise.1 x i)
-  where
-    rest : List Row
-    rest = filter (λ y. not (same_name y.name x.name)) rows
-
-    stays : (b : Bool) → length (filter p rows) ≡ length (filter p rest) + one_if (p x)
-        → length (cond b (r ∷ filter p rows) (filter p rows)) ≡ length (cond b (r ∷ filter p rest) (filter p rest)) + one_if (p x)
-    stays true h = omega arith
-    stays false h = h
-
-    go : (b : Bool) → same_name r.name x.name ≡ b → length (filter p rows) ≡ length (filter p rest) + one_if (p x)
-        → length (filter p (r ∷ rows)) ≡ length (filter p (cond (not b) (r ∷ rest) rest)) + one_if (p x)
-    go true e h =
-        let l : root_number r.name < root_number x.name = rise.0 (root_number x.name) (IsIn-map (λ (z : Row). root_number z.name) x rows i) in
-        let k : root_number r.name ≡ root_number x.name = ap root_number (same_name-true r.name x.name e) in
-        absurd (omega arith)
-    go false e h = stays (p r) h
+    grind arith
+length-filter-without p (r ∷ rows) rise x (inr i) =
+    let h = length-filter-without p rows rise.1 x i in
+    let stays : same_name r.name x.name ≡ false = false_from_ne_true (same_name r.name x.name) (λ e.
+    let l : root_number r.name < root_number x.name = rise.0 (root_number x.name) (IsIn-map (λ (z : Row). root_number z.name) x rows i) in
+    let k : root_number r.name ≡ root_number x.name = ap root_number (same_name-true r.name x.name e) in omega arith) in
+    grind arith
 
 -- the sweep changes no count
 count-swept : (state : State) (c : ℕ) → count (sweep state) c ≡ count state c

@@ -59,18 +59,8 @@ module _ (state : State) (sound : IsCoherent state) (task heir : Row) (ended : E
   -- who is no child of the task keeps its parent
   same_parent : (n : ℕ) → (old_parent n ≡ Some root_of_task → ⊥) → next_parent n ≡ old_parent n
   same_parent n differs =
-      ap (option_and_then (λ (r : Row). option_map root_number r.parent)) (row_at-map after (λ r. refl) state.rows n)
-      ∙ go (row_at state.rows n) refl
-    where
-      kept : (r : Row) → row_at state.rows n ≡ Some r → (b : Bool) → is_parent task.name r ≡ b
-          → option_map root_number (after r).parent ≡ option_map root_number r.parent
-      kept r e false f = ap (option_map root_number) (parent_of_other r f)
-      kept r e true f = absurd (differs (parent_number-at state.rows n r e ∙ ap (option_map root_number) (is_parent-true task.name r f)))
-
-      go : (o : Option Row) → row_at state.rows n ≡ o
-          → option_and_then (λ (r : Row). option_map root_number r.parent) (option_map after o) ≡ option_and_then (λ (r : Row). option_map root_number r.parent) o
-      go None e = refl
-      go (Some r) e = kept r e (is_parent task.name r) refl
+      let m : row_at rows_after n ≡ option_map after (row_at state.rows n) = row_at-map after (λ r. refl) state.rows n in
+      grind (arith, is_parent-true task.name)
 
   -- the task's children go to the heir
   child_parent : (n : ℕ) → old_parent n ≡ Some root_of_task → next_parent n ≡ Some (root_number heir.name)

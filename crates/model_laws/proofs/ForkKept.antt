@@ -98,17 +98,9 @@ module _ (old : State) (sound : IsCoherent old) (spaces : List Space) (caller : 
 
   -- a name in use after the fork is the new one, or was in use
   pub used_before : (a : Name) → IsIn a (names_in_use rows_after) → (a ≡ child.name) ⊎ IsIn a (names_in_use old.rows)
-  used_before a i = let u = user_of_name rows_after a i in go u.0 (IsIn-from_insert child old.rows u.0 u.1) u.2
-    where
-      of_child : Uses child a → (a ≡ child.name) ⊎ IsIn a (names_in_use old.rows)
-      of_child (inl e) = inl e
-      of_child (inr (inl e)) = inr (IsIn-names_in_use old.rows caller a there (inr (inl e)))
-      of_child (inr (inr (inl e))) = inr (IsIn-names_in_use old.rows caller a there (inr (inr (inl e))))
-      of_child (inr (inr (inr none))) = elim none [ ]
-
-      go : (r : Row) → (r ≡ child) ⊎ IsIn r old.rows → Uses r a → (a ≡ child.name) ⊎ IsIn a (names_in_use old.rows)
-      go r (inl e) u = of_child (subst (λ (x : Row). Uses x a) e u)
-      go r (inr j) u = inr (IsIn-names_in_use old.rows r a j u)
+  used_before a i =
+      let u = user_of_name rows_after a i in
+      grind (arith, IsIn-from_insert child old.rows u.0 u.1, IsIn-names_in_use old.rows caller a there, IsIn-names_in_use old.rows u.0 a)
 
   -- no two names share a number
   distinct_after : (a b : Name) → IsIn a (names_in_use rows_after) → IsIn b (names_in_use rows_after) → (s n : ℕ)
@@ -231,12 +223,7 @@ module _ (old : State) (sound : IsCoherent old) (spaces : List Space) (caller : 
 
   -- one group, one session
   together_after : (a b : Row) → (a ≡ child) ⊎ IsIn a old.rows → (b ≡ child) ⊎ IsIn b old.rows → a.group ≡ b.group → a.session ≡ b.session
-  together_after a b (inl p) (inl q) e = ap (λ (r : Row). r.session) (p ∙ sym q)
-  together_after a b (inl p) (inr j) e =
-      ap (λ (r : Row). r.session) p ∙ sound.groups.together caller b there j (ap (λ (r : Row). r.group) (sym p) ∙ e)
-  together_after a b (inr i) (inl q) e =
-      sound.groups.together a caller i there (e ∙ ap (λ (r : Row). r.group) q) ∙ ap (λ (r : Row). r.session) (sym q)
-  together_after a b (inr i) (inr j) e = sound.groups.together a b i j e
+  together_after a b i j e = grind (arith, sound.groups.together a b, sound.groups.together caller b there, sound.groups.together a caller)
 
   -- that of the task which the group is named after
   leader_after : (a b : Row) → (a ≡ child) ⊎ IsIn a old.rows → (b ≡ child) ⊎ IsIn b old.rows → a.group ≡ b.name → a.session ≡ b.session
@@ -412,16 +399,7 @@ module _ (state : State) (sound : IsCoherent state) (stamp : ℕ) (below : IsBel
       least n (subst (IsCyclicDraw state.pid_max 0 []) d c)
     where
       one : (low n : ℕ) → low ≡ 1 → IsLeastFree [] low state.pid_max n → n ≡ 1
-      one low n is_one is = elim (cases_one n) [
-        | inl e ↦ e
-        | inr l ↦ elim l [
-          | inl small ↦ absurd (let k : low ≤ n = is.from in omega arith)
-          | inr large ↦ absurd (let t : contains [] low ≡ true = is.least low (omega arith) (omega arith) in cc)
-        ]
-      ]
-        where
-          cases_one : (m : ℕ) → (m ≡ 1) ⊎ ((m < 1) ⊎ (1 < m))
-          cases_one m = cases_order m 1
+      one low n is_one is = grind (arith, is.least low)
 
       least : (n : ℕ) → IsCyclicDraw state.pid_max 0 [] (Some n) → n ≡ 1
       least n (inl is) = one 1 n refl is

@@ -4,6 +4,7 @@ use Rattle.std.specs.List.{cons_option}
 use Rattle.std.specs.Option.{option_eq, option_map_or}
 use Rattle.std.proofs.Math.Path.{fun_ext}
 use Rattle.std.proofs.lemmas.Bool.{false_from_ne_true, cases_Bool, lt-ltb, ltb-true, ltb-false, eqb-true, ne_eqb, eqb-false, and_parts}
+use Rattle.std.proofs.lemmas.Bool.Decides.{nat_tests}
 use Rattle.model_laws.proofs.Words.{Name, Row, Kind, Reply, Number, LevelList, End, least_of, State, number, number_or_zero, numbers_from, beside, beside_from, is_numbered, live_row, task_at, path_up, names_in_use, of_task, self_or_task, name_by, numbers_by, get_pid, get_ppid, get_pgid, get_sid, ns_pid, next, Glimpse, sight, seen, is_seen, glimpse_of, glimpse_at, self_or_glimpse, number_by, of_glimpse, step, IsIn, IsCoherent}
 use Rattle.pid_types.specs.declared.call.Kind.TheVariants.{Task, Group, Session}
 use Rattle.model_laws.specs.SightLaws.{Query, IsQuery, own_number, parent_number, group_of, session_of, numbers_of, next_from, IsCaller, SeesSame}
@@ -206,53 +207,29 @@ module _ (state : State) (sound : IsCoherent state) (root : ℕ) (caller : Row) 
       p.2 ∙ ap (glimpse_of state caller.name.space) same ∙ sym q.2
     where
       has : (row : Row) → number_or_zero state.spaces row.name caller.name.space ≡ m → number state.spaces row.name caller.name.space ≡ Some m
-      has row k = go (number state.spaces row.name caller.name.space) refl k
-        where
-          go : (o : Option ℕ) → number state.spaces row.name caller.name.space ≡ o → unwrap_or o 0 ≡ m
-              → number state.spaces row.name caller.name.space ≡ Some m
-          go None d t = absurd (let z : 0 ≡ m = t in omega arith)
-          go (Some v) d t = d ∙ ap Some t
+      has row k = grind arith
 
 -- ---- what is seen as a set
 
 -- the least of a list is in it, and no more than any
 least_of-Some : (ns : List ℕ) (m : ℕ) → least_of ns ≡ Some m → IsIn m ns × ((k : ℕ) → IsIn k ns → m ≤ k)
 least_of-Some [] m h = absurd (cc)
-least_of-Some (n ∷ ns) m h = go (least_of ns) refl (λ l e. least_of-Some ns l e) h
-  where
-    pick : (l : ℕ) → IsIn l ns × ((k : ℕ) → IsIn k ns → l ≤ k) → (b : Bool) → nat_lt l n ≡ b → (if b then l else n) ≡ m
-        → IsIn m (n ∷ ns) × ((k : ℕ) → IsIn k (n ∷ ns) → m ≤ k)
-    pick l r true e f =
-        (inr (subst (λ x. IsIn x ns) f r.0), λ k i. elim i [ inl same ↦ (let a : l < n = ltb-true l n e in omega arith) | inr j ↦ (let a : l ≤ k = r.1 k j in omega arith) ])
-    pick l r false e f =
-        (inl (sym f), λ k i. elim i [ inl same ↦ omega arith | inr j ↦ (let a : l ≤ k = r.1 k j in let b : n ≤ l = ltb-false l n e in omega arith) ])
-
-    none_in : (ms : List ℕ) → least_of ms ≡ None → (k : ℕ) → IsIn k ms → ⊥
-    none_in [] e k i = i
-    none_in (x ∷ ms) e k i = cc
-
-    go : (o : Option ℕ) → least_of ns ≡ o → ((l : ℕ) → least_of ns ≡ Some l → IsIn l ns × ((k : ℕ) → IsIn k ns → l ≤ k))
-        → Some (option_map_or (λ l. if nat_lt l n then l else n) o n) ≡ Some m → IsIn m (n ∷ ns) × ((k : ℕ) → IsIn k (n ∷ ns) → m ≤ k)
-    go None e rest f = let same : m ≡ n = cc in (inl same, λ k i. elim i [ inl here ↦ omega arith | inr j ↦ absurd (none_in ns e k j) ])
-    go (Some l) e rest f = pick l (rest l e) (nat_lt l n) refl (let same : (if nat_lt l n then l else n) ≡ m = cc in same)
+least_of-Some (n ∷ []) m h = grind arith
+least_of-Some (n ∷ k ∷ ns) m h =
+    let r = least_of-Some (k ∷ ns) _ refl in
+    (grind (arith, nat_tests, r.0), λ j i. grind (arith, nat_tests, r.1 j))
 
 -- lists with the same elements have the same least
 least_of-same : (ns ms : List ℕ) → ((k : ℕ) → IsIn k ns → IsIn k ms) → ((k : ℕ) → IsIn k ms → IsIn k ns) → least_of ns ≡ least_of ms
 least_of-same [] [] to from = refl
 least_of-same [] (m ∷ ms) to from = elim (from m (inl refl)) [ ]
 least_of-same (n ∷ ns) [] to from = elim (to n (inl refl)) [ ]
-least_of-same (n ∷ ns) (m ∷ ms) to from = go (least_of (n ∷ ns)) refl (least_of (m ∷ ms)) refl
-  where
-    go : (o : Option ℕ) → least_of (n ∷ ns) ≡ o → (p : Option ℕ) → least_of (m ∷ ms) ≡ p → least_of (n ∷ ns) ≡ least_of (m ∷ ms)
-    go None e p f = absurd (cc)
-    go (Some a) e None f = absurd (cc)
-    go (Some a) e (Some b) f =
-        let x = least_of-Some (n ∷ ns) a e in
-        let y = least_of-Some (m ∷ ms) b f in
-        let l : a ≤ b = x.1 b (from b y.0) in
-        let r : b ≤ a = y.1 a (to a x.0) in
-        let same : a ≡ b = omega arith in
-        e ∙ ap Some same ∙ sym f
+least_of-same (n ∷ ns) (m ∷ ms) to from =
+    let x = least_of-Some (n ∷ ns) _ refl in
+    let y = least_of-Some (m ∷ ms) _ refl in
+    let l = x.1 _ (from _ y.0) in
+    let r = y.1 _ (to _ x.0) in
+    ap Some (omega arith)
 
 -- the same is seen under a number
 glimpse_at-same : (a b : List Glimpse) → SeesSame a b

@@ -152,26 +152,16 @@ pub target_of-IsIn : (state : State) (caller target : Row) (pid : ℤ) → IsIn 
     → IsIn target state.rows
 unfolding task_at
 target_of-IsIn state caller target (negsuc n) i h = absurd (cc)
-target_of-IsIn state caller target (pos n) i h = go (n == 0) h
-  where
-    go : (b : Bool) → (if b then Some caller else task_at state caller.name.space n) ≡ Some target → IsIn target state.rows
-    go true e = let g : caller ≡ target = cc in subst (λ (r : Row). IsIn r state.rows) g i
-    go false e = (find-Some (λ row. is_numbered state.spaces row.name caller.name.space n) state.rows target e).0
+target_of-IsIn state caller target (pos n) i h = grind (arith, find-Some (λ row. is_numbered state.spaces row.name caller.name.space n) state.rows target)
 
 -- the target is in the caller's session
 pub target_session : (state : State) → IsSound state → (caller target : Row) → IsIn caller state.rows → IsIn target state.rows
     → (is_parent caller.name target && not (same_name target.session caller.session)) ≡ false
     → not (is_parent caller.name target || same_name target.name caller.name) ≡ false
     → target.session ≡ caller.session
-target_session state sound caller target i j same own = elim (or_cases (is_parent caller.name target) (same_name target.name caller.name) (not-false _ own)) [
-  | inl child ↦ child_session (is_parent caller.name target) (same_name target.session caller.session) refl same child
-  | inr e ↦ ap (λ (r : Row). r.session) (same_row state.rows sound.coherent.rows_rise target caller j i (same_name-true target.name caller.name e))
-]
-  where
-    child_session : (b c : Bool) → same_name target.session caller.session ≡ c → (b && not c) ≡ false → b ≡ true → target.session ≡ caller.session
-    child_session b true e h k = same_name-true target.session caller.session e
-    child_session true false e h k = absurd (cc)
-    child_session false false e h k = absurd (cc)
+target_session state sound caller target i j same own =
+    let self : target.name ≡ caller.name → target.session ≡ caller.session = λ e. ap (λ (r : Row). r.session) (same_row state.rows sound.coherent.rows_rise target caller j i e) in
+    grind (arith, self, same_name-true target.session caller.session, same_name-true target.name caller.name)
 
 -- a task that goes to a group and a session that are open to it leaves a coherent state, and ids below each stamp that they were below
 pub placed_keeps : (state : State) (target : Row) (change : Row → Row) → IsSound state → IsIn target state.rows

@@ -92,11 +92,7 @@ sweep-numbered state s name n i used e = to_kept state s i (kept-by_name state n
 pub number-iff_on_path : (state : State) (name : Name) (s : ℕ) → IsSound state → IsIn name (names_in_use state.rows)
     → IsIn s (path_up state.spaces name.space) ↔ (is_some (number state.spaces name s) ≡ true)
 number-iff_on_path state name s sound used =
-    (λ i. let n = number-on_path state.spaces name s (sound.coherent.numbered name used).one_each i in rw n.1 refl, λ h. back (number state.spaces name s) refl h)
-  where
-    back : (o : Option ℕ) → number state.spaces name s ≡ o → is_some o ≡ true → IsIn s (path_up state.spaces name.space)
-    back None e h = absurd (cc)
-    back (Some n) e h = (number-within state.spaces name s n e).0
+    (λ i. let n = number-on_path state.spaces name s (sound.coherent.numbered name used).one_each i in rw n.1 refl, λ h. grind (arith, number-within state.spaces name s))
 
 -- a sound state has no dead namespace
 pub sweep-sound : (state : State) → IsSound state → sweep state ≡ state

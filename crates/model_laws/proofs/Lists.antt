@@ -25,10 +25,7 @@ IsIn-append_right x (y ∷ xs) ys h = inr (IsIn-append_right x xs ys h)
 -- a list turned round has no other elements
 pub IsIn-reverse : {X : Type 0} (x : X) (xs : List X) → IsIn x (reverse xs) → IsIn x xs
 IsIn-reverse x [] h = h
-IsIn-reverse x (y ∷ xs) h = elim (IsIn-append x (reverse xs) (y ∷ []) (subst (λ l. IsIn x l) (reverse-append (y ∷ []) xs) h)) [
-  | inl a ↦ inr (IsIn-reverse x xs a)
-  | inr b ↦ elim b [ inl e ↦ inl e | inr none ↦ absurd none ]
-]
+IsIn-reverse x (y ∷ xs) h = grind (arith, IsIn-append x (reverse xs) (y ∷ []) (subst (λ l. IsIn x l) (reverse-append (y ∷ []) xs) h), IsIn-reverse x xs)
 
 -- and has them all
 pub IsIn-to_reverse : {X : Type 0} (x : X) (xs : List X) → IsIn x xs → IsIn x (reverse xs)

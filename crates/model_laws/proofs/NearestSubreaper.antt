@@ -50,17 +50,8 @@ find-climb f p (suc k) n m h = go (λ q e. find-climb f p k q m e) (p n) refl h
 find-climb_none : (f : ℕ → Option ℕ) (p : ℕ → Bool) (k n : ℕ) → find p (climb f k n) ≡ None → (i x : ℕ) → i < k → Climbs f i n x → p x ≡ false
 unfolding climb
 find-climb_none f p zero n h i x l c = absurd (omega arith)
-find-climb_none f p (suc k) n h i x l c = go (λ q e j y m d. find-climb_none f p k q e j y m d) (p n) refl h
-  where
-    above : ((q : ℕ) → find p (climb f k q) ≡ None → (j y : ℕ) → j < k → Climbs f j q y → p y ≡ false)
-        → p n ≡ false → find p (option_map_or (climb f k) (f n) []) ≡ None → (j : ℕ) → j < suc k → Climbs f j n x → p x ≡ false
-    above later miss g zero m d = ap p (sym d) ∙ miss
-    above later miss g (suc j) m d = later d.0 (ap (λ o. find p (option_map_or (climb f k) o [])) (sym d.1) ∙ g) j x (omega arith) d.2
-
-    go : ((q : ℕ) → find p (climb f k q) ≡ None → (j y : ℕ) → j < k → Climbs f j q y → p y ≡ false)
-        → (b : Bool) → p n ≡ b → cond b (Some n) (find p (option_map_or (climb f k) (f n) [])) ≡ None → p x ≡ false
-    go later true e g = absurd (cc)
-    go later false e g = above later e g i l c
+find-climb_none f p (suc k) n h zero x l c = grind arith
+find-climb_none f p (suc k) n h (suc i) x l c = grind (arith, find-climb_none f p k c.0)
 
 -- a chain that meets number 1 is longer than the way to it
 way_to_one : (f : ℕ → Option ℕ) (k n : ℕ) → IsIn 1 (climb f k n) → (j : ℕ) × Climbs f j n 1 × (j < k)

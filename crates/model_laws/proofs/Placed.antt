@@ -1,5 +1,5 @@
 -- A task that is put into a group and a session.
-use Rattle.std.proofs.Common.{◌≡◌, true, Some, map, sym, ap, ◌∙◌, subst, ◌⊎◌, inl, inr, if◌then◌else◌}
+use Rattle.std.proofs.Common.{◌≡◌, true, Some, map, sym, ap, ◌∙◌, subst, ◌⊎◌, inl, inr, if◌then◌else◌, arith}
 use Rattle.std.proofs.lemmas.Bool.{cases_Bool}
 use Rattle.model_laws.proofs.Words.{Name, Row, Control, State, is_live, same_name, names_in_use, on_row, control_at, IsIn, HasGoodChildrenSpace, HasGoodGroups, IsSound}
 use Rattle.model_laws.proofs.Lists.{IsIn-from_map}
@@ -45,26 +45,11 @@ module _ (state : State) (sound : IsSound state) (target : Row) (i : IsIn target
   session_of e = ap (λ (x : Row). x.session) e
 
   together : (a b : Row) → IsIn a state.rows → IsIn b state.rows → (after a).group ≡ (after b).group → (after a).session ≡ (after b).session
-  together a b j k e = elim (row_cases a j) [
-    | inl p ↦ elim (row_cases b k) [
-      | inl q ↦ session_of (p.1 ∙ sym q.1)
-      | inr q ↦ session_of p.1 ∙ sym (free.members b k (sym (group_of q) ∙ sym e ∙ group_of p.1)) ∙ sym (session_of q)
-    ]
-    | inr p ↦ elim (row_cases b k) [
-      | inl q ↦ session_of p ∙ free.members a j (sym (group_of p) ∙ e ∙ group_of q.1) ∙ sym (session_of q.1)
-      | inr q ↦ session_of p ∙ sound.coherent.groups.together a b j k (sym (group_of p) ∙ e ∙ group_of q) ∙ sym (session_of q)
-    ]
-  ]
+  together a b j k e = grind (arith, row_cases a j, row_cases b k, free.members a j, free.members b k, sound.coherent.groups.together a b j k)
 
   -- the task that the group is named after is in the session, be it the one that was put there or another
   led : (b : Row) → IsIn b state.rows → b.name ≡ (change target).group → (after b).session ≡ (change target).session
-  led b k e = elim (row_cases b k) [
-    | inl q ↦ session_of q.1
-    | inr q ↦ elim (free.leader b k e) [
-      | inl own ↦ session_of (put b k (same_name-refl b.name target.name own))
-      | inr is ↦ session_of q ∙ is
-    ]
-  ]
+  led b k e = grind (arith, row_cases b k, free.leader b k e, put b k, same_name-refl b.name target.name)
 
   leader : (a b : Row) → IsIn a state.rows → IsIn b state.rows → (after a).group ≡ b.name → (after a).session ≡ (after b).session
   leader a b j k e = elim (row_cases a j) [

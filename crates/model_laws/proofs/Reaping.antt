@@ -2,6 +2,7 @@
 use Rattle.std.proofs.Common.{◌≡◌, ℕ, ◌≤◌, Bool, true, false, not, ◌&&◌, List, [], ◌∷◌, Option, Some, None, refl, ap, ◌∙◌, subst, inl, inr, arith, nat_lt, if◌then◌else◌}
 use Rattle.std.specs.Option.{option_map_or}
 use Rattle.std.proofs.lemmas.Bool.{and_parts, and_from, ltb-true, ltb-false, not-true, not_from_false, cases_Bool}
+use Rattle.std.proofs.lemmas.Bool.Decides.{nat_tests}
 use Rattle.model_laws.proofs.Words.{Which, Row, Ended, Life, Live, Zombie, Killed, Reaped, NoneYet, IsIn, State, number_or_zero, is_parent, is_live, live_row, Outcome, is_selected, matching, least_row, end_of, ended_children, Wait}
 use Rattle.model_laws.specs.WaitLaws.{MayBeReaped, IsReaped}
 use Rattle.model_laws.proofs.Lists.{IsIn-filter, IsIn-from_filter}
@@ -14,32 +15,8 @@ use Rattle.model_laws.proofs.Refusals.{Decides-selected}
 least_row-least : (state : State) (s : ℕ) (rows : List Row) (row other : Row) → least_row state s rows ≡ Some row → IsIn other rows
     → number_or_zero state.spaces row.name s ≤ number_or_zero state.spaces other.name s
 least_row-least state s [] row other h i = elim i [ ]
-least_row-least state s (r ∷ rows) row other h i = go (λ x e j. least_row-least state s rows x other e j) (least_row state s rows) refl h i
-  where
-    of : Row → ℕ
-    of x = number_or_zero state.spaces x.name s
-
-    first : (x y : Row) → x ≡ y → of x ≡ of y
-    first x y e = ap of e
-
-    pick : (x : Row) (b : Bool) → nat_lt (of x) (of r) ≡ b → (if b then x else r) ≡ row → (IsIn other rows → of x ≤ of other) → IsIn other (r ∷ rows) → of row ≤ of other
-    pick x true e same rest (inl here) = let l = ltb-true _ _ e in omega (arith, first x row same, first other r here)
-    pick x true e same rest (inr j) = omega (arith, first x row same, rest j)
-    pick x false e same rest (inl here) = omega (arith, first r row same, first other r here)
-    pick x false e same rest (inr j) = let l = ltb-false _ _ e in omega (arith, first r row same, rest j)
-
-    none : least_row state s rows ≡ None → IsIn other rows → ⊥
-    none e j = empty rows e j
-      where
-        empty : (xs : List Row) → least_row state s xs ≡ None → IsIn other xs → ⊥
-        empty [] f k = elim k [ ]
-        empty (x ∷ xs) f k = cc
-
-    go : ((x : Row) → least_row state s rows ≡ Some x → IsIn other rows → of x ≤ of other) → (o : Option Row) → least_row state s rows ≡ o
-        → Some (option_map_or (λ x. if nat_lt (of x) (of r) then x else r) o r) ≡ Some row → IsIn other (r ∷ rows) → of row ≤ of other
-    go rest None e k (inl here) = let same : r ≡ row = cc in omega (arith, first r row same, first other r here)
-    go rest None e k (inr j) = absurd (none e j)
-    go rest (Some x) e k j = let same : (if nat_lt (of x) (of r) then x else r) ≡ row = cc in pick x (nat_lt (of x) (of r)) refl same (rest x e) j
+least_row-least state s (r ∷ []) row other h i = grind arith
+least_row-least state s (r ∷ q ∷ rows) row other h i = grind (arith, nat_tests, λ (x : Row). least_row-least state s (q ∷ rows) x other)
 
 -- where there is no least row there is none
 least_row-none : (state : State) (s : ℕ) (rows : List Row) (row : Row) → least_row state s rows ≡ None → IsIn row rows → ⊥

@@ -1,8 +1,9 @@
 -- Paths are chains of parents, and a count is the number of tasks whose home is in the subtree.
 use Rattle.std.proofs.Common.{◌≡◌, ℕ, zero, suc, Bool, true, false, List, [], ◌∷◌, length, Option, Some, None, refl, sym, ap, ◌∙◌, subst, inl, inr, filter, option_and_then}
+use Rattle.std.proofs.lemmas.Bool.Decides.{same_from_decides}
 use Rattle.model_laws.proofs.Words.{Row, Control, ControlRow, Counted, NoControl, IsIn, climb, parent_space, path_up, control_at, parent_control, control_path, is_below, count, answered, for_found, count_tasks, step, with_count, IsTreeOfControls}
 use Rattle.model_laws.specs.PathLaws.{IsChain, IsPathOf, IsInSubtree, PathsAreChains, CountIsOfSubtree, SubtreeIsTold, CountsAreOfSubtrees}
-use Rattle.model_laws.proofs.Lists.{IsIn-from_map, IsIn-from_contains, contains-from_IsIn}
+use Rattle.model_laws.proofs.Lists.{filter-same, IsIn-from_map, IsIn-from_contains, contains-from_IsIn}
 use Rattle.model_laws.proofs.Chains.{Stops, Stops-at_root, climb-None, climb-Some, climb_cases, IsIn-climb_first}
 use Rattle.model_laws.proofs.Forests.{at-listed}
 use Rattle.model_laws.proofs.Trees.{root_space_parent, root_control_parent, control_at-Some}
@@ -59,17 +60,6 @@ on_path controls tree c _ IsInSubtree.itself = IsIn-climb_first (parent_control 
 on_path controls tree c _ (IsInSubtree.child g parent i e up) =
     path_of_parent controls tree g.id parent g (at-listed Control (λ d. d.id) (λ d. d.parent) (control_path controls) controls tree g i) e c (on_path controls tree c parent up)
 
--- lists that are filtered by tests which agree on them are one
-filter-agree : (p q : Row → Bool) (rows : List Row) → ((r : Row) → IsIn r rows → p r ≡ q r) → filter p rows ≡ filter q rows
-filter-agree p q [] h = refl
-filter-agree p q (r ∷ rows) h = rw (h r (inl refl), filter-agree p q rows (λ x i. h x (inr i))) refl
-
--- tests that hold together are one
-same_test : (a b : Bool) → (a ≡ true → b ≡ true) → (b ≡ true → a ≡ true) → a ≡ b
-same_test true b f g = sym (f refl)
-same_test false true f g = g refl
-same_test false false f g = refl
-
 -- the path of the home tells the subtree
 pub subtree_is_told : SubtreeIsTold
 unfolding control_path
@@ -82,9 +72,9 @@ subtree_is_told state c sound row i = (
 pub count_is_of_subtree : CountIsOfSubtree
 unfolding count
 count_is_of_subtree state c test sound tells =
-    ap length (filter-agree (λ row. is_below state.controls row.home c) test state.rows (λ row i.
+    ap length (filter-same (λ row. is_below state.controls row.home c) test state.rows (λ row i.
     let told = subtree_is_told state c sound row i in
-    same_test (is_below state.controls row.home c) (test row) (λ e. (tells row i).1 (told.0 e)) (λ e. told.1 ((tells row i).0 e))))
+    same_from_decides (is_below state.controls row.home c) (test row) told (tells row i)))
 
 -- a count is answered, and shown
 pub counts_are_of_subtrees : CountsAreOfSubtrees
