@@ -4,7 +4,9 @@ use Rattle.std.specs.Option.{option_eq, option_map_or}
 use Rattle.std.specs.List.{list_any}
 use Rattle.std.proofs.lemmas.Bool.{cond_both, eqb-true, eq-eqb, ne_eqb, eqb-false, ltb-false, or_parts, not_from_false, not-true}
 use Rattle.model_laws.proofs.Words.{Row, Control, greatest_limit, climb, State, is_live, control_at, parent_control, control_path, with_control, is_busy, rehome, without_control, limited, with_limit, IsIn, IsTreeOfControls, HasGoodLimit, IsCoherent, IsSound, IsBelow, Reply, changed}
-use Rattle.model_laws.proofs.Lists.{IsIn-append, IsIn-from_filter, IsIn-from_map, find-filter, list_any-from_one}
+use Rattle.std.proofs.lemmas.Bool.Decides.{not_from_Decides}
+use Rattle.model_laws.proofs.Refusals.{Decides-busy}
+use Rattle.model_laws.proofs.Lists.{IsIn-append, IsIn-from_filter, IsIn-from_map, find-filter, list_any-from_one, each_pushed}
 use Rattle.model_laws.proofs.Chains.{Stops, Stops-at_root, climb_trans, climb_cases, IsIn-climb_first, IsIn-climb_parent, IsIn-climb_more, climb-same, climb_child}
 use Rattle.model_laws.proofs.Names.{group_in_use, session_in_use}
 use Rattle.model_laws.proofs.Rising.{IsRising-filter}
@@ -41,10 +43,6 @@ control_path-same : (controls others : List Control) (id : ℕ)
 unfolding control_path
 control_path-same controls others id same =
     climb-same (parent_control controls) (parent_control others) 65 id (λ x i. ap (option_and_then (λ c. c.parent)) (same x i))
-
--- no limit is a good one
-HasGoodLimit-none : (c : Control) → c.limit ≡ None → HasGoodLimit c
-HasGoodLimit-none c none = record { root = λ _. none; bounded = λ limit some. absurd (cc) }
 
 -- ---- a new control group
 
@@ -89,17 +87,11 @@ make_control_keeps state stamp parent c reply sound below found shallow =
     (IsCoherent-controls state (with_made state.controls tree stamp parent below.controls) sound.coherent
     (IsTreeOfControls-made state.controls tree stamp parent below.controls on (ltb-false 64 (length (control_path state.controls parent)) shallow)
     (let at = control_at-Some state.controls parent c found in subst (λ x. x < stamp) at.1 (below.controls c at.0)))
-    (λ d i. elim (IsIn-append d state.controls (made state.controls tree stamp parent below.controls ∷ []) i) [
-      | inl j ↦ sound.coherent.limits d j
-      | inr j ↦ elim j [ inl e ↦ HasGoodLimit-none d (ap (λ (x : Control). x.limit) e) | inr none ↦ elim none [ ] ]
-    ])
+    (each_pushed HasGoodLimit state.controls (made state.controls tree stamp parent below.controls) sound.coherent.limits (record { root = λ _. refl; bounded = λ limit some. absurd (cc) }))
     (λ r i. let h = sound.coherent.homes r i in (h.0, at_old state.controls tree stamp parent below.controls r.home h.0 h.1)))
     (record {
       spaces = λ s i. omega (arith, below.spaces s i);
-      controls = λ d i. elim (IsIn-append d state.controls (made state.controls tree stamp parent below.controls ∷ []) i) [
-        | inl j ↦ omega (arith, below.controls d j)
-        | inr j ↦ elim j [ inl e ↦ let same : d.id ≡ stamp = ap (λ (x : Control). x.id) e in omega arith | inr none ↦ elim none [ ] ]
-      ];
+      controls = each_pushed (λ (d : Control). d.id < stamp + 1) state.controls (made state.controls tree stamp parent below.controls) (λ d j. omega (arith, below.controls d j)) (omega arith);
       children = λ r i. omega (arith, below.children r i);
     })
 
@@ -156,9 +148,7 @@ parent_listed controls tree id parent c found below =
 -- a control group that is not busy is no parent
 pub no_child : (state : State) (id : ℕ) → is_busy state id ≡ false → (d : Control) → IsIn d state.controls → d.parent ≡ Some id → ⊥
 unfolding is_busy
-no_child state id idle d i e =
-    let yes : list_any (λ c. option_eq ◌==◌ c.parent (Some id)) state.controls ≡ true = list_any-from_one (λ c. option_eq ◌==◌ c.parent (Some id)) state.controls d i (rw e (eq-eqb id id refl)) in
-    let never = or_parts (list_any (λ row. (row.home == id) && is_live row) state.rows) _ idle in cc
+no_child state id idle d i e = not_from_Decides (is_busy state id) (Decides-busy state id) idle (inr (d, i, e))
 
 -- what is above the parent is above the child
 pub path_of_parent : (controls : List Control) → IsTreeOfControls controls → (id parent : ℕ) (g : Control) → control_at controls id ≡ Some g

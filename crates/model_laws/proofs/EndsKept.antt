@@ -120,29 +120,13 @@ module _ (state : State) (sound : IsCoherent state) (init : Row) (status : ℕ) 
   -- the parent of a row that stays is outside
   parent_outside : (r q : Row) → IsIn r state.rows → IsIn q state.rows → stays_in_fall r ≡ true → r.parent ≡ Some q.name → Within q → ⊥
   parent_outside r q i j stays up w =
-      go (same_name r.name init.name) refl (and_three _ _ _ (not-true (goes_in_fall state init r) stays) member inside)
-    where
-      good : IsIn q.name.space (path_up state.spaces r.name.space)
-      good = ((sound.parents r i).good q.name up).around
-
-      member : is_member state.spaces space r ≡ true
-      member = member-from_within r i (path_trans state.spaces sound.spaces r.name.space q.name.space space (row_on_tree state sound r i) good w)
-
-      inside : has_parent_within state space r ≡ true
-      inside = rw up (contains-from_IsIn (path_up state.spaces q.name.space) space w)
-
-      and_three : (a b c : Bool) → (a && b && c) ≡ false → b ≡ true → c ≡ true → a ≡ false
-      and_three true true true e f g = absurd (cc)
-      and_three true true false e f g = absurd (cc)
-      and_three true false c e f g = absurd (cc)
-      and_three false b c e f g = refl
-
-      go : (b : Bool) → same_name r.name init.name ≡ b → not b ≡ false → ⊥
-      go false e f = cc
-      go true e f =
-          let same : r ≡ init = same_row state.rows sound.rows_rise r init i there (same_name-true r.name init.name e) in
-          let g = (sound.parents init there).good q.name (ap (λ (x : Row). x.parent) (sym same) ∙ up) in
-          g.outside one (path_antisym state.spaces sound.spaces space q.name.space (row_on_tree state sound init there) g.around w)
+      let good : IsIn q.name.space (path_up state.spaces r.name.space) = ((sound.parents r i).good q.name up).around in
+      let member : is_member state.spaces space r ≡ true = member-from_within r i (path_trans state.spaces sound.spaces r.name.space q.name.space space (row_on_tree state sound r i) good w) in
+      let inside : has_parent_within state space r ≡ true = rw up (contains-from_IsIn (path_up state.spaces q.name.space) space w) in
+      let own : same_name r.name init.name ≡ true = grind arith in
+      let same : r ≡ init = same_row state.rows sound.rows_rise r init i there (same_name-true r.name init.name own) in
+      let g = (sound.parents init there).good q.name (ap (λ (x : Row). x.parent) (sym same) ∙ up) in
+      g.outside one (path_antisym state.spaces sound.spaces space q.name.space (row_on_tree state sound init there) g.around w)
 
   -- what the fall keeps
   KeepsRest-fall : KeepsRest state stays_in_fall after_fall after_fall_space

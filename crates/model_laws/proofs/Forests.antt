@@ -3,7 +3,7 @@ use Rattle.std.proofs.Common.{◌≡◌, ℕ, zero, suc, ◌<◌, ◌≤◌, ◌
 use Rattle.std.proofs.Math.Path.{fun_ext}
 use Rattle.std.proofs.lemmas.Bool.{eq-eqb, ne_eqb}
 use Rattle.model_laws.proofs.Words.{climb, IsIn, IsRising, IsTree}
-use Rattle.model_laws.proofs.Lists.{IsIn-append, IsIn-from_map, find-map, find-none, find-append_found, find-append_last}
+use Rattle.model_laws.proofs.Lists.{IsIn-append, IsIn-from_map, find-map, find-none, find-append_found, find-append_last, each_pushed}
 use Rattle.model_laws.proofs.Chains.{climb-same, climb_parent, climb_cases, climb_short, IsIn-climb_parent, IsIn-climb_more}
 use Rattle.model_laws.proofs.Rising.{IsRising-push, find-key, find-key_at}
 
@@ -105,15 +105,9 @@ module _ (X : Type 0) (id : X → ℕ) (parent : X → Option ℕ) where
         → IfSome (parent new) (λ p. p < id new) → IsTree X id parent path xs → IsTree X id parent next (xs ++ new ∷ [])
     IsTree-push path next same on elder tree = record {
       rising = IsRising-push id xs new tree.rising above;
-      older = λ x i. elim (IsIn-append x xs (new ∷ []) i) [
-        | inl j ↦ tree.older x j
-        | inr j ↦ elim j [ inl e ↦ subst (λ y. IfSome (parent y) (λ p. p < id y)) (sym e) elder | inr none ↦ elim none [ ] ]
-      ];
+      older = each_pushed (λ x. IfSome (parent x) (λ p. p < id x)) xs new tree.older elder;
       root = (tree.root.0, at-push_old 0 tree.root.0 tree.root.1, tree.root.2);
-      chains = λ x i. elim (IsIn-append x xs (new ∷ []) i) [
-        | inl j ↦ subst (IsIn 0) (sym (same x j)) (tree.chains x j)
-        | inr j ↦ elim j [ inl e ↦ subst (λ y. IsIn 0 (next (id y))) (sym e) on | inr none ↦ elim none [ ] ]
-      ];
+      chains = each_pushed (λ x. IsIn 0 (next (id x))) xs new (λ x j. subst (IsIn 0) (sym (same x j)) (tree.chains x j)) on;
     }
 
     -- what is above the new one is it, or above its parent

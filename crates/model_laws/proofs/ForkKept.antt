@@ -5,7 +5,7 @@ use Rattle.std.proofs.lemmas.List.{length-map, length-reverse}
 use Rattle.std.proofs.lemmas.Bool.{cases_order, eqb-true, leb-false}
 use Rattle.model_laws.proofs.Words.{Name, Row, Space, Control, climb, contains, State, space_at, parent_space, path_up, level, number, root_number, is_live, row_at, names_in_use, taken, cyclic_draw, cursor_of, draw, control_at, parent_number, forked, insert_row, with_space, drawn, moved_cursor, with_cursors, child_of, is_gone, with_child, IsIn, IsRising, IsWellNumbered, IsGoodParent, HasGoodParents, HasGoodChildrenSpace, HasLiveInit, IsEmptied, IsTreeOfSpaces, RootStands, IsCoherent, IsSound, IsBelow}
 use Rattle.model_laws.specs.Draws.{IsCyclicDraw, IsLeastFree}
-use Rattle.model_laws.proofs.Lists.{IsIn-append, IsIn-append_right, IsIn-from_map, IsIn-reverse, contains-from_IsIn}
+use Rattle.model_laws.proofs.Lists.{IsIn-append, IsIn-append_right, IsIn-from_map, IsIn-reverse, contains-from_IsIn, each_pushed}
 use Rattle.model_laws.proofs.Names.{Uses, user_of_name, IsIn-names_in_use, own_name_in_use, group_in_use, number-within, number-off_path, number-same_path, IsIn-taken, user_of_number}
 use Rattle.model_laws.proofs.Draws.{cyclic_draw-IsCyclicDraw}
 use Rattle.model_laws.proofs.Trees.{IsOnTree, IsOnTree-listed, IsOnTree-name, space_at-Some, path_first, path_listed, row_at-listed}
@@ -227,11 +227,7 @@ module _ (old : State) (sound : IsCoherent old) (spaces : List Space) (caller : 
 
   -- that of the task which the group is named after
   leader_after : (a b : Row) → (a ≡ child) ⊎ IsIn a old.rows → (b ≡ child) ⊎ IsIn b old.rows → a.group ≡ b.name → a.session ≡ b.session
-  leader_after a b (inl p) (inl q) e = ap (λ (r : Row). r.session) (p ∙ sym q)
-  leader_after a b (inl p) (inr j) e = ap (λ (r : Row). r.session) p ∙ sound.groups.leader caller b there j (ap (λ (r : Row). r.group) (sym p) ∙ e)
-  leader_after a b (inr i) (inl q) e =
-      absurd (new_name (subst (λ x. IsIn x (names_in_use old.rows)) (e ∙ ap (λ (r : Row). r.name) q) (group_in_use old.rows a i)))
-  leader_after a b (inr i) (inr j) e = sound.groups.leader a b i j e
+  leader_after a b i j e = grind (arith, sound.groups.leader a b, sound.groups.leader caller b there, group_in_use old.rows a, new_name)
 
   -- a fork that is made leaves a coherent state
   pub IsCoherent-forked : IsCoherent (with_child state child path)
@@ -413,18 +409,11 @@ module _ (state : State) (sound : IsCoherent state) (stamp : ℕ) (below : IsBel
     listed = at_old;
     tree = tree_new;
     children = children_new;
-    root = λ s i e. elim (IsIn-append s state.spaces (new ∷ []) i) [
-      | inl j ↦ sound.root s j e
-      | inr j ↦ elim j [ inl same ↦ ap (λ (t : Space). t.fallen) same | inr none ↦ elim none [ ] ]
-    ];
-    standing = λ s i e. elim (IsIn-append s state.spaces (new ∷ []) i) [
-      | inl j ↦ inl (let r = sound.standing s j e in (r.0, r.1, r.2, r.3, number_old r.0.name (own_name_in_use state.rows r.0 r.1) s.id ∙ r.4))
-      | inr j ↦ elim j [ inl same ↦ inr (ap (λ (t : Space). t.id) same, first_drawn caller may) | inr none ↦ elim none [ ] ]
-    ];
-    fallen = λ s i e. elim (IsIn-append s state.spaces (new ∷ []) i) [
-      | inl j ↦ emptied s j e
-      | inr j ↦ elim j [ inl same ↦ (let no : s.fallen ≡ false = ap (λ (t : Space). t.fallen) same in absurd (cc)) | inr none ↦ elim none [ ] ]
-    ];
+    root = each_pushed (λ (s : Space). s.id ≡ 0 → s.fallen ≡ false) state.spaces new sound.root (λ e. refl);
+    standing = each_pushed (λ (s : Space). s.fallen ≡ false → HasLiveInit state.rows with_new s.id ⊎ ((s.id ≡ stamp) × (drawn (with_space state p stamp) stamp ≡ 1))) state.spaces new
+        (λ s j e. inl (let r = sound.standing s j e in (r.0, r.1, r.2, r.3, number_old r.0.name (own_name_in_use state.rows r.0 r.1) s.id ∙ r.4)))
+        (λ e. inr (refl, first_drawn caller may));
+    fallen = each_pushed (λ (s : Space). s.fallen ≡ true → IsEmptied state.rows with_new s.id) state.spaces new emptied (λ e. absurd (cc));
     target = (new, IsIn-append_right new state.spaces (new ∷ []) (inl refl), refl, refl);
     around = path_new caller.name.space (subst (λ x. IsIn x (path_up state.spaces p)) here (path_first state.spaces p));
     outside = λ one same.
@@ -437,10 +426,8 @@ module _ (state : State) (sound : IsCoherent state) (stamp : ℕ) (below : IsBel
           let em = sound.fallen s j e in
           record {
             ended = λ r k live. number_old r.name (own_name_in_use state.rows r k) s.id ∙ em.ended r k live;
-            below = λ u k w. elim (IsIn-append u state.spaces (new ∷ []) k) [
-              | inl old ↦ em.below u old (subst (IsIn s.id) (path_old u.id (sound.spaces.chains u old)) w)
-              | inr fresh ↦ elim fresh [ inl same ↦ absurd (below_new s j e (subst (λ (t : Space). IsIn s.id (path_up with_new t.id)) same w)) | inr none ↦ elim none [ ] ]
-            ];
+            below = each_pushed (λ (u : Space). IsIn s.id (path_up with_new u.id) → u.fallen ≡ true) state.spaces new
+                (λ u old w. em.below u old (subst (IsIn s.id) (path_old u.id (sound.spaces.chains u old)) w)) (λ w. absurd (below_new s j e w));
           }
         where
           below_new : (s : Space) → IsIn s state.spaces → s.fallen ≡ true → IsIn s.id (path_up with_new stamp) → ⊥
@@ -474,8 +461,5 @@ forked_first_keeps state stamp caller sound below there live stands shallow here
     let ready : IsReady state spaces caller stamp = IsReady-new state sound.coherent stamp below p stands shallow caller there (eqb-true p caller.name.space here) may in
     Keeps-changed (stamp + 1) (with_child (with_space state p stamp) (child_of (with_space state p stamp) caller stamp) (path_up spaces stamp)) _
     (IsCoherent-forked state sound.coherent spaces caller stamp ready there live may)
-    (IsBelow-forked state sound.coherent spaces caller stamp ready there live may (stamp + 1) (IsBelow-next stamp state below) (λ s i.
-    elim (IsIn-append s state.spaces (new state sound.coherent stamp below p stands shallow ∷ []) i) [
-      | inl j ↦ omega (arith, below.spaces s j)
-      | inr j ↦ elim j [ inl e ↦ (let same : s.id ≡ stamp = ap (λ (t : Space). t.id) e in omega arith) | inr none ↦ elim none [ ] ]
-    ]))
+    (IsBelow-forked state sound.coherent spaces caller stamp ready there live may (stamp + 1) (IsBelow-next stamp state below) (each_pushed (λ (s : Space). s.id < stamp + 1) state.spaces
+    (new state sound.coherent stamp below p stands shallow) (λ s j. omega (arith, below.spaces s j)) (omega arith)))

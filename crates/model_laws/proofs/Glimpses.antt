@@ -132,34 +132,8 @@ module _ (state : State) (sound : IsCoherent state) (root : ℕ) (caller : Row) 
       ≡ filter (λ m. nat_lt 0 m && nat_le from m) (map (number_by kind) (map (glimpse_of state caller.name.space) (filter (is_seen state caller.name.space) rows)))
   next_seen kind from [] all = refl
   next_seen kind from (row ∷ rows) all =
-      go (number state.spaces (name_by kind row) caller.name.space) refl (is_seen state caller.name.space row) refl (next_seen kind from rows (λ r i. all r (inr i)))
-    where
-      rest : List Row → List ℕ
-      rest rs = map (number_by kind) (map (glimpse_of state caller.name.space) rs)
-
-      test : ℕ → Bool
-      test m = nat_lt 0 m && nat_le from m
-
-      same_test : (m : ℕ) → 0 < m → test m ≡ nat_le from m
-      same_test m l = rw (lt-ltb 0 m l) refl
-
-      seen_row : (m : ℕ) → number_by kind (glimpse_of state caller.name.space row) ≡ m → (ns : List ℕ)
-          → filter test (number_by kind (glimpse_of state caller.name.space row) ∷ ns) ≡ cond (test m) (m ∷ filter test ns) (filter test ns)
-      seen_row m e ns = ap (λ k. cond (test k) (k ∷ filter test ns) (filter test ns)) e
-
-      go : (o : Option ℕ) → number state.spaces (name_by kind row) caller.name.space ≡ o → (b : Bool) → is_seen state caller.name.space row ≡ b
-          → filter (nat_le from) (filter_map (λ r. number state.spaces (name_by kind r) caller.name.space) rows) ≡ filter test (rest (filter (is_seen state caller.name.space) rows))
-          → filter (nat_le from) (cons_option o (filter_map (λ r. number state.spaces (name_by kind r) caller.name.space) rows))
-          ≡ filter test (rest (cond b (row ∷ filter (is_seen state caller.name.space) rows) (filter (is_seen state caller.name.space) rows)))
-      go None e false f h = h
-      go None e true f h =
-          h ∙ sym (seen_row 0 (kind_number kind row ∙ ap (λ o. unwrap_or o 0) e) (rest (filter (is_seen state caller.name.space) rows)))
-      go (Some m) e false f h = let yes : is_seen state caller.name.space row ≡ true = kind_seen kind row m e in absurd (cc)
-      go (Some m) e true f h =
-          let l : 0 < m = above_zero (name_by kind row) (kind_in_use kind row (all row (inl refl))) caller.name.space m e in
-          ap (λ ns. cond (nat_le from m) (m ∷ ns) ns) h
-          ∙ ap (λ b. cond b (m ∷ filter test (rest (filter (is_seen state caller.name.space) rows))) (filter test (rest (filter (is_seen state caller.name.space) rows)))) (sym (same_test m l))
-          ∙ sym (seen_row m (kind_number kind row ∙ ap (λ o. unwrap_or o 0) e) (rest (filter (is_seen state caller.name.space) rows)))
+      let h = next_seen kind from rows (λ r i. all r (inr i)) in
+      grind (arith, nat_tests, kind_number kind row, kind_seen kind row, above_zero (name_by kind row) (kind_in_use kind row (all row (inl refl))) caller.name.space)
 
   -- ---- the six queries
 

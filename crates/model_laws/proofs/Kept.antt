@@ -2,6 +2,8 @@
 use Rattle.std.proofs.Common.{◌≡◌, ℕ, ℤ, pos, negsuc, ◌+◌, ◌<◌, Bool, true, false, ◌&&◌, ◌||◌, not, ◌==◌, map, Option, Some, None, refl, sym, ap, ◌∙◌, subst, inl, inr, arith, find, option_map, if◌then◌else◌}
 use Rattle.std.proofs.lemmas.Bool.{and_parts, or_cases, not-false}
 use Rattle.model_laws.proofs.Words.{Name, Row, Control, Reply, State, is_live, path_up, is_numbered, same_name, is_parent, task_at, names_in_use, on_row, with_row, control_at, Outcome, sweep, answered, changed, target_of, session_group, group_for, has_members, set_children_space, IsIn, HasGoodChildrenSpace, IsCoherent, IsSound, IsBelow}
+use Rattle.model_laws.specs.Refusals.{IsGroupFor}
+use Rattle.model_laws.proofs.Refusals.{group_found}
 use Rattle.model_laws.proofs.Lists.{find-Some, list_any-from_one}
 use Rattle.model_laws.proofs.Names.{on_row-keeps, on_row-both, same_name-true, same_name-refl, own_name_in_use, group_in_use, session_in_use, number-within, is_numbered-true}
 use Rattle.model_laws.proofs.Trees.{space_at-Some, same_row, path_first}
@@ -129,23 +131,13 @@ pub group_for-IsOpen : (state : State) → IsSound state → (caller target : Ro
     → target.session ≡ caller.session
     → group_for state caller target pgid ≡ Some group → IsOpen state target group target.session
 unfolding session_group
-group_for-IsOpen state sound caller target (negsuc n) group i same h = absurd (cc)
-group_for-IsOpen state sound caller target (pos n) group i same h = go ((n == 0) || is_numbered state.spaces target.name caller.name.space n) h
+group_for-IsOpen state sound caller target pgid group i same h = open_at pgid ((group_found state caller target pgid).some group h)
   where
-    p : Row → Bool
-    p row = same_name row.session caller.session && is_numbered state.spaces row.group caller.name.space n
-
-    other : (o : Option Row) → find p state.rows ≡ o → option_map (λ (row : Row). row.group) o ≡ Some group → IsOpen state target group target.session
-    other None e f = absurd (cc)
-    other (Some row) e f =
-        let r = find-Some p state.rows row e in
-        let s : row.session ≡ caller.session = same_name-true row.session caller.session (and_parts (same_name row.session caller.session) (is_numbered state.spaces row.group caller.name.space n) r.1).0 in
-        let g : row.group ≡ group = cc in
-        subst (λ n. IsOpen state target n target.session) g (IsOpen-session state sound target row i r.0 (s ∙ sym same))
-
-    go : (b : Bool) → (if b then Some target.name else session_group state caller n) ≡ Some group → IsOpen state target group target.session
-    go true e = let g : target.name ≡ group = cc in subst (λ n. IsOpen state target n target.session) g (IsOpen-own state sound target i)
-    go false e = other (find p state.rows) refl e
+    open_at : (n : ℤ) → IsGroupFor state caller target n group → IsOpen state target group target.session
+    open_at (negsuc n) g = elim g [ ]
+    open_at (pos n) (inl g) = subst (λ a. IsOpen state target a target.session) (sym g.1) (IsOpen-own state sound target i)
+    open_at (pos n) (inr g) =
+        let s = g.1 in subst (λ a. IsOpen state target a target.session) s.3 (IsOpen-session state sound target s.0 i s.1 (s.2 ∙ sym same))
 
 -- whom setpgid names is one of the rows
 pub target_of-IsIn : (state : State) (caller target : Row) (pid : ℤ) → IsIn caller state.rows → target_of state caller pid ≡ Some target

@@ -22,6 +22,15 @@ pub IsIn-append_right : {X : Type 0} (x : X) (xs ys : List X) → IsIn x ys → 
 IsIn-append_right x [] ys h = h
 IsIn-append_right x (y ∷ xs) ys h = inr (IsIn-append_right x xs ys h)
 
+-- what holds of one thing holds of each element of a list of it
+pub only : {X : Type 0} (y : X) (P : X → Type 0) → P y → (x : X) → IsIn x (y ∷ []) → P x
+only y P h x (inl e) = subst P (sym e) h
+only y P h x (inr none) = elim none [ ]
+
+-- what holds of each element and of one thing more holds of each element of the list with it
+pub each_pushed : {X : Type 0} (P : X → Type 0) (xs : List X) (y : X) → ((x : X) → IsIn x xs → P x) → P y → (x : X) → IsIn x (xs ++ y ∷ []) → P x
+each_pushed P xs y old new x i = elim (IsIn-append x xs (y ∷ []) i) [ inl j ↦ old x j | inr j ↦ only y P new x j ]
+
 -- a list turned round has no other elements
 pub IsIn-reverse : {X : Type 0} (x : X) (xs : List X) → IsIn x (reverse xs) → IsIn x xs
 IsIn-reverse x [] h = h

@@ -48,9 +48,9 @@ refused_by reason state true r o later d h = record { said = inl (d.0 refl, refl
 refused_by reason state false r o later d h = record { said = inr (not_from_Decides false d refl, (h refl).said) }
 
 -- what a search finds fits, and where it finds nothing, nothing does
-record IsFound {A : Type 0} (fits : A → Type 0) (o : Option A) : Type 0 where
-  some : (a : A) → o ≡ Some a → fits a
-  none : o ≡ None → (a : A) → fits a → ⊥
+pub record IsFound {A : Type 0} (fits : A → Type 0) (o : Option A) : Type 0 where
+  pub some : (a : A) → o ≡ Some a → fits a
+  pub none : o ≡ None → (a : A) → fits a → ⊥
 
 -- a search along a list
 finds : {A : Type 0} (fits : A → Type 0) (p : A → Bool) (xs : List A) → ((x : A) → IsIn x xs → p x ≡ true → fits x)
@@ -110,7 +110,7 @@ live_found state n = finds (IsLiveTask state n) (λ row. (root_number row.name =
     (λ row t. (t.0, and_from _ _ (eq-eqb _ _ t.1) t.2))
 
 -- the task with the number
-task_found : (state : State) (caller : Row) (n : ℕ) → IsFound (IsTaskTo state caller n) (task_at state caller.name.space n)
+pub task_found : (state : State) (caller : Row) (n : ℕ) → IsFound (IsTaskTo state caller n) (task_at state caller.name.space n)
 unfolding task_at
 task_found state caller n = finds (IsTaskTo state caller n) (λ row. is_numbered state.spaces row.name caller.name.space n) state.rows
     (λ row i e. (i, (Decides-number state caller row.name n).0 e)) (λ row t. (t.0, (Decides-number state caller row.name n).1 t.1))
@@ -128,7 +128,7 @@ self_found state caller n = go (n == 0) refl (task_found state caller n)
     }
 
 -- whom setpgid names
-target_found : (state : State) (caller : Row) (pid : ℤ) → IsFound (IsTarget state caller pid) (target_of state caller pid)
+pub target_found : (state : State) (caller : Row) (pid : ℤ) → IsFound (IsTarget state caller pid) (target_of state caller pid)
 target_found state caller (pos n) = let f = self_found state caller n in record { some = f.some; none = f.none }
 target_found state caller (negsuc n) = record { some = λ row e. cc; none = λ e row t. t }
 
@@ -157,7 +157,7 @@ session_found state caller n = go (find p state.rows) (finds fits p state.rows
     }
 
 -- the group that setpgid finds is one for the target
-group_found : (state : State) (caller target : Row) (pgid : ℤ) → IsFound (IsGroupFor state caller target pgid) (group_for state caller target pgid)
+pub group_found : (state : State) (caller target : Row) (pgid : ℤ) → IsFound (IsGroupFor state caller target pgid) (group_for state caller target pgid)
 group_found state caller target (negsuc n) = record { some = λ group e. cc; none = λ e group t. t }
 group_found state caller target (pos n) = go ((n == 0) || is_numbered state.spaces target.name caller.name.space n)
     (Decides-or (n == 0) (is_numbered state.spaces target.name caller.name.space n) (Decides-eqb n 0) (Decides-number state caller target.name n)) (session_found state caller n)
@@ -199,7 +199,7 @@ Decides-members state group = Decides-like (has_members state group) (λ f. (f.0
     (Decides-any (λ row. same_name row.group group) state.rows)
 
 -- a control group that is busy
-Decides-busy : (state : State) (id : ℕ) → Decides (is_busy state id) (IsBusy state id)
+pub Decides-busy : (state : State) (id : ℕ) → Decides (is_busy state id) (IsBusy state id)
 unfolding is_busy
 Decides-busy state id = Decides-or (list_any (λ row. (row.home == id) && is_live row) state.rows) (list_any (λ c. option_eq ◌==◌ c.parent (Some id)) state.controls)
     (Decides-like _ (λ f. let t = and_parts (f.0.home == id) (is_live f.0) f.2 in (f.0, f.1, eqb-true f.0.home id t.0, t.1)) (λ f. (f.0, f.1, and_from _ _ (eq-eqb f.0.home id f.2) f.3))

@@ -2,7 +2,7 @@
 use Rattle.std.proofs.Common.{◌≡◌, ℕ, ◌<◌, Bool, true, false, ◌==◌, List, [], ◌∷◌, ◌++◌, map, Some, cond, refl, sym, ap, ◌∙◌, subst, inl, inr, arith, filter, find}
 use Rattle.std.proofs.lemmas.Bool.{eqb-true, eq-eqb}
 use Rattle.model_laws.proofs.Words.{IsIn, IsRising}
-use Rattle.model_laws.proofs.Lists.{IsIn-map, IsIn-from_map, IsIn-from_filter, find-Some, find-only, IsIn-append}
+use Rattle.model_laws.proofs.Lists.{IsIn-map, IsIn-from_map, IsIn-from_filter, find-Some, find-only, IsIn-append, each_pushed}
 
 -- what is left out of a rising list leaves it rising
 pub IsRising-filter : {X : Type 0} (key : X → ℕ) (p : X → Bool) (xs : List X) → IsRising (map key xs) → IsRising (map key (filter p xs))
@@ -21,10 +21,7 @@ IsRising-push {X} key (x ∷ xs) y h above = (below, IsRising-push key xs y h.1 
     below : (m : ℕ) → IsIn m (map key (xs ++ y ∷ [])) → key x < m
     below m i =
         let r = IsIn-from_map key m (xs ++ y ∷ []) i in
-        elim (IsIn-append r.0 xs (y ∷ []) r.1) [
-          | inl j ↦ subst (λ n. key x < n) (sym r.2) (h.0 (key r.0) (IsIn-map key r.0 xs j))
-          | inr j ↦ elim j [ inl e ↦ subst (λ n. key x < n) (sym (r.2 ∙ ap key e)) (above x (inl refl)) | inr none ↦ elim none [ ] ]
-        ]
+        subst (λ n. key x < n) (sym r.2) (each_pushed (λ z. key x < key z) xs y (λ z j. h.0 (key z) (IsIn-map key z xs j)) (above x (inl refl)) r.0 r.1)
 
 -- two elements of a rising list with one key are one
 pub unique_key : {X : Type 0} (key : X → ℕ) (xs : List X) → IsRising (map key xs) → (a b : X) → IsIn a xs → IsIn b xs → key a ≡ key b → a ≡ b

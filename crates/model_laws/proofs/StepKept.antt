@@ -1,7 +1,8 @@
 -- Every call leaves a sound state, and the root namespace stands.
 use Rattle.std.proofs.Common.{◌≡◌, ℕ, suc, ◌+◌, ◌<◌, true, false, List, [], ◌∷◌, length, Some, refl, sym, ap, ◌∙◌, subst, inl, inr, arith, IfSome}
 use Rattle.std.specs.Option.{option_map_or}
-use Rattle.model_laws.proofs.Words.{Call, Row, Space, Control, HasGoodPidMax, climb, State, root_state, root_init, root_name, IsIn, Name, path_up, number, names_in_use, control_at, control_path, is_gone, step, makes_id, state_after, IsSound, IsBelow, IsWellNumbered, HasGoodParents, space_at, Outcome, fall, set_group, start_session, set_executed, set_home, set_mark}
+use Rattle.model_laws.proofs.Words.{Call, Row, Space, Control, HasGoodPidMax, climb, State, root_state, root_init, root_name, IsIn, Name, path_up, number, names_in_use, control_at, control_path, is_gone, step, makes_id, state_after, IsSound, IsBelow, IsWellNumbered, HasGoodParents, space_at, Outcome, fall, set_group, start_session, set_executed, set_home, set_mark, HasGoodChildrenSpace, HasLiveInit, IsEmptied, HasGoodLimit}
+use Rattle.model_laws.proofs.Lists.{only}
 use Rattle.model_laws.specs.Script.{EndsSound}
 use Rattle.model_laws.proofs.Trees.{space_at-Some, live_row-Some}
 use Rattle.model_laws.proofs.Names.{is_numbered-true}
@@ -82,68 +83,54 @@ unfolding climb path_up number control_path
 root_state_sound pid_max good = record {
   coherent = record {
     distinct = λ a b i j s n x y. only_name a i ∙ sym (only_name b j);
-    numbered = λ a i. subst (λ n. IsWellNumbered (root_state pid_max).spaces pid_max n) (sym (only_name a i)) (record {
-      listed = λ x j. elim j [ inl e ↦ subst (λ m. (s : Space) × (space_at (root_state pid_max).spaces m ≡ Some s)) (sym e) (_, refl) | inr none ↦ elim none [ ] ];
+    numbered = λ a i. subst (IsWellNumbered spaces pid_max) (sym (only_name a i)) (record {
+      listed = only 0 (λ x. (s : Space) × (space_at spaces x ≡ Some s)) (_, refl);
       one_each = refl;
-      in_range = λ n j. elim j [ inl e ↦ (omega (arith, e), (let g = good.0 in omega (arith, e, g))) | inr none ↦ elim none [ ] ];
+      in_range = only 1 (λ n. (0 < n) × (n < pid_max)) (omega arith, omega (arith, good.0));
     });
-    parents = λ r i. elim i [
-      | inl e ↦ subst (λ q. HasGoodParents (root_state pid_max).rows (root_state pid_max).spaces q) (sym e) (record {
-        first = λ none. refl;
-        good = λ parent some. absurd (cc);
-        chain = inl refl;
-      })
-      | inr none ↦ elim none [ ]
-    ];
-    children = λ r i. elim i [
-      | inl e ↦ inr (subst (λ (q : Row). IsIn q.name.space (path_up (root_state pid_max).spaces q.children_space)) (sym e) (inl refl))
-      | inr none ↦ elim none [ ]
-    ];
-    root = λ s i zero. elim i [ inl e ↦ ap (λ (t : Space). t.fallen) e | inr none ↦ elim none [ ] ];
-    standing = λ s i up. elim i [
-      | inl e ↦ (root_init, inl refl, refl, sym (ap (λ (t : Space). t.id) e), ap (λ (t : Space). number (root_state pid_max).spaces root_name t.id) e)
-      | inr none ↦ elim none [ ]
-    ];
-    fallen = λ s i down. elim i [ inl e ↦ absurd (let up = ap (λ (t : Space). t.fallen) e in cc) | inr none ↦ elim none [ ] ];
-    groups = record {
-      together = λ a b i j same. elim i [
-        | inl e ↦ elim j [ inl f ↦ ap (λ (r : Row). r.session) (e ∙ sym f) | inr none ↦ elim none [ ] ]
-        | inr none ↦ elim none [ ]
-      ];
-      leader = λ a b i j same. elim i [
-        | inl e ↦ elim j [ inl f ↦ ap (λ (r : Row). r.session) (e ∙ sym f) | inr none ↦ elim none [ ] ]
-        | inr none ↦ elim none [ ]
-      ];
-    };
+    parents = only root_init (HasGoodParents rows spaces) (record { first = λ none. refl; good = λ parent some. absurd (cc); chain = inl refl });
+    children = only root_init (HasGoodChildrenSpace spaces) (inr (inl refl));
+    root = only _ (λ (s : Space). s.id ≡ 0 → s.fallen ≡ false) (λ zero. refl);
+    standing = only _ (λ (s : Space). s.fallen ≡ false → HasLiveInit rows spaces s.id) (λ up. (root_init, inl refl, refl, refl, refl));
+    fallen = only _ (λ (s : Space). s.fallen ≡ true → IsEmptied rows spaces s.id) (λ down. absurd (cc));
+    groups = record { together = λ a b i j same. one_session a b i j; leader = λ a b i j same. one_session a b i j };
     rows_rise = (λ m none. elim none [ ], tt);
     spaces = record {
       rising = (λ m none. elim none [ ], tt);
-      older = λ s i. elim i [ inl e ↦ subst (λ (t : Space). IfSome t.parent (λ p. p < t.id)) (sym e) tt | inr none ↦ elim none [ ] ];
+      older = only _ (λ (s : Space). IfSome s.parent (λ p. p < s.id)) tt;
       root = (_, refl, refl);
-      chains = λ s i. elim i [ inl e ↦ subst (λ (t : Space). IsIn 0 (path_up (root_state pid_max).spaces t.id)) (sym e) (inl refl) | inr none ↦ elim none [ ] ];
+      chains = only _ (λ (s : Space). IsIn 0 (path_up spaces s.id)) (inl refl);
     };
     controls = record {
       rising = (λ m none. elim none [ ], tt);
-      older = λ c i. elim i [ inl e ↦ subst (λ (d : Control). IfSome d.parent (λ p. p < d.id)) (sym e) tt | inr none ↦ elim none [ ] ];
+      older = only _ (λ (c : Control). IfSome c.parent (λ p. p < c.id)) tt;
       root = (_, refl, refl);
-      chains = λ c i. elim i [ inl e ↦ subst (λ (d : Control). IsIn 0 (control_path (root_state pid_max).controls d.id)) (sym e) (inl refl) | inr none ↦ elim none [ ] ];
+      chains = only _ (λ (c : Control). IsIn 0 (control_path controls c.id)) (inl refl);
     };
-    limits = λ c i. elim i [
-      | inl e ↦ record { root = λ zero. ap (λ (d : Control). d.limit) e; bounded = λ limit some. absurd (let none = ap (λ (d : Control). d.limit) e in cc) }
-      | inr none ↦ elim none [ ]
-    ];
-    homes = λ r i. elim i [ inl e ↦ subst (λ (q : Row). (c : Control) × (control_at (root_state pid_max).controls q.home ≡ Some c)) (sym e) (_, refl) | inr none ↦ elim none [ ] ];
+    limits = only _ HasGoodLimit (record { root = λ zero. refl; bounded = λ limit some. absurd (cc) });
+    homes = only root_init (λ r. (c : Control) × (control_at controls r.home ≡ Some c)) (_, refl);
   };
-  named = λ s i down. elim i [ inl e ↦ absurd (let up = ap (λ (t : Space). t.fallen) e in cc) | inr none ↦ elim none [ ] ];
+  named = only _ (λ (s : Space). s.fallen ≡ true → (a : Name) × (n : ℕ) × IsIn a (names_in_use rows) × (number spaces a s.id ≡ Some n)) (λ down. absurd (cc));
 }
+  where
+    rows : List Row
+    rows = (root_state pid_max).rows
+
+    spaces : List Space
+    spaces = (root_state pid_max).spaces
+
+    controls : List Control
+    controls = (root_state pid_max).controls
+
+    one_session : (a b : Row) → IsIn a rows → IsIn b rows → a.session ≡ b.session
+    one_session a b i j = ap (λ (r : Row). r.session) (only root_init (λ r. r ≡ root_init) refl a i ∙ sym (only root_init (λ r. r ≡ root_init) refl b j))
 
 -- and its ids are below the first stamp
 pub root_state_below : (pid_max first : ℕ) → 0 < first → IsBelow first (root_state pid_max)
 root_state_below pid_max first l = record {
-  spaces = λ s i. elim i [ inl e ↦ (let z : s.id ≡ 0 = ap (λ (t : Space). t.id) e in omega arith) | inr none ↦ elim none [ ] ];
-  controls = λ c i. elim i [ inl e ↦ (let z : c.id ≡ 0 = ap (λ (d : Control). d.id) e in omega arith) | inr none ↦ elim none [ ] ];
-  children =
-      λ r i. elim i [ inl e ↦ (let z : r.children_space ≡ 0 = ap (λ (q : Row). q.children_space) e in omega arith) | inr none ↦ elim none [ ] ];
+  spaces = only _ (λ (s : Space). s.id < first) l;
+  controls = only _ (λ (c : Control). c.id < first) l;
+  children = only root_init (λ r. r.children_space < first) l;
 }
 
 -- a script that ends in a state leaves a sound one
