@@ -12,19 +12,34 @@ use Rattle.model_laws.proofs.Trees.{IsOnTree, IsOnTree-name, root_space_parent, 
 
 -- ---- how far number 1 is
 
--- number 1 is k parents above n
-abbrev pub Far : (ℕ → Option ℕ) → ℕ → ℕ → Type 0
-Far f zero n = n ≡ 1
-Far f (suc k) n = (p : ℕ) × (f n ≡ Some p) × Far f k p
+-- m is so many parents above n
+abbrev pub Climbs : (ℕ → Option ℕ) → ℕ → ℕ → ℕ → Type 0
+Climbs f zero n m = n ≡ m
+Climbs f (suc k) n m = (p : ℕ) × (f n ≡ Some p) × Climbs f k p m
 
--- a chain that meets number 1 says how far it is
-pub Far-from_chain : (f : ℕ → Option ℕ) (k n : ℕ) → IsIn 1 (climb f k n) → (m : ℕ) × Far f m n
+-- number 1 is
+abbrev pub Far : (ℕ → Option ℕ) → ℕ → ℕ → Type 0
+Far f k n = Climbs f k n 1
+
+-- one step from a number leads to one number
+pub one_step : (f : ℕ → Option ℕ) (n p q : ℕ) → f n ≡ Some p → f n ≡ Some q → p ≡ q
+one_step f n p q a b = cc
+
+-- a chain that meets number 1 is longer than the way to it
+pub way_to_one : (f : ℕ → Option ℕ) (k n : ℕ) → IsIn 1 (climb f k n) → (j : ℕ) × Far f j n × (j < k)
 unfolding climb
-Far-from_chain f zero n i = elim i [ ]
-Far-from_chain f (suc k) n i = elim (climb_cases f k n 1 i) [
-  | inl e ↦ (0, sym e)
-  | inr r ↦ let q = Far-from_chain f k r.0 r.2 in (suc q.0, (r.0, r.1, q.1))
+way_to_one f zero n i = elim i [ ]
+way_to_one f (suc k) n i = elim (climb_cases f k n 1 i) [
+  | inl e ↦ (0, sym e, omega arith)
+  | inr r ↦ let w = way_to_one f k r.0 r.2 in (suc w.0, (r.0, r.1, w.1), omega (arith, w.2))
 ]
+
+-- nothing is further above than number 1, which has no parent
+pub no_further : (f : ℕ → Option ℕ) → f 1 ≡ None → (i j n x : ℕ) → Far f j n → Climbs f i n x → i ≤ j
+no_further f top zero j n x a b = omega arith
+no_further f top (suc i) zero n x a b = let none : f n ≡ None = subst (λ z. f z ≡ None) (sym a) top in let some : f n ≡ Some b.0 = b.1 in absurd (cc)
+no_further f top (suc i) (suc j) n x a b =
+    let l = no_further f top i j a.0 x a.2 (subst (λ z. Climbs f i z x) (one_step f n b.0 a.0 b.1 a.1) b.2) in omega (arith, l)
 
 -- and a number that is so far has a chain that meets it
 chain-from_Far : (f : ℕ → Option ℕ) (k n : ℕ) → Far f k n → IsIn 1 (climb f (suc k) n)
@@ -38,14 +53,7 @@ chain_longer f k (suc more) n x i = subst (λ m. IsIn x (climb f m n)) (omega ar
 
 -- number 1, which has no parent, is as far as it is
 pub Far-unique : (f : ℕ → Option ℕ) → f 1 ≡ None → (j k n : ℕ) → Far f j n → Far f k n → j ≡ k
-Far-unique f top zero zero n a b = refl
-Far-unique f top zero (suc k) n a b = let none : f n ≡ None = subst (λ x. f x ≡ None) (sym a) top in let some : f n ≡ Some b.0 = b.1 in absurd (cc)
-Far-unique f top (suc j) zero n a b = let none : f n ≡ None = subst (λ x. f x ≡ None) (sym b) top in let some : f n ≡ Some a.0 = a.1 in absurd (cc)
-Far-unique f top (suc j) (suc k) n a b =
-    let ea : f n ≡ Some a.0 = a.1 in
-    let eb : f n ≡ Some b.0 = b.1 in
-    let same : b.0 ≡ a.0 = cc in
-    ap suc (Far-unique f top j k a.0 a.2 (subst (Far f k) same b.2))
+Far-unique f top j k n a b = omega (arith, no_further f top j k n 1 b a, no_further f top k j n 1 a b)
 
 -- a filter that leaves an element out is shorter
 length-filter_less : {X : Type 0} (p : X → Bool) (xs : List X) → length (filter p xs) ≤ length xs
@@ -176,7 +184,7 @@ module _ (state : State) (sound : IsCoherent state) where
 
   -- each row is so far from number 1
   pub row_far : (r : Row) → IsIn r state.rows → (k : ℕ) × Far (parent_number state.rows) k (root_number r.name)
-  row_far r i = Far-from_chain (parent_number state.rows) (length state.rows) (root_number r.name) (sound.parents r i).chain
+  row_far r i = let w = way_to_one (parent_number state.rows) (length state.rows) (root_number r.name) (sound.parents r i).chain in (w.0, w.1)
 
   -- the parent of the row at a number is a live row
   pub parent_row : (n p : ℕ) → parent_number state.rows n ≡ Some p

@@ -3,6 +3,7 @@ use Rattle.std.proofs.Common.{◌≡◌, ℕ, zero, suc, ◌+◌, ◌<◌, ◌�
 use Rattle.std.specs.Option.{option_map_or}
 use Rattle.std.proofs.lemmas.Bool.{cases_eq, and_parts, eqb-true, false_from_ne_true}
 use Rattle.model_laws.proofs.Words.{Name, Row, Space, Ended, Exited, Zombie, climb, State, path_up, number, is_numbered, root_number, same_name, is_parent, is_live, row_at, task_at, is_init, parent_number, ancestors, is_subreaper_in, nearest_subreaper, new_parent, row_after_exit, rows_after_exit, IsIn, IsGoodParent, HasGoodParents, IsCoherent, IsSound, IsBelow, Reply, changed}
+use Rattle.model_laws.proofs.SpaceMaps.{HasGoodParents-kept}
 use Rattle.model_laws.proofs.Lists.{IsIn-map, find-Some, find-only, filter-all}
 use Rattle.model_laws.proofs.Chains.{climb_cases, climb_child}
 use Rattle.model_laws.proofs.Names.{is_parent-true, is_parent-from, same_name-true, is_numbered-true, is_numbered-from, own_name_in_use, group_in_use, session_in_use, number-on_path}
@@ -145,47 +146,34 @@ module _ (state : State) (sound : IsCoherent state) (task heir : Row) (ended : E
 
   module _ (heir_far : (k : ℕ) × Far next_parent k (root_number heir.name)) where
     parents_after : (r : Row) → IsIn r state.rows → HasGoodParents rows_after state.spaces (after r)
-    parents_after r i = record {
-      first = λ none. orphan (is_parent task.name r) refl none;
-      good = λ parent e. good (is_parent task.name r) refl parent e;
-      chain =
-          let far = row_far state sound r i in
-          let f = far_after heir_far far.0 (root_number r.name) far.1 in
-          let top = root_init_row state sound in
-          let no_parent : old_parent 1 ≡ Some root_of_task → ⊥ = λ e. (let none : old_parent 1 ≡ None = top_row state sound in cc) in
-          let at : row_at rows_after 1 ≡ Some (after top.0) = row_at-map after (λ r. refl) state.rows 1 ∙ ap (option_map after) (subst (λ m. row_at state.rows m ≡ Some top.0) top.4 (row_at-listed state.rows sound.rows_rise top.0 top.1)) in
-          chain-in_rows rows_after (same_parent 1 no_parent ∙ top_row state sound) (IsIn-roots rows_after 1 (after top.0) at) f.0 (root_number r.name) f.1;
-    }
+    parents_after r i = by (is_parent task.name r) refl
       where
-        orphan : (b : Bool) → is_parent task.name r ≡ b → (after r).parent ≡ None → root_number r.name ≡ 1
-        orphan true e none = let some : (after r).parent ≡ Some heir.name = parent_of_child r e in absurd (cc)
-        orphan false e none = (sound.parents r i).first (sym (parent_of_other r e) ∙ none)
+        chain : IsIn 1 (climb next_parent (length rows_after) (root_number r.name))
+        chain =
+            let far = row_far state sound r i in
+            let f = far_after heir_far far.0 (root_number r.name) far.1 in
+            let top = root_init_row state sound in
+            let no_parent : old_parent 1 ≡ Some root_of_task → ⊥ = λ e. (let none : old_parent 1 ≡ None = top_row state sound in cc) in
+            let at : row_at rows_after 1 ≡ Some (after top.0) = row_at-map after (λ r. refl) state.rows 1 ∙ ap (option_map after) (subst (λ m. row_at state.rows m ≡ Some top.0) top.4 (row_at-listed state.rows sound.rows_rise top.0 top.1)) in
+            chain-in_rows rows_after (same_parent 1 no_parent ∙ top_row state sound) (IsIn-roots rows_after 1 (after top.0) at) f.0 (root_number r.name) f.1
 
-        good : (b : Bool) → is_parent task.name r ≡ b → (parent : Name) → (after r).parent ≡ Some parent
-            → IsGoodParent rows_after state.spaces (after r) parent
-        good true e parent f =
+        by : (b : Bool) → is_parent task.name r ≡ b → HasGoodParents rows_after state.spaces (after r)
+        by false e = HasGoodParents-kept state.rows rows_after state.spaces state.spaces r (after r) refl (parent_of_other r e) refl
+            (λ q j up live. (after q, IsIn-map after q state.rows j, refl, others_live q (λ same. let child : is_parent task.name r ≡ true = is_parent-from task.name r (up ∙ ap Some same) in cc) live)) chain (sound.parents r i)
+        by true e =
+            let own : (after r).parent ≡ Some heir.name = parent_of_child r e in
             let g = (sound.parents r i).good task.name (is_parent-true task.name r e) in
-            let s : (after r).parent ≡ Some heir.name = parent_of_child r e in
-            let same : heir.name ≡ parent = cc in
-            let at : parent.space ≡ task.name.space = ap (λ (a : Name). a.space) (sym same) ∙ beside in
             record {
-              lives = (after heir, IsIn-map after heir state.rows heir_there, same, others_live heir other heir_lives);
-              around = subst (λ x. IsIn x (path_up state.spaces r.name.space)) (sym at) g.around;
-              outside = λ one here. g.outside one (sym at ∙ here);
-            }
-        good false e parent f =
-            let there : r.parent ≡ Some parent = sym (parent_of_other r e) ∙ f in
-            let g = (sound.parents r i).good parent there in
-            record {
-              lives = (
-                after g.lives.0,
-                IsIn-map after g.lives.0 state.rows g.lives.1,
-                g.lives.2,
-                others_live g.lives.0 (λ same.
-                    let child : is_parent task.name r ≡ true = is_parent-from task.name r (there ∙ ap Some (sym g.lives.2 ∙ same)) in cc) g.lives.3,
-              );
-              around = g.around;
-              outside = g.outside;
+              first = λ none. absurd (cc);
+              good = λ parent f.
+                  let same : heir.name ≡ parent = cc in
+                  let at : parent.space ≡ task.name.space = ap (λ (a : Name). a.space) (sym same) ∙ beside in
+                  record {
+                    lives = (after heir, IsIn-map after heir state.rows heir_there, same, others_live heir other heir_lives);
+                    around = subst (λ x. IsIn x (path_up state.spaces r.name.space)) (sym at) g.around;
+                    outside = λ one here. g.outside one (sym at ∙ here);
+                  };
+              chain = chain;
             }
 
     IsCoherent-exit : IsCoherent (record state { rows = rows_after })

@@ -4,6 +4,7 @@ use Rattle.std.specs.Option.{option_map_or}
 use Rattle.std.proofs.lemmas.List.{length-map, length-reverse}
 use Rattle.std.proofs.lemmas.Bool.{cases_order, eqb-true, leb-false}
 use Rattle.model_laws.proofs.Words.{Name, Row, Space, Control, climb, contains, State, space_at, parent_space, path_up, level, number, root_number, is_live, row_at, names_in_use, taken, cyclic_draw, cursor_of, draw, control_at, parent_number, forked, insert_row, with_space, drawn, moved_cursor, with_cursors, child_of, is_gone, with_child, IsIn, IsRising, IsWellNumbered, IsGoodParent, HasGoodParents, HasGoodChildrenSpace, HasLiveInit, IsEmptied, IsTreeOfSpaces, RootStands, IsCoherent, IsSound, IsBelow}
+use Rattle.model_laws.proofs.SpaceMaps.{IsWellNumbered-kept, HasGoodParents-kept}
 use Rattle.model_laws.specs.Draws.{IsCyclicDraw, IsLeastFree}
 use Rattle.model_laws.proofs.Lists.{IsIn-append, IsIn-append_right, IsIn-from_map, IsIn-reverse, contains-from_IsIn, each_pushed}
 use Rattle.model_laws.proofs.Names.{Uses, user_of_name, IsIn-names_in_use, own_name_in_use, group_in_use, number-within, number-off_path, number-same_path, IsIn-taken, user_of_number}
@@ -58,11 +59,7 @@ module _ (old : State) (sound : IsCoherent old) (spaces : List Space) (caller : 
 
   -- the names in use stay well numbered
   well_kept : (a : Name) → IsIn a (names_in_use old.rows) → IsWellNumbered spaces old.pid_max a
-  well_kept a i = let w = sound.numbered a i in record {
-    listed = λ x j. let l = w.listed x (subst (IsIn x) (ready.paths a i) j) in (l.0, ready.listed x l.0 l.1);
-    one_each = w.one_each ∙ ap length (sym (ready.paths a i));
-    in_range = w.in_range;
-  }
+  well_kept a i = IsWellNumbered-kept old.spaces spaces old.pid_max a (ready.paths a i) (λ x s j e. (s, ready.listed x s e)) (sound.numbered a i)
 
   -- ---- the new name
 
@@ -156,20 +153,9 @@ module _ (old : State) (sound : IsCoherent old) (spaces : List Space) (caller : 
   -- the rows from before have good parents
   parents_old : (r : Row) → IsIn r old.rows → HasGoodParents rows_after spaces r
   parents_old r i =
-      let p = sound.parents r i in
-      let own = own_name_in_use old.rows r i in
       let far = (old_far r i).0 in
-      record {
-        first = p.first;
-        good = λ parent e.
-            let g = p.good parent e in
-            record {
-              lives = (g.lives.0, IsIn-insert_old child old.rows g.lives.0 g.lives.1, g.lives.2, g.lives.3);
-              around = subst (IsIn parent.space) (sym (ready.paths r.name own)) g.around;
-              outside = λ one. g.outside (sym (number_kept r.name own r.name.space) ∙ one);
-            };
-        chain = chain_after (root_number r.name) far.0 far.1;
-      }
+      HasGoodParents-kept old.rows rows_after old.spaces spaces r r refl refl (ready.paths r.name (own_name_in_use old.rows r i))
+      (λ q j up live. (q, IsIn-insert_old child old.rows q j, refl, live)) (chain_after (root_number r.name) far.0 far.1) (sound.parents r i)
 
   -- and so has the child
   parents_child : HasGoodParents rows_after spaces child

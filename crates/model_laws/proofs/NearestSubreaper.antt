@@ -7,19 +7,8 @@ use Rattle.model_laws.specs.ParentLaws.{IsAbove, IsNearestSubreaper, HasNoSubrea
 use Rattle.model_laws.proofs.Chains.{climb-None, climb-Some, climb_cases}
 use Rattle.model_laws.proofs.Rising.{unique_key}
 use Rattle.model_laws.proofs.Trees.{row_at-listed}
-use Rattle.model_laws.proofs.Ancestry.{parent_number-at, top_row, parent_row}
+use Rattle.model_laws.proofs.Ancestry.{parent_number-at, top_row, parent_row, Climbs, one_step, way_to_one, no_further}
 use Rattle.model_laws.proofs.ExitKept.{init_beside}
-
--- ---- so many parents above a number
-
--- m is so many parents above n
-abbrev Climbs : (ℕ → Option ℕ) → ℕ → ℕ → ℕ → Type 0
-Climbs f zero n m = n ≡ m
-Climbs f (suc k) n m = (p : ℕ) × (f n ≡ Some p) × Climbs f k p m
-
--- one step from a number leads to one number
-one_step : (f : ℕ → Option ℕ) (n p q : ℕ) → f n ≡ Some p → f n ≡ Some q → p ≡ q
-one_step f n p q a b = cc
 
 -- what is found along a chain is so many parents above its beginning, and nothing nearer passes
 find-climb : (f : ℕ → Option ℕ) (p : ℕ → Bool) (k n m : ℕ) → find p (climb f k n) ≡ Some m
@@ -52,22 +41,6 @@ unfolding climb
 find-climb_none f p zero n h i x l c = absurd (omega arith)
 find-climb_none f p (suc k) n h zero x l c = grind arith
 find-climb_none f p (suc k) n h (suc i) x l c = grind (arith, find-climb_none f p k c.0)
-
--- a chain that meets number 1 is longer than the way to it
-way_to_one : (f : ℕ → Option ℕ) (k n : ℕ) → IsIn 1 (climb f k n) → (j : ℕ) × Climbs f j n 1 × (j < k)
-unfolding climb
-way_to_one f zero n i = elim i [ ]
-way_to_one f (suc k) n i = elim (climb_cases f k n 1 i) [
-  | inl e ↦ (0, sym e, omega arith)
-  | inr r ↦ let w = way_to_one f k r.0 r.2 in (suc w.0, (r.0, r.1, w.1), omega (arith, w.2))
-]
-
--- nothing is further above than number 1, which has no parent
-no_further : (f : ℕ → Option ℕ) → f 1 ≡ None → (i j n x : ℕ) → Climbs f j n 1 → Climbs f i n x → i ≤ j
-no_further f top zero j n x a b = omega arith
-no_further f top (suc i) zero n x a b = let none : f n ≡ None = subst (λ z. f z ≡ None) (sym a) top in let some : f n ≡ Some b.0 = b.1 in absurd (cc)
-no_further f top (suc i) (suc j) n x a b =
-    let l = no_further f top i j a.0 x a.2 (subst (λ z. Climbs f i z x) (one_step f n b.0 a.0 b.1 a.1) b.2) in omega (arith, l)
 
 module _ (state : State) (sound : IsCoherent state) where
   -- the parent of the task with the root number, by its own

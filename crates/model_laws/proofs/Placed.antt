@@ -5,7 +5,7 @@ use Rattle.model_laws.proofs.Words.{Name, Row, Control, State, is_live, same_nam
 use Rattle.model_laws.proofs.Lists.{IsIn-from_map}
 use Rattle.model_laws.proofs.Names.{on_row-keeps, on_row-both, same_name-true, same_name-refl, group_in_use, session_in_use}
 use Rattle.model_laws.proofs.Trees.{same_row}
-use Rattle.model_laws.proofs.RowMaps.{KeepsRows}
+use Rattle.model_laws.proofs.RowMaps.{KeepsRows, HasGoodGroups-of}
 
 -- the task may be put there: who is in the group is in the session, and so is the task that the group is named after, if it is another
 -- one, and who is in a group that is named after the task
@@ -61,16 +61,7 @@ module _ (state : State) (sound : IsSound state) (target : Row) (i : IsIn target
   ]
 
   groups : HasGoodGroups (map after state.rows)
-  groups = record {
-    together = λ a b j k e.
-        let p = IsIn-from_map after a state.rows j in
-        let q = IsIn-from_map after b state.rows k in
-        session_of p.2 ∙ together p.0 q.0 p.1 q.1 (sym (group_of p.2) ∙ e ∙ group_of q.2) ∙ sym (session_of q.2);
-    leader = λ a b j k e.
-        let p = IsIn-from_map after a state.rows j in
-        let q = IsIn-from_map after b state.rows k in
-        session_of p.2 ∙ leader p.0 q.0 p.1 q.1 (sym (group_of p.2) ∙ e ∙ ap (λ (x : Row). x.name) q.2 ∙ name q.0) ∙ sym (session_of q.2);
-  }
+  groups = HasGoodGroups-of state.rows after together (λ a b j k e. leader a b j k (e ∙ name b))
 
   -- the rows keep what a coherent state asks of them
   pub KeepsRows-placed : KeepsRows state (on_row target.name change)

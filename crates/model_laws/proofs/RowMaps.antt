@@ -32,21 +32,21 @@ pub record KeepsRows (state : State) (f : Row → Row) : Type 0 where
   pub groups : HasGoodGroups (map f state.rows)
   pub homes : (r : Row) → IsIn r state.rows → (c : Control) × (control_at state.controls (f r).home ≡ Some c)
 
+-- groups are good after a change of rows where they are of each two of them
+pub HasGoodGroups-of : (rows : List Row) (f : Row → Row)
+    → ((a b : Row) → IsIn a rows → IsIn b rows → (f a).group ≡ (f b).group → (f a).session ≡ (f b).session)
+    → ((a b : Row) → IsIn a rows → IsIn b rows → (f a).group ≡ (f b).name → (f a).session ≡ (f b).session) → HasGoodGroups (map f rows)
+HasGoodGroups-of rows f together leader = record {
+  together = λ a b i j. each_of_map (λ x. x.group ≡ b.group → x.session ≡ b.session) f rows (λ x k.
+      each_of_map (λ y. (f x).group ≡ y.group → (f x).session ≡ y.session) f rows (λ y l. together x y k l) b j) a i;
+  leader = λ a b i j. each_of_map (λ x. x.group ≡ b.name → x.session ≡ b.session) f rows (λ x k.
+      each_of_map (λ y. (f x).group ≡ y.name → (f x).session ≡ y.session) f rows (λ y l. leader x y k l) b j) a i;
+}
+
 -- groups stay good where no row changes its group or session
 pub HasGoodGroups-map : (rows : List Row) (f : Row → Row) → ((r : Row) → (f r).name ≡ r.name) → ((r : Row) → (f r).group ≡ r.group)
     → ((r : Row) → (f r).session ≡ r.session)
     → HasGoodGroups rows → HasGoodGroups (map f rows)
-HasGoodGroups-map rows f names groups sessions good = record {
-  together = λ a b i j e.
-      let p = IsIn-from_map f a rows i in
-      let q = IsIn-from_map f b rows j in
-      ap (λ (r : Row). r.session) p.2 ∙ sessions p.0
-      ∙ good.together p.0 q.0 p.1 q.1 (sym (groups p.0) ∙ sym (ap (λ (r : Row). r.group) p.2) ∙ e ∙ ap (λ (r : Row). r.group) q.2 ∙ groups q.0)
-      ∙ sym (sessions q.0) ∙ sym (ap (λ (r : Row). r.session) q.2);
-  leader = λ a b i j e.
-      let p = IsIn-from_map f a rows i in
-      let q = IsIn-from_map f b rows j in
-      ap (λ (r : Row). r.session) p.2 ∙ sessions p.0
-      ∙ good.leader p.0 q.0 p.1 q.1 (sym (groups p.0) ∙ sym (ap (λ (r : Row). r.group) p.2) ∙ e ∙ ap (λ (r : Row). r.name) q.2 ∙ names q.0)
-      ∙ sym (sessions q.0) ∙ sym (ap (λ (r : Row). r.session) q.2);
-}
+HasGoodGroups-map rows f names groups sessions good = HasGoodGroups-of rows f
+    (λ a b i j e. sessions a ∙ good.together a b i j (sym (groups a) ∙ e ∙ groups b) ∙ sym (sessions b))
+    (λ a b i j e. sessions a ∙ good.leader a b i j (sym (groups a) ∙ e ∙ names b) ∙ sym (sessions b))

@@ -7,7 +7,7 @@ use Rattle.model_laws.proofs.Names.{Uses, user_of_name, IsIn-names_in_use, group
 use Rattle.model_laws.proofs.Rising.{IsRising-filter, unique_key}
 use Rattle.model_laws.proofs.Trees.{row_at-listed}
 use Rattle.model_laws.proofs.RowMaps.{KeepsRows, roots-map}
-use Rattle.model_laws.proofs.SpaceMaps.{HasGoodParents-map, HasGoodChildrenSpace-map, path_up-map, number-map_spaces, IsTreeOfSpaces-map, IsWellNumbered-map}
+use Rattle.model_laws.proofs.SpaceMaps.{HasGoodParents-map, HasGoodChildrenSpace-map, path_up-map, number-map_spaces, IsTreeOfSpaces-map, IsWellNumbered-map, HasGoodParents-kept}
 use Rattle.model_laws.proofs.Ancestry.{Far-same, IsIn-roots, parent_number-at, chain-in_rows, top_row, row_far, parent_row}
 
 module _ (state : State) (sound : IsCoherent state) (p : Row → Bool) (g : Row → Row) (names : (r : Row) → (g r).name ≡ r.name) where
@@ -68,22 +68,8 @@ module _ (state : State) (sound : IsCoherent state) (p : Row → Bool) (g : Row 
 
     -- parents stay good
     pub parents_stay : (x : Row) → IsIn x state.rows → p x ≡ true → HasGoodParents survivors state.spaces (g x)
-    parents_stay x i e =
-        let old = sound.parents x i in
-        record {
-          first = λ none. ap root_number (names x) ∙ old.first (sym (ups x) ∙ none);
-          good = λ parent k.
-              let there : x.parent ≡ Some parent = sym (ups x) ∙ k in
-              let o = old.good parent there in
-              let q = o.lives.0 in
-              let stays = stay x q i o.lives.1 e (there ∙ ap Some (sym o.lives.2)) o.lives.3 in
-              record {
-                lives = (g q, survives q o.lives.1 stays.0, names q ∙ o.lives.2, stays.1);
-                around = subst (λ (a : Name). IsIn parent.space (path_up state.spaces a.space)) (sym (names x)) o.around;
-                outside = subst (λ (a : Name). number state.spaces a a.space ≡ Some 1 → parent.space ≡ a.space → ⊥) (sym (names x)) o.outside;
-              };
-          chain = subst (λ a. IsIn 1 (climb (parent_number survivors) (length survivors) (root_number a))) (sym (names x)) (chain_after x i e);
-        }
+    parents_stay x i e = HasGoodParents-kept state.rows survivors state.spaces state.spaces x (g x) (names x) (ups x) refl
+        (λ q j up live. let s = stay x q i j e up live in (g q, survives q j s.0, names q, s.1)) (chain_after x i e) (sound.parents x i)
 
 -- what a change has to keep: p says which rows stay, g changes rows, h lets namespaces fall
 pub record KeepsRest (state : State) (p : Row → Bool) (g : Row → Row) (h : Space → Space) : Type 0 where

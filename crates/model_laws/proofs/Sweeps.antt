@@ -2,6 +2,7 @@
 use Rattle.std.proofs.Common.{◌≡◌, ℕ, Bool, true, false, not, ◌==◌, List, [], ◌∷◌, length, Option, Some, None, refl, sym, ap, ◌∙◌, subst, inl, inr, arith, option_and_then}
 use Rattle.std.proofs.lemmas.Bool.{eqb-true, ne_eqb, and_left, and_right, not_from_false, not-true}
 use Rattle.model_laws.proofs.Words.{Name, Row, Space, State, space_at, parent_space, path_up, number, names_in_use, taken, is_dead, sweep, IsIn, HasGoodChildrenSpace, IsTreeOfSpaces, IsCoherent, IsSound}
+use Rattle.model_laws.proofs.SpaceMaps.{IsWellNumbered-kept, HasGoodParents-kept}
 use Rattle.model_laws.proofs.Lists.{IsIn-filter, IsIn-from_filter, find-filter}
 use Rattle.model_laws.proofs.Chains.{climb-same}
 use Rattle.model_laws.proofs.Names.{number-on_path, number-within, number-same_path, own_name_in_use, IsIn-taken, user_of_number}
@@ -120,26 +121,10 @@ module _ (state : State) (sound : IsCoherent state) where
   IsSound-sweep = record {
     coherent = record {
       distinct = λ a b i j s n e f. sound.distinct a b i j s n (sym (name_number a i s) ∙ e) (sym (name_number b j s) ∙ f);
-      numbered = λ a i. record {
-        listed = λ x j.
-            let k : IsIn x (path_up state.spaces a.space) = subst (IsIn x) (name_path a i) j in
-            let l = (sound.numbered a i).listed x k in
-            (l.0, space_at-kept state x (name_kept a i x k) ∙ l.1);
-        one_each = (sound.numbered a i).one_each ∙ ap length (sym (name_path a i));
-        in_range = (sound.numbered a i).in_range;
-      };
-      parents = λ r i. record {
-        first = (sound.parents r i).first;
-        good = λ parent e.
-            let g = (sound.parents r i).good parent e in
-            let own = own_name_in_use state.rows r i in
-            record {
-              lives = g.lives;
-              around = subst (IsIn parent.space) (sym (name_path r.name own)) g.around;
-              outside = λ one. g.outside (sym (name_number r.name own r.name.space) ∙ one);
-            };
-        chain = (sound.parents r i).chain;
-      };
+      numbered = λ a i. IsWellNumbered-kept state.spaces (kept_spaces state) state.pid_max a (name_path a i)
+          (λ x s j e. (s, space_at-kept state x (name_kept a i x j) ∙ e)) (sound.numbered a i);
+      parents = λ r i. HasGoodParents-kept state.rows state.rows state.spaces (kept_spaces state) r r refl refl (name_path r.name (own_name_in_use state.rows r i))
+          (λ q j up live. (q, j, refl, live)) (sound.parents r i).chain (sound.parents r i);
       children = λ r i. children_kept r (sound.children r i);
       root = λ s i. sound.root s (from_kept state s i).0;
       standing = λ s i e.
