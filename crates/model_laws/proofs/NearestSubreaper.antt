@@ -1,14 +1,15 @@
--- The new parent is the nearest subreaper, or else the init.
+-- Who takes the children of a task that ends: the nearest subreaper, or else the init.
 use Rattle.std.proofs.Common.{◌≡◌, ℕ, zero, suc, ◌+◌, ◌<◌, ◌≤◌, Bool, true, false, ◌&&◌, ◌==◌, [], length, Option, Some, None, cond, refl, sym, ap, ◌∙◌, subst, inl, inr, arith, find, option_map, drop}
 use Rattle.std.specs.Option.{option_map_or}
 use Rattle.std.proofs.lemmas.Bool.{eqb-true, eq-eqb, and_parts, and_from}
-use Rattle.model_laws.proofs.Words.{Row, IsIn, climb, State, root_number, is_live, row_at, task_at, parent_number, ancestors, is_subreaper_in, nearest_subreaper, new_parent, IsCoherent}
-use Rattle.model_laws.specs.ParentLaws.{IsAbove, IsNearestSubreaper, HasNoSubreaper, TakesOrphans, NewParentIsNearest}
+use Rattle.model_laws.proofs.Words.{Row, IsIn, climb, State, root_number, is_live, row_at, task_at, parent_number, ancestors, is_subreaper_in, nearest_subreaper, new_parent, IsCoherent, Space, number, is_numbered, path_up}
+use Rattle.model_laws.proofs.Names.{own_name_in_use, is_numbered-true, is_numbered-from, number-on_path}
+use Rattle.model_laws.proofs.Lists.{find-only}
+use Rattle.model_laws.specs.ParentLaws.{IsAbove, IsNearestSubreaper, HasNoSubreaper, TakesOrphans}
 use Rattle.model_laws.proofs.Chains.{climb-None, climb-Some, climb_cases}
 use Rattle.model_laws.proofs.Rising.{unique_key}
-use Rattle.model_laws.proofs.Trees.{row_at-listed}
+use Rattle.model_laws.proofs.Trees.{row_at-listed, path_first, space_at-Some, same_row}
 use Rattle.model_laws.proofs.Ancestry.{parent_number-at, top_row, parent_row, Climbs, one_step, way_to_one, no_further}
-use Rattle.model_laws.proofs.ExitKept.{init_beside}
 
 -- what is found along a chain is so many parents above its beginning, and nothing nearer passes
 find-climb : (f : ℕ → Option ℕ) (p : ℕ → Bool) (k n m : ℕ) → find p (climb f k n) ≡ Some m
@@ -56,7 +57,7 @@ module _ (state : State) (sound : IsCoherent state) where
   parent_is r i parent e = parent_number-at state.rows (root_number r.name) r (row_at-listed state.rows sound.rows_rise r i) ∙ ap (option_map root_number) e
 
   -- a task above is so many parents above by its number
-  climbs : (k : ℕ) (a task : Row) → IsIn task state.rows → IsAbove state.rows k a task → Climbs parent_of k (root_number task.name) (root_number a.name)
+  pub climbs : (k : ℕ) (a task : Row) → IsIn task state.rows → IsAbove state.rows k a task → Climbs parent_of k (root_number task.name) (root_number a.name)
   climbs zero a task i e = ap (λ (r : Row). root_number r.name) (sym e)
   climbs (suc k) a task i up = (root_number up.0.name, parent_is task i up.0 up.2, climbs k a up.0 up.1 up.3)
 
@@ -156,23 +157,46 @@ module _ (state : State) (sound : IsCoherent state) where
         let yes : is_subreaper_in state.rows task.name.space (root_number b.name) ≡ true = marked-from task.name.space b there s.marked s.beside in
         cc
 
+-- the init of a live task's namespace: it lives there, is number 1 there, and is found by that
+init_beside : (state : State) → IsCoherent state → (task : Row) → IsIn task state.rows → is_live task ≡ true
+    → (init : Row) × IsIn init state.rows × (is_live init ≡ true) × (init.name.space ≡ task.name.space) × (number state.spaces init.name task.name.space ≡ Some 1) × (task_at state task.name.space 1 ≡ Some init)
+unfolding task_at
+init_beside state sound task there lives =
+    let l = (sound.numbered task.name (own_name_in_use state.rows task there)).listed task.name.space (path_first state.spaces task.name.space) in
+    let at = space_at-Some state.spaces task.name.space l.0 l.1 in
+    let i = sound.standing l.0 at.0 (stands l.0 at.0 at.1 l.0.fallen refl) in
+    let one : number state.spaces i.0.name task.name.space ≡ Some 1 = subst (λ x. number state.spaces i.0.name x ≡ Some 1) at.1 i.4 in
+    let first : find (λ r. is_numbered state.spaces r.name task.name.space 1) state.rows ≡ Some i.0 = find-only (λ r. is_numbered state.spaces r.name task.name.space 1) state.rows i.0 i.1 (is_numbered-from state.spaces i.0.name task.name.space 1 one)
+    (λ r j e. same_row state.rows sound.rows_rise r i.0 j i.1 (sound.distinct r.name i.0.name (own_name_in_use state.rows r j) (own_name_in_use state.rows i.0 i.1) task.name.space 1 (is_numbered-true state.spaces r.name task.name.space 1 e) one)) in
+    (i.0, i.1, i.2, i.3 ∙ at.1, one, first)
+  where
+    -- the namespace of a live task stands
+    stands : (s : Space) → IsIn s state.spaces → s.id ≡ task.name.space → (b : Bool) → s.fallen ≡ b → s.fallen ≡ false
+    stands s i here false e = e
+    stands s i here true e =
+        let no : number state.spaces task.name s.id ≡ None = (sound.fallen s i e).ended task there lives in
+        let on = number-on_path state.spaces task.name s.id (sound.numbered task.name (own_name_in_use state.rows task there)).one_each (subst (λ x. IsIn x (path_up state.spaces task.name.space)) (sym here) (path_first state.spaces task.name.space)) in
+        let yes : number state.spaces task.name s.id ≡ Some on.0 = on.1 in
+        absurd (cc)
+
 -- the new parent is the nearest subreaper, or else the init
-pub new_parent_is_nearest : NewParentIsNearest
+pub takes_orphans : (state : State) (task : Row) → IsCoherent state → IsIn task state.rows → is_live task ≡ true
+    → (heir : Row) × (new_parent state task ≡ Some heir.name) × TakesOrphans state task heir
 unfolding new_parent
-new_parent_is_nearest state task sound i lives none = go (nearest_subreaper state.rows task) refl
+takes_orphans state task sound i lives = go (nearest_subreaper state.rows task) refl
   where
     go : (o : Option ℕ) → nearest_subreaper state.rows task ≡ o
         → (heir : Row) × (option_map (λ (r : Row). r.name) (option_map_or (row_at state.rows) (nearest_subreaper state.rows task) (task_at state task.name.space 1)) ≡ Some heir.name) × TakesOrphans state task heir
     go (Some m) e =
-        let a = nearest-found state sound.coherent task i m e in
-        let at : row_at state.rows m ≡ Some a.0 = subst (λ x. row_at state.rows x ≡ Some a.0) a.3 (row_at-listed state.rows sound.coherent.rows_rise a.0 a.1) in (
+        let a = nearest-found state sound task i m e in
+        let at : row_at state.rows m ≡ Some a.0 = subst (λ x. row_at state.rows x ≡ Some a.0) a.3 (row_at-listed state.rows sound.rows_rise a.0 a.1) in (
           a.0,
           ap (λ p. option_map (λ (r : Row). r.name) (option_map_or (row_at state.rows) p (task_at state task.name.space 1))) e ∙ ap (option_map (λ (r : Row). r.name)) at,
           record { there = a.1; lives = a.2; beside = a.4; who = inl a.5 },
         )
     go None e =
-        let b = init_beside state sound.coherent task i lives in (
+        let b = init_beside state sound task i lives in (
           b.0,
           ap (λ p. option_map (λ (r : Row). r.name) (option_map_or (row_at state.rows) p (task_at state task.name.space 1))) e ∙ ap (option_map (λ (r : Row). r.name)) b.5,
-          record { there = b.1; lives = b.2; beside = b.3; who = inr (nearest-none state sound.coherent task i e, b.4) },
+          record { there = b.1; lives = b.2; beside = b.3; who = inr (nearest-none state sound task i e, b.4) },
         )
