@@ -1,5 +1,5 @@
 -- Chains of parents among the rows.
-use Rattle.std.proofs.Common.{◌≡◌, ℕ, zero, suc, ◌+◌, ◌-◌, ◌<◌, ◌≤◌, Bool, true, false, not, ◌==◌, List, [], ◌∷◌, ◌++◌, map, reverse, length, Option, Some, None, cond, refl, sym, ap, ◌∙◌, subst, inl, inr, arith, filter, option_map, option_and_then, slice_index}
+use Rattle.std.proofs.Common.{◌≡◌, ℕ, zero, suc, ◌+◌, ◌-◌, ◌<◌, ◌≤◌, Bool, true, false, not, ◌==◌, List, [], ◌∷◌, ◌++◌, map, reverse, length, Option, Some, None, refl, sym, ap, ◌∙◌, subst, inl, inr, arith, filter, option_map, option_and_then, slice_index}
 use Rattle.std.proofs.lemmas.Bool.{eq-eqb, ne_eqb, not_from_false, not_from_true}
 use Rattle.std.proofs.lemmas.List.{length-map, reverse-append, length-reverse}
 use Rattle.model_laws.proofs.Words.{Name, Row, Space, climb, State, parent_space, path_up, beside, number, root_number, is_live, row_at, parent_number, IsIn, IsWellNumbered, IsTreeOfSpaces, IsCoherent}
@@ -166,21 +166,18 @@ module _ (state : State) (sound : IsCoherent state) where
 
   -- number 1 has no parent
   pub top_row : parent_number state.rows 1 ≡ None
-  top_row = go (row_at state.rows 1) refl
+  top_row = grind (arith, never)
     where
-      parentless : (r : Row) (o : Option Name) → IsIn r state.rows → root_number r.name ≡ 1 → r.parent ≡ o → option_map root_number o ≡ None
-      parentless r None i one e = refl
-      parentless r (Some a) i one e =
-          let g = (sound.parents r i).good a e in
+      never : (p : ℕ) → parent_number state.rows 1 ≡ Some p → ⊥
+      never p e =
+          let u = parent_number-row state.rows 1 p e in
+          let at = row_at-Some state.rows 1 u.0 u.2 in
+          let g = (sound.parents u.0 at.0).good u.1 u.3 in
           let top = root_init_row in
-          let same : r ≡ top.0 = unique_key (λ (x : Row). root_number x.name) state.rows sound.rows_rise r top.0 i top.1 (one ∙ sym top.4) in
-          let here : r.name.space ≡ 0 = ap (λ (x : Row). x.name.space) same ∙ top.3 in
-          let up : a.space ≡ 0 = root_path a.space (subst (λ x. IsIn a.space (path_up state.spaces x)) here g.around) in
-          absurd (g.outside (subst (λ x. number state.spaces r.name x ≡ Some 1) (sym here) (number-root_of_row r i ∙ ap Some one)) (up ∙ sym here))
-
-      go : (o : Option Row) → row_at state.rows 1 ≡ o → option_and_then (λ (r : Row). option_map root_number r.parent) o ≡ None
-      go None e = refl
-      go (Some r) e = let q = row_at-Some state.rows 1 r e in parentless r r.parent q.0 q.1 refl
+          let same : u.0 ≡ top.0 = unique_key (λ (x : Row). root_number x.name) state.rows sound.rows_rise u.0 top.0 at.0 top.1 (at.1 ∙ sym top.4) in
+          let here : u.0.name.space ≡ 0 = ap (λ (x : Row). x.name.space) same ∙ top.3 in
+          let up : u.1.space ≡ 0 = root_path u.1.space (subst (λ x. IsIn u.1.space (path_up state.spaces x)) here g.around) in
+          g.outside (subst (λ x. number state.spaces u.0.name x ≡ Some 1) (sym here) (number-root_of_row u.0 at.0 ∙ ap Some at.1)) (up ∙ sym here)
 
   -- each row is so far from number 1
   pub row_far : (r : Row) → IsIn r state.rows → (k : ℕ) × Far (parent_number state.rows) k (root_number r.name)
@@ -203,5 +200,4 @@ module _ (state : State) (sound : IsCoherent state) where
       (r.0, record { first = at; lives = r.2; here = r.3; parentless = none r.0.parent (sym (parent_number-at state.rows 1 r.0 at) ∙ top_row) })
     where
       none : (o : Option Name) → option_map root_number o ≡ None → o ≡ None
-      none None e = refl
-      none (Some a) e = absurd (cc)
+      none o e = grind arith

@@ -1,6 +1,5 @@
 -- Chains of parents.
 use Rattle.std.proofs.Common.{◌≡◌, ℕ, zero, suc, List, [], ◌∷◌, ◌++◌, length, Option, Some, None, refl, sym, ap, ◌∙◌, subst, ◌⊎◌, inl, inr, ◌+◌, ◌≤◌, arith, length-append}
-use Rattle.std.specs.Option.{option_map_or}
 use Rattle.model_laws.proofs.Words.{climb, IsIn}
 use Rattle.model_laws.proofs.Lists.{IsIn-append_right}
 
@@ -118,13 +117,7 @@ climb_parent f (suc k) id x root z i below = grind (arith, climb_cases f k x 0 (
 pub climb-same : (f g : ℕ → Option ℕ) (k id : ℕ) → ((x : ℕ) → IsIn x (climb f k id) → g x ≡ f x) → climb g k id ≡ climb f k id
 unfolding climb
 climb-same f g zero id same = refl
-climb-same f g (suc k) id same =
-    ap (λ o. id ∷ option_map_or (climb g k) o []) (same id (inl refl))
-    ∙ ap (λ ids. id ∷ ids) (go (f id) (λ p e. climb-same f g k p (λ x i. same x (inr (subst (λ o. IsIn x (option_map_or (climb f k) o [])) (sym e) i)))))
-  where
-    go : (o : Option ℕ) → ((p : ℕ) → o ≡ Some p → climb g k p ≡ climb f k p) → option_map_or (climb g k) o [] ≡ option_map_or (climb f k) o []
-    go None h = refl
-    go (Some p) h = h p refl
+climb-same f g (suc k) id same = grind (arith, same id, λ (p : ℕ). climb-same f g k p, same)
 
 -- chains end within as many steps as they may take
 pub length-climb : (f : ℕ → Option ℕ) (k id : ℕ) → length (climb f k id) ≤ k

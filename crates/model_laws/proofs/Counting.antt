@@ -1,7 +1,7 @@
 -- What changes a control group's count.
-use Rattle.std.proofs.Common.{◌≡◌, ℕ, suc, ◌+◌, ◌<◌, Bool, true, false, not, ◌&&◌, ◌==◌, List, [], ◌∷◌, map, length, Option, Some, cond, refl, sym, ap, ◌∙◌, subst, inl, inr, arith, filter, if◌then◌else◌}
+use Rattle.std.proofs.Common.{◌≡◌, ℕ, ◌+◌, ◌<◌, Bool, true, false, not, ◌&&◌, ◌==◌, List, [], ◌∷◌, map, length, Option, Some, refl, sym, ap, ◌∙◌, subst, inl, inr, arith, filter, if◌then◌else◌}
 use Rattle.std.specs.Option.{option_map_or}
-use Rattle.std.proofs.lemmas.Bool.{cases_Bool, not-true, eqb-true, eqb-false, not_from_false, false_from_ne_true}
+use Rattle.std.proofs.lemmas.Bool.{not-true, eqb-true, eqb-false, not_from_false, false_from_ne_true}
 use Rattle.std.proofs.lemmas.Bool.Decides.{same_from_decides}
 use Rattle.model_laws.proofs.Words.{Call, Fork, Exit, Wait, Move, Which, Name, Row, Ended, Exited, Control, Reply, Forked, Done, Reaped, contains, State, root_number, same_name, is_live, live_row, number_or_zero, on_row, with_row, control_at, control_path, count, is_below, Outcome, sweep, changed, with_space, is_init, goes_in_fall, row_after_exit, rows_after_exit, row_after_fall, rows_after_fall, new_parent, fall, without_row, set_group, start_session, set_executed, with_control, is_busy, rehome, without_control, limited, with_limit, set_home, set_children_space, set_mark, IsIn, IsRising, IsTreeOfControls, IsSound, IsBelow}
 use Rattle.model_laws.specs.CountLaws.{one_if, may_change_counts}
@@ -11,7 +11,7 @@ use Rattle.model_laws.proofs.Trees.{control_to_root, control_at-Some, live_row-S
 use Rattle.model_laws.proofs.Calls.{Comes, still, born, born_first, fell, handed_on, waits, reaped, grouped, led, executed, control_made, control_removed, limit_set, moved, joined, marked, no_answer}
 use Rattle.model_laws.proofs.EndsKept.{reaped_row}
 use Rattle.model_laws.proofs.ControlsKept.{with_made, path_old, others, other_path, no_child, control_path-map, path_of_parent, path_of_child}
-use Rattle.model_laws.proofs.Limits.{length-cond, count-forked}
+use Rattle.model_laws.proofs.Limits.{count-forked}
 
 -- ---- how many pass a test
 

@@ -1,9 +1,8 @@
 -- Wait and the fall of a namespace leave a sound state.
-use Rattle.std.proofs.Common.{◌≡◌, ℕ, ◌<◌, Bool, true, false, ◌&&◌, not, ◌==◌, List, [], ◌∷◌, map, Option, Some, None, refl, sym, ap, ◌∙◌, subst, inl, inr, arith, filter, nat_lt, if◌then◌else◌}
-use Rattle.std.specs.Option.{option_map_or}
+use Rattle.std.proofs.Common.{◌≡◌, ℕ, ◌<◌, Bool, true, false, ◌&&◌, not, ◌==◌, List, [], ◌∷◌, map, Some, refl, sym, ap, ◌∙◌, subst, inl, inr, arith, filter}
 use Rattle.std.proofs.lemmas.List.{map-id}
 use Rattle.std.proofs.lemmas.Bool.{eqb-false, or_cases, or_from, or_parts, or_left, or_right, not-true, not_from_false, false_from_ne_true}
-use Rattle.model_laws.proofs.Words.{Which, Name, Row, Space, Life, Live, Zombie, Exited, Killed, State, path_up, is_within, number, number_or_zero, root_number, same_name, is_parent, is_live, is_member, is_selected, matching, least_row, without_row, ended_children, has_parent_within, goes_in_fall, row_after_fall, rows_after_fall, fallen_below, fall, IsIn, IsCoherent, IsSound, IsBelow, Reply, changed}
+use Rattle.model_laws.proofs.Words.{Which, Name, Row, Space, State, path_up, is_within, number, root_number, same_name, is_parent, is_live, is_member, is_selected, matching, least_row, without_row, ended_children, has_parent_within, goes_in_fall, row_after_fall, rows_after_fall, fallen_below, fall, IsIn, IsCoherent, IsSound, IsBelow, Reply, changed}
 use Rattle.model_laws.proofs.Lists.{IsIn-from_filter, IsIn-from_map, IsIn-from_contains, contains-from_IsIn}
 use Rattle.model_laws.proofs.Names.{same_name-true, own_name_in_use, group_in_use, session_in_use, number-on_path, number-off_path}
 use Rattle.model_laws.proofs.Trees.{same_row, path_first, path_trans, path_antisym}

@@ -1,18 +1,16 @@
 -- Exit leaves a sound state.
-use Rattle.std.proofs.Common.{◌≡◌, ℕ, zero, suc, ◌+◌, ◌<◌, ◌≤◌, Bool, true, false, ◌&&◌, ◌==◌, List, [], map, length, drop, Option, Some, None, refl, sym, ap, ◌∙◌, subst, ◌⊎◌, inl, inr, arith, find, option_map, option_and_then, if◌then◌else◌}
-use Rattle.std.specs.Option.{option_map_or}
-use Rattle.std.proofs.lemmas.Bool.{cases_eq, and_parts, eqb-true, false_from_ne_true}
-use Rattle.model_laws.proofs.Words.{Name, Row, Space, Ended, Exited, Zombie, climb, State, path_up, number, is_numbered, root_number, same_name, is_parent, is_live, row_at, task_at, is_init, parent_number, ancestors, is_subreaper_in, nearest_subreaper, new_parent, row_after_exit, rows_after_exit, IsIn, IsGoodParent, HasGoodParents, IsCoherent, IsSound, IsBelow, Reply, changed}
+use Rattle.std.proofs.Common.{◌≡◌, ℕ, zero, suc, ◌+◌, ◌<◌, ◌≤◌, Bool, true, false, List, map, length, Option, Some, None, refl, sym, ap, ◌∙◌, subst, ◌⊎◌, inl, inr, arith, option_map, option_and_then, if◌then◌else◌}
+use Rattle.std.proofs.lemmas.Bool.{cases_eq}
+use Rattle.model_laws.proofs.Words.{Name, Row, Ended, Exited, climb, State, path_up, number, root_number, is_parent, is_live, row_at, is_init, parent_number, new_parent, row_after_exit, rows_after_exit, IsIn, HasGoodParents, IsCoherent, IsSound, IsBelow, Reply, changed}
 use Rattle.model_laws.specs.ParentLaws.{TakesOrphans}
 use Rattle.model_laws.proofs.NearestSubreaper.{climbs, takes_orphans}
 use Rattle.model_laws.proofs.SpaceMaps.{HasGoodParents-kept}
-use Rattle.model_laws.proofs.Lists.{IsIn-map, find-Some, find-only, filter-all}
-use Rattle.model_laws.proofs.Chains.{climb_cases, climb_child}
-use Rattle.model_laws.proofs.Names.{is_parent-true, is_parent-from, same_name-true, is_numbered-true, is_numbered-from, own_name_in_use, group_in_use, session_in_use, number-on_path}
+use Rattle.model_laws.proofs.Lists.{IsIn-map, filter-all}
+use Rattle.model_laws.proofs.Names.{is_parent-true, is_parent-from, same_name-true, is_numbered-from, group_in_use, session_in_use}
 use Rattle.model_laws.proofs.Rising.{unique_key}
-use Rattle.model_laws.proofs.Trees.{same_row, row_at-listed, row_at-Some, space_at-Some, path_first, path_trans, path_antisym}
+use Rattle.model_laws.proofs.Trees.{row_at-listed, path_trans, path_antisym}
 use Rattle.model_laws.proofs.RowMaps.{row_at-map, each_of_map, HasGoodGroups-map}
-use Rattle.model_laws.proofs.Ancestry.{Far, Far-unique, Far-same, IsIn-roots, parent_number-at, chain-in_rows, row_on_tree, root_init_row, top_row, row_far, parent_row, Climbs, one_step}
+use Rattle.model_laws.proofs.Ancestry.{Far, Far-unique, Far-same, IsIn-roots, chain-in_rows, row_on_tree, root_init_row, top_row, row_far, parent_row, Climbs, one_step}
 use Rattle.model_laws.proofs.Survivors.{all_stay, IsCoherent-all_stay}
 use Rattle.model_laws.proofs.Kept.{Keeps, Keeps-changed}
 
@@ -220,7 +218,7 @@ IsCoherent-heir state sound task heir ended there lives no_init takes = elim tak
       let up = climbs state sound (suc near.distance) heir task there near.is.above in
       let h = nearer f (top_row state sound) (suc near.distance) far.0 (root_number task.name) (root_number heir.name) up far.1 in
       let other : heir.name ≡ task.name → ⊥ = λ e.
-          (let same : h.0 ≡ far.0 = Far-unique f (top_row state sound) h.0 far.0 (root_number task.name) (subst (Far f h.0) (ap root_number e) h.1) far.1 in omega (arith, h.2)) in
+      (let same : h.0 ≡ far.0 = Far-unique f (top_row state sound) h.0 far.0 (root_number task.name) (subst (Far f h.0) (ap root_number e) h.1) far.1 in omega (arith, h.2)) in
       IsCoherent-exit state sound task heir ended there lives takes.there takes.lives takes.beside other no_init
       (far_from_ancestor state sound task heir ended there lives takes.there takes.lives takes.beside other no_init h.0 far.0 far.1 (omega (arith, h.2)) (root_number heir.name) h.1)
   | inr init ↦

@@ -3,7 +3,7 @@ use Rattle.std.proofs.Common.{◌≡◌, ℕ, zero, suc, ◌<◌, ◌≤◌, ◌
 use Rattle.std.proofs.Math.Path.{fun_ext}
 use Rattle.std.proofs.lemmas.Bool.{eq-eqb, ne_eqb}
 use Rattle.model_laws.proofs.Words.{climb, IsIn, IsRising, IsTree}
-use Rattle.model_laws.proofs.Lists.{IsIn-append, IsIn-from_map, find-map, find-none, find-append_found, find-append_last, each_pushed}
+use Rattle.model_laws.proofs.Lists.{IsIn-from_map, find-map, find-none, find-append_found, find-append_last, each_pushed}
 use Rattle.model_laws.proofs.Chains.{climb-same, climb_parent, climb_cases, climb_short, IsIn-climb_parent, IsIn-climb_more}
 use Rattle.model_laws.proofs.Rising.{IsRising-push, find-key, find-key_at}
 
@@ -34,14 +34,7 @@ module _ (X : Type 0) (id : X → ℕ) (parent : X → Option ℕ) where
     -- all on a path to the root are there
     pub chain_listed : (k n m : ℕ) → IsIn 0 (climb (parent_at xs) k n) → IsIn m (climb (parent_at xs) k n) → (x : X) × (at xs m ≡ Some x)
     chain_listed k n zero on i = (tree.root.0, tree.root.1)
-    chain_listed k n (suc m) on i = go (at xs (suc m)) refl (climb_parent (parent_at xs) k n (suc m) root_parent on i (λ e. omega arith))
-      where
-        go : (o : Option X) → at xs (suc m) ≡ o → (p : ℕ) × (parent_at xs (suc m) ≡ Some p) → (x : X) × (at xs (suc m) ≡ Some x)
-        go None e r =
-            let none : parent_at xs (suc m) ≡ None = ap (option_and_then parent) e in
-            let some : parent_at xs (suc m) ≡ Some r.0 = r.1 in
-            absurd (cc)
-        go (Some x) e r = (x, e)
+    chain_listed k n (suc m) on i = let r = climb_parent (parent_at xs) k n (suc m) root_parent on i (λ e. omega arith) in grind arith
 
   -- ---- changes that keep ids and parents
 

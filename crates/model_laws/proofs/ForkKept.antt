@@ -1,13 +1,12 @@
 -- Fork leaves a sound state.
 use Rattle.std.proofs.Common.{option_map, nat_le, unwrap_or, ◌≡◌, ℕ, suc, ◌+◌, ◌<◌, ◌≤◌, true, false, List, [], ◌∷◌, ◌++◌, map, length, Option, Some, None, refl, sym, ap, ◌∙◌, subst, ◌⊎◌, inl, inr, arith, ◌==◌}
-use Rattle.std.specs.Option.{option_map_or}
 use Rattle.std.proofs.lemmas.List.{length-map, length-reverse}
-use Rattle.std.proofs.lemmas.Bool.{cases_order, eqb-true, leb-false}
+use Rattle.std.proofs.lemmas.Bool.{eqb-true, leb-false}
 use Rattle.model_laws.proofs.Words.{Name, Row, Space, Control, climb, contains, State, space_at, parent_space, path_up, level, number, root_number, is_live, row_at, names_in_use, taken, cyclic_draw, cursor_of, draw, control_at, parent_number, forked, insert_row, with_space, drawn, moved_cursor, with_cursors, child_of, is_gone, with_child, IsIn, IsRising, IsWellNumbered, IsGoodParent, HasGoodParents, HasGoodChildrenSpace, HasLiveInit, IsEmptied, IsTreeOfSpaces, RootStands, IsCoherent, IsSound, IsBelow}
 use Rattle.model_laws.proofs.SpaceMaps.{IsWellNumbered-kept, HasGoodParents-kept}
 use Rattle.model_laws.specs.Draws.{IsCyclicDraw, IsLeastFree}
-use Rattle.model_laws.proofs.Lists.{IsIn-append, IsIn-append_right, IsIn-from_map, IsIn-reverse, contains-from_IsIn, each_pushed}
-use Rattle.model_laws.proofs.Names.{Uses, user_of_name, IsIn-names_in_use, own_name_in_use, group_in_use, number-within, number-off_path, number-same_path, IsIn-taken, user_of_number}
+use Rattle.model_laws.proofs.Lists.{IsIn-append_right, IsIn-from_map, IsIn-reverse, contains-from_IsIn, each_pushed, no_element}
+use Rattle.model_laws.proofs.Names.{user_of_name, IsIn-names_in_use, own_name_in_use, group_in_use, number-within, number-off_path, number-same_path, IsIn-taken, user_of_number}
 use Rattle.model_laws.proofs.Draws.{cyclic_draw-IsCyclicDraw}
 use Rattle.model_laws.proofs.Trees.{IsOnTree, IsOnTree-listed, IsOnTree-name, space_at-Some, path_first, path_listed, row_at-listed}
 use Rattle.model_laws.proofs.Forests.{at-push_old, at-push_none, at-push_new, not_there, chain-push, chain-new_cases, IsIn-chain_new, IsTree-push}
@@ -189,13 +188,9 @@ module _ (old : State) (sound : IsCoherent old) (spaces : List Space) (caller : 
   standing_after : (s : Space) → IsIn s spaces → s.fallen ≡ false → HasLiveInit rows_after spaces s.id
   standing_after s i e = elim (ready.standing s i e) [
     | inl r ↦ (r.0, IsIn-insert_old child old.rows r.0 r.1, r.2, r.3, r.4)
-    | inr new ↦ (
-      child,
-      IsIn-insert_new child old.rows,
-      refl,
-      sym new.0,
-      subst (λ x. number spaces child.name x ≡ Some 1) (sym new.0) (number-child_of_at state caller t t (path_first spaces t) ∙ ap Some new.1),
-    )
+    | inr new ↦
+        let one : number spaces child.name t ≡ Some 1 = number-child_of_at state caller t t (path_first spaces t) ∙ ap Some new.1 in
+        (child, IsIn-insert_new child old.rows, refl, sym new.0, subst (λ x. number spaces child.name x ≡ Some 1) (sym new.0) one)
   ]
 
   -- a fallen one stays without a live task
@@ -354,17 +349,13 @@ module _ (state : State) (sound : IsCoherent state) (stamp : ℕ) (below : IsBel
 
   -- nothing has a number in the new namespace yet
   pub nothing_taken : taken (with_space state p stamp) stamp ≡ []
-  nothing_taken = go (taken (with_space state p stamp) stamp) refl
-    where
-      go : (ns : List ℕ) → taken (with_space state p stamp) stamp ≡ ns → taken (with_space state p stamp) stamp ≡ []
-      go [] e = e
-      go (n ∷ ns) e =
-          let u = user_of_number (with_space state p stamp) stamp n (subst (IsIn n) (sym e) (inl refl)) in
-          let w : IsIn stamp (path_up with_new u.0.space) = (number-within with_new u.0 stamp n u.2).0 in
-          let l = path_listed state.spaces sound.spaces u.0.space stamp (name_on_tree u.0 u.1) (subst (IsIn stamp) (name_path_old u.0 u.1) w) in
-          let some : space_at state.spaces stamp ≡ Some l.0 = l.1 in
-          let none : space_at state.spaces stamp ≡ None = not_there Space (λ t. t.id) (λ t. t.parent) state.spaces new below.spaces in
-          absurd (cc)
+  nothing_taken = no_element (taken (with_space state p stamp) stamp) (λ n i.
+      let u = user_of_number (with_space state p stamp) stamp n i in
+      let w : IsIn stamp (path_up with_new u.0.space) = (number-within with_new u.0 stamp n u.2).0 in
+      let l = path_listed state.spaces sound.spaces u.0.space stamp (name_on_tree u.0 u.1) (subst (IsIn stamp) (name_path_old u.0 u.1) w) in
+      let some : space_at state.spaces stamp ≡ Some l.0 = l.1 in
+      let none : space_at state.spaces stamp ≡ None = not_there Space (λ t. t.id) (λ t. t.parent) state.spaces new below.spaces in
+      cc)
 
   -- the new namespace has drawn no number
   pub new_cursor : cursor_of (with_space state p stamp) stamp ≡ 0

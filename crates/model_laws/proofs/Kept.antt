@@ -1,6 +1,5 @@
 -- Calls that change fields of rows leave a sound state.
-use Rattle.std.proofs.Common.{◌≡◌, ℕ, ℤ, pos, negsuc, ◌+◌, ◌<◌, Bool, true, false, ◌&&◌, ◌||◌, not, ◌==◌, map, Option, Some, None, refl, sym, ap, ◌∙◌, subst, inl, inr, arith, find, option_map, if◌then◌else◌}
-use Rattle.std.proofs.lemmas.Bool.{and_parts, or_cases, not-false}
+use Rattle.std.proofs.Common.{◌≡◌, ℕ, ℤ, pos, negsuc, ◌+◌, ◌<◌, true, false, ◌&&◌, ◌||◌, not, map, Some, refl, sym, ap, ◌∙◌, subst, inl, inr, arith}
 use Rattle.model_laws.proofs.Words.{Name, Row, Control, Reply, State, is_live, path_up, is_numbered, same_name, is_parent, task_at, names_in_use, on_row, with_row, control_at, Outcome, sweep, answered, changed, target_of, session_group, group_for, has_members, set_children_space, IsIn, HasGoodChildrenSpace, IsCoherent, IsSound, IsBelow}
 use Rattle.model_laws.specs.Refusals.{IsGroupFor}
 use Rattle.model_laws.proofs.Refusals.{group_found}

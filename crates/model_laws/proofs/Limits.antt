@@ -1,8 +1,8 @@
 -- No fork raises a count above its limit.
-use Rattle.std.proofs.Common.{◌≡◌, ℕ, suc, ◌+◌, ◌≤◌, Bool, true, false, List, [], ◌∷◌, length, Option, Some, None, cond, refl, sym, ap, ◌∙◌, subst, inl, inr, arith, filter, nat_lt, option_and_then}
+use Rattle.std.proofs.Common.{◌≡◌, ℕ, ◌+◌, ◌≤◌, Bool, false, List, [], ◌∷◌, length, Option, Some, None, cond, refl, sym, ap, ◌∙◌, subst, arith, filter, nat_lt, option_and_then}
 use Rattle.std.specs.Option.{option_map_or}
-use Rattle.std.proofs.lemmas.Bool.{cases_Bool, ltb-false, le-ltb}
-use Rattle.model_laws.proofs.Words.{Call, Fork, Row, Control, Entry, Forked, State, root_number, live_row, control_at, control_path, count, is_below, is_limited_below, passed_limit, Outcome, sweep, insert_row, with_space, child_of, step, ForkedWithinLimits, ForksStayWithinLimits, IsIn, IsSound, IsBelow, forked}
+use Rattle.std.proofs.lemmas.Bool.{ltb-false, le-ltb}
+use Rattle.model_laws.proofs.Words.{Call, Fork, Row, Control, Entry, Forked, State, live_row, control_at, control_path, count, is_below, is_limited_below, passed_limit, Outcome, sweep, insert_row, with_space, child_of, step, ForkedWithinLimits, ForksStayWithinLimits, IsIn, IsSound, IsBelow, forked}
 use Rattle.model_laws.proofs.Lists.{find-None}
 use Rattle.model_laws.proofs.Rising.{find-key}
 use Rattle.model_laws.proofs.Trees.{row_at-listed}

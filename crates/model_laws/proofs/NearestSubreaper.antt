@@ -6,7 +6,7 @@ use Rattle.model_laws.proofs.Words.{Row, IsIn, climb, State, root_number, is_liv
 use Rattle.model_laws.proofs.Names.{own_name_in_use, is_numbered-true, is_numbered-from, number-on_path}
 use Rattle.model_laws.proofs.Lists.{find-only}
 use Rattle.model_laws.specs.ParentLaws.{IsAbove, IsNearestSubreaper, HasNoSubreaper, TakesOrphans}
-use Rattle.model_laws.proofs.Chains.{climb-None, climb-Some, climb_cases}
+use Rattle.model_laws.proofs.Chains.{climb-None, climb-Some}
 use Rattle.model_laws.proofs.Rising.{unique_key}
 use Rattle.model_laws.proofs.Trees.{row_at-listed, path_first, space_at-Some, same_row}
 use Rattle.model_laws.proofs.Ancestry.{parent_number-at, top_row, parent_row, Climbs, one_step, way_to_one, no_further}
@@ -61,27 +61,15 @@ module _ (state : State) (sound : IsCoherent state) where
   climbs zero a task i e = ap (λ (r : Row). root_number r.name) (sym e)
   climbs (suc k) a task i up = (root_number up.0.name, parent_is task i up.0 up.2, climbs k a up.0 up.1 up.3)
 
-  -- and back: what is so many parents above is a task, which lives if it is not the task itself
-  above : (k m : ℕ) (task : Row) → IsIn task state.rows → Climbs parent_of (suc k) (root_number task.name) m
-      → (a : Row) × IsIn a state.rows × (is_live a ≡ true) × (root_number a.name ≡ m) × IsAbove state.rows (suc k) a task
-  above k m task i c =
+  -- and back: what is so many parents above a live task is one
+  above : (k m : ℕ) (task : Row) → IsIn task state.rows → is_live task ≡ true → Climbs parent_of k (root_number task.name) m
+      → (a : Row) × IsIn a state.rows × (is_live a ≡ true) × (root_number a.name ≡ m) × IsAbove state.rows k a task
+  above zero m task i live e = (task, i, live, e, refl)
+  above (suc k) m task i live c =
       let u = parent_row state sound (root_number task.name) c.0 c.1 in
       let own : u.0 ≡ task = row_is u.0 task u.2 i u.3 in
-      let up : task.parent ≡ Some u.1.name = ap (λ (r : Row). r.parent) (sym own) ∙ u.7 in
-      go k u.1 u.4 u.6 (subst (λ z. Climbs parent_of k z m) (sym u.5) c.2) up
-    where
-      go : (j : ℕ) (parent : Row) → IsIn parent state.rows → is_live parent ≡ true → Climbs parent_of j (root_number parent.name) m → task.parent ≡ Some parent.name
-          → (a : Row) × IsIn a state.rows × (is_live a ≡ true) × (root_number a.name ≡ m) × IsAbove state.rows (suc j) a task
-      go j parent there live d up = let r = further j parent there live d in (r.0, r.1, r.2, r.3, (parent, there, up, r.4))
-        where
-          further : (j : ℕ) (p : Row) → IsIn p state.rows → is_live p ≡ true → Climbs parent_of j (root_number p.name) m
-              → (a : Row) × IsIn a state.rows × (is_live a ≡ true) × (root_number a.name ≡ m) × IsAbove state.rows j a p
-          further zero p t l e = (p, t, l, e, refl)
-          further (suc j) p t l e =
-              let u = parent_row state sound (root_number p.name) e.0 e.1 in
-              let own : u.0 ≡ p = row_is u.0 p u.2 t u.3 in
-              let r = further j u.1 u.4 u.6 (subst (λ z. Climbs parent_of j z m) (sym u.5) e.2) in
-              (r.0, r.1, r.2, r.3, (u.1, u.4, ap (λ (x : Row). x.parent) (sym own) ∙ u.7, r.4))
+      let r = above k m u.1 u.4 u.6 (subst (λ z. Climbs parent_of k z m) (sym u.5) c.2) in
+      (r.0, r.1, r.2, r.3, (u.1, u.4, ap (λ (x : Row). x.parent) (sym own) ∙ u.7, r.4))
 
   -- ---- the nearest
 
@@ -102,7 +90,7 @@ module _ (state : State) (sound : IsCoherent state) where
   there_above zero a task i e = subst (λ r. IsIn r state.rows) (sym e) i
   there_above (suc k) a task i up = there_above k a up.0 up.1 up.3
 
-  module _ (task : Row) (i : IsIn task state.rows) where
+  module _ (task : Row) (i : IsIn task state.rows) (live : is_live task ≡ true) where
     -- the chain may be as long as there are rows, and one more
     one_more : length state.rows + 1 ≡ suc (length state.rows)
     one_more = omega arith
@@ -127,7 +115,7 @@ module _ (state : State) (sound : IsCoherent state) where
         go None e = let none : find (is_subreaper_in state.rows task.name.space) [] ≡ Some m = ap (find (is_subreaper_in state.rows task.name.space)) (sym (ancestors-None e)) ∙ h in absurd (cc)
         go (Some q) e =
             let f = find-climb parent_of (is_subreaper_in state.rows task.name.space) (length state.rows) q m (ap (find (is_subreaper_in state.rows task.name.space)) (sym (ancestors-Some q e)) ∙ h) in
-            let a = above f.0 m task i (q, e, f.1) in
+            let a = above (suc f.0) m task i live (q, e, f.1) in
             let t = marked-true task.name.space a.0 a.1 (subst (λ x. is_subreaper_in state.rows task.name.space x ≡ true) (sym a.3) f.2) in (
               a.0,
               a.1,
@@ -188,7 +176,7 @@ takes_orphans state task sound i lives = go (nearest_subreaper state.rows task) 
     go : (o : Option ℕ) → nearest_subreaper state.rows task ≡ o
         → (heir : Row) × (option_map (λ (r : Row). r.name) (option_map_or (row_at state.rows) (nearest_subreaper state.rows task) (task_at state task.name.space 1)) ≡ Some heir.name) × TakesOrphans state task heir
     go (Some m) e =
-        let a = nearest-found state sound task i m e in
+        let a = nearest-found state sound task i lives m e in
         let at : row_at state.rows m ≡ Some a.0 = subst (λ x. row_at state.rows x ≡ Some a.0) a.3 (row_at-listed state.rows sound.rows_rise a.0 a.1) in (
           a.0,
           ap (λ p. option_map (λ (r : Row). r.name) (option_map_or (row_at state.rows) p (task_at state task.name.space 1))) e ∙ ap (option_map (λ (r : Row). r.name)) at,
@@ -198,5 +186,5 @@ takes_orphans state task sound i lives = go (nearest_subreaper state.rows task) 
         let b = init_beside state sound task i lives in (
           b.0,
           ap (λ p. option_map (λ (r : Row). r.name) (option_map_or (row_at state.rows) p (task_at state task.name.space 1))) e ∙ ap (option_map (λ (r : Row). r.name)) b.5,
-          record { there = b.1; lives = b.2; beside = b.3; who = inr (nearest-none state sound task i e, b.4) },
+          record { there = b.1; lives = b.2; beside = b.3; who = inr (nearest-none state sound task i lives e, b.4) },
         )

@@ -2,7 +2,6 @@
 use Rattle.std.proofs.Common.{◌≡◌, true, Some, map, sym, ap, ◌∙◌, subst, ◌⊎◌, inl, inr, if◌then◌else◌, arith}
 use Rattle.std.proofs.lemmas.Bool.{cases_Bool}
 use Rattle.model_laws.proofs.Words.{Name, Row, Control, State, is_live, same_name, names_in_use, on_row, control_at, IsIn, HasGoodChildrenSpace, HasGoodGroups, IsSound}
-use Rattle.model_laws.proofs.Lists.{IsIn-from_map}
 use Rattle.model_laws.proofs.Names.{on_row-keeps, on_row-both, same_name-true, same_name-refl, group_in_use, session_in_use}
 use Rattle.model_laws.proofs.Trees.{same_row}
 use Rattle.model_laws.proofs.RowMaps.{KeepsRows, HasGoodGroups-of}
@@ -52,13 +51,7 @@ module _ (state : State) (sound : IsSound state) (target : Row) (i : IsIn target
   led b k e = grind (arith, row_cases b k, free.leader b k e, put b k, same_name-refl b.name target.name)
 
   leader : (a b : Row) → IsIn a state.rows → IsIn b state.rows → (after a).group ≡ b.name → (after a).session ≡ (after b).session
-  leader a b j k e = elim (row_cases a j) [
-    | inl p ↦ session_of p.1 ∙ sym (led b k (sym e ∙ group_of p.1))
-    | inr p ↦ elim (row_cases b k) [
-      | inl q ↦ session_of p ∙ free.own a j (sym (group_of p) ∙ e ∙ q.0) ∙ sym (session_of q.1)
-      | inr q ↦ session_of p ∙ sound.coherent.groups.leader a b j k (sym (group_of p) ∙ e) ∙ sym (session_of q)
-    ]
-  ]
+  leader a b j k e = grind (arith, row_cases a j, row_cases b k, led b k, free.own a j, sound.coherent.groups.leader a b j k)
 
   groups : HasGoodGroups (map after state.rows)
   groups = HasGoodGroups-of state.rows after together (λ a b j k e. leader a b j k (e ∙ name b))

@@ -1,9 +1,8 @@
 -- What a wait reaps is the least of the selected children that have ended.
-use Rattle.std.proofs.Common.{◌≡◌, ℕ, ◌≤◌, Bool, true, false, not, ◌&&◌, List, [], ◌∷◌, Option, Some, None, refl, ap, ◌∙◌, subst, inl, inr, arith, nat_lt, if◌then◌else◌}
-use Rattle.std.specs.Option.{option_map_or}
-use Rattle.std.proofs.lemmas.Bool.{and_parts, and_from, ltb-true, ltb-false, not-true, not_from_false, cases_Bool}
+use Rattle.std.proofs.Common.{◌≡◌, ℕ, ◌≤◌, true, false, not, ◌&&◌, List, [], ◌∷◌, Some, None, refl, ap, ◌∙◌, subst, inl, inr, arith}
+use Rattle.std.proofs.lemmas.Bool.{and_parts, and_from, not-true, not_from_false, cases_Bool}
 use Rattle.std.proofs.lemmas.Bool.Decides.{nat_tests}
-use Rattle.model_laws.proofs.Words.{Which, Row, Ended, Life, Live, Zombie, Killed, Reaped, NoneYet, IsIn, State, number_or_zero, is_parent, is_live, live_row, Outcome, is_selected, matching, least_row, end_of, ended_children, Wait}
+use Rattle.model_laws.proofs.Words.{Which, Row, Ended, Zombie, Reaped, NoneYet, IsIn, State, number_or_zero, is_parent, is_live, live_row, Outcome, is_selected, matching, least_row, end_of, ended_children, Wait}
 use Rattle.model_laws.specs.WaitLaws.{MayBeReaped, IsReaped}
 use Rattle.model_laws.proofs.Lists.{IsIn-filter, IsIn-from_filter}
 use Rattle.model_laws.proofs.Names.{is_parent-true, is_parent-from}

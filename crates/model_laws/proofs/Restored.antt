@@ -29,31 +29,25 @@ IsOpen-leader state sound task leader i j may = record {
   ];
 }
 
+-- what is done to what is found leaves a sound state, and so does nothing
+stays_or : {A : Type 0} (state : State) (o : Option A) (f : A → State) → IsSound state → ((a : A) → o ≡ Some a → StaysSound state (f a))
+    → StaysSound state (option_map_or f o state)
+stays_or state None f sound h = (sound, λ stamp below. below)
+stays_or state (Some a) f sound h = h a refl
+
 -- the state after is sound
 pub enlisted_keeps : (state : State) (n m : ℕ) → IsSound state → StaysSound state (enlisted state n m)
 unfolding enlisted
-enlisted_keeps state n m sound = task (live_row state.rows n) refl
+enlisted_keeps state n m sound =
+    stays_or state (live_row state.rows n) _ sound (λ t e. stays_or state (live_row state.rows m) _ sound (λ l f.
+    goes t l (live_row-Some state.rows n t e).0 (live_row-Some state.rows m l f).0 (may_enlist state t l) refl))
   where
-    went : Row → Row → State
-    went t l = if may_enlist state t l then sweep (with_row state t.name (enlist l)) else state
-
-    same : StaysSound state state
-    same = (sound, λ stamp below. below)
-
     goes : (t l : Row) → IsIn t state.rows → IsIn l state.rows → (b : Bool) → may_enlist state t l ≡ b
         → StaysSound state (if b then sweep (with_row state t.name (enlist l)) else state)
-    goes t l i j false e = same
+    goes t l i j false e = (sound, λ stamp below. below)
     goes t l i j true e =
         let k = placed_keeps state t (enlist l) sound i (λ r. refl) (IsOpen-leader state sound t l i j e) in
         (IsSound-sweep (with_row state t.name (enlist l)) k.0, λ stamp below. IsBelow-sweep stamp (with_row state t.name (enlist l)) (k.1 stamp below))
-
-    leader : (t : Row) → IsIn t state.rows → (o : Option Row) → live_row state.rows m ≡ o → StaysSound state (option_map_or (went t) o state)
-    leader t i None e = same
-    leader t i (Some l) e = goes t l i (live_row-Some state.rows m l e).0 (may_enlist state t l) refl
-
-    task : (o : Option Row) → live_row state.rows n ≡ o → StaysSound state (option_map_or (λ t. option_map_or (went t) (live_row state.rows m) state) o state)
-    task None e = same
-    task (Some t) e = leader t (live_row-Some state.rows n t e).0 (live_row state.rows m) refl
 
 -- ---- the cursors
 
