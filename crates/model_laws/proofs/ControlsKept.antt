@@ -239,7 +239,7 @@ HasGoodLimit-limited controls tree id parent limit g found under good c old = go
 
     bounded : (o : Option ℕ) → option_map_or (nat_lt greatest_limit) o false ≡ false → (l : ℕ) → o ≡ Some l → l ≤ greatest_limit
     bounded None e l some = absurd (cc)
-    bounded (Some m) e l some = let same : m ≡ l = cc in subst (λ n. n ≤ greatest_limit) same (ltb-false greatest_limit m e)
+    bounded (Some m) e l some = grind (arith, ltb-false greatest_limit m)
 
     go : (b : Bool) → (c.id == id) ≡ b → HasGoodLimit (record c { limit = if b then limit else c.limit })
     go false e = old

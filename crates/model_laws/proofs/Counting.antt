@@ -151,25 +151,14 @@ CountsSame-on_row : (state : State) (c : ℕ) (name : Name) (change : Row → Ro
 unfolding with_row
 CountsSame-on_row state c name change reply homes = CountsSame-map state c (on_row name change) reply (on_row-keeps name change (λ r. r.home) homes)
 
--- a new control group changes no other count
-CountsSame-made : (state : State) → IsSound state → (stamp : ℕ) → IsBelow stamp state → (parent c : ℕ) (reply : Reply)
-    → CountsSame state c (changed (with_control state parent stamp) reply)
-unfolding count sweep with_control
-CountsSame-made state sound stamp below parent c reply = record {
-  same =
-      λ g h d e. ap length (filter-same (λ r. is_below (with_made state.controls sound.coherent.controls stamp parent below.controls) r.home c) (λ r. is_below state.controls r.home c) state.rows (λ r i.
-      let home = sound.coherent.homes r i in
-      ap (λ p. contains p c) (path_old state.controls sound.coherent.controls stamp parent below.controls r.home (control_to_root state.controls sound.coherent.controls r.home home.0 home.1))));
-}
-
--- a limit changes no count
-CountsSame-limited : (state : State) (id : ℕ) (limit : Option ℕ) (c : ℕ) (reply : Reply)
-    → CountsSame state c (changed (with_limit state id limit) reply)
-unfolding count sweep with_limit
-CountsSame-limited state id limit c reply = record {
-  same =
-      λ g h d e. ap length (filter-same (λ r. is_below (map (limited id limit) state.controls) r.home c) (λ r. is_below state.controls r.home c) state.rows (λ r i.
-      ap (λ p. contains p c) (control_path-map state.controls (limited id limit) (λ x. refl) (λ x. refl) r.home)));
+-- other control groups in which each home has the path that it had
+CountsSame-paths : (state : State) (controls : List Control) (c : ℕ) (reply : Reply)
+    → ((r : Row) → IsIn r state.rows → control_path controls r.home ≡ control_path state.controls r.home)
+    → CountsSame state c (changed (record state { controls = controls }) reply)
+unfolding count sweep
+CountsSame-paths state controls c reply paths = record {
+  same = λ g h d e.
+      ap length (filter-same (λ r. is_below controls r.home c) (λ r. is_below state.controls r.home c) state.rows (λ r i. ap (λ p. contains p c) (paths r i)));
 }
 
 -- a number that is in one list exactly where it is in the other
@@ -215,7 +204,7 @@ CountsSame-removed state sound id parent c g reply found under idle = record {
 pub nothing_else : (state : State) (stamp : ℕ) (call : Call) (o : Outcome) → Comes state stamp call o → IsSound state → IsBelow stamp state
     → may_change_counts state call ≡ false
     → (c : ℕ) → CountsSame state c o
-unfolding rows_after_exit
+unfolding rows_after_exit with_control with_limit
 nothing_else state stamp call o (still _ reply answer) sound below quiet c = record { same = λ g h d e. refl }
 nothing_else state stamp call o (executed n caller found) sound below quiet c = CountsSame-on_row state c caller.name set_executed _ (λ r. refl)
 nothing_else state stamp call o (fell n status caller found deep one) sound below quiet c =
@@ -225,9 +214,12 @@ nothing_else state stamp call o (handed_on n status caller found none) sound bel
 nothing_else state stamp call o (grouped n pid pgid caller target group found aimed same own there) sound below quiet c =
     CountsSame-on_row state c target.name (set_group group) _ (λ r. refl)
 nothing_else state stamp call o (led n caller found none) sound below quiet c = CountsSame-on_row state c caller.name start_session _ (λ r. refl)
-nothing_else state stamp call o (control_made parent g found shallow) sound below quiet c = CountsSame-made state sound stamp below parent c _
+nothing_else state stamp call o (control_made parent g found shallow) sound below quiet c = CountsSame-paths state _ c _ (λ r i.
+    let home = sound.coherent.homes r i in
+    path_old state.controls sound.coherent.controls stamp parent below.controls r.home (control_to_root state.controls sound.coherent.controls r.home home.0 home.1))
 nothing_else state stamp call o (control_removed id parent g found under idle) sound below quiet c = CountsSame-removed state sound id parent c g _ found under idle
-nothing_else state stamp call o (limit_set id parent limit g found under good) sound below quiet c = CountsSame-limited state id limit c _
+nothing_else state stamp call o (limit_set id parent limit g found under good) sound below quiet c =
+    CountsSame-paths state _ c _ (λ r i. control_path-map state.controls (limited id limit) (λ x. refl) (λ x. refl) r.home)
 nothing_else state stamp call o (joined n target caller row found there live) sound below quiet c =
     CountsSame-on_row state c caller.name (set_children_space row.name.space) _ (λ r. refl)
 nothing_else state stamp call o (marked n on caller found) sound below quiet c = CountsSame-on_row state c caller.name (set_mark on) _ (λ r. refl)

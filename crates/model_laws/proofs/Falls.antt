@@ -65,23 +65,6 @@ module _ (state : State) (sound : IsSound state) (init : Row) (status : ℕ) (th
   kept_as r life i e same =
       let build : Life → Row = λ l. record r { life = l } in subst (λ x. IsIn x (rows_after_fall state init status)) (ap build same) (kept r i e)
 
-  -- three tests of which the first does not hold
-  first_fails : (a b c : Bool) → a ≡ true → (not a && b && c) ≡ false
-  first_fails a b c e = grind arith
-
-  -- or the second
-  second_fails : (a b c : Bool) → b ≡ false → (not a && b && c) ≡ false
-  second_fails a b c e = grind arith
-
-  -- or the third
-  third_fails : (a b c : Bool) → c ≡ false → (not a && b && c) ≡ false
-  third_fails a b c e = grind arith
-
-  -- the life after the fall, by the tests
-  life_after : (r : Row) (a b c : Bool) → same_name r.name init.name ≡ a → is_member state.spaces space r ≡ b → is_live r ≡ c
-      → (after r).life ≡ (if a then Zombie (Exited status) else (if b && c then Zombie Killed else r.life))
-  life_after r a b c e f g = rw (e, f, g) refl
-
   -- every part of the fall but for the sweep
   fallen_rows : (next : State) → next.rows ≡ rows_after_fall state init status
       → ((s t : Space) → IsIn s state.spaces → IsIn space (path_up state.spaces s.id) → IsIn t next.spaces → t.id ≡ s.id → t.fallen ≡ true)
@@ -91,19 +74,15 @@ module _ (state : State) (sound : IsSound state) (init : Row) (status : ℕ) (th
   unfolding rows_after_fall
   fallen_rows next rows below standing controls = record {
     controls = controls;
-    itself = moved (record init { life = Zombie (Exited status) }) (kept_as init (Zombie (Exited status)) there
-        (first_fails (same_name init.name init.name) (is_member state.spaces space init) (has_parent_within state space init) (same_name-refl init.name init.name refl))
-        (life_after init true (is_member state.spaces space init) (is_live init) (same_name-refl init.name init.name refl) refl refl));
-    outside = λ r i none. moved r (kept_as r r.life i
-        (second_fails (same_name r.name init.name) (is_member state.spaces space r) (has_parent_within state space r) (member-false r none))
-        (life_after r false false (is_live r) (differs r (λ e. none (subst (λ (a : Name). (n : ℕ) × (number state.spaces a space ≡ Some n)) (sym e) own_member))) (member-false r none) refl));
+    itself = (let own = same_name-refl init.name init.name refl in moved (record init { life = Zombie (Exited status) }) (kept_as init (Zombie (Exited status)) there (grind arith) (grind arith)));
+    outside = λ r i none.
+        let off = member-false r none in
+        let other = differs r (λ e. none (subst (λ (a : Name). (n : ℕ) × (number state.spaces a space ≡ Some n)) (sym e) own_member)) in
+        moved r (kept_as r r.life i (grind (arith, off)) (grind (arith, off, other)));
     gone = λ r o up x i e. taken r o up x (subst (IsIn x) rows i) e;
-    killed = λ r o none live. moved (record r { life = Zombie Killed }) (kept_as r (Zombie Killed) o.0
-        (third_fails (same_name r.name init.name) (is_member state.spaces space r) (has_parent_within state space r) (parent-false r o.0 none))
-        (life_after r false true true (differs r o.1) (member-true r o.2) live));
-    ended = λ r o none dead. moved r (kept_as r r.life o.0
-        (third_fails (same_name r.name init.name) (is_member state.spaces space r) (has_parent_within state space r) (parent-false r o.0 none))
-        (life_after r false true false (differs r o.1) (member-true r o.2) dead));
+    killed = λ r o none live. moved (record r { life = Zombie Killed })
+        (kept_as r (Zombie Killed) o.0 (grind (arith, parent-false r o.0 none)) (grind (arith, differs r o.1, member-true r o.2)));
+    ended = λ r o none dead. moved r (kept_as r r.life o.0 (grind (arith, parent-false r o.0 none)) (grind (arith, differs r o.1)));
     nobody_new = λ x i. let q = IsIn-from_map after x (filter stays state.rows) (subst (IsIn x) rows i) in
         let f = IsIn-from_filter stays q.0 state.rows q.1 in (q.0, f.0, ap (λ (r : Row). r.name) (sym q.2));
     below = below;
@@ -116,15 +95,12 @@ module _ (state : State) (sound : IsSound state) (init : Row) (status : ℕ) (th
       own_member : IsMember state space init
       own_member = number-on_path state.spaces init.name space (sound.coherent.numbered init.name (own_name_in_use state.rows init there)).one_each (path_first state.spaces space)
 
-      all_three : (a b c : Bool) → a ≡ false → b ≡ true → c ≡ true → (not a && b && c) ≡ true
-      all_three a b c e f g = rw (e, f, g) refl
-
       taken : (r : Row) → IsOtherMember state init r → HasMemberParent state space r → (x : Row) → IsIn x (rows_after_fall state init status) → x.name ≡ r.name → ⊥
       taken r o up x i e =
           let q = IsIn-from_map after x (filter stays state.rows) i in
           let f = IsIn-from_filter stays q.0 state.rows q.1 in
           let same : q.0 ≡ r = same_row state.rows sound.coherent.rows_rise q.0 r f.0 o.0 (ap (λ (y : Row). y.name) (sym q.2) ∙ e) in
-          let goes : goes_in_fall state init r ≡ true = all_three (same_name r.name init.name) (is_member state.spaces space r) (has_parent_within state space r) (differs r o.1) (member-true r o.2) (parent-true r up) in
+          let goes : goes_in_fall state init r ≡ true = grind (arith, differs r o.1, member-true r o.2, parent-true r up) in
           let stay : goes_in_fall state init r ≡ false = subst (λ y. goes_in_fall state init y ≡ false) same (not-true (goes_in_fall state init q.0) f.1) in
           cc
 

@@ -1,5 +1,5 @@
 -- Paths are chains of parents, and a count is the number of tasks whose home is in the subtree.
-use Rattle.std.proofs.Common.{◌≡◌, ℕ, zero, suc, List, length, Option, Some, None, refl, sym, ap, ◌∙◌, subst, inl, inr, filter, option_and_then}
+use Rattle.std.proofs.Common.{◌≡◌, ℕ, zero, suc, List, length, Option, Some, None, refl, sym, ap, ◌∙◌, subst, inl, inr, filter, option_and_then, arith}
 use Rattle.std.proofs.lemmas.Bool.Decides.{same_from_decides}
 use Rattle.model_laws.proofs.Words.{Control, ControlRow, Counted, NoControl, IsIn, climb, parent_space, path_up, control_at, parent_control, control_path, is_below, count, answered, for_found, count_tasks, step, with_count, IsTreeOfControls}
 use Rattle.model_laws.specs.PathLaws.{IsChain, IsPathOf, IsInSubtree, PathsAreChains, CountIsOfSubtree, SubtreeIsTold, CountsAreOfSubtrees}
@@ -43,15 +43,12 @@ unfolding climb
 IsInSubtree-climb controls zero id c i = elim i [ ]
 IsInSubtree-climb controls (suc k) id c i = elim (climb_cases (parent_control controls) k id c i) [
   | inl e ↦ subst (IsInSubtree controls c) e IsInSubtree.itself
-  | inr r ↦ go r.0 (control_at controls id) refl r.1 (IsInSubtree-climb controls k r.0 c r.2)
+  | inr r ↦
+      let up : parent_control controls id ≡ Some r.0 = r.1 in
+      let g : (g : Control) × (control_at controls id ≡ Some g) × (g.parent ≡ Some r.0) = grind arith in
+      let at = control_at-Some controls id g.0 g.1 in
+      subst (IsInSubtree controls c) at.1 (IsInSubtree.child g.0 r.0 at.0 g.2 (IsInSubtree-climb controls k r.0 c r.2))
 ]
-  where
-    go : (p : ℕ) (o : Option Control) → control_at controls id ≡ o → option_and_then (λ (g : Control). g.parent) o ≡ Some p → IsInSubtree controls c p
-        → IsInSubtree controls c id
-    go p None e f up = absurd (cc)
-    go p (Some g) e f up =
-        let at = control_at-Some controls id g e in
-        subst (IsInSubtree controls c) at.1 (IsInSubtree.child g p at.0 f up)
 
 -- and back, among control groups that are a tree
 on_path : (controls : List Control) → IsTreeOfControls controls → (c id : ℕ) → IsInSubtree controls c id → IsIn c (control_path controls id)

@@ -1,6 +1,6 @@
 -- The sweep takes away no namespace in which a name in use has a number, and leaves a sound state.
 use Rattle.std.proofs.Common.{◌≡◌, ℕ, Bool, true, false, not, ◌==◌, List, [], ◌∷◌, length, Option, Some, None, refl, sym, ap, ◌∙◌, subst, inl, inr, arith, option_and_then}
-use Rattle.std.proofs.lemmas.Bool.{eqb-true, ne_eqb, and_left, and_right, not_from_false, not-true}
+use Rattle.std.proofs.lemmas.Bool.{eqb-true, ne_eqb, and_left, and_right, not_from_false, not-true, cases_Bool}
 use Rattle.model_laws.proofs.Words.{Name, Row, Space, State, space_at, parent_space, path_up, number, names_in_use, taken, is_dead, sweep, IsIn, HasGoodChildrenSpace, IsTreeOfSpaces, IsCoherent, IsSound}
 use Rattle.model_laws.proofs.SpaceMaps.{IsWellNumbered-kept, HasGoodParents-kept}
 use Rattle.model_laws.proofs.Lists.{IsIn-filter, IsIn-from_filter, find-filter}
@@ -66,18 +66,17 @@ module _ (state : State) (sound : IsCoherent state) where
   -- a name in use has a number in each namespace that is not dead
   pub user_of_kept : (s : Space) → IsIn s state.spaces → is_dead state s ≡ false
       → (a : Name) × (n : ℕ) × IsIn a (names_in_use state.rows) × (number state.spaces a s.id ≡ Some n)
-  user_of_kept s i alive = go s.fallen refl
+  user_of_kept s i alive = elim (cases_Bool s.fallen) [
+    | inl e ↦
+        let m = some (taken state s.id) (rw e at alive) in
+        let u = user_of_number state s.id m.0 m.1 in
+        (u.0, m.0, u.1, u.2)
+    | inr e ↦ let r = sound.standing s i e in (r.0.name, 1, own_name_in_use state.rows r.0 r.1, r.4)
+  ]
     where
       some : (ns : List ℕ) → (length ns == 0) ≡ false → (n : ℕ) × IsIn n ns
       some [] e = absurd (cc)
       some (n ∷ ns) e = (n, inl refl)
-
-      go : (b : Bool) → s.fallen ≡ b → (a : Name) × (n : ℕ) × IsIn a (names_in_use state.rows) × (number state.spaces a s.id ≡ Some n)
-      go true e =
-          let m = some (taken state s.id) (rw e at alive) in
-          let u = user_of_number state s.id m.0 m.1 in
-          (u.0, m.0, u.1, u.2)
-      go false e = let r = sound.standing s i e in (r.0.name, 1, own_name_in_use state.rows r.0 r.1, r.4)
 
   -- a namespace that is kept keeps its path
   pub space_path : (s : Space) → IsIn s state.spaces → is_dead state s ≡ false → path_up (kept_spaces state) s.id ≡ path_up state.spaces s.id
