@@ -72,12 +72,6 @@ finds : {A : Type 0} {call : Call} (state : State) (stamp : ℕ) (found : Option
 finds state stamp None r f h = still _ (Refused r) refl
 finds state stamp (Some a) r f h = h a refl
 
--- a search that refuses what it finds
-finds_none : {A : Type 0} {call : Call} (state : State) (stamp : ℕ) (found : Option A) (r : A → Refusal) (o : Outcome)
-    → (found ≡ None → Comes state stamp call o) → Comes state stamp call (unless_found state found r o)
-finds_none state stamp None r o h = h refl
-finds_none state stamp (Some a) r o h = still _ (Refused (r a)) refl
-
 -- a query of whom a search finds is answered
 asks : {A : Type 0} (found : Option A) (f : A → Reply) (reply : Reply) → is_answer reply ≡ true → ((a : A) → is_answer (f a) ≡ true)
     → is_answer (option_map_or f found reply) ≡ true

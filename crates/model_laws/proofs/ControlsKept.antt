@@ -135,6 +135,13 @@ module _ (controls : List Control) (tree : IsTreeOfControls controls) (id : ℕ)
         subst (IsIn 0) (sym (other_path c.id differs)) (tree.chains c r.0);
   }
 
+-- a control group with a parent is not the root
+not_root : (controls : List Control) → IsTreeOfControls controls → (id parent : ℕ) (c : Control) → control_at controls id ≡ Some c
+    → c.parent ≡ Some parent → id ≡ 0 → ⊥
+not_root controls tree id parent c found under e =
+    let none : parent_control controls id ≡ None = subst (λ x. parent_control controls x ≡ None) (sym e) (root_control_parent controls tree) in
+    let some : parent_control controls id ≡ Some parent = ap (option_and_then (λ (d : Control). d.parent)) found ∙ under in cc
+
 -- the parent of a control group is there
 pub parent_listed : (controls : List Control) → IsTreeOfControls controls → (id parent : ℕ) (c : Control) → control_at controls id ≡ Some c
     → c.parent ≡ Some parent
@@ -179,9 +186,7 @@ unfolding without_control is_busy
 remove_control_keeps state stamp id parent c reply sound below found under idle =
     let tree : IsTreeOfControls state.controls = sound.coherent.controls in
     let childless : (d : Control) → IsIn d state.controls → d.parent ≡ Some id → ⊥ = no_child state id idle in
-    let root : id ≡ 0 → ⊥ = λ e.
-    let none : option_and_then (λ (c : Control). c.parent) (control_at state.controls id) ≡ None = subst (λ x. parent_control state.controls x ≡ None) (sym e) (root_control_parent state.controls tree) in
-    let some : option_and_then (λ (c : Control). c.parent) (control_at state.controls id) ≡ Some parent = ap (option_and_then (λ (c : Control). c.parent)) found ∙ under in cc in
+    let root : id ≡ 0 → ⊥ = not_root state.controls tree id parent c found under in
     let up = parent_listed state.controls tree id parent c found under in
     let differs : parent ≡ id → ⊥ = λ e. childless c (control_at-Some state.controls id c found).0 (under ∙ ap Some e) in
     Keeps-changed stamp (without_control state id parent) _
@@ -232,18 +237,13 @@ HasGoodLimit-limited : (controls : List Control) → IsTreeOfControls controls �
     → (c : Control) → HasGoodLimit c → HasGoodLimit (limited id limit c)
 HasGoodLimit-limited controls tree id parent limit g found under good c old = go (c.id == id) refl
   where
-    below_root : id ≡ 0 → ⊥
-    below_root e =
-        let none : option_and_then (λ (c : Control). c.parent) (control_at controls id) ≡ None = subst (λ x. parent_control controls x ≡ None) (sym e) (root_control_parent controls tree) in
-        let some : option_and_then (λ (c : Control). c.parent) (control_at controls id) ≡ Some parent = ap (option_and_then (λ (c : Control). c.parent)) found ∙ under in cc
-
     bounded : (o : Option ℕ) → option_map_or (nat_lt greatest_limit) o false ≡ false → (l : ℕ) → o ≡ Some l → l ≤ greatest_limit
     bounded None e l some = absurd (cc)
     bounded (Some m) e l some = grind (arith, ltb-false greatest_limit m)
 
     go : (b : Bool) → (c.id == id) ≡ b → HasGoodLimit (record c { limit = if b then limit else c.limit })
     go false e = old
-    go true e = record { root = λ zero. absurd (below_root (sym (eqb-true c.id id e) ∙ zero)); bounded = bounded limit good }
+    go true e = record { root = λ zero. absurd (not_root controls tree id parent g found under (sym (eqb-true c.id id e) ∙ zero)); bounded = bounded limit good }
 
 -- a limit leaves a sound state
 pub set_limit_keeps : (state : State) (stamp id parent : ℕ) (limit : Option ℕ) (g : Control) (reply : Reply) → IsSound state → IsBelow stamp state

@@ -9,7 +9,7 @@ use Rattle.model_laws.proofs.Trees.{same_row, path_first, path_trans, path_antis
 use Rattle.model_laws.proofs.RowMaps.{each_of_map, HasGoodGroups-map}
 use Rattle.model_laws.proofs.Survivors.{KeepsRest, IsCoherent-survivors, parents_stay}
 use Rattle.model_laws.proofs.Ancestry.{number-root_of_row, root_path, row_on_tree}
-use Rattle.model_laws.proofs.Kept.{Keeps, Keeps-changed}
+use Rattle.model_laws.proofs.Kept.{Keeps, Keeps-changed, IsBelow-rows}
 
 -- ---- wait
 
@@ -63,11 +63,8 @@ pub wait_keeps : (state : State) (stamp : ℕ) (which : Which) (caller row : Row
 unfolding without_row
 wait_keeps state stamp which caller row reply sound below i live least =
     let r = reaped_row state caller row which least in
-    Keeps-changed stamp (without_row state row) _ (IsCoherent-without_row state sound.coherent row caller r.0 r.1 i live) (record {
-      spaces = λ s i. omega (arith, below.spaces s i);
-      controls = λ d i. omega (arith, below.controls d i);
-      children = λ x i. omega (arith, below.children x (IsIn-from_filter (λ r. not (same_name r.name row.name)) x state.rows i).0);
-    })
+    Keeps-changed stamp (without_row state row) _ (IsCoherent-without_row state sound.coherent row caller r.0 r.1 i live) (IsBelow-rows stamp state _ below (λ x i.
+    below.children x (IsIn-from_filter (λ r. not (same_name r.name row.name)) x state.rows i).0))
 
 -- ---- the fall
 

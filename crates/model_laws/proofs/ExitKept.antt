@@ -12,7 +12,7 @@ use Rattle.model_laws.proofs.Trees.{row_at-listed, path_trans, path_antisym}
 use Rattle.model_laws.proofs.RowMaps.{row_at-map, each_of_map, HasGoodGroups-map}
 use Rattle.model_laws.proofs.Ancestry.{Far, Far-unique, Far-same, IsIn-roots, chain-in_rows, row_on_tree, root_init_row, top_row, row_far, parent_row, Climbs, one_step}
 use Rattle.model_laws.proofs.Survivors.{all_stay, IsCoherent-all_stay}
-use Rattle.model_laws.proofs.Kept.{Keeps, Keeps-changed}
+use Rattle.model_laws.proofs.Kept.{Keeps, Keeps-changed, IsBelow-rows}
 
 -- ---- the rows after a task ended
 
@@ -239,9 +239,4 @@ exit_keeps state stamp status caller reply sound below i live none =
     let h = takes_orphans state caller sound.coherent i live in
     Keeps-changed stamp (record state { rows = rows_after_exit state caller status }) _
     (subst (λ o. IsCoherent (record state { rows = map (row_after_exit caller o (Exited status)) state.rows })) (sym h.1) (IsCoherent-heir state sound.coherent caller h.0 (Exited status) i live no_init h.2))
-    (record {
-      spaces = λ s i. omega (arith, below.spaces s i);
-      controls = λ d i. omega (arith, below.controls d i);
-      children =
-          each_of_map (λ r. r.children_space < stamp) (row_after_exit caller (new_parent state caller) (Exited status)) state.rows (λ r i. omega (arith, below.children r i));
-    })
+    (IsBelow-rows stamp state _ below (each_of_map (λ r. r.children_space < stamp) (row_after_exit caller (new_parent state caller) (Exited status)) state.rows below.children))

@@ -1,5 +1,5 @@
 -- Calls that change fields of rows leave a sound state.
-use Rattle.std.proofs.Common.{◌≡◌, ℕ, ℤ, pos, negsuc, ◌+◌, ◌<◌, true, false, ◌&&◌, ◌||◌, not, map, Some, refl, sym, ap, ◌∙◌, subst, inl, inr, arith}
+use Rattle.std.proofs.Common.{◌≡◌, ℕ, ℤ, pos, negsuc, ◌+◌, ◌<◌, true, false, ◌&&◌, ◌||◌, not, map, Some, refl, sym, ap, ◌∙◌, subst, inl, inr, arith, List}
 use Rattle.model_laws.proofs.Words.{Name, Row, Control, Reply, State, is_live, path_up, is_numbered, same_name, is_parent, task_at, names_in_use, on_row, with_row, control_at, Outcome, sweep, answered, changed, target_of, session_group, group_for, has_members, set_children_space, IsIn, HasGoodChildrenSpace, IsCoherent, IsSound, IsBelow}
 use Rattle.model_laws.specs.Refusals.{IsGroupFor}
 use Rattle.model_laws.proofs.Refusals.{group_found}
@@ -47,16 +47,17 @@ Keeps-next stamp o k = record { sound = k.sound; below = IsBelow-next stamp o.st
 pub Keeps-changed : (stamp : ℕ) (new : State) (reply : Reply) → IsCoherent new → IsBelow stamp new → Keeps stamp (changed new reply)
 Keeps-changed stamp new reply coherent below = record { sound = IsSound-sweep new coherent; below = IsBelow-sweep stamp new below }
 
+-- a change of rows adds no id but those of the children's namespaces
+pub IsBelow-rows : (stamp : ℕ) (state : State) (rows : List Row) → IsBelow stamp state → ((r : Row) → IsIn r rows → r.children_space < stamp)
+    → IsBelow stamp (record state { rows = rows })
+IsBelow-rows stamp state rows b children = record { spaces = b.spaces; controls = b.controls; children = children }
+
 -- a change of rows that changes no children's namespace
 Keeps-map_rows : (stamp : ℕ) (state : State) (f : Row → Row) (reply : Reply) → IsSound state → IsBelow stamp state → KeepsRows state f
     → ((r : Row) → IsIn r state.rows → (f r).children_space < stamp) → Keeps stamp (changed (record state { rows = map f state.rows }) reply)
 Keeps-map_rows stamp state f reply sound below keeps children =
     Keeps-changed stamp (record state { rows = map f state.rows }) reply (IsCoherent-map_rows state f sound.coherent keeps)
-    (record {
-      spaces = below.spaces;
-      controls = below.controls;
-      children = each_of_map (λ r. r.children_space < stamp) f state.rows children;
-    })
+    (IsBelow-rows stamp state (map f state.rows) below (each_of_map (λ r. r.children_space < stamp) f state.rows children))
 
 -- a change of one task's row that keeps whose it is: its name, parent, life, group and session
 pub Keeps-on_row : (stamp : ℕ) (state : State) (name : Name) (change : Row → Row) (reply : Reply) → IsSound state → IsBelow stamp state

@@ -90,17 +90,7 @@ pub IsIn-from_filter_map : {X : Type 0} (f : X → Option ℕ) (n : ℕ) (xs : L
 IsIn-from_filter_map f n [] h = elim h [ ]
 IsIn-from_filter_map f n (y ∷ xs) h = grind (arith, IsIn-from_filter_map f n xs)
 
--- ---- tests of all and of some elements
-
--- where all pass, each does
-pub each_passes : {X : Type 0} (p : X → Bool) (xs : List X) → list_all p xs ≡ true → (x : X) → IsIn x xs → p x ≡ true
-each_passes p [] h x i = elim i [ ]
-each_passes p (y ∷ xs) h x i = grind (arith, each_passes p xs)
-
--- where each passes, all do
-pub list_all-from_each : {X : Type 0} (p : X → Bool) (xs : List X) → ((x : X) → IsIn x xs → p x ≡ true) → list_all p xs ≡ true
-list_all-from_each p [] h = refl
-list_all-from_each p (x ∷ xs) h = and_from (p x) (list_all p xs) (h x (inl refl)) (list_all-from_each p xs (λ y i. h y (inr i)))
+-- ---- tests of some elements
 
 -- where some passes, here is one
 pub some_passes : {X : Type 0} (p : X → Bool) (xs : List X) → list_any p xs ≡ true → (x : X) × IsIn x xs × (p x ≡ true)
