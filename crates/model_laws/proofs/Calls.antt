@@ -25,7 +25,8 @@ no_answer a b answer change same = let e : is_answer a ≡ is_answer b = ap is_a
 -- what a call comes to, with what it found on the way
 pub data Comes (state : State) (stamp : ℕ) : Call → Outcome → Type 0 where
   still : (call : Call) (reply : Reply) → is_answer reply ≡ true → Comes state stamp call (answered state reply)
-  born : (n : ℕ) (new_space : Bool) (caller : Row) → new_space ≡ false → live_row state.rows n ≡ Some caller → is_gone state caller.children_space ≡ false
+  born : (n : ℕ) (new_space : Bool) (caller : Row) → new_space ≡ false → live_row state.rows n ≡ Some caller
+      → is_gone state caller.children_space ≡ false
       → MayFork state caller caller.children_space → Comes state stamp (Fork n new_space) (forked state caller caller.children_space)
   born_first : (n : ℕ) (caller : Row) → live_row state.rows n ≡ Some caller → is_gone state caller.children_space ≡ false
       → nat_le 32 (level state.spaces caller.children_space) ≡ false → (caller.children_space == caller.name.space) ≡ true
@@ -39,15 +40,20 @@ pub data Comes (state : State) (stamp : ℕ) : Call → Outcome → Type 0 where
       → least_row state caller.name.space (ended_children state caller which) ≡ None → Comes state stamp (Wait n which) (answered state NoneYet)
   reaped : (n : ℕ) (which : Which) (caller row : Row) → live_row state.rows n ≡ Some caller
       → least_row state caller.name.space (ended_children state caller which) ≡ Some row
-      → Comes state stamp (Wait n which) (changed (without_row state row) (Reaped (number_or_zero state.spaces row.name caller.name.space) (end_of row)))
-  grouped : (n : ℕ) (pid pgid : ℤ) (caller target : Row) (group : Name) → live_row state.rows n ≡ Some caller → target_of state caller pid ≡ Some target
+      → Comes state stamp (Wait n which) (changed (without_row state row)
+      (Reaped (number_or_zero state.spaces row.name caller.name.space) (end_of row)))
+  grouped : (n : ℕ) (pid pgid : ℤ) (caller target : Row) (group : Name) → live_row state.rows n ≡ Some caller
+      → target_of state caller pid ≡ Some target
       → (is_parent caller.name target && not (same_name target.session caller.session)) ≡ false
       → not (is_parent caller.name target || same_name target.name caller.name) ≡ false → group_for state caller target pgid ≡ Some group
       → Comes state stamp (SetPgid n pid pgid) (changed (with_row state target.name (set_group group)) Done)
   led : (n : ℕ) (caller : Row) → live_row state.rows n ≡ Some caller → has_members state caller.name ≡ false
-      → Comes state stamp (SetSid n) (changed (with_row state caller.name start_session) (Number (number_or_zero state.spaces caller.name caller.name.space)))
-  executed : (n : ℕ) (caller : Row) → live_row state.rows n ≡ Some caller → Comes state stamp (Exec n) (changed (with_row state caller.name set_executed) Done)
-  control_made : (parent : ℕ) (c : Control) → control_at state.controls parent ≡ Some c → nat_lt 64 (length (control_path state.controls parent)) ≡ false
+      → Comes state stamp (SetSid n) (changed (with_row state caller.name start_session)
+      (Number (number_or_zero state.spaces caller.name caller.name.space)))
+  executed : (n : ℕ) (caller : Row) → live_row state.rows n ≡ Some caller
+      → Comes state stamp (Exec n) (changed (with_row state caller.name set_executed) Done)
+  control_made : (parent : ℕ) (c : Control) → control_at state.controls parent ≡ Some c
+      → nat_lt 64 (length (control_path state.controls parent)) ≡ false
       → Comes state stamp (MakeControl parent) (changed (with_control state parent stamp) (ControlMade stamp))
   control_removed : (id parent : ℕ) (c : Control) → control_at state.controls id ≡ Some c → c.parent ≡ Some parent → is_busy state id ≡ false
       → Comes state stamp (RemoveControl id) (changed (without_control state id parent) Done)
@@ -55,7 +61,8 @@ pub data Comes (state : State) (stamp : ℕ) : Call → Outcome → Type 0 where
       → option_map_or (nat_lt greatest_limit) limit false ≡ false → Comes state stamp (SetLimit id limit) (changed (with_limit state id limit) Done)
   moved : (n id : ℕ) (task : Row) (c : Control) → live_row state.rows n ≡ Some task → control_at state.controls id ≡ Some c
       → Comes state stamp (Move n id) (changed (with_row state task.name (set_home id)) Done)
-  joined : (n target : ℕ) (caller row : Row) → live_row state.rows n ≡ Some caller → task_at state caller.name.space target ≡ Some row → is_live row ≡ true
+  joined : (n target : ℕ) (caller row : Row) → live_row state.rows n ≡ Some caller → task_at state caller.name.space target ≡ Some row
+      → is_live row ≡ true
       → Comes state stamp (Join n target) (changed (with_row state caller.name (set_children_space row.name.space)) Done)
   marked : (n : ℕ) (on : Bool) (caller : Row) → live_row state.rows n ≡ Some caller
       → Comes state stamp (SetSubreaper n on) (changed (with_row state caller.name (set_mark on)) Done)
@@ -79,7 +86,8 @@ asks None f reply h k = h
 asks (Some a) f reply h k = k a
 
 -- there is room for a child, or a refusal
-has_room : {call : Call} (old state : State) (stamp : ℕ) (caller : Row) (t : ℕ) → (MayFork state caller t → Comes old stamp call (forked state caller t))
+has_room : {call : Call} (old state : State) (stamp : ℕ) (caller : Row) (t : ℕ)
+    → (MayFork state caller t → Comes old stamp call (forked state caller t))
     → Comes old stamp call (unless_found old (no_room state caller t) (λ r. r) (forked state caller t))
 unfolding no_room
 has_room {call} old state stamp caller t made = full (find (λ s. is_none (draw state s)) (path_up state.spaces t)) refl
@@ -90,7 +98,8 @@ has_room {call} old state stamp caller t made = full (find (λ s. is_none (draw 
     limited None e numbers = made (record { numbers = numbers; limits = e })
 
     full : (o : Option ℕ) → find (λ s. is_none (draw state s)) (path_up state.spaces t) ≡ o
-        → Comes old stamp call (unless_found old (option_map_or (λ s. Some (NoNumber s)) o (option_map PidsLimit (passed_limit state caller.home))) (λ r. r) (forked state caller t))
+        → Comes old stamp call (unless_found old (option_map_or (λ s. Some (NoNumber s)) o
+        (option_map PidsLimit (passed_limit state caller.home))) (λ r. r) (forked state caller t))
     full (Some s) e = still _ (Refused (NoNumber s)) refl
     full None e = limited (passed_limit state caller.home) refl e
 
@@ -114,7 +123,8 @@ step_comes state stamp (Exit n status) =
     refuses state stamp _ RootInit _ (λ deep. go caller found deep (is_init state caller) refl))
   where
     go : (caller : Row) → live_row state.rows n ≡ Some caller → (root_number caller.name == 1) ≡ false → (b : Bool) → is_init state caller ≡ b
-        → Comes state stamp (Exit n status) (if b then changed (fall state caller status) Done else changed (record state { rows = rows_after_exit state caller status }) Done)
+        → Comes state stamp (Exit n status) (if b then changed (fall state caller status) Done else changed
+        (record state { rows = rows_after_exit state caller status }) Done)
     go caller found deep true e = fell n status caller found deep e
     go caller found deep false e = handed_on n status caller found e
 step_comes state stamp (Wait n which) =
@@ -123,7 +133,8 @@ step_comes state stamp (Wait n which) =
   where
     go : (caller : Row) → live_row state.rows n ≡ Some caller → (o : Option Row)
         → least_row state caller.name.space (ended_children state caller which) ≡ o
-        → Comes state stamp (Wait n which) (option_map_or (λ row. changed (without_row state row) (Reaped (number_or_zero state.spaces row.name caller.name.space) (end_of row))) o (answered state NoneYet))
+        → Comes state stamp (Wait n which) (option_map_or (λ row. changed (without_row state row)
+        (Reaped (number_or_zero state.spaces row.name caller.name.space) (end_of row))) o (answered state NoneYet))
     go caller found None e = waits n which caller found e
     go caller found (Some row) e = reaped n which caller row found e
 step_comes state stamp (SetPgid n pid pgid) =
@@ -160,8 +171,12 @@ step_comes state stamp (SetSubreaper n on) = finds state stamp (live_row state.r
 step_comes state stamp (Count id) = finds state stamp (control_at state.controls id) NoControl _ (λ c found. still _ (Counted (count state id)) refl)
 step_comes state stamp (GetPid n) = still _ _ (asks (live_row state.rows n) _ _ refl (λ caller. refl))
 step_comes state stamp (GetPpid n) = still _ _ (asks (live_row state.rows n) _ _ refl (λ caller. refl))
-step_comes state stamp (NsPid n target) = still _ _ (asks (live_row state.rows n) _ _ refl (λ caller. asks (task_at state caller.name.space target) _ _ refl (λ row. refl)))
-step_comes state stamp (GetPgid n pid) = still _ _ (asks (live_row state.rows n) _ _ refl (λ caller. asks (self_or_task state caller pid) _ _ refl (λ row. refl)))
-step_comes state stamp (GetSid n pid) = still _ _ (asks (live_row state.rows n) _ _ refl (λ caller. asks (self_or_task state caller pid) _ _ refl (λ row. refl)))
+step_comes state stamp (NsPid n target) =
+    still _ _ (asks (live_row state.rows n) _ _ refl (λ caller. asks (task_at state caller.name.space target) _ _ refl (λ row. refl)))
+step_comes state stamp (GetPgid n pid) =
+    still _ _ (asks (live_row state.rows n) _ _ refl (λ caller. asks (self_or_task state caller pid) _ _ refl (λ row. refl)))
+step_comes state stamp (GetSid n pid) =
+    still _ _ (asks (live_row state.rows n) _ _ refl (λ caller. asks (self_or_task state caller pid) _ _ refl (λ row. refl)))
 step_comes state stamp (Next n kind from) =
-    still _ _ (asks (live_row state.rows n) _ _ refl (λ caller. asks (least_of (filter (nat_le from) (numbers_by state kind caller.name.space))) Number End refl (λ m. refl)))
+    still _ _ (asks (live_row state.rows n) _ _ refl (λ caller. asks (least_of
+    (filter (nat_le from) (numbers_by state kind caller.name.space))) Number End refl (λ m. refl)))

@@ -50,7 +50,8 @@ Stops-at_root f (suc k) id root i = grind (arith, climb_cases f k id 0 i, Stops-
 -- a chain that stops is no longer for one step more
 pub climb-stopped : (f : ℕ → Option ℕ) (k id : ℕ) → Stops f k id → climb f (suc k) id ≡ climb f k id
 climb-stopped f zero id s = elim s [ ]
-climb-stopped f (suc k) id s = grind (arith, climb-None f k id, climb-None f (suc k) id, climb-Some f k id, climb-Some f (suc k) id, climb-stopped f k)
+climb-stopped f (suc k) id s =
+    grind (arith, climb-None f k id, climb-None f (suc k) id, climb-Some f k id, climb-Some f (suc k) id, climb-stopped f k)
 
 -- and stops for one step more
 Stops-more : (f : ℕ → Option ℕ) (k id : ℕ) → Stops f k id → Stops f (suc k) id

@@ -86,11 +86,13 @@ make_control_keeps state stamp parent c reply sound below found shallow =
     (IsCoherent-controls state (with_made state.controls tree stamp parent below.controls) sound.coherent
     (IsTreeOfControls-made state.controls tree stamp parent below.controls on (ltb-false 64 (length (control_path state.controls parent)) shallow)
     (let at = control_at-Some state.controls parent c found in subst (λ x. x < stamp) at.1 (below.controls c at.0)))
-    (each_pushed HasGoodLimit state.controls (made state.controls tree stamp parent below.controls) sound.coherent.limits (record { root = λ _. refl; bounded = λ limit some. absurd (cc) }))
+    (each_pushed HasGoodLimit state.controls (made state.controls tree stamp parent below.controls) sound.coherent.limits
+    (record { root = λ _. refl; bounded = λ limit some. absurd (cc) }))
     (λ r i. let h = sound.coherent.homes r i in (h.0, at_old state.controls tree stamp parent below.controls r.home h.0 h.1)))
     (record {
       spaces = λ s i. omega (arith, below.spaces s i);
-      controls = each_pushed (λ (d : Control). d.id < stamp + 1) state.controls (made state.controls tree stamp parent below.controls) (λ d j. omega (arith, below.controls d j)) (omega arith);
+      controls = each_pushed (λ (d : Control). d.id < stamp + 1) state.controls (made state.controls tree stamp parent below.controls)
+          (λ d j. omega (arith, below.controls d j)) (omega arith);
       children = λ r i. omega (arith, below.children r i);
     })
 
@@ -181,7 +183,8 @@ path_of_child controls id parent g found under c differs i = elim (climb_cases (
 
 -- the end of a control group leaves a sound state
 pub remove_control_keeps : (state : State) (stamp id parent : ℕ) (c : Control) (reply : Reply) → IsSound state → IsBelow stamp state
-    → control_at state.controls id ≡ Some c → c.parent ≡ Some parent → is_busy state id ≡ false → Keeps stamp (changed (without_control state id parent) reply)
+    → control_at state.controls id ≡ Some c → c.parent ≡ Some parent → is_busy state id ≡ false
+    → Keeps stamp (changed (without_control state id parent) reply)
 unfolding without_control is_busy
 remove_control_keeps state stamp id parent c reply sound below found under idle =
     let tree : IsTreeOfControls state.controls = sound.coherent.controls in

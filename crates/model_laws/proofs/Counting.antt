@@ -1,5 +1,5 @@
 -- What changes a control group's count.
-use Rattle.std.proofs.Common.{◌≡◌, ℕ, ◌+◌, ◌<◌, Bool, true, false, not, ◌&&◌, ◌==◌, List, [], ◌∷◌, map, length, Option, Some, refl, sym, ap, ◌∙◌, subst, inl, inr, arith, filter, if◌then◌else◌}
+use Rattle.std.proofs.Common.{◌≡◌, ℕ, ◌+◌, ◌<◌, Bool, true, false, not, ◌&&◌, ◌==◌, List, [], ◌∷◌, map, length, Some, refl, sym, ap, ◌∙◌, subst, inl, inr, arith, filter, if◌then◌else◌}
 use Rattle.std.specs.Option.{option_map_or}
 use Rattle.std.proofs.lemmas.Bool.{not-true, eqb-true, eqb-false, not_from_false, false_from_ne_true}
 use Rattle.std.proofs.lemmas.Bool.Decides.{same_from_decides}
@@ -10,7 +10,7 @@ use Rattle.model_laws.proofs.Names.{on_row-keeps, same_name-true, same_name-refl
 use Rattle.model_laws.proofs.Trees.{control_to_root, control_at-Some, live_row-Some}
 use Rattle.model_laws.proofs.Calls.{Comes, still, born, born_first, fell, handed_on, waits, reaped, grouped, led, executed, control_made, control_removed, limit_set, moved, joined, marked, no_answer}
 use Rattle.model_laws.proofs.EndsKept.{reaped_row}
-use Rattle.model_laws.proofs.ControlsKept.{with_made, path_old, others, other_path, no_child, control_path-map, path_of_parent, path_of_child}
+use Rattle.model_laws.proofs.ControlsKept.{path_old, others, other_path, no_child, control_path-map, path_of_parent, path_of_child}
 use Rattle.model_laws.proofs.Limits.{count-forked}
 
 -- ---- how many pass a test
@@ -53,12 +53,16 @@ count-swept state c = refl
 -- ---- fork
 
 -- a fork that is answered counts one more up from the caller's home
-pub comes_fork : (state : State) (stamp n : ℕ) (new_space : Bool) (o : Outcome) → Comes state stamp (Fork n new_space) o → (caller : Row) (child root : ℕ)
-    → live_row state.rows n ≡ Some caller → o.reply ≡ Forked child root → (c : ℕ) → count o.state c ≡ count state c + one_if (is_below state.controls caller.home c)
+pub comes_fork : (state : State) (stamp n : ℕ) (new_space : Bool) (o : Outcome) → Comes state stamp (Fork n new_space) o
+    → (caller : Row) (child root : ℕ)
+    → live_row state.rows n ≡ Some caller → o.reply ≡ Forked child root → (c : ℕ)
+    → count o.state c ≡ count state c + one_if (is_below state.controls caller.home c)
 unfolding count
-comes_fork state stamp n new_space o (still _ reply answer) caller child root found told c = absurd (no_answer reply (Forked child root) answer refl told)
+comes_fork state stamp n new_space o (still _ reply answer) caller child root found told c =
+    absurd (no_answer reply (Forked child root) answer refl told)
 comes_fork state stamp n new_space o (born _ _ other plain there stands may) caller child root found told c =
-    count-forked state other other.children_space c ∙ ap (λ (z : Row). count state c + one_if (is_below state.controls z.home c)) (let same : other ≡ caller = cc in same)
+    count-forked state other other.children_space c ∙ ap (λ (z : Row). count state c + one_if (is_below state.controls z.home c))
+    (let same : other ≡ caller = cc in same)
 comes_fork state stamp n new_space o (born_first _ other there stands shallow here may) caller child root found told c =
     count-forked (with_space state other.children_space stamp) other stamp c
     ∙ ap (λ (z : Row). count state c + one_if (is_below state.controls z.home c)) (let same : other ≡ caller = cc in same)
@@ -66,12 +70,14 @@ comes_fork state stamp n new_space o (born_first _ other there stands shallow he
 -- ---- reaping
 
 -- a reaping counts one less up from the home of the task that it takes
-pub comes_reaping : (state : State) (stamp n : ℕ) (which : Which) (o : Outcome) → Comes state stamp (Wait n which) o → (caller : Row) (child : ℕ) (ended : Ended)
+pub comes_reaping : (state : State) (stamp n : ℕ) (which : Which) (o : Outcome) → Comes state stamp (Wait n which) o
+    → (caller : Row) (child : ℕ) (ended : Ended)
     → IsSound state → live_row state.rows n ≡ Some caller → o.reply ≡ Reaped child ended
     → (row : Row) × IsIn row state.rows × (is_live row ≡ false) × (number_or_zero state.spaces row.name caller.name.space ≡ child)
     × ((c : ℕ) → count state c ≡ count o.state c + one_if (is_below state.controls row.home c))
 unfolding count sweep without_row
-comes_reaping state stamp n which o (still _ reply answer) caller child ended sound found told = absurd (no_answer reply (Reaped child ended) answer refl told)
+comes_reaping state stamp n which o (still _ reply answer) caller child ended sound found told =
+    absurd (no_answer reply (Reaped child ended) answer refl told)
 comes_reaping state stamp n which o (waits _ _ other there none) caller child ended sound found told = absurd (cc)
 comes_reaping state stamp n which o (reaped _ _ other row there least) caller child ended sound found told =
     let same : other ≡ caller = cc in
@@ -79,16 +85,19 @@ comes_reaping state stamp n which o (reaped _ _ other row there least) caller ch
       row,
       r.0,
       r.1,
-      ap (λ (z : Row). number_or_zero state.spaces row.name z.name.space) (sym same) ∙ (let e : number_or_zero state.spaces row.name other.name.space ≡ child = cc in e),
+      ap (λ (z : Row). number_or_zero state.spaces row.name z.name.space) (sym same) ∙
+          (let e : number_or_zero state.spaces row.name other.name.space ≡ child = cc in e),
       λ c. length-filter-without (λ z. is_below state.controls z.home c) state.rows sound.coherent.rows_rise row r.0,
     )
 
 -- ---- fall
 
 -- a fall counts as many less as it takes
-pub comes_fall : (state : State) (stamp n status : ℕ) (o : Outcome) → Comes state stamp (Exit n status) o → (init : Row) → live_row state.rows n ≡ Some init
+pub comes_fall : (state : State) (stamp n status : ℕ) (o : Outcome) → Comes state stamp (Exit n status) o → (init : Row)
+    → live_row state.rows n ≡ Some init
     → is_init state init ≡ true → o.reply ≡ Done
-    → (c : ℕ) → count state c ≡ count o.state c + length (filter (λ row. goes_in_fall state init row && is_below state.controls row.home c) state.rows)
+    → (c : ℕ) → count state c ≡ count o.state c + length (filter (λ row. goes_in_fall state init row && is_below state.controls row.home c)
+    state.rows)
 unfolding count sweep fall rows_after_fall
 comes_fall state stamp n status o (still _ reply answer) init found first told c = absurd (no_answer reply Done answer refl told)
 comes_fall state stamp n status o (handed_on _ _ other there none) init found first told c =
@@ -96,8 +105,10 @@ comes_fall state stamp n status o (handed_on _ _ other there none) init found fi
 comes_fall state stamp n status o (fell _ _ other there deep one) init found first told c =
     length-filter-split (λ row. is_below state.controls row.home c) (goes_in_fall state other) state.rows
     ∙ ap (λ k. k + length (filter (λ row. goes_in_fall state other row && is_below state.controls row.home c) state.rows))
-    (sym (length-filter-map (λ row. is_below state.controls row.home c) (row_after_fall state other status) (filter (λ row. not (goes_in_fall state other row)) state.rows)))
-    ∙ ap (λ (z : Row). count (changed (fall state other status) Done).state c + length (filter (λ row. goes_in_fall state z row && is_below state.controls row.home c) state.rows)) (let same : other ≡ init = cc in same)
+    (sym (length-filter-map (λ row. is_below state.controls row.home c) (row_after_fall state other status)
+    (filter (λ row. not (goes_in_fall state other row)) state.rows)))
+    ∙ ap (λ (z : Row). count (changed (fall state other status) Done).state c + length
+    (filter (λ row. goes_in_fall state z row && is_below state.controls row.home c) state.rows)) (let same : other ≡ init = cc in same)
 
 -- ---- move
 
@@ -121,13 +132,17 @@ count-moved state sound task id c i =
     omega arith
 
 -- so does every move that is answered
-pub comes_move : (state : State) (stamp n id : ℕ) (o : Outcome) → Comes state stamp (Move n id) o → (task : Row) → IsSound state → live_row state.rows n ≡ Some task
-    → o.reply ≡ Done → (c : ℕ) → count o.state c + one_if (is_below state.controls task.home c) ≡ count state c + one_if (is_below state.controls id c)
+pub comes_move : (state : State) (stamp n id : ℕ) (o : Outcome) → Comes state stamp (Move n id) o → (task : Row) → IsSound state
+    → live_row state.rows n ≡ Some task
+    → o.reply ≡ Done → (c : ℕ)
+    → count o.state c + one_if (is_below state.controls task.home c) ≡ count state c + one_if (is_below state.controls id c)
 comes_move state stamp n id o (still _ reply answer) task sound found told c = absurd (no_answer reply Done answer refl told)
 comes_move state stamp n id o (moved _ _ other g there at) task sound found told c =
     let same : other ≡ task = cc in
-    subst (λ (z : Row). count (sweep (with_row state z.name (set_home id))) c + one_if (is_below state.controls task.home c) ≡ count state c + one_if (is_below state.controls id c)) (sym same)
-    (ap (λ k. k + one_if (is_below state.controls task.home c)) (count-swept (with_row state task.name (set_home id)) c) ∙ count-moved state sound task id c (live_row-Some state.rows n task found).0)
+    subst (λ (z : Row). count (sweep (with_row state z.name (set_home id))) c + one_if (is_below state.controls task.home c) ≡ count state c
+    + one_if (is_below state.controls id c)) (sym same)
+    (ap (λ k. k + one_if (is_below state.controls task.home c)) (count-swept (with_row state task.name (set_home id)) c) ∙ count-moved state
+    sound task id c (live_row-Some state.rows n task found).0)
 
 -- ---- nothing else
 
@@ -158,12 +173,15 @@ CountsSame-paths : (state : State) (controls : List Control) (c : ℕ) (reply : 
 unfolding count sweep
 CountsSame-paths state controls c reply paths = record {
   same = λ g h d e.
-      ap length (filter-same (λ r. is_below controls r.home c) (λ r. is_below state.controls r.home c) state.rows (λ r i. ap (λ p. contains p c) (paths r i)));
+      ap length (filter-same (λ r. is_below controls r.home c) (λ r. is_below state.controls r.home c) state.rows
+      (λ r i. ap (λ p. contains p c) (paths r i)));
 }
 
 -- a number that is in one list exactly where it is in the other
 same_contains : (n : ℕ) (ns ms : List ℕ) → (IsIn n ns → IsIn n ms) → (IsIn n ms → IsIn n ns) → contains ns n ≡ contains ms n
-same_contains n ns ms to from = same_from_decides _ _ (IsIn-from_contains ns n, contains-from_IsIn ns n) (λ e. from (IsIn-from_contains ms n e), λ i. contains-from_IsIn ms n (to i))
+same_contains n ns ms to from =
+    same_from_decides _ _ (IsIn-from_contains ns n, contains-from_IsIn ns n)
+    (λ e. from (IsIn-from_contains ms n e), λ i. contains-from_IsIn ms n (to i))
 
 -- zombies that go to the parent count in each control group above it as before
 CountsSame-removed : (state : State) → IsSound state → (id parent c : ℕ) (g : Control) (reply : Reply)
@@ -216,8 +234,10 @@ nothing_else state stamp call o (grouped n pid pgid caller target group found ai
 nothing_else state stamp call o (led n caller found none) sound below quiet c = CountsSame-on_row state c caller.name start_session _ (λ r. refl)
 nothing_else state stamp call o (control_made parent g found shallow) sound below quiet c = CountsSame-paths state _ c _ (λ r i.
     let home = sound.coherent.homes r i in
-    path_old state.controls sound.coherent.controls stamp parent below.controls r.home (control_to_root state.controls sound.coherent.controls r.home home.0 home.1))
-nothing_else state stamp call o (control_removed id parent g found under idle) sound below quiet c = CountsSame-removed state sound id parent c g _ found under idle
+    path_old state.controls sound.coherent.controls stamp parent below.controls r.home
+    (control_to_root state.controls sound.coherent.controls r.home home.0 home.1))
+nothing_else state stamp call o (control_removed id parent g found under idle) sound below quiet c =
+    CountsSame-removed state sound id parent c g _ found under idle
 nothing_else state stamp call o (limit_set id parent limit g found under good) sound below quiet c =
     CountsSame-paths state _ c _ (λ r i. control_path-map state.controls (limited id limit) (λ x. refl) (λ x. refl) r.home)
 nothing_else state stamp call o (joined n target caller row found there live) sound below quiet c =

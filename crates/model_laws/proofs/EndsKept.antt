@@ -63,7 +63,8 @@ pub wait_keeps : (state : State) (stamp : ℕ) (which : Which) (caller row : Row
 unfolding without_row
 wait_keeps state stamp which caller row reply sound below i live least =
     let r = reaped_row state caller row which least in
-    Keeps-changed stamp (without_row state row) _ (IsCoherent-without_row state sound.coherent row caller r.0 r.1 i live) (IsBelow-rows stamp state _ below (λ x i.
+    Keeps-changed stamp (without_row state row) _ (IsCoherent-without_row state sound.coherent row caller r.0 r.1 i live)
+    (IsBelow-rows stamp state _ below (λ x i.
     below.children x (IsIn-from_filter (λ r. not (same_name r.name row.name)) x state.rows i).0))
 
 -- ---- the fall
@@ -117,7 +118,8 @@ module _ (state : State) (sound : IsCoherent state) (init : Row) (status : ℕ) 
   parent_outside : (r q : Row) → IsIn r state.rows → IsIn q state.rows → stays_in_fall r ≡ true → r.parent ≡ Some q.name → Within q → ⊥
   parent_outside r q i j stays up w =
       let good : IsIn q.name.space (path_up state.spaces r.name.space) = ((sound.parents r i).good q.name up).around in
-      let member : is_member state.spaces space r ≡ true = member-from_within r i (path_trans state.spaces sound.spaces r.name.space q.name.space space (row_on_tree state sound r i) good w) in
+      let member : is_member state.spaces space r ≡ true = member-from_within r i
+      (path_trans state.spaces sound.spaces r.name.space q.name.space space (row_on_tree state sound r i) good w) in
       let inside : has_parent_within state space r ≡ true = rw up (contains-from_IsIn (path_up state.spaces q.name.space) space w) in
       let own : same_name r.name init.name ≡ true = grind arith in
       let same : r ≡ init = same_row state.rows sound.rows_rise r init i there (same_name-true r.name init.name own) in
@@ -129,7 +131,8 @@ module _ (state : State) (sound : IsCoherent state) (init : Row) (status : ℕ) 
   KeepsRest-fall = record {
     group = group_in_use state.rows;
     session = session_in_use state.rows;
-    parents = parents_stay state sound stays_in_fall after_fall (λ r. refl) (λ r. refl) (λ r q i j stays up live. outsider_stays q (parent_outside r q i j stays up) live);
+    parents = parents_stay state sound stays_in_fall after_fall (λ r. refl) (λ r. refl)
+        (λ r q i j stays up live. outsider_stays q (parent_outside r q i j stays up) live);
     children = sound.children;
     groups = HasGoodGroups-map state.rows after_fall (λ r. refl) (λ r. refl) (λ r. refl) sound.groups;
     homes = sound.homes;

@@ -155,7 +155,8 @@ module _ (state : State) (sound : IsCoherent state) (task heir : Row) (ended : E
             let top = root_init_row state sound in
             let no_parent : old_parent 1 ≡ Some root_of_task → ⊥ = λ e. (let none : old_parent 1 ≡ None = top_row state sound in cc) in
             let at : row_at rows_after 1 ≡ Some (after top.0) = row_at-map after (λ r. refl) state.rows 1 ∙ ap (option_map after) (subst (λ m. row_at state.rows m ≡ Some top.0) top.4 (row_at-listed state.rows sound.rows_rise top.0 top.1)) in
-            chain-in_rows rows_after (same_parent 1 no_parent ∙ top_row state sound) (IsIn-roots rows_after 1 (after top.0) at) f.0 (root_number r.name) f.1
+            chain-in_rows rows_after (same_parent 1 no_parent ∙ top_row state sound) (IsIn-roots rows_after 1 (after top.0) at) f.0
+            (root_number r.name) f.1
 
         by : (b : Bool) → is_parent task.name r ≡ b → HasGoodParents rows_after state.spaces (after r)
         by false e = HasGoodParents-kept state.rows rows_after state.spaces state.spaces r (after r) refl (parent_of_other r e) refl
@@ -180,7 +181,8 @@ module _ (state : State) (sound : IsCoherent state) (task heir : Row) (ended : E
     IsCoherent-exit = IsCoherent-all_stay state after sound (λ r. refl) (record {
       group = group_in_use state.rows;
       session = session_in_use state.rows;
-      parents = λ r i stays. subst (λ rows. HasGoodParents (map after rows) state.spaces (after r)) (sym (filter-all all_stay state.rows (λ x j. refl))) (parents_after r i);
+      parents = λ r i stays. subst (λ rows. HasGoodParents (map after rows) state.spaces (after r))
+          (sym (filter-all all_stay state.rows (λ x j. refl))) (parents_after r i);
       children = sound.children;
       groups = HasGoodGroups-map state.rows after (λ r. refl) (λ r. refl) (λ r. refl) sound.groups;
       homes = sound.homes;
@@ -191,7 +193,8 @@ module _ (state : State) (sound : IsCoherent state) (task heir : Row) (ended : E
           refl,
           others_live r (λ same.
               let own : s.id ≡ task.name.space = sym here ∙ ap (λ (a : Name). a.space) same in
-              no_init (subst (λ a. number state.spaces a task.name.space ≡ Some 1) same (subst (λ x. number state.spaces r.name x ≡ Some 1) own one))) live,
+              no_init (subst (λ a. number state.spaces a task.name.space ≡ Some 1) same
+              (subst (λ x. number state.spaces r.name x ≡ Some 1) own one))) live,
         ),
       );
       fallen = λ s i e. let em = sound.fallen s i e in (λ r j stays live. em.ended r j (lived r live), em.below);
@@ -218,13 +221,16 @@ IsCoherent-heir state sound task heir ended there lives no_init takes = elim tak
       let up = climbs state sound (suc near.distance) heir task there near.is.above in
       let h = nearer f (top_row state sound) (suc near.distance) far.0 (root_number task.name) (root_number heir.name) up far.1 in
       let other : heir.name ≡ task.name → ⊥ = λ e.
-      (let same : h.0 ≡ far.0 = Far-unique f (top_row state sound) h.0 far.0 (root_number task.name) (subst (Far f h.0) (ap root_number e) h.1) far.1 in omega (arith, h.2)) in
+      (let same : h.0 ≡ far.0 = Far-unique f (top_row state sound) h.0 far.0 (root_number task.name)
+      (subst (Far f h.0) (ap root_number e) h.1) far.1 in omega (arith, h.2)) in
       IsCoherent-exit state sound task heir ended there lives takes.there takes.lives takes.beside other no_init
-      (far_from_ancestor state sound task heir ended there lives takes.there takes.lives takes.beside other no_init h.0 far.0 far.1 (omega (arith, h.2)) (root_number heir.name) h.1)
+      (far_from_ancestor state sound task heir ended there lives takes.there takes.lives takes.beside other no_init h.0 far.0 far.1
+      (omega (arith, h.2)) (root_number heir.name) h.1)
   | inr init ↦
       let other : heir.name ≡ task.name → ⊥ = λ e. no_init (subst (λ a. number state.spaces a task.name.space ≡ Some 1) e init.1) in
       IsCoherent-exit state sound task heir ended there lives takes.there takes.lives takes.beside other no_init
-      (far_from_init state sound task heir ended there lives takes.there takes.lives takes.beside other no_init (subst (λ x. number state.spaces heir.name x ≡ Some 1) (sym takes.beside) init.1))
+      (far_from_init state sound task heir ended there lives takes.there takes.lives takes.beside other no_init
+      (subst (λ x. number state.spaces heir.name x ≡ Some 1) (sym takes.beside) init.1))
 ]
 
 -- ---- the call
@@ -238,5 +244,7 @@ exit_keeps state stamp status caller reply sound below i live none =
     let no_init : number state.spaces caller.name caller.name.space ≡ Some 1 → ⊥ = λ e. (let yes : is_init state caller ≡ true = is_numbered-from state.spaces caller.name caller.name.space 1 e in cc) in
     let h = takes_orphans state caller sound.coherent i live in
     Keeps-changed stamp (record state { rows = rows_after_exit state caller status }) _
-    (subst (λ o. IsCoherent (record state { rows = map (row_after_exit caller o (Exited status)) state.rows })) (sym h.1) (IsCoherent-heir state sound.coherent caller h.0 (Exited status) i live no_init h.2))
-    (IsBelow-rows stamp state _ below (each_of_map (λ r. r.children_space < stamp) (row_after_exit caller (new_parent state caller) (Exited status)) state.rows below.children))
+    (subst (λ o. IsCoherent (record state { rows = map (row_after_exit caller o (Exited status)) state.rows })) (sym h.1)
+    (IsCoherent-heir state sound.coherent caller h.0 (Exited status) i live no_init h.2))
+    (IsBelow-rows stamp state _ below (each_of_map (λ r. r.children_space < stamp)
+    (row_after_exit caller (new_parent state caller) (Exited status)) state.rows below.children))

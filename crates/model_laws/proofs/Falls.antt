@@ -1,8 +1,8 @@
 -- What a fall does to each task.
-use Rattle.std.proofs.Common.{◌≡◌, ℕ, Bool, true, false, ◌&&◌, not, Option, Some, None, refl, sym, ap, ◌∙◌, subst, filter, is_some, if◌then◌else◌, arith}
+use Rattle.std.proofs.Common.{◌≡◌, ℕ, Bool, true, false, not, Option, Some, None, refl, sym, ap, ◌∙◌, subst, filter, is_some, arith}
 use Rattle.std.specs.Option.{option_map_or}
 use Rattle.std.proofs.lemmas.Bool.{and_left, or_from, or_right, not_from_false, not-true, false_from_ne_true}
-use Rattle.model_laws.proofs.Words.{Name, Row, Space, Life, Zombie, Exited, Killed, Done, IsIn, State, path_up, number, is_within, is_member, same_name, is_live, Outcome, sweep, is_init, has_parent_within, goes_in_fall, row_after_fall, rows_after_fall, fallen_below, fall, IsSound, Exit, live_row}
+use Rattle.model_laws.proofs.Words.{Name, Row, Space, Life, Zombie, Exited, Killed, Done, IsIn, State, path_up, number, is_within, is_member, same_name, Outcome, sweep, is_init, has_parent_within, goes_in_fall, row_after_fall, rows_after_fall, fallen_below, fall, IsSound, Exit, live_row}
 use Rattle.model_laws.specs.FallLaws.{IsMember, HasMemberParent, IsOtherMember, HasFallen}
 use Rattle.model_laws.proofs.Lists.{IsIn-map, IsIn-from_map, IsIn-filter, IsIn-from_filter, IsIn-from_contains, contains-from_IsIn}
 use Rattle.model_laws.proofs.Names.{same_name-true, same_name-refl, own_name_in_use, number-on_path, number-within}
@@ -74,7 +74,8 @@ module _ (state : State) (sound : IsSound state) (init : Row) (status : ℕ) (th
   unfolding rows_after_fall
   fallen_rows next rows below standing controls = record {
     controls = controls;
-    itself = (let own = same_name-refl init.name init.name refl in moved (record init { life = Zombie (Exited status) }) (kept_as init (Zombie (Exited status)) there (grind arith) (grind arith)));
+    itself = (let own = same_name-refl init.name init.name refl in moved (record init { life = Zombie (Exited status) })
+        (kept_as init (Zombie (Exited status)) there (grind arith) (grind arith)));
     outside = λ r i none.
         let off = member-false r none in
         let other = differs r (λ e. none (subst (λ (a : Name). (n : ℕ) × (number state.spaces a space ≡ Some n)) (sym e) own_member)) in

@@ -213,31 +213,33 @@ module _ (old : State) (sound : IsCoherent old) (spaces : List Space) (caller : 
   -- a fork that is made leaves a coherent state
   pub IsCoherent-forked : IsCoherent (with_child state child path)
   unfolding with_cursors
-  IsCoherent-forked = IsCoherent-map_spaces (record state { rows = rows_after }) (moved_cursor state path) (λ s. refl) (λ s. refl) (λ s. refl) (record {
-    distinct = distinct_after;
-    numbered = well_after;
-    parents = each_after (HasGoodParents rows_after spaces) parents_child parents_old;
-    children = each_after (HasGoodChildrenSpace spaces) (inr (path_first spaces t)) ready.children;
-    root = ready.root;
-    standing = standing_after;
-    fallen = fallen_after;
-    groups = record {
-      together = λ a b i j. together_after a b (IsIn-from_insert child old.rows a i) (IsIn-from_insert child old.rows b j);
-      leader = λ a b i j. leader_after a b (IsIn-from_insert child old.rows a i) (IsIn-from_insert child old.rows b j);
-    };
-    rows_rise = rise_after;
-    spaces = ready.tree;
-    controls = sound.controls;
-    limits = sound.limits;
-    homes = each_after (λ r. (c : Control) × (control_at old.controls r.home ≡ Some c)) (sound.homes caller there) sound.homes;
-  })
+  IsCoherent-forked =
+      IsCoherent-map_spaces (record state { rows = rows_after }) (moved_cursor state path) (λ s. refl) (λ s. refl) (λ s. refl) (record {
+        distinct = distinct_after;
+        numbered = well_after;
+        parents = each_after (HasGoodParents rows_after spaces) parents_child parents_old;
+        children = each_after (HasGoodChildrenSpace spaces) (inr (path_first spaces t)) ready.children;
+        root = ready.root;
+        standing = standing_after;
+        fallen = fallen_after;
+        groups = record {
+          together = λ a b i j. together_after a b (IsIn-from_insert child old.rows a i) (IsIn-from_insert child old.rows b j);
+          leader = λ a b i j. leader_after a b (IsIn-from_insert child old.rows a i) (IsIn-from_insert child old.rows b j);
+        };
+        rows_rise = rise_after;
+        spaces = ready.tree;
+        controls = sound.controls;
+        limits = sound.limits;
+        homes = each_after (λ r. (c : Control) × (control_at old.controls r.home ≡ Some c)) (sound.homes caller there) sound.homes;
+      })
 
   -- and its ids below the stamp
   pub IsBelow-forked : (stamp : ℕ) → IsBelow stamp old → ((s : Space) → IsIn s spaces → s.id < stamp)
       → IsBelow stamp (with_child state child path)
   unfolding with_cursors
   IsBelow-forked stamp below ids = record {
-    spaces = λ s i. let q = IsIn-from_map (moved_cursor state path) s spaces i in let l = ids q.0 q.1 in omega (arith, l, ap (λ (x : Space). x.id) q.2);
+    spaces = λ s i. let q = IsIn-from_map (moved_cursor state path) s spaces i in let l = ids q.0 q.1 in omega
+        (arith, l, ap (λ (x : Space). x.id) q.2);
     controls = λ c i. omega (arith, below.controls c i);
     children =
         each_after (λ r. r.children_space < stamp) (let l = ids ready.target.0 ready.target.1 in omega (arith, l, ready.target.2)) (λ r i. omega (arith, below.children r i));
@@ -387,7 +389,8 @@ module _ (state : State) (sound : IsCoherent state) (stamp : ℕ) (below : IsBel
     tree = tree_new;
     children = children_new;
     root = each_pushed (λ (s : Space). s.id ≡ 0 → s.fallen ≡ false) state.spaces new sound.root (λ e. refl);
-    standing = each_pushed (λ (s : Space). s.fallen ≡ false → HasLiveInit state.rows with_new s.id ⊎ ((s.id ≡ stamp) × (drawn (with_space state p stamp) stamp ≡ 1))) state.spaces new
+    standing = each_pushed (λ (s : Space). s.fallen ≡ false → HasLiveInit state.rows with_new s.id ⊎
+        ((s.id ≡ stamp) × (drawn (with_space state p stamp) stamp ≡ 1))) state.spaces new
         (λ s j e. inl (let r = sound.standing s j e in (r.0, r.1, r.2, r.3, number_old r.0.name (own_name_in_use state.rows r.0 r.1) s.id ∙ r.4)))
         (λ e. inr (refl, first_drawn caller may));
     fallen = each_pushed (λ (s : Space). s.fallen ≡ true → IsEmptied state.rows with_new s.id) state.spaces new emptied (λ e. absurd (cc));
@@ -428,15 +431,18 @@ forked_keeps state stamp caller sound below there live stands may =
     (IsBelow-forked state sound.coherent state.spaces caller caller.children_space ready there live may stamp below below.spaces)
 
 -- and so does one in a new namespace
-pub forked_first_keeps : (state : State) (stamp : ℕ) (caller : Row) → IsSound state → IsBelow stamp state → IsIn caller state.rows → is_live caller ≡ true
+pub forked_first_keeps : (state : State) (stamp : ℕ) (caller : Row) → IsSound state → IsBelow stamp state → IsIn caller state.rows
+    → is_live caller ≡ true
     → is_gone state caller.children_space ≡ false → nat_le 32 (level state.spaces caller.children_space) ≡ false
     → (caller.children_space == caller.name.space) ≡ true → MayFork (with_space state caller.children_space stamp) caller stamp
     → Keeps (stamp + 1) (forked (with_space state caller.children_space stamp) caller stamp)
 forked_first_keeps state stamp caller sound below there live stands shallow here may =
     let p : ℕ = caller.children_space in
     let spaces : List Space = with_new state sound.coherent stamp below p stands shallow in
-    let ready : IsReady state spaces caller stamp = IsReady-new state sound.coherent stamp below p stands shallow caller there (eqb-true p caller.name.space here) may in
+    let ready : IsReady state spaces caller stamp = IsReady-new state sound.coherent stamp below p stands shallow caller there
+    (eqb-true p caller.name.space here) may in
     Keeps-changed (stamp + 1) (with_child (with_space state p stamp) (child_of (with_space state p stamp) caller stamp) (path_up spaces stamp)) _
     (IsCoherent-forked state sound.coherent spaces caller stamp ready there live may)
-    (IsBelow-forked state sound.coherent spaces caller stamp ready there live may (stamp + 1) (IsBelow-next stamp state below) (each_pushed (λ (s : Space). s.id < stamp + 1) state.spaces
+    (IsBelow-forked state sound.coherent spaces caller stamp ready there live may (stamp + 1) (IsBelow-next stamp state below)
+    (each_pushed (λ (s : Space). s.id < stamp + 1) state.spaces
     (new state sound.coherent stamp below p stands shallow) (λ s j. omega (arith, below.spaces s j)) (omega arith)))

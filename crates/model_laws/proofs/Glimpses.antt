@@ -85,7 +85,8 @@ module _ (state : State) (sound : IsCoherent state) (root : ℕ) (caller : Row) 
   no_task : task_at state caller.name.space 0 ≡ None
   unfolding task_at
   no_task = find-none (λ row. is_numbered state.spaces row.name caller.name.space 0) state.rows (λ row i. false_from_ne_true _ (λ e.
-      let l : 0 < 0 = above_zero row.name (own_name_in_use state.rows row i) caller.name.space 0 (is_numbered-true state.spaces row.name caller.name.space 0 e) in omega arith))
+      let l : 0 < 0 = above_zero row.name (own_name_in_use state.rows row i) caller.name.space 0
+      (is_numbered-true state.spaces row.name caller.name.space 0 e) in omega arith))
 
   -- whom a number names, 0 being the caller, is seen so
   self_seen : (pid : ℕ)

@@ -144,7 +144,8 @@ pub target_of-IsIn : (state : State) (caller target : Row) (pid : ℤ) → IsIn 
     → IsIn target state.rows
 unfolding task_at
 target_of-IsIn state caller target (negsuc n) i h = absurd (cc)
-target_of-IsIn state caller target (pos n) i h = grind (arith, find-Some (λ row. is_numbered state.spaces row.name caller.name.space n) state.rows target)
+target_of-IsIn state caller target (pos n) i h =
+    grind (arith, find-Some (λ row. is_numbered state.spaces row.name caller.name.space n) state.rows target)
 
 -- the target is in the caller's session
 pub target_session : (state : State) → IsSound state → (caller target : Row) → IsIn caller state.rows → IsIn target state.rows
@@ -152,7 +153,8 @@ pub target_session : (state : State) → IsSound state → (caller target : Row)
     → not (is_parent caller.name target || same_name target.name caller.name) ≡ false
     → target.session ≡ caller.session
 target_session state sound caller target i j same own =
-    let self : target.name ≡ caller.name → target.session ≡ caller.session = λ e. ap (λ (r : Row). r.session) (same_row state.rows sound.coherent.rows_rise target caller j i e) in
+    let self : target.name ≡ caller.name → target.session ≡ caller.session = λ e. ap (λ (r : Row). r.session)
+    (same_row state.rows sound.coherent.rows_rise target caller j i e) in
     grind (arith, self, same_name-true target.session caller.session, same_name-true target.name caller.name)
 
 -- a task that goes to a group and a session that are open to it leaves a coherent state, and ids below each stamp that they were below

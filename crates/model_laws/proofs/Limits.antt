@@ -23,7 +23,8 @@ pub length-cond : (b : Bool) (row : Row) (rows : List Row) → length (cond b (r
 length-cond b row rows = grind arith
 
 -- a fork that is made counts one more up from the caller's home
-pub count-forked : (state : State) (caller : Row) (t c : ℕ) → count (forked state caller t).state c ≡ count state c + one_if (is_below state.controls caller.home c)
+pub count-forked : (state : State) (caller : Row) (t c : ℕ)
+    → count (forked state caller t).state c ≡ count state c + one_if (is_below state.controls caller.home c)
 unfolding count sweep
 count-forked state caller t c =
     length-filter-insert (λ row. is_below state.controls row.home c) (child_of state caller t) state.rows
@@ -49,13 +50,16 @@ fork_within state caller t may c i =
     (find-None (λ d. is_limited_below state (count state d + 1) d) (control_path state.controls caller.home) may.limits c i)
 
 -- so does every fork that is answered
-pub comes_within : (state : State) (stamp n : ℕ) (new_space : Bool) (o : Outcome) → Comes state stamp (Fork n new_space) o → (caller : Row) (child root : ℕ)
+pub comes_within : (state : State) (stamp n : ℕ) (new_space : Bool) (o : Outcome) → Comes state stamp (Fork n new_space) o
+    → (caller : Row) (child root : ℕ)
     → live_row state.rows n ≡ Some caller → o.reply ≡ Forked child root → (c : ℕ) → IsIn c (control_path o.state.controls caller.home)
     → is_limited_below o.state (count o.state c) c ≡ false
 unfolding sweep
-comes_within state stamp n new_space o (still _ reply answer) caller child root found told c i = absurd (no_answer reply (Forked child root) answer refl told)
+comes_within state stamp n new_space o (still _ reply answer) caller child root found told c i =
+    absurd (no_answer reply (Forked child root) answer refl told)
 comes_within state stamp n new_space o (born _ _ other plain there stands may) caller child root found told c i =
-    fork_within state other other.children_space may c (subst (λ (z : Row). IsIn c (control_path state.controls z.home)) (let same : caller ≡ other = cc in same) i)
+    fork_within state other other.children_space may c (subst (λ (z : Row). IsIn c (control_path state.controls z.home))
+    (let same : caller ≡ other = cc in same) i)
 comes_within state stamp n new_space o (born_first _ other there stands shallow here may) caller child root found told c i =
     fork_within (with_space state other.children_space stamp) other stamp may c
     (subst (λ (z : Row). IsIn c (control_path state.controls z.home)) (let same : caller ≡ other = cc in same) i)
@@ -83,11 +87,13 @@ forked_within state caller t may sound =
     )
 
 -- so does every call
-step_within : (state : State) (stamp : ℕ) (call : Call) (o : Outcome) → Comes state stamp call o → IsSound o.state → ForkedWithinLimits o.state o.reply
+step_within : (state : State) (stamp : ℕ) (call : Call) (o : Outcome) → Comes state stamp call o → IsSound o.state
+    → ForkedWithinLimits o.state o.reply
 step_within state stamp call o (still _ (Forked child root) answer) sound = absurd (cc)
 step_within state stamp call o (still _ _ answer) sound = tt
 step_within state stamp call o (born n new_space caller plain found stands may) sound = forked_within state caller caller.children_space may sound
-step_within state stamp call o (born_first n caller found stands shallow here may) sound = forked_within (with_space state caller.children_space stamp) caller stamp may sound
+step_within state stamp call o (born_first n caller found stands shallow here may) sound =
+    forked_within (with_space state caller.children_space stamp) caller stamp may sound
 step_within state stamp call o _ sound = tt
 
 -- and every run

@@ -1,8 +1,8 @@
 -- Elements of lists.
 use Rattle.std.proofs.Common.{arith, ◌≡◌, ℕ, Bool, true, false, List, [], ◌∷◌, ◌++◌, map, reverse, Option, Some, None, refl, sym, ap, ◌∙◌, subst, ◌⊎◌, inl, inr, ◌==◌, find, filter, filter_map, flat_map, option_map}
-use Rattle.std.specs.List.{list_all, list_any}
+use Rattle.std.specs.List.{list_any}
 use Rattle.std.proofs.lemmas.List.{reverse-append}
-use Rattle.std.proofs.lemmas.Bool.{eqb-true, eq-eqb, and_from}
+use Rattle.std.proofs.lemmas.Bool.{eqb-true, eq-eqb}
 use Rattle.model_laws.proofs.Words.{contains, IsIn}
 
 -- ---- joined and turned lists
@@ -39,7 +39,8 @@ no_element (x ∷ xs) none = absurd (none x (inl refl))
 -- a list turned round has no other elements
 pub IsIn-reverse : {X : Type 0} (x : X) (xs : List X) → IsIn x (reverse xs) → IsIn x xs
 IsIn-reverse x [] h = h
-IsIn-reverse x (y ∷ xs) h = grind (arith, IsIn-append x (reverse xs) (y ∷ []) (subst (λ l. IsIn x l) (reverse-append (y ∷ []) xs) h), IsIn-reverse x xs)
+IsIn-reverse x (y ∷ xs) h =
+    grind (arith, IsIn-append x (reverse xs) (y ∷ []) (subst (λ l. IsIn x l) (reverse-append (y ∷ []) xs) h), IsIn-reverse x xs)
 
 -- and has them all
 pub IsIn-to_reverse : {X : Type 0} (x : X) (xs : List X) → IsIn x xs → IsIn x (reverse xs)
@@ -73,7 +74,8 @@ IsIn-filter p x (y ∷ xs) h pass = grind (arith, IsIn-filter p x xs)
 -- an element of a part is one of the whole
 pub IsIn-flat_map : {X Y : Type 0} (f : X → List Y) (x : X) (y : Y) (xs : List X) → IsIn x xs → IsIn y (f x) → IsIn y (flat_map f xs)
 IsIn-flat_map f x y [] i j = elim i [ ]
-IsIn-flat_map f x y (z ∷ xs) i j = grind (arith, IsIn-append_left y (f z) (flat_map f xs), IsIn-append_right y (f z) (flat_map f xs), IsIn-flat_map f x y xs)
+IsIn-flat_map f x y (z ∷ xs) i j =
+    grind (arith, IsIn-append_left y (f z) (flat_map f xs), IsIn-append_right y (f z) (flat_map f xs), IsIn-flat_map f x y xs)
 
 -- an element of the whole is one of a part
 pub IsIn-from_flat_map : {X Y : Type 0} (f : X → List Y) (y : Y) (xs : List X) → IsIn y (flat_map f xs) → (x : X) × IsIn x xs × IsIn y (f x)

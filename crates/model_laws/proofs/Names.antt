@@ -70,7 +70,8 @@ unfolding number
 number-same_path spaces others a s e = ap (λ path. beside s (reverse path) a.numbers.items) e
 
 -- an option is the one, where the test says so
-pub option_eq-true : {A : Type 0} (eq : A → A → Bool) → ((x y : A) → eq x y ≡ true → x ≡ y) → (o : Option A) (a : A) → option_eq eq o (Some a) ≡ true → o ≡ Some a
+pub option_eq-true : {A : Type 0} (eq : A → A → Bool) → ((x y : A) → eq x y ≡ true → x ≡ y) → (o : Option A) (a : A)
+    → option_eq eq o (Some a) ≡ true → o ≡ Some a
 option_eq-true eq same None a h = absurd (cc)
 option_eq-true eq same (Some x) a h = ap Some (same x a h)
 

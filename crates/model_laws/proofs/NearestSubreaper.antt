@@ -57,7 +57,8 @@ module _ (state : State) (sound : IsCoherent state) where
   parent_is r i parent e = parent_number-at state.rows (root_number r.name) r (row_at-listed state.rows sound.rows_rise r i) ∙ ap (option_map root_number) e
 
   -- a task above is so many parents above by its number
-  pub climbs : (k : ℕ) (a task : Row) → IsIn task state.rows → IsAbove state.rows k a task → Climbs parent_of k (root_number task.name) (root_number a.name)
+  pub climbs : (k : ℕ) (a task : Row) → IsIn task state.rows → IsAbove state.rows k a task
+      → Climbs parent_of k (root_number task.name) (root_number a.name)
   climbs zero a task i e = ap (λ (r : Row). root_number r.name) (sym e)
   climbs (suc k) a task i up = (root_number up.0.name, parent_is task i up.0 up.2, climbs k a up.0 up.1 up.3)
 
@@ -177,7 +178,8 @@ takes_orphans state task sound i lives = go (nearest_subreaper state.rows task) 
         → (heir : Row) × (option_map (λ (r : Row). r.name) (option_map_or (row_at state.rows) (nearest_subreaper state.rows task) (task_at state task.name.space 1)) ≡ Some heir.name) × TakesOrphans state task heir
     go (Some m) e =
         let a = nearest-found state sound task i lives m e in
-        let at : row_at state.rows m ≡ Some a.0 = subst (λ x. row_at state.rows x ≡ Some a.0) a.3 (row_at-listed state.rows sound.rows_rise a.0 a.1) in (
+        let at : row_at state.rows m ≡ Some a.0 = subst (λ x. row_at state.rows x ≡ Some a.0) a.3
+        (row_at-listed state.rows sound.rows_rise a.0 a.1) in (
           a.0,
           ap (λ p. option_map (λ (r : Row). r.name) (option_map_or (row_at state.rows) p (task_at state task.name.space 1))) e ∙ ap (option_map (λ (r : Row). r.name)) at,
           record { there = a.1; lives = a.2; beside = a.4; who = inl a.5 },

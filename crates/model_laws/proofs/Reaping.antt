@@ -28,7 +28,8 @@ to_ended : (state : State) (caller : Row) (which : Which) (row : Row) → MayBeR
 unfolding matching
 to_ended state caller which row may ended =
     IsIn-filter (λ r. not (is_live r)) row (matching state caller which)
-    (IsIn-filter (λ r. is_parent caller.name r && is_selected state caller which r) row state.rows may.0 (and_from _ _ (is_parent-from caller.name row may.1) ((Decides-selected state caller which row).1 may.2)))
+    (IsIn-filter (λ r. is_parent caller.name r && is_selected state caller which r) row state.rows may.0
+    (and_from _ _ (is_parent-from caller.name row may.1) ((Decides-selected state caller which row).1 may.2)))
     (not_from_false (is_live row) ended)
 
 -- and back
@@ -46,9 +47,11 @@ zombie_of : (row : Row) → is_live row ≡ false → row.life ≡ Zombie (end_o
 zombie_of row h = grind arith
 
 -- a wait reaps the least
-pub comes_reaped : (state : State) (stamp n : ℕ) (which : Which) (o : Outcome) → Comes state stamp (Wait n which) o → (caller : Row) (child : ℕ) (ended : Ended)
+pub comes_reaped : (state : State) (stamp n : ℕ) (which : Which) (o : Outcome) → Comes state stamp (Wait n which) o
+    → (caller : Row) (child : ℕ) (ended : Ended)
     → live_row state.rows n ≡ Some caller → o.reply ≡ Reaped child ended → (row : Row) × IsReaped state caller which child ended row
-comes_reaped state stamp n which o (still _ reply answer) caller child ended found told = absurd (no_answer reply (Reaped child ended) answer refl told)
+comes_reaped state stamp n which o (still _ reply answer) caller child ended found told =
+    absurd (no_answer reply (Reaped child ended) answer refl told)
 comes_reaped state stamp n which o (waits _ _ other there none) caller child ended found told = absurd (cc)
 comes_reaped state stamp n which o (reaped _ _ other row there least) caller child ended found told =
     let same : other ≡ caller = cc in
@@ -75,5 +78,6 @@ comes_none_yet state stamp n which o (waits _ _ other there none) caller found t
   | inl live ↦ live
   | inr dead ↦
       let same : caller ≡ other = cc in
-      absurd (least_row-none state other.name.space (ended_children state other which) row none (to_ended state other which row (subst (λ (x : Row). MayBeReaped state x which row) same may) dead))
+      absurd (least_row-none state other.name.space (ended_children state other which) row none
+      (to_ended state other which row (subst (λ (x : Row). MayBeReaped state x which row) same may) dead))
 ]

@@ -96,7 +96,8 @@ Decides-child : (parent row : Row) → Decides (is_parent parent.name row) (IsCh
 Decides-child parent row = (is_parent-true parent.name row, is_parent-from parent.name row)
 
 -- a name has the number in the caller's namespace
-Decides-number : (state : State) (caller : Row) (a : Name) (n : ℕ) → Decides (is_numbered state.spaces a caller.name.space n) (number state.spaces a caller.name.space ≡ Some n)
+Decides-number : (state : State) (caller : Row) (a : Name) (n : ℕ)
+    → Decides (is_numbered state.spaces a caller.name.space n) (number state.spaces a caller.name.space ≡ Some n)
 Decides-number state caller a n = (is_numbered-true state.spaces a caller.name.space n, is_numbered-from state.spaces a caller.name.space n)
 
 -- some element passes a test
@@ -157,10 +158,12 @@ session_found state caller n = go (find p state.rows) (finds fits p state.rows
     }
 
 -- the group that setpgid finds is one for the target
-pub group_found : (state : State) (caller target : Row) (pgid : ℤ) → IsFound (IsGroupFor state caller target pgid) (group_for state caller target pgid)
+pub group_found : (state : State) (caller target : Row) (pgid : ℤ)
+    → IsFound (IsGroupFor state caller target pgid) (group_for state caller target pgid)
 group_found state caller target (negsuc n) = record { some = λ group e. cc; none = λ e group t. t }
 group_found state caller target (pos n) = go ((n == 0) || is_numbered state.spaces target.name caller.name.space n)
-    (Decides-or (n == 0) (is_numbered state.spaces target.name caller.name.space n) (Decides-eqb n 0) (Decides-number state caller target.name n)) (session_found state caller n)
+    (Decides-or (n == 0) (is_numbered state.spaces target.name caller.name.space n) (Decides-eqb n 0)
+    (Decides-number state caller target.name n)) (session_found state caller n)
   where
     go : (b : Bool) → Decides b (NamesTarget state caller target n) → IsFound (IsSessionGroup state caller n) (session_group state caller n)
         → IsFound (IsGroupFor state caller target (pos n)) (if b then Some target.name else session_group state caller n)
@@ -172,7 +175,8 @@ group_found state caller target (pos n) = go ((n == 0) || is_numbered state.spac
 
 -- the control group
 control_found : (state : State) (id : ℕ) → IsFound (IsControl state id) (control_at state.controls id)
-control_found state id = finds (IsControl state id) (λ c. c.id == id) state.controls (λ c i e. (i, eqb-true c.id id e)) (λ c t. (t.0, eq-eqb c.id id t.1))
+control_found state id =
+    finds (IsControl state id) (λ c. c.id == id) state.controls (λ c i e. (i, eqb-true c.id id e)) (λ c t. (t.0, eq-eqb c.id id t.1))
 
 -- its parent, which the root has not
 parent_found : (c : Control) → IsFound (λ parent. c.parent ≡ Some parent) c.parent
@@ -182,7 +186,8 @@ parent_found c = record {
 }
 
 -- a child that the wait selects
-pub Decides-selected : (state : State) (caller : Row) (which : Which) (row : Row) → Decides (is_selected state caller which row) (IsSelected state caller which row)
+pub Decides-selected : (state : State) (caller : Row) (which : Which) (row : Row)
+    → Decides (is_selected state caller which row) (IsSelected state caller which row)
 Decides-selected state caller Any row = (λ h. tt, λ h. refl)
 Decides-selected state caller (Pid n) row = Decides-number state caller row.name n
 Decides-selected state caller OwnGroup row = Decides-name row.group caller.group
@@ -195,14 +200,17 @@ Decides-negative (negsuc n) = (λ e. (n, refl), λ f. refl)
 
 -- a group that some task is in
 Decides-members : (state : State) (group : Name) → Decides (has_members state group) ((r : Row) × IsIn r state.rows × (r.group ≡ group))
-Decides-members state group = Decides-like (has_members state group) (λ f. (f.0, f.1, same_name-true f.0.group group f.2)) (λ f. (f.0, f.1, same_name-refl f.0.group group f.2))
+Decides-members state group =
+    Decides-like (has_members state group) (λ f. (f.0, f.1, same_name-true f.0.group group f.2)) (λ f. (f.0, f.1, same_name-refl f.0.group group f.2))
     (Decides-any (λ row. same_name row.group group) state.rows)
 
 -- a control group that is busy
 pub Decides-busy : (state : State) (id : ℕ) → Decides (is_busy state id) (IsBusy state id)
 unfolding is_busy
-Decides-busy state id = Decides-or (list_any (λ row. (row.home == id) && is_live row) state.rows) (list_any (λ c. option_eq ◌==◌ c.parent (Some id)) state.controls)
-    (Decides-like _ (λ f. let t = and_parts (f.0.home == id) (is_live f.0) f.2 in (f.0, f.1, eqb-true f.0.home id t.0, t.1)) (λ f. (f.0, f.1, and_from _ _ (eq-eqb f.0.home id f.2) f.3))
+Decides-busy state id =
+    Decides-or (list_any (λ row. (row.home == id) && is_live row) state.rows) (list_any (λ c. option_eq ◌==◌ c.parent (Some id)) state.controls)
+    (Decides-like _ (λ f. let t = and_parts (f.0.home == id) (is_live f.0) f.2 in (f.0, f.1, eqb-true f.0.home id t.0, t.1))
+    (λ f. (f.0, f.1, and_from _ _ (eq-eqb f.0.home id f.2) f.3))
     (Decides-any (λ (row : Row). (row.home == id) && is_live row) state.rows))
     (Decides-like _ (λ f. (f.0, f.1, option_eq-true ◌==◌ eqb-true f.0.parent id f.2)) (λ f. (f.0, f.1, rw f.2 (eq-eqb id id refl)))
     (Decides-any (λ (c : Control). option_eq ◌==◌ c.parent (Some id)) state.controls))
@@ -218,7 +226,8 @@ Decides-limit (Some m) = (
 -- a namespace that gives no number
 Decides-no_number : (state : State) (s : ℕ) → Decides (is_none (draw state s)) (HasNoNumber state s)
 unfolding draw
-Decides-no_number state s = go (cyclic_draw state.pid_max (cursor_of state s) (taken state s)) (cyclic_draw-IsCyclicDraw state.pid_max (cursor_of state s) (taken state s))
+Decides-no_number state s =
+    go (cyclic_draw state.pid_max (cursor_of state s) (taken state s)) (cyclic_draw-IsCyclicDraw state.pid_max (cursor_of state s) (taken state s))
   where
     low : ℕ
     low = restart (cursor_of state s)
@@ -245,7 +254,8 @@ first_room old state caller t = record {
       first_by (HasNoNumber state) (λ s. is_none (draw state s)) NoNumber (path_up state.spaces t) (refuse_first (λ c. is_limited_below state (count state c + 1) c ≡ true) PidsLimit (control_path state.controls caller.home) goes_on) (said_by full over)
       (Decides-no_number state) (λ s e. ap (λ o. said_by o over) e) (λ none.
       first_by (λ c. is_limited_below state (count state c + 1) c ≡ true) (λ c. is_limited_below state (count state c + 1) c) PidsLimit (control_path state.controls caller.home) goes_on (said_by full over)
-      (λ c. (λ e. e, λ e. e)) (λ c e. ap (λ o. said_by o over) none ∙ ap (said_by None) e) (λ e. ap (λ o. said_by o over) none ∙ ap (said_by None) e));
+      (λ c. (λ e. e, λ e. e)) (λ c e. ap (λ o. said_by o over) none ∙ ap (said_by None) e)
+      (λ e. ap (λ o. said_by o over) none ∙ ap (said_by None) e));
 }
   where
     full : Option ℕ
@@ -261,7 +271,8 @@ first_room old state caller t = record {
 first_space : (state : State) (p : ℕ) (o : Outcome) (later : Option Refusal → Type 0) → IsJudged later o.reply
     → IsJudged (find_one (IsSpace state p) SpaceFallen (λ s. refuse (s.fallen ≡ true) SpaceFallen later)) (refuse_if state (is_gone state p) SpaceFallen o).reply
 first_space state p o later h =
-    go (space_at state.spaces p) (finds (IsSpace state p) (λ s. s.id == p) state.spaces (λ s i e. (i, eqb-true s.id p e)) (λ s t. (t.0, eq-eqb s.id p t.1)))
+    go (space_at state.spaces p) (finds (IsSpace state p) (λ s. s.id == p) state.spaces (λ s i e. (i, eqb-true s.id p e))
+    (λ s t. (t.0, eq-eqb s.id p t.1)))
   where
     go : (x : Option Space) → IsFound (IsSpace state p) x
         → IsJudged (find_one (IsSpace state p) SpaceFallen (λ s. refuse (s.fallen ≡ true) SpaceFallen later)) (refuse_if state (option_map_or (λ t. t.fallen) x true) SpaceFallen o).reply
@@ -283,7 +294,8 @@ first_asked state n f later h = answered_by (IsLiveTask state n) (live_row state
 -- a call on a control group
 first_control : (state : State) (id : ℕ) (call : Control → Outcome) (later : Control → Option Refusal → Type 0)
     → ((c : Control) → IsJudged (later c) (call c).reply) → IsJudged (find_one (IsControl state id) NoControl later) (on_control state id call).reply
-first_control state id call later h = found_by (IsControl state id) state (control_at state.controls id) NoControl call later (control_found state id) h
+first_control state id call later h =
+    found_by (IsControl state id) state (control_at state.controls id) NoControl call later (control_found state id) h
 
 -- a call on its parent
 first_below_root : (state : State) (c : Control) (call : ℕ → Outcome) (later : ℕ → Option Refusal → Type 0) → ((parent : ℕ) → IsJudged (later parent) (call parent).reply)
@@ -358,8 +370,10 @@ first_set_group_of state caller target pgid =
     refused_by ((IsChild caller target → ⊥) × (target.name ≡ caller.name → ⊥)) state (not (is_parent caller.name target || same_name target.name caller.name)) NoTask _ _
     (Decides-like _ (λ h. (λ c. h (inl c), λ s. h (inr s))) (λ h u. elim u [ inl c ↦ h.0 c | inr s ↦ h.1 s ])
     (Decides-not _ (Decides-or _ _ (Decides-child caller target) (Decides-name target.name caller.name)))) (λ own.
-    refused_by (target.session ≡ target.name) state (same_name target.session target.name) IsLeader _ _ (Decides-name target.session target.name) (λ member.
-    found_by (IsGroupFor state caller target pgid) state (group_for state caller target pgid) NoGroup _ (λ group. goes_on) (group_found state caller target pgid) (λ group. goes _ refl)))))
+    refused_by (target.session ≡ target.name) state (same_name target.session target.name) IsLeader _ _
+    (Decides-name target.session target.name) (λ member.
+    found_by (IsGroupFor state caller target pgid) state (group_for state caller target pgid) NoGroup _ (λ group. goes_on)
+    (group_found state caller target pgid) (λ group. goes _ refl)))))
 
 -- the next number, or the end
 first_next : (o : Option ℕ) → IsJudged goes_on (option_map_or Number o End)
@@ -372,7 +386,8 @@ unfolding step exec exit set_pgid set_sid make_control remove_control set_limit 
 judged state stamp (Fork caller new_space) = first_fork state stamp caller new_space
 judged state stamp (GetPid caller) = first_asked state caller _ (λ row. goes_on) (λ row. goes _ refl)
 judged state stamp (NsPid caller target) =
-    first_asked state caller _ _ (λ row. answered_by (IsTaskTo state row target) (task_at state row.name.space target) NoTask _ (λ task. goes_on) (task_found state row target) (λ task. goes _ refl))
+    first_asked state caller _ _ (λ row. answered_by (IsTaskTo state row target) (task_at state row.name.space target) NoTask _
+    (λ task. goes_on) (task_found state row target) (λ task. goes _ refl))
 judged state stamp (Exec caller) = first_live state caller _ (λ row. goes_on) (λ row. goes _ refl)
 judged state stamp (Exit caller status) = first_live state caller _ _ (λ row.
     refused_by (root_number row.name ≡ 1) state (root_number row.name == 1) RootInit _ goes_on (Decides-eqb (root_number row.name) 1) (λ deep.
@@ -384,25 +399,32 @@ judged state stamp (SetPgid caller pid pgid) = first_live state caller _ _ (λ r
     found_by (IsTarget state row pid) state (target_of state row pid) NoTask _ (changes_group state row pgid) (target_found state row pid) (λ target.
     first_set_group_of state row target pgid)))
 judged state stamp (SetSid caller) = first_live state caller _ _ (λ row.
-    refused_by ((r : Row) × IsIn r state.rows × (r.group ≡ row.name)) state (has_members state row.name) IsLeader _ goes_on (Decides-members state row.name) (λ none. goes _ refl))
+    refused_by ((r : Row) × IsIn r state.rows × (r.group ≡ row.name)) state (has_members state row.name) IsLeader _ goes_on
+    (Decides-members state row.name) (λ none. goes _ refl))
 judged state stamp (MakeControl parent) = first_control state parent _ _ (λ c.
     refused_by (deepest_control < length (control_path state.controls parent)) state (nat_lt deepest_control (length (control_path state.controls parent))) ControlDepth _ goes_on
     (Decides-ltb deepest_control (length (control_path state.controls parent))) (λ shallow. goes _ refl))
 judged state stamp (RemoveControl id) = first_control state id _ _ (λ c. first_below_root state c _ _ (λ parent.
     refused_by (IsBusy state id) state (is_busy state id) ControlBusy _ goes_on (Decides-busy state id) (λ idle. goes _ refl)))
 judged state stamp (SetLimit id limit) = first_control state id _ _ (λ c. first_below_root state c _ _ (λ parent.
-    refused_by ((n : ℕ) × (limit ≡ Some n) × (greatest_limit < n)) state (option_map_or (nat_lt greatest_limit) limit false) BadLimit _ goes_on (Decides-limit limit) (λ good. goes _ refl)))
+    refused_by ((n : ℕ) × (limit ≡ Some n) × (greatest_limit < n)) state (option_map_or (nat_lt greatest_limit) limit false) BadLimit _
+    goes_on (Decides-limit limit) (λ good. goes _ refl)))
 judged state stamp (Move task id) =
-    found_by (IsLiveTask state task) state (live_row state.rows task) NoTask _ _ (live_found state task) (λ row. first_control state id _ (λ c. goes_on) (λ c. goes _ refl))
+    found_by (IsLiveTask state task) state (live_row state.rows task) NoTask _ _ (live_found state task)
+    (λ row. first_control state id _ (λ c. goes_on) (λ c. goes _ refl))
 judged state stamp (Count id) = first_control state id _ (λ c. goes_on) (λ c. goes _ refl)
 judged state stamp (GetPgid caller pid) =
-    first_asked state caller _ _ (λ row. answered_by (IsSelfOrTask state row pid) (self_or_task state row pid) NoTask _ (λ task. goes_on) (self_found state row pid) (λ task. goes _ refl))
+    first_asked state caller _ _ (λ row. answered_by (IsSelfOrTask state row pid) (self_or_task state row pid) NoTask _ (λ task. goes_on)
+    (self_found state row pid) (λ task. goes _ refl))
 judged state stamp (GetSid caller pid) =
-    first_asked state caller _ _ (λ row. answered_by (IsSelfOrTask state row pid) (self_or_task state row pid) NoTask _ (λ task. goes_on) (self_found state row pid) (λ task. goes _ refl))
-judged state stamp (Next caller kind from) = first_asked state caller _ (λ row. goes_on) (λ row. first_next (least_of (filter (nat_le from) (numbers_by state kind row.name.space))))
+    first_asked state caller _ _ (λ row. answered_by (IsSelfOrTask state row pid) (self_or_task state row pid) NoTask _ (λ task. goes_on)
+    (self_found state row pid) (λ task. goes _ refl))
+judged state stamp (Next caller kind from) =
+    first_asked state caller _ (λ row. goes_on) (λ row. first_next (least_of (filter (nat_le from) (numbers_by state kind row.name.space))))
 judged state stamp (Join caller target) = first_live state caller _ _ (λ row.
     found_by (IsTaskTo state row target) state (task_at state row.name.space target) NoTask _ _ (task_found state row target) (λ task.
-    refused_by (is_live task ≡ false) state (not (is_live task)) NoTask _ goes_on (not-true (is_live task), not_from_false (is_live task)) (λ live. goes _ refl)))
+    refused_by (is_live task ≡ false) state (not (is_live task)) NoTask _ goes_on (not-true (is_live task), not_from_false (is_live task))
+    (λ live. goes _ refl)))
 judged state stamp (SetSubreaper caller on) = first_live state caller _ (λ row. goes_on) (λ row. goes _ refl)
 
 -- a call is refused exactly where a reason holds, by the first one

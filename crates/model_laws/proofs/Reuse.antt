@@ -69,10 +69,12 @@ module _ (old : State) (sound : IsCoherent old) (spaces : List Space) (caller : 
 -- after a call in a sound state a new task shares no number with a name that was in use
 comes_fresh : (state : State) (stamp : ℕ) (call : Call) (o : Outcome) → Comes state stamp call o → IsSound state → IsBelow stamp state → (name : Name)
     → IsInUse name state → IsFresh name o
-comes_fresh state stamp call o (still _ reply answer) sound below name i = record { apart = λ child root row told. absurd (no_answer reply (Forked child root) answer refl told) }
+comes_fresh state stamp call o (still _ reply answer) sound below name i =
+    record { apart = λ child root row told. absurd (no_answer reply (Forked child root) answer refl told) }
 comes_fresh state stamp call o (born n new_space caller plain found stands may) sound below name i =
     let c = live_row-Some state.rows n caller found in
-    IsFresh-forked state sound.coherent state.spaces caller caller.children_space (IsReady-old state sound.coherent caller c.0 stands may) c.0 c.2 may name i
+    IsFresh-forked state sound.coherent state.spaces caller caller.children_space (IsReady-old state sound.coherent caller c.0 stands may)
+    c.0 c.2 may name i
 comes_fresh state stamp call o (born_first n caller found stands shallow here may) sound below name i =
     let c = live_row-Some state.rows n caller found in
     let p : ℕ = caller.children_space in
@@ -111,5 +113,7 @@ no_reuse opening first entries sound below run k e child root row name at used t
     let long : length (calls_of (take k entries)) ≡ k = length-map (take k entries) (λ (x : Entry). x.call) ∙ length-take-le k entries (let l : k < length entries = slice_get_within entries k e at in omega arith) in
     let next : state_at opening first entries (k + 1) ≡ (step now (first + k) e.call).state = ap (state_at opening first entries) (add-one k) ∙ state_at-suc opening first entries k e at in
     let below : IsBelow (first + k) now = subst (λ n. IsBelow (first + n) now) long kept.1 in
-    (comes_fresh now (first + k) e.call _ (step_comes now (first + k) e.call) kept.0 below name used).apart child root row (Along-at RepliesAsOne opening first entries run k e at ∙ told)
-    (step_keeps now (first + k) e.call kept.0 below).sound (subst (λ (x : State). row_at x.rows root ≡ Some row) next found) (subst (λ (x : State). ShareNumber x name row.name) next share)
+    (comes_fresh now (first + k) e.call _ (step_comes now (first + k) e.call) kept.0 below name used).apart child root row
+    (Along-at RepliesAsOne opening first entries run k e at ∙ told)
+    (step_keeps now (first + k) e.call kept.0 below).sound (subst (λ (x : State). row_at x.rows root ≡ Some row) next found)
+    (subst (λ (x : State). ShareNumber x name row.name) next share)

@@ -21,7 +21,8 @@ IsRising-push {X} key (x ∷ xs) y h above = (below, IsRising-push key xs y h.1 
     below : (m : ℕ) → IsIn m (map key (xs ++ y ∷ [])) → key x < m
     below m i =
         let r = IsIn-from_map key m (xs ++ y ∷ []) i in
-        subst (λ n. key x < n) (sym r.2) (each_pushed (λ z. key x < key z) xs y (λ z j. h.0 (key z) (IsIn-map key z xs j)) (above x (inl refl)) r.0 r.1)
+        subst (λ n. key x < n) (sym r.2) (each_pushed (λ z. key x < key z) xs y (λ z j. h.0 (key z) (IsIn-map key z xs j))
+        (above x (inl refl)) r.0 r.1)
 
 -- two elements of a rising list with one key are one
 pub unique_key : {X : Type 0} (key : X → ℕ) (xs : List X) → IsRising (map key xs) → (a b : X) → IsIn a xs → IsIn b xs → key a ≡ key b → a ≡ b

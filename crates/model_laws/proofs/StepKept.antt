@@ -14,18 +14,21 @@ use Rattle.model_laws.proofs.ForkKept.{forked_keeps, forked_first_keeps}
 use Rattle.model_laws.proofs.Calls.{Comes, still, born, born_first, fell, handed_on, waits, reaped, grouped, led, executed, control_made, control_removed, limit_set, moved, joined, marked, step_comes}
 
 -- a call that makes nothing with an id leaves a sound state, whose ids are below the stamp
-pub plain_keeps : (state : State) (stamp : ℕ) (call : Call) (o : Outcome) → Comes state stamp call o → makes_id call ≡ false → IsSound state → IsBelow stamp state
+pub plain_keeps : (state : State) (stamp : ℕ) (call : Call) (o : Outcome) → Comes state stamp call o → makes_id call ≡ false → IsSound state
+    → IsBelow stamp state
     → Keeps stamp o
 plain_keeps state stamp call o (still _ reply answer) plain sound below = Keeps-same stamp state reply sound below
 plain_keeps state stamp call o (waits n which caller found none) plain sound below = Keeps-same stamp state _ sound below
 plain_keeps state stamp call o (born n new_space caller _ found stands may) plain sound below =
     let c = live_row-Some state.rows n caller found in forked_keeps state stamp caller sound below c.0 c.2 stands may
 plain_keeps state stamp call o (executed n caller found) plain sound below =
-    Keeps-on_row stamp state caller.name set_executed _ sound below (λ r. refl) (λ r i e. sound.coherent.children r i) sound.coherent.homes below.children
+    Keeps-on_row stamp state caller.name set_executed _ sound below (λ r. refl) (λ r i e. sound.coherent.children r i) sound.coherent.homes
+    below.children
 plain_keeps state stamp call o (fell n status caller found deep one) plain sound below =
     let c = live_row-Some state.rows n caller found in
     let first : number state.spaces caller.name caller.name.space ≡ Some 1 = is_numbered-true state.spaces caller.name caller.name.space 1 one in
-    Keeps-changed stamp (fall state caller status) _ (IsCoherent-fall state sound.coherent caller status c.0 first deep) (IsBelow-fall state sound.coherent caller status c.0 first deep stamp below)
+    Keeps-changed stamp (fall state caller status) _ (IsCoherent-fall state sound.coherent caller status c.0 first deep)
+    (IsBelow-fall state sound.coherent caller status c.0 first deep stamp below)
 plain_keeps state stamp call o (handed_on n status caller found none) plain sound below =
     let c = live_row-Some state.rows n caller found in exit_keeps state stamp status caller _ sound below c.0 c.2 none
 plain_keeps state stamp call o (reaped n which caller row found least) plain sound below =
@@ -38,17 +41,23 @@ plain_keeps state stamp call o (grouped n pid pgid caller target group found aim
 plain_keeps state stamp call o (led n caller found none) plain sound below =
     let i : IsIn caller state.rows = (live_row-Some state.rows n caller found).0 in
     Keeps-placed stamp state caller start_session _ sound below i (λ r. refl) (IsOpen-new state caller i none)
-plain_keeps state stamp call o (control_removed id parent c found under idle) plain sound below = remove_control_keeps state stamp id parent c _ sound below found under idle
-plain_keeps state stamp call o (limit_set id parent limit c found under good) plain sound below = set_limit_keeps state stamp id parent limit c _ sound below found under good
+plain_keeps state stamp call o (control_removed id parent c found under idle) plain sound below =
+    remove_control_keeps state stamp id parent c _ sound below found under idle
+plain_keeps state stamp call o (limit_set id parent limit c found under good) plain sound below =
+    set_limit_keeps state stamp id parent limit c _ sound below found under good
 plain_keeps state stamp call o (moved n id task c found there) plain sound below =
-    Keeps-on_row stamp state task.name (set_home id) _ sound below (λ r. refl) (λ r i e. sound.coherent.children r i) (λ r i. (c, there)) below.children
-plain_keeps state stamp call o (joined n target caller row found there live) plain sound below = join_keeps state stamp target caller row _ sound below there
+    Keeps-on_row stamp state task.name (set_home id) _ sound below (λ r. refl) (λ r i e. sound.coherent.children r i) (λ r i. (c, there))
+    below.children
+plain_keeps state stamp call o (joined n target caller row found there live) plain sound below =
+    join_keeps state stamp target caller row _ sound below there
 plain_keeps state stamp call o (marked n on caller found) plain sound below =
-    Keeps-on_row stamp state caller.name (set_mark on) _ sound below (λ r. refl) (λ r i e. sound.coherent.children r i) sound.coherent.homes below.children
+    Keeps-on_row stamp state caller.name (set_mark on) _ sound below (λ r. refl) (λ r i e. sound.coherent.children r i) sound.coherent.homes
+    below.children
 plain_keeps state stamp call o _ plain sound below = absurd (cc)
 
 -- every call leaves a sound state, whose ids are below the next stamp
-comes_keeps : (state : State) (stamp : ℕ) (call : Call) (o : Outcome) → Comes state stamp call o → IsSound state → IsBelow stamp state → Keeps (stamp + 1) o
+comes_keeps : (state : State) (stamp : ℕ) (call : Call) (o : Outcome) → Comes state stamp call o → IsSound state → IsBelow stamp state
+    → Keeps (stamp + 1) o
 comes_keeps state stamp call o (still _ reply answer) sound below = Keeps-next stamp _ (Keeps-same stamp state reply sound below)
 comes_keeps state stamp call o (born n new_space caller plain found stands may) sound below =
     Keeps-next stamp _ (plain_keeps state stamp _ _ (born n new_space caller plain found stands may) plain sound below)
@@ -110,7 +119,8 @@ root_state_sound pid_max good = record {
     limits = only _ HasGoodLimit (record { root = λ zero. refl; bounded = λ limit some. absurd (cc) });
     homes = only root_init (λ r. (c : Control) × (control_at controls r.home ≡ Some c)) (_, refl);
   };
-  named = only _ (λ (s : Space). s.fallen ≡ true → (a : Name) × (n : ℕ) × IsIn a (names_in_use rows) × (number spaces a s.id ≡ Some n)) (λ down. absurd (cc));
+  named = only _ (λ (s : Space). s.fallen ≡ true → (a : Name) × (n : ℕ) × IsIn a (names_in_use rows) × (number spaces a s.id ≡ Some n))
+      (λ down. absurd (cc));
 }
   where
     rows : List Row
@@ -123,7 +133,8 @@ root_state_sound pid_max good = record {
     controls = (root_state pid_max).controls
 
     one_session : (a b : Row) → IsIn a rows → IsIn b rows → a.session ≡ b.session
-    one_session a b i j = ap (λ (r : Row). r.session) (only root_init (λ r. r ≡ root_init) refl a i ∙ sym (only root_init (λ r. r ≡ root_init) refl b j))
+    one_session a b i j =
+        ap (λ (r : Row). r.session) (only root_init (λ r. r ≡ root_init) refl a i ∙ sym (only root_init (λ r. r ≡ root_init) refl b j))
 
 -- and its ids are below the first stamp
 pub root_state_below : (pid_max first : ℕ) → 0 < first → IsBelow first (root_state pid_max)

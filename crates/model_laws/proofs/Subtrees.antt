@@ -1,5 +1,5 @@
 -- Paths are chains of parents, and a count is the number of tasks whose home is in the subtree.
-use Rattle.std.proofs.Common.{◌≡◌, ℕ, zero, suc, List, length, Option, Some, None, refl, sym, ap, ◌∙◌, subst, inl, inr, filter, option_and_then, arith}
+use Rattle.std.proofs.Common.{◌≡◌, ℕ, zero, suc, List, length, Option, Some, None, refl, sym, ap, ◌∙◌, subst, inl, inr, filter, arith}
 use Rattle.std.proofs.lemmas.Bool.Decides.{same_from_decides}
 use Rattle.model_laws.proofs.Words.{Control, ControlRow, Counted, NoControl, IsIn, climb, parent_space, path_up, control_at, parent_control, control_path, is_below, count, answered, for_found, count_tasks, step, with_count, IsTreeOfControls}
 use Rattle.model_laws.specs.PathLaws.{IsChain, IsPathOf, IsInSubtree, PathsAreChains, CountIsOfSubtree, SubtreeIsTold, CountsAreOfSubtrees}

@@ -35,7 +35,8 @@ module _ (state : State) (sound : IsCoherent state) (p : Row → Bool) (g : Row 
   -- ---- where parents stay
 
   module _ (ups : (r : Row) → (g r).parent ≡ r.parent)
-      (stay : (r q : Row) → IsIn r state.rows → IsIn q state.rows → p r ≡ true → r.parent ≡ Some q.name → is_live q ≡ true → (p q ≡ true) × (is_live (g q) ≡ true)) where
+      (stay : (r q : Row) → IsIn r state.rows → IsIn q state.rows → p r ≡ true → r.parent ≡ Some q.name → is_live q ≡ true → (p q ≡ true) ×
+      (is_live (g q) ≡ true)) where
     -- the number is that of a row that stays
     abbrev Stays : ℕ → Type 0
     Stays n = (x : Row) × IsIn x state.rows × (root_number x.name ≡ n) × (p x ≡ true)
@@ -81,7 +82,8 @@ pub record KeepsRest (state : State) (p : Row → Bool) (g : Row → Row) (h : S
   pub homes : (r : Row) → IsIn r state.rows → (c : Control) × (control_at state.controls (g r).home ≡ Some c)
   pub spaces : (s : Space) → ((h s).id ≡ s.id) × ((h s).parent ≡ s.parent)
   pub standing : (s : Space) → IsIn s state.spaces → (h s).fallen ≡ false
-      → (s.fallen ≡ false) × ((r : Row) → IsIn r state.rows → is_live r ≡ true → r.name.space ≡ s.id → number state.spaces r.name s.id ≡ Some 1 → (p r ≡ true) × (is_live (g r) ≡ true))
+      → (s.fallen ≡ false) × ((r : Row) → IsIn r state.rows → is_live r ≡ true → r.name.space ≡ s.id → number state.spaces r.name s.id ≡
+      Some 1 → (p r ≡ true) × (is_live (g r) ≡ true))
   pub fallen : (s : Space) → IsIn s state.spaces → (h s).fallen ≡ true
       → ((r : Row) → IsIn r state.rows → p r ≡ true → is_live (g r) ≡ true → number state.spaces r.name s.id ≡ None)
       × ((t : Space) → IsIn t state.spaces → IsIn s.id (path_up state.spaces t.id) → (h t).fallen ≡ true)
@@ -152,7 +154,8 @@ module _ (state : State) (p : Row → Bool) (g : Row → Row) (h : Space → Spa
         below = λ t j m.
             let q = IsIn-from_map h t state.spaces j in
             let same : t.id ≡ q.0.id = ap (λ (x : Space). x.id) q.2 ∙ ids q.0 in
-            ap (λ (x : Space). x.fallen) q.2 ∙ k.1 q.0 q.1 (subst (IsIn s.id) (path_up-map state.spaces h ids tops q.0.id) (subst (λ x. IsIn s.id (path_up spaces_after x)) same m));
+            ap (λ (x : Space). x.fallen) q.2 ∙ k.1 q.0 q.1 (subst (IsIn s.id) (path_up-map state.spaces h ids tops q.0.id)
+            (subst (λ x. IsIn s.id (path_up spaces_after x)) same m));
       })
 
   -- a change that keeps so much leaves a coherent state
@@ -166,7 +169,8 @@ module _ (state : State) (p : Row → Bool) (g : Row → Row) (h : Space → Spa
     root = λ s i e. let q = IsIn-from_map h s state.spaces i in
         ap (λ (x : Space). x.fallen) q.2 ∙ keeps.root q.0 q.1 (sym (ids q.0) ∙ sym (ap (λ (x : Space). x.id) q.2) ∙ e);
     standing = λ s i e. let q = IsIn-from_map h s state.spaces i in
-        subst (HasLiveInit after spaces_after) (sym (ap (λ (x : Space). x.id) q.2)) (standing_after q.0 q.1 (sym (ap (λ (x : Space). x.fallen) q.2) ∙ e));
+        subst (HasLiveInit after spaces_after) (sym (ap (λ (x : Space). x.id) q.2))
+        (standing_after q.0 q.1 (sym (ap (λ (x : Space). x.fallen) q.2) ∙ e));
     fallen = λ s i e. let q = IsIn-from_map h s state.spaces i in
         subst (IsEmptied after spaces_after) (sym (ap (λ (x : Space). x.id) q.2)) (fallen_after q.0 q.1 (sym (ap (λ (x : Space). x.fallen) q.2) ∙ e));
     groups = groups_after;
@@ -187,7 +191,12 @@ all_stay r = true
 pub IsCoherent-all_stay : (state : State) (g : Row → Row) (sound : IsCoherent state) (names : (r : Row) → (g r).name ≡ r.name)
     → KeepsRest state all_stay g (λ s. s) → IsCoherent (record state { rows = map g state.rows })
 IsCoherent-all_stay state g sound names keeps =
-    subst IsCoherent (λ i. record state { rows = map g (filter-all all_stay state.rows (λ r j. refl) i); spaces = map-id state.spaces i }) (IsCoherent-survivors state all_stay g (λ s. s) sound names keeps)
+    subst IsCoherent (λ i. record state {
+      rows =
+          map g (filter-all all_stay state.rows (λ r j. refl) i);
+      spaces =
+          map-id state.spaces i;
+    }) (IsCoherent-survivors state all_stay g (λ s. s) sound names keeps)
 
 -- a change of rows that keeps so much leaves a coherent state
 pub IsCoherent-map_rows : (state : State) (f : Row → Row) → IsCoherent state → KeepsRows state f
@@ -209,7 +218,11 @@ IsCoherent-map_rows state f sound keeps = IsCoherent-all_stay state f sound keep
 pub IsCoherent-map_spaces : (state : State) (h : Space → Space) → ((s : Space) → (h s).id ≡ s.id) → ((s : Space) → (h s).parent ≡ s.parent)
     → ((s : Space) → (h s).fallen ≡ s.fallen) → IsCoherent state → IsCoherent (record state { spaces = map h state.spaces })
 IsCoherent-map_spaces state h ids ups falls sound =
-    subst IsCoherent (λ i. record state { rows = same i; spaces = map h state.spaces }) (IsCoherent-survivors state all_stay (λ r. r) h sound (λ r. refl) (record {
+    subst IsCoherent (λ i. record state {
+      rows =
+          same i;
+      spaces = map h state.spaces;
+    }) (IsCoherent-survivors state all_stay (λ r. r) h sound (λ r. refl) (record {
       group = group_in_use state.rows;
       session = session_in_use state.rows;
       parents = parents_stay state sound all_stay (λ r. r) (λ r. refl) (λ r. refl) (λ r q i j stays up live. (refl, live));

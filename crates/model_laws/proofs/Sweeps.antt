@@ -1,5 +1,5 @@
 -- The sweep takes away no namespace in which a name in use has a number, and leaves a sound state.
-use Rattle.std.proofs.Common.{◌≡◌, ℕ, Bool, true, false, not, ◌==◌, List, [], ◌∷◌, length, Option, Some, None, refl, sym, ap, ◌∙◌, subst, inl, inr, arith, option_and_then}
+use Rattle.std.proofs.Common.{◌≡◌, ℕ, false, not, ◌==◌, List, [], ◌∷◌, length, Option, Some, None, refl, sym, ap, ◌∙◌, subst, inl, inr, arith, option_and_then}
 use Rattle.std.proofs.lemmas.Bool.{eqb-true, ne_eqb, and_left, and_right, not_from_false, not-true, cases_Bool}
 use Rattle.model_laws.proofs.Words.{Name, Row, Space, State, space_at, parent_space, path_up, number, names_in_use, taken, is_dead, sweep, IsIn, HasGoodChildrenSpace, IsTreeOfSpaces, IsCoherent, IsSound}
 use Rattle.model_laws.proofs.SpaceMaps.{IsWellNumbered-kept, HasGoodParents-kept}
@@ -122,7 +122,8 @@ module _ (state : State) (sound : IsCoherent state) where
       distinct = λ a b i j s n e f. sound.distinct a b i j s n (sym (name_number a i s) ∙ e) (sym (name_number b j s) ∙ f);
       numbered = λ a i. IsWellNumbered-kept state.spaces (kept_spaces state) state.pid_max a (name_path a i)
           (λ x s j e. (s, space_at-kept state x (name_kept a i x j) ∙ e)) (sound.numbered a i);
-      parents = λ r i. HasGoodParents-kept state.rows state.rows state.spaces (kept_spaces state) r r refl refl (name_path r.name (own_name_in_use state.rows r i))
+      parents = λ r i. HasGoodParents-kept state.rows state.rows state.spaces (kept_spaces state) r r refl refl
+          (name_path r.name (own_name_in_use state.rows r i))
           (λ q j up live. (q, j, refl, live)) (sound.parents r i).chain (sound.parents r i);
       children = λ r i. children_kept r (sound.children r i);
       root = λ s i. sound.root s (from_kept state s i).0;
