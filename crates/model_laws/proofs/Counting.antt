@@ -96,8 +96,8 @@ comes_reaping state stamp n which o (reaped _ _ other row there least) caller ch
 pub comes_fall : (state : State) (stamp n status : ℕ) (o : Outcome) → Comes state stamp (Exit n status) o → (init : Row)
     → live_row state.rows n ≡ Some init
     → is_init state init ≡ true → o.reply ≡ Done
-    → (c : ℕ) → count state c ≡ count o.state c + length (filter (λ row. goes_in_fall state init row && is_below state.controls row.home c)
-    state.rows)
+    → (c : ℕ)
+    → count state c ≡ count o.state c + length (filter (λ row. goes_in_fall state init row && is_below state.controls row.home c) state.rows)
 unfolding count sweep fall rows_after_fall
 comes_fall state stamp n status o (still _ reply answer) init found first told c = absurd (no_answer reply Done answer refl told)
 comes_fall state stamp n status o (handed_on _ _ other there none) init found first told c =

@@ -191,12 +191,9 @@ all_stay r = true
 pub IsCoherent-all_stay : (state : State) (g : Row → Row) (sound : IsCoherent state) (names : (r : Row) → (g r).name ≡ r.name)
     → KeepsRest state all_stay g (λ s. s) → IsCoherent (record state { rows = map g state.rows })
 IsCoherent-all_stay state g sound names keeps =
-    subst IsCoherent (λ i. record state {
-      rows =
-          map g (filter-all all_stay state.rows (λ r j. refl) i);
-      spaces =
-          map-id state.spaces i;
-    }) (IsCoherent-survivors state all_stay g (λ s. s) sound names keeps)
+    let rows : map g (filter all_stay state.rows) ≡ map g state.rows = ap (map g) (filter-all all_stay state.rows (λ r j. refl)) in
+    subst IsCoherent (λ i. record state { rows = rows i; spaces = map-id state.spaces i })
+    (IsCoherent-survivors state all_stay g (λ s. s) sound names keeps)
 
 -- a change of rows that keeps so much leaves a coherent state
 pub IsCoherent-map_rows : (state : State) (f : Row → Row) → IsCoherent state → KeepsRows state f
@@ -218,11 +215,8 @@ IsCoherent-map_rows state f sound keeps = IsCoherent-all_stay state f sound keep
 pub IsCoherent-map_spaces : (state : State) (h : Space → Space) → ((s : Space) → (h s).id ≡ s.id) → ((s : Space) → (h s).parent ≡ s.parent)
     → ((s : Space) → (h s).fallen ≡ s.fallen) → IsCoherent state → IsCoherent (record state { spaces = map h state.spaces })
 IsCoherent-map_spaces state h ids ups falls sound =
-    subst IsCoherent (λ i. record state {
-      rows =
-          same i;
-      spaces = map h state.spaces;
-    }) (IsCoherent-survivors state all_stay (λ r. r) h sound (λ r. refl) (record {
+    subst IsCoherent (λ i. record state { rows = same i; spaces = map h state.spaces })
+    (IsCoherent-survivors state all_stay (λ r. r) h sound (λ r. refl) (record {
       group = group_in_use state.rows;
       session = session_in_use state.rows;
       parents = parents_stay state sound all_stay (λ r. r) (λ r. refl) (λ r. refl) (λ r q i j stays up live. (refl, live));
