@@ -1,7 +1,7 @@
 -- What a call comes to: an answer that changes nothing, or one of the changes that a call can make.
-use Rattle.std.proofs.Common.{◌≡◌, ℕ, ℤ, Bool, true, false, not, ◌&&◌, ◌||◌, ◌==◌, Option, Some, None, refl, ap, if◌then◌else◌, find, filter, length, is_none, nat_lt, nat_le, option_map}
+use Rattle.std.proofs.Common.{◌≡◌, ℕ, ℤ, Bool, true, false, not, ◌&&◌, ◌||◌, ◌==◌, Option, Some, None, refl, ap, find, filter, length, is_none, nat_lt, nat_le, option_map}
 use Rattle.std.specs.Option.{option_map_or}
-use Rattle.std.proofs.lemmas.Bool.{not-false}
+use Rattle.std.proofs.lemmas.Bool.{not-false, cond_both}
 use Rattle.model_laws.proofs.Words.{greatest_limit, Call, Fork, GetPid, NsPid, Exec, Exit, Wait, GetPpid, SetPgid, SetSid, MakeControl, RemoveControl, SetLimit, Move, Count, GetPgid, GetSid, Next, Join, SetSubreaper, Which, Name, Row, Control, Reply, Forked, Done, Number, Reaped, NoneYet, Counted, ControlMade, End, Refused, Refusal, NoCaller, NoTask, NoChild, NoNumber, PidsLimit, SpaceFallen, TooDeep, Elsewhere, BadGroup, OtherSession, IsLeader, NoGroup, Executed, RootInit, NoControl, ControlBusy, RootControl, BadLimit, ControlDepth, least_of, State, path_up, level, root_number, number_or_zero, same_name, is_parent, is_live, live_row, task_at, with_row, draw, control_at, control_path, count, passed_limit, Outcome, answered, changed, for_found, unless_found, refuse_if, fork, no_room, forked, with_space, is_gone, is_init, rows_after_exit, fall, exit, least_row, end_of, without_row, ended_children, wait, is_negative, target_of, group_for, set_group, set_group_of, set_pgid, has_members, start_session, set_sid, self_or_task, numbers_by, get_pid, get_ppid, get_pgid, get_sid, ns_pid, next, set_executed, exec, with_control, make_control, is_busy, without_control, remove_control, with_limit, set_limit, set_home, move_task, count_tasks, set_children_space, join, set_mark, set_subreaper, step}
 
 -- each namespace from t to the root has a number to give, and no control group from the caller's home up is at its limit
@@ -120,13 +120,9 @@ step_comes state stamp (Fork n false) =
 step_comes state stamp (Exec n) = finds state stamp (live_row state.rows n) NoCaller _ (λ caller found. executed n caller found)
 step_comes state stamp (Exit n status) =
     finds state stamp (live_row state.rows n) NoCaller _ (λ caller found.
-    refuses state stamp _ RootInit _ (λ deep. go caller found deep (is_init state caller) refl))
-  where
-    go : (caller : Row) → live_row state.rows n ≡ Some caller → (root_number caller.name == 1) ≡ false → (b : Bool) → is_init state caller ≡ b
-        → Comes state stamp (Exit n status) (if b then changed (fall state caller status) Done else changed
-        (record state { rows = rows_after_exit state caller status }) Done)
-    go caller found deep true e = fell n status caller found deep e
-    go caller found deep false e = handed_on n status caller found e
+    refuses state stamp _ RootInit _ (λ deep.
+    cond_both (is_init state caller) _ _ (Comes state stamp (Exit n status)) (λ e. fell n status caller found deep e)
+    (λ e. handed_on n status caller found e)))
 step_comes state stamp (Wait n which) =
     finds state stamp (live_row state.rows n) NoCaller _ (λ caller found.
     refuses state stamp _ NoChild _ (λ some. go caller found (least_row state caller.name.space (ended_children state caller which)) refl))

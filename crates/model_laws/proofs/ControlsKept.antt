@@ -1,5 +1,5 @@
 -- Calls on control groups leave a sound state.
-use Rattle.std.proofs.Common.{◌≡◌, ℕ, ◌+◌, ◌<◌, ◌≤◌, Bool, true, false, not, ◌==◌, List, [], ◌∷◌, ◌++◌, map, length, Option, Some, None, refl, sym, ap, ◌∙◌, subst, inl, inr, arith, filter, nat_lt, option_map, option_and_then, if◌then◌else◌}
+use Rattle.std.proofs.Common.{◌≡◌, ℕ, ◌+◌, ◌<◌, ◌≤◌, false, not, ◌==◌, List, [], ◌∷◌, ◌++◌, map, length, Option, Some, None, refl, sym, ap, ◌∙◌, subst, inl, inr, arith, filter, nat_lt, option_map, option_and_then}
 use Rattle.std.specs.Option.{option_map_or}
 use Rattle.std.proofs.lemmas.Bool.{cond_both, eqb-true, ne_eqb, eqb-false, ltb-false, not_from_false, not-true}
 use Rattle.model_laws.proofs.Words.{Row, Control, greatest_limit, climb, State, control_at, parent_control, control_path, with_control, is_busy, rehome, without_control, limited, with_limit, IsIn, IsTreeOfControls, HasGoodLimit, IsCoherent, IsSound, IsBelow, Reply, changed}
@@ -238,15 +238,16 @@ module _ (controls : List Control) (f : Control → Control) (ids : (c : Control
 HasGoodLimit-limited : (controls : List Control) → IsTreeOfControls controls → (id parent : ℕ) (limit : Option ℕ) (g : Control)
     → control_at controls id ≡ Some g → g.parent ≡ Some parent → option_map_or (nat_lt greatest_limit) limit false ≡ false
     → (c : Control) → HasGoodLimit c → HasGoodLimit (limited id limit c)
-HasGoodLimit-limited controls tree id parent limit g found under good c old = go (c.id == id) refl
+HasGoodLimit-limited controls tree id parent limit g found under good c old =
+    cond_both (c.id == id) limit c.limit (λ l. HasGoodLimit (record c { limit = l }))
+    (λ e. record {
+      root = λ zero. absurd (not_root controls tree id parent g found under (sym (eqb-true c.id id e) ∙ zero));
+      bounded = bounded limit good;
+    }) (λ e. old)
   where
     bounded : (o : Option ℕ) → option_map_or (nat_lt greatest_limit) o false ≡ false → (l : ℕ) → o ≡ Some l → l ≤ greatest_limit
     bounded None e l some = absurd (cc)
     bounded (Some m) e l some = grind (arith, ltb-false greatest_limit m)
-
-    go : (b : Bool) → (c.id == id) ≡ b → HasGoodLimit (record c { limit = if b then limit else c.limit })
-    go false e = old
-    go true e = record { root = λ zero. absurd (not_root controls tree id parent g found under (sym (eqb-true c.id id e) ∙ zero)); bounded = bounded limit good }
 
 -- a limit leaves a sound state
 pub set_limit_keeps : (state : State) (stamp id parent : ℕ) (limit : Option ℕ) (g : Control) (reply : Reply) → IsSound state → IsBelow stamp state

@@ -1,9 +1,9 @@
 -- What changes a control group's count.
 use Rattle.std.proofs.Common.{◌≡◌, ℕ, ◌+◌, ◌<◌, Bool, true, false, not, ◌&&◌, ◌==◌, List, [], ◌∷◌, map, length, Some, refl, sym, ap, ◌∙◌, subst, inl, inr, arith, filter, if◌then◌else◌}
 use Rattle.std.specs.Option.{option_map_or}
-use Rattle.std.proofs.lemmas.Bool.{not-true, eqb-true, eqb-false, not_from_false, false_from_ne_true}
+use Rattle.std.proofs.lemmas.Bool.{not-true, eqb-true, eqb-false, not_from_false, false_from_ne_true, cond_both}
 use Rattle.std.proofs.lemmas.Bool.Decides.{same_from_decides}
-use Rattle.model_laws.proofs.Words.{Call, Fork, Exit, Wait, Move, Which, Name, Row, Ended, Exited, Control, Reply, Forked, Done, Reaped, contains, State, root_number, same_name, is_live, live_row, number_or_zero, on_row, with_row, control_at, control_path, count, is_below, Outcome, sweep, changed, with_space, is_init, goes_in_fall, row_after_exit, rows_after_exit, row_after_fall, rows_after_fall, new_parent, fall, without_row, set_group, start_session, set_executed, with_control, is_busy, rehome, without_control, limited, with_limit, set_home, set_children_space, set_mark, IsIn, IsRising, IsTreeOfControls, IsSound, IsBelow}
+use Rattle.model_laws.proofs.Words.{Call, Fork, Exit, Wait, Move, Which, Name, Row, Ended, Exited, Control, Forked, Done, Reaped, contains, State, root_number, same_name, is_live, live_row, number_or_zero, on_row, with_row, control_at, control_path, count, is_below, Outcome, sweep, changed, with_space, is_init, goes_in_fall, row_after_exit, rows_after_exit, row_after_fall, rows_after_fall, new_parent, fall, without_row, set_group, start_session, set_executed, with_control, is_busy, rehome, without_control, limited, with_limit, set_home, set_children_space, set_mark, IsIn, IsRising, IsTreeOfControls, IsSound, IsBelow}
 use Rattle.model_laws.specs.CountLaws.{one_if, may_change_counts}
 use Rattle.model_laws.proofs.Lists.{IsIn-map, IsIn-from_filter, IsIn-from_contains, contains-from_IsIn, filter-same, filter-all}
 use Rattle.model_laws.proofs.Names.{on_row-keeps, same_name-true, same_name-refl}
@@ -147,35 +147,32 @@ comes_move state stamp n id o (moved _ _ other g there at) task sound found told
 -- ---- nothing else
 
 -- a control group that is there before and after counts the same
-pub record CountsSame (state : State) (c : ℕ) (o : Outcome) : Type 0 where
-  pub same : (g h : Control) → control_at state.controls c ≡ Some g → control_at o.state.controls c ≡ Some h → count o.state c ≡ count state c
+abbrev pub CountsSame : State → ℕ → State → Type 0
+CountsSame state c next = (g h : Control) → control_at state.controls c ≡ Some g → control_at next.controls c ≡ Some h → count next c ≡ count state c
 
 -- a change of rows that changes no home
-CountsSame-map : (state : State) (c : ℕ) (f : Row → Row) (reply : Reply) → ((r : Row) → (f r).home ≡ r.home)
-    → CountsSame state c (changed (record state { rows = map f state.rows }) reply)
+CountsSame-map : (state : State) (c : ℕ) (f : Row → Row) → ((r : Row) → (f r).home ≡ r.home)
+    → CountsSame state c (sweep (record state { rows = map f state.rows }))
 unfolding count sweep
-CountsSame-map state c f reply homes = record {
-  same = λ g h d e.
-      length-filter-map (λ r. is_below state.controls r.home c) f state.rows
-      ∙ ap length (filter-same (λ r. is_below state.controls (f r).home c) (λ r. is_below state.controls r.home c) state.rows (λ r i. ap (λ x. is_below state.controls x c) (homes r)));
-}
+CountsSame-map state c f homes g h d e =
+    length-filter-map (λ r. is_below state.controls r.home c) f state.rows
+    ∙ ap length (filter-same (λ r. is_below state.controls (f r).home c) (λ r. is_below state.controls r.home c) state.rows
+    (λ r i. ap (λ x. is_below state.controls x c) (homes r)))
 
 -- a change of one row that does not change its home
-CountsSame-on_row : (state : State) (c : ℕ) (name : Name) (change : Row → Row) (reply : Reply) → ((r : Row) → (change r).home ≡ r.home)
-    → CountsSame state c (changed (with_row state name change) reply)
+CountsSame-on_row : (state : State) (c : ℕ) (name : Name) (change : Row → Row) → ((r : Row) → (change r).home ≡ r.home)
+    → CountsSame state c (sweep (with_row state name change))
 unfolding with_row
-CountsSame-on_row state c name change reply homes = CountsSame-map state c (on_row name change) reply (on_row-keeps name change (λ r. r.home) homes)
+CountsSame-on_row state c name change homes = CountsSame-map state c (on_row name change) (on_row-keeps name change (λ r. r.home) homes)
 
 -- other control groups in which each home has the path that it had
-CountsSame-paths : (state : State) (controls : List Control) (c : ℕ) (reply : Reply)
+CountsSame-paths : (state : State) (controls : List Control) (c : ℕ)
     → ((r : Row) → IsIn r state.rows → control_path controls r.home ≡ control_path state.controls r.home)
-    → CountsSame state c (changed (record state { controls = controls }) reply)
+    → CountsSame state c (sweep (record state { controls = controls }))
 unfolding count sweep
-CountsSame-paths state controls c reply paths = record {
-  same = λ g h d e.
-      ap length (filter-same (λ r. is_below controls r.home c) (λ r. is_below state.controls r.home c) state.rows
-      (λ r i. ap (λ p. contains p c) (paths r i)));
-}
+CountsSame-paths state controls c paths g h d e =
+    ap length (filter-same (λ r. is_below controls r.home c) (λ r. is_below state.controls r.home c) state.rows
+    (λ r i. ap (λ p. contains p c) (paths r i)))
 
 -- a number that is in one list exactly where it is in the other
 same_contains : (n : ℕ) (ns ms : List ℕ) → (IsIn n ns → IsIn n ms) → (IsIn n ms → IsIn n ns) → contains ns n ≡ contains ms n
@@ -184,18 +181,14 @@ same_contains n ns ms to from =
     (λ e. from (IsIn-from_contains ms n e), λ i. contains-from_IsIn ms n (to i))
 
 -- zombies that go to the parent count in each control group above it as before
-CountsSame-removed : (state : State) → IsSound state → (id parent c : ℕ) (g : Control) (reply : Reply)
+CountsSame-removed : (state : State) → IsSound state → (id parent c : ℕ) (g : Control)
     → control_at state.controls id ≡ Some g → g.parent ≡ Some parent → is_busy state id ≡ false
-    → CountsSame state c (changed (without_control state id parent) reply)
+    → CountsSame state c (sweep (without_control state id parent))
 unfolding count sweep without_control
-CountsSame-removed state sound id parent c g reply found under idle = record {
-  same = λ x h d e.
-      let differs : c ≡ id → ⊥ = λ same.
-      let gone = control_at-Some (others state.controls tree id childless) c h e in
-      eqb-false h.id id (not-true (h.id == id) (IsIn-from_filter (λ y. not (y.id == id)) h state.controls gone.0).1) (gone.1 ∙ same) in
-      length-filter-map (λ r. is_below (others state.controls tree id childless) r.home c) (rehome id parent) state.rows
-      ∙ ap length (filter-same (λ r. is_below (others state.controls tree id childless) (rehome id parent r).home c) (λ r. is_below state.controls r.home c) state.rows (λ r i. home differs r.home (r.home == id) refl));
-}
+CountsSame-removed state sound id parent c g found under idle x h d e =
+    length-filter-map (λ r. is_below (others state.controls tree id childless) r.home c) (rehome id parent) state.rows
+    ∙ ap length (filter-same (λ r. is_below (others state.controls tree id childless) (rehome id parent r).home c)
+    (λ r. is_below state.controls r.home c) state.rows (λ r i. home r.home))
   where
     tree : IsTreeOfControls state.controls
     tree = sound.coherent.controls
@@ -206,41 +199,45 @@ CountsSame-removed state sound id parent c g reply found under idle = record {
     apart : parent ≡ id → ⊥
     apart e = childless g (control_at-Some state.controls id g found).0 (under ∙ ap Some e)
 
-    -- the parent's chain is the rest of the one that goes
-    up : (c ≡ id → ⊥) → is_below state.controls parent c ≡ is_below state.controls id c
-    up differs =
-        same_contains c (control_path state.controls parent) (control_path state.controls id) (λ i. path_of_parent state.controls tree id parent g found under c i) (λ i. path_of_child state.controls id parent g found under c differs i)
+    differs : c ≡ id → ⊥
+    differs same =
+        let gone = control_at-Some (others state.controls tree id childless) c h e in
+        eqb-false h.id id (not-true (h.id == id) (IsIn-from_filter (λ y. not (y.id == id)) h state.controls gone.0).1) (gone.1 ∙ same)
 
-    home : (c ≡ id → ⊥) → (x : ℕ) (b : Bool) → (x == id) ≡ b
-        → is_below (others state.controls tree id childless) (if b then parent else x) c ≡ is_below state.controls x c
-    home differs x true e =
-        ap (λ p. contains p c) (other_path state.controls tree id childless parent apart) ∙ up differs
-        ∙ ap (λ y. is_below state.controls y c) (sym (eqb-true x id e))
-    home differs x false e = ap (λ p. contains p c) (other_path state.controls tree id childless x (eqb-false x id e))
+    -- the parent's chain is the rest of the one that goes
+    up : is_below state.controls parent c ≡ is_below state.controls id c
+    up = same_contains c (control_path state.controls parent) (control_path state.controls id)
+        (λ i. path_of_parent state.controls tree id parent g found under c i) (λ i. path_of_child state.controls id parent g found under c differs i)
+
+    home : (x : ℕ) → is_below (others state.controls tree id childless) (if x == id then parent else x) c ≡ is_below state.controls x c
+    home x = cond_both (x == id) parent x (λ y. is_below (others state.controls tree id childless) y c ≡ is_below state.controls x c)
+        (λ e. ap (λ p. contains p c) (other_path state.controls tree id childless parent apart) ∙ up ∙ ap (λ y. is_below state.controls y c)
+        (sym (eqb-true x id e)))
+        (λ e. ap (λ p. contains p c) (other_path state.controls tree id childless x (eqb-false x id e)))
 
 -- no other call changes a count
 pub nothing_else : (state : State) (stamp : ℕ) (call : Call) (o : Outcome) → Comes state stamp call o → IsSound state → IsBelow stamp state
     → may_change_counts state call ≡ false
-    → (c : ℕ) → CountsSame state c o
+    → (c : ℕ) → CountsSame state c o.state
 unfolding rows_after_exit with_control with_limit
-nothing_else state stamp call o (still _ reply answer) sound below quiet c = record { same = λ g h d e. refl }
-nothing_else state stamp call o (executed n caller found) sound below quiet c = CountsSame-on_row state c caller.name set_executed _ (λ r. refl)
+nothing_else state stamp call o (still _ reply answer) sound below quiet c = λ g h d e. refl
+nothing_else state stamp call o (executed n caller found) sound below quiet c = CountsSame-on_row state c caller.name set_executed (λ r. refl)
 nothing_else state stamp call o (fell n status caller found deep one) sound below quiet c =
     let yes : may_change_counts state (Exit n status) ≡ true = ap (λ o. option_map_or (is_init state) o false) found ∙ one in absurd (cc)
 nothing_else state stamp call o (handed_on n status caller found none) sound below quiet c =
-    CountsSame-map state c (row_after_exit caller (new_parent state caller) (Exited status)) _ (λ r. refl)
+    CountsSame-map state c (row_after_exit caller (new_parent state caller) (Exited status)) (λ r. refl)
 nothing_else state stamp call o (grouped n pid pgid caller target group found aimed same own there) sound below quiet c =
-    CountsSame-on_row state c target.name (set_group group) _ (λ r. refl)
-nothing_else state stamp call o (led n caller found none) sound below quiet c = CountsSame-on_row state c caller.name start_session _ (λ r. refl)
-nothing_else state stamp call o (control_made parent g found shallow) sound below quiet c = CountsSame-paths state _ c _ (λ r i.
+    CountsSame-on_row state c target.name (set_group group) (λ r. refl)
+nothing_else state stamp call o (led n caller found none) sound below quiet c = CountsSame-on_row state c caller.name start_session (λ r. refl)
+nothing_else state stamp call o (control_made parent g found shallow) sound below quiet c = CountsSame-paths state _ c (λ r i.
     let home = sound.coherent.homes r i in
     path_old state.controls sound.coherent.controls stamp parent below.controls r.home
     (control_to_root state.controls sound.coherent.controls r.home home.0 home.1))
 nothing_else state stamp call o (control_removed id parent g found under idle) sound below quiet c =
-    CountsSame-removed state sound id parent c g _ found under idle
+    CountsSame-removed state sound id parent c g found under idle
 nothing_else state stamp call o (limit_set id parent limit g found under good) sound below quiet c =
-    CountsSame-paths state _ c _ (λ r i. control_path-map state.controls (limited id limit) (λ x. refl) (λ x. refl) r.home)
+    CountsSame-paths state _ c (λ r i. control_path-map state.controls (limited id limit) (λ x. refl) (λ x. refl) r.home)
 nothing_else state stamp call o (joined n target caller row found there live) sound below quiet c =
-    CountsSame-on_row state c caller.name (set_children_space row.name.space) _ (λ r. refl)
-nothing_else state stamp call o (marked n on caller found) sound below quiet c = CountsSame-on_row state c caller.name (set_mark on) _ (λ r. refl)
+    CountsSame-on_row state c caller.name (set_children_space row.name.space) (λ r. refl)
+nothing_else state stamp call o (marked n on caller found) sound below quiet c = CountsSame-on_row state c caller.name (set_mark on) (λ r. refl)
 nothing_else state stamp call o _ sound below quiet c = absurd (cc)

@@ -165,12 +165,9 @@ pub placed_keeps : (state : State) (target : Row) (change : Row → Row) → IsS
 unfolding with_row
 placed_keeps state target change sound i same free = (
   IsCoherent-map_rows state (on_row target.name change) sound.coherent (KeepsRows-placed state sound target i change same free),
-  λ stamp below. record {
-    spaces = below.spaces;
-    controls = below.controls;
-    children = each_of_map (λ r. r.children_space < stamp) (on_row target.name change) state.rows (λ r j.
-        subst (λ n. n < stamp) (sym (on_row-keeps target.name change (λ x. x.children_space) (λ x. ap (λ (y : Row). y.children_space) (same x)) r)) (below.children r j));
-  },
+  λ stamp below. IsBelow-rows stamp state _ below (each_of_map (λ r. r.children_space < stamp) (on_row target.name change) state.rows (λ r j.
+      subst (λ n. n < stamp) (sym (on_row-keeps target.name change (λ x. x.children_space)
+      (λ x. ap (λ (y : Row). y.children_space) (same x)) r)) (below.children r j))),
 )
 
 -- and so does a call that does this

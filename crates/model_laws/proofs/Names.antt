@@ -1,10 +1,10 @@
 -- Names and their numbers.
-use Rattle.std.proofs.Common.{◌≡◌, ℕ, Bool, true, false, ◌==◌, ◌≤◌, List, [], ◌∷◌, reverse, length, Option, Some, None, cond, refl, ap, inl, inr, arith, if◌then◌else◌}
+use Rattle.std.proofs.Common.{◌≡◌, ℕ, Bool, true, false, ◌==◌, ◌≤◌, List, [], ◌∷◌, reverse, length, Option, Some, None, cond, refl, ap, inl, inr, arith}
 use Rattle.std.specs.Option.{option_eq}
 use Rattle.std.specs.Cmp.Lexicographic.{pointwise}
 use Rattle.std.proofs.lemmas.Slice.Eq.{bytes_eq-Decides}
 use Rattle.std.proofs.lemmas.List.{length-reverse}
-use Rattle.std.proofs.lemmas.Bool.{eqb-true, eq-eqb, and_parts, and_from}
+use Rattle.std.proofs.lemmas.Bool.{eqb-true, eq-eqb, and_parts, and_from, cond_both}
 use Rattle.model_laws.proofs.Words.{Name, Row, Space, State, beside, path_up, number, is_numbered, same_name, is_parent, names_in_use, taken, on_row, IsIn}
 use Rattle.model_laws.proofs.Lists.{IsIn-reverse, IsIn-to_reverse, IsIn-flat_map, IsIn-from_flat_map, IsIn-filter_map, IsIn-from_filter_map}
 
@@ -127,11 +127,7 @@ on_row-keeps name change part keeps r = grind (arith, keeps r)
 
 -- what holds of a row changed, and of it as it was, holds of it after the change at one name
 pub on_row-both : (P : Row → Type 0) (name : Name) (change : Row → Row) (r : Row) → (r.name ≡ name → P (change r)) → P r → P (on_row name change r)
-on_row-both P name change r changed same = go (same_name r.name name) refl
-  where
-    go : (b : Bool) → same_name r.name name ≡ b → P (if b then change r else r)
-    go true e = changed (same_name-true r.name name e)
-    go false e = same
+on_row-both P name change r changed same = cond_both (same_name r.name name) (change r) r P (λ e. changed (same_name-true r.name name e)) (λ e. same)
 
 -- a child's parent is the name
 pub is_parent-true : (a : Name) (r : Row) → is_parent a r ≡ true → r.parent ≡ Some a

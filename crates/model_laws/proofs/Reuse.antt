@@ -17,9 +17,10 @@ use Rattle.model_laws.proofs.StepKept.{step_keeps, run_keeps}
 -- ---- one fork
 
 -- the row found under the root number that the reply tells shares no number with the name
-record IsFresh (name : Name) (o : Outcome) : Type 0 where
-  apart : (child root : ℕ) (row : Row) → o.reply ≡ Forked child root → IsSound o.state → row_at o.state.rows root ≡ Some row
-      → ShareNumber o.state name row.name → ⊥
+abbrev IsFresh : Name → Outcome → Type 0
+IsFresh name o =
+    (child root : ℕ) (row : Row) → o.reply ≡ Forked child root → IsSound o.state → row_at o.state.rows root ≡ Some row
+    → ShareNumber o.state name row.name → ⊥
 
 module _ (old : State) (sound : IsCoherent old) (spaces : List Space) (caller : Row) (t : ℕ) (ready : IsReady old spaces caller t)
     (there : IsIn caller old.rows) (live : is_live caller ≡ true) (may : MayFork (record old { spaces = spaces }) caller t) where
@@ -50,27 +51,25 @@ module _ (old : State) (sound : IsCoherent old) (spaces : List Space) (caller : 
   -- and shares no number with another
   IsFresh-forked : (name : Name) → IsIn name (names_in_use old.rows) → IsFresh name (forked state caller t)
   unfolding sweep with_cursors
-  IsFresh-forked name i = record {
-    apart = λ c root row told after found share.
-        let o : Outcome = forked state caller t in
-        let told_root : root ≡ root_number child.name = cc in
-        let at : row_at o.state.rows (root_number child.name) ≡ Some child = row_at-listed o.state.rows after.coherent.rows_rise child (IsIn-insert_new child old.rows) in
-        let at_root : row_at o.state.rows root ≡ Some child = subst (λ m. row_at o.state.rows m ≡ Some child) (sym told_root) at in
-        let same : row ≡ child = cc in
-        let s : ℕ = share.0 in
-        let n : ℕ = share.1 in
-        let swept : (a : Name) → IsIn a (names_in_use made.rows) → number o.state.spaces a s ≡ number spaces a s =
-        λ a j. name_number made made_coherent a j s ∙ number-map_spaces spaces (moved_cursor state (path_up spaces t)) (λ x. refl) (λ x. refl) a s in
-        fresh old sound spaces caller t ready there live may name i s n
-        (sym (swept child.name child_in_use) ∙ subst (λ (r : Row). number o.state.spaces r.name s ≡ Some n) same share.3)
-        (sym (swept name (in_use_after name i)) ∙ share.2);
-  }
+  IsFresh-forked name i c root row told after found share =
+      let o : Outcome = forked state caller t in
+      let told_root : root ≡ root_number child.name = cc in
+      let at : row_at o.state.rows (root_number child.name) ≡ Some child = row_at-listed o.state.rows after.coherent.rows_rise child (IsIn-insert_new child old.rows) in
+      let at_root : row_at o.state.rows root ≡ Some child = subst (λ m. row_at o.state.rows m ≡ Some child) (sym told_root) at in
+      let same : row ≡ child = cc in
+      let s : ℕ = share.0 in
+      let n : ℕ = share.1 in
+      let swept : (a : Name) → IsIn a (names_in_use made.rows) → number o.state.spaces a s ≡ number spaces a s =
+      λ a j. name_number made made_coherent a j s ∙ number-map_spaces spaces (moved_cursor state (path_up spaces t)) (λ x. refl) (λ x. refl) a s in
+      fresh old sound spaces caller t ready there live may name i s n
+      (sym (swept child.name child_in_use) ∙ subst (λ (r : Row). number o.state.spaces r.name s ≡ Some n) same share.3)
+      (sym (swept name (in_use_after name i)) ∙ share.2)
 
 -- after a call in a sound state a new task shares no number with a name that was in use
 comes_fresh : (state : State) (stamp : ℕ) (call : Call) (o : Outcome) → Comes state stamp call o → IsSound state → IsBelow stamp state → (name : Name)
     → IsInUse name state → IsFresh name o
-comes_fresh state stamp call o (still _ reply answer) sound below name i =
-    record { apart = λ child root row told. absurd (no_answer reply (Forked child root) answer refl told) }
+comes_fresh state stamp call o (still _ reply answer) sound below name i = λ child root row told.
+    absurd (no_answer reply (Forked child root) answer refl told)
 comes_fresh state stamp call o (born n new_space caller plain found stands may) sound below name i =
     let c = live_row-Some state.rows n caller found in
     IsFresh-forked state sound.coherent state.spaces caller caller.children_space (IsReady-old state sound.coherent caller c.0 stands may)
@@ -80,7 +79,7 @@ comes_fresh state stamp call o (born_first n caller found stands shallow here ma
     let p : ℕ = caller.children_space in
     IsFresh-forked state sound.coherent (with_new state sound.coherent stamp below p stands shallow) caller stamp
     (IsReady-new state sound.coherent stamp below p stands shallow caller c.0 (eqb-true p caller.name.space here) may) c.0 c.2 may name i
-comes_fresh state stamp call o _ sound below name i = record { apart = λ child root row told. absurd (cc) }
+comes_fresh state stamp call o _ sound below name i = λ child root row told. absurd (cc)
 
 -- ---- replays
 
@@ -113,7 +112,7 @@ no_reuse opening first entries sound below run k e child root row name at used t
     let long : length (calls_of (take k entries)) ≡ k = length-map (take k entries) (λ (x : Entry). x.call) ∙ length-take-le k entries (let l : k < length entries = slice_get_within entries k e at in omega arith) in
     let next : state_at opening first entries (k + 1) ≡ (step now (first + k) e.call).state = ap (state_at opening first entries) (add-one k) ∙ state_at-suc opening first entries k e at in
     let below : IsBelow (first + k) now = subst (λ n. IsBelow (first + n) now) long kept.1 in
-    (comes_fresh now (first + k) e.call _ (step_comes now (first + k) e.call) kept.0 below name used).apart child root row
+    (comes_fresh now (first + k) e.call _ (step_comes now (first + k) e.call) kept.0 below name used) child root row
     (Along-at RepliesAsOne opening first entries run k e at ∙ told)
     (step_keeps now (first + k) e.call kept.0 below).sound (subst (λ (x : State). row_at x.rows root ≡ Some row) next found)
     (subst (λ (x : State). ShareNumber x name row.name) next share)
