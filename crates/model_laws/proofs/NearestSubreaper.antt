@@ -1,7 +1,7 @@
 -- Who takes the children of a task that ends: the nearest subreaper, or else the init.
 use Rattle.std.proofs.Common.{◌≡◌, ℕ, zero, suc, ◌+◌, ◌<◌, ◌≤◌, Bool, true, false, ◌&&◌, ◌==◌, [], length, Option, Some, None, cond, refl, sym, ap, ◌∙◌, subst, inl, inr, arith, find, option_map, drop}
 use Rattle.std.specs.Option.{option_map_or}
-use Rattle.std.proofs.lemmas.Bool.{eqb-true, eq-eqb, and_parts, and_from}
+use Rattle.std.proofs.lemmas.Bool.{eqb-true, eq-eqb, and_parts, and_from, cases_Bool}
 use Rattle.model_laws.proofs.Words.{Row, IsIn, climb, State, root_number, is_live, row_at, task_at, parent_number, ancestors, is_subreaper_in, nearest_subreaper, new_parent, IsCoherent, Space, number, is_numbered, path_up}
 use Rattle.model_laws.proofs.Names.{own_name_in_use, is_numbered-true, is_numbered-from, number-on_path}
 use Rattle.model_laws.proofs.Lists.{find-only}
@@ -16,25 +16,18 @@ find-climb : (f : ℕ → Option ℕ) (p : ℕ → Bool) (k n m : ℕ) → find 
     → (j : ℕ) × Climbs f j n m × (p m ≡ true) × ((i x : ℕ) → i < j → Climbs f i n x → p x ≡ false)
 unfolding climb
 find-climb f p zero n m h = absurd (cc)
-find-climb f p (suc k) n m h = go (λ q e. find-climb f p k q m e) (p n) refl h
+find-climb f p (suc k) n m h = elim (cases_Bool (p n)) [
+  | inl e ↦ (let same : n ≡ m = grind arith in (0, same, ap p (sym same) ∙ e, λ i x l c. absurd (omega arith)))
+  | inr e ↦
+      let q : (q : ℕ) × (f n ≡ Some q) × (find p (climb f k q) ≡ Some m) = grind arith in
+      let r = find-climb f p k q.0 m q.2 in
+      (suc r.0, (q.0, q.1, r.1), r.2, nearer q.0 q.1 e r.0 r.3)
+]
   where
-    rest : ((q : ℕ) → find p (climb f k q) ≡ Some m → (j : ℕ) × Climbs f j q m × (p m ≡ true) × ((i x : ℕ) → i < j → Climbs f i q x → p x ≡ false))
-        → p n ≡ false → (o : Option ℕ) → f n ≡ o → find p (option_map_or (climb f k) o []) ≡ Some m
-        → (j : ℕ) × Climbs f j n m × (p m ≡ true) × ((i x : ℕ) → i < j → Climbs f i n x → p x ≡ false)
-    rest later miss None e g = absurd (cc)
-    rest later miss (Some q) e g =
-        let r = later q g in
-        (suc r.0, (q, e, r.1), r.2, λ i x l c. nearer r.0 i x l c r.3)
-      where
-        nearer : (j i x : ℕ) → i < suc j → Climbs f i n x → ((i x : ℕ) → i < j → Climbs f i q x → p x ≡ false) → p x ≡ false
-        nearer j zero x l c all = ap p (sym c) ∙ miss
-        nearer j (suc i) x l c all = all i x (omega arith) (subst (λ z. Climbs f i z x) (one_step f n c.0 q c.1 e) c.2)
-
-    go : ((q : ℕ) → find p (climb f k q) ≡ Some m → (j : ℕ) × Climbs f j q m × (p m ≡ true) × ((i x : ℕ) → i < j → Climbs f i q x → p x ≡ false))
-        → (b : Bool) → p n ≡ b → cond b (Some n) (find p (option_map_or (climb f k) (f n) [])) ≡ Some m
-        → (j : ℕ) × Climbs f j n m × (p m ≡ true) × ((i x : ℕ) → i < j → Climbs f i n x → p x ≡ false)
-    go later true e g = let same : n ≡ m = cc in (0, same, ap p (sym same) ∙ e, λ i x l c. absurd (omega arith))
-    go later false e g = rest later e (f n) refl g
+    nearer : (q : ℕ) → f n ≡ Some q → p n ≡ false → (j : ℕ) → ((i x : ℕ) → i < j → Climbs f i q x → p x ≡ false) → (i x : ℕ) → i < suc j
+        → Climbs f i n x → p x ≡ false
+    nearer q e miss j all zero x l c = ap p (sym c) ∙ miss
+    nearer q e miss j all (suc i) x l c = all i x (omega arith) (subst (λ z. Climbs f i z x) (one_step f n c.0 q c.1 e) c.2)
 
 -- where nothing is found, nothing passes that is less far above than the chain is long
 find-climb_none : (f : ℕ → Option ℕ) (p : ℕ → Bool) (k n : ℕ) → find p (climb f k n) ≡ None → (i x : ℕ) → i < k → Climbs f i n x → p x ≡ false
@@ -92,19 +85,13 @@ module _ (state : State) (sound : IsCoherent state) where
   there_above (suc k) a task i up = there_above k a up.0 up.1 up.3
 
   module _ (task : Row) (i : IsIn task state.rows) (live : is_live task ≡ true) where
-    -- the chain may be as long as there are rows, and one more
-    one_more : length state.rows + 1 ≡ suc (length state.rows)
-    one_more = omega arith
-
-    -- the ancestors are the chain of the parent
-    ancestors-None : parent_of (root_number task.name) ≡ None → ancestors state.rows task ≡ []
-    ancestors-None e =
-        ap (λ k. drop 1 (climb parent_of k (root_number task.name))) one_more ∙ ap (drop 1) (climb-None parent_of (length state.rows) (root_number task.name) e)
-
-    -- where there is one
-    ancestors-Some : (q : ℕ) → parent_of (root_number task.name) ≡ Some q → ancestors state.rows task ≡ climb parent_of (length state.rows) q
-    ancestors-Some q e =
-        ap (λ k. drop 1 (climb parent_of k (root_number task.name))) one_more ∙ ap (drop 1) (climb-Some parent_of (length state.rows) (root_number task.name) q e)
+    -- the ancestors are the chain of the parent, where there is one
+    ancestors-are : (o : Option ℕ) → parent_of (root_number task.name) ≡ o
+        → ancestors state.rows task ≡ option_map_or (climb parent_of (length state.rows)) o []
+    unfolding climb
+    ancestors-are o e =
+        let more : length state.rows + 1 ≡ suc (length state.rows) = omega arith in
+        ap (λ k. drop 1 (climb parent_of k (root_number task.name))) more ∙ ap (λ p. option_map_or (climb parent_of (length state.rows)) p []) e
 
     -- a subreaper that is found is the nearest
     nearest-found : (m : ℕ) → nearest_subreaper state.rows task ≡ Some m
@@ -113,9 +100,9 @@ module _ (state : State) (sound : IsCoherent state) where
       where
         go : (o : Option ℕ) → parent_of (root_number task.name) ≡ o
             → (a : Row) × IsIn a state.rows × (is_live a ≡ true) × (root_number a.name ≡ m) × (a.name.space ≡ task.name.space) × IsNearestSubreaper state.rows a task
-        go None e = let none : find (is_subreaper_in state.rows task.name.space) [] ≡ Some m = ap (find (is_subreaper_in state.rows task.name.space)) (sym (ancestors-None e)) ∙ h in absurd (cc)
+        go None e = let none : find (is_subreaper_in state.rows task.name.space) [] ≡ Some m = ap (find (is_subreaper_in state.rows task.name.space)) (sym (ancestors-are None e)) ∙ h in absurd (cc)
         go (Some q) e =
-            let f = find-climb parent_of (is_subreaper_in state.rows task.name.space) (length state.rows) q m (ap (find (is_subreaper_in state.rows task.name.space)) (sym (ancestors-Some q e)) ∙ h) in
+            let f = find-climb parent_of (is_subreaper_in state.rows task.name.space) (length state.rows) q m (ap (find (is_subreaper_in state.rows task.name.space)) (sym (ancestors-are (Some q) e)) ∙ h) in
             let a = above (suc f.0) m task i live (q, e, f.1) in
             let t = marked-true task.name.space a.0 a.1 (subst (λ x. is_subreaper_in state.rows task.name.space x ≡ true) (sym a.3) f.2) in (
               a.0,
@@ -142,7 +129,7 @@ module _ (state : State) (sound : IsCoherent state) where
         let there : IsIn b state.rows = there_above (suc k) b task i s.above in
         let way = way_to_one parent_of (length state.rows) (root_number task.name) (sound.parents task i).chain in
         let near : suc k ≤ way.0 = no_further parent_of (top_row state sound) (suc k) way.0 (root_number task.name) (root_number b.name) way.1 c in
-        let never : is_subreaper_in state.rows task.name.space (root_number b.name) ≡ false = find-climb_none parent_of (is_subreaper_in state.rows task.name.space) (length state.rows) c.0 (ap (find (is_subreaper_in state.rows task.name.space)) (sym (ancestors-Some c.0 c.1)) ∙ h) k (root_number b.name) (omega (arith, near, way.2)) c.2 in
+        let never : is_subreaper_in state.rows task.name.space (root_number b.name) ≡ false = find-climb_none parent_of (is_subreaper_in state.rows task.name.space) (length state.rows) c.0 (ap (find (is_subreaper_in state.rows task.name.space)) (sym (ancestors-are (Some c.0) c.1)) ∙ h) k (root_number b.name) (omega (arith, near, way.2)) c.2 in
         let yes : is_subreaper_in state.rows task.name.space (root_number b.name) ≡ true = marked-from task.name.space b there s.marked s.beside in
         cc
 

@@ -1,5 +1,5 @@
 -- Refusals come in their order, and change nothing.
-use Rattle.std.proofs.Common.{◌≡◌, ℕ, suc, ◌+◌, ◌<◌, ◌≤◌, ℤ, pos, negsuc, max, Bool, true, false, not, ◌&&◌, ◌||◌, ◌==◌, List, [], ◌∷◌, length, Option, Some, None, cond, Decides, refl, sym, ap, ◌∙◌, subst, inl, inr, arith, if◌then◌else◌, find, filter, is_none, nat_lt, nat_le, option_map, IsTrue}
+use Rattle.std.proofs.Common.{◌≡◌, ℕ, suc, ◌+◌, ◌<◌, ◌≤◌, ℤ, pos, negsuc, max, Bool, true, false, not, ◌&&◌, ◌||◌, ◌==◌, List, [], ◌∷◌, length, Option, Some, None, cond, Decides, refl, sym, ap, ◌∙◌, subst, inl, inr, arith, if◌then◌else◌, find, filter, is_none, nat_lt, nat_le, option_map, IsTrue, ◌⊎◌}
 use Rattle.std.specs.Option.{option_map_or, option_eq}
 use Rattle.std.specs.List.{list_any}
 use Rattle.std.proofs.lemmas.Bool.{eqb-true, eq-eqb, eqb-false, ne_eqb, and_parts, and_from, not-true, not_from_false, ltb-true, lt-ltb, leb-true, le-leb}
@@ -116,17 +116,19 @@ unfolding task_at
 task_found state caller n = finds (IsTaskTo state caller n) (λ row. is_numbered state.spaces row.name caller.name.space n) state.rows
     (λ row i e. (i, (Decides-number state caller row.name n).0 e)) (λ row t. (t.0, (Decides-number state caller row.name n).1 t.1))
 
+-- the one thing where a reason holds, and else what a search finds
+found_or : {A : Type 0} (reason : Type 0) (b : Bool) (x : A) (o : Option A) (fits : A → Type 0) → Decides b reason → IsFound fits o
+    → IsFound (λ y. (reason × (y ≡ x)) ⊎ ((reason → ⊥) × fits y)) (if b then Some x else o)
+found_or reason true x o fits d f = record { some = λ y e. inl (d.0 refl, (let same : y ≡ x = cc in same)); none = λ e y t. cc }
+found_or reason false x o fits d f = record {
+  some = λ y e. inr (not_from_Decides false d refl, f.some y e);
+  none = λ e y t. elim t [ inl s ↦ not_from_Decides false d refl s.0 | inr s ↦ f.none e y s.1 ];
+}
+
 -- where 0 is the caller
 self_found : (state : State) (caller : Row) (n : ℕ) → IsFound (IsSelfOrTask state caller n) (self_or_task state caller n)
-self_found state caller n = go (n == 0) refl (task_found state caller n)
-  where
-    go : (b : Bool) → (n == 0) ≡ b → IsFound (IsTaskTo state caller n) (task_at state caller.name.space n)
-        → IsFound (IsSelfOrTask state caller n) (if b then Some caller else task_at state caller.name.space n)
-    go true z f = record { some = λ row e. inl (eqb-true n 0 z, (let same : row ≡ caller = cc in same)); none = λ e row t. cc }
-    go false z f = record {
-      some = λ row e. inr (eqb-false n 0 z, f.some row e);
-      none = λ e row t. elim t [ inl s ↦ eqb-false n 0 z s.0 | inr s ↦ f.none e row s.1 ];
-    }
+self_found state caller n =
+    found_or (n ≡ 0) (n == 0) caller (task_at state caller.name.space n) (IsTaskTo state caller n) (Decides-eqb n 0) (task_found state caller n)
 
 -- whom setpgid names
 pub target_found : (state : State) (caller : Row) (pid : ℤ) → IsFound (IsTarget state caller pid) (target_of state caller pid)
@@ -161,17 +163,11 @@ session_found state caller n = go (find p state.rows) (finds fits p state.rows
 pub group_found : (state : State) (caller target : Row) (pgid : ℤ)
     → IsFound (IsGroupFor state caller target pgid) (group_for state caller target pgid)
 group_found state caller target (negsuc n) = record { some = λ group e. cc; none = λ e group t. t }
-group_found state caller target (pos n) = go ((n == 0) || is_numbered state.spaces target.name caller.name.space n)
+group_found state caller target (pos n) =
+    found_or (NamesTarget state caller target n) ((n == 0) || is_numbered state.spaces target.name caller.name.space n) target.name
+    (session_group state caller n) (IsSessionGroup state caller n)
     (Decides-or (n == 0) (is_numbered state.spaces target.name caller.name.space n) (Decides-eqb n 0)
     (Decides-number state caller target.name n)) (session_found state caller n)
-  where
-    go : (b : Bool) → Decides b (NamesTarget state caller target n) → IsFound (IsSessionGroup state caller n) (session_group state caller n)
-        → IsFound (IsGroupFor state caller target (pos n)) (if b then Some target.name else session_group state caller n)
-    go true d f = record { some = λ group e. inl (d.0 refl, (let same : group ≡ target.name = cc in same)); none = λ e group t. cc }
-    go false d f = record {
-      some = λ group e. inr (not_from_Decides false d refl, f.some group e);
-      none = λ e group t. elim t [ inl s ↦ not_from_Decides false d refl s.0 | inr s ↦ f.none e group s.1 ];
-    }
 
 -- the control group
 control_found : (state : State) (id : ℕ) → IsFound (IsControl state id) (control_at state.controls id)
