@@ -131,11 +131,7 @@ find-none p (y ∷ xs) h = rw (h y (inl refl)) (find-none p xs (λ x i. h x (inr
 
 -- where one passes, one is found
 pub find-found : {X : Type 0} (p : X → Bool) (xs : List X) (x : X) → IsIn x xs → p x ≡ true → (y : X) × (find p xs ≡ Some y)
-find-found {X} p xs x i e = go (find p xs) refl
-  where
-    go : (o : Option X) → find p xs ≡ o → (y : X) × (find p xs ≡ Some y)
-    go None f = let no : p x ≡ false = find-None p xs f x i in absurd (cc)
-    go (Some y) f = (y, f)
+find-found p xs x i e = let some : find p xs ≡ None → ⊥ = λ f. (let no : p x ≡ false = find-None p xs f x i in cc) in grind (arith, some)
 
 -- where only one passes, it is found
 pub find-only : {X : Type 0} (p : X → Bool) (xs : List X) (x : X) → IsIn x xs → p x ≡ true → ((y : X) → IsIn y xs → p y ≡ true → y ≡ x)

@@ -1,12 +1,11 @@
 -- Who takes the children of a task that ends: the nearest subreaper, or else the init.
-use Rattle.std.proofs.Common.{◌≡◌, ℕ, zero, suc, ◌+◌, ◌<◌, ◌≤◌, Bool, true, false, ◌&&◌, ◌==◌, [], length, Option, Some, None, cond, refl, sym, ap, ◌∙◌, subst, inl, inr, arith, find, option_map, drop}
+use Rattle.std.proofs.Common.{◌≡◌, ℕ, zero, suc, ◌+◌, ◌<◌, ◌≤◌, Bool, true, false, ◌&&◌, ◌==◌, [], length, Option, Some, None, refl, sym, ap, ◌∙◌, subst, inl, inr, arith, find, option_map, drop}
 use Rattle.std.specs.Option.{option_map_or}
 use Rattle.std.proofs.lemmas.Bool.{eqb-true, eq-eqb, and_parts, and_from, cases_Bool}
 use Rattle.model_laws.proofs.Words.{Row, IsIn, climb, State, root_number, is_live, row_at, task_at, parent_number, ancestors, is_subreaper_in, nearest_subreaper, new_parent, IsCoherent, Space, number, is_numbered, path_up}
 use Rattle.model_laws.proofs.Names.{own_name_in_use, is_numbered-true, is_numbered-from, number-on_path}
 use Rattle.model_laws.proofs.Lists.{find-only}
 use Rattle.model_laws.specs.ParentLaws.{IsAbove, IsNearestSubreaper, HasNoSubreaper, TakesOrphans}
-use Rattle.model_laws.proofs.Chains.{climb-None, climb-Some}
 use Rattle.model_laws.proofs.Rising.{unique_key}
 use Rattle.model_laws.proofs.Trees.{row_at-listed, path_first, space_at-Some, same_row}
 use Rattle.model_laws.proofs.Ancestry.{parent_number-at, top_row, parent_row, Climbs, one_step, way_to_one, no_further}
@@ -100,9 +99,11 @@ module _ (state : State) (sound : IsCoherent state) where
       where
         go : (o : Option ℕ) → parent_of (root_number task.name) ≡ o
             → (a : Row) × IsIn a state.rows × (is_live a ≡ true) × (root_number a.name ≡ m) × (a.name.space ≡ task.name.space) × IsNearestSubreaper state.rows a task
-        go None e = let none : find (is_subreaper_in state.rows task.name.space) [] ≡ Some m = ap (find (is_subreaper_in state.rows task.name.space)) (sym (ancestors-are None e)) ∙ h in absurd (cc)
+        go None e = let none : find (is_subreaper_in state.rows task.name.space) [] ≡ Some m = ap
+            (find (is_subreaper_in state.rows task.name.space)) (sym (ancestors-are None e)) ∙ h in absurd (cc)
         go (Some q) e =
-            let f = find-climb parent_of (is_subreaper_in state.rows task.name.space) (length state.rows) q m (ap (find (is_subreaper_in state.rows task.name.space)) (sym (ancestors-are (Some q) e)) ∙ h) in
+            let f = find-climb parent_of (is_subreaper_in state.rows task.name.space) (length state.rows) q m
+            (ap (find (is_subreaper_in state.rows task.name.space)) (sym (ancestors-are (Some q) e)) ∙ h) in
             let a = above (suc f.0) m task i live (q, e, f.1) in
             let t = marked-true task.name.space a.0 a.1 (subst (λ x. is_subreaper_in state.rows task.name.space x ≡ true) (sym a.3) f.2) in (
               a.0,
@@ -129,7 +130,10 @@ module _ (state : State) (sound : IsCoherent state) where
         let there : IsIn b state.rows = there_above (suc k) b task i s.above in
         let way = way_to_one parent_of (length state.rows) (root_number task.name) (sound.parents task i).chain in
         let near : suc k ≤ way.0 = no_further parent_of (top_row state sound) (suc k) way.0 (root_number task.name) (root_number b.name) way.1 c in
-        let never : is_subreaper_in state.rows task.name.space (root_number b.name) ≡ false = find-climb_none parent_of (is_subreaper_in state.rows task.name.space) (length state.rows) c.0 (ap (find (is_subreaper_in state.rows task.name.space)) (sym (ancestors-are (Some c.0) c.1)) ∙ h) k (root_number b.name) (omega (arith, near, way.2)) c.2 in
+        let never : is_subreaper_in state.rows task.name.space (root_number b.name) ≡ false = find-climb_none parent_of
+        (is_subreaper_in state.rows task.name.space) (length state.rows) c.0
+        (ap (find (is_subreaper_in state.rows task.name.space)) (sym (ancestors-are (Some c.0) c.1)) ∙ h) k (root_number b.name)
+        (omega (arith, near, way.2)) c.2 in
         let yes : is_subreaper_in state.rows task.name.space (root_number b.name) ≡ true = marked-from task.name.space b there s.marked s.beside in
         cc
 

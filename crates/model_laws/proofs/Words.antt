@@ -44,7 +44,7 @@ unfoldable pub use Rattle.pid_types.specs.Sight.{sight, seen}
 pub use Rattle.pid_types.specs.declared.plain.Ended.{Ended}
 pub use Rattle.pid_types.specs.declared.plain.Ended.TheVariants.{Exited, Killed}
 pub use Rattle.pid_types.specs.declared.plain.Life.{Life}
-pub use Rattle.pid_types.specs.declared.plain.Life.TheVariants.{Live, Zombie}
+pub use Rattle.pid_types.specs.declared.plain.Life.TheVariants.{Zombie}
 pub use Rattle.pid_types.specs.declared.call.Kind.{Kind}
 pub use Rattle.pid_types.specs.declared.entry.Entry.{Entry}
 pub use Rattle.pid_types.specs.Limits.{ForkedWithinLimits, ForksStayWithinLimits}
