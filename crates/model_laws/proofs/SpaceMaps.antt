@@ -1,4 +1,4 @@
--- Changes of namespaces that keep their ids and parents.
+-- What stays of names, parents and paths where namespaces change.
 use Rattle.std.proofs.Common.{◌≡◌, ℕ, List, map, length, sym, ap, ◌∙◌, subst, inl, inr, option_map, refl, Some, true}
 use Rattle.model_laws.proofs.Words.{Name, Row, Space, space_at, path_up, number, IsIn, IsWellNumbered, HasGoodParents, HasGoodChildrenSpace, IsTreeOfSpaces, climb, parent_number, root_number, is_live}
 use Rattle.model_laws.proofs.Forests.{at-map, chain-map, IsTree-map}
