@@ -1,17 +1,8 @@
 -- Chains of parents among the rows.
-use Rattle.std.proofs.Common.{◌≡◌, ℕ, zero, suc, ◌+◌, ◌-◌, ◌<◌, ◌≤◌, Bool, true, false, not, ◌==◌, List, [], ◌∷◌, ◌++◌, map, reverse, length, Option, Some, None, cond, refl, sym, ap, ◌∙◌, subst, inl, inr, arith}
-use Rattle.std.specs.Prelude.{filter, option_map, option_and_then, slice_index}
+use Rattle.std.proofs.Common.{◌≡◌, ℕ, zero, suc, ◌+◌, ◌-◌, ◌<◌, ◌≤◌, Bool, true, false, not, ◌==◌, List, [], ◌∷◌, ◌++◌, map, reverse, length, Option, Some, None, refl, sym, ap, ◌∙◌, subst, inl, inr, arith, filter, option_map, option_and_then, slice_index}
 use Rattle.std.proofs.lemmas.Bool.{eq-eqb, ne_eqb, not_from_false, not_from_true}
 use Rattle.std.proofs.lemmas.List.{length-map, reverse-append, length-reverse}
-use Rattle.pid_types.specs.declared.plain.Name.{Name}
-use Rattle.pid_types.specs.declared.plain.Row.{Row}
-use Rattle.pid_types.specs.declared.plain.Space.{Space}
-use Rattle.pid_types.specs.Chains.{climb}
-use Rattle.pid_types.specs.State.{State}
-use Rattle.pid_types.specs.Names.{parent_space, path_up, beside, number, root_number, is_live, row_at}
-use Rattle.pid_types.specs.Exit.{parent_number}
-use Rattle.pid_types.specs.Membership.{IsIn}
-use Rattle.pid_types.specs.Sound.{IsWellNumbered, IsTreeOfSpaces, IsCoherent}
+use Rattle.model_laws.proofs.Words.{Name, Row, Space, climb, State, parent_space, path_up, beside, number, root_number, is_live, row_at, parent_number, IsIn, IsWellNumbered, IsTreeOfSpaces, IsCoherent}
 use Rattle.model_laws.proofs.Lists.{IsIn-map, IsIn-filter}
 use Rattle.model_laws.proofs.Chains.{Stops-at_root, climb-None, climb_cases, climb_suffix, IsIn-climb_first, IsIn-climb_parent, IsIn-climb_more}
 use Rattle.model_laws.proofs.Names.{own_name_in_use}
@@ -21,19 +12,34 @@ use Rattle.model_laws.proofs.Trees.{IsOnTree, IsOnTree-name, root_space_parent, 
 
 -- ---- how far number 1 is
 
--- number 1 is k parents above n
-abbrev pub Far : (ℕ → Option ℕ) → ℕ → ℕ → Type 0
-Far f zero n = n ≡ 1
-Far f (suc k) n = (p : ℕ) × (f n ≡ Some p) × Far f k p
+-- m is so many parents above n
+abbrev pub Climbs : (ℕ → Option ℕ) → ℕ → ℕ → ℕ → Type 0
+Climbs f zero n m = n ≡ m
+Climbs f (suc k) n m = (p : ℕ) × (f n ≡ Some p) × Climbs f k p m
 
--- a chain that meets number 1 says how far it is
-pub Far-from_chain : (f : ℕ → Option ℕ) (k n : ℕ) → IsIn 1 (climb f k n) → (m : ℕ) × Far f m n
+-- number 1 is
+abbrev pub Far : (ℕ → Option ℕ) → ℕ → ℕ → Type 0
+Far f k n = Climbs f k n 1
+
+-- one step from a number leads to one number
+pub one_step : (f : ℕ → Option ℕ) (n p q : ℕ) → f n ≡ Some p → f n ≡ Some q → p ≡ q
+one_step f n p q a b = cc
+
+-- a chain that meets number 1 is longer than the way to it
+pub way_to_one : (f : ℕ → Option ℕ) (k n : ℕ) → IsIn 1 (climb f k n) → (j : ℕ) × Far f j n × (j < k)
 unfolding climb
-Far-from_chain f zero n i = elim i [ ]
-Far-from_chain f (suc k) n i = elim (climb_cases f k n 1 i) [
-  | inl e ↦ (0, sym e)
-  | inr r ↦ let q = Far-from_chain f k r.0 r.2 in (suc q.0, (r.0, r.1, q.1))
+way_to_one f zero n i = elim i [ ]
+way_to_one f (suc k) n i = elim (climb_cases f k n 1 i) [
+  | inl e ↦ (0, sym e, omega arith)
+  | inr r ↦ let w = way_to_one f k r.0 r.2 in (suc w.0, (r.0, r.1, w.1), omega (arith, w.2))
 ]
+
+-- nothing is further above than number 1, which has no parent
+pub no_further : (f : ℕ → Option ℕ) → f 1 ≡ None → (i j n x : ℕ) → Far f j n → Climbs f i n x → i ≤ j
+no_further f top zero j n x a b = omega arith
+no_further f top (suc i) zero n x a b = let none : f n ≡ None = subst (λ z. f z ≡ None) (sym a) top in let some : f n ≡ Some b.0 = b.1 in absurd (cc)
+no_further f top (suc i) (suc j) n x a b =
+    let l = no_further f top i j a.0 x a.2 (subst (λ z. Climbs f i z x) (one_step f n b.0 a.0 b.1 a.1) b.2) in omega (arith, l)
 
 -- and a number that is so far has a chain that meets it
 chain-from_Far : (f : ℕ → Option ℕ) (k n : ℕ) → Far f k n → IsIn 1 (climb f (suc k) n)
@@ -47,34 +53,17 @@ chain_longer f k (suc more) n x i = subst (λ m. IsIn x (climb f m n)) (omega ar
 
 -- number 1, which has no parent, is as far as it is
 pub Far-unique : (f : ℕ → Option ℕ) → f 1 ≡ None → (j k n : ℕ) → Far f j n → Far f k n → j ≡ k
-Far-unique f top zero zero n a b = refl
-Far-unique f top zero (suc k) n a b = let none : f n ≡ None = subst (λ x. f x ≡ None) (sym a) top in let some : f n ≡ Some b.0 = b.1 in absurd (cc)
-Far-unique f top (suc j) zero n a b = let none : f n ≡ None = subst (λ x. f x ≡ None) (sym b) top in let some : f n ≡ Some a.0 = a.1 in absurd (cc)
-Far-unique f top (suc j) (suc k) n a b =
-    let ea : f n ≡ Some a.0 = a.1 in
-    let eb : f n ≡ Some b.0 = b.1 in
-    let same : b.0 ≡ a.0 = cc in
-    ap suc (Far-unique f top j k a.0 a.2 (subst (Far f k) same b.2))
+Far-unique f top j k n a b = omega (arith, no_further f top j k n 1 b a, no_further f top k j n 1 a b)
 
 -- a filter that leaves an element out is shorter
 length-filter_less : {X : Type 0} (p : X → Bool) (xs : List X) → length (filter p xs) ≤ length xs
 length-filter_less p [] = omega arith
-length-filter_less {X} p (x ∷ xs) = go (length-filter_less p xs) (p x)
-  where
-    go : length (filter p xs) ≤ length xs → (b : Bool) → length (cond b (x ∷ filter p xs) (filter p xs)) ≤ suc (length xs)
-    go h true = omega arith
-    go h false = omega arith
+length-filter_less p (x ∷ xs) = grind (arith, length-filter_less p xs)
 
 -- and by one element less at least, where one does not pass
 length-filter_out : {X : Type 0} (p : X → Bool) (xs : List X) (x : X) → IsIn x xs → p x ≡ false → length (filter p xs) < length xs
 length-filter_out p [] x i e = elim i [ ]
-length-filter_out p (y ∷ xs) x (inl same) e =
-    rw (ap p (sym same) ∙ e) (let l : length (filter p xs) ≤ length xs = length-filter_less p xs in omega arith)
-length-filter_out {X} p (y ∷ xs) x (inr i) e = go (length-filter_out p xs x i e) (p y)
-  where
-    go : length (filter p xs) < length xs → (b : Bool) → length (cond b (y ∷ filter p xs) (filter p xs)) < suc (length xs)
-    go h true = omega arith
-    go h false = omega arith
+length-filter_out p (y ∷ xs) x i e = grind (arith, length-filter_less p xs, length-filter_out p xs x)
 
 -- the numbers from which number 1 is reached are at least as many as the steps
 steps_below_length : (f : ℕ → Option ℕ) → f 1 ≡ None → (k n : ℕ) (ns : List ℕ) → Far f k n → ((j x : ℕ) → j ≤ k → Far f j x → IsIn x ns)
@@ -96,17 +85,7 @@ steps_below_length f top (suc k) n ns far all =
 -- the row at a number, and its parent
 parent_number-row : (rows : List Row) (n p : ℕ) → parent_number rows n ≡ Some p
     → (r : Row) × (a : Name) × (row_at rows n ≡ Some r) × (r.parent ≡ Some a) × (root_number a ≡ p)
-parent_number-row rows n p h = go (row_at rows n) refl h
-  where
-    named : (r : Row) (o : Option Name) → row_at rows n ≡ Some r → r.parent ≡ o → option_map root_number o ≡ Some p
-        → (r : Row) × (a : Name) × (row_at rows n ≡ Some r) × (r.parent ≡ Some a) × (root_number a ≡ p)
-    named r None e f g = absurd (cc)
-    named r (Some a) e f g = (r, a, e, f, (let same : root_number a ≡ p = cc in same))
-
-    go : (o : Option Row) → row_at rows n ≡ o → option_and_then (λ (r : Row). option_map root_number r.parent) o ≡ Some p
-        → (r : Row) × (a : Name) × (row_at rows n ≡ Some r) × (r.parent ≡ Some a) × (root_number a ≡ p)
-    go None e g = absurd (cc)
-    go (Some r) e g = named r r.parent e refl g
+parent_number-row rows n p h = grind arith
 
 -- the number of the parent of the row that stands there
 pub parent_number-at : (rows : List Row) (n : ℕ) (r : Row) → row_at rows n ≡ Some r → parent_number rows n ≡ option_map root_number r.parent
@@ -187,25 +166,22 @@ module _ (state : State) (sound : IsCoherent state) where
 
   -- number 1 has no parent
   pub top_row : parent_number state.rows 1 ≡ None
-  top_row = go (row_at state.rows 1) refl
+  top_row = grind (arith, never)
     where
-      parentless : (r : Row) (o : Option Name) → IsIn r state.rows → root_number r.name ≡ 1 → r.parent ≡ o → option_map root_number o ≡ None
-      parentless r None i one e = refl
-      parentless r (Some a) i one e =
-          let g = (sound.parents r i).good a e in
+      never : (p : ℕ) → parent_number state.rows 1 ≡ Some p → ⊥
+      never p e =
+          let u = parent_number-row state.rows 1 p e in
+          let at = row_at-Some state.rows 1 u.0 u.2 in
+          let g = (sound.parents u.0 at.0).good u.1 u.3 in
           let top = root_init_row in
-          let same : r ≡ top.0 = unique_key (λ (x : Row). root_number x.name) state.rows sound.rows_rise r top.0 i top.1 (one ∙ sym top.4) in
-          let here : r.name.space ≡ 0 = ap (λ (x : Row). x.name.space) same ∙ top.3 in
-          let up : a.space ≡ 0 = root_path a.space (subst (λ x. IsIn a.space (path_up state.spaces x)) here g.around) in
-          absurd (g.outside (subst (λ x. number state.spaces r.name x ≡ Some 1) (sym here) (number-root_of_row r i ∙ ap Some one)) (up ∙ sym here))
-
-      go : (o : Option Row) → row_at state.rows 1 ≡ o → option_and_then (λ (r : Row). option_map root_number r.parent) o ≡ None
-      go None e = refl
-      go (Some r) e = let q = row_at-Some state.rows 1 r e in parentless r r.parent q.0 q.1 refl
+          let same : u.0 ≡ top.0 = unique_key (λ (x : Row). root_number x.name) state.rows sound.rows_rise u.0 top.0 at.0 top.1 (at.1 ∙ sym top.4) in
+          let here : u.0.name.space ≡ 0 = ap (λ (x : Row). x.name.space) same ∙ top.3 in
+          let up : u.1.space ≡ 0 = root_path u.1.space (subst (λ x. IsIn u.1.space (path_up state.spaces x)) here g.around) in
+          g.outside (subst (λ x. number state.spaces u.0.name x ≡ Some 1) (sym here) (number-root_of_row u.0 at.0 ∙ ap Some at.1)) (up ∙ sym here)
 
   -- each row is so far from number 1
   pub row_far : (r : Row) → IsIn r state.rows → (k : ℕ) × Far (parent_number state.rows) k (root_number r.name)
-  row_far r i = Far-from_chain (parent_number state.rows) (length state.rows) (root_number r.name) (sound.parents r i).chain
+  row_far r i = let w = way_to_one (parent_number state.rows) (length state.rows) (root_number r.name) (sound.parents r i).chain in (w.0, w.1)
 
   -- the parent of the row at a number is a live row
   pub parent_row : (n p : ℕ) → parent_number state.rows n ≡ Some p
@@ -224,5 +200,4 @@ module _ (state : State) (sound : IsCoherent state) where
       (r.0, record { first = at; lives = r.2; here = r.3; parentless = none r.0.parent (sym (parent_number-at state.rows 1 r.0 at) ∙ top_row) })
     where
       none : (o : Option Name) → option_map root_number o ≡ None → o ≡ None
-      none None e = refl
-      none (Some a) e = absurd (cc)
+      none o e = grind arith

@@ -1,8 +1,6 @@
 -- Chains of parents.
 use Rattle.std.proofs.Common.{◌≡◌, ℕ, zero, suc, List, [], ◌∷◌, ◌++◌, length, Option, Some, None, refl, sym, ap, ◌∙◌, subst, ◌⊎◌, inl, inr, ◌+◌, ◌≤◌, arith, length-append}
-use Rattle.std.specs.Option.{option_map_or}
-use Rattle.pid_types.specs.Chains.{climb}
-use Rattle.pid_types.specs.Membership.{IsIn}
+use Rattle.model_laws.proofs.Words.{climb, IsIn}
 use Rattle.model_laws.proofs.Lists.{IsIn-append_right}
 
 -- the chain ends before it is cut off
@@ -23,12 +21,7 @@ climb-Some f k id p e = rw e refl
 -- the first of a chain is where it begins, and the others are on the chain of its parent
 pub climb_cases : (f : ℕ → Option ℕ) (k id x : ℕ) → IsIn x (climb f (suc k) id) → (x ≡ id) ⊎ ((p : ℕ) × (f id ≡ Some p) × IsIn x (climb f k p))
 unfolding climb
-climb_cases f k id x (inl e) = inl e
-climb_cases f k id x (inr i) = go (f id) refl i
-  where
-    go : (o : Option ℕ) → f id ≡ o → IsIn x (option_map_or (climb f k) o []) → (x ≡ id) ⊎ ((p : ℕ) × (f id ≡ Some p) × IsIn x (climb f k p))
-    go None e j = elim j [ ]
-    go (Some p) e j = inr (p, e, j)
+climb_cases f k id x i = grind arith
 
 -- a chain has its beginning
 pub IsIn-climb_first : (f : ℕ → Option ℕ) (k id : ℕ) → IsIn id (climb f (suc k) id)
@@ -52,23 +45,18 @@ IsIn-climb_more f (suc k) id x i = elim (climb_cases f k id x i) [
 pub Stops-at_root : (f : ℕ → Option ℕ) (k id : ℕ) → f 0 ≡ None → IsIn 0 (climb f k id) → Stops f k id
 unfolding climb
 Stops-at_root f zero id root i = i
-Stops-at_root f (suc k) id root i = elim (climb_cases f k id 0 i) [
-  | inl e ↦ inl (subst (λ x. f x ≡ None) e root)
-  | inr r ↦ inr (r.0, r.1, Stops-at_root f k r.0 root r.2)
-]
+Stops-at_root f (suc k) id root i = grind (arith, climb_cases f k id 0 i, Stops-at_root f k)
 
 -- a chain that stops is no longer for one step more
 pub climb-stopped : (f : ℕ → Option ℕ) (k id : ℕ) → Stops f k id → climb f (suc k) id ≡ climb f k id
 climb-stopped f zero id s = elim s [ ]
-climb-stopped f (suc k) id (inl e) = climb-None f (suc k) id e ∙ sym (climb-None f k id e)
-climb-stopped f (suc k) id (inr r) =
-    climb-Some f (suc k) id r.0 r.1 ∙ ap (λ xs. id ∷ xs) (climb-stopped f k r.0 r.2) ∙ sym (climb-Some f k id r.0 r.1)
+climb-stopped f (suc k) id s =
+    grind (arith, climb-None f k id, climb-None f (suc k) id, climb-Some f k id, climb-Some f (suc k) id, climb-stopped f k)
 
 -- and stops for one step more
 Stops-more : (f : ℕ → Option ℕ) (k id : ℕ) → Stops f k id → Stops f (suc k) id
 Stops-more f zero id s = elim s [ ]
-Stops-more f (suc k) id (inl e) = inl e
-Stops-more f (suc k) id (inr r) = inr (r.0, r.1, Stops-more f k r.0 r.2)
+Stops-more f (suc k) id s = grind (arith, Stops-more f k)
 
 -- the chain of what is on a chain is the rest of it
 pub climb_suffix : (f : ℕ → Option ℕ) (k id x : ℕ) → Stops f k id → IsIn x (climb f k id)
@@ -117,61 +105,32 @@ climb_antisym f k id x s i j =
 pub climb_to_root : (f : ℕ → Option ℕ) (k id x : ℕ) → f 0 ≡ None → IsIn 0 (climb f k id) → IsIn x (climb f k id) → IsIn 0 (climb f k x)
 unfolding climb
 climb_to_root f zero id x root z i = elim i [ ]
-climb_to_root f (suc k) id x root z i = elim (climb_cases f k id x i) [
-  | inl e ↦ subst (λ y. IsIn 0 (climb f (suc k) y)) (sym e) z
-  | inr r ↦ elim (climb_cases f k id 0 z) [
-    | inl e ↦ let none : f id ≡ None = subst (λ y. f y ≡ None) e root in let some : f id ≡ Some r.0 = r.1 in absurd (cc)
-    | inr q ↦
-        let a : f id ≡ Some r.0 = r.1 in
-        let b : f id ≡ Some q.0 = q.1 in
-        let same : q.0 ≡ r.0 = cc in
-        IsIn-climb_more f k x 0 (climb_to_root f k r.0 x root (subst (λ p. IsIn 0 (climb f k p)) same q.2) r.2)
-  ]
-]
+climb_to_root f (suc k) id x root z i = grind (arith, climb_cases f k id x i, climb_cases f k id 0 z, IsIn-climb_more f k x 0, climb_to_root f k)
 
 -- what is on a chain that meets the root has a parent, if it is not the root
 pub climb_parent : (f : ℕ → Option ℕ) (k id x : ℕ) → f 0 ≡ None → IsIn 0 (climb f k id) → IsIn x (climb f k id) → (x ≡ 0 → ⊥)
     → (p : ℕ) × (f x ≡ Some p)
 unfolding climb
 climb_parent f zero id x root z i below = elim i [ ]
-climb_parent f (suc k) id x root z i below = elim (climb_cases f k x 0 (climb_to_root f (suc k) id x root z i)) [
-  | inl e ↦ absurd (below (sym e))
-  | inr r ↦ (r.0, r.1)
-]
+climb_parent f (suc k) id x root z i below = grind (arith, climb_cases f k x 0 (climb_to_root f (suc k) id x root z i))
 
 -- two parent functions that agree on a chain have the same chain
 pub climb-same : (f g : ℕ → Option ℕ) (k id : ℕ) → ((x : ℕ) → IsIn x (climb f k id) → g x ≡ f x) → climb g k id ≡ climb f k id
 unfolding climb
 climb-same f g zero id same = refl
-climb-same f g (suc k) id same =
-    ap (λ o. id ∷ option_map_or (climb g k) o []) (same id (inl refl))
-    ∙ ap (λ ids. id ∷ ids) (go (f id) (λ p e. climb-same f g k p (λ x i. same x (inr (subst (λ o. IsIn x (option_map_or (climb f k) o [])) (sym e) i)))))
-  where
-    go : (o : Option ℕ) → ((p : ℕ) → o ≡ Some p → climb g k p ≡ climb f k p) → option_map_or (climb g k) o [] ≡ option_map_or (climb f k) o []
-    go None h = refl
-    go (Some p) h = h p refl
+climb-same f g (suc k) id same = grind (arith, same id, λ (p : ℕ). climb-same f g k p, same)
 
 -- chains end within as many steps as they may take
 pub length-climb : (f : ℕ → Option ℕ) (k id : ℕ) → length (climb f k id) ≤ k
 unfolding climb
 length-climb f zero id = omega arith
-length-climb f (suc k) id = go (f id) (λ p. length-climb f k p)
-  where
-    go : (o : Option ℕ) → ((p : ℕ) → length (climb f k p) ≤ k) → suc (length (option_map_or (climb f k) o [])) ≤ suc k
-    go None h = omega arith
-    go (Some p) h = omega (arith, h p)
+length-climb f (suc k) id = grind (arith, length-climb f k)
 
 -- a chain that ends early is no longer for more steps
 pub climb_short : (f : ℕ → Option ℕ) (k id : ℕ) → length (climb f (suc k) id) ≤ k → climb f k id ≡ climb f (suc k) id
 unfolding climb
 climb_short f zero id h = absurd (omega arith)
-climb_short f (suc k) id h = ap (λ xs. id ∷ xs) (go (f id) (λ p. climb_short f k p) h)
-  where
-    go : (o : Option ℕ) → ((p : ℕ) → length (climb f (suc k) p) ≤ k → climb f k p ≡ climb f (suc k) p)
-        → suc (length (option_map_or (climb f (suc k)) o [])) ≤ suc k
-        → option_map_or (climb f k) o [] ≡ option_map_or (climb f (suc k)) o []
-    go None rest l = refl
-    go (Some p) rest l = rest p (omega arith)
+climb_short f (suc k) id h = grind (arith, climb_short f k)
 
 -- what is on a chain is its beginning, or the parent of something on it
 pub climb_child : (f : ℕ → Option ℕ) (k id x : ℕ) → IsIn x (climb f k id) → (x ≡ id) ⊎ ((y : ℕ) × IsIn y (climb f k id) × (f y ≡ Some x))
@@ -179,8 +138,5 @@ unfolding climb
 climb_child f zero id x i = elim i [ ]
 climb_child f (suc k) id x i = elim (climb_cases f k id x i) [
   | inl e ↦ inl e
-  | inr r ↦ elim (climb_child f k r.0 x r.2) [
-    | inl e ↦ inr (id, inl refl, r.1 ∙ ap Some (sym e))
-    | inr q ↦ inr (q.0, IsIn-climb_parent f k id r.0 q.0 r.1 q.1, q.2)
-  ]
+  | inr r ↦ grind (arith, climb_child f k r.0 x r.2, IsIn-climb_parent f k id r.0, IsIn-climb_first f k id)
 ]

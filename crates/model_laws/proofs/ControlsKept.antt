@@ -1,28 +1,19 @@
 -- Calls on control groups leave a sound state.
-use Rattle.std.proofs.Common.{◌≡◌, ℕ, ◌+◌, ◌<◌, ◌≤◌, Bool, true, false, ◌&&◌, not, ◌==◌, List, [], ◌∷◌, ◌++◌, map, length, Option, Some, None, refl, sym, ap, ◌∙◌, subst, inl, inr, arith}
-use Rattle.std.specs.Prelude.{filter, nat_lt, option_map, option_and_then, if◌then◌else◌}
-use Rattle.std.specs.Option.{option_eq, option_map_or}
-use Rattle.std.specs.List.{list_any}
-use Rattle.std.proofs.lemmas.Bool.{cond_both, eqb-true, eq-eqb, ne_eqb, eqb-false, ltb-false, or_parts, not_from_false, not-true}
-use Rattle.pid_types.specs.declared.plain.Row.{Row}
-use Rattle.pid_types.specs.declared.plain.Control.{Control}
-use Rattle.pid_types.specs.Bounds.{greatest_limit}
-use Rattle.pid_types.specs.Chains.{climb}
-use Rattle.pid_types.specs.State.{State}
-use Rattle.pid_types.specs.Names.{is_live}
-use Rattle.pid_types.specs.Controls.{control_at, parent_control, control_path}
-use Rattle.pid_types.specs.Changes.{with_control, make_control, is_busy, rehome, without_control, remove_control, limited, with_limit, set_limit}
-use Rattle.pid_types.specs.Membership.{IsIn}
-use Rattle.pid_types.specs.Sound.{IsTreeOfControls, HasGoodLimit, IsCoherent, IsSound, IsBelow}
-use Rattle.model_laws.proofs.Lists.{IsIn-append, IsIn-from_filter, IsIn-from_map, find-filter, list_any-from_one}
+use Rattle.std.proofs.Common.{◌≡◌, ℕ, ◌+◌, ◌<◌, ◌≤◌, false, not, ◌==◌, List, [], ◌∷◌, ◌++◌, map, length, Option, Some, None, refl, sym, ap, ◌∙◌, subst, inl, inr, arith, filter, nat_lt, option_map, option_and_then}
+use Rattle.std.specs.Option.{option_map_or}
+use Rattle.std.proofs.lemmas.Bool.{cond_both, eqb-true, ne_eqb, eqb-false, ltb-false, not_from_false, not-true}
+use Rattle.model_laws.proofs.Words.{Row, Control, greatest_limit, climb, State, control_at, parent_control, control_path, with_control, is_busy, rehome, without_control, limited, with_limit, IsIn, IsTreeOfControls, HasGoodLimit, IsCoherent, IsSound, IsBelow, Reply, changed}
+use Rattle.std.proofs.lemmas.Bool.Decides.{not_from_Decides}
+use Rattle.model_laws.proofs.Refusals.{Decides-busy}
+use Rattle.model_laws.proofs.Lists.{IsIn-from_filter, IsIn-from_map, find-filter, each_pushed}
 use Rattle.model_laws.proofs.Chains.{Stops, Stops-at_root, climb_trans, climb_cases, IsIn-climb_first, IsIn-climb_parent, IsIn-climb_more, climb-same, climb_child}
 use Rattle.model_laws.proofs.Names.{group_in_use, session_in_use}
 use Rattle.model_laws.proofs.Rising.{IsRising-filter}
 use Rattle.model_laws.proofs.Trees.{control_to_root, control_at-Some, root_control_parent, control_path_listed}
 use Rattle.model_laws.proofs.Forests.{at-map, chain-map, IsTree-map, at-push_old, chain-push, IsIn-chain_new, IsTree-push}
-use Rattle.model_laws.proofs.RowMaps.{IsCoherent-map_rows, HasGoodGroups-map, each_of_map}
-use Rattle.model_laws.proofs.Kept.{Keeps, Keeps-same, Keeps-next, Keeps-changed}
-use Rattle.model_laws.proofs.Calls.{make_control_cases, remove_control_cases, set_limit_cases}
+use Rattle.model_laws.proofs.Survivors.{IsCoherent-map_rows}
+use Rattle.model_laws.proofs.RowMaps.{HasGoodGroups-map, each_of_map}
+use Rattle.model_laws.proofs.Kept.{Keeps, Keeps-changed}
 
 -- a coherent state with other control groups, where each home is
 IsCoherent-controls : (state : State) (controls : List Control) → IsCoherent state → IsTreeOfControls controls
@@ -51,10 +42,6 @@ control_path-same : (controls others : List Control) (id : ℕ)
 unfolding control_path
 control_path-same controls others id same =
     climb-same (parent_control controls) (parent_control others) 65 id (λ x i. ap (option_and_then (λ c. c.parent)) (same x i))
-
--- no limit is a good one
-HasGoodLimit-none : (c : Control) → c.limit ≡ None → HasGoodLimit c
-HasGoodLimit-none c none = record { root = λ _. none; bounded = λ limit some. absurd (cc) }
 
 -- ---- a new control group
 
@@ -88,29 +75,26 @@ module _ (controls : List Control) (tree : IsTreeOfControls controls) (stamp par
       (λ c i. path_old c.id (tree.chains c i)) (path_new on short) elder tree
 
 -- a new control group leaves a sound state
-pub make_control_keeps : (state : State) (stamp parent : ℕ) → IsSound state → IsBelow stamp state → Keeps (stamp + 1) (make_control state stamp parent)
+pub make_control_keeps : (state : State) (stamp parent : ℕ) (c : Control) (reply : Reply) → IsSound state → IsBelow stamp state
+    → control_at state.controls parent ≡ Some c → nat_lt 64 (length (control_path state.controls parent)) ≡ false
+    → Keeps (stamp + 1) (changed (with_control state parent stamp) reply)
 unfolding with_control
-make_control_keeps state stamp parent sound below =
-    make_control_cases (Keeps (stamp + 1)) state stamp parent (λ r. Keeps-next stamp _ (Keeps-same stamp state _ sound below)) (λ c found shallow.
+make_control_keeps state stamp parent c reply sound below found shallow =
     let tree : IsTreeOfControls state.controls = sound.coherent.controls in
     let on : IsIn 0 (control_path state.controls parent) = control_to_root state.controls tree parent c found in
     Keeps-changed (stamp + 1) (with_control state parent stamp) _
     (IsCoherent-controls state (with_made state.controls tree stamp parent below.controls) sound.coherent
     (IsTreeOfControls-made state.controls tree stamp parent below.controls on (ltb-false 64 (length (control_path state.controls parent)) shallow)
     (let at = control_at-Some state.controls parent c found in subst (λ x. x < stamp) at.1 (below.controls c at.0)))
-    (λ d i. elim (IsIn-append d state.controls (made state.controls tree stamp parent below.controls ∷ []) i) [
-      | inl j ↦ sound.coherent.limits d j
-      | inr j ↦ elim j [ inl e ↦ HasGoodLimit-none d (ap (λ (x : Control). x.limit) e) | inr none ↦ elim none [ ] ]
-    ])
+    (each_pushed HasGoodLimit state.controls (made state.controls tree stamp parent below.controls) sound.coherent.limits
+    (record { root = λ _. refl; bounded = λ limit some. absurd (cc) }))
     (λ r i. let h = sound.coherent.homes r i in (h.0, at_old state.controls tree stamp parent below.controls r.home h.0 h.1)))
     (record {
       spaces = λ s i. omega (arith, below.spaces s i);
-      controls = λ d i. elim (IsIn-append d state.controls (made state.controls tree stamp parent below.controls ∷ []) i) [
-        | inl j ↦ omega (arith, below.controls d j)
-        | inr j ↦ elim j [ inl e ↦ let same : d.id ≡ stamp = ap (λ (x : Control). x.id) e in omega arith | inr none ↦ elim none [ ] ]
-      ];
+      controls = each_pushed (λ (d : Control). d.id < stamp + 1) state.controls (made state.controls tree stamp parent below.controls)
+          (λ d j. omega (arith, below.controls d j)) (omega arith);
       children = λ r i. omega (arith, below.children r i);
-    }))
+    })
 
 -- ---- the end of a control group
 
@@ -153,6 +137,13 @@ module _ (controls : List Control) (tree : IsTreeOfControls controls) (id : ℕ)
         subst (IsIn 0) (sym (other_path c.id differs)) (tree.chains c r.0);
   }
 
+-- a control group with a parent is not the root
+not_root : (controls : List Control) → IsTreeOfControls controls → (id parent : ℕ) (c : Control) → control_at controls id ≡ Some c
+    → c.parent ≡ Some parent → id ≡ 0 → ⊥
+not_root controls tree id parent c found under e =
+    let none : parent_control controls id ≡ None = subst (λ x. parent_control controls x ≡ None) (sym e) (root_control_parent controls tree) in
+    let some : parent_control controls id ≡ Some parent = ap (option_and_then (λ (d : Control). d.parent)) found ∙ under in cc
+
 -- the parent of a control group is there
 pub parent_listed : (controls : List Control) → IsTreeOfControls controls → (id parent : ℕ) (c : Control) → control_at controls id ≡ Some c
     → c.parent ≡ Some parent
@@ -165,12 +156,7 @@ parent_listed controls tree id parent c found below =
 -- a control group that is not busy is no parent
 pub no_child : (state : State) (id : ℕ) → is_busy state id ≡ false → (d : Control) → IsIn d state.controls → d.parent ≡ Some id → ⊥
 unfolding is_busy
-no_child state id idle d i e =
-    let r = or_parts (list_any (λ row. (row.home == id) && is_live row) state.rows) (list_any (λ c. option_eq ◌==◌ c.parent (Some id)) state.controls) idle in
-    let some : option_eq ◌==◌ d.parent (Some id) ≡ true = rw e (eq-eqb id id refl) in
-    let yes : list_any (λ c. option_eq ◌==◌ c.parent (Some id)) state.controls ≡ true = list_any-from_one (λ c. option_eq ◌==◌ c.parent (Some id)) state.controls d i some in
-    let never : list_any (λ c. option_eq ◌==◌ c.parent (Some id)) state.controls ≡ false = r.1 in
-    cc
+no_child state id idle d i e = not_from_Decides (is_busy state id) (Decides-busy state id) idle (inr (d, i, e))
 
 -- what is above the parent is above the child
 pub path_of_parent : (controls : List Control) → IsTreeOfControls controls → (id parent : ℕ) (g : Control) → control_at controls id ≡ Some g
@@ -196,15 +182,14 @@ path_of_child controls id parent g found under c differs i = elim (climb_cases (
 ]
 
 -- the end of a control group leaves a sound state
-pub remove_control_keeps : (state : State) (stamp id : ℕ) → IsSound state → IsBelow stamp state → Keeps stamp (remove_control state id)
+pub remove_control_keeps : (state : State) (stamp id parent : ℕ) (c : Control) (reply : Reply) → IsSound state → IsBelow stamp state
+    → control_at state.controls id ≡ Some c → c.parent ≡ Some parent → is_busy state id ≡ false
+    → Keeps stamp (changed (without_control state id parent) reply)
 unfolding without_control is_busy
-remove_control_keeps state stamp id sound below =
-    remove_control_cases (Keeps stamp) state id (λ r. Keeps-same stamp state _ sound below) (λ c parent found under idle.
+remove_control_keeps state stamp id parent c reply sound below found under idle =
     let tree : IsTreeOfControls state.controls = sound.coherent.controls in
     let childless : (d : Control) → IsIn d state.controls → d.parent ≡ Some id → ⊥ = no_child state id idle in
-    let root : id ≡ 0 → ⊥ = λ e.
-    let none : option_and_then (λ (c : Control). c.parent) (control_at state.controls id) ≡ None = subst (λ x. parent_control state.controls x ≡ None) (sym e) (root_control_parent state.controls tree) in
-    let some : option_and_then (λ (c : Control). c.parent) (control_at state.controls id) ≡ Some parent = ap (option_and_then (λ (c : Control). c.parent)) found ∙ under in cc in
+    let root : id ≡ 0 → ⊥ = not_root state.controls tree id parent c found under in
     let up = parent_listed state.controls tree id parent c found under in
     let differs : parent ≡ id → ⊥ = λ e. childless c (control_at-Some state.controls id c found).0 (under ∙ ap Some e) in
     Keeps-changed stamp (without_control state id parent) _
@@ -230,7 +215,7 @@ remove_control_keeps state stamp id sound below =
       spaces = λ s i. omega (arith, below.spaces s i);
       controls = λ d i. omega (arith, below.controls d (IsIn-from_filter (λ c. not (c.id == id)) d state.controls i).0);
       children = each_of_map (λ r. r.children_space < stamp) (rehome id parent) state.rows (λ r i. omega (arith, below.children r i));
-    }))
+    })
 
 -- ---- a limit
 
@@ -253,26 +238,23 @@ module _ (controls : List Control) (f : Control → Control) (ids : (c : Control
 HasGoodLimit-limited : (controls : List Control) → IsTreeOfControls controls → (id parent : ℕ) (limit : Option ℕ) (g : Control)
     → control_at controls id ≡ Some g → g.parent ≡ Some parent → option_map_or (nat_lt greatest_limit) limit false ≡ false
     → (c : Control) → HasGoodLimit c → HasGoodLimit (limited id limit c)
-HasGoodLimit-limited controls tree id parent limit g found under good c old = go (c.id == id) refl
+HasGoodLimit-limited controls tree id parent limit g found under good c old =
+    cond_both (c.id == id) limit c.limit (λ l. HasGoodLimit (record c { limit = l }))
+    (λ e. record {
+      root = λ zero. absurd (not_root controls tree id parent g found under (sym (eqb-true c.id id e) ∙ zero));
+      bounded = bounded limit good;
+    }) (λ e. old)
   where
-    below_root : id ≡ 0 → ⊥
-    below_root e =
-        let none : option_and_then (λ (c : Control). c.parent) (control_at controls id) ≡ None = subst (λ x. parent_control controls x ≡ None) (sym e) (root_control_parent controls tree) in
-        let some : option_and_then (λ (c : Control). c.parent) (control_at controls id) ≡ Some parent = ap (option_and_then (λ (c : Control). c.parent)) found ∙ under in cc
-
     bounded : (o : Option ℕ) → option_map_or (nat_lt greatest_limit) o false ≡ false → (l : ℕ) → o ≡ Some l → l ≤ greatest_limit
     bounded None e l some = absurd (cc)
-    bounded (Some m) e l some = let same : m ≡ l = cc in subst (λ n. n ≤ greatest_limit) same (ltb-false greatest_limit m e)
-
-    go : (b : Bool) → (c.id == id) ≡ b → HasGoodLimit (record c { limit = if b then limit else c.limit })
-    go false e = old
-    go true e = record { root = λ zero. absurd (below_root (sym (eqb-true c.id id e) ∙ zero)); bounded = bounded limit good }
+    bounded (Some m) e l some = grind (arith, ltb-false greatest_limit m)
 
 -- a limit leaves a sound state
-pub set_limit_keeps : (state : State) (stamp id : ℕ) (limit : Option ℕ) → IsSound state → IsBelow stamp state → Keeps stamp (set_limit state id limit)
+pub set_limit_keeps : (state : State) (stamp id parent : ℕ) (limit : Option ℕ) (g : Control) (reply : Reply) → IsSound state → IsBelow stamp state
+    → control_at state.controls id ≡ Some g → g.parent ≡ Some parent → option_map_or (nat_lt greatest_limit) limit false ≡ false
+    → Keeps stamp (changed (with_limit state id limit) reply)
 unfolding with_limit
-set_limit_keeps state stamp id limit sound below =
-    set_limit_cases (Keeps stamp) state id limit (λ r. Keeps-same stamp state _ sound below) (λ g parent found under good.
+set_limit_keeps state stamp id parent limit g reply sound below found under good =
     Keeps-changed stamp (with_limit state id limit) _
     (IsCoherent-controls state (map (limited id limit) state.controls) sound.coherent
     (IsTreeOfControls-map state.controls (limited id limit) (λ c. refl) (λ c. refl) sound.coherent.controls)
@@ -285,4 +267,4 @@ set_limit_keeps state stamp id limit sound below =
       spaces = λ s i. omega (arith, below.spaces s i);
       controls = λ c i. let r = IsIn-from_map (limited id limit) c state.controls i in omega (arith, below.controls r.0 r.1, ap (λ (d : Control). d.id) r.2);
       children = λ r i. omega (arith, below.children r i);
-    }))
+    })

@@ -1,75 +1,30 @@
 -- What changes a control group's count.
-use Rattle.std.proofs.Common.{◌≡◌, ℕ, suc, ◌+◌, ◌<◌, Bool, true, false, not, ◌&&◌, ◌==◌, List, [], ◌∷◌, map, length, Option, Some, None, cond, refl, sym, ap, ◌∙◌, subst, inl, inr, arith}
-use Rattle.std.specs.Prelude.{filter, if◌then◌else◌}
+use Rattle.std.proofs.Common.{◌≡◌, ℕ, ◌+◌, ◌<◌, Bool, true, false, not, ◌&&◌, ◌==◌, List, [], ◌∷◌, map, length, Some, refl, sym, ap, ◌∙◌, subst, inl, inr, arith, filter, if◌then◌else◌}
 use Rattle.std.specs.Option.{option_map_or}
-use Rattle.std.proofs.lemmas.Bool.{cases_Bool, not-true, eqb-true, eqb-false, not_from_false, false_from_ne_true}
-use Rattle.pid_types.specs.declared.call.Call.{Call}
-use Rattle.pid_types.specs.declared.call.Call.TheVariants.{Fork, GetPid, NsPid, Exec, Exit, Wait, GetPpid, SetPgid, SetSid, MakeControl, RemoveControl, SetLimit, Move, Count, GetPgid, GetSid, Next, Join, SetSubreaper}
-use Rattle.pid_types.specs.declared.call.Which.{Which}
-use Rattle.pid_types.specs.declared.plain.Name.{Name}
-use Rattle.pid_types.specs.declared.plain.Row.{Row}
-use Rattle.pid_types.specs.declared.plain.Ended.{Ended}
-use Rattle.pid_types.specs.declared.plain.Ended.TheVariants.{Exited}
-use Rattle.pid_types.specs.declared.plain.Control.{Control}
-use Rattle.pid_types.specs.declared.reply.Reply.{Reply}
-use Rattle.pid_types.specs.declared.reply.Reply.TheVariants.{Forked, Done, Reaped, Counted}
-use Rattle.pid_types.specs.declared.reply.Refusal.TheVariants.{NoControl}
-use Rattle.pid_types.specs.Chains.{contains}
-use Rattle.pid_types.specs.State.{State}
-use Rattle.pid_types.specs.Names.{root_number, same_name, is_live, live_row, number_or_zero, on_row, with_row}
-use Rattle.pid_types.specs.Controls.{control_at, control_path, count, is_below}
-use Rattle.pid_types.specs.Outcome.{Outcome, sweep, answered, changed, for_found}
-use Rattle.pid_types.specs.Fork.{with_space, child_of}
-use Rattle.pid_types.specs.Exit.{is_init, goes_in_fall, row_after_exit, rows_after_exit, row_after_fall, rows_after_fall, new_parent, fall}
-use Rattle.pid_types.specs.Wait.{end_of, without_row}
-use Rattle.pid_types.specs.Groups.{set_group, start_session}
-use Rattle.pid_types.specs.Changes.{set_executed, with_control, is_busy, rehome, without_control, limited, with_limit, set_home, count_tasks, set_children_space, set_mark}
-use Rattle.pid_types.specs.Step.{step}
-use Rattle.pid_types.specs.Membership.{IsIn}
-use Rattle.pid_types.specs.Sound.{IsRising, IsTreeOfControls, IsSound, IsBelow}
+use Rattle.std.proofs.lemmas.Bool.{not-true, eqb-true, eqb-false, not_from_false, false_from_ne_true, cond_both}
+use Rattle.std.proofs.lemmas.Bool.Decides.{same_from_decides}
+use Rattle.model_laws.proofs.Words.{Call, Fork, Exit, Wait, Move, Which, Name, Row, Ended, Exited, Control, Forked, Done, Reaped, contains, State, root_number, same_name, is_live, live_row, number_or_zero, on_row, with_row, control_at, control_path, count, is_below, Outcome, sweep, changed, with_space, is_init, goes_in_fall, row_after_exit, rows_after_exit, row_after_fall, rows_after_fall, new_parent, fall, without_row, set_group, start_session, set_executed, with_control, is_busy, rehome, without_control, limited, with_limit, set_home, set_children_space, set_mark, IsIn, IsRising, IsTreeOfControls, IsSound, IsBelow}
 use Rattle.model_laws.specs.CountLaws.{one_if, may_change_counts}
 use Rattle.model_laws.proofs.Lists.{IsIn-map, IsIn-from_filter, IsIn-from_contains, contains-from_IsIn, filter-same, filter-all}
 use Rattle.model_laws.proofs.Names.{on_row-keeps, same_name-true, same_name-refl}
 use Rattle.model_laws.proofs.Trees.{control_to_root, control_at-Some, live_row-Some}
-use Rattle.model_laws.proofs.Calls.{fork_cases, exit_cases, wait_cases, set_pgid_cases, set_sid_cases, exec_cases, make_control_cases, remove_control_cases, set_limit_cases, move_task_cases, join_cases, set_subreaper_cases}
-use Rattle.pid_types.specs.Fork.{forked}
+use Rattle.model_laws.proofs.Calls.{Comes, still, born, born_first, fell, handed_on, waits, reaped, grouped, led, executed, control_made, control_removed, limit_set, moved, joined, marked, no_answer}
 use Rattle.model_laws.proofs.EndsKept.{reaped_row}
-use Rattle.model_laws.proofs.ControlsKept.{with_made, path_old, others, other_path, no_child, control_path-map, path_of_parent, path_of_child}
-use Rattle.model_laws.proofs.Limits.{length-filter-insert}
+use Rattle.model_laws.proofs.ControlsKept.{path_old, others, other_path, no_child, control_path-map, path_of_parent, path_of_child}
+use Rattle.model_laws.proofs.Limits.{count-forked}
 
 -- ---- how many pass a test
-
--- one row more, if the test holds
-length-cond : (b : Bool) (row : Row) (rows : List Row) → length (cond b (row ∷ rows) rows) ≡ length rows + one_if b
-length-cond true row rows = omega arith
-length-cond false row rows = omega arith
 
 -- as many pass after the change as pass the test of what they become
 length-filter-map : (p : Row → Bool) (f : Row → Row) (rows : List Row) → length (filter p (map f rows)) ≡ length (filter (λ r. p (f r)) rows)
 length-filter-map p f [] = refl
-length-filter-map p f (r ∷ rows) = elim (cases_Bool (p (f r))) [
-  | inl e ↦ rw e (ap suc (length-filter-map p f rows))
-  | inr e ↦ rw e (length-filter-map p f rows)
-]
+length-filter-map p f (r ∷ rows) = grind (arith, length-filter-map p f rows)
 
 -- those that pass are those that stay and pass, and those that go and pass
 length-filter-split : (p t : Row → Bool) (rows : List Row)
     → length (filter p rows) ≡ length (filter p (filter (λ r. not (t r)) rows)) + length (filter (λ r. t r && p r) rows)
 length-filter-split p t [] = omega arith
-length-filter-split p t (r ∷ rows) = go (t r) (p r) refl (length-filter-split p t rows)
-  where
-    stay : List Row
-    stay = filter (λ x. not (t x)) rows
-
-    taken : List Row
-    taken = filter (λ x. t x && p x) rows
-
-    go : (a b : Bool) → p r ≡ b → length (filter p rows) ≡ length (filter p stay) + length taken
-        → length (cond b (r ∷ filter p rows) (filter p rows)) ≡ length (filter p (cond (not a) (r ∷ stay) stay)) + length (cond (a && b) (r ∷ taken) taken)
-    go true true e h = omega arith
-    go true false e h = h
-    go false true e h = rw e (omega arith)
-    go false false e h = rw e h
+length-filter-split p t (r ∷ rows) = grind (arith, length-filter-split p t rows)
 
 -- of rising rows the one that has the name
 length-filter-without : (p : Row → Bool) (rows : List Row) → IsRising (map (λ r. root_number r.name) rows) → (x : Row) → IsIn x rows
@@ -82,25 +37,13 @@ length-filter-without p (r ∷ rows) rise x (inl same) =
     let k : root_number y.name ≡ root_number x.name = ap root_number (same_name-true y.name x.name e) in
     let m : root_number x.name ≡ root_number r.name = ap (λ (z : Row). root_number z.name) same in omega arith))) in
     let gone : same_name r.name x.name ≡ true = same_name-refl r.name x.name (ap (λ (z : Row). z.name) (sym same)) in
-    length-cond (p r) r (filter p rows) ∙ ap (λ z. length (filter p rows) + one_if (p z)) (sym same)
-    ∙ ap (λ ys. length (filter p ys) + one_if (p x)) (sym others ∙ ap (λ b. cond (not b) (r ∷ filter (λ y. not (same_name y.name x.name)) rows) (filter (λ y. not (same_name y.name x.name)) rows)) (sym gone))
-length-filter-without p (r ∷ rows) rise x (inr i) = go (same_name r.name x.name) refl (length-filter-without p rows rise.1 x i)
-  where
-    rest : List Row
-    rest = filter (λ y. not (same_name y.name x.name)) rows
-
-    stays : (b : Bool) → length (filter p rows) ≡ length (filter p rest) + one_if (p x)
-        → length (cond b (r ∷ filter p rows) (filter p rows)) ≡ length (cond b (r ∷ filter p rest) (filter p rest)) + one_if (p x)
-    stays true h = omega arith
-    stays false h = h
-
-    go : (b : Bool) → same_name r.name x.name ≡ b → length (filter p rows) ≡ length (filter p rest) + one_if (p x)
-        → length (filter p (r ∷ rows)) ≡ length (filter p (cond (not b) (r ∷ rest) rest)) + one_if (p x)
-    go true e h =
-        let l : root_number r.name < root_number x.name = rise.0 (root_number x.name) (IsIn-map (λ (z : Row). root_number z.name) x rows i) in
-        let k : root_number r.name ≡ root_number x.name = ap root_number (same_name-true r.name x.name e) in
-        absurd (omega arith)
-    go false e h = stays (p r) h
+    grind arith
+length-filter-without p (r ∷ rows) rise x (inr i) =
+    let h = length-filter-without p rows rise.1 x i in
+    let stays : same_name r.name x.name ≡ false = false_from_ne_true (same_name r.name x.name) (λ e.
+    let l : root_number r.name < root_number x.name = rise.0 (root_number x.name) (IsIn-map (λ (z : Row). root_number z.name) x rows i) in
+    let k : root_number r.name ≡ root_number x.name = ap root_number (same_name-true r.name x.name e) in omega arith) in
+    grind arith
 
 -- the sweep changes no count
 count-swept : (state : State) (c : ℕ) → count (sweep state) c ≡ count state c
@@ -109,97 +52,65 @@ count-swept state c = refl
 
 -- ---- fork
 
--- the count after a fork that was made
-record CountsOne (state : State) (caller : Row) (o : Outcome) : Type 0 where
-  more : (child root : ℕ) → o.reply ≡ Forked child root → (c : ℕ) → count o.state c ≡ count state c + one_if (is_below state.controls caller.home c)
-
--- a fork that is made counts one more up from the caller's home
-count-forked_one : (state : State) (caller : Row) (t c : ℕ)
-    → count (forked state caller t).state c ≡ count state c + one_if (is_below state.controls caller.home c)
-unfolding count sweep
-count-forked_one state caller t c =
-    length-filter-insert (λ row. is_below state.controls row.home c) (child_of state caller t) state.rows
-    ∙ length-cond (is_below state.controls caller.home c) (child_of state caller t) (filter (λ row. is_below state.controls row.home c) state.rows)
-
--- so does every fork that is answered
-pub fork_counts_one : (state : State) (stamp n : ℕ) (new_space : Bool) (caller : Row) (child root : ℕ) → live_row state.rows n ≡ Some caller
-    → (step state stamp (Fork n new_space)).reply ≡ Forked child root
-    → (c : ℕ) → count (step state stamp (Fork n new_space)).state c ≡ count state c + one_if (is_below state.controls caller.home c)
-unfolding step count
-fork_counts_one state stamp n new_space caller child root found told =
-    (fork_cases (CountsOne state caller) state stamp n new_space (λ r. record { more = λ x y e. absurd (cc) })
-    (λ other there stands may. subst (λ (z : Row). CountsOne state z (forked state other other.children_space)) (let same : other ≡ caller = cc in same) (record { more = λ x y e c. count-forked_one state other other.children_space c }))
-    (λ other there stands shallow here may. subst (λ (z : Row). CountsOne state z (forked (with_space state other.children_space stamp) other stamp)) (let same : other ≡ caller = cc in same)
-    (record { more = λ x y e c. count-forked_one (with_space state other.children_space stamp) other stamp c }))).more child root told
+-- a fork that is answered counts one more up from the caller's home
+pub comes_fork : (state : State) (stamp n : ℕ) (new_space : Bool) (o : Outcome) → Comes state stamp (Fork n new_space) o
+    → (caller : Row) (child root : ℕ)
+    → live_row state.rows n ≡ Some caller → o.reply ≡ Forked child root → (c : ℕ)
+    → count o.state c ≡ count state c + one_if (is_below state.controls caller.home c)
+unfolding count
+comes_fork state stamp n new_space o (still _ reply answer) caller child root found told c =
+    absurd (no_answer reply (Forked child root) answer refl told)
+comes_fork state stamp n new_space o (born _ _ other plain there stands may) caller child root found told c =
+    count-forked state other other.children_space c ∙ ap (λ (z : Row). count state c + one_if (is_below state.controls z.home c))
+    (let same : other ≡ caller = cc in same)
+comes_fork state stamp n new_space o (born_first _ other there stands shallow here may) caller child root found told c =
+    count-forked (with_space state other.children_space stamp) other stamp c
+    ∙ ap (λ (z : Row). count state c + one_if (is_below state.controls z.home c)) (let same : other ≡ caller = cc in same)
 
 -- ---- reaping
 
-record ReapsOne (state : State) (caller : Row) (o : Outcome) : Type 0 where
-  less : (child : ℕ) (ended : Ended) → o.reply ≡ Reaped child ended
-      → (row : Row) × IsIn row state.rows × (is_live row ≡ false) × (number_or_zero state.spaces row.name caller.name.space ≡ child)
-      × ((c : ℕ) → count state c ≡ count o.state c + one_if (is_below state.controls row.home c))
-
 -- a reaping counts one less up from the home of the task that it takes
-pub wait_counts_one : (state : State) (stamp n : ℕ) (which : Which) (caller : Row) (child : ℕ) (ended : Ended) → IsSound state
-    → live_row state.rows n ≡ Some caller
-    → (step state stamp (Wait n which)).reply ≡ Reaped child ended
+pub comes_reaping : (state : State) (stamp n : ℕ) (which : Which) (o : Outcome) → Comes state stamp (Wait n which) o
+    → (caller : Row) (child : ℕ) (ended : Ended)
+    → IsSound state → live_row state.rows n ≡ Some caller → o.reply ≡ Reaped child ended
     → (row : Row) × IsIn row state.rows × (is_live row ≡ false) × (number_or_zero state.spaces row.name caller.name.space ≡ child)
-    × ((c : ℕ) → count state c ≡ count (step state stamp (Wait n which)).state c + one_if (is_below state.controls row.home c))
-unfolding step count sweep without_row
-wait_counts_one state stamp n which caller child ended sound found told =
-    (wait_cases (ReapsOne state caller) state n which (λ r. record { less = λ x y e. absurd (cc) }) (record { less = λ x y e. absurd (cc) })
-    (λ other row there least. subst (λ (z : Row). ReapsOne state z (reaped other row)) (let same : other ≡ caller = cc in same) (one other row (reaped_row state other row which least)))).less child ended told
-  where
-    reaped : Row → Row → Outcome
-    reaped other row = changed (without_row state row) (Reaped (number_or_zero state.spaces row.name other.name.space) (end_of row))
-
-    one : (other row : Row) → IsIn row state.rows × (is_live row ≡ false) → ReapsOne state other (reaped other row)
-    one other row r = record {
-      less = λ x y e. (
-        row,
-        r.0,
-        r.1,
-        (let same : number_or_zero state.spaces row.name other.name.space ≡ x = cc in same),
-        λ c. length-filter-without (λ z. is_below state.controls z.home c) state.rows sound.coherent.rows_rise row r.0,
-      );
-    }
+    × ((c : ℕ) → count state c ≡ count o.state c + one_if (is_below state.controls row.home c))
+unfolding count sweep without_row
+comes_reaping state stamp n which o (still _ reply answer) caller child ended sound found told =
+    absurd (no_answer reply (Reaped child ended) answer refl told)
+comes_reaping state stamp n which o (waits _ _ other there none) caller child ended sound found told = absurd (cc)
+comes_reaping state stamp n which o (reaped _ _ other row there least) caller child ended sound found told =
+    let same : other ≡ caller = cc in
+    let r = reaped_row state other row which least in (
+      row,
+      r.0,
+      r.1,
+      ap (λ (z : Row). number_or_zero state.spaces row.name z.name.space) (sym same) ∙
+          (let e : number_or_zero state.spaces row.name other.name.space ≡ child = cc in e),
+      λ c. length-filter-without (λ z. is_below state.controls z.home c) state.rows sound.coherent.rows_rise row r.0,
+    )
 
 -- ---- fall
 
-record TakesRows (state : State) (init : Row) (o : Outcome) : Type 0 where
-  less : (c : ℕ)
-      → count state c ≡ count o.state c + length (filter (λ row. goes_in_fall state init row && is_below state.controls row.home c) state.rows)
-
 -- a fall counts as many less as it takes
-count-fall : (state : State) (init : Row) (status : ℕ) → TakesRows state init (changed (fall state init status) Done)
-unfolding count sweep fall rows_after_fall
-count-fall state init status = record {
-  less = λ c.
-      length-filter-split (λ row. is_below state.controls row.home c) (goes_in_fall state init) state.rows
-      ∙ ap (λ k. k + length (filter (λ row. goes_in_fall state init row && is_below state.controls row.home c) state.rows))
-      (sym (length-filter-map (λ row. is_below state.controls row.home c) (row_after_fall state init status) (filter (λ row. not (goes_in_fall state init row)) state.rows)));
-}
-
--- an exit that is not refused, of the init of a namespace
-record ExitsAs (state : State) (init : Row) (o : Outcome) : Type 0 where
-  falls : o.reply ≡ Done → is_init state init ≡ true → TakesRows state init o
-
--- so does every exit by which a namespace falls
-pub fall_counts_taken : (state : State) (stamp n status : ℕ) (init : Row) → live_row state.rows n ≡ Some init → is_init state init ≡ true
-    → (step state stamp (Exit n status)).reply ≡ Done
+pub comes_fall : (state : State) (stamp n status : ℕ) (o : Outcome) → Comes state stamp (Exit n status) o → (init : Row)
+    → live_row state.rows n ≡ Some init
+    → is_init state init ≡ true → o.reply ≡ Done
     → (c : ℕ)
-    → count state c ≡ count (step state stamp (Exit n status)).state c + length (filter (λ row. goes_in_fall state init row && is_below state.controls row.home c) state.rows)
-unfolding step
-fall_counts_taken state stamp n status init found first told =
-    ((exit_cases (ExitsAs state init) state n status (λ r. record { falls = λ e. absurd (cc) })
-    (λ other there deep one. subst (λ (z : Row). ExitsAs state z (changed (fall state other status) Done)) (let same : other ≡ init = cc in same) (record { falls = λ e f. count-fall state other status }))
-    (λ other there deep none. record { falls = λ e f. (let same : other ≡ init = cc in let no : is_init state init ≡ false = ap (is_init state) (sym same) ∙ none in absurd (cc)) })).falls told first).less
+    → count state c ≡ count o.state c + length (filter (λ row. goes_in_fall state init row && is_below state.controls row.home c) state.rows)
+unfolding count sweep fall rows_after_fall
+comes_fall state stamp n status o (still _ reply answer) init found first told c = absurd (no_answer reply Done answer refl told)
+comes_fall state stamp n status o (handed_on _ _ other there none) init found first told c =
+    absurd (let same : other ≡ init = cc in let no : is_init state init ≡ false = ap (is_init state) (sym same) ∙ none in cc)
+comes_fall state stamp n status o (fell _ _ other there deep one) init found first told c =
+    length-filter-split (λ row. is_below state.controls row.home c) (goes_in_fall state other) state.rows
+    ∙ ap (λ k. k + length (filter (λ row. goes_in_fall state other row && is_below state.controls row.home c) state.rows))
+    (sym (length-filter-map (λ row. is_below state.controls row.home c) (row_after_fall state other status)
+    (filter (λ row. not (goes_in_fall state other row)) state.rows)))
+    ∙ ap (λ (z : Row). count (changed (fall state other status) Done).state c + length
+    (filter (λ row. goes_in_fall state z row && is_below state.controls row.home c) state.rows)) (let same : other ≡ init = cc in same)
 
 -- ---- move
-
-record MovesOne (state : State) (task : Row) (id : ℕ) (o : Outcome) : Type 0 where
-  both : o.reply ≡ Done → (c : ℕ)
-      → count o.state c + one_if (is_below state.controls task.home c) ≡ count state c + one_if (is_below state.controls id c)
 
 -- those who are not the task count as before
 count-moved : (state : State) → IsSound state → (task : Row) (id c : ℕ) → IsIn task state.rows
@@ -221,88 +132,63 @@ count-moved state sound task id c i =
     omega arith
 
 -- so does every move that is answered
-pub move_counts_both : (state : State) (stamp n id : ℕ) (task : Row) → IsSound state → live_row state.rows n ≡ Some task
-    → (step state stamp (Move n id)).reply ≡ Done
-    → (c : ℕ)
-    → count (step state stamp (Move n id)).state c + one_if (is_below state.controls task.home c) ≡ count state c + one_if (is_below state.controls id c)
-unfolding step
-move_counts_both state stamp n id task sound found told =
-    (move_task_cases (MovesOne state task id) state n id (λ r. record { both = λ e. absurd (cc) })
-    (λ other g there at. subst (λ (z : Row). MovesOne state z id (changed (with_row state other.name (set_home id)) Done)) (let same : other ≡ task = cc in same) (one other (live_row-Some state.rows n other there).0))).both told
-  where
-    one : (other : Row) → IsIn other state.rows → MovesOne state other id (changed (with_row state other.name (set_home id)) Done)
-    one other i = record { both = λ e c. ap (λ k. k + one_if (is_below state.controls other.home c)) (count-swept (with_row state other.name (set_home id)) c) ∙ count-moved state sound other id c i }
+pub comes_move : (state : State) (stamp n id : ℕ) (o : Outcome) → Comes state stamp (Move n id) o → (task : Row) → IsSound state
+    → live_row state.rows n ≡ Some task
+    → o.reply ≡ Done → (c : ℕ)
+    → count o.state c + one_if (is_below state.controls task.home c) ≡ count state c + one_if (is_below state.controls id c)
+comes_move state stamp n id o (still _ reply answer) task sound found told c = absurd (no_answer reply Done answer refl told)
+comes_move state stamp n id o (moved _ _ other g there at) task sound found told c =
+    let same : other ≡ task = cc in
+    subst (λ (z : Row). count (sweep (with_row state z.name (set_home id))) c + one_if (is_below state.controls task.home c) ≡ count state c
+    + one_if (is_below state.controls id c)) (sym same)
+    (ap (λ k. k + one_if (is_below state.controls task.home c)) (count-swept (with_row state task.name (set_home id)) c) ∙ count-moved state
+    sound task id c (live_row-Some state.rows n task found).0)
 
 -- ---- nothing else
 
 -- a control group that is there before and after counts the same
-record CountsSame (state : State) (c : ℕ) (o : Outcome) : Type 0 where
-  same : (g h : Control) → control_at state.controls c ≡ Some g → control_at o.state.controls c ≡ Some h → count o.state c ≡ count state c
-
--- a call that changes nothing changes no count
-CountsSame-still : (state : State) (c : ℕ) (reply : Reply) → CountsSame state c (answered state reply)
-CountsSame-still state c reply = record { same = λ g h d e. refl }
+abbrev pub CountsSame : State → ℕ → State → Type 0
+CountsSame state c next = (g h : Control) → control_at state.controls c ≡ Some g → control_at next.controls c ≡ Some h → count next c ≡ count state c
 
 -- a change of rows that changes no home
-CountsSame-map : (state : State) (c : ℕ) (f : Row → Row) (reply : Reply) → ((r : Row) → (f r).home ≡ r.home)
-    → CountsSame state c (changed (record state { rows = map f state.rows }) reply)
+CountsSame-map : (state : State) (c : ℕ) (f : Row → Row) → ((r : Row) → (f r).home ≡ r.home)
+    → CountsSame state c (sweep (record state { rows = map f state.rows }))
 unfolding count sweep
-CountsSame-map state c f reply homes = record {
-  same = λ g h d e.
-      length-filter-map (λ r. is_below state.controls r.home c) f state.rows
-      ∙ ap length (filter-same (λ r. is_below state.controls (f r).home c) (λ r. is_below state.controls r.home c) state.rows (λ r i. ap (λ x. is_below state.controls x c) (homes r)));
-}
+CountsSame-map state c f homes g h d e =
+    length-filter-map (λ r. is_below state.controls r.home c) f state.rows
+    ∙ ap length (filter-same (λ r. is_below state.controls (f r).home c) (λ r. is_below state.controls r.home c) state.rows
+    (λ r i. ap (λ x. is_below state.controls x c) (homes r)))
 
 -- a change of one row that does not change its home
-CountsSame-on_row : (state : State) (c : ℕ) (name : Name) (change : Row → Row) (reply : Reply) → ((r : Row) → (change r).home ≡ r.home)
-    → CountsSame state c (changed (with_row state name change) reply)
+CountsSame-on_row : (state : State) (c : ℕ) (name : Name) (change : Row → Row) → ((r : Row) → (change r).home ≡ r.home)
+    → CountsSame state c (sweep (with_row state name change))
 unfolding with_row
-CountsSame-on_row state c name change reply homes = CountsSame-map state c (on_row name change) reply (on_row-keeps name change (λ r. r.home) homes)
+CountsSame-on_row state c name change homes = CountsSame-map state c (on_row name change) (on_row-keeps name change (λ r. r.home) homes)
 
--- a new control group changes no other count
-CountsSame-made : (state : State) → IsSound state → (stamp : ℕ) → IsBelow stamp state → (parent c : ℕ) (reply : Reply)
-    → CountsSame state c (changed (with_control state parent stamp) reply)
-unfolding count sweep with_control
-CountsSame-made state sound stamp below parent c reply = record {
-  same =
-      λ g h d e. ap length (filter-same (λ r. is_below (with_made state.controls sound.coherent.controls stamp parent below.controls) r.home c) (λ r. is_below state.controls r.home c) state.rows (λ r i.
-      let home = sound.coherent.homes r i in
-      ap (λ p. contains p c) (path_old state.controls sound.coherent.controls stamp parent below.controls r.home (control_to_root state.controls sound.coherent.controls r.home home.0 home.1))));
-}
-
--- a limit changes no count
-CountsSame-limited : (state : State) (id : ℕ) (limit : Option ℕ) (c : ℕ) (reply : Reply)
-    → CountsSame state c (changed (with_limit state id limit) reply)
-unfolding count sweep with_limit
-CountsSame-limited state id limit c reply = record {
-  same =
-      λ g h d e. ap length (filter-same (λ r. is_below (map (limited id limit) state.controls) r.home c) (λ r. is_below state.controls r.home c) state.rows (λ r i.
-      ap (λ p. contains p c) (control_path-map state.controls (limited id limit) (λ x. refl) (λ x. refl) r.home)));
-}
+-- other control groups in which each home has the path that it had
+CountsSame-paths : (state : State) (controls : List Control) (c : ℕ)
+    → ((r : Row) → IsIn r state.rows → control_path controls r.home ≡ control_path state.controls r.home)
+    → CountsSame state c (sweep (record state { controls = controls }))
+unfolding count sweep
+CountsSame-paths state controls c paths g h d e =
+    ap length (filter-same (λ r. is_below controls r.home c) (λ r. is_below state.controls r.home c) state.rows
+    (λ r i. ap (λ p. contains p c) (paths r i)))
 
 -- a number that is in one list exactly where it is in the other
 same_contains : (n : ℕ) (ns ms : List ℕ) → (IsIn n ns → IsIn n ms) → (IsIn n ms → IsIn n ns) → contains ns n ≡ contains ms n
-same_contains n ns ms to from = go (contains ns n) (contains ms n) refl refl
-  where
-    go : (a b : Bool) → contains ns n ≡ a → contains ms n ≡ b → contains ns n ≡ contains ms n
-    go true true e f = e ∙ sym f
-    go false false e f = e ∙ sym f
-    go true false e f = let yes : contains ms n ≡ true = contains-from_IsIn ms n (to (IsIn-from_contains ns n e)) in absurd (cc)
-    go false true e f = let yes : contains ns n ≡ true = contains-from_IsIn ns n (from (IsIn-from_contains ms n f)) in absurd (cc)
+same_contains n ns ms to from =
+    same_from_decides _ _ (IsIn-from_contains ns n, contains-from_IsIn ns n)
+    (λ e. from (IsIn-from_contains ms n e), λ i. contains-from_IsIn ms n (to i))
 
 -- zombies that go to the parent count in each control group above it as before
-CountsSame-removed : (state : State) → IsSound state → (id parent c : ℕ) (g : Control) (reply : Reply)
+CountsSame-removed : (state : State) → IsSound state → (id parent c : ℕ) (g : Control)
     → control_at state.controls id ≡ Some g → g.parent ≡ Some parent → is_busy state id ≡ false
-    → CountsSame state c (changed (without_control state id parent) reply)
+    → CountsSame state c (sweep (without_control state id parent))
 unfolding count sweep without_control
-CountsSame-removed state sound id parent c g reply found under idle = record {
-  same = λ x h d e.
-      let differs : c ≡ id → ⊥ = λ same.
-      let gone = control_at-Some (others state.controls tree id childless) c h e in
-      eqb-false h.id id (not-true (h.id == id) (IsIn-from_filter (λ y. not (y.id == id)) h state.controls gone.0).1) (gone.1 ∙ same) in
-      length-filter-map (λ r. is_below (others state.controls tree id childless) r.home c) (rehome id parent) state.rows
-      ∙ ap length (filter-same (λ r. is_below (others state.controls tree id childless) (rehome id parent r).home c) (λ r. is_below state.controls r.home c) state.rows (λ r i. home differs r.home (r.home == id) refl));
-}
+CountsSame-removed state sound id parent c g found under idle x h d e =
+    length-filter-map (λ r. is_below (others state.controls tree id childless) r.home c) (rehome id parent) state.rows
+    ∙ ap length (filter-same (λ r. is_below (others state.controls tree id childless) (rehome id parent r).home c)
+    (λ r. is_below state.controls r.home c) state.rows (λ r i. home r.home))
   where
     tree : IsTreeOfControls state.controls
     tree = sound.coherent.controls
@@ -313,59 +199,45 @@ CountsSame-removed state sound id parent c g reply found under idle = record {
     apart : parent ≡ id → ⊥
     apart e = childless g (control_at-Some state.controls id g found).0 (under ∙ ap Some e)
 
-    -- the parent's chain is the rest of the one that goes
-    up : (c ≡ id → ⊥) → is_below state.controls parent c ≡ is_below state.controls id c
-    up differs =
-        same_contains c (control_path state.controls parent) (control_path state.controls id) (λ i. path_of_parent state.controls tree id parent g found under c i) (λ i. path_of_child state.controls id parent g found under c differs i)
+    differs : c ≡ id → ⊥
+    differs same =
+        let gone = control_at-Some (others state.controls tree id childless) c h e in
+        eqb-false h.id id (not-true (h.id == id) (IsIn-from_filter (λ y. not (y.id == id)) h state.controls gone.0).1) (gone.1 ∙ same)
 
-    home : (c ≡ id → ⊥) → (x : ℕ) (b : Bool) → (x == id) ≡ b
-        → is_below (others state.controls tree id childless) (if b then parent else x) c ≡ is_below state.controls x c
-    home differs x true e =
-        ap (λ p. contains p c) (other_path state.controls tree id childless parent apart) ∙ up differs
-        ∙ ap (λ y. is_below state.controls y c) (sym (eqb-true x id e))
-    home differs x false e = ap (λ p. contains p c) (other_path state.controls tree id childless x (eqb-false x id e))
+    -- the parent's chain is the rest of the one that goes
+    up : is_below state.controls parent c ≡ is_below state.controls id c
+    up = same_contains c (control_path state.controls parent) (control_path state.controls id)
+        (λ i. path_of_parent state.controls tree id parent g found under c i) (λ i. path_of_child state.controls id parent g found under c differs i)
+
+    home : (x : ℕ) → is_below (others state.controls tree id childless) (if x == id then parent else x) c ≡ is_below state.controls x c
+    home x = cond_both (x == id) parent x (λ y. is_below (others state.controls tree id childless) y c ≡ is_below state.controls x c)
+        (λ e. ap (λ p. contains p c) (other_path state.controls tree id childless parent apart) ∙ up ∙ ap (λ y. is_below state.controls y c)
+        (sym (eqb-true x id e)))
+        (λ e. ap (λ p. contains p c) (other_path state.controls tree id childless x (eqb-false x id e)))
 
 -- no other call changes a count
-nothing_else : (state : State) (stamp : ℕ) (call : Call) → IsSound state → IsBelow stamp state → may_change_counts state call ≡ false
-    → (c : ℕ) → CountsSame state c (step state stamp call)
-unfolding step rows_after_exit count_tasks
-nothing_else state stamp (Fork caller new_space) sound below quiet c = absurd (cc)
-nothing_else state stamp (GetPid caller) sound below quiet c = CountsSame-still state c _
-nothing_else state stamp (NsPid caller target) sound below quiet c = CountsSame-still state c _
-nothing_else state stamp (Exec caller) sound below quiet c =
-    exec_cases (CountsSame state c) state caller (λ r. CountsSame-still state c _) (λ row found. CountsSame-on_row state c row.name set_executed _ (λ r. refl))
-nothing_else state stamp (Exit caller status) sound below quiet c =
-    exit_cases (CountsSame state c) state caller status (λ r. CountsSame-still state c _)
-    (λ row found deep one. let fell : may_change_counts state (Exit caller status) ≡ true = ap (λ o. option_map_or (is_init state) o false) found ∙ one in absurd (cc))
-    (λ row found deep none. CountsSame-map state c (row_after_exit row (new_parent state row) (Exited status)) _ (λ r. refl))
-nothing_else state stamp (Wait caller which) sound below quiet c = absurd (cc)
-nothing_else state stamp (GetPpid caller) sound below quiet c = CountsSame-still state c _
-nothing_else state stamp (SetPgid caller pid pgid) sound below quiet c =
-    set_pgid_cases (CountsSame state c) state caller pid pgid (λ r. CountsSame-still state c _) (λ row target group found aimed same own there. CountsSame-on_row state c target.name (set_group group) _ (λ r. refl))
-nothing_else state stamp (SetSid caller) sound below quiet c =
-    set_sid_cases (CountsSame state c) state caller (λ r. CountsSame-still state c _) (λ row found none. CountsSame-on_row state c row.name start_session _ (λ r. refl))
-nothing_else state stamp (MakeControl parent) sound below quiet c =
-    make_control_cases (CountsSame state c) state stamp parent (λ r. CountsSame-still state c _) (λ g found shallow. CountsSame-made state sound stamp below parent c _)
-nothing_else state stamp (RemoveControl id) sound below quiet c =
-    remove_control_cases (CountsSame state c) state id (λ r. CountsSame-still state c _) (λ g parent found under idle. CountsSame-removed state sound id parent c g _ found under idle)
-nothing_else state stamp (SetLimit id limit) sound below quiet c =
-    set_limit_cases (CountsSame state c) state id limit (λ r. CountsSame-still state c _) (λ g parent found under good. CountsSame-limited state id limit c _)
-nothing_else state stamp (Move task id) sound below quiet c = absurd (cc)
-nothing_else state stamp (Count id) sound below quiet c = go (control_at state.controls id)
-  where
-    go : (o : Option Control) → CountsSame state c (for_found state o NoControl (λ g. answered state (Counted (count state id))))
-    go None = CountsSame-still state c _
-    go (Some g) = CountsSame-still state c _
-nothing_else state stamp (GetPgid caller pid) sound below quiet c = CountsSame-still state c _
-nothing_else state stamp (GetSid caller pid) sound below quiet c = CountsSame-still state c _
-nothing_else state stamp (Next caller kind from) sound below quiet c = CountsSame-still state c _
-nothing_else state stamp (Join caller target) sound below quiet c =
-    join_cases (CountsSame state c) state caller target (λ r. CountsSame-still state c _) (λ row target found there live. CountsSame-on_row state c row.name (set_children_space target.name.space) _ (λ r. refl))
-nothing_else state stamp (SetSubreaper caller on) sound below quiet c =
-    set_subreaper_cases (CountsSame state c) state caller on (λ r. CountsSame-still state c _) (λ row found. CountsSame-on_row state c row.name (set_mark on) _ (λ r. refl))
-
--- the same, as an equation
-pub counts_same : (state : State) (stamp : ℕ) (call : Call) → IsSound state → IsBelow stamp state → may_change_counts state call ≡ false
-    → (c : ℕ) (g h : Control) → control_at state.controls c ≡ Some g → control_at (step state stamp call).state.controls c ≡ Some h
-    → count (step state stamp call).state c ≡ count state c
-counts_same state stamp call sound below quiet c = (nothing_else state stamp call sound below quiet c).same
+pub nothing_else : (state : State) (stamp : ℕ) (call : Call) (o : Outcome) → Comes state stamp call o → IsSound state → IsBelow stamp state
+    → may_change_counts state call ≡ false
+    → (c : ℕ) → CountsSame state c o.state
+unfolding rows_after_exit with_control with_limit
+nothing_else state stamp call o (still _ reply answer) sound below quiet c = λ g h d e. refl
+nothing_else state stamp call o (executed n caller found) sound below quiet c = CountsSame-on_row state c caller.name set_executed (λ r. refl)
+nothing_else state stamp call o (fell n status caller found deep one) sound below quiet c =
+    let yes : may_change_counts state (Exit n status) ≡ true = ap (λ o. option_map_or (is_init state) o false) found ∙ one in absurd (cc)
+nothing_else state stamp call o (handed_on n status caller found none) sound below quiet c =
+    CountsSame-map state c (row_after_exit caller (new_parent state caller) (Exited status)) (λ r. refl)
+nothing_else state stamp call o (grouped n pid pgid caller target group found aimed same own there) sound below quiet c =
+    CountsSame-on_row state c target.name (set_group group) (λ r. refl)
+nothing_else state stamp call o (led n caller found none) sound below quiet c = CountsSame-on_row state c caller.name start_session (λ r. refl)
+nothing_else state stamp call o (control_made parent g found shallow) sound below quiet c = CountsSame-paths state _ c (λ r i.
+    let home = sound.coherent.homes r i in
+    path_old state.controls sound.coherent.controls stamp parent below.controls r.home
+    (control_to_root state.controls sound.coherent.controls r.home home.0 home.1))
+nothing_else state stamp call o (control_removed id parent g found under idle) sound below quiet c =
+    CountsSame-removed state sound id parent c g found under idle
+nothing_else state stamp call o (limit_set id parent limit g found under good) sound below quiet c =
+    CountsSame-paths state _ c (λ r i. control_path-map state.controls (limited id limit) (λ x. refl) (λ x. refl) r.home)
+nothing_else state stamp call o (joined n target caller row found there live) sound below quiet c =
+    CountsSame-on_row state c caller.name (set_children_space row.name.space) (λ r. refl)
+nothing_else state stamp call o (marked n on caller found) sound below quiet c = CountsSame-on_row state c caller.name (set_mark on) (λ r. refl)
+nothing_else state stamp call o _ sound below quiet c = absurd (cc)

@@ -1,9 +1,7 @@
 -- The draw is the cyclic one.
-use Rattle.std.proofs.Common.{◌≡◌, ℕ, ◌<◌, ◌≤◌, max, Bool, true, false, cond, List, Some, None, refl, arith, inl, inr}
-use Rattle.std.specs.Prelude.{nat_lt}
+use Rattle.std.proofs.Common.{◌≡◌, ℕ, ◌<◌, ◌≤◌, max, false, cond, List, Some, None, arith, inl, inr, nat_lt}
 use Rattle.std.proofs.lemmas.Bool.{ltb-true, ltb-false, cond_both}
-use Rattle.pid_types.specs.Chains.{contains}
-use Rattle.pid_types.specs.Draw.{least_free, restart, cyclic_draw}
+use Rattle.model_laws.proofs.Words.{contains, least_free, restart, cyclic_draw}
 use Rattle.pid_types.proofs.LeastFree as LeastFree
 use Rattle.model_laws.specs.Draws.{IsLeastFree, IsFull, IsCyclicDraw}
 
@@ -20,7 +18,12 @@ IsFull-above ns low high h n from below = (LeastFree.least_free-IsLeastFree ns l
 -- the draw is the cyclic one
 pub cyclic_draw-IsCyclicDraw : (pid_max cursor : ℕ) (ns : List ℕ) → IsCyclicDraw pid_max cursor ns (cyclic_draw pid_max cursor ns)
 unfolding cyclic_draw
-cyclic_draw-IsCyclicDraw pid_max cursor ns = go (nat_lt upper pid_max) (nat_lt lower pid_max) refl refl
+cyclic_draw-IsCyclicDraw pid_max cursor ns =
+    cond_both (nat_lt upper pid_max) (Some upper) (cond (nat_lt lower pid_max) (Some lower) None) (IsCyclicDraw pid_max cursor ns)
+    (λ e. inl (IsLeastFree-below ns (max cursor low) pid_max (ltb-true _ _ e)))
+    (λ e. cond_both (nat_lt lower pid_max) (Some lower) None (IsCyclicDraw pid_max cursor ns)
+    (λ f. inr (IsFull-above ns (max cursor low) pid_max (ltb-false _ _ e), IsLeastFree-below ns low pid_max (ltb-true _ _ f)))
+    (λ f. IsFull-above ns low pid_max (ltb-false _ _ f)))
   where
     low : ℕ
     low = restart cursor
@@ -30,12 +33,6 @@ cyclic_draw-IsCyclicDraw pid_max cursor ns = go (nat_lt upper pid_max) (nat_lt l
 
     lower : ℕ
     lower = least_free ns low
-
-    go : (a b : Bool) → nat_lt upper pid_max ≡ a → nat_lt lower pid_max ≡ b
-        → IsCyclicDraw pid_max cursor ns (cond a (Some upper) (cond b (Some lower) None))
-    go true b e f = inl (IsLeastFree-below ns (max cursor low) pid_max (ltb-true _ _ e))
-    go false true e f = inr (IsFull-above ns (max cursor low) pid_max (ltb-false _ _ e), IsLeastFree-below ns low pid_max (ltb-true _ _ f))
-    go false false e f = IsFull-above ns low pid_max (ltb-false _ _ f)
 
 -- a number that a draw gives is not taken, above 0 and below the bound
 pub draw-Some : (pid_max cursor : ℕ) (ns : List ℕ) (n : ℕ) → cyclic_draw pid_max cursor ns ≡ Some n

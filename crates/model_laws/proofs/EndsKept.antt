@@ -1,50 +1,22 @@
 -- Wait and the fall of a namespace leave a sound state.
-use Rattle.std.proofs.Common.{◌≡◌, ℕ, ◌<◌, Bool, true, false, ◌&&◌, not, ◌==◌, List, [], ◌∷◌, map, Option, Some, None, refl, sym, ap, ◌∙◌, subst, inl, inr, arith}
-use Rattle.std.specs.Prelude.{filter, nat_lt, if◌then◌else◌}
-use Rattle.std.specs.Option.{option_map_or}
+use Rattle.std.proofs.Common.{◌≡◌, ℕ, ◌<◌, Bool, true, false, ◌&&◌, not, ◌==◌, List, [], ◌∷◌, map, Some, refl, sym, ap, ◌∙◌, subst, inl, inr, arith, filter}
 use Rattle.std.proofs.lemmas.List.{map-id}
 use Rattle.std.proofs.lemmas.Bool.{eqb-false, or_cases, or_from, or_parts, or_left, or_right, not-true, not_from_false, false_from_ne_true}
-use Rattle.pid_types.specs.declared.call.Which.{Which}
-use Rattle.pid_types.specs.declared.plain.Name.{Name}
-use Rattle.pid_types.specs.declared.plain.Row.{Row}
-use Rattle.pid_types.specs.declared.plain.Space.{Space}
-use Rattle.pid_types.specs.declared.plain.Life.{Life}
-use Rattle.pid_types.specs.declared.plain.Life.TheVariants.{Live, Zombie}
-use Rattle.pid_types.specs.declared.plain.Ended.TheVariants.{Exited, Killed}
-use Rattle.pid_types.specs.State.{State}
-use Rattle.pid_types.specs.Names.{path_up, is_within, number, number_or_zero, root_number, same_name, is_parent, is_live, is_member}
-use Rattle.pid_types.specs.Wait.{is_selected, matching, least_row, without_row, ended_children, wait}
-use Rattle.pid_types.specs.Exit.{has_parent_within, goes_in_fall, row_after_fall, rows_after_fall, fallen_below, fall}
-use Rattle.pid_types.specs.Membership.{IsIn}
-use Rattle.pid_types.specs.Sound.{IsCoherent, IsSound, IsBelow}
+use Rattle.model_laws.proofs.Words.{Which, Name, Row, Space, State, path_up, is_within, number, root_number, same_name, is_parent, is_live, is_member, is_selected, matching, least_row, without_row, ended_children, has_parent_within, goes_in_fall, row_after_fall, rows_after_fall, fallen_below, fall, IsIn, IsCoherent, IsSound, IsBelow, Reply, changed}
 use Rattle.model_laws.proofs.Lists.{IsIn-from_filter, IsIn-from_map, IsIn-from_contains, contains-from_IsIn}
-use Rattle.model_laws.proofs.Names.{same_name-true, own_name_in_use, number-on_path, number-off_path}
-use Rattle.model_laws.proofs.Trees.{same_row, live_row-Some, path_first, path_trans, path_antisym}
-use Rattle.model_laws.proofs.RowMaps.{each_of_map}
-use Rattle.model_laws.proofs.Survivors.{KeepsSurvivors, IsCoherent-survivors}
+use Rattle.model_laws.proofs.Names.{same_name-true, own_name_in_use, group_in_use, session_in_use, number-on_path, number-off_path}
+use Rattle.model_laws.proofs.Trees.{same_row, path_first, path_trans, path_antisym}
+use Rattle.model_laws.proofs.RowMaps.{each_of_map, HasGoodGroups-map}
+use Rattle.model_laws.proofs.Survivors.{KeepsRest, IsCoherent-survivors, parents_stay}
 use Rattle.model_laws.proofs.Ancestry.{number-root_of_row, root_path, row_on_tree}
-use Rattle.model_laws.proofs.Kept.{Keeps, Keeps-same, Keeps-changed}
-use Rattle.model_laws.proofs.Calls.{wait_cases}
+use Rattle.model_laws.proofs.Kept.{Keeps, Keeps-changed, IsBelow-rows}
 
 -- ---- wait
 
 -- the row with the least number is one of them
 pub least_row-IsIn : (state : State) (s : ℕ) (rows : List Row) (row : Row) → least_row state s rows ≡ Some row → IsIn row rows
 least_row-IsIn state s [] row h = absurd (cc)
-least_row-IsIn state s (r ∷ rows) row h = go (λ e. least_row-IsIn state s rows row e) (least_row state s rows) refl h
-  where
-    less : Row → Bool
-    less other = nat_lt (number_or_zero state.spaces other.name s) (number_or_zero state.spaces r.name s)
-
-    pick : (other : Row) (b : Bool) → (if b then other else r) ≡ row → (other ≡ row → IsIn row rows) → IsIn row (r ∷ rows)
-    pick other true e k = inr (k e)
-    pick other false e k = inl (sym e)
-
-    go : (least_row state s rows ≡ Some row → IsIn row rows) → (o : Option Row) → least_row state s rows ≡ o
-        → Some (option_map_or (λ other. if less other then other else r) o r) ≡ Some row → IsIn row (r ∷ rows)
-    go rest None e k = inl (let same : row ≡ r = cc in same)
-    go rest (Some other) e k =
-        pick other (less other) (let same : (if less other then other else r) ≡ row = cc in same) (λ same. rest (e ∙ ap Some same))
+least_row-IsIn state s (r ∷ rows) row h = grind (arith, least_row-IsIn state s rows)
 
 -- what a wait reaps is a row that has ended
 pub reaped_row : (state : State) (caller row : Row) (which : Which) → least_row state caller.name.space (ended_children state caller which) ≡ Some row
@@ -60,11 +32,15 @@ IsCoherent-without_row : (state : State) → IsCoherent state → (gone caller :
     → IsCoherent (without_row state gone)
 unfolding without_row
 IsCoherent-without_row state sound gone caller i ended j lives =
-    subst IsCoherent same (IsCoherent-survivors state p (λ r. r) (λ s. s) sound (record {
-      rows = λ r. (refl, refl, refl, refl, refl, refl);
+    subst IsCoherent same (IsCoherent-survivors state p (λ r. r) (λ s. s) sound (λ r. refl) (record {
+      group = group_in_use state.rows;
+      session = session_in_use state.rows;
+      parents = parents_stay state sound p (λ r. r) (λ r. refl) (λ r. refl) (λ r q k l e there live. (stays q l live, live));
+      children = sound.children;
+      groups = HasGoodGroups-map state.rows (λ r. r) (λ r. refl) (λ r. refl) (λ r. refl) sound.groups;
+      homes = sound.homes;
       spaces = λ s. (refl, refl);
-      parents = λ r q k l e there live. (stays q l live, live);
-      standing = λ s k e. (e, λ r l live here. (stays r l live, live));
+      standing = λ s k e. (e, λ r l live here one. (stays r l live, live));
       fallen = λ s k e. let em = sound.fallen s k e in (λ r l stay live. em.ended r l live, em.below);
       root = sound.root;
     }))
@@ -81,17 +57,15 @@ IsCoherent-without_row state sound gone caller i ended j lives =
         let dead : is_live r ≡ false = ap (λ (x : Row). is_live x) one ∙ ended in cc))
 
 -- a wait leaves a sound state
-pub wait_keeps : (state : State) (stamp n : ℕ) (which : Which) → IsSound state → IsBelow stamp state → Keeps stamp (wait state n which)
+pub wait_keeps : (state : State) (stamp : ℕ) (which : Which) (caller row : Row) (reply : Reply) → IsSound state → IsBelow stamp state
+    → IsIn caller state.rows → is_live caller ≡ true → least_row state caller.name.space (ended_children state caller which) ≡ Some row
+    → Keeps stamp (changed (without_row state row) reply)
 unfolding without_row
-wait_keeps state stamp n which sound below =
-    wait_cases (Keeps stamp) state n which (λ r. Keeps-same stamp state _ sound below) (Keeps-same stamp state _ sound below) (λ caller row found least.
-    let c = live_row-Some state.rows n caller found in
+wait_keeps state stamp which caller row reply sound below i live least =
     let r = reaped_row state caller row which least in
-    Keeps-changed stamp (without_row state row) _ (IsCoherent-without_row state sound.coherent row caller r.0 r.1 c.0 c.2) (record {
-      spaces = λ s i. omega (arith, below.spaces s i);
-      controls = λ d i. omega (arith, below.controls d i);
-      children = λ x i. omega (arith, below.children x (IsIn-from_filter (λ r. not (same_name r.name row.name)) x state.rows i).0);
-    }))
+    Keeps-changed stamp (without_row state row) _ (IsCoherent-without_row state sound.coherent row caller r.0 r.1 i live)
+    (IsBelow-rows stamp state _ below (λ x i.
+    below.children x (IsIn-from_filter (λ r. not (same_name r.name row.name)) x state.rows i).0))
 
 -- ---- the fall
 
@@ -134,77 +108,39 @@ module _ (state : State) (sound : IsCoherent state) (init : Row) (status : ℕ) 
 
   -- a row outside stays, and lives on
   outsider_stays : (r : Row) → (Within r → ⊥) → is_live r ≡ true → (stays_in_fall r ≡ true) × (is_live (after_fall r) ≡ true)
-  outsider_stays r off live = (
-    go (not (same_name r.name init.name)) (is_member state.spaces space r) (has_parent_within state space r) (outsider r off),
-    subst (λ l. alive l ≡ true) (sym (life (same_name r.name init.name) (is_member state.spaces space r) (not_init r off) (outsider r off))) live,
-  )
-    where
-      go : (a b c : Bool) → b ≡ false → not (a && b && c) ≡ true
-      go true true c e = absurd (cc)
-      go true false c e = refl
-      go false true c e = absurd (cc)
-      go false false c e = refl
-
-      alive : Life → Bool
-      alive l = elim l [ Live ↦ true | Zombie ended ↦ false ]
-
-      life : (a b : Bool) → a ≡ false → b ≡ false
-          → (if a then Zombie (Exited status) else (if b && is_live r then Zombie Killed else r.life)) ≡ r.life
-      life a b e f = rw (e, f) refl
+  outsider_stays r off live = grind (arith, outsider r off, not_init r off)
 
   -- what lives after the fall lived before, and is not within
   lives_after : (r : Row) → IsIn r state.rows → is_live (after_fall r) ≡ true → (is_live r ≡ true) × (Within r → ⊥)
-  lives_after r i live = go (same_name r.name init.name) (is_member state.spaces space r) r.life refl live (λ w. member-from_within r i w)
-    where
-      alive : Life → Bool
-      alive l = elim l [ Live ↦ true | Zombie ended ↦ false ]
-
-      go : (a b : Bool) (l : Life) → r.life ≡ l
-          → alive (if a then Zombie (Exited status) else (if b && alive l then Zombie Killed else l)) ≡ true → (Within r → b ≡ true)
-          → (alive l ≡ true) × (Within r → ⊥)
-      go true b l e h m = absurd (cc)
-      go false true Live e h m = absurd (cc)
-      go false true (Zombie ended) e h m = absurd (cc)
-      go false false Live e h m = (refl, λ w. let k : false ≡ true = m w in cc)
-      go false false (Zombie ended) e h m = absurd (cc)
+  lives_after r i live = grind (arith, member-from_within r i)
 
   -- the parent of a row that stays is outside
   parent_outside : (r q : Row) → IsIn r state.rows → IsIn q state.rows → stays_in_fall r ≡ true → r.parent ≡ Some q.name → Within q → ⊥
   parent_outside r q i j stays up w =
-      go (same_name r.name init.name) refl (and_three _ _ _ (not-true (goes_in_fall state init r) stays) member inside)
-    where
-      good : IsIn q.name.space (path_up state.spaces r.name.space)
-      good = ((sound.parents r i).good q.name up).around
-
-      member : is_member state.spaces space r ≡ true
-      member = member-from_within r i (path_trans state.spaces sound.spaces r.name.space q.name.space space (row_on_tree state sound r i) good w)
-
-      inside : has_parent_within state space r ≡ true
-      inside = rw up (contains-from_IsIn (path_up state.spaces q.name.space) space w)
-
-      and_three : (a b c : Bool) → (a && b && c) ≡ false → b ≡ true → c ≡ true → a ≡ false
-      and_three true true true e f g = absurd (cc)
-      and_three true true false e f g = absurd (cc)
-      and_three true false c e f g = absurd (cc)
-      and_three false b c e f g = refl
-
-      go : (b : Bool) → same_name r.name init.name ≡ b → not b ≡ false → ⊥
-      go false e f = cc
-      go true e f =
-          let same : r ≡ init = same_row state.rows sound.rows_rise r init i there (same_name-true r.name init.name e) in
-          let g = (sound.parents init there).good q.name (ap (λ (x : Row). x.parent) (sym same) ∙ up) in
-          g.outside one (path_antisym state.spaces sound.spaces space q.name.space (row_on_tree state sound init there) g.around w)
+      let good : IsIn q.name.space (path_up state.spaces r.name.space) = ((sound.parents r i).good q.name up).around in
+      let member : is_member state.spaces space r ≡ true = member-from_within r i
+      (path_trans state.spaces sound.spaces r.name.space q.name.space space (row_on_tree state sound r i) good w) in
+      let inside : has_parent_within state space r ≡ true = rw up (contains-from_IsIn (path_up state.spaces q.name.space) space w) in
+      let own : same_name r.name init.name ≡ true = grind arith in
+      let same : r ≡ init = same_row state.rows sound.rows_rise r init i there (same_name-true r.name init.name own) in
+      let g = (sound.parents init there).good q.name (ap (λ (x : Row). x.parent) (sym same) ∙ up) in
+      g.outside one (path_antisym state.spaces sound.spaces space q.name.space (row_on_tree state sound init there) g.around w)
 
   -- what the fall keeps
-  KeepsSurvivors-fall : KeepsSurvivors state stays_in_fall after_fall after_fall_space
-  KeepsSurvivors-fall = record {
-    rows = λ r. (refl, refl, refl, refl, refl, refl);
+  KeepsRest-fall : KeepsRest state stays_in_fall after_fall after_fall_space
+  KeepsRest-fall = record {
+    group = group_in_use state.rows;
+    session = session_in_use state.rows;
+    parents = parents_stay state sound stays_in_fall after_fall (λ r. refl) (λ r. refl)
+        (λ r q i j stays up live. outsider_stays q (parent_outside r q i j stays up) live);
+    children = sound.children;
+    groups = HasGoodGroups-map state.rows after_fall (λ r. refl) (λ r. refl) (λ r. refl) sound.groups;
+    homes = sound.homes;
     spaces = λ s. (refl, refl);
-    parents = λ r q i j stays up live. outsider_stays q (parent_outside r q i j stays up) live;
     standing = λ s i e.
         let o = or_parts s.fallen (is_within state.spaces s.id space) e in (
           o.0,
-          λ r j live here. outsider_stays r (λ w.
+          λ r j live here first. outsider_stays r (λ w.
               let yes : is_within state.spaces s.id space ≡ true = contains-from_IsIn (path_up state.spaces s.id) space (subst (λ x. IsIn space (path_up state.spaces x)) here w) in
               let never : is_within state.spaces s.id space ≡ false = o.1 in cc) live,
         );
@@ -234,7 +170,7 @@ module _ (state : State) (sound : IsCoherent state) (init : Row) (status : ℕ) 
   -- a fall leaves a coherent state
   pub IsCoherent-fall : IsCoherent (fall state init status)
   unfolding fall rows_after_fall
-  IsCoherent-fall = IsCoherent-survivors state stays_in_fall after_fall after_fall_space sound KeepsSurvivors-fall
+  IsCoherent-fall = IsCoherent-survivors state stays_in_fall after_fall after_fall_space sound (λ r. refl) KeepsRest-fall
 
   -- and its ids below the stamp
   pub IsBelow-fall : (stamp : ℕ) → IsBelow stamp state → IsBelow stamp (fall state init status)

@@ -1,32 +1,18 @@
 -- Exit leaves a sound state.
-use Rattle.std.proofs.Common.{◌≡◌, ℕ, zero, suc, ◌+◌, ◌<◌, ◌≤◌, Bool, true, false, ◌&&◌, ◌==◌, List, [], map, length, drop, Option, Some, None, refl, sym, ap, ◌∙◌, subst, ◌⊎◌, inl, inr, arith}
-use Rattle.std.specs.Prelude.{find, option_map, option_and_then, if◌then◌else◌}
-use Rattle.std.specs.Option.{option_map_or}
-use Rattle.std.proofs.lemmas.Bool.{cases_eq, and_parts, eqb-true, false_from_ne_true}
-use Rattle.pid_types.specs.declared.plain.Name.{Name}
-use Rattle.pid_types.specs.declared.plain.Row.{Row}
-use Rattle.pid_types.specs.declared.plain.Space.{Space}
-use Rattle.pid_types.specs.declared.plain.Control.{Control}
-use Rattle.pid_types.specs.declared.plain.Ended.{Ended}
-use Rattle.pid_types.specs.declared.plain.Ended.TheVariants.{Exited}
-use Rattle.pid_types.specs.declared.plain.Life.TheVariants.{Zombie}
-use Rattle.pid_types.specs.Chains.{climb}
-use Rattle.pid_types.specs.State.{State}
-use Rattle.pid_types.specs.Names.{path_up, number, is_numbered, root_number, same_name, is_parent, is_live, row_at, task_at, names_in_use}
-use Rattle.pid_types.specs.Controls.{control_at}
-use Rattle.pid_types.specs.Exit.{is_init, parent_number, ancestors, is_subreaper_in, nearest_subreaper, new_parent, row_after_exit, rows_after_exit, fall, exit}
-use Rattle.pid_types.specs.Membership.{IsIn}
-use Rattle.pid_types.specs.Sound.{IsRising, IsGoodParent, HasGoodParents, HasGoodChildrenSpace, IsCoherent, IsSound, IsBelow}
-use Rattle.model_laws.proofs.Lists.{IsIn-map, find-Some, find-only}
-use Rattle.model_laws.proofs.Chains.{climb_cases, climb_child}
-use Rattle.model_laws.proofs.Names.{is_parent-true, is_parent-from, same_name-true, is_numbered-true, is_numbered-from, own_name_in_use, group_in_use, session_in_use, number-on_path}
+use Rattle.std.proofs.Common.{◌≡◌, ℕ, zero, suc, ◌+◌, ◌<◌, ◌≤◌, Bool, true, false, List, map, length, Option, Some, None, refl, sym, ap, ◌∙◌, subst, ◌⊎◌, inl, inr, arith, option_map, option_and_then, if◌then◌else◌}
+use Rattle.std.proofs.lemmas.Bool.{cases_eq}
+use Rattle.model_laws.proofs.Words.{Name, Row, Ended, Exited, climb, State, path_up, number, root_number, is_parent, is_live, row_at, is_init, parent_number, new_parent, row_after_exit, rows_after_exit, IsIn, HasGoodParents, IsCoherent, IsSound, IsBelow, Reply, changed}
+use Rattle.model_laws.specs.ParentLaws.{TakesOrphans}
+use Rattle.model_laws.proofs.NearestSubreaper.{climbs, takes_orphans}
+use Rattle.model_laws.proofs.SpaceMaps.{HasGoodParents-kept}
+use Rattle.model_laws.proofs.Lists.{IsIn-map, filter-all}
+use Rattle.model_laws.proofs.Names.{is_parent-true, is_parent-from, same_name-true, is_numbered-from, group_in_use, session_in_use}
 use Rattle.model_laws.proofs.Rising.{unique_key}
-use Rattle.model_laws.proofs.Trees.{same_row, live_row-Some, row_at-listed, row_at-Some, space_at-Some, path_first, path_trans, path_antisym}
-use Rattle.model_laws.proofs.RowMaps.{row_at-map, roots-map, in_use_before, each_of_map, HasGoodGroups-map}
-use Rattle.model_laws.proofs.Ancestry.{Far, Far-unique, Far-same, IsIn-roots, parent_number-at, chain-in_rows, row_on_tree, root_init_row, top_row, row_far, parent_row}
-use Rattle.model_laws.proofs.EndsKept.{IsCoherent-fall, IsBelow-fall}
-use Rattle.model_laws.proofs.Kept.{Keeps, Keeps-same, Keeps-changed}
-use Rattle.model_laws.proofs.Calls.{exit_cases}
+use Rattle.model_laws.proofs.Trees.{row_at-listed, path_trans, path_antisym}
+use Rattle.model_laws.proofs.RowMaps.{row_at-map, each_of_map, HasGoodGroups-map}
+use Rattle.model_laws.proofs.Ancestry.{Far, Far-unique, Far-same, IsIn-roots, chain-in_rows, row_on_tree, root_init_row, top_row, row_far, parent_row, Climbs, one_step}
+use Rattle.model_laws.proofs.Survivors.{all_stay, IsCoherent-all_stay}
+use Rattle.model_laws.proofs.Kept.{Keeps, Keeps-changed, IsBelow-rows}
 
 -- ---- the rows after a task ended
 
@@ -63,38 +49,19 @@ module _ (state : State) (sound : IsCoherent state) (task heir : Row) (ended : E
 
   -- who is not the task lives on
   others_live : (r : Row) → (r.name ≡ task.name → ⊥) → is_live r ≡ true → is_live (after r) ≡ true
-  others_live r differs live =
-      go (same_name r.name task.name) (false_from_ne_true (same_name r.name task.name) (λ e. differs (same_name-true r.name task.name e)))
-    where
-      go : (b : Bool) → b ≡ false → is_live (record r { parent = (after r).parent; life = if b then Zombie ended else r.life }) ≡ true
-      go true e = absurd (cc)
-      go false e = live
+  others_live r differs live = grind (arith, same_name-true r.name task.name)
 
   -- who lives after lived before
   lived : (r : Row) → is_live (after r) ≡ true → is_live r ≡ true
-  lived r live = go (same_name r.name task.name) live
-    where
-      go : (b : Bool) → is_live (record r { parent = (after r).parent; life = if b then Zombie ended else r.life }) ≡ true → is_live r ≡ true
-      go true e = absurd (cc)
-      go false e = e
+  lived r live = grind arith
 
   -- ---- chains of parents
 
   -- who is no child of the task keeps its parent
   same_parent : (n : ℕ) → (old_parent n ≡ Some root_of_task → ⊥) → next_parent n ≡ old_parent n
   same_parent n differs =
-      ap (option_and_then (λ (r : Row). option_map root_number r.parent)) (row_at-map after (λ r. refl) state.rows n)
-      ∙ go (row_at state.rows n) refl
-    where
-      kept : (r : Row) → row_at state.rows n ≡ Some r → (b : Bool) → is_parent task.name r ≡ b
-          → option_map root_number (after r).parent ≡ option_map root_number r.parent
-      kept r e false f = ap (option_map root_number) (parent_of_other r f)
-      kept r e true f = absurd (differs (parent_number-at state.rows n r e ∙ ap (option_map root_number) (is_parent-true task.name r f)))
-
-      go : (o : Option Row) → row_at state.rows n ≡ o
-          → option_and_then (λ (r : Row). option_map root_number r.parent) (option_map after o) ≡ option_and_then (λ (r : Row). option_map root_number r.parent) o
-      go None e = refl
-      go (Some r) e = kept r e (is_parent task.name r) refl
+      let m : row_at rows_after n ≡ option_map after (row_at state.rows n) = row_at-map after (λ r. refl) state.rows n in
+      grind (arith, is_parent-true task.name)
 
   -- the task's children go to the heir
   child_parent : (n : ℕ) → old_parent n ≡ Some root_of_task → next_parent n ≡ Some (root_number heir.name)
@@ -179,242 +146,105 @@ module _ (state : State) (sound : IsCoherent state) (task heir : Row) (ended : E
 
   module _ (heir_far : (k : ℕ) × Far next_parent k (root_number heir.name)) where
     parents_after : (r : Row) → IsIn r state.rows → HasGoodParents rows_after state.spaces (after r)
-    parents_after r i = record {
-      first = λ none. orphan (is_parent task.name r) refl none;
-      good = λ parent e. good (is_parent task.name r) refl parent e;
-      chain =
-          let far = row_far state sound r i in
-          let f = far_after heir_far far.0 (root_number r.name) far.1 in
-          let top = root_init_row state sound in
-          let no_parent : old_parent 1 ≡ Some root_of_task → ⊥ = λ e. (let none : old_parent 1 ≡ None = top_row state sound in cc) in
-          let at : row_at rows_after 1 ≡ Some (after top.0) = row_at-map after (λ r. refl) state.rows 1 ∙ ap (option_map after) (subst (λ m. row_at state.rows m ≡ Some top.0) top.4 (row_at-listed state.rows sound.rows_rise top.0 top.1)) in
-          chain-in_rows rows_after (same_parent 1 no_parent ∙ top_row state sound) (IsIn-roots rows_after 1 (after top.0) at) f.0 (root_number r.name) f.1;
-    }
+    parents_after r i = by (is_parent task.name r) refl
       where
-        orphan : (b : Bool) → is_parent task.name r ≡ b → (after r).parent ≡ None → root_number r.name ≡ 1
-        orphan true e none = let some : (after r).parent ≡ Some heir.name = parent_of_child r e in absurd (cc)
-        orphan false e none = (sound.parents r i).first (sym (parent_of_other r e) ∙ none)
+        chain : IsIn 1 (climb next_parent (length rows_after) (root_number r.name))
+        chain =
+            let far = row_far state sound r i in
+            let f = far_after heir_far far.0 (root_number r.name) far.1 in
+            let top = root_init_row state sound in
+            let no_parent : old_parent 1 ≡ Some root_of_task → ⊥ = λ e. (let none : old_parent 1 ≡ None = top_row state sound in cc) in
+            let at : row_at rows_after 1 ≡ Some (after top.0) = row_at-map after (λ r. refl) state.rows 1 ∙ ap (option_map after) (subst (λ m. row_at state.rows m ≡ Some top.0) top.4 (row_at-listed state.rows sound.rows_rise top.0 top.1)) in
+            chain-in_rows rows_after (same_parent 1 no_parent ∙ top_row state sound) (IsIn-roots rows_after 1 (after top.0) at) f.0
+            (root_number r.name) f.1
 
-        good : (b : Bool) → is_parent task.name r ≡ b → (parent : Name) → (after r).parent ≡ Some parent
-            → IsGoodParent rows_after state.spaces (after r) parent
-        good true e parent f =
+        by : (b : Bool) → is_parent task.name r ≡ b → HasGoodParents rows_after state.spaces (after r)
+        by false e = HasGoodParents-kept state.rows rows_after state.spaces state.spaces r (after r) refl (parent_of_other r e) refl
+            (λ q j up live. (after q, IsIn-map after q state.rows j, refl, others_live q (λ same. let child : is_parent task.name r ≡ true = is_parent-from task.name r (up ∙ ap Some same) in cc) live)) chain (sound.parents r i)
+        by true e =
+            let own : (after r).parent ≡ Some heir.name = parent_of_child r e in
             let g = (sound.parents r i).good task.name (is_parent-true task.name r e) in
-            let s : (after r).parent ≡ Some heir.name = parent_of_child r e in
-            let same : heir.name ≡ parent = cc in
-            let at : parent.space ≡ task.name.space = ap (λ (a : Name). a.space) (sym same) ∙ beside in
             record {
-              lives = (after heir, IsIn-map after heir state.rows heir_there, same, others_live heir other heir_lives);
-              around = subst (λ x. IsIn x (path_up state.spaces r.name.space)) (sym at) g.around;
-              outside = λ one here. g.outside one (sym at ∙ here);
-            }
-        good false e parent f =
-            let there : r.parent ≡ Some parent = sym (parent_of_other r e) ∙ f in
-            let g = (sound.parents r i).good parent there in
-            record {
-              lives = (
-                after g.lives.0,
-                IsIn-map after g.lives.0 state.rows g.lives.1,
-                g.lives.2,
-                others_live g.lives.0 (λ same.
-                    let child : is_parent task.name r ≡ true = is_parent-from task.name r (there ∙ ap Some (sym g.lives.2 ∙ same)) in cc) g.lives.3,
-              );
-              around = g.around;
-              outside = g.outside;
+              first = λ none. absurd (cc);
+              good = λ parent f.
+                  let same : heir.name ≡ parent = cc in
+                  let at : parent.space ≡ task.name.space = ap (λ (a : Name). a.space) (sym same) ∙ beside in
+                  record {
+                    lives = (after heir, IsIn-map after heir state.rows heir_there, same, others_live heir other heir_lives);
+                    around = subst (λ x. IsIn x (path_up state.spaces r.name.space)) (sym at) g.around;
+                    outside = λ one here. g.outside one (sym at ∙ here);
+                  };
+              chain = chain;
             }
 
     IsCoherent-exit : IsCoherent (record state { rows = rows_after })
-    IsCoherent-exit = record {
-      distinct = λ a b i j. sound.distinct a b (before a i) (before b j);
-      numbered = λ a i. sound.numbered a (before a i);
-      parents = each_of_map (HasGoodParents rows_after state.spaces) after state.rows parents_after;
-      children = each_of_map (HasGoodChildrenSpace state.spaces) after state.rows sound.children;
-      root = sound.root;
-      standing = λ s i e.
-          let r = sound.standing s i e in (
-            after r.0,
-            IsIn-map after r.0 state.rows r.1,
-            others_live r.0 (λ same.
-                let here : s.id ≡ task.name.space = sym r.3 ∙ ap (λ (a : Name). a.space) same in
-                no_init (subst (λ a. number state.spaces a task.name.space ≡ Some 1) same (subst (λ x. number state.spaces r.0.name x ≡ Some 1) here r.4))) r.2,
-            r.3,
-            r.4,
-          );
-      fallen = λ s i e.
-          let em = sound.fallen s i e in
-          record { ended = each_of_map (λ r. is_live r ≡ true → number state.spaces r.name s.id ≡ None) after state.rows (λ r j live. em.ended r j (lived r live)); below = em.below };
+    IsCoherent-exit = IsCoherent-all_stay state after sound (λ r. refl) (record {
+      group = group_in_use state.rows;
+      session = session_in_use state.rows;
+      parents = λ r i stays. subst (λ rows. HasGoodParents (map after rows) state.spaces (after r))
+          (sym (filter-all all_stay state.rows (λ x j. refl))) (parents_after r i);
+      children = sound.children;
       groups = HasGoodGroups-map state.rows after (λ r. refl) (λ r. refl) (λ r. refl) sound.groups;
-      rows_rise = subst IsRising (sym (roots-map after (λ r. refl) state.rows)) sound.rows_rise;
-      spaces = sound.spaces;
-      controls = sound.controls;
-      limits = sound.limits;
-      homes = each_of_map (λ r. (c : Control) × (control_at state.controls r.home ≡ Some c)) after state.rows sound.homes;
-    }
-      where
-        before : (a : Name) → IsIn a (names_in_use rows_after) → IsIn a (names_in_use state.rows)
-        before = in_use_before after (λ r. refl) state.rows (λ r i. group_in_use state.rows r i) (λ r i. session_in_use state.rows r i)
+      homes = sound.homes;
+      spaces = λ s. (refl, refl);
+      standing = λ s i e. (
+        e,
+        λ r j live here one. (
+          refl,
+          others_live r (λ same.
+              let own : s.id ≡ task.name.space = sym here ∙ ap (λ (a : Name). a.space) same in
+              no_init (subst (λ a. number state.spaces a task.name.space ≡ Some 1) same
+              (subst (λ x. number state.spaces r.name x ≡ Some 1) own one))) live,
+        ),
+      );
+      fallen = λ s i e. let em = sound.fallen s i e in (λ r j stays live. em.ended r j (lived r live), em.below);
+      root = sound.root;
+    })
 
 -- ---- who takes the children
 
--- each number's parent
-abbrev parent_of : State → ℕ → Option ℕ
-parent_of state = parent_number state.rows
+-- what is so many parents above is so much nearer to number 1
+nearer : (f : ℕ → Option ℕ) → f 1 ≡ None → (i k n m : ℕ) → Climbs f i n m → Far f k n → (j : ℕ) × Far f j m × (j + i ≡ k)
+nearer f top zero k n m c far = (k, subst (Far f k) c far, omega arith)
+nearer f top (suc i) zero n m c far = absurd (let none : f n ≡ None = subst (λ x. f x ≡ None) (sym far) top in let some : f n ≡ Some c.0 = c.1 in cc)
+nearer f top (suc i) (suc k) n m c far =
+    let r = nearer f top i k c.0 m c.2 (subst (Far f k) (one_step f n far.0 c.0 far.1 c.1) far.2) in (r.0, r.1, omega (arith, r.2))
 
--- an ancestor is on the chain of the parent
-ancestors-IsIn : (rows : List Row) (row : Row) (n : ℕ) → IsIn n (ancestors rows row)
-    → (p : ℕ) × (parent_number rows (root_number row.name) ≡ Some p) × IsIn n (climb (parent_number rows) (length rows) p)
-unfolding climb
-ancestors-IsIn rows row n i =
-    go (parent_number rows (root_number row.name)) refl (subst (λ k. IsIn n (drop 1 (climb (parent_number rows) k (root_number row.name)))) more i)
-  where
-    more : length rows + 1 ≡ suc (length rows)
-    more = omega arith
-
-    go : (o : Option ℕ) → parent_number rows (root_number row.name) ≡ o → IsIn n (option_map_or (climb (parent_number rows) (length rows)) o [])
-        → (p : ℕ) × (parent_number rows (root_number row.name) ≡ Some p) × IsIn n (climb (parent_number rows) (length rows) p)
-    go None e j = elim j [ ]
-    go (Some p) e j = (p, e, j)
-
--- what is on a chain is no farther than where it begins
-far_on_chain : (f : ℕ → Option ℕ) → f 1 ≡ None → (l k p n : ℕ) → Far f k p → IsIn n (climb f l p) → (j : ℕ) × Far f j n × (j ≤ k)
-unfolding climb
-far_on_chain f top zero k p n far i = elim i [ ]
-far_on_chain f top (suc l) k p n far i = elim (climb_cases f l p n i) [
-  | inl e ↦ (k, subst (Far f k) (sym e) far, omega arith)
-  | inr r ↦ next k far r.0 r.1 (λ j g. far_on_chain f top l j r.0 n g r.2)
-]
-  where
-    next : (m : ℕ) → Far f m p → (q : ℕ) → f p ≡ Some q → ((j : ℕ) → Far f j q → (i : ℕ) × Far f i n × (i ≤ j)) → (j : ℕ) × Far f j n × (j ≤ m)
-    next zero g q e rest = let none : f p ≡ None = subst (λ x. f x ≡ None) (sym g) top in absurd (cc)
-    next (suc m) g q e rest =
-        let a : f p ≡ Some g.0 = g.1 in
-        let same : g.0 ≡ q = cc in
-        let r = rest m (subst (Far f m) same g.2) in
-        (r.0, r.1, omega (arith, r.2))
-
--- the init of a live task's namespace: it lives there, is number 1 there, and is found by that
-pub init_beside : (state : State) → IsCoherent state → (task : Row) → IsIn task state.rows → is_live task ≡ true
-    → (init : Row) × IsIn init state.rows × (is_live init ≡ true) × (init.name.space ≡ task.name.space) × (number state.spaces init.name task.name.space ≡ Some 1) × (task_at state task.name.space 1 ≡ Some init)
-unfolding task_at
-init_beside state sound task there lives =
-    let l = (sound.numbered task.name (own_name_in_use state.rows task there)).listed task.name.space (path_first state.spaces task.name.space) in
-    let at = space_at-Some state.spaces task.name.space l.0 l.1 in
-    let i = sound.standing l.0 at.0 (stands l.0 at.0 at.1 l.0.fallen refl) in
-    let one : number state.spaces i.0.name task.name.space ≡ Some 1 = subst (λ x. number state.spaces i.0.name x ≡ Some 1) at.1 i.4 in
-    let first : find (λ r. is_numbered state.spaces r.name task.name.space 1) state.rows ≡ Some i.0 = find-only (λ r. is_numbered state.spaces r.name task.name.space 1) state.rows i.0 i.1 (is_numbered-from state.spaces i.0.name task.name.space 1 one)
-    (λ r j e. same_row state.rows sound.rows_rise r i.0 j i.1 (sound.distinct r.name i.0.name (own_name_in_use state.rows r j) (own_name_in_use state.rows i.0 i.1) task.name.space 1 (is_numbered-true state.spaces r.name task.name.space 1 e) one)) in
-    (i.0, i.1, i.2, i.3 ∙ at.1, one, first)
-  where
-    -- the namespace of a live task stands
-    stands : (s : Space) → IsIn s state.spaces → s.id ≡ task.name.space → (b : Bool) → s.fallen ≡ b → s.fallen ≡ false
-    stands s i here false e = e
-    stands s i here true e =
-        let no : number state.spaces task.name s.id ≡ None = (sound.fallen s i e).ended task there lives in
-        let on = number-on_path state.spaces task.name s.id (sound.numbered task.name (own_name_in_use state.rows task there)).one_each (subst (λ x. IsIn x (path_up state.spaces task.name.space)) (sym here) (path_first state.spaces task.name.space)) in
-        let yes : number state.spaces task.name s.id ≡ Some on.0 = on.1 in
-        absurd (cc)
-
-module _ (state : State) (sound : IsCoherent state) (task : Row) (ended : Ended) (there : IsIn task state.rows) (lives : is_live task ≡ true)
-    (no_init : number state.spaces task.name task.name.space ≡ Some 1 → ⊥) where
-  -- the one who takes the children, with what the state after needs of it
-  record Heir : Type 0 where
-    row : Row
-    taken : new_parent state task ≡ Some row.name
-    coherent : IsCoherent (record state { rows = map (row_after_exit task (Some row.name) ended) state.rows })
-
-  -- a subreaper above the task
-  heir_above : (n : ℕ) (r : Row) → IsIn n (ancestors state.rows task) → row_at state.rows n ≡ Some r → r.name.space ≡ task.name.space
-      → nearest_subreaper state.rows task ≡ Some n → Heir
-  unfolding new_parent
-  heir_above n r i at beside nearest =
-      let a = ancestors-IsIn state.rows task n i in
-      let found = row_at-Some state.rows n r at in
+-- where one who takes orphans takes the children, the state is coherent
+IsCoherent-heir : (state : State) (sound : IsCoherent state) (task heir : Row) (ended : Ended) → IsIn task state.rows → is_live task ≡ true
+    → (number state.spaces task.name task.name.space ≡ Some 1 → ⊥) → TakesOrphans state task heir
+    → IsCoherent (record state { rows = map (row_after_exit task (Some heir.name) ended) state.rows })
+IsCoherent-heir state sound task heir ended there lives no_init takes = elim takes.who [
+  | inl near ↦
+      let f : ℕ → Option ℕ = parent_number state.rows in
       let far = row_far state sound task there in
-      let up : Far (parent_of state) far.0 (root_number task.name) = far.1 in
-      let q = child_of_parent a.0 a.1 (climb_child (parent_of state) (length state.rows) a.0 n a.2) in
-      let u = parent_row state sound q.0 n q.1 in
-      let same : u.1 ≡ r = unique_key (λ (x : Row). root_number x.name) state.rows sound.rows_rise u.1 r u.4 found.0 (u.5 ∙ sym found.1) in
-      let live : is_live r ≡ true = ap (λ (x : Row). is_live x) (sym same) ∙ u.6 in
-      let near = nearer far.0 up a.0 a.1 a.2 in
-      let other : r.name ≡ task.name → ⊥ = λ e.
-      let here : n ≡ root_number task.name = sym found.1 ∙ ap root_number e in
-      let f : near.0 ≡ far.0 = Far-unique (parent_of state) (top_row state sound) near.0 far.0 (root_number task.name) (subst (Far (parent_of state) near.0) here near.1) up in
-      let l : near.0 < far.0 = near.2 in omega arith in
-      record {
-        row = r;
-        taken =
-            ap (λ o. option_map (λ (x : Row). x.name) (option_map_or (row_at state.rows) o (task_at state task.name.space 1))) nearest
-            ∙ ap (option_map (λ (x : Row). x.name)) at;
-        coherent = IsCoherent-exit state sound task r ended there lives found.0 live beside other no_init
-            (subst (λ m. (k : ℕ) × Far (parent_number (map (row_after_exit task (Some r.name) ended) state.rows)) k m) (sym found.1)
-            (far_from_ancestor state sound task r ended there lives found.0 live beside other no_init near.0 far.0 up (let l : near.0 < far.0 = near.2 in omega arith) n near.1));
-      }
-    where
-      -- something has the number as its parent
-      child_of_parent : (p : ℕ) → parent_of state (root_number task.name) ≡ Some p
-          → (n ≡ p) ⊎ ((y : ℕ) × IsIn y (climb (parent_of state) (length state.rows) p) × (parent_of state y ≡ Some n))
-          → (z : ℕ) × (parent_of state z ≡ Some n)
-      child_of_parent p e (inl same) = (root_number task.name, e ∙ ap Some (sym same))
-      child_of_parent p e (inr c) = (c.0, c.2)
-
-      nearer : (k : ℕ) → Far (parent_of state) k (root_number task.name) → (p : ℕ) → parent_of state (root_number task.name) ≡ Some p
-          → IsIn n (climb (parent_of state) (length state.rows) p)
-          → (j : ℕ) × Far (parent_of state) j n × (j < k)
-      nearer zero far p e i = let none : parent_of state (root_number task.name) ≡ None = subst (λ x. parent_of state x ≡ None) (sym far) (top_row state sound) in absurd (cc)
-      nearer (suc k) far p e i =
-          let a : parent_of state (root_number task.name) ≡ Some far.0 = far.1 in
-          let same : far.0 ≡ p = cc in
-          let r = far_on_chain (parent_of state) (top_row state sound) (length state.rows) k p n (subst (Far (parent_of state) k) same far.2) i in
-          (r.0, r.1, omega (arith, r.2))
-
-  -- the init of the task's namespace
-  heir_init : nearest_subreaper state.rows task ≡ None → Heir
-  unfolding new_parent
-  heir_init none =
-      let i = init_beside state sound task there lives in
-      let other : i.0.name ≡ task.name → ⊥ = λ e. no_init (subst (λ a. number state.spaces a task.name.space ≡ Some 1) e i.4) in
-      record {
-        row = i.0;
-        taken =
-            ap (λ o. option_map (λ (x : Row). x.name) (option_map_or (row_at state.rows) o (task_at state task.name.space 1))) none
-            ∙ ap (option_map (λ (x : Row). x.name)) i.5;
-        coherent = IsCoherent-exit state sound task i.0 ended there lives i.1 i.2 i.3 other no_init
-            (far_from_init state sound task i.0 ended there lives i.1 i.2 i.3 other no_init (subst (λ x. number state.spaces i.0.name x ≡ Some 1) (sym i.3) i.4));
-      }
-
-  -- the nearest subreaper, or else the init
-  heir : Heir
-  heir = go (nearest_subreaper state.rows task) refl
-    where
-      at : (n : ℕ) → IsIn n (ancestors state.rows task) → nearest_subreaper state.rows task ≡ Some n → (o : Option Row) → row_at state.rows n ≡ o
-          → option_map_or (λ (r : Row). r.subreaper && (r.name.space == task.name.space)) o false ≡ true → Heir
-      at n i e None f t = absurd (cc)
-      at n i e (Some r) f t =
-          heir_above n r i f (eqb-true r.name.space task.name.space (and_parts r.subreaper (r.name.space == task.name.space) t).1) e
-
-      go : (o : Option ℕ) → nearest_subreaper state.rows task ≡ o → Heir
-      go None e = heir_init e
-      go (Some n) e = let f = find-Some (is_subreaper_in state.rows task.name.space) (ancestors state.rows task) n e in at n f.0 e (row_at state.rows n) refl f.1
+      let up = climbs state sound (suc near.distance) heir task there near.is.above in
+      let h = nearer f (top_row state sound) (suc near.distance) far.0 (root_number task.name) (root_number heir.name) up far.1 in
+      let other : heir.name ≡ task.name → ⊥ = λ e.
+      (let same : h.0 ≡ far.0 = Far-unique f (top_row state sound) h.0 far.0 (root_number task.name)
+      (subst (Far f h.0) (ap root_number e) h.1) far.1 in omega (arith, h.2)) in
+      IsCoherent-exit state sound task heir ended there lives takes.there takes.lives takes.beside other no_init
+      (far_from_ancestor state sound task heir ended there lives takes.there takes.lives takes.beside other no_init h.0 far.0 far.1
+      (omega (arith, h.2)) (root_number heir.name) h.1)
+  | inr init ↦
+      let other : heir.name ≡ task.name → ⊥ = λ e. no_init (subst (λ a. number state.spaces a task.name.space ≡ Some 1) e init.1) in
+      IsCoherent-exit state sound task heir ended there lives takes.there takes.lives takes.beside other no_init
+      (far_from_init state sound task heir ended there lives takes.there takes.lives takes.beside other no_init
+      (subst (λ x. number state.spaces heir.name x ≡ Some 1) (sym takes.beside) init.1))
+]
 
 -- ---- the call
 
--- an exit leaves a sound state
-pub exit_keeps : (state : State) (stamp n status : ℕ) → IsSound state → IsBelow stamp state → Keeps stamp (exit state n status)
+-- an exit that lets no namespace fall leaves a sound state
+pub exit_keeps : (state : State) (stamp status : ℕ) (caller : Row) (reply : Reply) → IsSound state → IsBelow stamp state
+    → IsIn caller state.rows → is_live caller ≡ true → is_init state caller ≡ false
+    → Keeps stamp (changed (record state { rows = rows_after_exit state caller status }) reply)
 unfolding rows_after_exit
-exit_keeps state stamp n status sound below =
-    exit_cases (Keeps stamp) state n status (λ r. Keeps-same stamp state _ sound below)
-    (λ caller found deep one.
-    let c = live_row-Some state.rows n caller found in
-    let first : number state.spaces caller.name caller.name.space ≡ Some 1 = is_numbered-true state.spaces caller.name caller.name.space 1 one in
-    Keeps-changed stamp (fall state caller status) _ (IsCoherent-fall state sound.coherent caller status c.0 first deep) (IsBelow-fall state sound.coherent caller status c.0 first deep stamp below))
-    (λ caller found deep none.
-    let c = live_row-Some state.rows n caller found in
+exit_keeps state stamp status caller reply sound below i live none =
     let no_init : number state.spaces caller.name caller.name.space ≡ Some 1 → ⊥ = λ e. (let yes : is_init state caller ≡ true = is_numbered-from state.spaces caller.name caller.name.space 1 e in cc) in
-    let h : Heir state sound.coherent caller (Exited status) c.0 c.2 no_init = heir state sound.coherent caller (Exited status) c.0 c.2 no_init in
+    let h = takes_orphans state caller sound.coherent i live in
     Keeps-changed stamp (record state { rows = rows_after_exit state caller status }) _
-    (subst (λ o. IsCoherent (record state { rows = map (row_after_exit caller o (Exited status)) state.rows })) (sym h.taken) h.coherent)
-    (record {
-      spaces = λ s i. omega (arith, below.spaces s i);
-      controls = λ d i. omega (arith, below.controls d i);
-      children =
-          each_of_map (λ r. r.children_space < stamp) (row_after_exit caller (new_parent state caller) (Exited status)) state.rows (λ r i. omega (arith, below.children r i));
-    }))
+    (subst (λ o. IsCoherent (record state { rows = map (row_after_exit caller o (Exited status)) state.rows })) (sym h.1)
+    (IsCoherent-heir state sound.coherent caller h.0 (Exited status) i live no_init h.2))
+    (IsBelow-rows stamp state _ below (each_of_map (λ r. r.children_space < stamp)
+    (row_after_exit caller (new_parent state caller) (Exited status)) state.rows below.children))

@@ -1,29 +1,15 @@
 -- What a fall does to each task.
-use Rattle.std.proofs.Common.{◌≡◌, ℕ, Bool, true, false, ◌&&◌, not, Option, Some, None, refl, sym, ap, ◌∙◌, subst}
-use Rattle.std.specs.Prelude.{filter, is_some, if◌then◌else◌}
+use Rattle.std.proofs.Common.{◌≡◌, ℕ, Bool, true, false, not, Option, Some, None, refl, sym, ap, ◌∙◌, subst, filter, is_some, arith}
 use Rattle.std.specs.Option.{option_map_or}
 use Rattle.std.proofs.lemmas.Bool.{and_left, or_from, or_right, not_from_false, not-true, false_from_ne_true}
-use Rattle.pid_types.specs.declared.plain.Name.{Name}
-use Rattle.pid_types.specs.declared.plain.Row.{Row}
-use Rattle.pid_types.specs.declared.plain.Space.{Space}
-use Rattle.pid_types.specs.declared.plain.Life.{Life}
-use Rattle.pid_types.specs.declared.plain.Life.TheVariants.{Zombie}
-use Rattle.pid_types.specs.declared.plain.Ended.TheVariants.{Exited, Killed}
-use Rattle.pid_types.specs.declared.reply.Reply.TheVariants.{Done}
-use Rattle.pid_types.specs.Membership.{IsIn}
-use Rattle.pid_types.specs.State.{State}
-use Rattle.pid_types.specs.Names.{path_up, number, is_within, is_member, same_name, is_live}
-use Rattle.pid_types.specs.Outcome.{Outcome, sweep}
-use Rattle.pid_types.specs.Exit.{is_init, has_parent_within, goes_in_fall, row_after_fall, rows_after_fall, fallen_below, fall}
-use Rattle.pid_types.specs.Step.{step}
-use Rattle.pid_types.specs.Sound.{IsSound}
-use Rattle.model_laws.specs.FallLaws.{IsMember, HasMemberParent, IsOtherMember, HasFallen, ExitOfInitFalls}
+use Rattle.model_laws.proofs.Words.{Name, Row, Space, Life, Zombie, Exited, Killed, Done, IsIn, State, path_up, number, is_within, is_member, same_name, Outcome, sweep, is_init, has_parent_within, goes_in_fall, row_after_fall, rows_after_fall, fallen_below, fall, IsSound, Exit, live_row}
+use Rattle.model_laws.specs.FallLaws.{IsMember, HasMemberParent, IsOtherMember, HasFallen}
 use Rattle.model_laws.proofs.Lists.{IsIn-map, IsIn-from_map, IsIn-filter, IsIn-from_filter, IsIn-from_contains, contains-from_IsIn}
 use Rattle.model_laws.proofs.Names.{same_name-true, same_name-refl, own_name_in_use, number-on_path, number-within}
 use Rattle.model_laws.proofs.Rising.{unique_key}
 use Rattle.model_laws.proofs.Trees.{path_first, same_row, live_row-Some}
 use Rattle.model_laws.proofs.Sweeps.{from_kept, to_kept}
-use Rattle.model_laws.proofs.Calls.{exit_cases}
+use Rattle.model_laws.proofs.Calls.{Comes, still, fell, handed_on, no_answer}
 
 module _ (state : State) (sound : IsSound state) (init : Row) (status : ℕ) (there : IsIn init state.rows) where
   -- the namespace that falls
@@ -44,11 +30,7 @@ module _ (state : State) (sound : IsSound state) (init : Row) (status : ℕ) (th
 
   -- and nobody else is
   member-false : (r : Row) → (IsMember state space r → ⊥) → is_member state.spaces space r ≡ false
-  member-false r none = go (number state.spaces r.name space) refl
-    where
-      go : (o : Option ℕ) → number state.spaces r.name space ≡ o → is_some o ≡ false
-      go None e = refl
-      go (Some n) e = absurd (none (n, e))
+  member-false r none = grind (arith, none)
 
   -- a parent that is a member is within the namespace
   parent-true : (r : Row) → HasMemberParent state space r → has_parent_within state space r ≡ true
@@ -83,29 +65,6 @@ module _ (state : State) (sound : IsSound state) (init : Row) (status : ℕ) (th
   kept_as r life i e same =
       let build : Life → Row = λ l. record r { life = l } in subst (λ x. IsIn x (rows_after_fall state init status)) (ap build same) (kept r i e)
 
-  -- three tests of which the first does not hold
-  first_fails : (a b c : Bool) → a ≡ true → (not a && b && c) ≡ false
-  first_fails true b c e = refl
-  first_fails false b c e = absurd (cc)
-
-  -- or the second
-  second_fails : (a b c : Bool) → b ≡ false → (not a && b && c) ≡ false
-  second_fails true b c e = refl
-  second_fails false true c e = absurd (cc)
-  second_fails false false c e = refl
-
-  -- or the third
-  third_fails : (a b c : Bool) → c ≡ false → (not a && b && c) ≡ false
-  third_fails true b c e = refl
-  third_fails false true true e = absurd (cc)
-  third_fails false true false e = refl
-  third_fails false false c e = refl
-
-  -- the life after the fall, by the tests
-  life_after : (r : Row) (a b c : Bool) → same_name r.name init.name ≡ a → is_member state.spaces space r ≡ b → is_live r ≡ c
-      → (after r).life ≡ (if a then Zombie (Exited status) else (if b && c then Zombie Killed else r.life))
-  life_after r a b c e f g = rw (e, f, g) refl
-
   -- every part of the fall but for the sweep
   fallen_rows : (next : State) → next.rows ≡ rows_after_fall state init status
       → ((s t : Space) → IsIn s state.spaces → IsIn space (path_up state.spaces s.id) → IsIn t next.spaces → t.id ≡ s.id → t.fallen ≡ true)
@@ -115,19 +74,16 @@ module _ (state : State) (sound : IsSound state) (init : Row) (status : ℕ) (th
   unfolding rows_after_fall
   fallen_rows next rows below standing controls = record {
     controls = controls;
-    itself = moved (record init { life = Zombie (Exited status) }) (kept_as init (Zombie (Exited status)) there
-        (first_fails (same_name init.name init.name) (is_member state.spaces space init) (has_parent_within state space init) (same_name-refl init.name init.name refl))
-        (life_after init true (is_member state.spaces space init) (is_live init) (same_name-refl init.name init.name refl) refl refl));
-    outside = λ r i none. moved r (kept_as r r.life i
-        (second_fails (same_name r.name init.name) (is_member state.spaces space r) (has_parent_within state space r) (member-false r none))
-        (life_after r false false (is_live r) (differs r (λ e. none (subst (λ (a : Name). (n : ℕ) × (number state.spaces a space ≡ Some n)) (sym e) own_member))) (member-false r none) refl));
+    itself = (let own = same_name-refl init.name init.name refl in moved (record init { life = Zombie (Exited status) })
+        (kept_as init (Zombie (Exited status)) there (grind arith) (grind arith)));
+    outside = λ r i none.
+        let off = member-false r none in
+        let other = differs r (λ e. none (subst (λ (a : Name). (n : ℕ) × (number state.spaces a space ≡ Some n)) (sym e) own_member)) in
+        moved r (kept_as r r.life i (grind (arith, off)) (grind (arith, off, other)));
     gone = λ r o up x i e. taken r o up x (subst (IsIn x) rows i) e;
-    killed = λ r o none live. moved (record r { life = Zombie Killed }) (kept_as r (Zombie Killed) o.0
-        (third_fails (same_name r.name init.name) (is_member state.spaces space r) (has_parent_within state space r) (parent-false r o.0 none))
-        (life_after r false true true (differs r o.1) (member-true r o.2) live));
-    ended = λ r o none dead. moved r (kept_as r r.life o.0
-        (third_fails (same_name r.name init.name) (is_member state.spaces space r) (has_parent_within state space r) (parent-false r o.0 none))
-        (life_after r false true false (differs r o.1) (member-true r o.2) dead));
+    killed = λ r o none live. moved (record r { life = Zombie Killed })
+        (kept_as r (Zombie Killed) o.0 (grind (arith, parent-false r o.0 none)) (grind (arith, differs r o.1, member-true r o.2)));
+    ended = λ r o none dead. moved r (kept_as r r.life o.0 (grind (arith, parent-false r o.0 none)) (grind (arith, differs r o.1)));
     nobody_new = λ x i. let q = IsIn-from_map after x (filter stays state.rows) (subst (IsIn x) rows i) in
         let f = IsIn-from_filter stays q.0 state.rows q.1 in (q.0, f.0, ap (λ (r : Row). r.name) (sym q.2));
     below = below;
@@ -140,29 +96,25 @@ module _ (state : State) (sound : IsSound state) (init : Row) (status : ℕ) (th
       own_member : IsMember state space init
       own_member = number-on_path state.spaces init.name space (sound.coherent.numbered init.name (own_name_in_use state.rows init there)).one_each (path_first state.spaces space)
 
-      all_three : (a b c : Bool) → a ≡ false → b ≡ true → c ≡ true → (not a && b && c) ≡ true
-      all_three a b c e f g = rw (e, f, g) refl
-
       taken : (r : Row) → IsOtherMember state init r → HasMemberParent state space r → (x : Row) → IsIn x (rows_after_fall state init status) → x.name ≡ r.name → ⊥
       taken r o up x i e =
           let q = IsIn-from_map after x (filter stays state.rows) i in
           let f = IsIn-from_filter stays q.0 state.rows q.1 in
           let same : q.0 ≡ r = same_row state.rows sound.coherent.rows_rise q.0 r f.0 o.0 (ap (λ (y : Row). y.name) (sym q.2) ∙ e) in
-          let goes : goes_in_fall state init r ≡ true = all_three (same_name r.name init.name) (is_member state.spaces space r) (has_parent_within state space r) (differs r o.1) (member-true r o.2) (parent-true r up) in
+          let goes : goes_in_fall state init r ≡ true = grind (arith, differs r o.1, member-true r o.2, parent-true r up) in
           let stay : goes_in_fall state init r ≡ false = subst (λ y. goes_in_fall state init y ≡ false) same (not-true (goes_in_fall state init q.0) f.1) in
           cc
 
--- what an exit that is no refusal makes, where the caller is the init
-record FallsBy (state : State) (init : Row) (status root : ℕ) (o : Outcome) : Type 0 where
-  fallen : o.reply ≡ Done → HasFallen state o.state init status
-
 -- the exit of a namespace's init lets the namespace fall
-pub exit_of_init_falls : ExitOfInitFalls
-unfolding step sweep fall
-exit_of_init_falls state stamp n status init sound found one told =
-    (exit_cases (FallsBy state init status n) state n status (λ r. record { fallen = λ e. absurd (cc) })
-    (λ caller there deep is. record { fallen = λ e. (let same : init ≡ caller = cc in subst (λ (x : Row). HasFallen state (sweep (fall state x status)) init status) same (falls (live_row-Some state.rows n init found).0)) })
-    (λ caller there deep none. record { fallen = λ e. (let same : init ≡ caller = cc in let yes : is_init state caller ≡ true = subst (λ (x : Row). is_init state x ≡ true) same one in absurd (cc)) })).fallen told
+pub comes_fallen : (state : State) (stamp n status : ℕ) (o : Outcome) → Comes state stamp (Exit n status) o → (init : Row) → IsSound state
+    → live_row state.rows n ≡ Some init → is_init state init ≡ true → o.reply ≡ Done → HasFallen state o.state init status
+unfolding sweep fall
+comes_fallen state stamp n status o (still _ reply answer) init sound found one told = absurd (no_answer reply Done answer refl told)
+comes_fallen state stamp n status o (handed_on _ _ caller there none) init sound found one told =
+    absurd (let same : init ≡ caller = cc in let yes : is_init state caller ≡ true = subst (λ (x : Row). is_init state x ≡ true) same one in cc)
+comes_fallen state stamp n status o (fell _ _ caller there deep is) init sound found one told =
+    let same : init ≡ caller = cc in
+    subst (λ (x : Row). HasFallen state (sweep (fall state x status)) init status) same (falls (live_row-Some state.rows n init found).0)
   where
     falls : IsIn init state.rows → HasFallen state (sweep (fall state init status)) init status
     falls there = fallen_rows state sound init status there (sweep (fall state init status)) refl

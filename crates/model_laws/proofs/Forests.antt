@@ -1,12 +1,9 @@
 -- Trees of things that have ids, and parents among them: namespaces, and control groups.
-use Rattle.std.proofs.Common.{◌≡◌, ℕ, zero, suc, ◌<◌, ◌≤◌, ◌==◌, List, [], ◌∷◌, ◌++◌, map, length, Option, Some, None, refl, sym, ap, ◌∙◌, subst, ◌⊎◌, inl, inr, arith}
-use Rattle.std.specs.Prelude.{find, option_map, option_and_then, IfSome}
+use Rattle.std.proofs.Common.{◌≡◌, ℕ, zero, suc, ◌<◌, ◌≤◌, ◌==◌, List, [], ◌∷◌, ◌++◌, map, length, Option, Some, None, refl, sym, ap, ◌∙◌, subst, ◌⊎◌, inl, inr, arith, find, option_map, option_and_then, IfSome}
 use Rattle.std.proofs.Math.Path.{fun_ext}
 use Rattle.std.proofs.lemmas.Bool.{eq-eqb, ne_eqb}
-use Rattle.pid_types.specs.Chains.{climb}
-use Rattle.pid_types.specs.Membership.{IsIn}
-use Rattle.pid_types.specs.Sound.{IsRising, IsTree}
-use Rattle.model_laws.proofs.Lists.{IsIn-append, IsIn-from_map, find-map, find-none, find-append_found, find-append_last}
+use Rattle.model_laws.proofs.Words.{climb, IsIn, IsRising, IsTree}
+use Rattle.model_laws.proofs.Lists.{IsIn-from_map, find-map, find-none, find-append_found, find-append_last, each_pushed}
 use Rattle.model_laws.proofs.Chains.{climb-same, climb_parent, climb_cases, climb_short, IsIn-climb_parent, IsIn-climb_more}
 use Rattle.model_laws.proofs.Rising.{IsRising-push, find-key, find-key_at}
 
@@ -37,14 +34,7 @@ module _ (X : Type 0) (id : X → ℕ) (parent : X → Option ℕ) where
     -- all on a path to the root are there
     pub chain_listed : (k n m : ℕ) → IsIn 0 (climb (parent_at xs) k n) → IsIn m (climb (parent_at xs) k n) → (x : X) × (at xs m ≡ Some x)
     chain_listed k n zero on i = (tree.root.0, tree.root.1)
-    chain_listed k n (suc m) on i = go (at xs (suc m)) refl (climb_parent (parent_at xs) k n (suc m) root_parent on i (λ e. omega arith))
-      where
-        go : (o : Option X) → at xs (suc m) ≡ o → (p : ℕ) × (parent_at xs (suc m) ≡ Some p) → (x : X) × (at xs (suc m) ≡ Some x)
-        go None e r =
-            let none : parent_at xs (suc m) ≡ None = ap (option_and_then parent) e in
-            let some : parent_at xs (suc m) ≡ Some r.0 = r.1 in
-            absurd (cc)
-        go (Some x) e r = (x, e)
+    chain_listed k n (suc m) on i = let r = climb_parent (parent_at xs) k n (suc m) root_parent on i (λ e. omega arith) in grind arith
 
   -- ---- changes that keep ids and parents
 
@@ -108,15 +98,9 @@ module _ (X : Type 0) (id : X → ℕ) (parent : X → Option ℕ) where
         → IfSome (parent new) (λ p. p < id new) → IsTree X id parent path xs → IsTree X id parent next (xs ++ new ∷ [])
     IsTree-push path next same on elder tree = record {
       rising = IsRising-push id xs new tree.rising above;
-      older = λ x i. elim (IsIn-append x xs (new ∷ []) i) [
-        | inl j ↦ tree.older x j
-        | inr j ↦ elim j [ inl e ↦ subst (λ y. IfSome (parent y) (λ p. p < id y)) (sym e) elder | inr none ↦ elim none [ ] ]
-      ];
+      older = each_pushed (λ x. IfSome (parent x) (λ p. p < id x)) xs new tree.older elder;
       root = (tree.root.0, at-push_old 0 tree.root.0 tree.root.1, tree.root.2);
-      chains = λ x i. elim (IsIn-append x xs (new ∷ []) i) [
-        | inl j ↦ subst (IsIn 0) (sym (same x j)) (tree.chains x j)
-        | inr j ↦ elim j [ inl e ↦ subst (λ y. IsIn 0 (next (id y))) (sym e) on | inr none ↦ elim none [ ] ]
-      ];
+      chains = each_pushed (λ x. IsIn 0 (next (id x))) xs new (λ x j. subst (IsIn 0) (sym (same x j)) (tree.chains x j)) on;
     }
 
     -- what is above the new one is it, or above its parent

@@ -1,33 +1,20 @@
 -- Fork leaves a sound state.
-use Rattle.std.proofs.Common.{◌≡◌, ℕ, suc, ◌+◌, ◌<◌, ◌≤◌, Bool, true, false, List, [], ◌∷◌, ◌++◌, map, length, Option, Some, None, refl, sym, ap, ◌∙◌, subst, ◌⊎◌, inl, inr, arith}
-use Rattle.std.specs.Prelude.{option_map, nat_le, unwrap_or}
-use Rattle.std.specs.Option.{option_map_or}
+use Rattle.std.proofs.Common.{option_map, nat_le, unwrap_or, ◌≡◌, ℕ, suc, ◌+◌, ◌<◌, ◌≤◌, true, false, List, [], ◌∷◌, ◌++◌, map, length, Option, Some, None, refl, sym, ap, ◌∙◌, subst, ◌⊎◌, inl, inr, arith, ◌==◌}
 use Rattle.std.proofs.lemmas.List.{length-map, length-reverse}
-use Rattle.std.proofs.lemmas.Bool.{cases_order, eqb-true, leb-false}
-use Rattle.pid_types.specs.declared.plain.Name.{Name}
-use Rattle.pid_types.specs.declared.plain.Row.{Row}
-use Rattle.pid_types.specs.declared.plain.Space.{Space}
-use Rattle.pid_types.specs.declared.plain.Control.{Control}
-use Rattle.pid_types.specs.Chains.{climb, contains}
-use Rattle.pid_types.specs.State.{State}
-use Rattle.pid_types.specs.Names.{live_row, space_at, parent_space, path_up, level, number, root_number, is_live, row_at, names_in_use, taken}
-use Rattle.pid_types.specs.Draw.{cyclic_draw, cursor_of, draw}
-use Rattle.pid_types.specs.Controls.{control_at}
-use Rattle.pid_types.specs.Exit.{parent_number}
-use Rattle.pid_types.specs.Fork.{forked, insert_row, with_space, drawn, moved_cursor, with_cursors, child_of, is_gone, with_child, fork}
-use Rattle.pid_types.specs.Membership.{IsIn}
+use Rattle.std.proofs.lemmas.Bool.{eqb-true, leb-false}
+use Rattle.model_laws.proofs.Words.{Name, Row, Space, Control, climb, contains, State, space_at, parent_space, path_up, level, number, root_number, is_live, row_at, names_in_use, taken, cyclic_draw, cursor_of, draw, control_at, parent_number, forked, insert_row, with_space, drawn, moved_cursor, with_cursors, child_of, is_gone, with_child, IsIn, IsRising, IsWellNumbered, IsGoodParent, HasGoodParents, HasGoodChildrenSpace, HasLiveInit, IsEmptied, IsTreeOfSpaces, RootStands, IsCoherent, IsSound, IsBelow}
+use Rattle.model_laws.proofs.SpaceMaps.{IsWellNumbered-kept, HasGoodParents-kept}
 use Rattle.model_laws.specs.Draws.{IsCyclicDraw, IsLeastFree}
-use Rattle.pid_types.specs.Sound.{IsRising, IsWellNumbered, IsGoodParent, HasGoodParents, HasGoodChildrenSpace, HasLiveInit, IsEmptied, IsTreeOfSpaces, RootStands, IsCoherent, IsSound, IsBelow}
-use Rattle.model_laws.proofs.Lists.{IsIn-append, IsIn-append_right, IsIn-from_map, IsIn-reverse, contains-from_IsIn}
-use Rattle.model_laws.proofs.Names.{Uses, user_of_name, IsIn-names_in_use, own_name_in_use, group_in_use, number-within, number-off_path, number-same_path, IsIn-taken, user_of_number}
+use Rattle.model_laws.proofs.Lists.{IsIn-append_right, IsIn-from_map, IsIn-reverse, contains-from_IsIn, each_pushed, no_element}
+use Rattle.model_laws.proofs.Names.{user_of_name, IsIn-names_in_use, own_name_in_use, group_in_use, number-within, number-off_path, number-same_path, IsIn-taken, user_of_number}
 use Rattle.model_laws.proofs.Draws.{cyclic_draw-IsCyclicDraw}
-use Rattle.model_laws.proofs.Trees.{IsOnTree, IsOnTree-listed, IsOnTree-name, space_at-Some, path_first, path_listed, live_row-Some, row_at-listed}
+use Rattle.model_laws.proofs.Trees.{IsOnTree, IsOnTree-listed, IsOnTree-name, space_at-Some, path_first, path_listed, row_at-listed}
 use Rattle.model_laws.proofs.Forests.{at-push_old, at-push_none, at-push_new, not_there, chain-push, chain-new_cases, IsIn-chain_new, IsTree-push}
-use Rattle.model_laws.proofs.SpaceMaps.{path_up-map, number-map_spaces, IsTreeOfSpaces-map, IsWellNumbered-map, HasGoodChildrenSpace-map}
+use Rattle.model_laws.proofs.Survivors.{IsCoherent-map_spaces}
 use Rattle.model_laws.proofs.Ancestry.{Far, Far-same, roots, IsIn-roots, parent_number-at, chain-in_rows, number-root, top_row, row_far, parent_row}
 use Rattle.model_laws.proofs.Inserts.{IsIn-from_insert, IsIn-insert_new, IsIn-insert_old, IsRising-insert, number-child_of, number-child_of_at, drawn-free}
-use Rattle.model_laws.proofs.Kept.{Keeps, Keeps-same, Keeps-next, Keeps-changed, IsBelow-next}
-use Rattle.model_laws.proofs.Calls.{MayFork, fork_cases, fork_plain_cases}
+use Rattle.model_laws.proofs.Kept.{Keeps, Keeps-changed, IsBelow-next}
+use Rattle.model_laws.proofs.Calls.{MayFork}
 
 -- the namespaces are ready for a child of the caller in t: those of a coherent state, perhaps with t new among them
 pub record IsReady (old : State) (spaces : List Space) (caller : Row) (t : ℕ) : Type 0 where
@@ -61,14 +48,6 @@ module _ (old : State) (sound : IsCoherent old) (spaces : List Space) (caller : 
   abbrev rows_after : List Row
   rows_after = insert_row child old.rows
 
-  -- a namespace after the draw
-  abbrev cursor_after : Space → Space
-  cursor_after = moved_cursor state path
-
-  -- the namespaces after the draw
-  abbrev spaces_after : List Space
-  spaces_after = map cursor_after spaces
-
   -- the path ends at the root
   on_tree : IsOnTree spaces t
   on_tree = subst (IsOnTree spaces) ready.target.2 (ready.tree.chains ready.target.0 ready.target.1)
@@ -77,17 +56,9 @@ module _ (old : State) (sound : IsCoherent old) (spaces : List Space) (caller : 
   number_kept : (a : Name) → IsIn a (names_in_use old.rows) → (s : ℕ) → number spaces a s ≡ number old.spaces a s
   number_kept a i s = number-same_path old.spaces spaces a s (ready.paths a i)
 
-  -- moved cursors change no number
-  pub number_after : (a : Name) (s : ℕ) → number spaces_after a s ≡ number spaces a s
-  number_after a s = number-map_spaces spaces cursor_after (λ s. refl) (λ s. refl) a s
-
   -- the names in use stay well numbered
   well_kept : (a : Name) → IsIn a (names_in_use old.rows) → IsWellNumbered spaces old.pid_max a
-  well_kept a i = let w = sound.numbered a i in record {
-    listed = λ x j. let l = w.listed x (subst (IsIn x) (ready.paths a i) j) in (l.0, ready.listed x l.0 l.1);
-    one_each = w.one_each ∙ ap length (sym (ready.paths a i));
-    in_range = w.in_range;
-  }
+  well_kept a i = IsWellNumbered-kept old.spaces spaces old.pid_max a (ready.paths a i) (λ x s j e. (s, ready.listed x s e)) (sound.numbered a i)
 
   -- ---- the new name
 
@@ -123,37 +94,18 @@ module _ (old : State) (sound : IsCoherent old) (spaces : List Space) (caller : 
 
   -- a name in use after the fork is the new one, or was in use
   pub used_before : (a : Name) → IsIn a (names_in_use rows_after) → (a ≡ child.name) ⊎ IsIn a (names_in_use old.rows)
-  used_before a i = let u = user_of_name rows_after a i in go u.0 (IsIn-from_insert child old.rows u.0 u.1) u.2
-    where
-      of_child : Uses child a → (a ≡ child.name) ⊎ IsIn a (names_in_use old.rows)
-      of_child (inl e) = inl e
-      of_child (inr (inl e)) = inr (IsIn-names_in_use old.rows caller a there (inr (inl e)))
-      of_child (inr (inr (inl e))) = inr (IsIn-names_in_use old.rows caller a there (inr (inr (inl e))))
-      of_child (inr (inr (inr none))) = elim none [ ]
-
-      go : (r : Row) → (r ≡ child) ⊎ IsIn r old.rows → Uses r a → (a ≡ child.name) ⊎ IsIn a (names_in_use old.rows)
-      go r (inl e) u = of_child (subst (λ (x : Row). Uses x a) e u)
-      go r (inr j) u = inr (IsIn-names_in_use old.rows r a j u)
+  used_before a i =
+      let u = user_of_name rows_after a i in
+      grind (arith, IsIn-from_insert child old.rows u.0 u.1, IsIn-names_in_use old.rows caller a there, IsIn-names_in_use old.rows u.0 a)
 
   -- no two names share a number
   distinct_after : (a b : Name) → IsIn a (names_in_use rows_after) → IsIn b (names_in_use rows_after) → (s n : ℕ)
-      → number spaces_after a s ≡ Some n → number spaces_after b s ≡ Some n → a ≡ b
-  distinct_after a b i j s n e f = go (used_before a i) (used_before b j) (sym (number_after a s) ∙ e) (sym (number_after b s) ∙ f)
-    where
-      go : (a ≡ child.name) ⊎ IsIn a (names_in_use old.rows) → (b ≡ child.name) ⊎ IsIn b (names_in_use old.rows)
-          → number spaces a s ≡ Some n → number spaces b s ≡ Some n → a ≡ b
-      go (inl p) (inl q) x y = p ∙ sym q
-      go (inl p) (inr q) x y = absurd (fresh b q s n (subst (λ c. number spaces c s ≡ Some n) p x) y)
-      go (inr p) (inl q) x y = absurd (fresh a p s n (subst (λ c. number spaces c s ≡ Some n) q y) x)
-      go (inr p) (inr q) x y = sound.distinct a b p q s n (sym (number_kept a p s) ∙ x) (sym (number_kept b q s) ∙ y)
+      → number spaces a s ≡ Some n → number spaces b s ≡ Some n → a ≡ b
+  distinct_after a b i j s n e f = grind (arith, used_before a i, used_before b j, fresh a, fresh b, sound.distinct a b, number_kept a, number_kept b)
 
   -- all names are well numbered
-  well_after : (a : Name) → IsIn a (names_in_use rows_after) → IsWellNumbered spaces_after old.pid_max a
-  well_after a i = IsWellNumbered-map spaces cursor_after (λ s. refl) (λ s. refl) old.pid_max a (go (used_before a i))
-    where
-      go : (a ≡ child.name) ⊎ IsIn a (names_in_use old.rows) → IsWellNumbered spaces old.pid_max a
-      go (inl e) = subst (IsWellNumbered spaces old.pid_max) (sym e) well_child
-      go (inr j) = well_kept a j
+  well_after : (a : Name) → IsIn a (names_in_use rows_after) → IsWellNumbered spaces old.pid_max a
+  well_after a i = elim (used_before a i) [ inl e ↦ subst (IsWellNumbered spaces old.pid_max) (sym e) well_child | inr j ↦ well_kept a j ]
 
   -- ---- chains of parents
 
@@ -198,36 +150,24 @@ module _ (old : State) (sound : IsCoherent old) (spaces : List Space) (caller : 
       (IsIn-roots rows_after 1 one.0 (subst (λ m. row_at rows_after m ≡ Some one.0) one.2 (row_after one.0 (IsIn-insert_old child old.rows one.0 one.1)))) k n far
 
   -- the rows from before have good parents
-  parents_old : (r : Row) → IsIn r old.rows → HasGoodParents rows_after spaces_after r
+  parents_old : (r : Row) → IsIn r old.rows → HasGoodParents rows_after spaces r
   parents_old r i =
-      let p = sound.parents r i in
-      let own = own_name_in_use old.rows r i in
       let far = (old_far r i).0 in
-      record {
-        first = p.first;
-        good = λ parent e.
-            let g = p.good parent e in
-            record {
-              lives = (g.lives.0, IsIn-insert_old child old.rows g.lives.0 g.lives.1, g.lives.2, g.lives.3);
-              around =
-                  subst (IsIn parent.space) (sym (path_up-map spaces cursor_after (λ s. refl) (λ s. refl) r.name.space ∙ ready.paths r.name own)) g.around;
-              outside = λ one. g.outside (sym (number_after r.name r.name.space ∙ number_kept r.name own r.name.space) ∙ one);
-            };
-        chain = chain_after (root_number r.name) far.0 far.1;
-      }
+      HasGoodParents-kept old.rows rows_after old.spaces spaces r r refl refl (ready.paths r.name (own_name_in_use old.rows r i))
+      (λ q j up live. (q, IsIn-insert_old child old.rows q j, refl, live)) (chain_after (root_number r.name) far.0 far.1) (sound.parents r i)
 
   -- and so has the child
-  parents_child : HasGoodParents rows_after spaces_after child
+  parents_child : HasGoodParents rows_after spaces child
   parents_child =
       let far = (old_far caller there).0 in
       let up : parent_number rows_after (root_number child.name) ≡ Some (root_number caller.name) = parent_number-at rows_after (root_number child.name) child (row_after child (IsIn-insert_new child old.rows)) in
       record {
         first = λ none. absurd (cc);
         good = λ parent e. let same : caller.name ≡ parent = cc in
-            subst (IsGoodParent rows_after spaces_after child) same (record {
+            subst (IsGoodParent rows_after spaces child) same (record {
               lives = (caller, IsIn-insert_old child old.rows caller there, refl, lives);
-              around = subst (IsIn caller.name.space) (sym (path_up-map spaces cursor_after (λ s. refl) (λ s. refl) t)) ready.around;
-              outside = λ one here. ready.outside (number-child_of state caller t t 1 (sym (number_after child.name t) ∙ one)).0 here;
+              around = ready.around;
+              outside = λ one here. ready.outside (number-child_of state caller t t 1 one).0 here;
             });
         chain = chain_after (root_number child.name) (suc far.0) (root_number caller.name, up, far.1);
       }
@@ -245,79 +185,61 @@ module _ (old : State) (sound : IsCoherent old) (spaces : List Space) (caller : 
       let stands : ready.target.0.fallen ≡ false = ready.target.3 in cc)
 
   -- a namespace that stands has its live init, perhaps the child
-  standing_after : (s : Space) → IsIn s spaces → s.fallen ≡ false → HasLiveInit rows_after spaces_after s.id
+  standing_after : (s : Space) → IsIn s spaces → s.fallen ≡ false → HasLiveInit rows_after spaces s.id
   standing_after s i e = elim (ready.standing s i e) [
-    | inl r ↦ (r.0, IsIn-insert_old child old.rows r.0 r.1, r.2, r.3, number_after r.0.name s.id ∙ r.4)
-    | inr new ↦ (
-      child,
-      IsIn-insert_new child old.rows,
-      refl,
-      sym new.0,
-      subst (λ x. number spaces_after child.name x ≡ Some 1) (sym new.0) (number_after child.name t ∙ number-child_of_at state caller t t (path_first spaces t) ∙ ap Some new.1),
-    )
+    | inl r ↦ (r.0, IsIn-insert_old child old.rows r.0 r.1, r.2, r.3, r.4)
+    | inr new ↦
+        let one : number spaces child.name t ≡ Some 1 = number-child_of_at state caller t t (path_first spaces t) ∙ ap Some new.1 in
+        (child, IsIn-insert_new child old.rows, refl, sym new.0, subst (λ x. number spaces child.name x ≡ Some 1) (sym new.0) one)
   ]
 
   -- a fallen one stays without a live task
-  fallen_after : (s : Space) → IsIn s spaces → s.fallen ≡ true → IsEmptied rows_after spaces_after s.id
+  fallen_after : (s : Space) → IsIn s spaces → s.fallen ≡ true → IsEmptied rows_after spaces s.id
   fallen_after s i e =
       let em = ready.fallen s i e in
       record {
-        ended = each_after (λ r. is_live r ≡ true → number spaces_after r.name s.id ≡ None)
-            (λ live. number_after child.name s.id ∙ child_outside s i e) (λ r j live. number_after r.name s.id ∙ em.ended r j live);
-        below = λ u j k.
-            let q = IsIn-from_map cursor_after u spaces j in
-            ap (λ (x : Space). x.fallen) q.2 ∙ em.below q.0 q.1 (subst (IsIn s.id) (path_up-map spaces cursor_after (λ s. refl) (λ s. refl) q.0.id) (subst (λ (x : Space). IsIn s.id (path_up spaces_after x.id)) q.2 k));
+        ended = each_after (λ r. is_live r ≡ true → number spaces r.name s.id ≡ None) (λ live. child_outside s i e) (λ r j live. em.ended r j live);
+        below = em.below;
       }
 
   -- one group, one session
   together_after : (a b : Row) → (a ≡ child) ⊎ IsIn a old.rows → (b ≡ child) ⊎ IsIn b old.rows → a.group ≡ b.group → a.session ≡ b.session
-  together_after a b (inl p) (inl q) e = ap (λ (r : Row). r.session) (p ∙ sym q)
-  together_after a b (inl p) (inr j) e =
-      ap (λ (r : Row). r.session) p ∙ sound.groups.together caller b there j (ap (λ (r : Row). r.group) (sym p) ∙ e)
-  together_after a b (inr i) (inl q) e =
-      sound.groups.together a caller i there (e ∙ ap (λ (r : Row). r.group) q) ∙ ap (λ (r : Row). r.session) (sym q)
-  together_after a b (inr i) (inr j) e = sound.groups.together a b i j e
+  together_after a b i j e = grind (arith, sound.groups.together a b, sound.groups.together caller b there, sound.groups.together a caller)
 
   -- that of the task which the group is named after
   leader_after : (a b : Row) → (a ≡ child) ⊎ IsIn a old.rows → (b ≡ child) ⊎ IsIn b old.rows → a.group ≡ b.name → a.session ≡ b.session
-  leader_after a b (inl p) (inl q) e = ap (λ (r : Row). r.session) (p ∙ sym q)
-  leader_after a b (inl p) (inr j) e = ap (λ (r : Row). r.session) p ∙ sound.groups.leader caller b there j (ap (λ (r : Row). r.group) (sym p) ∙ e)
-  leader_after a b (inr i) (inl q) e =
-      absurd (new_name (subst (λ x. IsIn x (names_in_use old.rows)) (e ∙ ap (λ (r : Row). r.name) q) (group_in_use old.rows a i)))
-  leader_after a b (inr i) (inr j) e = sound.groups.leader a b i j e
+  leader_after a b i j e = grind (arith, sound.groups.leader a b, sound.groups.leader caller b there, group_in_use old.rows a, new_name)
 
   -- a fork that is made leaves a coherent state
   pub IsCoherent-forked : IsCoherent (with_child state child path)
   unfolding with_cursors
-  IsCoherent-forked = record {
-    distinct = distinct_after;
-    numbered = well_after;
-    parents = each_after (HasGoodParents rows_after spaces_after) parents_child parents_old;
-    children = each_after (HasGoodChildrenSpace spaces_after) (inr (path_first spaces_after t))
-        (λ r i. HasGoodChildrenSpace-map spaces cursor_after (λ s. refl) (λ s. refl) r (ready.children r i));
-    root = λ s i e. let q = IsIn-from_map cursor_after s spaces i in
-        ap (λ (x : Space). x.fallen) q.2 ∙ ready.root q.0 q.1 (sym (ap (λ (x : Space). x.id) q.2) ∙ e);
-    standing = λ s i e. let q = IsIn-from_map cursor_after s spaces i in
-        subst (HasLiveInit rows_after spaces_after) (sym (ap (λ (x : Space). x.id) q.2)) (standing_after q.0 q.1 (sym (ap (λ (x : Space). x.fallen) q.2) ∙ e));
-    fallen = λ s i e. let q = IsIn-from_map cursor_after s spaces i in
-        subst (IsEmptied rows_after spaces_after) (sym (ap (λ (x : Space). x.id) q.2)) (fallen_after q.0 q.1 (sym (ap (λ (x : Space). x.fallen) q.2) ∙ e));
-    groups = record {
-      together = λ a b i j. together_after a b (IsIn-from_insert child old.rows a i) (IsIn-from_insert child old.rows b j);
-      leader = λ a b i j. leader_after a b (IsIn-from_insert child old.rows a i) (IsIn-from_insert child old.rows b j);
-    };
-    rows_rise = rise_after;
-    spaces = IsTreeOfSpaces-map spaces cursor_after (λ s. refl) (λ s. refl) ready.tree;
-    controls = sound.controls;
-    limits = sound.limits;
-    homes = each_after (λ r. (c : Control) × (control_at old.controls r.home ≡ Some c)) (sound.homes caller there) sound.homes;
-  }
+  IsCoherent-forked =
+      IsCoherent-map_spaces (record state { rows = rows_after }) (moved_cursor state path) (λ s. refl) (λ s. refl) (λ s. refl) (record {
+        distinct = distinct_after;
+        numbered = well_after;
+        parents = each_after (HasGoodParents rows_after spaces) parents_child parents_old;
+        children = each_after (HasGoodChildrenSpace spaces) (inr (path_first spaces t)) ready.children;
+        root = ready.root;
+        standing = standing_after;
+        fallen = fallen_after;
+        groups = record {
+          together = λ a b i j. together_after a b (IsIn-from_insert child old.rows a i) (IsIn-from_insert child old.rows b j);
+          leader = λ a b i j. leader_after a b (IsIn-from_insert child old.rows a i) (IsIn-from_insert child old.rows b j);
+        };
+        rows_rise = rise_after;
+        spaces = ready.tree;
+        controls = sound.controls;
+        limits = sound.limits;
+        homes = each_after (λ r. (c : Control) × (control_at old.controls r.home ≡ Some c)) (sound.homes caller there) sound.homes;
+      })
 
   -- and its ids below the stamp
   pub IsBelow-forked : (stamp : ℕ) → IsBelow stamp old → ((s : Space) → IsIn s spaces → s.id < stamp)
       → IsBelow stamp (with_child state child path)
   unfolding with_cursors
   IsBelow-forked stamp below ids = record {
-    spaces = λ s i. let q = IsIn-from_map cursor_after s spaces i in let l = ids q.0 q.1 in omega (arith, l, ap (λ (x : Space). x.id) q.2);
+    spaces = λ s i. let q = IsIn-from_map (moved_cursor state path) s spaces i in let l = ids q.0 q.1 in omega
+        (arith, l, ap (λ (x : Space). x.id) q.2);
     controls = λ c i. omega (arith, below.controls c i);
     children =
         each_after (λ r. r.children_space < stamp) (let l = ids ready.target.0 ready.target.1 in omega (arith, l, ready.target.2)) (λ r i. omega (arith, below.children r i));
@@ -327,12 +249,7 @@ module _ (old : State) (sound : IsCoherent old) (spaces : List Space) (caller : 
 
 -- the namespace that a fork goes into is there, and stands
 pub standing_space : (state : State) (s : ℕ) → is_gone state s ≡ false → (t : Space) × (space_at state.spaces s ≡ Some t) × (t.fallen ≡ false)
-standing_space state s h = go (space_at state.spaces s) refl h
-  where
-    go : (o : Option Space) → space_at state.spaces s ≡ o → option_map_or (λ t. t.fallen) o true ≡ false
-        → (t : Space) × (space_at state.spaces s ≡ Some t) × (t.fallen ≡ false)
-    go None e f = absurd (cc)
-    go (Some t) e f = (t, e, f)
+standing_space state s h = grind arith
 
 -- a namespace that stands is ready for a child
 pub IsReady-old : (state : State) → IsCoherent state → (caller : Row) → IsIn caller state.rows → is_gone state caller.children_space ≡ false
@@ -434,17 +351,13 @@ module _ (state : State) (sound : IsCoherent state) (stamp : ℕ) (below : IsBel
 
   -- nothing has a number in the new namespace yet
   pub nothing_taken : taken (with_space state p stamp) stamp ≡ []
-  nothing_taken = go (taken (with_space state p stamp) stamp) refl
-    where
-      go : (ns : List ℕ) → taken (with_space state p stamp) stamp ≡ ns → taken (with_space state p stamp) stamp ≡ []
-      go [] e = e
-      go (n ∷ ns) e =
-          let u = user_of_number (with_space state p stamp) stamp n (subst (IsIn n) (sym e) (inl refl)) in
-          let w : IsIn stamp (path_up with_new u.0.space) = (number-within with_new u.0 stamp n u.2).0 in
-          let l = path_listed state.spaces sound.spaces u.0.space stamp (name_on_tree u.0 u.1) (subst (IsIn stamp) (name_path_old u.0 u.1) w) in
-          let some : space_at state.spaces stamp ≡ Some l.0 = l.1 in
-          let none : space_at state.spaces stamp ≡ None = not_there Space (λ t. t.id) (λ t. t.parent) state.spaces new below.spaces in
-          absurd (cc)
+  nothing_taken = no_element (taken (with_space state p stamp) stamp) (λ n i.
+      let u = user_of_number (with_space state p stamp) stamp n i in
+      let w : IsIn stamp (path_up with_new u.0.space) = (number-within with_new u.0 stamp n u.2).0 in
+      let l = path_listed state.spaces sound.spaces u.0.space stamp (name_on_tree u.0 u.1) (subst (IsIn stamp) (name_path_old u.0 u.1) w) in
+      let some : space_at state.spaces stamp ≡ Some l.0 = l.1 in
+      let none : space_at state.spaces stamp ≡ None = not_there Space (λ t. t.id) (λ t. t.parent) state.spaces new below.spaces in
+      cc)
 
   -- the new namespace has drawn no number
   pub new_cursor : cursor_of (with_space state p stamp) stamp ≡ 0
@@ -461,16 +374,7 @@ module _ (state : State) (sound : IsCoherent state) (stamp : ℕ) (below : IsBel
       least n (subst (IsCyclicDraw state.pid_max 0 []) d c)
     where
       one : (low n : ℕ) → low ≡ 1 → IsLeastFree [] low state.pid_max n → n ≡ 1
-      one low n is_one is = elim (cases_one n) [
-        | inl e ↦ e
-        | inr l ↦ elim l [
-          | inl small ↦ absurd (let k : low ≤ n = is.from in omega arith)
-          | inr large ↦ absurd (let t : contains [] low ≡ true = is.least low (omega arith) (omega arith) in cc)
-        ]
-      ]
-        where
-          cases_one : (m : ℕ) → (m ≡ 1) ⊎ ((m < 1) ⊎ (1 < m))
-          cases_one m = cases_order m 1
+      one low n is_one is = grind (arith, is.least low)
 
       least : (n : ℕ) → IsCyclicDraw state.pid_max 0 [] (Some n) → n ≡ 1
       least n (inl is) = one 1 n refl is
@@ -484,18 +388,12 @@ module _ (state : State) (sound : IsCoherent state) (stamp : ℕ) (below : IsBel
     listed = at_old;
     tree = tree_new;
     children = children_new;
-    root = λ s i e. elim (IsIn-append s state.spaces (new ∷ []) i) [
-      | inl j ↦ sound.root s j e
-      | inr j ↦ elim j [ inl same ↦ ap (λ (t : Space). t.fallen) same | inr none ↦ elim none [ ] ]
-    ];
-    standing = λ s i e. elim (IsIn-append s state.spaces (new ∷ []) i) [
-      | inl j ↦ inl (let r = sound.standing s j e in (r.0, r.1, r.2, r.3, number_old r.0.name (own_name_in_use state.rows r.0 r.1) s.id ∙ r.4))
-      | inr j ↦ elim j [ inl same ↦ inr (ap (λ (t : Space). t.id) same, first_drawn caller may) | inr none ↦ elim none [ ] ]
-    ];
-    fallen = λ s i e. elim (IsIn-append s state.spaces (new ∷ []) i) [
-      | inl j ↦ emptied s j e
-      | inr j ↦ elim j [ inl same ↦ (let no : s.fallen ≡ false = ap (λ (t : Space). t.fallen) same in absurd (cc)) | inr none ↦ elim none [ ] ]
-    ];
+    root = each_pushed (λ (s : Space). s.id ≡ 0 → s.fallen ≡ false) state.spaces new sound.root (λ e. refl);
+    standing = each_pushed (λ (s : Space). s.fallen ≡ false → HasLiveInit state.rows with_new s.id ⊎
+        ((s.id ≡ stamp) × (drawn (with_space state p stamp) stamp ≡ 1))) state.spaces new
+        (λ s j e. inl (let r = sound.standing s j e in (r.0, r.1, r.2, r.3, number_old r.0.name (own_name_in_use state.rows r.0 r.1) s.id ∙ r.4)))
+        (λ e. inr (refl, first_drawn caller may));
+    fallen = each_pushed (λ (s : Space). s.fallen ≡ true → IsEmptied state.rows with_new s.id) state.spaces new emptied (λ e. absurd (cc));
     target = (new, IsIn-append_right new state.spaces (new ∷ []) (inl refl), refl, refl);
     around = path_new caller.name.space (subst (λ x. IsIn x (path_up state.spaces p)) here (path_first state.spaces p));
     outside = λ one same.
@@ -508,10 +406,8 @@ module _ (state : State) (sound : IsCoherent state) (stamp : ℕ) (below : IsBel
           let em = sound.fallen s j e in
           record {
             ended = λ r k live. number_old r.name (own_name_in_use state.rows r k) s.id ∙ em.ended r k live;
-            below = λ u k w. elim (IsIn-append u state.spaces (new ∷ []) k) [
-              | inl old ↦ em.below u old (subst (IsIn s.id) (path_old u.id (sound.spaces.chains u old)) w)
-              | inr fresh ↦ elim fresh [ inl same ↦ absurd (below_new s j e (subst (λ (t : Space). IsIn s.id (path_up with_new t.id)) same w)) | inr none ↦ elim none [ ] ]
-            ];
+            below = each_pushed (λ (u : Space). IsIn s.id (path_up with_new u.id) → u.fallen ≡ true) state.spaces new
+                (λ u old w. em.below u old (subst (IsIn s.id) (path_old u.id (sound.spaces.chains u old)) w)) (λ w. absurd (below_new s j e w));
           }
         where
           below_new : (s : Space) → IsIn s state.spaces → s.fallen ≡ true → IsIn s.id (path_up with_new stamp) → ⊥
@@ -526,34 +422,27 @@ module _ (state : State) (sound : IsCoherent state) (stamp : ℕ) (below : IsBel
 -- ---- the call
 
 -- a child in the children's namespace leaves a sound state
-forked_keeps : (state : State) (stamp n : ℕ) → IsSound state → IsBelow stamp state → (caller : Row) → live_row state.rows n ≡ Some caller
+pub forked_keeps : (state : State) (stamp : ℕ) (caller : Row) → IsSound state → IsBelow stamp state → IsIn caller state.rows → is_live caller ≡ true
     → is_gone state caller.children_space ≡ false → MayFork state caller caller.children_space → Keeps stamp (forked state caller caller.children_space)
-forked_keeps state stamp n sound below caller found stands may =
-    let c = live_row-Some state.rows n caller found in
-    let ready : IsReady state state.spaces caller caller.children_space = IsReady-old state sound.coherent caller c.0 stands may in
+forked_keeps state stamp caller sound below there live stands may =
+    let ready : IsReady state state.spaces caller caller.children_space = IsReady-old state sound.coherent caller there stands may in
     Keeps-changed stamp (with_child state (child_of state caller caller.children_space) (path_up state.spaces caller.children_space)) _
-    (IsCoherent-forked state sound.coherent state.spaces caller caller.children_space ready c.0 c.2 may)
-    (IsBelow-forked state sound.coherent state.spaces caller caller.children_space ready c.0 c.2 may stamp below below.spaces)
+    (IsCoherent-forked state sound.coherent state.spaces caller caller.children_space ready there live may)
+    (IsBelow-forked state sound.coherent state.spaces caller caller.children_space ready there live may stamp below below.spaces)
 
--- so a fork into it makes no id
-pub fork_plain_keeps : (state : State) (stamp n : ℕ) → IsSound state → IsBelow stamp state → Keeps stamp (fork state stamp n false)
-fork_plain_keeps state stamp n sound below =
-    fork_plain_cases (Keeps stamp) state stamp n (λ r. Keeps-same stamp state _ sound below) (forked_keeps state stamp n sound below)
-
--- a fork leaves a sound state
-pub fork_keeps : (state : State) (stamp n : ℕ) (new_space : Bool) → IsSound state → IsBelow stamp state → Keeps (stamp + 1) (fork state stamp n new_space)
-fork_keeps state stamp n new_space sound below =
-    fork_cases (Keeps (stamp + 1)) state stamp n new_space (λ r. Keeps-next stamp _ (Keeps-same stamp state _ sound below))
-    (λ caller found stands may. Keeps-next stamp _ (forked_keeps state stamp n sound below caller found stands may))
-    (λ caller found stands shallow here may.
-    let c = live_row-Some state.rows n caller found in
+-- and so does one in a new namespace
+pub forked_first_keeps : (state : State) (stamp : ℕ) (caller : Row) → IsSound state → IsBelow stamp state → IsIn caller state.rows
+    → is_live caller ≡ true
+    → is_gone state caller.children_space ≡ false → nat_le 32 (level state.spaces caller.children_space) ≡ false
+    → (caller.children_space == caller.name.space) ≡ true → MayFork (with_space state caller.children_space stamp) caller stamp
+    → Keeps (stamp + 1) (forked (with_space state caller.children_space stamp) caller stamp)
+forked_first_keeps state stamp caller sound below there live stands shallow here may =
     let p : ℕ = caller.children_space in
     let spaces : List Space = with_new state sound.coherent stamp below p stands shallow in
-    let ready : IsReady state spaces caller stamp = IsReady-new state sound.coherent stamp below p stands shallow caller c.0 (eqb-true p caller.name.space here) may in
+    let ready : IsReady state spaces caller stamp = IsReady-new state sound.coherent stamp below p stands shallow caller there
+    (eqb-true p caller.name.space here) may in
     Keeps-changed (stamp + 1) (with_child (with_space state p stamp) (child_of (with_space state p stamp) caller stamp) (path_up spaces stamp)) _
-    (IsCoherent-forked state sound.coherent spaces caller stamp ready c.0 c.2 may)
-    (IsBelow-forked state sound.coherent spaces caller stamp ready c.0 c.2 may (stamp + 1) (IsBelow-next stamp state below) (λ s i.
-    elim (IsIn-append s state.spaces (new state sound.coherent stamp below p stands shallow ∷ []) i) [
-      | inl j ↦ omega (arith, below.spaces s j)
-      | inr j ↦ elim j [ inl e ↦ (let same : s.id ≡ stamp = ap (λ (t : Space). t.id) e in omega arith) | inr none ↦ elim none [ ] ]
-    ])))
+    (IsCoherent-forked state sound.coherent spaces caller stamp ready there live may)
+    (IsBelow-forked state sound.coherent spaces caller stamp ready there live may (stamp + 1) (IsBelow-next stamp state below)
+    (each_pushed (λ (s : Space). s.id < stamp + 1) state.spaces
+    (new state sound.coherent stamp below p stands shallow) (λ s j. omega (arith, below.spaces s j)) (omega arith)))

@@ -1,24 +1,11 @@
 -- Queries are answered from what the caller's namespace sees.
-use Rattle.std.proofs.Common.{◌≡◌, ℕ, zero, suc, Bool, true, false, cond, ◌||◌, ◌&&◌, ◌==◌, ◌<◌, ◌≤◌, List, [], ◌∷◌, map, reverse, Option, Some, None, refl, sym, ap, ◌∙◌, subst, arith, inl, inr}
-use Rattle.std.specs.Prelude.{nat_lt, nat_le, find, filter, filter_map, is_some, unwrap_or, option_map, slice_index, if◌then◌else◌}
-use Rattle.std.specs.List.{cons_option}
+use Rattle.std.proofs.Common.{◌≡◌, ℕ, zero, suc, Bool, true, false, ◌||◌, ◌&&◌, ◌==◌, ◌<◌, ◌≤◌, List, [], ◌∷◌, map, reverse, Option, Some, None, refl, sym, ap, ◌∙◌, subst, arith, inl, inr, nat_lt, nat_le, find, filter, filter_map, is_some, unwrap_or, option_map, slice_index, if◌then◌else◌}
 use Rattle.std.specs.Option.{option_eq, option_map_or}
 use Rattle.std.proofs.Math.Path.{fun_ext}
-use Rattle.std.proofs.lemmas.Bool.{cases_Bool, lt-ltb, ltb-true, ltb-false, eqb-true, ne_eqb, eqb-false, and_parts}
-use Rattle.pid_types.specs.declared.plain.Name.{Name}
-use Rattle.pid_types.specs.declared.plain.Row.{Row}
-use Rattle.pid_types.specs.declared.call.Kind.{Kind}
+use Rattle.std.proofs.lemmas.Bool.{false_from_ne_true, lt-ltb, ltb-true, eqb-true, ne_eqb, eqb-false, and_parts}
+use Rattle.std.proofs.lemmas.Bool.Decides.{nat_tests}
+use Rattle.model_laws.proofs.Words.{Name, Row, Kind, Reply, Number, LevelList, End, least_of, State, number, number_or_zero, numbers_from, beside, beside_from, is_numbered, live_row, task_at, path_up, names_in_use, of_task, self_or_task, name_by, numbers_by, get_pid, get_ppid, get_pgid, get_sid, ns_pid, next, Glimpse, sight, seen, is_seen, glimpse_of, glimpse_at, self_or_glimpse, number_by, of_glimpse, step, IsIn, IsCoherent}
 use Rattle.pid_types.specs.declared.call.Kind.TheVariants.{Task, Group, Session}
-use Rattle.pid_types.specs.declared.reply.Reply.{Reply}
-use Rattle.pid_types.specs.declared.reply.Reply.TheVariants.{Number, Levels as LevelList, End}
-use Rattle.pid_types.specs.Chains.{least_of}
-use Rattle.pid_types.specs.State.{State}
-use Rattle.pid_types.specs.Names.{number, number_or_zero, numbers_from, beside, beside_from, is_numbered, live_row, task_at, path_up, names_in_use}
-use Rattle.pid_types.specs.Queries.{of_task, self_or_task, name_by, numbers_by, get_pid, get_ppid, get_pgid, get_sid, ns_pid, next}
-use Rattle.pid_types.specs.Sight.{Glimpse, sight, seen, is_seen, glimpse_of, glimpse_at, self_or_glimpse, number_by, of_glimpse}
-use Rattle.pid_types.specs.Step.{step}
-use Rattle.pid_types.specs.Membership.{IsIn}
-use Rattle.pid_types.specs.Sound.{IsCoherent}
 use Rattle.model_laws.specs.SightLaws.{Query, IsQuery, own_number, parent_number, group_of, session_of, numbers_of, next_from, IsCaller, SeesSame}
 use Rattle.model_laws.proofs.Lists.{IsIn-map, IsIn-from_map, IsIn-filter, IsIn-from_filter, find-Some, find-None, find-none, find-only}
 use Rattle.model_laws.proofs.Names.{number-within, is_numbered-true, is_numbered-from, own_name_in_use, group_in_use, session_in_use}
@@ -30,16 +17,13 @@ use Rattle.model_laws.proofs.Trees.{same_row, live_row-Some}
 find-map-filter : (p : Glimpse → Bool) (f : Row → Glimpse) (q : Row → Bool) (rows : List Row)
     → find p (map f (filter q rows)) ≡ option_map f (find (λ row. q row && p (f row)) rows)
 find-map-filter p f q [] = refl
-find-map-filter p f q (row ∷ rows) = elim (cases_Bool (q row)) [
-  | inl e ↦ elim (cases_Bool (p (f row))) [ inl g ↦ rw (e, g) refl | inr g ↦ rw (e, g) (find-map-filter p f q rows) ]
-  | inr e ↦ rw e (find-map-filter p f q rows)
-]
+find-map-filter p f q (row ∷ rows) = grind (arith, find-map-filter p f q rows)
 
 -- the first of the numbers from the namespace inwards is the number there
 first-beside_from : (s : ℕ) (ts ns : List ℕ) → slice_index (beside_from s ts ns) 0 ≡ unwrap_or (beside s ts ns) 0
 first-beside_from s [] ns = refl
 first-beside_from s (t ∷ ts) [] = refl
-first-beside_from s (t ∷ ts) (n ∷ ns) = elim (cases_Bool (t == s)) [ inl e ↦ rw e refl | inr e ↦ rw e (first-beside_from s ts ns) ]
+first-beside_from s (t ∷ ts) (n ∷ ns) = grind (arith, first-beside_from s ts ns)
 
 -- the same of a row's numbers
 first-numbers_from : (state : State) (s : ℕ) (row : Row)
@@ -49,8 +33,7 @@ first-numbers_from state s row = first-beside_from s (reverse (path_up state.spa
 
 -- with a test that fails both fail
 and-false : (b : Bool) → (b && false) ≡ false
-and-false true = refl
-and-false false = refl
+and-false b = grind arith
 
 -- a glimpse has the number where its task has it
 one_test : (a b : Bool) (o : Option ℕ) (n : ℕ) → 0 < n → ((is_some o || a || b) && (nat_lt 0 n && (unwrap_or o 0 == n))) ≡ option_eq ◌==◌ o (Some n)
@@ -101,14 +84,9 @@ module _ (state : State) (sound : IsCoherent state) (root : ℕ) (caller : Row) 
   -- no task has number 0
   no_task : task_at state caller.name.space 0 ≡ None
   unfolding task_at
-  no_task = go (find (λ row. is_numbered state.spaces row.name caller.name.space 0) state.rows) refl
-    where
-      go : (o : Option Row) → find (λ row. is_numbered state.spaces row.name caller.name.space 0) state.rows ≡ o
-          → find (λ row. is_numbered state.spaces row.name caller.name.space 0) state.rows ≡ None
-      go None e = e
-      go (Some row) e =
-          let r = find-Some (λ row. is_numbered state.spaces row.name caller.name.space 0) state.rows row e in
-          absurd (let l : 0 < 0 = above_zero row.name (own_name_in_use state.rows row r.0) caller.name.space 0 (is_numbered-true state.spaces row.name caller.name.space 0 r.1) in omega arith)
+  no_task = find-none (λ row. is_numbered state.spaces row.name caller.name.space 0) state.rows (λ row i. false_from_ne_true _ (λ e.
+      let l : 0 < 0 = above_zero row.name (own_name_in_use state.rows row i) caller.name.space 0
+      (is_numbered-true state.spaces row.name caller.name.space 0 e) in omega arith))
 
   -- whom a number names, 0 being the caller, is seen so
   self_seen : (pid : ℕ)
@@ -145,19 +123,8 @@ module _ (state : State) (sound : IsCoherent state) (root : ℕ) (caller : Row) 
   kind_seen : (kind : Kind) (row : Row) (m : ℕ) → number state.spaces (name_by kind row) caller.name.space ≡ Some m
       → is_seen state caller.name.space row ≡ true
   kind_seen Task row m e = rw e refl
-  kind_seen Group row m e =
-      rw e (or_true (is_some (number state.spaces row.name caller.name.space)) (is_some (number state.spaces row.session caller.name.space)))
-    where
-      or_true : (a b : Bool) → (a || true || b) ≡ true
-      or_true true b = refl
-      or_true false b = refl
-  kind_seen Session row m e =
-      rw e (or_true (is_some (number state.spaces row.name caller.name.space)) (is_some (number state.spaces row.group caller.name.space)))
-    where
-      or_true : (a b : Bool) → (a || b || true) ≡ true
-      or_true true b = refl
-      or_true false true = refl
-      or_true false false = refl
+  kind_seen Group row m e = rw e (grind arith)
+  kind_seen Session row m e = rw e (grind arith)
 
   -- the numbers in use as the kind are those that are seen so, but for 0
   next_seen : (kind : Kind) (from : ℕ) (rows : List Row) → ((row : Row) → IsIn row rows → IsIn row state.rows)
@@ -165,34 +132,8 @@ module _ (state : State) (sound : IsCoherent state) (root : ℕ) (caller : Row) 
       ≡ filter (λ m. nat_lt 0 m && nat_le from m) (map (number_by kind) (map (glimpse_of state caller.name.space) (filter (is_seen state caller.name.space) rows)))
   next_seen kind from [] all = refl
   next_seen kind from (row ∷ rows) all =
-      go (number state.spaces (name_by kind row) caller.name.space) refl (is_seen state caller.name.space row) refl (next_seen kind from rows (λ r i. all r (inr i)))
-    where
-      rest : List Row → List ℕ
-      rest rs = map (number_by kind) (map (glimpse_of state caller.name.space) rs)
-
-      test : ℕ → Bool
-      test m = nat_lt 0 m && nat_le from m
-
-      same_test : (m : ℕ) → 0 < m → test m ≡ nat_le from m
-      same_test m l = rw (lt-ltb 0 m l) refl
-
-      seen_row : (m : ℕ) → number_by kind (glimpse_of state caller.name.space row) ≡ m → (ns : List ℕ)
-          → filter test (number_by kind (glimpse_of state caller.name.space row) ∷ ns) ≡ cond (test m) (m ∷ filter test ns) (filter test ns)
-      seen_row m e ns = ap (λ k. cond (test k) (k ∷ filter test ns) (filter test ns)) e
-
-      go : (o : Option ℕ) → number state.spaces (name_by kind row) caller.name.space ≡ o → (b : Bool) → is_seen state caller.name.space row ≡ b
-          → filter (nat_le from) (filter_map (λ r. number state.spaces (name_by kind r) caller.name.space) rows) ≡ filter test (rest (filter (is_seen state caller.name.space) rows))
-          → filter (nat_le from) (cons_option o (filter_map (λ r. number state.spaces (name_by kind r) caller.name.space) rows))
-          ≡ filter test (rest (cond b (row ∷ filter (is_seen state caller.name.space) rows) (filter (is_seen state caller.name.space) rows)))
-      go None e false f h = h
-      go None e true f h =
-          h ∙ sym (seen_row 0 (kind_number kind row ∙ ap (λ o. unwrap_or o 0) e) (rest (filter (is_seen state caller.name.space) rows)))
-      go (Some m) e false f h = let yes : is_seen state caller.name.space row ≡ true = kind_seen kind row m e in absurd (cc)
-      go (Some m) e true f h =
-          let l : 0 < m = above_zero (name_by kind row) (kind_in_use kind row (all row (inl refl))) caller.name.space m e in
-          ap (λ ns. cond (nat_le from m) (m ∷ ns) ns) h
-          ∙ ap (λ b. cond b (m ∷ filter test (rest (filter (is_seen state caller.name.space) rows))) (filter test (rest (filter (is_seen state caller.name.space) rows)))) (sym (same_test m l))
-          ∙ sym (seen_row m (kind_number kind row ∙ ap (λ o. unwrap_or o 0) e) (rest (filter (is_seen state caller.name.space) rows)))
+      let h = next_seen kind from rows (λ r i. all r (inr i)) in
+      grind (arith, nat_tests, kind_number kind row, kind_seen kind row, above_zero (name_by kind row) (kind_in_use kind row (all row (inl refl))) caller.name.space)
 
   -- ---- the six queries
 
@@ -240,53 +181,29 @@ module _ (state : State) (sound : IsCoherent state) (root : ℕ) (caller : Row) 
       p.2 ∙ ap (glimpse_of state caller.name.space) same ∙ sym q.2
     where
       has : (row : Row) → number_or_zero state.spaces row.name caller.name.space ≡ m → number state.spaces row.name caller.name.space ≡ Some m
-      has row k = go (number state.spaces row.name caller.name.space) refl k
-        where
-          go : (o : Option ℕ) → number state.spaces row.name caller.name.space ≡ o → unwrap_or o 0 ≡ m
-              → number state.spaces row.name caller.name.space ≡ Some m
-          go None d t = absurd (let z : 0 ≡ m = t in omega arith)
-          go (Some v) d t = d ∙ ap Some t
+      has row k = grind arith
 
 -- ---- what is seen as a set
 
 -- the least of a list is in it, and no more than any
 least_of-Some : (ns : List ℕ) (m : ℕ) → least_of ns ≡ Some m → IsIn m ns × ((k : ℕ) → IsIn k ns → m ≤ k)
 least_of-Some [] m h = absurd (cc)
-least_of-Some (n ∷ ns) m h = go (least_of ns) refl (λ l e. least_of-Some ns l e) h
-  where
-    pick : (l : ℕ) → IsIn l ns × ((k : ℕ) → IsIn k ns → l ≤ k) → (b : Bool) → nat_lt l n ≡ b → (if b then l else n) ≡ m
-        → IsIn m (n ∷ ns) × ((k : ℕ) → IsIn k (n ∷ ns) → m ≤ k)
-    pick l r true e f =
-        (inr (subst (λ x. IsIn x ns) f r.0), λ k i. elim i [ inl same ↦ (let a : l < n = ltb-true l n e in omega arith) | inr j ↦ (let a : l ≤ k = r.1 k j in omega arith) ])
-    pick l r false e f =
-        (inl (sym f), λ k i. elim i [ inl same ↦ omega arith | inr j ↦ (let a : l ≤ k = r.1 k j in let b : n ≤ l = ltb-false l n e in omega arith) ])
-
-    none_in : (ms : List ℕ) → least_of ms ≡ None → (k : ℕ) → IsIn k ms → ⊥
-    none_in [] e k i = i
-    none_in (x ∷ ms) e k i = cc
-
-    go : (o : Option ℕ) → least_of ns ≡ o → ((l : ℕ) → least_of ns ≡ Some l → IsIn l ns × ((k : ℕ) → IsIn k ns → l ≤ k))
-        → Some (option_map_or (λ l. if nat_lt l n then l else n) o n) ≡ Some m → IsIn m (n ∷ ns) × ((k : ℕ) → IsIn k (n ∷ ns) → m ≤ k)
-    go None e rest f = let same : m ≡ n = cc in (inl same, λ k i. elim i [ inl here ↦ omega arith | inr j ↦ absurd (none_in ns e k j) ])
-    go (Some l) e rest f = pick l (rest l e) (nat_lt l n) refl (let same : (if nat_lt l n then l else n) ≡ m = cc in same)
+least_of-Some (n ∷ []) m h = grind arith
+least_of-Some (n ∷ k ∷ ns) m h =
+    let r = least_of-Some (k ∷ ns) _ refl in
+    (grind (arith, nat_tests, r.0), λ j i. grind (arith, nat_tests, r.1 j))
 
 -- lists with the same elements have the same least
 least_of-same : (ns ms : List ℕ) → ((k : ℕ) → IsIn k ns → IsIn k ms) → ((k : ℕ) → IsIn k ms → IsIn k ns) → least_of ns ≡ least_of ms
 least_of-same [] [] to from = refl
 least_of-same [] (m ∷ ms) to from = elim (from m (inl refl)) [ ]
 least_of-same (n ∷ ns) [] to from = elim (to n (inl refl)) [ ]
-least_of-same (n ∷ ns) (m ∷ ms) to from = go (least_of (n ∷ ns)) refl (least_of (m ∷ ms)) refl
-  where
-    go : (o : Option ℕ) → least_of (n ∷ ns) ≡ o → (p : Option ℕ) → least_of (m ∷ ms) ≡ p → least_of (n ∷ ns) ≡ least_of (m ∷ ms)
-    go None e p f = absurd (cc)
-    go (Some a) e None f = absurd (cc)
-    go (Some a) e (Some b) f =
-        let x = least_of-Some (n ∷ ns) a e in
-        let y = least_of-Some (m ∷ ms) b f in
-        let l : a ≤ b = x.1 b (from b y.0) in
-        let r : b ≤ a = y.1 a (to a x.0) in
-        let same : a ≡ b = omega arith in
-        e ∙ ap Some same ∙ sym f
+least_of-same (n ∷ ns) (m ∷ ms) to from =
+    let x = least_of-Some (n ∷ ns) _ refl in
+    let y = least_of-Some (m ∷ ms) _ refl in
+    let l = x.1 _ (from _ y.0) in
+    let r = y.1 _ (to _ x.0) in
+    ap Some (omega arith)
 
 -- the same is seen under a number
 glimpse_at-same : (a b : List Glimpse) → SeesSame a b

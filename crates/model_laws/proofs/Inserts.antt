@@ -1,16 +1,8 @@
 -- Rows with one more, and the numbers that a new name is made of.
-use Rattle.std.proofs.Common.{◌≡◌, ℕ, ◌<◌, Bool, true, false, ◌==◌, List, [], ◌∷◌, ◌++◌, map, reverse, Option, Some, None, cond, refl, sym, ap, ◌∙◌, subst, ◌⊎◌, inl, inr, arith}
-use Rattle.std.specs.Prelude.{nat_lt, is_none, unwrap_or, find}
+use Rattle.std.proofs.Common.{◌≡◌, ℕ, ◌<◌, Bool, true, false, List, [], ◌∷◌, ◌++◌, map, reverse, Option, Some, None, cond, refl, sym, ap, ◌∙◌, subst, ◌⊎◌, inl, inr, arith, nat_lt, is_none, unwrap_or, find}
 use Rattle.std.proofs.lemmas.List.{reverse-append, map-append}
 use Rattle.std.proofs.lemmas.Bool.{eqb-true, eq-eqb, ltb-true, ltb-false}
-use Rattle.pid_types.specs.declared.plain.Row.{Row}
-use Rattle.pid_types.specs.Chains.{contains}
-use Rattle.pid_types.specs.State.{State}
-use Rattle.pid_types.specs.Names.{path_up, beside, number, root_number, taken}
-use Rattle.pid_types.specs.Draw.{cursor_of, draw}
-use Rattle.pid_types.specs.Fork.{insert_row, drawn, child_of}
-use Rattle.pid_types.specs.Membership.{IsIn}
-use Rattle.pid_types.specs.Sound.{IsRising}
+use Rattle.model_laws.proofs.Words.{Row, contains, State, path_up, beside, number, root_number, taken, cursor_of, draw, insert_row, drawn, child_of, IsIn, IsRising}
 use Rattle.model_laws.proofs.Lists.{IsIn-map, IsIn-from_map, IsIn-reverse, IsIn-to_reverse, find-None}
 use Rattle.model_laws.proofs.Draws.{draw-Some}
 
@@ -18,36 +10,18 @@ use Rattle.model_laws.proofs.Draws.{draw-Some}
 
 -- a row after the insertion is the new one, or was there
 pub IsIn-from_insert : (new : Row) (rows : List Row) (r : Row) → IsIn r (insert_row new rows) → (r ≡ new) ⊎ IsIn r rows
-IsIn-from_insert new [] r (inl e) = inl e
-IsIn-from_insert new [] r (inr none) = elim none [ ]
-IsIn-from_insert new (row ∷ rows) r i = go (λ j. IsIn-from_insert new rows r j) (nat_lt (root_number new.name) (root_number row.name)) i
-  where
-    go : (IsIn r (insert_row new rows) → (r ≡ new) ⊎ IsIn r rows) → (b : Bool)
-        → IsIn r (cond b (new ∷ row ∷ rows) (row ∷ insert_row new rows)) → (r ≡ new) ⊎ IsIn r (row ∷ rows)
-    go rest true (inl e) = inl e
-    go rest true (inr j) = inr j
-    go rest false (inl e) = inr (inl e)
-    go rest false (inr j) = elim (rest j) [ inl e ↦ inl e | inr k ↦ inr (inr k) ]
+IsIn-from_insert new [] r i = grind arith
+IsIn-from_insert new (row ∷ rows) r i = grind (arith, IsIn-from_insert new rows r)
 
 -- the new one is there
 pub IsIn-insert_new : (new : Row) (rows : List Row) → IsIn new (insert_row new rows)
 IsIn-insert_new new [] = inl refl
-IsIn-insert_new new (row ∷ rows) = go (IsIn-insert_new new rows) (nat_lt (root_number new.name) (root_number row.name))
-  where
-    go : IsIn new (insert_row new rows) → (b : Bool) → IsIn new (cond b (new ∷ row ∷ rows) (row ∷ insert_row new rows))
-    go rest true = inl refl
-    go rest false = inr rest
+IsIn-insert_new new (row ∷ rows) = grind (arith, IsIn-insert_new new rows)
 
 -- and so is each that was there
 pub IsIn-insert_old : (new : Row) (rows : List Row) (r : Row) → IsIn r rows → IsIn r (insert_row new rows)
 IsIn-insert_old new [] r i = elim i [ ]
-IsIn-insert_old new (row ∷ rows) r i = go (λ j. IsIn-insert_old new rows r j) (nat_lt (root_number new.name) (root_number row.name)) i
-  where
-    go : (IsIn r rows → IsIn r (insert_row new rows)) → (b : Bool) → IsIn r (row ∷ rows)
-        → IsIn r (cond b (new ∷ row ∷ rows) (row ∷ insert_row new rows))
-    go rest true j = inr j
-    go rest false (inl e) = inl e
-    go rest false (inr j) = inr (rest j)
+IsIn-insert_old new (row ∷ rows) r i = grind (arith, IsIn-insert_old new rows r)
 
 -- the rows rise with one of another root number
 pub IsRising-insert : (new : Row) (rows : List Row) → IsRising (map (λ r. root_number r.name) rows)
@@ -89,23 +63,12 @@ map-reverse f (x ∷ xs) =
 -- the number beside an id in a list of numbers drawn for each id
 beside-map : (d : ℕ → ℕ) (ts : List ℕ) (s n : ℕ) → beside s ts (map d ts) ≡ Some n → (d s ≡ n) × IsIn s ts
 beside-map d [] s n h = absurd (cc)
-beside-map d (t ∷ ts) s n h = go (λ e. beside-map d ts s n e) (t == s) refl h
-  where
-    go : (beside s ts (map d ts) ≡ Some n → (d s ≡ n) × IsIn s ts) → (b : Bool) → (t == s) ≡ b
-        → cond b (Some (d t)) (beside s ts (map d ts)) ≡ Some n → (d s ≡ n) × IsIn s (t ∷ ts)
-    go rest true e f = let same : t ≡ s = eqb-true t s e in let here : d t ≡ n = cc in (ap d (sym same) ∙ here, inl (sym same))
-    go rest false e f = ((rest f).0, inr (rest f).1)
+beside-map d (t ∷ ts) s n h = grind (arith, beside-map d ts s n, eqb-true t s)
 
 -- each id has its own drawn number beside it
 beside-map_at : (d : ℕ → ℕ) (ts : List ℕ) (s : ℕ) → IsIn s ts → beside s ts (map d ts) ≡ Some (d s)
 beside-map_at d [] s i = elim i [ ]
-beside-map_at d (t ∷ ts) s i = go (λ j. beside-map_at d ts s j) (t == s) refl i
-  where
-    go : (IsIn s ts → beside s ts (map d ts) ≡ Some (d s)) → (b : Bool) → (t == s) ≡ b → IsIn s (t ∷ ts)
-        → cond b (Some (d t)) (beside s ts (map d ts)) ≡ Some (d s)
-    go rest true e j = ap (λ x. Some (d x)) (eqb-true t s e)
-    go rest false e (inl same) = let yes : (t == s) ≡ true = eq-eqb t s (sym same) in absurd (cc)
-    go rest false e (inr j) = rest j
+beside-map_at d (t ∷ ts) s i = grind (arith, beside-map_at d ts s, eqb-true t s, eq-eqb t s)
 
 -- the number of the new name in a namespace is what that gives, and the namespace is on its path
 pub number-child_of : (state : State) (caller : Row) (t s n : ℕ) → number state.spaces (child_of state caller t).name s ≡ Some n

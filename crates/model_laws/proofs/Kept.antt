@@ -1,26 +1,15 @@
 -- Calls that change fields of rows leave a sound state.
-use Rattle.std.proofs.Common.{◌≡◌, ℕ, ℤ, pos, negsuc, ◌+◌, ◌<◌, Bool, true, false, ◌&&◌, ◌||◌, not, ◌==◌, map, Option, Some, None, refl, sym, ap, ◌∙◌, subst, ◌⊎◌, inl, inr, arith}
-use Rattle.std.specs.Prelude.{find, option_map, if◌then◌else◌}
-use Rattle.std.proofs.lemmas.Bool.{cases_Bool, and_parts, or_cases, not-false}
-use Rattle.pid_types.specs.declared.plain.Name.{Name}
-use Rattle.pid_types.specs.declared.plain.Row.{Row}
-use Rattle.pid_types.specs.declared.plain.Control.{Control}
-use Rattle.pid_types.specs.declared.reply.Reply.{Reply}
-use Rattle.pid_types.specs.State.{State}
-use Rattle.pid_types.specs.Names.{is_live, path_up, is_numbered, same_name, is_parent, task_at, names_in_use, on_row, with_row}
-use Rattle.pid_types.specs.Controls.{control_at}
-use Rattle.pid_types.specs.Outcome.{Outcome, sweep, answered, changed}
-use Rattle.pid_types.specs.Groups.{target_of, session_group, group_for, set_group, set_pgid, has_members, start_session, set_sid}
-use Rattle.pid_types.specs.Changes.{set_executed, exec, set_home, move_task, set_children_space, join, set_mark, set_subreaper}
-use Rattle.pid_types.specs.Membership.{IsIn}
-use Rattle.pid_types.specs.Sound.{HasGoodChildrenSpace, IsCoherent, IsSound, IsBelow}
+use Rattle.std.proofs.Common.{◌≡◌, ℕ, ℤ, pos, negsuc, ◌+◌, ◌<◌, true, false, ◌&&◌, ◌||◌, not, map, Some, refl, sym, ap, ◌∙◌, subst, inl, inr, arith, List}
+use Rattle.model_laws.proofs.Words.{Name, Row, Control, Reply, State, is_live, path_up, is_numbered, same_name, is_parent, task_at, names_in_use, on_row, with_row, control_at, Outcome, sweep, answered, changed, target_of, session_group, group_for, has_members, set_children_space, IsIn, HasGoodChildrenSpace, IsCoherent, IsSound, IsBelow}
+use Rattle.model_laws.specs.Refusals.{IsGroupFor}
+use Rattle.model_laws.proofs.Refusals.{group_found}
 use Rattle.model_laws.proofs.Lists.{find-Some, list_any-from_one}
 use Rattle.model_laws.proofs.Names.{on_row-keeps, on_row-both, same_name-true, same_name-refl, own_name_in_use, group_in_use, session_in_use, number-within, is_numbered-true}
-use Rattle.model_laws.proofs.Trees.{space_at-Some, same_row, live_row-Some, path_first}
+use Rattle.model_laws.proofs.Trees.{space_at-Some, same_row, path_first}
 use Rattle.model_laws.proofs.Sweeps.{from_kept, IsSound-sweep}
-use Rattle.model_laws.proofs.RowMaps.{KeepsRows, IsCoherent-map_rows, HasGoodGroups-map, each_of_map}
+use Rattle.model_laws.proofs.Survivors.{IsCoherent-map_rows}
+use Rattle.model_laws.proofs.RowMaps.{KeepsRows, HasGoodGroups-map, each_of_map}
 use Rattle.model_laws.proofs.Placed.{IsOpen, KeepsRows-placed}
-use Rattle.model_laws.proofs.Calls.{set_pgid_cases, set_sid_cases, exec_cases, move_task_cases, join_cases, set_subreaper_cases}
 
 -- ---- what each call has to leave
 
@@ -58,76 +47,61 @@ Keeps-next stamp o k = record { sound = k.sound; below = IsBelow-next stamp o.st
 pub Keeps-changed : (stamp : ℕ) (new : State) (reply : Reply) → IsCoherent new → IsBelow stamp new → Keeps stamp (changed new reply)
 Keeps-changed stamp new reply coherent below = record { sound = IsSound-sweep new coherent; below = IsBelow-sweep stamp new below }
 
+-- a change of rows adds no id but those of the children's namespaces
+pub IsBelow-rows : (stamp : ℕ) (state : State) (rows : List Row) → IsBelow stamp state → ((r : Row) → IsIn r rows → r.children_space < stamp)
+    → IsBelow stamp (record state { rows = rows })
+IsBelow-rows stamp state rows b children = record { spaces = b.spaces; controls = b.controls; children = children }
+
 -- a change of rows that changes no children's namespace
 Keeps-map_rows : (stamp : ℕ) (state : State) (f : Row → Row) (reply : Reply) → IsSound state → IsBelow stamp state → KeepsRows state f
     → ((r : Row) → IsIn r state.rows → (f r).children_space < stamp) → Keeps stamp (changed (record state { rows = map f state.rows }) reply)
 Keeps-map_rows stamp state f reply sound below keeps children =
     Keeps-changed stamp (record state { rows = map f state.rows }) reply (IsCoherent-map_rows state f sound.coherent keeps)
-    (record {
-      spaces = below.spaces;
-      controls = below.controls;
-      children = each_of_map (λ r. r.children_space < stamp) f state.rows children;
-    })
+    (IsBelow-rows stamp state (map f state.rows) below (each_of_map (λ r. r.children_space < stamp) f state.rows children))
 
 -- a change of one task's row that keeps whose it is: its name, parent, life, group and session
-Keeps-on_row : (stamp : ℕ) (state : State) (name : Name) (change : Row → Row) (reply : Reply) → IsSound state → IsBelow stamp state
-    → ((r : Row) → (change r).name ≡ r.name) → ((r : Row) → (change r).parent ≡ r.parent) → ((r : Row) → is_live (change r) ≡ is_live r)
-    → ((r : Row) → (change r).group ≡ r.group) → ((r : Row) → (change r).session ≡ r.session)
+pub Keeps-on_row : (stamp : ℕ) (state : State) (name : Name) (change : Row → Row) (reply : Reply) → IsSound state → IsBelow stamp state
+    → ((r : Row) → change r ≡ record r { executed = (change r).executed; home = (change r).home; children_space = (change r).children_space; subreaper = (change r).subreaper })
     → ((r : Row) → IsIn r state.rows → r.name ≡ name → HasGoodChildrenSpace state.spaces (change r))
     → ((r : Row) → IsIn r state.rows → (c : Control) × (control_at state.controls (change r).home ≡ Some c))
     → ((r : Row) → IsIn r state.rows → (change r).children_space < stamp) → Keeps stamp (changed (with_row state name change) reply)
 unfolding with_row
-Keeps-on_row stamp state name change reply sound below names parents lives groups sessions children homes below_stamp =
+Keeps-on_row stamp state name change reply sound below same children homes below_stamp =
     Keeps-map_rows stamp state (on_row name change) reply sound below (record {
-      names = on_row-keeps name change (λ r. r.name) names;
-      parents = on_row-keeps name change (λ r. r.parent) parents;
-      lives = on_row-keeps name change (λ r. is_live r) lives;
-      group = λ r i. subst (λ a. IsIn a (names_in_use state.rows)) (sym (on_row-keeps name change (λ r. r.group) groups r)) (group_in_use state.rows r i);
-      session = λ r i. subst (λ a. IsIn a (names_in_use state.rows)) (sym (on_row-keeps name change (λ r. r.session) sessions r)) (session_in_use state.rows r i);
+      names = names;
+      parents = on_row-keeps name change (λ r. r.parent) (λ r. ap (λ (x : Row). x.parent) (same r));
+      lives = on_row-keeps name change (λ r. is_live r) (λ r. ap is_live (same r));
+      group = λ r i. subst (λ a. IsIn a (names_in_use state.rows)) (sym (groups r)) (group_in_use state.rows r i);
+      session = λ r i. subst (λ a. IsIn a (names_in_use state.rows)) (sym (sessions r)) (session_in_use state.rows r i);
       children = λ r i. on_row-both (HasGoodChildrenSpace state.spaces) name change r (children r i) (sound.coherent.children r i);
-      groups = HasGoodGroups-map state.rows (on_row name change) (on_row-keeps name change (λ r. r.name) names) (on_row-keeps name change (λ r. r.group) groups) (on_row-keeps name change (λ r. r.session) sessions) sound.coherent.groups;
+      groups = HasGoodGroups-map state.rows (on_row name change) names groups sessions sound.coherent.groups;
       homes = λ r i. on_row-both (λ x. (c : Control) × (control_at state.controls x.home ≡ Some c)) name change r (λ e. homes r i) (sound.coherent.homes r i);
     }) (λ r i. on_row-both (λ x. x.children_space < stamp) name change r (λ e. below_stamp r i) (below.children r i))
+  where
+    names : (r : Row) → (on_row name change r).name ≡ r.name
+    names = on_row-keeps name change (λ r. r.name) (λ r. ap (λ (x : Row). x.name) (same r))
 
--- either the row has the name, or it has not
-name_cases : (r : Row) (name : Name) → ((same_name r.name name ≡ true) × (r.name ≡ name)) ⊎ (same_name r.name name ≡ false)
-name_cases r name = elim (cases_Bool (same_name r.name name)) [ inl e ↦ inl (e, same_name-true r.name name e) | inr e ↦ inr e ]
+    groups : (r : Row) → (on_row name change r).group ≡ r.group
+    groups = on_row-keeps name change (λ r. r.group) (λ r. ap (λ (x : Row). x.group) (same r))
 
--- ---- exec, the subreaper's mark, move and join
+    sessions : (r : Row) → (on_row name change r).session ≡ r.session
+    sessions = on_row-keeps name change (λ r. r.session) (λ r. ap (λ (x : Row). x.session) (same r))
 
--- an exec leaves a sound state
-pub exec_keeps : (state : State) (stamp n : ℕ) → IsSound state → IsBelow stamp state → Keeps stamp (exec state n)
-exec_keeps state stamp n sound below =
-    exec_cases (Keeps stamp) state n (λ r. Keeps-same stamp state _ sound below) (λ caller found.
-    Keeps-on_row stamp state caller.name set_executed _ sound below (λ r. refl) (λ r. refl) (λ r. refl) (λ r. refl) (λ r. refl)
-    (λ r i e. sound.coherent.children r i) sound.coherent.homes below.children)
+-- ---- join
 
--- and so does the subreaper's mark
-pub set_subreaper_keeps : (state : State) (stamp n : ℕ) (on : Bool) → IsSound state → IsBelow stamp state → Keeps stamp (set_subreaper state n on)
-set_subreaper_keeps state stamp n on sound below =
-    set_subreaper_cases (Keeps stamp) state n on (λ r. Keeps-same stamp state _ sound below) (λ caller found.
-    Keeps-on_row stamp state caller.name (set_mark on) _ sound below (λ r. refl) (λ r. refl) (λ r. refl) (λ r. refl) (λ r. refl)
-    (λ r i e. sound.coherent.children r i) sound.coherent.homes below.children)
-
--- a move does
-pub move_task_keeps : (state : State) (stamp n id : ℕ) → IsSound state → IsBelow stamp state → Keeps stamp (move_task state n id)
-move_task_keeps state stamp n id sound below =
-    move_task_cases (Keeps stamp) state n id (λ r. Keeps-same stamp state _ sound below) (λ task c found there.
-    Keeps-on_row stamp state task.name (set_home id) _ sound below (λ r. refl) (λ r. refl) (λ r. refl) (λ r. refl) (λ r. refl)
-    (λ r i e. sound.coherent.children r i) (λ r i. (c, there)) below.children)
-
--- a join does
-pub join_keeps : (state : State) (stamp n target : ℕ) → IsSound state → IsBelow stamp state → Keeps stamp (join state n target)
+-- a join leaves a sound state
+pub join_keeps : (state : State) (stamp target : ℕ) (caller row : Row) (reply : Reply) → IsSound state → IsBelow stamp state
+    → task_at state caller.name.space target ≡ Some row
+    → Keeps stamp (changed (with_row state caller.name (set_children_space row.name.space)) reply)
 unfolding task_at
-join_keeps state stamp n target sound below =
-    join_cases (Keeps stamp) state n target (λ r. Keeps-same stamp state _ sound below) (λ caller row found there live.
+join_keeps state stamp target caller row reply sound below there =
     let seen = find-Some (λ r. is_numbered state.spaces r.name caller.name.space target) state.rows row there in
     let within : IsIn caller.name.space (path_up state.spaces row.name.space) = (number-within state.spaces row.name caller.name.space target (is_numbered-true state.spaces row.name caller.name.space target seen.1)).0 in
     let listed = (sound.coherent.numbered row.name (own_name_in_use state.rows row seen.0)).listed row.name.space (path_first state.spaces row.name.space) in
     let at = space_at-Some state.spaces row.name.space listed.0 listed.1 in
-    Keeps-on_row stamp state caller.name (set_children_space row.name.space) _ sound below (λ r. refl) (λ r. refl) (λ r. refl) (λ r. refl) (λ r. refl)
+    Keeps-on_row stamp state caller.name (set_children_space row.name.space) reply sound below (λ r. refl)
     (λ r i e. inr (subst (λ (a : Name). IsIn a.space (path_up state.spaces row.name.space)) (sym e) within)) sound.coherent.homes
-    (λ r i. subst (λ x. x < stamp) at.1 (below.spaces listed.0 at.0)))
+    (λ r i. subst (λ x. x < stamp) at.1 (below.spaces listed.0 at.0))
 
 -- ---- setpgid
 
@@ -153,53 +127,35 @@ IsOpen-session state sound target row i j same = record {
 }
 
 -- the group that setpgid finds is open to the target
-group_for-IsOpen : (state : State) → IsSound state → (caller target : Row) (pgid : ℤ) (group : Name) → IsIn target state.rows
+pub group_for-IsOpen : (state : State) → IsSound state → (caller target : Row) (pgid : ℤ) (group : Name) → IsIn target state.rows
     → target.session ≡ caller.session
     → group_for state caller target pgid ≡ Some group → IsOpen state target group target.session
 unfolding session_group
-group_for-IsOpen state sound caller target (negsuc n) group i same h = absurd (cc)
-group_for-IsOpen state sound caller target (pos n) group i same h = go ((n == 0) || is_numbered state.spaces target.name caller.name.space n) h
+group_for-IsOpen state sound caller target pgid group i same h = open_at pgid ((group_found state caller target pgid).some group h)
   where
-    p : Row → Bool
-    p row = same_name row.session caller.session && is_numbered state.spaces row.group caller.name.space n
-
-    other : (o : Option Row) → find p state.rows ≡ o → option_map (λ (row : Row). row.group) o ≡ Some group → IsOpen state target group target.session
-    other None e f = absurd (cc)
-    other (Some row) e f =
-        let r = find-Some p state.rows row e in
-        let s : row.session ≡ caller.session = same_name-true row.session caller.session (and_parts (same_name row.session caller.session) (is_numbered state.spaces row.group caller.name.space n) r.1).0 in
-        let g : row.group ≡ group = cc in
-        subst (λ n. IsOpen state target n target.session) g (IsOpen-session state sound target row i r.0 (s ∙ sym same))
-
-    go : (b : Bool) → (if b then Some target.name else session_group state caller n) ≡ Some group → IsOpen state target group target.session
-    go true e = let g : target.name ≡ group = cc in subst (λ n. IsOpen state target n target.session) g (IsOpen-own state sound target i)
-    go false e = other (find p state.rows) refl e
+    open_at : (n : ℤ) → IsGroupFor state caller target n group → IsOpen state target group target.session
+    open_at (negsuc n) g = elim g [ ]
+    open_at (pos n) (inl g) = subst (λ a. IsOpen state target a target.session) (sym g.1) (IsOpen-own state sound target i)
+    open_at (pos n) (inr g) =
+        let s = g.1 in subst (λ a. IsOpen state target a target.session) s.3 (IsOpen-session state sound target s.0 i s.1 (s.2 ∙ sym same))
 
 -- whom setpgid names is one of the rows
-target_of-IsIn : (state : State) (caller target : Row) (pid : ℤ) → IsIn caller state.rows → target_of state caller pid ≡ Some target
+pub target_of-IsIn : (state : State) (caller target : Row) (pid : ℤ) → IsIn caller state.rows → target_of state caller pid ≡ Some target
     → IsIn target state.rows
 unfolding task_at
 target_of-IsIn state caller target (negsuc n) i h = absurd (cc)
-target_of-IsIn state caller target (pos n) i h = go (n == 0) h
-  where
-    go : (b : Bool) → (if b then Some caller else task_at state caller.name.space n) ≡ Some target → IsIn target state.rows
-    go true e = let g : caller ≡ target = cc in subst (λ (r : Row). IsIn r state.rows) g i
-    go false e = (find-Some (λ row. is_numbered state.spaces row.name caller.name.space n) state.rows target e).0
+target_of-IsIn state caller target (pos n) i h =
+    grind (arith, find-Some (λ row. is_numbered state.spaces row.name caller.name.space n) state.rows target)
 
 -- the target is in the caller's session
-target_session : (state : State) → IsSound state → (caller target : Row) → IsIn caller state.rows → IsIn target state.rows
+pub target_session : (state : State) → IsSound state → (caller target : Row) → IsIn caller state.rows → IsIn target state.rows
     → (is_parent caller.name target && not (same_name target.session caller.session)) ≡ false
     → not (is_parent caller.name target || same_name target.name caller.name) ≡ false
     → target.session ≡ caller.session
-target_session state sound caller target i j same own = elim (or_cases (is_parent caller.name target) (same_name target.name caller.name) (not-false _ own)) [
-  | inl child ↦ child_session (is_parent caller.name target) (same_name target.session caller.session) refl same child
-  | inr e ↦ ap (λ (r : Row). r.session) (same_row state.rows sound.coherent.rows_rise target caller j i (same_name-true target.name caller.name e))
-]
-  where
-    child_session : (b c : Bool) → same_name target.session caller.session ≡ c → (b && not c) ≡ false → b ≡ true → target.session ≡ caller.session
-    child_session b true e h k = same_name-true target.session caller.session e
-    child_session true false e h k = absurd (cc)
-    child_session false false e h k = absurd (cc)
+target_session state sound caller target i j same own =
+    let self : target.name ≡ caller.name → target.session ≡ caller.session = λ e. ap (λ (r : Row). r.session)
+    (same_row state.rows sound.coherent.rows_rise target caller j i e) in
+    grind (arith, self, same_name-true target.session caller.session, same_name-true target.name caller.name)
 
 -- a task that goes to a group and a session that are open to it leaves a coherent state, and ids below each stamp that they were below
 pub placed_keeps : (state : State) (target : Row) (change : Row → Row) → IsSound state → IsIn target state.rows
@@ -209,16 +165,13 @@ pub placed_keeps : (state : State) (target : Row) (change : Row → Row) → IsS
 unfolding with_row
 placed_keeps state target change sound i same free = (
   IsCoherent-map_rows state (on_row target.name change) sound.coherent (KeepsRows-placed state sound target i change same free),
-  λ stamp below. record {
-    spaces = below.spaces;
-    controls = below.controls;
-    children = each_of_map (λ r. r.children_space < stamp) (on_row target.name change) state.rows (λ r j.
-        subst (λ n. n < stamp) (sym (on_row-keeps target.name change (λ x. x.children_space) (λ x. ap (λ (y : Row). y.children_space) (same x)) r)) (below.children r j));
-  },
+  λ stamp below. IsBelow-rows stamp state _ below (each_of_map (λ r. r.children_space < stamp) (on_row target.name change) state.rows (λ r j.
+      subst (λ n. n < stamp) (sym (on_row-keeps target.name change (λ x. x.children_space)
+      (λ x. ap (λ (y : Row). y.children_space) (same x)) r)) (below.children r j))),
 )
 
 -- and so does a call that does this
-Keeps-placed : (stamp : ℕ) (state : State) (target : Row) (change : Row → Row) (reply : Reply) → IsSound state → IsBelow stamp state
+pub Keeps-placed : (stamp : ℕ) (state : State) (target : Row) (change : Row → Row) (reply : Reply) → IsSound state → IsBelow stamp state
     → IsIn target state.rows → ((r : Row) → change r ≡ record r { group = (change r).group; session = (change r).session })
     → IsOpen state target (change target).group (change target).session
     → Keeps stamp (changed (with_row state target.name change) reply)
@@ -226,19 +179,10 @@ Keeps-placed stamp state target change reply sound below i same free =
     let k = placed_keeps state target change sound i same free in
     Keeps-changed stamp (with_row state target.name change) reply k.0 (k.1 stamp below)
 
--- a setpgid leaves a sound state
-pub set_pgid_keeps : (state : State) (stamp n : ℕ) (pid pgid : ℤ) → IsSound state → IsBelow stamp state → Keeps stamp (set_pgid state n pid pgid)
-set_pgid_keeps state stamp n pid pgid sound below =
-    set_pgid_cases (Keeps stamp) state n pid pgid (λ r. Keeps-same stamp state _ sound below) (λ caller target group found aimed same own there.
-    let i : IsIn caller state.rows = (live_row-Some state.rows n caller found).0 in
-    let j : IsIn target state.rows = target_of-IsIn state caller target pid i aimed in
-    Keeps-placed stamp state target (set_group group) _ sound below j (λ r. refl)
-    (group_for-IsOpen state sound caller target pgid group j (target_session state sound caller target i j same own) there))
-
 -- ---- setsid
 
 -- where nobody is in a group of the task's name, that group and that session are open to it
-IsOpen-new : (state : State) (caller : Row) → IsIn caller state.rows → has_members state caller.name ≡ false
+pub IsOpen-new : (state : State) (caller : Row) → IsIn caller state.rows → has_members state caller.name ≡ false
     → IsOpen state caller caller.name caller.name
 IsOpen-new state caller i none = record {
   group_used = own_name_in_use state.rows caller i;
@@ -251,10 +195,3 @@ IsOpen-new state caller i none = record {
     no_member : (r : Row) → IsIn r state.rows → r.group ≡ caller.name → ⊥
     no_member r j e =
         let yes : has_members state caller.name ≡ true = list_any-from_one (λ (row : Row). same_name row.group caller.name) state.rows r j (same_name-refl r.group caller.name e) in cc
-
--- a setsid leaves a sound state
-pub set_sid_keeps : (state : State) (stamp n : ℕ) → IsSound state → IsBelow stamp state → Keeps stamp (set_sid state n)
-set_sid_keeps state stamp n sound below =
-    set_sid_cases (Keeps stamp) state n (λ r. Keeps-same stamp state _ sound below) (λ caller found none.
-    let i : IsIn caller state.rows = (live_row-Some state.rows n caller found).0 in
-    Keeps-placed stamp state caller start_session _ sound below i (λ r. refl) (IsOpen-new state caller i none))

@@ -1,18 +1,8 @@
 -- A name's number in a namespace is the entry at the namespace's level.
-use Rattle.std.proofs.Common.{◌≡◌, ◌≤◌, ◌↔◌, ℕ, zero, suc, ◌+◌, Bool, true, false, not, ◌==◌, List, [], ◌∷◌, ◌++◌, reverse, length, drop, Option, Some, None, refl, sym, ap, ◌∙◌, inl, inr, arith, length-append}
-use Rattle.std.specs.Prelude.{slice_get, is_some}
+use Rattle.std.proofs.Common.{◌≡◌, ◌≤◌, ◌↔◌, ℕ, zero, suc, ◌+◌, Bool, true, false, not, ◌==◌, List, [], ◌∷◌, ◌++◌, reverse, length, drop, Option, Some, None, refl, sym, ap, ◌∙◌, inl, inr, arith, length-append, slice_get, is_some}
 use Rattle.std.proofs.lemmas.List.{reverse-append, length-reverse, append_assoc}
 use Rattle.std.proofs.lemmas.Bool.{eq-eqb, ne_eqb, and_left, not_from_false}
-use Rattle.pid_types.specs.declared.plain.Name.{Name}
-use Rattle.pid_types.specs.declared.plain.Space.{Space}
-use Rattle.pid_types.specs.declared.plain.Control.{Control}
-use Rattle.pid_types.specs.State.{State}
-use Rattle.pid_types.specs.Chains.{climb}
-use Rattle.pid_types.specs.Names.{parent_space, path_up, level, beside, beside_from, number, numbers_from, names_in_use, taken}
-use Rattle.pid_types.specs.Controls.{parent_control, control_path}
-use Rattle.pid_types.specs.Outcome.{is_dead, sweep}
-use Rattle.pid_types.specs.Membership.{IsIn}
-use Rattle.pid_types.specs.Sound.{IsSound}
+use Rattle.model_laws.proofs.Words.{Name, Space, Control, State, climb, parent_space, path_up, level, beside, beside_from, number, numbers_from, names_in_use, taken, parent_control, control_path, is_dead, sweep, IsIn, IsSound}
 use Rattle.model_laws.proofs.Lists.{IsIn-reverse, filter-all}
 use Rattle.model_laws.proofs.Names.{number-within, number-on_path}
 use Rattle.model_laws.proofs.Chains.{Stops, Stops-at_root, climb-None, climb-Some, climb-stopped, climb_suffix, length-climb}
@@ -102,11 +92,7 @@ sweep-numbered state s name n i used e = to_kept state s i (kept-by_name state n
 pub number-iff_on_path : (state : State) (name : Name) (s : ℕ) → IsSound state → IsIn name (names_in_use state.rows)
     → IsIn s (path_up state.spaces name.space) ↔ (is_some (number state.spaces name s) ≡ true)
 number-iff_on_path state name s sound used =
-    (λ i. let n = number-on_path state.spaces name s (sound.coherent.numbered name used).one_each i in rw n.1 refl, λ h. back (number state.spaces name s) refl h)
-  where
-    back : (o : Option ℕ) → number state.spaces name s ≡ o → is_some o ≡ true → IsIn s (path_up state.spaces name.space)
-    back None e h = absurd (cc)
-    back (Some n) e h = (number-within state.spaces name s n e).0
+    (λ i. let n = number-on_path state.spaces name s (sound.coherent.numbered name used).one_each i in rw n.1 refl, λ h. grind (arith, number-within state.spaces name s))
 
 -- a sound state has no dead namespace
 pub sweep-sound : (state : State) → IsSound state → sweep state ≡ state

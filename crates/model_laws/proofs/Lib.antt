@@ -1,3 +1,4 @@
+pub mod Words
 pub mod Computed
 pub mod Lists
 pub mod Draws

@@ -1,38 +1,46 @@
 -- Elements of lists.
-use Rattle.std.proofs.Common.{◌≡◌, ℕ, Bool, true, false, cond, List, [], ◌∷◌, ◌++◌, map, reverse, Option, Some, None, refl, sym, ap, ◌∙◌, subst, ◌⊎◌, inl, inr}
-use Rattle.std.specs.Prelude.{◌==◌, find, filter, filter_map, flat_map, option_map}
-use Rattle.std.specs.List.{cons_option, list_all, list_any}
+use Rattle.std.proofs.Common.{arith, ◌≡◌, ℕ, Bool, true, false, List, [], ◌∷◌, ◌++◌, map, reverse, Option, Some, None, refl, sym, ap, ◌∙◌, subst, ◌⊎◌, inl, inr, ◌==◌, find, filter, filter_map, flat_map, option_map}
+use Rattle.std.specs.List.{list_any}
 use Rattle.std.proofs.lemmas.List.{reverse-append}
-use Rattle.std.proofs.lemmas.Bool.{eqb-true, eq-eqb, cases_Bool, and_parts, and_from, or_cases, or_left, or_right}
-use Rattle.pid_types.specs.Chains.{contains}
-use Rattle.pid_types.specs.Membership.{IsIn}
+use Rattle.std.proofs.lemmas.Bool.{eqb-true, eq-eqb}
+use Rattle.model_laws.proofs.Words.{contains, IsIn}
 
 -- ---- joined and turned lists
 
 -- an element of two joined lists is one of either
 pub IsIn-append : {X : Type 0} (x : X) (xs ys : List X) → IsIn x (xs ++ ys) → IsIn x xs ⊎ IsIn x ys
 IsIn-append x [] ys h = inr h
-IsIn-append x (y ∷ xs) ys (inl e) = inl (inl e)
-IsIn-append x (y ∷ xs) ys (inr h) = elim (IsIn-append x xs ys h) [ inl a ↦ inl (inr a) | inr b ↦ inr b ]
+IsIn-append x (y ∷ xs) ys h = grind (arith, IsIn-append x xs ys)
 
 -- one of the first
 pub IsIn-append_left : {X : Type 0} (x : X) (xs ys : List X) → IsIn x xs → IsIn x (xs ++ ys)
 IsIn-append_left x [] ys h = elim h [ ]
-IsIn-append_left x (y ∷ xs) ys (inl e) = inl e
-IsIn-append_left x (y ∷ xs) ys (inr h) = inr (IsIn-append_left x xs ys h)
+IsIn-append_left x (y ∷ xs) ys h = grind (arith, IsIn-append_left x xs ys)
 
 -- one of the second
 pub IsIn-append_right : {X : Type 0} (x : X) (xs ys : List X) → IsIn x ys → IsIn x (xs ++ ys)
 IsIn-append_right x [] ys h = h
 IsIn-append_right x (y ∷ xs) ys h = inr (IsIn-append_right x xs ys h)
 
+-- what holds of one thing holds of each element of a list of it
+pub only : {X : Type 0} (y : X) (P : X → Type 0) → P y → (x : X) → IsIn x (y ∷ []) → P x
+only y P h x (inl e) = subst P (sym e) h
+only y P h x (inr none) = elim none [ ]
+
+-- what holds of each element and of one thing more holds of each element of the list with it
+pub each_pushed : {X : Type 0} (P : X → Type 0) (xs : List X) (y : X) → ((x : X) → IsIn x xs → P x) → P y → (x : X) → IsIn x (xs ++ y ∷ []) → P x
+each_pushed P xs y old new x i = elim (IsIn-append x xs (y ∷ []) i) [ inl j ↦ old x j | inr j ↦ only y P new x j ]
+
+-- a list without elements is empty
+pub no_element : {X : Type 0} (xs : List X) → ((x : X) → IsIn x xs → ⊥) → xs ≡ []
+no_element [] none = refl
+no_element (x ∷ xs) none = absurd (none x (inl refl))
+
 -- a list turned round has no other elements
 pub IsIn-reverse : {X : Type 0} (x : X) (xs : List X) → IsIn x (reverse xs) → IsIn x xs
 IsIn-reverse x [] h = h
-IsIn-reverse x (y ∷ xs) h = elim (IsIn-append x (reverse xs) (y ∷ []) (subst (λ l. IsIn x l) (reverse-append (y ∷ []) xs) h)) [
-  | inl a ↦ inr (IsIn-reverse x xs a)
-  | inr b ↦ elim b [ inl e ↦ inl e | inr none ↦ absurd none ]
-]
+IsIn-reverse x (y ∷ xs) h =
+    grind (arith, IsIn-append x (reverse xs) (y ∷ []) (subst (λ l. IsIn x l) (reverse-append (y ∷ []) xs) h), IsIn-reverse x xs)
 
 -- and has them all
 pub IsIn-to_reverse : {X : Type 0} (x : X) (xs : List X) → IsIn x xs → IsIn x (reverse xs)
@@ -46,96 +54,55 @@ IsIn-to_reverse x (y ∷ xs) (inr h) =
 -- the image of an element is one of the image
 pub IsIn-map : {X Y : Type 0} (f : X → Y) (x : X) (xs : List X) → IsIn x xs → IsIn (f x) (map f xs)
 IsIn-map f x [] h = h
-IsIn-map f x (y ∷ xs) (inl e) = inl (ap f e)
-IsIn-map f x (y ∷ xs) (inr h) = inr (IsIn-map f x xs h)
+IsIn-map f x (y ∷ xs) h = grind (arith, IsIn-map f x xs)
 
 -- an element of a mapped list comes from one of the list
 pub IsIn-from_map : {X Y : Type 0} (f : X → Y) (y : Y) (xs : List X) → IsIn y (map f xs) → (x : X) × IsIn x xs × (y ≡ f x)
 IsIn-from_map f y [] h = elim h [ ]
-IsIn-from_map f y (x ∷ xs) (inl e) = (x, inl refl, e)
-IsIn-from_map f y (x ∷ xs) (inr h) = let r = IsIn-from_map f y xs h in (r.0, inr r.1, r.2)
+IsIn-from_map f y (x ∷ xs) h = grind (arith, IsIn-from_map f y xs)
 
 -- what a filter keeps is in the list and passes
 pub IsIn-from_filter : {X : Type 0} (p : X → Bool) (x : X) (xs : List X) → IsIn x (filter p xs) → IsIn x xs × (p x ≡ true)
 IsIn-from_filter p x [] h = elim h [ ]
-IsIn-from_filter {X} p x (y ∷ xs) h = go (λ i. IsIn-from_filter p x xs i) (p y) refl h
-  where
-    go : (IsIn x (filter p xs) → IsIn x xs × (p x ≡ true)) → (b : Bool) → p y ≡ b → IsIn x (cond b (y ∷ filter p xs) (filter p xs))
-        → IsIn x (y ∷ xs) × (p x ≡ true)
-    go rest true e (inl same) = (inl same, ap p same ∙ e)
-    go rest true e (inr i) = (inr (rest i).0, (rest i).1)
-    go rest false e i = (inr (rest i).0, (rest i).1)
+IsIn-from_filter p x (y ∷ xs) h = grind (arith, IsIn-from_filter p x xs)
 
 -- an element that passes is kept
 pub IsIn-filter : {X : Type 0} (p : X → Bool) (x : X) (xs : List X) → IsIn x xs → p x ≡ true → IsIn x (filter p xs)
 IsIn-filter p x [] h pass = h
-IsIn-filter p x (y ∷ xs) (inl same) pass = rw (ap p (sym same) ∙ pass) (inl same)
-IsIn-filter p x (y ∷ xs) (inr i) pass = elim (cases_Bool (p y)) [
-  | inl e ↦ rw e (inr (IsIn-filter p x xs i pass))
-  | inr e ↦ rw e (IsIn-filter p x xs i pass)
-]
+IsIn-filter p x (y ∷ xs) h pass = grind (arith, IsIn-filter p x xs)
 
 -- an element of a part is one of the whole
 pub IsIn-flat_map : {X Y : Type 0} (f : X → List Y) (x : X) (y : Y) (xs : List X) → IsIn x xs → IsIn y (f x) → IsIn y (flat_map f xs)
 IsIn-flat_map f x y [] i j = elim i [ ]
-IsIn-flat_map f x y (z ∷ xs) (inl same) j = IsIn-append_left y (f z) (flat_map f xs) (subst (λ u. IsIn y (f u)) same j)
-IsIn-flat_map f x y (z ∷ xs) (inr i) j = IsIn-append_right y (f z) (flat_map f xs) (IsIn-flat_map f x y xs i j)
+IsIn-flat_map f x y (z ∷ xs) i j =
+    grind (arith, IsIn-append_left y (f z) (flat_map f xs), IsIn-append_right y (f z) (flat_map f xs), IsIn-flat_map f x y xs)
 
 -- an element of the whole is one of a part
 pub IsIn-from_flat_map : {X Y : Type 0} (f : X → List Y) (y : Y) (xs : List X) → IsIn y (flat_map f xs) → (x : X) × IsIn x xs × IsIn y (f x)
 IsIn-from_flat_map f y [] h = elim h [ ]
-IsIn-from_flat_map f y (x ∷ xs) h = elim (IsIn-append y (f x) (flat_map f xs) h) [
-  | inl a ↦ (x, inl refl, a)
-  | inr b ↦ let r = IsIn-from_flat_map f y xs b in (r.0, inr r.1, r.2)
-]
+IsIn-from_flat_map f y (x ∷ xs) h = grind (arith, IsIn-append y (f x) (flat_map f xs), IsIn-from_flat_map f y xs)
 
 -- what an element gives is among what all give
 pub IsIn-filter_map : {X : Type 0} (f : X → Option ℕ) (x : X) (n : ℕ) (xs : List X) → IsIn x xs → f x ≡ Some n → IsIn n (filter_map f xs)
 IsIn-filter_map f x n [] i e = elim i [ ]
-IsIn-filter_map f x n (y ∷ xs) (inl same) e = rw (ap f (sym same) ∙ e) (inl refl)
-IsIn-filter_map f x n (y ∷ xs) (inr i) e = go (IsIn-filter_map f x n xs i e) (f y)
-  where
-    go : IsIn n (filter_map f xs) → (o : Option ℕ) → IsIn n (cons_option o (filter_map f xs))
-    go rest None = rest
-    go rest (Some m) = inr rest
+IsIn-filter_map f x n (y ∷ xs) i e = grind (arith, IsIn-filter_map f x n xs)
 
 -- what all give is given by an element
 pub IsIn-from_filter_map : {X : Type 0} (f : X → Option ℕ) (n : ℕ) (xs : List X) → IsIn n (filter_map f xs) → (x : X) × IsIn x xs × (f x ≡ Some n)
 IsIn-from_filter_map f n [] h = elim h [ ]
-IsIn-from_filter_map {X} f n (y ∷ xs) h = go (λ i. IsIn-from_filter_map f n xs i) (f y) refl h
-  where
-    go : (IsIn n (filter_map f xs) → (x : X) × IsIn x xs × (f x ≡ Some n)) → (o : Option ℕ) → f y ≡ o
-        → IsIn n (cons_option o (filter_map f xs)) → (x : X) × IsIn x (y ∷ xs) × (f x ≡ Some n)
-    go rest None e i = ((rest i).0, inr (rest i).1, (rest i).2)
-    go rest (Some m) e (inl same) = (y, inl refl, e ∙ ap Some (sym same))
-    go rest (Some m) e (inr i) = ((rest i).0, inr (rest i).1, (rest i).2)
+IsIn-from_filter_map f n (y ∷ xs) h = grind (arith, IsIn-from_filter_map f n xs)
 
--- ---- tests of all and of some elements
-
--- where all pass, each does
-pub each_passes : {X : Type 0} (p : X → Bool) (xs : List X) → list_all p xs ≡ true → (x : X) → IsIn x xs → p x ≡ true
-each_passes p [] h x i = elim i [ ]
-each_passes p (y ∷ xs) h x (inl same) = ap p same ∙ (and_parts (p y) (list_all p xs) h).0
-each_passes p (y ∷ xs) h x (inr i) = each_passes p xs (and_parts (p y) (list_all p xs) h).1 x i
-
--- where each passes, all do
-pub list_all-from_each : {X : Type 0} (p : X → Bool) (xs : List X) → ((x : X) → IsIn x xs → p x ≡ true) → list_all p xs ≡ true
-list_all-from_each p [] h = refl
-list_all-from_each p (x ∷ xs) h = and_from (p x) (list_all p xs) (h x (inl refl)) (list_all-from_each p xs (λ y i. h y (inr i)))
+-- ---- tests of some elements
 
 -- where some passes, here is one
 pub some_passes : {X : Type 0} (p : X → Bool) (xs : List X) → list_any p xs ≡ true → (x : X) × IsIn x xs × (p x ≡ true)
 some_passes p [] h = absurd (cc)
-some_passes p (y ∷ xs) h = elim (or_cases (p y) (list_any p xs) h) [
-  | inl e ↦ (y, inl refl, e)
-  | inr e ↦ let r = some_passes p xs e in (r.0, inr r.1, r.2)
-]
+some_passes p (y ∷ xs) h = grind (arith, some_passes p xs)
 
 -- where one passes, some does
 pub list_any-from_one : {X : Type 0} (p : X → Bool) (xs : List X) (x : X) → IsIn x xs → p x ≡ true → list_any p xs ≡ true
 list_any-from_one p [] x i e = elim i [ ]
-list_any-from_one p (y ∷ xs) x (inl same) e = or_left (p y) (list_any p xs) (ap p (sym same) ∙ e)
-list_any-from_one p (y ∷ xs) x (inr i) e = or_right (p y) (list_any p xs) (list_any-from_one p xs x i e)
+list_any-from_one p (y ∷ xs) x i e = grind (arith, list_any-from_one p xs x)
 
 -- what the test finds is an element
 pub IsIn-from_contains : (ns : List ℕ) (n : ℕ) → contains ns n ≡ true → IsIn n ns
@@ -150,22 +117,12 @@ contains-from_IsIn ns n i = list_any-from_one (λ m. m == n) ns n i (eq-eqb n n 
 -- what is found is in the list and passes
 pub find-Some : {X : Type 0} (p : X → Bool) (xs : List X) (x : X) → find p xs ≡ Some x → IsIn x xs × (p x ≡ true)
 find-Some p [] x h = absurd (cc)
-find-Some {X} p (y ∷ xs) x h = go (λ f. find-Some p xs x f) (p y) refl h
-  where
-    go : (find p xs ≡ Some x → IsIn x xs × (p x ≡ true)) → (b : Bool) → p y ≡ b → cond b (Some y) (find p xs) ≡ Some x
-        → IsIn x (y ∷ xs) × (p x ≡ true)
-    go rest true e f = let same : x ≡ y = cc in (inl same, ap p same ∙ e)
-    go rest false e f = (inr (rest f).0, (rest f).1)
+find-Some p (y ∷ xs) x h = grind (arith, find-Some p xs x)
 
 -- where nothing is found, nothing passes
 pub find-None : {X : Type 0} (p : X → Bool) (xs : List X) → find p xs ≡ None → (x : X) → IsIn x xs → p x ≡ false
 find-None p [] h x i = elim i [ ]
-find-None {X} p (y ∷ xs) h x i = go (λ f. find-None p xs f x) (p y) refl h i
-  where
-    go : (find p xs ≡ None → IsIn x xs → p x ≡ false) → (b : Bool) → p y ≡ b → cond b (Some y) (find p xs) ≡ None → IsIn x (y ∷ xs) → p x ≡ false
-    go rest true e f j = absurd (cc)
-    go rest false e f (inl same) = ap p same ∙ e
-    go rest false e f (inr j) = rest f j
+find-None p (y ∷ xs) h x i = grind (arith, find-None p xs)
 
 -- where nothing passes, nothing is found
 pub find-none : {X : Type 0} (p : X → Bool) (xs : List X) → ((x : X) → IsIn x xs → p x ≡ false) → find p xs ≡ None
@@ -174,11 +131,7 @@ find-none p (y ∷ xs) h = rw (h y (inl refl)) (find-none p xs (λ x i. h x (inr
 
 -- where one passes, one is found
 pub find-found : {X : Type 0} (p : X → Bool) (xs : List X) (x : X) → IsIn x xs → p x ≡ true → (y : X) × (find p xs ≡ Some y)
-find-found {X} p xs x i e = go (find p xs) refl
-  where
-    go : (o : Option X) → find p xs ≡ o → (y : X) × (find p xs ≡ Some y)
-    go None f = let no : p x ≡ false = find-None p xs f x i in absurd (cc)
-    go (Some y) f = (y, f)
+find-found p xs x i e = let some : find p xs ≡ None → ⊥ = λ f. (let no : p x ≡ false = find-None p xs f x i in cc) in grind (arith, some)
 
 -- where only one passes, it is found
 pub find-only : {X : Type 0} (p : X → Bool) (xs : List X) (x : X) → IsIn x xs → p x ≡ true → ((y : X) → IsIn y xs → p y ≡ true → y ≡ x)
@@ -191,7 +144,7 @@ find-only p xs x i e only =
 -- a search in the image finds the image
 pub find-map : {X Y : Type 0} (f : X → Y) (p : Y → Bool) (xs : List X) → find p (map f xs) ≡ option_map f (find (λ x. p (f x)) xs)
 find-map f p [] = refl
-find-map f p (x ∷ xs) = elim (cases_Bool (p (f x))) [ inl e ↦ rw e refl | inr e ↦ rw e (find-map f p xs) ]
+find-map f p (x ∷ xs) = grind (arith, find-map f p xs)
 
 -- tests that agree on the elements find the same
 pub find-same : {X : Type 0} (p q : X → Bool) (xs : List X) → ((x : X) → IsIn x xs → p x ≡ q x) → find p xs ≡ find q xs
@@ -211,31 +164,14 @@ filter-all p (x ∷ xs) all = rw (all x (inl refl)) (ap (λ ys. x ∷ ys) (filte
 -- a search finds the same where what passes it is kept
 pub find-filter : {X : Type 0} (p q : X → Bool) (xs : List X) → ((x : X) → IsIn x xs → p x ≡ true → q x ≡ true) → find p (filter q xs) ≡ find p xs
 find-filter p q [] keep = refl
-find-filter {X} p q (x ∷ xs) keep = go (find-filter p q xs (λ y i. keep y (inr i))) (p x) (q x) refl refl
-  where
-    go : find p (filter q xs) ≡ find p xs → (a b : Bool) → p x ≡ a → q x ≡ b
-        → find p (cond b (x ∷ filter q xs) (filter q xs)) ≡ cond a (Some x) (find p xs)
-    go rest true true e f = rw e refl
-    go rest true false e f = let k : q x ≡ true = keep x (inl refl) e in absurd (cc)
-    go rest false true e f = rw e rest
-    go rest false false e f = rest
+find-filter p q (x ∷ xs) keep = grind (arith, keep x, find-filter p q xs (λ y i. keep y (inr i)))
 
 -- where nothing of the first passes, the second is
 pub find-append_last : {X : Type 0} (p : X → Bool) (xs ys : List X) → find p xs ≡ None → find p (xs ++ ys) ≡ find p ys
 find-append_last p [] ys none = refl
-find-append_last {X} p (x ∷ xs) ys none = go (λ e. find-append_last p xs ys e) (p x) none
-  where
-    go : (find p xs ≡ None → find p (xs ++ ys) ≡ find p ys) → (b : Bool) → cond b (Some x) (find p xs) ≡ None
-        → cond b (Some x) (find p (xs ++ ys)) ≡ find p ys
-    go rest true e = absurd (cc)
-    go rest false e = rest e
+find-append_last p (x ∷ xs) ys none = grind (arith, find-append_last p xs ys)
 
 -- what is found in the first is found
 pub find-append_found : {X : Type 0} (p : X → Bool) (xs ys : List X) (x : X) → find p xs ≡ Some x → find p (xs ++ ys) ≡ Some x
 find-append_found p [] ys x found = absurd (cc)
-find-append_found {X} p (y ∷ xs) ys x found = go (λ e. find-append_found p xs ys x e) (p y) found
-  where
-    go : (find p xs ≡ Some x → find p (xs ++ ys) ≡ Some x) → (b : Bool) → cond b (Some y) (find p xs) ≡ Some x
-        → cond b (Some y) (find p (xs ++ ys)) ≡ Some x
-    go rest true e = e
-    go rest false e = rest e
+find-append_found p (y ∷ xs) ys x found = grind (arith, find-append_found p xs ys x)

@@ -1,17 +1,11 @@
 -- Names and their numbers.
-use Rattle.std.proofs.Common.{◌≡◌, ℕ, Bool, true, false, ◌==◌, ◌≤◌, List, [], ◌∷◌, reverse, length, Option, Some, None, cond, refl, sym, ap, ◌∙◌, inl, inr, arith}
-use Rattle.std.specs.Prelude.{if◌then◌else◌}
+use Rattle.std.proofs.Common.{◌≡◌, ℕ, Bool, true, false, ◌==◌, ◌≤◌, List, [], ◌∷◌, reverse, length, Option, Some, None, cond, refl, ap, inl, inr, arith}
 use Rattle.std.specs.Option.{option_eq}
 use Rattle.std.specs.Cmp.Lexicographic.{pointwise}
 use Rattle.std.proofs.lemmas.Slice.Eq.{bytes_eq-Decides}
 use Rattle.std.proofs.lemmas.List.{length-reverse}
-use Rattle.std.proofs.lemmas.Bool.{eqb-true, eq-eqb, and_parts, and_from}
-use Rattle.pid_types.specs.declared.plain.Name.{Name}
-use Rattle.pid_types.specs.declared.plain.Row.{Row}
-use Rattle.pid_types.specs.declared.plain.Space.{Space}
-use Rattle.pid_types.specs.State.{State}
-use Rattle.pid_types.specs.Names.{beside, path_up, number, is_numbered, same_name, is_parent, names_in_use, taken, on_row}
-use Rattle.pid_types.specs.Membership.{IsIn}
+use Rattle.std.proofs.lemmas.Bool.{eqb-true, eq-eqb, and_parts, and_from, cond_both}
+use Rattle.model_laws.proofs.Words.{Name, Row, Space, State, beside, path_up, number, is_numbered, same_name, is_parent, names_in_use, taken, on_row, IsIn}
 use Rattle.model_laws.proofs.Lists.{IsIn-reverse, IsIn-to_reverse, IsIn-flat_map, IsIn-from_flat_map, IsIn-filter_map, IsIn-from_filter_map}
 
 -- ---- when two names are one
@@ -36,12 +30,7 @@ same_name-refl a b e =
 pub beside-IsIn : (s : ℕ) (ts ns : List ℕ) (n : ℕ) → beside s ts ns ≡ Some n → IsIn s ts × IsIn n ns
 beside-IsIn s [] ns n h = absurd (cc)
 beside-IsIn s (t ∷ ts) [] n h = absurd (cc)
-beside-IsIn s (t ∷ ts) (m ∷ ns) n h = go (λ e. beside-IsIn s ts ns n e) (t == s) refl h
-  where
-    go : (beside s ts ns ≡ Some n → IsIn s ts × IsIn n ns) → (b : Bool) → (t == s) ≡ b → cond b (Some m) (beside s ts ns) ≡ Some n
-        → IsIn s (t ∷ ts) × IsIn n (m ∷ ns)
-    go rest true e f = let same : n ≡ m = cc in (inl (sym (eqb-true t s e)), inl same)
-    go rest false e f = (inr (rest f).0, inr (rest f).1)
+beside-IsIn s (t ∷ ts) (m ∷ ns) n h = grind (arith, beside-IsIn s ts ns n, eqb-true t s)
 
 -- where there is a number for each id, there is one beside each
 pub beside-Some : (s : ℕ) (ts ns : List ℕ) → length ts ≤ length ns → IsIn s ts → (n : ℕ) × (beside s ts ns ≡ Some n)
@@ -52,8 +41,7 @@ beside-Some s (t ∷ ts) (m ∷ ns) h i = go (λ j. beside-Some s ts ns (omega a
     go : (IsIn s ts → (n : ℕ) × (beside s ts ns ≡ Some n)) → (b : Bool) → (t == s) ≡ b → IsIn s (t ∷ ts)
         → (n : ℕ) × (cond b (Some m) (beside s ts ns) ≡ Some n)
     go rest true e j = (m, refl)
-    go rest false e (inl same) = let yes : (t == s) ≡ true = eq-eqb t s (sym same) in absurd (cc)
-    go rest false e (inr j) = rest j
+    go rest false e j = grind (arith, rest, eq-eqb t s)
 
 -- ---- the number of a name in a namespace
 
@@ -73,11 +61,7 @@ number-on_path spaces a s h i =
 
 -- off its path a name has no number
 pub number-off_path : (spaces : List Space) (a : Name) (s : ℕ) → (IsIn s (path_up spaces a.space) → ⊥) → number spaces a s ≡ None
-number-off_path spaces a s off = go (number spaces a s) refl
-  where
-    go : (o : Option ℕ) → number spaces a s ≡ o → number spaces a s ≡ None
-    go None e = e
-    go (Some n) e = absurd (off (number-within spaces a s n e).0)
+number-off_path spaces a s off = grind (arith, number-within spaces a s)
 
 -- a name's numbers are the same where its path is
 pub number-same_path : (spaces others : List Space) (a : Name) (s : ℕ) → path_up others a.space ≡ path_up spaces a.space
@@ -85,13 +69,15 @@ pub number-same_path : (spaces others : List Space) (a : Name) (s : ℕ) → pat
 unfolding number
 number-same_path spaces others a s e = ap (λ path. beside s (reverse path) a.numbers.items) e
 
+-- an option is the one, where the test says so
+pub option_eq-true : {A : Type 0} (eq : A → A → Bool) → ((x y : A) → eq x y ≡ true → x ≡ y) → (o : Option A) (a : A)
+    → option_eq eq o (Some a) ≡ true → o ≡ Some a
+option_eq-true eq same None a h = absurd (cc)
+option_eq-true eq same (Some x) a h = ap Some (same x a h)
+
 -- a name that has the number by the test has it
 pub is_numbered-true : (spaces : List Space) (a : Name) (s n : ℕ) → is_numbered spaces a s n ≡ true → number spaces a s ≡ Some n
-is_numbered-true spaces a s n h = go (number spaces a s) refl h
-  where
-    go : (o : Option ℕ) → number spaces a s ≡ o → option_eq ◌==◌ o (Some n) ≡ true → number spaces a s ≡ Some n
-    go None e f = absurd (cc)
-    go (Some m) e f = e ∙ ap Some (eqb-true m n f)
+is_numbered-true spaces a s n h = option_eq-true ◌==◌ eqb-true (number spaces a s) n h
 
 -- and is found by the test
 pub is_numbered-from : (spaces : List Space) (a : Name) (s n : ℕ) → number spaces a s ≡ Some n → is_numbered spaces a s n ≡ true
@@ -137,27 +123,15 @@ user_of_number state s n i = IsIn-from_filter_map (λ name. number state.spaces 
 -- what the change of a row keeps, its change at one name keeps
 pub on_row-keeps : {A : Type 0} (name : Name) (change : Row → Row) (part : Row → A) → ((r : Row) → part (change r) ≡ part r) → (r : Row)
     → part (on_row name change r) ≡ part r
-on_row-keeps {A} name change part keeps r = go (same_name r.name name)
-  where
-    go : (b : Bool) → part (if b then change r else r) ≡ part r
-    go true = keeps r
-    go false = refl
+on_row-keeps name change part keeps r = grind (arith, keeps r)
 
 -- what holds of a row changed, and of it as it was, holds of it after the change at one name
 pub on_row-both : (P : Row → Type 0) (name : Name) (change : Row → Row) (r : Row) → (r.name ≡ name → P (change r)) → P r → P (on_row name change r)
-on_row-both P name change r changed same = go (same_name r.name name) refl
-  where
-    go : (b : Bool) → same_name r.name name ≡ b → P (if b then change r else r)
-    go true e = changed (same_name-true r.name name e)
-    go false e = same
+on_row-both P name change r changed same = cond_both (same_name r.name name) (change r) r P (λ e. changed (same_name-true r.name name e)) (λ e. same)
 
 -- a child's parent is the name
 pub is_parent-true : (a : Name) (r : Row) → is_parent a r ≡ true → r.parent ≡ Some a
-is_parent-true a r h = go r.parent refl h
-  where
-    go : (o : Option Name) → r.parent ≡ o → option_eq same_name o (Some a) ≡ true → r.parent ≡ Some a
-    go None e f = absurd (cc)
-    go (Some b) e f = e ∙ ap Some (same_name-true b a f)
+is_parent-true a r h = option_eq-true same_name same_name-true r.parent a h
 
 -- a row with that parent is a child
 pub is_parent-from : (a : Name) (r : Row) → r.parent ≡ Some a → is_parent a r ≡ true

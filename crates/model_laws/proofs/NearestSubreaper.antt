@@ -1,89 +1,39 @@
--- The new parent is the nearest subreaper, or else the init.
-use Rattle.std.proofs.Common.{◌≡◌, ℕ, zero, suc, ◌+◌, ◌<◌, ◌≤◌, Bool, true, false, ◌&&◌, ◌==◌, [], length, Option, Some, None, cond, refl, sym, ap, ◌∙◌, subst, inl, inr, arith}
-use Rattle.std.specs.Prelude.{find, option_map, drop}
+-- Who takes the children of a task that ends: the nearest subreaper, or else the init.
+use Rattle.std.proofs.Common.{◌≡◌, ℕ, zero, suc, ◌+◌, ◌<◌, ◌≤◌, Bool, true, false, ◌&&◌, ◌==◌, [], length, Option, Some, None, refl, sym, ap, ◌∙◌, subst, inl, inr, arith, find, option_map, drop}
 use Rattle.std.specs.Option.{option_map_or}
-use Rattle.std.proofs.lemmas.Bool.{eqb-true, eq-eqb, and_parts, and_from}
-use Rattle.pid_types.specs.declared.plain.Row.{Row}
-use Rattle.pid_types.specs.Membership.{IsIn}
-use Rattle.pid_types.specs.Chains.{climb}
-use Rattle.pid_types.specs.State.{State}
-use Rattle.pid_types.specs.Names.{root_number, is_live, row_at, task_at}
-use Rattle.pid_types.specs.Exit.{parent_number, ancestors, is_subreaper_in, nearest_subreaper, new_parent}
-use Rattle.pid_types.specs.Sound.{IsCoherent}
-use Rattle.model_laws.specs.ParentLaws.{IsAbove, IsNearestSubreaper, HasNoSubreaper, TakesOrphans, NewParentIsNearest}
-use Rattle.model_laws.proofs.Chains.{climb-None, climb-Some, climb_cases}
+use Rattle.std.proofs.lemmas.Bool.{eqb-true, eq-eqb, and_parts, and_from, cases_Bool}
+use Rattle.model_laws.proofs.Words.{Row, IsIn, climb, State, root_number, is_live, row_at, task_at, parent_number, ancestors, is_subreaper_in, nearest_subreaper, new_parent, IsCoherent, Space, number, is_numbered, path_up}
+use Rattle.model_laws.proofs.Names.{own_name_in_use, is_numbered-true, is_numbered-from, number-on_path}
+use Rattle.model_laws.proofs.Lists.{find-only}
+use Rattle.model_laws.specs.ParentLaws.{IsAbove, IsNearestSubreaper, HasNoSubreaper, TakesOrphans}
 use Rattle.model_laws.proofs.Rising.{unique_key}
-use Rattle.model_laws.proofs.Trees.{row_at-listed}
-use Rattle.model_laws.proofs.Ancestry.{parent_number-at, top_row, parent_row}
-use Rattle.model_laws.proofs.ExitKept.{init_beside}
-
--- ---- so many parents above a number
-
--- m is so many parents above n
-abbrev Climbs : (ℕ → Option ℕ) → ℕ → ℕ → ℕ → Type 0
-Climbs f zero n m = n ≡ m
-Climbs f (suc k) n m = (p : ℕ) × (f n ≡ Some p) × Climbs f k p m
-
--- one step from a number leads to one number
-one_step : (f : ℕ → Option ℕ) (n p q : ℕ) → f n ≡ Some p → f n ≡ Some q → p ≡ q
-one_step f n p q a b = cc
+use Rattle.model_laws.proofs.Trees.{row_at-listed, path_first, space_at-Some, same_row}
+use Rattle.model_laws.proofs.Ancestry.{parent_number-at, top_row, parent_row, Climbs, one_step, way_to_one, no_further}
 
 -- what is found along a chain is so many parents above its beginning, and nothing nearer passes
 find-climb : (f : ℕ → Option ℕ) (p : ℕ → Bool) (k n m : ℕ) → find p (climb f k n) ≡ Some m
     → (j : ℕ) × Climbs f j n m × (p m ≡ true) × ((i x : ℕ) → i < j → Climbs f i n x → p x ≡ false)
 unfolding climb
 find-climb f p zero n m h = absurd (cc)
-find-climb f p (suc k) n m h = go (λ q e. find-climb f p k q m e) (p n) refl h
+find-climb f p (suc k) n m h = elim (cases_Bool (p n)) [
+  | inl e ↦ (let same : n ≡ m = grind arith in (0, same, ap p (sym same) ∙ e, λ i x l c. absurd (omega arith)))
+  | inr e ↦
+      let q : (q : ℕ) × (f n ≡ Some q) × (find p (climb f k q) ≡ Some m) = grind arith in
+      let r = find-climb f p k q.0 m q.2 in
+      (suc r.0, (q.0, q.1, r.1), r.2, nearer q.0 q.1 e r.0 r.3)
+]
   where
-    rest : ((q : ℕ) → find p (climb f k q) ≡ Some m → (j : ℕ) × Climbs f j q m × (p m ≡ true) × ((i x : ℕ) → i < j → Climbs f i q x → p x ≡ false))
-        → p n ≡ false → (o : Option ℕ) → f n ≡ o → find p (option_map_or (climb f k) o []) ≡ Some m
-        → (j : ℕ) × Climbs f j n m × (p m ≡ true) × ((i x : ℕ) → i < j → Climbs f i n x → p x ≡ false)
-    rest later miss None e g = absurd (cc)
-    rest later miss (Some q) e g =
-        let r = later q g in
-        (suc r.0, (q, e, r.1), r.2, λ i x l c. nearer r.0 i x l c r.3)
-      where
-        nearer : (j i x : ℕ) → i < suc j → Climbs f i n x → ((i x : ℕ) → i < j → Climbs f i q x → p x ≡ false) → p x ≡ false
-        nearer j zero x l c all = ap p (sym c) ∙ miss
-        nearer j (suc i) x l c all = all i x (omega arith) (subst (λ z. Climbs f i z x) (one_step f n c.0 q c.1 e) c.2)
-
-    go : ((q : ℕ) → find p (climb f k q) ≡ Some m → (j : ℕ) × Climbs f j q m × (p m ≡ true) × ((i x : ℕ) → i < j → Climbs f i q x → p x ≡ false))
-        → (b : Bool) → p n ≡ b → cond b (Some n) (find p (option_map_or (climb f k) (f n) [])) ≡ Some m
-        → (j : ℕ) × Climbs f j n m × (p m ≡ true) × ((i x : ℕ) → i < j → Climbs f i n x → p x ≡ false)
-    go later true e g = let same : n ≡ m = cc in (0, same, ap p (sym same) ∙ e, λ i x l c. absurd (omega arith))
-    go later false e g = rest later e (f n) refl g
+    nearer : (q : ℕ) → f n ≡ Some q → p n ≡ false → (j : ℕ) → ((i x : ℕ) → i < j → Climbs f i q x → p x ≡ false) → (i x : ℕ) → i < suc j
+        → Climbs f i n x → p x ≡ false
+    nearer q e miss j all zero x l c = ap p (sym c) ∙ miss
+    nearer q e miss j all (suc i) x l c = all i x (omega arith) (subst (λ z. Climbs f i z x) (one_step f n c.0 q c.1 e) c.2)
 
 -- where nothing is found, nothing passes that is less far above than the chain is long
 find-climb_none : (f : ℕ → Option ℕ) (p : ℕ → Bool) (k n : ℕ) → find p (climb f k n) ≡ None → (i x : ℕ) → i < k → Climbs f i n x → p x ≡ false
 unfolding climb
 find-climb_none f p zero n h i x l c = absurd (omega arith)
-find-climb_none f p (suc k) n h i x l c = go (λ q e j y m d. find-climb_none f p k q e j y m d) (p n) refl h
-  where
-    above : ((q : ℕ) → find p (climb f k q) ≡ None → (j y : ℕ) → j < k → Climbs f j q y → p y ≡ false)
-        → p n ≡ false → find p (option_map_or (climb f k) (f n) []) ≡ None → (j : ℕ) → j < suc k → Climbs f j n x → p x ≡ false
-    above later miss g zero m d = ap p (sym d) ∙ miss
-    above later miss g (suc j) m d = later d.0 (ap (λ o. find p (option_map_or (climb f k) o [])) (sym d.1) ∙ g) j x (omega arith) d.2
-
-    go : ((q : ℕ) → find p (climb f k q) ≡ None → (j y : ℕ) → j < k → Climbs f j q y → p y ≡ false)
-        → (b : Bool) → p n ≡ b → cond b (Some n) (find p (option_map_or (climb f k) (f n) [])) ≡ None → p x ≡ false
-    go later true e g = absurd (cc)
-    go later false e g = above later e g i l c
-
--- a chain that meets number 1 is longer than the way to it
-way_to_one : (f : ℕ → Option ℕ) (k n : ℕ) → IsIn 1 (climb f k n) → (j : ℕ) × Climbs f j n 1 × (j < k)
-unfolding climb
-way_to_one f zero n i = elim i [ ]
-way_to_one f (suc k) n i = elim (climb_cases f k n 1 i) [
-  | inl e ↦ (0, sym e, omega arith)
-  | inr r ↦ let w = way_to_one f k r.0 r.2 in (suc w.0, (r.0, r.1, w.1), omega (arith, w.2))
-]
-
--- nothing is further above than number 1, which has no parent
-no_further : (f : ℕ → Option ℕ) → f 1 ≡ None → (i j n x : ℕ) → Climbs f j n 1 → Climbs f i n x → i ≤ j
-no_further f top zero j n x a b = omega arith
-no_further f top (suc i) zero n x a b = let none : f n ≡ None = subst (λ z. f z ≡ None) (sym a) top in let some : f n ≡ Some b.0 = b.1 in absurd (cc)
-no_further f top (suc i) (suc j) n x a b =
-    let l = no_further f top i j a.0 x a.2 (subst (λ z. Climbs f i z x) (one_step f n b.0 a.0 b.1 a.1) b.2) in omega (arith, l)
+find-climb_none f p (suc k) n h zero x l c = grind arith
+find-climb_none f p (suc k) n h (suc i) x l c = grind (arith, find-climb_none f p k c.0)
 
 module _ (state : State) (sound : IsCoherent state) where
   -- the parent of the task with the root number, by its own
@@ -99,31 +49,20 @@ module _ (state : State) (sound : IsCoherent state) where
   parent_is r i parent e = parent_number-at state.rows (root_number r.name) r (row_at-listed state.rows sound.rows_rise r i) ∙ ap (option_map root_number) e
 
   -- a task above is so many parents above by its number
-  climbs : (k : ℕ) (a task : Row) → IsIn task state.rows → IsAbove state.rows k a task → Climbs parent_of k (root_number task.name) (root_number a.name)
+  pub climbs : (k : ℕ) (a task : Row) → IsIn task state.rows → IsAbove state.rows k a task
+      → Climbs parent_of k (root_number task.name) (root_number a.name)
   climbs zero a task i e = ap (λ (r : Row). root_number r.name) (sym e)
   climbs (suc k) a task i up = (root_number up.0.name, parent_is task i up.0 up.2, climbs k a up.0 up.1 up.3)
 
-  -- and back: what is so many parents above is a task, which lives if it is not the task itself
-  above : (k m : ℕ) (task : Row) → IsIn task state.rows → Climbs parent_of (suc k) (root_number task.name) m
-      → (a : Row) × IsIn a state.rows × (is_live a ≡ true) × (root_number a.name ≡ m) × IsAbove state.rows (suc k) a task
-  above k m task i c =
+  -- and back: what is so many parents above a live task is one
+  above : (k m : ℕ) (task : Row) → IsIn task state.rows → is_live task ≡ true → Climbs parent_of k (root_number task.name) m
+      → (a : Row) × IsIn a state.rows × (is_live a ≡ true) × (root_number a.name ≡ m) × IsAbove state.rows k a task
+  above zero m task i live e = (task, i, live, e, refl)
+  above (suc k) m task i live c =
       let u = parent_row state sound (root_number task.name) c.0 c.1 in
       let own : u.0 ≡ task = row_is u.0 task u.2 i u.3 in
-      let up : task.parent ≡ Some u.1.name = ap (λ (r : Row). r.parent) (sym own) ∙ u.7 in
-      go k u.1 u.4 u.6 (subst (λ z. Climbs parent_of k z m) (sym u.5) c.2) up
-    where
-      go : (j : ℕ) (parent : Row) → IsIn parent state.rows → is_live parent ≡ true → Climbs parent_of j (root_number parent.name) m → task.parent ≡ Some parent.name
-          → (a : Row) × IsIn a state.rows × (is_live a ≡ true) × (root_number a.name ≡ m) × IsAbove state.rows (suc j) a task
-      go j parent there live d up = let r = further j parent there live d in (r.0, r.1, r.2, r.3, (parent, there, up, r.4))
-        where
-          further : (j : ℕ) (p : Row) → IsIn p state.rows → is_live p ≡ true → Climbs parent_of j (root_number p.name) m
-              → (a : Row) × IsIn a state.rows × (is_live a ≡ true) × (root_number a.name ≡ m) × IsAbove state.rows j a p
-          further zero p t l e = (p, t, l, e, refl)
-          further (suc j) p t l e =
-              let u = parent_row state sound (root_number p.name) e.0 e.1 in
-              let own : u.0 ≡ p = row_is u.0 p u.2 t u.3 in
-              let r = further j u.1 u.4 u.6 (subst (λ z. Climbs parent_of j z m) (sym u.5) e.2) in
-              (r.0, r.1, r.2, r.3, (u.1, u.4, ap (λ (x : Row). x.parent) (sym own) ∙ u.7, r.4))
+      let r = above k m u.1 u.4 u.6 (subst (λ z. Climbs parent_of k z m) (sym u.5) c.2) in
+      (r.0, r.1, r.2, r.3, (u.1, u.4, ap (λ (x : Row). x.parent) (sym own) ∙ u.7, r.4))
 
   -- ---- the nearest
 
@@ -144,20 +83,14 @@ module _ (state : State) (sound : IsCoherent state) where
   there_above zero a task i e = subst (λ r. IsIn r state.rows) (sym e) i
   there_above (suc k) a task i up = there_above k a up.0 up.1 up.3
 
-  module _ (task : Row) (i : IsIn task state.rows) where
-    -- the chain may be as long as there are rows, and one more
-    one_more : length state.rows + 1 ≡ suc (length state.rows)
-    one_more = omega arith
-
-    -- the ancestors are the chain of the parent
-    ancestors-None : parent_of (root_number task.name) ≡ None → ancestors state.rows task ≡ []
-    ancestors-None e =
-        ap (λ k. drop 1 (climb parent_of k (root_number task.name))) one_more ∙ ap (drop 1) (climb-None parent_of (length state.rows) (root_number task.name) e)
-
-    -- where there is one
-    ancestors-Some : (q : ℕ) → parent_of (root_number task.name) ≡ Some q → ancestors state.rows task ≡ climb parent_of (length state.rows) q
-    ancestors-Some q e =
-        ap (λ k. drop 1 (climb parent_of k (root_number task.name))) one_more ∙ ap (drop 1) (climb-Some parent_of (length state.rows) (root_number task.name) q e)
+  module _ (task : Row) (i : IsIn task state.rows) (live : is_live task ≡ true) where
+    -- the ancestors are the chain of the parent, where there is one
+    ancestors-are : (o : Option ℕ) → parent_of (root_number task.name) ≡ o
+        → ancestors state.rows task ≡ option_map_or (climb parent_of (length state.rows)) o []
+    unfolding climb
+    ancestors-are o e =
+        let more : length state.rows + 1 ≡ suc (length state.rows) = omega arith in
+        ap (λ k. drop 1 (climb parent_of k (root_number task.name))) more ∙ ap (λ p. option_map_or (climb parent_of (length state.rows)) p []) e
 
     -- a subreaper that is found is the nearest
     nearest-found : (m : ℕ) → nearest_subreaper state.rows task ≡ Some m
@@ -166,10 +99,12 @@ module _ (state : State) (sound : IsCoherent state) where
       where
         go : (o : Option ℕ) → parent_of (root_number task.name) ≡ o
             → (a : Row) × IsIn a state.rows × (is_live a ≡ true) × (root_number a.name ≡ m) × (a.name.space ≡ task.name.space) × IsNearestSubreaper state.rows a task
-        go None e = let none : find (is_subreaper_in state.rows task.name.space) [] ≡ Some m = ap (find (is_subreaper_in state.rows task.name.space)) (sym (ancestors-None e)) ∙ h in absurd (cc)
+        go None e = let none : find (is_subreaper_in state.rows task.name.space) [] ≡ Some m = ap
+            (find (is_subreaper_in state.rows task.name.space)) (sym (ancestors-are None e)) ∙ h in absurd (cc)
         go (Some q) e =
-            let f = find-climb parent_of (is_subreaper_in state.rows task.name.space) (length state.rows) q m (ap (find (is_subreaper_in state.rows task.name.space)) (sym (ancestors-Some q e)) ∙ h) in
-            let a = above f.0 m task i (q, e, f.1) in
+            let f = find-climb parent_of (is_subreaper_in state.rows task.name.space) (length state.rows) q m
+            (ap (find (is_subreaper_in state.rows task.name.space)) (sym (ancestors-are (Some q) e)) ∙ h) in
+            let a = above (suc f.0) m task i live (q, e, f.1) in
             let t = marked-true task.name.space a.0 a.1 (subst (λ x. is_subreaper_in state.rows task.name.space x ≡ true) (sym a.3) f.2) in (
               a.0,
               a.1,
@@ -195,27 +130,54 @@ module _ (state : State) (sound : IsCoherent state) where
         let there : IsIn b state.rows = there_above (suc k) b task i s.above in
         let way = way_to_one parent_of (length state.rows) (root_number task.name) (sound.parents task i).chain in
         let near : suc k ≤ way.0 = no_further parent_of (top_row state sound) (suc k) way.0 (root_number task.name) (root_number b.name) way.1 c in
-        let never : is_subreaper_in state.rows task.name.space (root_number b.name) ≡ false = find-climb_none parent_of (is_subreaper_in state.rows task.name.space) (length state.rows) c.0 (ap (find (is_subreaper_in state.rows task.name.space)) (sym (ancestors-Some c.0 c.1)) ∙ h) k (root_number b.name) (omega (arith, near, way.2)) c.2 in
+        let never : is_subreaper_in state.rows task.name.space (root_number b.name) ≡ false = find-climb_none parent_of
+        (is_subreaper_in state.rows task.name.space) (length state.rows) c.0
+        (ap (find (is_subreaper_in state.rows task.name.space)) (sym (ancestors-are (Some c.0) c.1)) ∙ h) k (root_number b.name)
+        (omega (arith, near, way.2)) c.2 in
         let yes : is_subreaper_in state.rows task.name.space (root_number b.name) ≡ true = marked-from task.name.space b there s.marked s.beside in
         cc
 
+-- the init of a live task's namespace: it lives there, is number 1 there, and is found by that
+init_beside : (state : State) → IsCoherent state → (task : Row) → IsIn task state.rows → is_live task ≡ true
+    → (init : Row) × IsIn init state.rows × (is_live init ≡ true) × (init.name.space ≡ task.name.space) × (number state.spaces init.name task.name.space ≡ Some 1) × (task_at state task.name.space 1 ≡ Some init)
+unfolding task_at
+init_beside state sound task there lives =
+    let l = (sound.numbered task.name (own_name_in_use state.rows task there)).listed task.name.space (path_first state.spaces task.name.space) in
+    let at = space_at-Some state.spaces task.name.space l.0 l.1 in
+    let i = sound.standing l.0 at.0 (stands l.0 at.0 at.1 l.0.fallen refl) in
+    let one : number state.spaces i.0.name task.name.space ≡ Some 1 = subst (λ x. number state.spaces i.0.name x ≡ Some 1) at.1 i.4 in
+    let first : find (λ r. is_numbered state.spaces r.name task.name.space 1) state.rows ≡ Some i.0 = find-only (λ r. is_numbered state.spaces r.name task.name.space 1) state.rows i.0 i.1 (is_numbered-from state.spaces i.0.name task.name.space 1 one)
+    (λ r j e. same_row state.rows sound.rows_rise r i.0 j i.1 (sound.distinct r.name i.0.name (own_name_in_use state.rows r j) (own_name_in_use state.rows i.0 i.1) task.name.space 1 (is_numbered-true state.spaces r.name task.name.space 1 e) one)) in
+    (i.0, i.1, i.2, i.3 ∙ at.1, one, first)
+  where
+    -- the namespace of a live task stands
+    stands : (s : Space) → IsIn s state.spaces → s.id ≡ task.name.space → (b : Bool) → s.fallen ≡ b → s.fallen ≡ false
+    stands s i here false e = e
+    stands s i here true e =
+        let no : number state.spaces task.name s.id ≡ None = (sound.fallen s i e).ended task there lives in
+        let on = number-on_path state.spaces task.name s.id (sound.numbered task.name (own_name_in_use state.rows task there)).one_each (subst (λ x. IsIn x (path_up state.spaces task.name.space)) (sym here) (path_first state.spaces task.name.space)) in
+        let yes : number state.spaces task.name s.id ≡ Some on.0 = on.1 in
+        absurd (cc)
+
 -- the new parent is the nearest subreaper, or else the init
-pub new_parent_is_nearest : NewParentIsNearest
+pub takes_orphans : (state : State) (task : Row) → IsCoherent state → IsIn task state.rows → is_live task ≡ true
+    → (heir : Row) × (new_parent state task ≡ Some heir.name) × TakesOrphans state task heir
 unfolding new_parent
-new_parent_is_nearest state task sound i lives none = go (nearest_subreaper state.rows task) refl
+takes_orphans state task sound i lives = go (nearest_subreaper state.rows task) refl
   where
     go : (o : Option ℕ) → nearest_subreaper state.rows task ≡ o
         → (heir : Row) × (option_map (λ (r : Row). r.name) (option_map_or (row_at state.rows) (nearest_subreaper state.rows task) (task_at state task.name.space 1)) ≡ Some heir.name) × TakesOrphans state task heir
     go (Some m) e =
-        let a = nearest-found state sound.coherent task i m e in
-        let at : row_at state.rows m ≡ Some a.0 = subst (λ x. row_at state.rows x ≡ Some a.0) a.3 (row_at-listed state.rows sound.coherent.rows_rise a.0 a.1) in (
+        let a = nearest-found state sound task i lives m e in
+        let at : row_at state.rows m ≡ Some a.0 = subst (λ x. row_at state.rows x ≡ Some a.0) a.3
+        (row_at-listed state.rows sound.rows_rise a.0 a.1) in (
           a.0,
           ap (λ p. option_map (λ (r : Row). r.name) (option_map_or (row_at state.rows) p (task_at state task.name.space 1))) e ∙ ap (option_map (λ (r : Row). r.name)) at,
           record { there = a.1; lives = a.2; beside = a.4; who = inl a.5 },
         )
     go None e =
-        let b = init_beside state sound.coherent task i lives in (
+        let b = init_beside state sound task i lives in (
           b.0,
           ap (λ p. option_map (λ (r : Row). r.name) (option_map_or (row_at state.rows) p (task_at state task.name.space 1))) e ∙ ap (option_map (λ (r : Row). r.name)) b.5,
-          record { there = b.1; lives = b.2; beside = b.3; who = inr (nearest-none state sound.coherent task i e, b.4) },
+          record { there = b.1; lives = b.2; beside = b.3; who = inr (nearest-none state sound task i lives e, b.4) },
         )

@@ -1,19 +1,10 @@
 -- A task that is put into a group and a session.
-use Rattle.std.proofs.Common.{◌≡◌, true, Some, map, sym, ap, ◌∙◌, subst, ◌⊎◌, inl, inr}
-use Rattle.std.specs.Prelude.{if◌then◌else◌}
+use Rattle.std.proofs.Common.{◌≡◌, true, Some, map, sym, ap, ◌∙◌, subst, ◌⊎◌, inl, inr, if◌then◌else◌, arith}
 use Rattle.std.proofs.lemmas.Bool.{cases_Bool}
-use Rattle.pid_types.specs.declared.plain.Name.{Name}
-use Rattle.pid_types.specs.declared.plain.Row.{Row}
-use Rattle.pid_types.specs.declared.plain.Control.{Control}
-use Rattle.pid_types.specs.State.{State}
-use Rattle.pid_types.specs.Names.{is_live, same_name, names_in_use, on_row}
-use Rattle.pid_types.specs.Controls.{control_at}
-use Rattle.pid_types.specs.Membership.{IsIn}
-use Rattle.pid_types.specs.Sound.{HasGoodChildrenSpace, HasGoodGroups, IsSound}
-use Rattle.model_laws.proofs.Lists.{IsIn-from_map}
+use Rattle.model_laws.proofs.Words.{Name, Row, Control, State, is_live, same_name, names_in_use, on_row, control_at, IsIn, HasGoodChildrenSpace, HasGoodGroups, IsSound}
 use Rattle.model_laws.proofs.Names.{on_row-keeps, on_row-both, same_name-true, same_name-refl, group_in_use, session_in_use}
 use Rattle.model_laws.proofs.Trees.{same_row}
-use Rattle.model_laws.proofs.RowMaps.{KeepsRows}
+use Rattle.model_laws.proofs.RowMaps.{KeepsRows, HasGoodGroups-of}
 
 -- the task may be put there: who is in the group is in the session, and so is the task that the group is named after, if it is another
 -- one, and who is in a group that is named after the task
@@ -53,47 +44,17 @@ module _ (state : State) (sound : IsSound state) (target : Row) (i : IsIn target
   session_of e = ap (λ (x : Row). x.session) e
 
   together : (a b : Row) → IsIn a state.rows → IsIn b state.rows → (after a).group ≡ (after b).group → (after a).session ≡ (after b).session
-  together a b j k e = elim (row_cases a j) [
-    | inl p ↦ elim (row_cases b k) [
-      | inl q ↦ session_of (p.1 ∙ sym q.1)
-      | inr q ↦ session_of p.1 ∙ sym (free.members b k (sym (group_of q) ∙ sym e ∙ group_of p.1)) ∙ sym (session_of q)
-    ]
-    | inr p ↦ elim (row_cases b k) [
-      | inl q ↦ session_of p ∙ free.members a j (sym (group_of p) ∙ e ∙ group_of q.1) ∙ sym (session_of q.1)
-      | inr q ↦ session_of p ∙ sound.coherent.groups.together a b j k (sym (group_of p) ∙ e ∙ group_of q) ∙ sym (session_of q)
-    ]
-  ]
+  together a b j k e = grind (arith, row_cases a j, row_cases b k, free.members a j, free.members b k, sound.coherent.groups.together a b j k)
 
   -- the task that the group is named after is in the session, be it the one that was put there or another
   led : (b : Row) → IsIn b state.rows → b.name ≡ (change target).group → (after b).session ≡ (change target).session
-  led b k e = elim (row_cases b k) [
-    | inl q ↦ session_of q.1
-    | inr q ↦ elim (free.leader b k e) [
-      | inl own ↦ session_of (put b k (same_name-refl b.name target.name own))
-      | inr is ↦ session_of q ∙ is
-    ]
-  ]
+  led b k e = grind (arith, row_cases b k, free.leader b k e, put b k, same_name-refl b.name target.name)
 
   leader : (a b : Row) → IsIn a state.rows → IsIn b state.rows → (after a).group ≡ b.name → (after a).session ≡ (after b).session
-  leader a b j k e = elim (row_cases a j) [
-    | inl p ↦ session_of p.1 ∙ sym (led b k (sym e ∙ group_of p.1))
-    | inr p ↦ elim (row_cases b k) [
-      | inl q ↦ session_of p ∙ free.own a j (sym (group_of p) ∙ e ∙ q.0) ∙ sym (session_of q.1)
-      | inr q ↦ session_of p ∙ sound.coherent.groups.leader a b j k (sym (group_of p) ∙ e) ∙ sym (session_of q)
-    ]
-  ]
+  leader a b j k e = grind (arith, row_cases a j, row_cases b k, led b k, free.own a j, sound.coherent.groups.leader a b j k)
 
   groups : HasGoodGroups (map after state.rows)
-  groups = record {
-    together = λ a b j k e.
-        let p = IsIn-from_map after a state.rows j in
-        let q = IsIn-from_map after b state.rows k in
-        session_of p.2 ∙ together p.0 q.0 p.1 q.1 (sym (group_of p.2) ∙ e ∙ group_of q.2) ∙ sym (session_of q.2);
-    leader = λ a b j k e.
-        let p = IsIn-from_map after a state.rows j in
-        let q = IsIn-from_map after b state.rows k in
-        session_of p.2 ∙ leader p.0 q.0 p.1 q.1 (sym (group_of p.2) ∙ e ∙ ap (λ (x : Row). x.name) q.2 ∙ name q.0) ∙ sym (session_of q.2);
-  }
+  groups = HasGoodGroups-of state.rows after together (λ a b j k e. leader a b j k (e ∙ name b))
 
   -- the rows keep what a coherent state asks of them
   pub KeepsRows-placed : KeepsRows state (on_row target.name change)

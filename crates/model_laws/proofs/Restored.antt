@@ -1,24 +1,15 @@
 -- What makes a saved table again leaves a sound state.
-use Rattle.std.proofs.Common.{◌≡◌, ℕ, ◌<◌, Bool, true, false, not, List, map, Option, Some, None, refl, sym, ap, ◌∙◌, subst, inl, inr}
-use Rattle.std.specs.Prelude.{if◌then◌else◌}
+use Rattle.std.proofs.Common.{◌≡◌, ℕ, ◌<◌, Bool, true, false, not, map, Option, Some, None, refl, sym, ap, ◌∙◌, subst, inl, inr, if◌then◌else◌}
 use Rattle.std.specs.Option.{option_map_or}
 use Rattle.std.proofs.lemmas.Bool.{or_cases, not-true}
-use Rattle.pid_types.specs.declared.plain.Name.{Name}
-use Rattle.pid_types.specs.declared.plain.Row.{Row}
-use Rattle.pid_types.specs.declared.plain.Space.{Space}
-use Rattle.pid_types.specs.State.{State}
-use Rattle.pid_types.specs.Names.{path_up, number, same_name, live_row, with_row}
-use Rattle.pid_types.specs.Outcome.{sweep}
-use Rattle.pid_types.specs.Groups.{has_members}
-use Rattle.pid_types.specs.Restore.{enlist, may_enlist, enlisted, put_cursor, with_cursor}
-use Rattle.pid_types.specs.Membership.{IsIn}
-use Rattle.pid_types.specs.Sound.{HasLiveInit, IsEmptied, IsSound}
+use Rattle.model_laws.proofs.Words.{Row, Space, State, number, same_name, live_row, with_row, sweep, has_members, enlist, may_enlist, enlisted, put_cursor, with_cursor, IsIn, IsSound}
 use Rattle.model_laws.specs.RestoreLaws.{StaysSound}
 use Rattle.model_laws.proofs.Lists.{IsIn-from_map, list_any-from_one}
 use Rattle.model_laws.proofs.Names.{same_name-true, same_name-refl, own_name_in_use, session_in_use}
 use Rattle.model_laws.proofs.Trees.{same_row, live_row-Some}
 use Rattle.model_laws.proofs.Sweeps.{IsSound-sweep}
-use Rattle.model_laws.proofs.SpaceMaps.{path_up-map, number-map_spaces, IsTreeOfSpaces-map, IsWellNumbered-map, HasGoodChildrenSpace-map}
+use Rattle.model_laws.proofs.SpaceMaps.{number-map_spaces}
+use Rattle.model_laws.proofs.Survivors.{IsCoherent-map_spaces}
 use Rattle.model_laws.proofs.Placed.{IsOpen}
 use Rattle.model_laws.proofs.Kept.{placed_keeps, IsBelow-sweep}
 
@@ -38,107 +29,45 @@ IsOpen-leader state sound task leader i j may = record {
   ];
 }
 
+-- what is done to what is found leaves a sound state, and so does nothing
+stays_or : {A : Type 0} (state : State) (o : Option A) (f : A → State) → IsSound state → ((a : A) → o ≡ Some a → StaysSound state (f a))
+    → StaysSound state (option_map_or f o state)
+stays_or state None f sound h = (sound, λ stamp below. below)
+stays_or state (Some a) f sound h = h a refl
+
 -- the state after is sound
 pub enlisted_keeps : (state : State) (n m : ℕ) → IsSound state → StaysSound state (enlisted state n m)
 unfolding enlisted
-enlisted_keeps state n m sound = task (live_row state.rows n) refl
+enlisted_keeps state n m sound =
+    stays_or state (live_row state.rows n) _ sound (λ t e. stays_or state (live_row state.rows m) _ sound (λ l f.
+    goes t l (live_row-Some state.rows n t e).0 (live_row-Some state.rows m l f).0 (may_enlist state t l) refl))
   where
-    went : Row → Row → State
-    went t l = if may_enlist state t l then sweep (with_row state t.name (enlist l)) else state
-
-    same : StaysSound state state
-    same = (sound, λ stamp below. below)
-
     goes : (t l : Row) → IsIn t state.rows → IsIn l state.rows → (b : Bool) → may_enlist state t l ≡ b
         → StaysSound state (if b then sweep (with_row state t.name (enlist l)) else state)
-    goes t l i j false e = same
+    goes t l i j false e = (sound, λ stamp below. below)
     goes t l i j true e =
         let k = placed_keeps state t (enlist l) sound i (λ r. refl) (IsOpen-leader state sound t l i j e) in
         (IsSound-sweep (with_row state t.name (enlist l)) k.0, λ stamp below. IsBelow-sweep stamp (with_row state t.name (enlist l)) (k.1 stamp below))
 
-    leader : (t : Row) → IsIn t state.rows → (o : Option Row) → live_row state.rows m ≡ o → StaysSound state (option_map_or (went t) o state)
-    leader t i None e = same
-    leader t i (Some l) e = goes t l i (live_row-Some state.rows m l e).0 (may_enlist state t l) refl
-
-    task : (o : Option Row) → live_row state.rows n ≡ o → StaysSound state (option_map_or (λ t. option_map_or (went t) (live_row state.rows m) state) o state)
-    task None e = same
-    task (Some t) e = leader t (live_row-Some state.rows n t e).0 (live_row state.rows m) refl
-
 -- ---- the cursors
-
--- a change of namespaces that keeps their ids and parents, and which have fallen, leaves a sound state
-module _ (state : State) (h : Space → Space) (ids : (s : Space) → (h s).id ≡ s.id) (parents : (s : Space) → (h s).parent ≡ s.parent)
-    (falls : (s : Space) → (h s).fallen ≡ s.fallen) (sound : IsSound state) where
-  abbrev changed_spaces : List Space
-  changed_spaces = map h state.spaces
-
-  -- the namespace from before, with its id and with whether it has fallen
-  before : (s : Space) → IsIn s changed_spaces → (t : Space) × IsIn t state.spaces × (s.id ≡ t.id) × (s.fallen ≡ t.fallen)
-  before s i =
-      let q = IsIn-from_map h s state.spaces i in
-      (q.0, q.1, ap (λ (x : Space). x.id) q.2 ∙ ids q.0, ap (λ (x : Space). x.fallen) q.2 ∙ falls q.0)
-
-  -- numbers stay
-  numbers : (a : Name) (s : ℕ) → number changed_spaces a s ≡ number state.spaces a s
-  numbers a s = number-map_spaces state.spaces h ids parents a s
-
-  paths : (x : ℕ) → path_up changed_spaces x ≡ path_up state.spaces x
-  paths x = path_up-map state.spaces h ids parents x
-
-  pub IsSound-map_spaces : IsSound (record state { spaces = map h state.spaces })
-  IsSound-map_spaces = record {
-    coherent = record {
-      distinct = λ a b i j s n e f. sound.coherent.distinct a b i j s n (sym (numbers a s) ∙ e) (sym (numbers b s) ∙ f);
-      numbered = λ a i. IsWellNumbered-map state.spaces h ids parents state.pid_max a (sound.coherent.numbered a i);
-      parents = λ r i.
-          let p = sound.coherent.parents r i in
-          record {
-            first = p.first;
-            good = λ parent e.
-                let g = p.good parent e in
-                record {
-                  lives = g.lives;
-                  around = subst (IsIn parent.space) (sym (paths r.name.space)) g.around;
-                  outside = λ one. g.outside (sym (numbers r.name r.name.space) ∙ one);
-                };
-            chain = p.chain;
-          };
-      children = λ r i. HasGoodChildrenSpace-map state.spaces h ids parents r (sound.coherent.children r i);
-      root = λ s i zero. let t = before s i in t.3 ∙ sound.coherent.root t.0 t.1 (sym t.2 ∙ zero);
-      standing = λ s i up.
-          let t = before s i in
-          let r = sound.coherent.standing t.0 t.1 (sym t.3 ∙ up) in
-          subst (HasLiveInit state.rows changed_spaces) (sym t.2) (r.0, r.1, r.2, r.3, numbers r.0.name t.0.id ∙ r.4);
-      fallen = λ s i down.
-          let t = before s i in
-          let em = sound.coherent.fallen t.0 t.1 (sym t.3 ∙ down) in
-          subst (IsEmptied state.rows changed_spaces) (sym t.2) (record {
-            ended = λ r j live. numbers r.name t.0.id ∙ em.ended r j live;
-            below = λ u j inside.
-                let v = before u j in
-                v.3 ∙ em.below v.0 v.1 (subst (IsIn t.0.id) (paths v.0.id) (subst (λ x. IsIn t.0.id (path_up changed_spaces x)) v.2 inside));
-          });
-      groups = sound.coherent.groups;
-      rows_rise = sound.coherent.rows_rise;
-      spaces = IsTreeOfSpaces-map state.spaces h ids parents sound.coherent.spaces;
-      controls = sound.coherent.controls;
-      limits = sound.coherent.limits;
-      homes = sound.coherent.homes;
-    };
-    named = λ s i down.
-        let t = before s i in
-        let u = sound.named t.0 t.1 (sym t.3 ∙ down) in
-        (u.0, u.1, u.2, ap (number changed_spaces u.0) t.2 ∙ numbers u.0 t.0.id ∙ u.3);
-  }
 
 -- a cursor that is put elsewhere leaves a sound state, and no new id
 pub with_cursor_keeps : (state : State) (id n : ℕ) → IsSound state → StaysSound state (with_cursor state id n)
 unfolding with_cursor
 with_cursor_keeps state id n sound = (
-  IsSound-map_spaces state (put_cursor id n) (λ s. refl) (λ s. refl) (λ s. refl) sound,
+  record {
+    coherent = IsCoherent-map_spaces state put (λ s. refl) (λ s. refl) (λ s. refl) sound.coherent;
+    named = λ s i down.
+        let q = IsIn-from_map put s state.spaces i in
+        let u = sound.named q.0 q.1 (ap (λ (x : Space). x.fallen) (sym q.2) ∙ down) in
+        (u.0, u.1, u.2, ap (λ (x : Space). number (map put state.spaces) u.0 x.id) q.2 ∙ number-map_spaces state.spaces put (λ t. refl) (λ t. refl) u.0 q.0.id ∙ u.3);
+  },
   λ stamp below. record {
-    spaces = λ s i. let q = IsIn-from_map (put_cursor id n) s state.spaces i in subst (λ (x : Space). x.id < stamp) (sym q.2) (below.spaces q.0 q.1);
+    spaces = λ s i. let q = IsIn-from_map put s state.spaces i in subst (λ (x : Space). x.id < stamp) (sym q.2) (below.spaces q.0 q.1);
     controls = below.controls;
     children = below.children;
   },
 )
+  where
+    put : Space → Space
+    put = put_cursor id n

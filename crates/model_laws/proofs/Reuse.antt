@@ -1,41 +1,26 @@
 -- No number is handed out twice.
-use Rattle.std.proofs.Common.{◌≡◌, ℕ, zero, suc, ◌+◌, ◌<◌, Bool, true, List, [], ◌∷◌, length, take, Some, refl, sym, ap, ◌∙◌, subst, inl, inr, arith, add-one}
-use Rattle.std.specs.Prelude.{slice_get}
+use Rattle.std.proofs.Common.{◌≡◌, ℕ, zero, suc, ◌+◌, ◌<◌, true, List, [], ◌∷◌, length, take, Some, refl, sym, ap, ◌∙◌, subst, inl, arith, add-one, slice_get}
 use Rattle.std.proofs.lemmas.Bool.{eqb-true}
 use Rattle.std.proofs.lemmas.List.{length-map, length-take-le}
 use Rattle.std.proofs.lemmas.Option.{slice_get_within}
-use Rattle.pid_types.specs.declared.call.Call.{Call}
-use Rattle.pid_types.specs.declared.call.Call.TheVariants.{Fork}
-use Rattle.pid_types.specs.declared.plain.Name.{Name}
-use Rattle.pid_types.specs.declared.plain.Row.{Row}
-use Rattle.pid_types.specs.declared.plain.Space.{Space}
-use Rattle.pid_types.specs.declared.reply.Reply.TheVariants.{Forked}
-use Rattle.pid_types.specs.declared.entry.Entry.{Entry}
-use Rattle.pid_types.specs.State.{State}
-use Rattle.pid_types.specs.Names.{path_up, number, root_number, is_live, row_at, names_in_use}
-use Rattle.pid_types.specs.Outcome.{Outcome, sweep}
-use Rattle.pid_types.specs.Fork.{child_of, with_child, with_cursors, fork}
-use Rattle.pid_types.specs.Step.{step}
-use Rattle.pid_types.specs.Replay.{calls_of, Along, RepliesAsOne, Replays}
-use Rattle.pid_types.specs.Membership.{IsIn}
-use Rattle.pid_types.specs.Sound.{IsCoherent, IsSound, IsBelow}
+use Rattle.model_laws.proofs.Words.{Call, Name, Row, Space, Forked, Entry, State, path_up, number, root_number, is_live, row_at, names_in_use, Outcome, sweep, child_of, with_child, with_cursors, step, calls_of, Along, RepliesAsOne, Replays, IsIn, IsCoherent, IsSound, IsBelow, forked, moved_cursor}
 use Rattle.model_laws.specs.ReuseLaws.{state_at, IsInUse, ShareNumber}
 use Rattle.model_laws.proofs.Names.{user_of_name, IsIn-names_in_use}
 use Rattle.model_laws.proofs.Trees.{row_at-listed, live_row-Some}
 use Rattle.model_laws.proofs.Inserts.{IsIn-insert_new, IsIn-insert_old}
 use Rattle.model_laws.proofs.Sweeps.{name_number}
-use Rattle.model_laws.proofs.Calls.{MayFork, fork_cases}
-use Rattle.pid_types.specs.Fork.{forked}
-use Rattle.model_laws.proofs.ForkKept.{IsReady, IsReady-old, IsReady-new, with_new, fresh, number_after, IsCoherent-forked}
-use Rattle.model_laws.proofs.Limits.{fork_or_not}
+use Rattle.model_laws.proofs.Calls.{MayFork, Comes, still, born, born_first, no_answer, step_comes}
+use Rattle.model_laws.proofs.ForkKept.{IsReady, IsReady-old, IsReady-new, with_new, fresh, IsCoherent-forked}
+use Rattle.model_laws.proofs.SpaceMaps.{number-map_spaces}
 use Rattle.model_laws.proofs.StepKept.{step_keeps, run_keeps}
 
 -- ---- one fork
 
 -- the row found under the root number that the reply tells shares no number with the name
-record IsFresh (name : Name) (o : Outcome) : Type 0 where
-  apart : (child root : ℕ) (row : Row) → o.reply ≡ Forked child root → IsSound o.state → row_at o.state.rows root ≡ Some row
-      → ShareNumber o.state name row.name → ⊥
+abbrev IsFresh : Name → Outcome → Type 0
+IsFresh name o =
+    (child root : ℕ) (row : Row) → o.reply ≡ Forked child root → IsSound o.state → row_at o.state.rows root ≡ Some row
+    → ShareNumber o.state name row.name → ⊥
 
 module _ (old : State) (sound : IsCoherent old) (spaces : List Space) (caller : Row) (t : ℕ) (ready : IsReady old spaces caller t)
     (there : IsIn caller old.rows) (live : is_live caller ≡ true) (may : MayFork (record old { spaces = spaces }) caller t) where
@@ -66,47 +51,35 @@ module _ (old : State) (sound : IsCoherent old) (spaces : List Space) (caller : 
   -- and shares no number with another
   IsFresh-forked : (name : Name) → IsIn name (names_in_use old.rows) → IsFresh name (forked state caller t)
   unfolding sweep with_cursors
-  IsFresh-forked name i = record {
-    apart = λ c root row told after found share.
-        let o : Outcome = forked state caller t in
-        let told_root : root ≡ root_number child.name = cc in
-        let at : row_at o.state.rows (root_number child.name) ≡ Some child = row_at-listed o.state.rows after.coherent.rows_rise child (IsIn-insert_new child old.rows) in
-        let at_root : row_at o.state.rows root ≡ Some child = subst (λ m. row_at o.state.rows m ≡ Some child) (sym told_root) at in
-        let same : row ≡ child = cc in
-        let s : ℕ = share.0 in
-        let n : ℕ = share.1 in
-        let swept : (a : Name) → IsIn a (names_in_use made.rows) → number o.state.spaces a s ≡ number spaces a s =
-        λ a j. name_number made made_coherent a j s ∙ number_after old sound spaces caller t ready there live may a s in
-        fresh old sound spaces caller t ready there live may name i s n
-        (sym (swept child.name child_in_use) ∙ subst (λ (r : Row). number o.state.spaces r.name s ≡ Some n) same share.3)
-        (sym (swept name (in_use_after name i)) ∙ share.2);
-  }
+  IsFresh-forked name i c root row told after found share =
+      let o : Outcome = forked state caller t in
+      let told_root : root ≡ root_number child.name = cc in
+      let at : row_at o.state.rows (root_number child.name) ≡ Some child = row_at-listed o.state.rows after.coherent.rows_rise child (IsIn-insert_new child old.rows) in
+      let at_root : row_at o.state.rows root ≡ Some child = subst (λ m. row_at o.state.rows m ≡ Some child) (sym told_root) at in
+      let same : row ≡ child = cc in
+      let s : ℕ = share.0 in
+      let n : ℕ = share.1 in
+      let swept : (a : Name) → IsIn a (names_in_use made.rows) → number o.state.spaces a s ≡ number spaces a s =
+      λ a j. name_number made made_coherent a j s ∙ number-map_spaces spaces (moved_cursor state (path_up spaces t)) (λ x. refl) (λ x. refl) a s in
+      fresh old sound spaces caller t ready there live may name i s n
+      (sym (swept child.name child_in_use) ∙ subst (λ (r : Row). number o.state.spaces r.name s ≡ Some n) same share.3)
+      (sym (swept name (in_use_after name i)) ∙ share.2)
 
 -- after a call in a sound state a new task shares no number with a name that was in use
-step_fresh : (state : State) (stamp : ℕ) (call : Call) → IsSound state → IsBelow stamp state → (name : Name) → IsInUse name state
-    → (child root : ℕ) (row : Row) → (step state stamp call).reply ≡ Forked child root → row_at (step state stamp call).state.rows root ≡ Some row
-    → ShareNumber (step state stamp call).state name row.name → ⊥
-unfolding step
-step_fresh state stamp call sound below name i child root row told found share = elim (fork_or_not state stamp call) [
-  | inl f ↦ (of_fork f.0 f.1).apart child root row
-      (subst (λ c. (step state stamp c).reply ≡ Forked child root) f.2 told)
-      (step_keeps state stamp (Fork f.0 f.1) sound below).sound
-      (subst (λ c. row_at (step state stamp c).state.rows root ≡ Some row) f.2 found)
-      (subst (λ c. ShareNumber (step state stamp c).state name row.name) f.2 share)
-  | inr h ↦ h.never child root told
-]
-  where
-    of_fork : (n : ℕ) (new_space : Bool) → IsFresh name (fork state stamp n new_space)
-    of_fork n new_space =
-        fork_cases (IsFresh name) state stamp n new_space (λ r. record { apart = λ c m x e. absurd (cc) })
-        (λ caller seen stands may.
-        let c = live_row-Some state.rows n caller seen in
-        IsFresh-forked state sound.coherent state.spaces caller caller.children_space (IsReady-old state sound.coherent caller c.0 stands may) c.0 c.2 may name i)
-        (λ caller seen stands shallow here may.
-        let c = live_row-Some state.rows n caller seen in
-        let p : ℕ = caller.children_space in
-        IsFresh-forked state sound.coherent (with_new state sound.coherent stamp below p stands shallow) caller stamp
-        (IsReady-new state sound.coherent stamp below p stands shallow caller c.0 (eqb-true p caller.name.space here) may) c.0 c.2 may name i)
+comes_fresh : (state : State) (stamp : ℕ) (call : Call) (o : Outcome) → Comes state stamp call o → IsSound state → IsBelow stamp state → (name : Name)
+    → IsInUse name state → IsFresh name o
+comes_fresh state stamp call o (still _ reply answer) sound below name i = λ child root row told.
+    absurd (no_answer reply (Forked child root) answer refl told)
+comes_fresh state stamp call o (born n new_space caller plain found stands may) sound below name i =
+    let c = live_row-Some state.rows n caller found in
+    IsFresh-forked state sound.coherent state.spaces caller caller.children_space (IsReady-old state sound.coherent caller c.0 stands may)
+    c.0 c.2 may name i
+comes_fresh state stamp call o (born_first n caller found stands shallow here may) sound below name i =
+    let c = live_row-Some state.rows n caller found in
+    let p : ℕ = caller.children_space in
+    IsFresh-forked state sound.coherent (with_new state sound.coherent stamp below p stands shallow) caller stamp
+    (IsReady-new state sound.coherent stamp below p stands shallow caller c.0 (eqb-true p caller.name.space here) may) c.0 c.2 may name i
+comes_fresh state stamp call o _ sound below name i = λ child root row told. absurd (cc)
 
 -- ---- replays
 
@@ -138,5 +111,8 @@ no_reuse opening first entries sound below run k e child root row name at used t
     let kept = run_keeps opening first (calls_of (take k entries)) sound below in
     let long : length (calls_of (take k entries)) ≡ k = length-map (take k entries) (λ (x : Entry). x.call) ∙ length-take-le k entries (let l : k < length entries = slice_get_within entries k e at in omega arith) in
     let next : state_at opening first entries (k + 1) ≡ (step now (first + k) e.call).state = ap (state_at opening first entries) (add-one k) ∙ state_at-suc opening first entries k e at in
-    step_fresh now (first + k) e.call kept.0 (subst (λ n. IsBelow (first + n) now) long kept.1) name used child root row (Along-at RepliesAsOne opening first entries run k e at ∙ told)
-    (subst (λ (x : State). row_at x.rows root ≡ Some row) next found) (subst (λ (x : State). ShareNumber x name row.name) next share)
+    let below : IsBelow (first + k) now = subst (λ n. IsBelow (first + n) now) long kept.1 in
+    (comes_fresh now (first + k) e.call _ (step_comes now (first + k) e.call) kept.0 below name used) child root row
+    (Along-at RepliesAsOne opening first entries run k e at ∙ told)
+    (step_keeps now (first + k) e.call kept.0 below).sound (subst (λ (x : State). row_at x.rows root ≡ Some row) next found)
+    (subst (λ (x : State). ShareNumber x name row.name) next share)

@@ -1,22 +1,16 @@
 -- Lists that rise by a key.
-use Rattle.std.proofs.Common.{◌≡◌, ℕ, ◌<◌, Bool, true, false, ◌==◌, List, [], ◌∷◌, ◌++◌, map, Some, cond, refl, sym, ap, ◌∙◌, subst, inl, inr, arith}
-use Rattle.std.specs.Prelude.{filter, find}
+use Rattle.std.proofs.Common.{◌≡◌, ℕ, ◌<◌, Bool, ◌==◌, List, [], ◌∷◌, ◌++◌, map, Some, refl, sym, subst, inl, inr, arith, filter, find}
 use Rattle.std.proofs.lemmas.Bool.{eqb-true, eq-eqb}
-use Rattle.pid_types.specs.Membership.{IsIn}
-use Rattle.pid_types.specs.Sound.{IsRising}
-use Rattle.model_laws.proofs.Lists.{IsIn-map, IsIn-from_map, IsIn-from_filter, find-Some, find-only, IsIn-append}
+use Rattle.model_laws.proofs.Words.{IsIn, IsRising}
+use Rattle.model_laws.proofs.Lists.{IsIn-map, IsIn-from_map, IsIn-from_filter, find-Some, find-only, each_pushed}
 
 -- what is left out of a rising list leaves it rising
 pub IsRising-filter : {X : Type 0} (key : X → ℕ) (p : X → Bool) (xs : List X) → IsRising (map key xs) → IsRising (map key (filter p xs))
 IsRising-filter key p [] h = tt
-IsRising-filter {X} key p (x ∷ xs) h = go (IsRising-filter key p xs h.1) (p x)
+IsRising-filter {X} key p (x ∷ xs) h = grind (arith, IsRising-filter key p xs, below)
   where
     below : (m : ℕ) → IsIn m (map key (filter p xs)) → key x < m
     below m i = let r = IsIn-from_map key m (filter p xs) i in subst (λ n. key x < n) (sym r.2) (h.0 (key r.0) (IsIn-map key r.0 xs (IsIn-from_filter p r.0 xs r.1).0))
-
-    go : IsRising (map key (filter p xs)) → (b : Bool) → IsRising (map key (cond b (x ∷ filter p xs) (filter p xs)))
-    go rest true = (below, rest)
-    go rest false = rest
 
 -- a list goes on rising by what is above it
 pub IsRising-push : {X : Type 0} (key : X → ℕ) (xs : List X) (y : X) → IsRising (map key xs) → ((x : X) → IsIn x xs → key x < key y)
@@ -27,18 +21,13 @@ IsRising-push {X} key (x ∷ xs) y h above = (below, IsRising-push key xs y h.1 
     below : (m : ℕ) → IsIn m (map key (xs ++ y ∷ [])) → key x < m
     below m i =
         let r = IsIn-from_map key m (xs ++ y ∷ []) i in
-        elim (IsIn-append r.0 xs (y ∷ []) r.1) [
-          | inl j ↦ subst (λ n. key x < n) (sym r.2) (h.0 (key r.0) (IsIn-map key r.0 xs j))
-          | inr j ↦ elim j [ inl e ↦ subst (λ n. key x < n) (sym (r.2 ∙ ap key e)) (above x (inl refl)) | inr none ↦ elim none [ ] ]
-        ]
+        subst (λ n. key x < n) (sym r.2) (each_pushed (λ z. key x < key z) xs y (λ z j. h.0 (key z) (IsIn-map key z xs j))
+        (above x (inl refl)) r.0 r.1)
 
 -- two elements of a rising list with one key are one
 pub unique_key : {X : Type 0} (key : X → ℕ) (xs : List X) → IsRising (map key xs) → (a b : X) → IsIn a xs → IsIn b xs → key a ≡ key b → a ≡ b
 unique_key key [] h a b i j e = elim i [ ]
-unique_key key (x ∷ xs) h a b (inl p) (inl q) e = p ∙ sym q
-unique_key key (x ∷ xs) h a b (inl p) (inr j) e = let l : key x < key b = h.0 (key b) (IsIn-map key b xs j) in absurd (omega (arith, ap key p))
-unique_key key (x ∷ xs) h a b (inr i) (inl q) e = let l : key x < key a = h.0 (key a) (IsIn-map key a xs i) in absurd (omega (arith, ap key q))
-unique_key key (x ∷ xs) h a b (inr i) (inr j) e = unique_key key xs h.1 a b i j e
+unique_key key (x ∷ xs) h a b i j e = grind (arith, unique_key key xs h.1 a b, h.0 (key a), h.0 (key b), IsIn-map key a xs, IsIn-map key b xs)
 
 -- a search by the key finds the element
 pub find-key : {X : Type 0} (key : X → ℕ) (xs : List X) → IsRising (map key xs) → (x : X) → IsIn x xs → find (λ y. key y == key x) xs ≡ Some x

@@ -1,92 +1,74 @@
 -- Every call leaves a sound state, and the root namespace stands.
-use Rattle.std.proofs.Common.{◌≡◌, ℕ, suc, ◌+◌, ◌<◌, true, false, List, [], ◌∷◌, length, Option, Some, None, refl, sym, ap, ◌∙◌, subst, inl, inr, arith}
-use Rattle.std.specs.Prelude.{IfSome}
+use Rattle.std.proofs.Common.{◌≡◌, ℕ, suc, ◌+◌, ◌<◌, true, false, List, [], ◌∷◌, length, Some, refl, sym, ap, ◌∙◌, subst, inl, inr, arith, IfSome}
 use Rattle.std.specs.Option.{option_map_or}
-use Rattle.pid_types.specs.declared.call.Call.{Call}
-use Rattle.pid_types.specs.declared.call.Call.TheVariants.{Fork, GetPid, NsPid, Exec, Exit, Wait, GetPpid, SetPgid, SetSid, MakeControl, RemoveControl, SetLimit, Move, Count, GetPgid, GetSid, Next, Join, SetSubreaper}
-use Rattle.pid_types.specs.declared.plain.Row.{Row}
-use Rattle.pid_types.specs.declared.plain.Space.{Space}
-use Rattle.pid_types.specs.declared.plain.Control.{Control}
-use Rattle.pid_types.specs.declared.reply.Reply.TheVariants.{Counted, Refused}
-use Rattle.pid_types.specs.declared.reply.Refusal.TheVariants.{NoControl}
-use Rattle.pid_types.specs.Settings.{HasGoodPidMax}
-use Rattle.pid_types.specs.Chains.{climb}
-use Rattle.pid_types.specs.State.{State, root_state, root_init, root_name}
-use Rattle.pid_types.specs.Membership.{IsIn}
-use Rattle.pid_types.specs.declared.plain.Name.{Name}
-use Rattle.pid_types.specs.Names.{path_up, number, names_in_use}
-use Rattle.pid_types.specs.Controls.{control_at, control_path, count}
-use Rattle.pid_types.specs.Outcome.{answered, for_found}
-use Rattle.pid_types.specs.Fork.{is_gone}
-use Rattle.pid_types.specs.Changes.{count_tasks}
-use Rattle.pid_types.specs.Step.{step, makes_id}
-use Rattle.pid_types.specs.Replay.{state_after}
-use Rattle.pid_types.specs.Sound.{IsSound, IsBelow, IsWellNumbered, HasGoodParents}
+use Rattle.model_laws.proofs.Words.{Call, Row, Space, Control, HasGoodPidMax, climb, State, root_state, root_init, root_name, IsIn, Name, path_up, number, names_in_use, control_at, control_path, is_gone, step, makes_id, state_after, IsSound, IsBelow, IsWellNumbered, HasGoodParents, space_at, Outcome, fall, set_group, start_session, set_executed, set_home, set_mark, HasGoodChildrenSpace, HasLiveInit, IsEmptied, HasGoodLimit}
+use Rattle.model_laws.proofs.Lists.{only}
 use Rattle.model_laws.specs.Script.{EndsSound}
-use Rattle.pid_types.specs.Names.{space_at}
-use Rattle.model_laws.proofs.Trees.{space_at-Some}
-use Rattle.model_laws.proofs.Kept.{Keeps, Keeps-same, Keeps-next, exec_keeps, set_subreaper_keeps, move_task_keeps, join_keeps, set_pgid_keeps, set_sid_keeps}
+use Rattle.model_laws.proofs.Trees.{space_at-Some, live_row-Some}
+use Rattle.model_laws.proofs.Names.{is_numbered-true}
+use Rattle.model_laws.proofs.Kept.{Keeps, Keeps-same, Keeps-next, Keeps-changed, Keeps-on_row, Keeps-placed, join_keeps, group_for-IsOpen, target_of-IsIn, target_session, IsOpen-new}
 use Rattle.model_laws.proofs.ControlsKept.{make_control_keeps, remove_control_keeps, set_limit_keeps}
-use Rattle.model_laws.proofs.EndsKept.{wait_keeps}
+use Rattle.model_laws.proofs.EndsKept.{wait_keeps, IsCoherent-fall, IsBelow-fall}
 use Rattle.model_laws.proofs.ExitKept.{exit_keeps}
-use Rattle.model_laws.proofs.ForkKept.{fork_plain_keeps, fork_keeps}
-
--- a read of a count leaves a sound state
-count_tasks_keeps : (state : State) (stamp id : ℕ) → IsSound state → IsBelow stamp state → Keeps stamp (count_tasks state id)
-unfolding count_tasks
-count_tasks_keeps state stamp id sound below = go (control_at state.controls id)
-  where
-    go : (o : Option Control) → Keeps stamp (for_found state o NoControl (λ c. answered state (Counted (count state id))))
-    go None = Keeps-same stamp state (Refused NoControl) sound below
-    go (Some c) = Keeps-same stamp state (Counted (count state id)) sound below
+use Rattle.model_laws.proofs.ForkKept.{forked_keeps, forked_first_keeps}
+use Rattle.model_laws.proofs.Calls.{Comes, still, born, born_first, fell, handed_on, waits, reaped, grouped, led, executed, control_made, control_removed, limit_set, moved, joined, marked, step_comes}
 
 -- a call that makes nothing with an id leaves a sound state, whose ids are below the stamp
-pub plain_keeps : (state : State) (stamp : ℕ) (call : Call) → makes_id call ≡ false → IsSound state → IsBelow stamp state
-    → Keeps stamp (step state stamp call)
-unfolding step
-plain_keeps state stamp (Fork caller false) plain sound below = fork_plain_keeps state stamp caller sound below
-plain_keeps state stamp (Fork caller true) plain sound below = absurd (cc)
-plain_keeps state stamp (GetPid caller) plain sound below = Keeps-same stamp state _ sound below
-plain_keeps state stamp (NsPid caller target) plain sound below = Keeps-same stamp state _ sound below
-plain_keeps state stamp (Exec caller) plain sound below = exec_keeps state stamp caller sound below
-plain_keeps state stamp (Exit caller status) plain sound below = exit_keeps state stamp caller status sound below
-plain_keeps state stamp (Wait caller which) plain sound below = wait_keeps state stamp caller which sound below
-plain_keeps state stamp (GetPpid caller) plain sound below = Keeps-same stamp state _ sound below
-plain_keeps state stamp (SetPgid caller pid pgid) plain sound below = set_pgid_keeps state stamp caller pid pgid sound below
-plain_keeps state stamp (SetSid caller) plain sound below = set_sid_keeps state stamp caller sound below
-plain_keeps state stamp (MakeControl parent) plain sound below = absurd (cc)
-plain_keeps state stamp (RemoveControl id) plain sound below = remove_control_keeps state stamp id sound below
-plain_keeps state stamp (SetLimit id limit) plain sound below = set_limit_keeps state stamp id limit sound below
-plain_keeps state stamp (Move task id) plain sound below = move_task_keeps state stamp task id sound below
-plain_keeps state stamp (Count id) plain sound below = count_tasks_keeps state stamp id sound below
-plain_keeps state stamp (GetPgid caller pid) plain sound below = Keeps-same stamp state _ sound below
-plain_keeps state stamp (GetSid caller pid) plain sound below = Keeps-same stamp state _ sound below
-plain_keeps state stamp (Next caller kind from) plain sound below = Keeps-same stamp state _ sound below
-plain_keeps state stamp (Join caller target) plain sound below = join_keeps state stamp caller target sound below
-plain_keeps state stamp (SetSubreaper caller on) plain sound below = set_subreaper_keeps state stamp caller on sound below
+pub plain_keeps : (state : State) (stamp : ℕ) (call : Call) (o : Outcome) → Comes state stamp call o → makes_id call ≡ false → IsSound state
+    → IsBelow stamp state
+    → Keeps stamp o
+plain_keeps state stamp call o (still _ reply answer) plain sound below = Keeps-same stamp state reply sound below
+plain_keeps state stamp call o (waits n which caller found none) plain sound below = Keeps-same stamp state _ sound below
+plain_keeps state stamp call o (born n new_space caller _ found stands may) plain sound below =
+    let c = live_row-Some state.rows n caller found in forked_keeps state stamp caller sound below c.0 c.2 stands may
+plain_keeps state stamp call o (executed n caller found) plain sound below =
+    Keeps-on_row stamp state caller.name set_executed _ sound below (λ r. refl) (λ r i e. sound.coherent.children r i) sound.coherent.homes
+    below.children
+plain_keeps state stamp call o (fell n status caller found deep one) plain sound below =
+    let c = live_row-Some state.rows n caller found in
+    let first : number state.spaces caller.name caller.name.space ≡ Some 1 = is_numbered-true state.spaces caller.name caller.name.space 1 one in
+    Keeps-changed stamp (fall state caller status) _ (IsCoherent-fall state sound.coherent caller status c.0 first deep)
+    (IsBelow-fall state sound.coherent caller status c.0 first deep stamp below)
+plain_keeps state stamp call o (handed_on n status caller found none) plain sound below =
+    let c = live_row-Some state.rows n caller found in exit_keeps state stamp status caller _ sound below c.0 c.2 none
+plain_keeps state stamp call o (reaped n which caller row found least) plain sound below =
+    let c = live_row-Some state.rows n caller found in wait_keeps state stamp which caller row _ sound below c.0 c.2 least
+plain_keeps state stamp call o (grouped n pid pgid caller target group found aimed same own there) plain sound below =
+    let i : IsIn caller state.rows = (live_row-Some state.rows n caller found).0 in
+    let j : IsIn target state.rows = target_of-IsIn state caller target pid i aimed in
+    Keeps-placed stamp state target (set_group group) _ sound below j (λ r. refl)
+    (group_for-IsOpen state sound caller target pgid group j (target_session state sound caller target i j same own) there)
+plain_keeps state stamp call o (led n caller found none) plain sound below =
+    let i : IsIn caller state.rows = (live_row-Some state.rows n caller found).0 in
+    Keeps-placed stamp state caller start_session _ sound below i (λ r. refl) (IsOpen-new state caller i none)
+plain_keeps state stamp call o (control_removed id parent c found under idle) plain sound below =
+    remove_control_keeps state stamp id parent c _ sound below found under idle
+plain_keeps state stamp call o (limit_set id parent limit c found under good) plain sound below =
+    set_limit_keeps state stamp id parent limit c _ sound below found under good
+plain_keeps state stamp call o (moved n id task c found there) plain sound below =
+    Keeps-on_row stamp state task.name (set_home id) _ sound below (λ r. refl) (λ r i e. sound.coherent.children r i) (λ r i. (c, there))
+    below.children
+plain_keeps state stamp call o (joined n target caller row found there live) plain sound below =
+    join_keeps state stamp target caller row _ sound below there
+plain_keeps state stamp call o (marked n on caller found) plain sound below =
+    Keeps-on_row stamp state caller.name (set_mark on) _ sound below (λ r. refl) (λ r i e. sound.coherent.children r i) sound.coherent.homes
+    below.children
+plain_keeps state stamp call o _ plain sound below = absurd (cc)
 
 -- every call leaves a sound state, whose ids are below the next stamp
+comes_keeps : (state : State) (stamp : ℕ) (call : Call) (o : Outcome) → Comes state stamp call o → IsSound state → IsBelow stamp state
+    → Keeps (stamp + 1) o
+comes_keeps state stamp call o (still _ reply answer) sound below = Keeps-next stamp _ (Keeps-same stamp state reply sound below)
+comes_keeps state stamp call o (born n new_space caller plain found stands may) sound below =
+    Keeps-next stamp _ (plain_keeps state stamp _ _ (born n new_space caller plain found stands may) plain sound below)
+comes_keeps state stamp call o (born_first n caller found stands shallow here may) sound below =
+    let c = live_row-Some state.rows n caller found in forked_first_keeps state stamp caller sound below c.0 c.2 stands shallow here may
+comes_keeps state stamp call o (control_made parent c found shallow) sound below = make_control_keeps state stamp parent c _ sound below found shallow
+comes_keeps state stamp call o m sound below = Keeps-next stamp _ (plain_keeps state stamp _ _ m refl sound below)
+
+-- so does a step
 pub step_keeps : (state : State) (stamp : ℕ) (call : Call) → IsSound state → IsBelow stamp state → Keeps (stamp + 1) (step state stamp call)
-unfolding step
-step_keeps state stamp (Fork caller new_space) sound below = fork_keeps state stamp caller new_space sound below
-step_keeps state stamp (GetPid caller) sound below = Keeps-next stamp _ (plain_keeps state stamp (GetPid caller) refl sound below)
-step_keeps state stamp (NsPid caller target) sound below = Keeps-next stamp _ (plain_keeps state stamp (NsPid caller target) refl sound below)
-step_keeps state stamp (Exec caller) sound below = Keeps-next stamp _ (plain_keeps state stamp (Exec caller) refl sound below)
-step_keeps state stamp (Exit caller status) sound below = Keeps-next stamp _ (plain_keeps state stamp (Exit caller status) refl sound below)
-step_keeps state stamp (Wait caller which) sound below = Keeps-next stamp _ (plain_keeps state stamp (Wait caller which) refl sound below)
-step_keeps state stamp (GetPpid caller) sound below = Keeps-next stamp _ (plain_keeps state stamp (GetPpid caller) refl sound below)
-step_keeps state stamp (SetPgid caller pid pgid) sound below = Keeps-next stamp _ (plain_keeps state stamp (SetPgid caller pid pgid) refl sound below)
-step_keeps state stamp (SetSid caller) sound below = Keeps-next stamp _ (plain_keeps state stamp (SetSid caller) refl sound below)
-step_keeps state stamp (MakeControl parent) sound below = make_control_keeps state stamp parent sound below
-step_keeps state stamp (RemoveControl id) sound below = Keeps-next stamp _ (plain_keeps state stamp (RemoveControl id) refl sound below)
-step_keeps state stamp (SetLimit id limit) sound below = Keeps-next stamp _ (plain_keeps state stamp (SetLimit id limit) refl sound below)
-step_keeps state stamp (Move task id) sound below = Keeps-next stamp _ (plain_keeps state stamp (Move task id) refl sound below)
-step_keeps state stamp (Count id) sound below = Keeps-next stamp _ (plain_keeps state stamp (Count id) refl sound below)
-step_keeps state stamp (GetPgid caller pid) sound below = Keeps-next stamp _ (plain_keeps state stamp (GetPgid caller pid) refl sound below)
-step_keeps state stamp (GetSid caller pid) sound below = Keeps-next stamp _ (plain_keeps state stamp (GetSid caller pid) refl sound below)
-step_keeps state stamp (Next caller kind from) sound below = Keeps-next stamp _ (plain_keeps state stamp (Next caller kind from) refl sound below)
-step_keeps state stamp (Join caller target) sound below = Keeps-next stamp _ (plain_keeps state stamp (Join caller target) refl sound below)
-step_keeps state stamp (SetSubreaper caller on) sound below = Keeps-next stamp _ (plain_keeps state stamp (SetSubreaper caller on) refl sound below)
+step_keeps state stamp call sound below = comes_keeps state stamp call _ (step_comes state stamp call) sound below
 
 -- every run of calls does
 pub run_keeps : (opening : State) (first : ℕ) (calls : List Call) → IsSound opening → IsBelow first opening
@@ -102,13 +84,7 @@ run_keeps opening first (call ∷ calls) sound below =
 
 -- the names in use are all the root init's
 only_name : (a : Name) → IsIn a (names_in_use (root_init ∷ [])) → a ≡ root_name
-only_name a i = elim i [
-  | inl e ↦ e
-  | inr j ↦ elim j [
-    | inl e ↦ e
-    | inr k ↦ elim k [ inl e ↦ e | inr none ↦ elim none [ ] ]
-  ]
-]
+only_name a i = grind arith
 
 -- the state that a table begins with is sound
 pub root_state_sound : (pid_max : ℕ) → HasGoodPidMax pid_max → IsSound (root_state pid_max)
@@ -116,68 +92,56 @@ unfolding climb path_up number control_path
 root_state_sound pid_max good = record {
   coherent = record {
     distinct = λ a b i j s n x y. only_name a i ∙ sym (only_name b j);
-    numbered = λ a i. subst (λ n. IsWellNumbered (root_state pid_max).spaces pid_max n) (sym (only_name a i)) (record {
-      listed = λ x j. elim j [ inl e ↦ subst (λ m. (s : Space) × (space_at (root_state pid_max).spaces m ≡ Some s)) (sym e) (_, refl) | inr none ↦ elim none [ ] ];
+    numbered = λ a i. subst (IsWellNumbered spaces pid_max) (sym (only_name a i)) (record {
+      listed = only 0 (λ x. (s : Space) × (space_at spaces x ≡ Some s)) (_, refl);
       one_each = refl;
-      in_range = λ n j. elim j [ inl e ↦ (omega (arith, e), (let g = good.0 in omega (arith, e, g))) | inr none ↦ elim none [ ] ];
+      in_range = only 1 (λ n. (0 < n) × (n < pid_max)) (omega arith, omega (arith, good.0));
     });
-    parents = λ r i. elim i [
-      | inl e ↦ subst (λ q. HasGoodParents (root_state pid_max).rows (root_state pid_max).spaces q) (sym e) (record {
-        first = λ none. refl;
-        good = λ parent some. absurd (cc);
-        chain = inl refl;
-      })
-      | inr none ↦ elim none [ ]
-    ];
-    children = λ r i. elim i [
-      | inl e ↦ inr (subst (λ (q : Row). IsIn q.name.space (path_up (root_state pid_max).spaces q.children_space)) (sym e) (inl refl))
-      | inr none ↦ elim none [ ]
-    ];
-    root = λ s i zero. elim i [ inl e ↦ ap (λ (t : Space). t.fallen) e | inr none ↦ elim none [ ] ];
-    standing = λ s i up. elim i [
-      | inl e ↦ (root_init, inl refl, refl, sym (ap (λ (t : Space). t.id) e), ap (λ (t : Space). number (root_state pid_max).spaces root_name t.id) e)
-      | inr none ↦ elim none [ ]
-    ];
-    fallen = λ s i down. elim i [ inl e ↦ absurd (let up = ap (λ (t : Space). t.fallen) e in cc) | inr none ↦ elim none [ ] ];
-    groups = record {
-      together = λ a b i j same. elim i [
-        | inl e ↦ elim j [ inl f ↦ ap (λ (r : Row). r.session) (e ∙ sym f) | inr none ↦ elim none [ ] ]
-        | inr none ↦ elim none [ ]
-      ];
-      leader = λ a b i j same. elim i [
-        | inl e ↦ elim j [ inl f ↦ ap (λ (r : Row). r.session) (e ∙ sym f) | inr none ↦ elim none [ ] ]
-        | inr none ↦ elim none [ ]
-      ];
-    };
+    parents = only root_init (HasGoodParents rows spaces) (record { first = λ none. refl; good = λ parent some. absurd (cc); chain = inl refl });
+    children = only root_init (HasGoodChildrenSpace spaces) (inr (inl refl));
+    root = only _ (λ (s : Space). s.id ≡ 0 → s.fallen ≡ false) (λ zero. refl);
+    standing = only _ (λ (s : Space). s.fallen ≡ false → HasLiveInit rows spaces s.id) (λ up. (root_init, inl refl, refl, refl, refl));
+    fallen = only _ (λ (s : Space). s.fallen ≡ true → IsEmptied rows spaces s.id) (λ down. absurd (cc));
+    groups = record { together = λ a b i j same. one_session a b i j; leader = λ a b i j same. one_session a b i j };
     rows_rise = (λ m none. elim none [ ], tt);
     spaces = record {
       rising = (λ m none. elim none [ ], tt);
-      older = λ s i. elim i [ inl e ↦ subst (λ (t : Space). IfSome t.parent (λ p. p < t.id)) (sym e) tt | inr none ↦ elim none [ ] ];
+      older = only _ (λ (s : Space). IfSome s.parent (λ p. p < s.id)) tt;
       root = (_, refl, refl);
-      chains = λ s i. elim i [ inl e ↦ subst (λ (t : Space). IsIn 0 (path_up (root_state pid_max).spaces t.id)) (sym e) (inl refl) | inr none ↦ elim none [ ] ];
+      chains = only _ (λ (s : Space). IsIn 0 (path_up spaces s.id)) (inl refl);
     };
     controls = record {
       rising = (λ m none. elim none [ ], tt);
-      older = λ c i. elim i [ inl e ↦ subst (λ (d : Control). IfSome d.parent (λ p. p < d.id)) (sym e) tt | inr none ↦ elim none [ ] ];
+      older = only _ (λ (c : Control). IfSome c.parent (λ p. p < c.id)) tt;
       root = (_, refl, refl);
-      chains = λ c i. elim i [ inl e ↦ subst (λ (d : Control). IsIn 0 (control_path (root_state pid_max).controls d.id)) (sym e) (inl refl) | inr none ↦ elim none [ ] ];
+      chains = only _ (λ (c : Control). IsIn 0 (control_path controls c.id)) (inl refl);
     };
-    limits = λ c i. elim i [
-      | inl e ↦ record { root = λ zero. ap (λ (d : Control). d.limit) e; bounded = λ limit some. absurd (let none = ap (λ (d : Control). d.limit) e in cc) }
-      | inr none ↦ elim none [ ]
-    ];
-    homes = λ r i. elim i [ inl e ↦ subst (λ (q : Row). (c : Control) × (control_at (root_state pid_max).controls q.home ≡ Some c)) (sym e) (_, refl) | inr none ↦ elim none [ ] ];
+    limits = only _ HasGoodLimit (record { root = λ zero. refl; bounded = λ limit some. absurd (cc) });
+    homes = only root_init (λ r. (c : Control) × (control_at controls r.home ≡ Some c)) (_, refl);
   };
-  named = λ s i down. elim i [ inl e ↦ absurd (let up = ap (λ (t : Space). t.fallen) e in cc) | inr none ↦ elim none [ ] ];
+  named = only _ (λ (s : Space). s.fallen ≡ true → (a : Name) × (n : ℕ) × IsIn a (names_in_use rows) × (number spaces a s.id ≡ Some n))
+      (λ down. absurd (cc));
 }
+  where
+    rows : List Row
+    rows = (root_state pid_max).rows
+
+    spaces : List Space
+    spaces = (root_state pid_max).spaces
+
+    controls : List Control
+    controls = (root_state pid_max).controls
+
+    one_session : (a b : Row) → IsIn a rows → IsIn b rows → a.session ≡ b.session
+    one_session a b i j =
+        ap (λ (r : Row). r.session) (only root_init (λ r. r ≡ root_init) refl a i ∙ sym (only root_init (λ r. r ≡ root_init) refl b j))
 
 -- and its ids are below the first stamp
 pub root_state_below : (pid_max first : ℕ) → 0 < first → IsBelow first (root_state pid_max)
 root_state_below pid_max first l = record {
-  spaces = λ s i. elim i [ inl e ↦ (let z : s.id ≡ 0 = ap (λ (t : Space). t.id) e in omega arith) | inr none ↦ elim none [ ] ];
-  controls = λ c i. elim i [ inl e ↦ (let z : c.id ≡ 0 = ap (λ (d : Control). d.id) e in omega arith) | inr none ↦ elim none [ ] ];
-  children =
-      λ r i. elim i [ inl e ↦ (let z : r.children_space ≡ 0 = ap (λ (q : Row). q.children_space) e in omega arith) | inr none ↦ elim none [ ] ];
+  spaces = only _ (λ (s : Space). s.id < first) l;
+  controls = only _ (λ (c : Control). c.id < first) l;
+  children = only root_init (λ r. r.children_space < first) l;
 }
 
 -- a script that ends in a state leaves a sound one

@@ -1,22 +1,9 @@
 -- Paths are chains of parents, and a count is the number of tasks whose home is in the subtree.
-use Rattle.std.proofs.Common.{◌≡◌, ℕ, zero, suc, Bool, true, false, List, [], ◌∷◌, length, Option, Some, None, refl, sym, ap, ◌∙◌, subst, inl, inr}
-use Rattle.std.specs.Prelude.{filter, option_and_then}
-use Rattle.pid_types.specs.declared.plain.Row.{Row}
-use Rattle.pid_types.specs.declared.plain.Control.{Control}
-use Rattle.pid_types.specs.declared.plain.ControlRow.{ControlRow}
-use Rattle.pid_types.specs.declared.reply.Reply.TheVariants.{Counted}
-use Rattle.pid_types.specs.declared.reply.Refusal.TheVariants.{NoControl}
-use Rattle.pid_types.specs.Membership.{IsIn}
-use Rattle.pid_types.specs.Chains.{climb}
-use Rattle.pid_types.specs.Names.{parent_space, path_up}
-use Rattle.pid_types.specs.Controls.{control_at, parent_control, control_path, is_below, count}
-use Rattle.pid_types.specs.Outcome.{answered, for_found}
-use Rattle.pid_types.specs.Changes.{count_tasks}
-use Rattle.pid_types.specs.Step.{step}
-use Rattle.pid_types.specs.Shown.{with_count}
-use Rattle.pid_types.specs.Sound.{IsTreeOfControls}
+use Rattle.std.proofs.Common.{◌≡◌, ℕ, zero, suc, List, length, Option, Some, None, refl, sym, ap, ◌∙◌, subst, inl, inr, filter, arith}
+use Rattle.std.proofs.lemmas.Bool.Decides.{same_from_decides}
+use Rattle.model_laws.proofs.Words.{Control, ControlRow, Counted, NoControl, IsIn, climb, parent_space, path_up, control_at, parent_control, control_path, is_below, count, answered, for_found, count_tasks, step, with_count, IsTreeOfControls}
 use Rattle.model_laws.specs.PathLaws.{IsChain, IsPathOf, IsInSubtree, PathsAreChains, CountIsOfSubtree, SubtreeIsTold, CountsAreOfSubtrees}
-use Rattle.model_laws.proofs.Lists.{IsIn-from_map, IsIn-from_contains, contains-from_IsIn}
+use Rattle.model_laws.proofs.Lists.{filter-same, IsIn-from_map, IsIn-from_contains, contains-from_IsIn}
 use Rattle.model_laws.proofs.Chains.{Stops, Stops-at_root, climb-None, climb-Some, climb_cases, IsIn-climb_first}
 use Rattle.model_laws.proofs.Forests.{at-listed}
 use Rattle.model_laws.proofs.Trees.{root_space_parent, root_control_parent, control_at-Some}
@@ -56,15 +43,12 @@ unfolding climb
 IsInSubtree-climb controls zero id c i = elim i [ ]
 IsInSubtree-climb controls (suc k) id c i = elim (climb_cases (parent_control controls) k id c i) [
   | inl e ↦ subst (IsInSubtree controls c) e IsInSubtree.itself
-  | inr r ↦ go r.0 (control_at controls id) refl r.1 (IsInSubtree-climb controls k r.0 c r.2)
+  | inr r ↦
+      let up : parent_control controls id ≡ Some r.0 = r.1 in
+      let g : (g : Control) × (control_at controls id ≡ Some g) × (g.parent ≡ Some r.0) = grind arith in
+      let at = control_at-Some controls id g.0 g.1 in
+      subst (IsInSubtree controls c) at.1 (IsInSubtree.child g.0 r.0 at.0 g.2 (IsInSubtree-climb controls k r.0 c r.2))
 ]
-  where
-    go : (p : ℕ) (o : Option Control) → control_at controls id ≡ o → option_and_then (λ (g : Control). g.parent) o ≡ Some p → IsInSubtree controls c p
-        → IsInSubtree controls c id
-    go p None e f up = absurd (cc)
-    go p (Some g) e f up =
-        let at = control_at-Some controls id g e in
-        subst (IsInSubtree controls c) at.1 (IsInSubtree.child g p at.0 f up)
 
 -- and back, among control groups that are a tree
 on_path : (controls : List Control) → IsTreeOfControls controls → (c id : ℕ) → IsInSubtree controls c id → IsIn c (control_path controls id)
@@ -72,17 +56,6 @@ unfolding control_path
 on_path controls tree c _ IsInSubtree.itself = IsIn-climb_first (parent_control controls) 64 c
 on_path controls tree c _ (IsInSubtree.child g parent i e up) =
     path_of_parent controls tree g.id parent g (at-listed Control (λ d. d.id) (λ d. d.parent) (control_path controls) controls tree g i) e c (on_path controls tree c parent up)
-
--- lists that are filtered by tests which agree on them are one
-filter-agree : (p q : Row → Bool) (rows : List Row) → ((r : Row) → IsIn r rows → p r ≡ q r) → filter p rows ≡ filter q rows
-filter-agree p q [] h = refl
-filter-agree p q (r ∷ rows) h = rw (h r (inl refl), filter-agree p q rows (λ x i. h x (inr i))) refl
-
--- tests that hold together are one
-same_test : (a b : Bool) → (a ≡ true → b ≡ true) → (b ≡ true → a ≡ true) → a ≡ b
-same_test true b f g = sym (f refl)
-same_test false true f g = g refl
-same_test false false f g = refl
 
 -- the path of the home tells the subtree
 pub subtree_is_told : SubtreeIsTold
@@ -96,9 +69,9 @@ subtree_is_told state c sound row i = (
 pub count_is_of_subtree : CountIsOfSubtree
 unfolding count
 count_is_of_subtree state c test sound tells =
-    ap length (filter-agree (λ row. is_below state.controls row.home c) test state.rows (λ row i.
+    ap length (filter-same (λ row. is_below state.controls row.home c) test state.rows (λ row i.
     let told = subtree_is_told state c sound row i in
-    same_test (is_below state.controls row.home c) (test row) (λ e. (tells row i).1 (told.0 e)) (λ e. told.1 ((tells row i).0 e))))
+    same_from_decides (is_below state.controls row.home c) (test row) told (tells row i)))
 
 -- a count is answered, and shown
 pub counts_are_of_subtrees : CountsAreOfSubtrees

@@ -1,15 +1,8 @@
 -- The sweep takes away no namespace in which a name in use has a number, and leaves a sound state.
-use Rattle.std.proofs.Common.{◌≡◌, ℕ, Bool, true, false, not, ◌==◌, List, [], ◌∷◌, length, Option, Some, None, refl, sym, ap, ◌∙◌, subst, inl, inr, arith}
-use Rattle.std.specs.Prelude.{option_and_then}
-use Rattle.std.proofs.lemmas.Bool.{eqb-true, ne_eqb, and_left, and_right, not_from_false, not-true}
-use Rattle.pid_types.specs.declared.plain.Name.{Name}
-use Rattle.pid_types.specs.declared.plain.Row.{Row}
-use Rattle.pid_types.specs.declared.plain.Space.{Space}
-use Rattle.pid_types.specs.State.{State}
-use Rattle.pid_types.specs.Names.{space_at, parent_space, path_up, number, names_in_use, taken}
-use Rattle.pid_types.specs.Outcome.{is_dead, sweep}
-use Rattle.pid_types.specs.Membership.{IsIn}
-use Rattle.pid_types.specs.Sound.{HasGoodChildrenSpace, IsTreeOfSpaces, IsCoherent, IsSound}
+use Rattle.std.proofs.Common.{◌≡◌, ℕ, false, not, ◌==◌, List, [], ◌∷◌, length, Option, Some, None, refl, sym, ap, ◌∙◌, subst, inl, inr, arith, option_and_then}
+use Rattle.std.proofs.lemmas.Bool.{eqb-true, ne_eqb, and_left, and_right, not_from_false, not-true, cases_Bool}
+use Rattle.model_laws.proofs.Words.{Name, Row, Space, State, space_at, parent_space, path_up, number, names_in_use, taken, is_dead, sweep, IsIn, HasGoodChildrenSpace, IsTreeOfSpaces, IsCoherent, IsSound}
+use Rattle.model_laws.proofs.SpaceMaps.{IsWellNumbered-kept, HasGoodParents-kept}
 use Rattle.model_laws.proofs.Lists.{IsIn-filter, IsIn-from_filter, find-filter}
 use Rattle.model_laws.proofs.Chains.{climb-same}
 use Rattle.model_laws.proofs.Names.{number-on_path, number-within, number-same_path, own_name_in_use, IsIn-taken, user_of_number}
@@ -73,18 +66,17 @@ module _ (state : State) (sound : IsCoherent state) where
   -- a name in use has a number in each namespace that is not dead
   pub user_of_kept : (s : Space) → IsIn s state.spaces → is_dead state s ≡ false
       → (a : Name) × (n : ℕ) × IsIn a (names_in_use state.rows) × (number state.spaces a s.id ≡ Some n)
-  user_of_kept s i alive = go s.fallen refl
+  user_of_kept s i alive = elim (cases_Bool s.fallen) [
+    | inl e ↦
+        let m = some (taken state s.id) (rw e at alive) in
+        let u = user_of_number state s.id m.0 m.1 in
+        (u.0, m.0, u.1, u.2)
+    | inr e ↦ let r = sound.standing s i e in (r.0.name, 1, own_name_in_use state.rows r.0 r.1, r.4)
+  ]
     where
       some : (ns : List ℕ) → (length ns == 0) ≡ false → (n : ℕ) × IsIn n ns
       some [] e = absurd (cc)
       some (n ∷ ns) e = (n, inl refl)
-
-      go : (b : Bool) → s.fallen ≡ b → (a : Name) × (n : ℕ) × IsIn a (names_in_use state.rows) × (number state.spaces a s.id ≡ Some n)
-      go true e =
-          let m = some (taken state s.id) (rw e at alive) in
-          let u = user_of_number state s.id m.0 m.1 in
-          (u.0, m.0, u.1, u.2)
-      go false e = let r = sound.standing s i e in (r.0.name, 1, own_name_in_use state.rows r.0 r.1, r.4)
 
   -- a namespace that is kept keeps its path
   pub space_path : (s : Space) → IsIn s state.spaces → is_dead state s ≡ false → path_up (kept_spaces state) s.id ≡ path_up state.spaces s.id
@@ -128,26 +120,11 @@ module _ (state : State) (sound : IsCoherent state) where
   IsSound-sweep = record {
     coherent = record {
       distinct = λ a b i j s n e f. sound.distinct a b i j s n (sym (name_number a i s) ∙ e) (sym (name_number b j s) ∙ f);
-      numbered = λ a i. record {
-        listed = λ x j.
-            let k : IsIn x (path_up state.spaces a.space) = subst (IsIn x) (name_path a i) j in
-            let l = (sound.numbered a i).listed x k in
-            (l.0, space_at-kept state x (name_kept a i x k) ∙ l.1);
-        one_each = (sound.numbered a i).one_each ∙ ap length (sym (name_path a i));
-        in_range = (sound.numbered a i).in_range;
-      };
-      parents = λ r i. record {
-        first = (sound.parents r i).first;
-        good = λ parent e.
-            let g = (sound.parents r i).good parent e in
-            let own = own_name_in_use state.rows r i in
-            record {
-              lives = g.lives;
-              around = subst (IsIn parent.space) (sym (name_path r.name own)) g.around;
-              outside = λ one. g.outside (sym (name_number r.name own r.name.space) ∙ one);
-            };
-        chain = (sound.parents r i).chain;
-      };
+      numbered = λ a i. IsWellNumbered-kept state.spaces (kept_spaces state) state.pid_max a (name_path a i)
+          (λ x s j e. (s, space_at-kept state x (name_kept a i x j) ∙ e)) (sound.numbered a i);
+      parents = λ r i. HasGoodParents-kept state.rows state.rows state.spaces (kept_spaces state) r r refl refl
+          (name_path r.name (own_name_in_use state.rows r i))
+          (λ q j up live. (q, j, refl, live)) (sound.parents r i).chain (sound.parents r i);
       children = λ r i. children_kept r (sound.children r i);
       root = λ s i. sound.root s (from_kept state s i).0;
       standing = λ s i e.

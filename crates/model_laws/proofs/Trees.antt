@@ -1,14 +1,7 @@
 -- The trees of namespaces and control groups, and rows by their root numbers.
 use Rattle.std.proofs.Common.{◌≡◌, ℕ, true, ◌&&◌, ◌==◌, List, map, Some, None, ap}
 use Rattle.std.proofs.lemmas.Bool.{eqb-true, and_parts}
-use Rattle.pid_types.specs.declared.plain.Name.{Name}
-use Rattle.pid_types.specs.declared.plain.Row.{Row}
-use Rattle.pid_types.specs.declared.plain.Space.{Space}
-use Rattle.pid_types.specs.declared.plain.Control.{Control}
-use Rattle.pid_types.specs.Names.{space_at, parent_space, path_up, root_number, row_at, is_live, live_row}
-use Rattle.pid_types.specs.Controls.{control_at, parent_control, control_path}
-use Rattle.pid_types.specs.Membership.{IsIn}
-use Rattle.pid_types.specs.Sound.{IsRising, IsWellNumbered, IsTreeOfSpaces, IsTreeOfControls}
+use Rattle.model_laws.proofs.Words.{Name, Row, Space, Control, space_at, parent_space, path_up, root_number, row_at, is_live, live_row, control_at, parent_control, control_path, IsIn, IsRising, IsWellNumbered, IsTreeOfSpaces, IsTreeOfControls}
 use Rattle.model_laws.proofs.Lists.{find-Some}
 use Rattle.model_laws.proofs.Chains.{Stops-at_root, IsIn-climb_first, climb_trans, climb_antisym}
 use Rattle.model_laws.proofs.Rising.{unique_key, find-key, find-key_at}

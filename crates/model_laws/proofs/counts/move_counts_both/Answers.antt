@@ -1,5 +1,7 @@
-use Rattle.model_laws.proofs.Counting.{move_counts_both}
+use Rattle.pid_types.specs.declared.call.Call.TheVariants.{Move}
+use Rattle.model_laws.proofs.Calls.{step_comes}
+use Rattle.model_laws.proofs.Counting.{comes_move}
 use Rattle.model_laws.proofs.counts.move_counts_both.Goals as goal
 
 pub returns : goal.returns
-returns c state stamp n id task sound = move_counts_both state stamp n id task sound
+returns c state stamp n id = comes_move state stamp n id _ (step_comes state stamp (Move n id))

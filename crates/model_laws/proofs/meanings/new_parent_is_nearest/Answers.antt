@@ -1,5 +1,5 @@
-use Rattle.model_laws.proofs.NearestSubreaper.{new_parent_is_nearest}
+use Rattle.model_laws.proofs.NearestSubreaper.{takes_orphans}
 use Rattle.model_laws.proofs.meanings.new_parent_is_nearest.Goals as goal
 
 pub returns : goal.returns
-returns c = new_parent_is_nearest
+returns c state task sound i lives none = takes_orphans state task sound.coherent i lives

@@ -3,18 +3,11 @@ use Rattle.std.proofs.Common.{refl}
 use Rattle.model_laws.proofs.Computed.{computed}
 use Rattle.model_laws.proofs.scripts.control_scripts.Goals as goal
 
-pub returns-clause-limits_and_moves : goal.returns-clause-limits_and_moves
+pub returns : goal.returns
 unfolding computed
-returns-clause-limits_and_moves c = refl
-
-pub returns-clause-zombies_go_up : goal.returns-clause-zombies_go_up
-unfolding computed
-returns-clause-zombies_go_up c = refl
-
-pub returns-clause-control_refusals : goal.returns-clause-control_refusals
-unfolding computed
-returns-clause-control_refusals c = refl
-
-pub returns-clause-nearest_limit_first : goal.returns-clause-nearest_limit_first
-unfolding computed
-returns-clause-nearest_limit_first c = refl
+returns c = record {
+  limits_and_moves = refl;
+  zombies_go_up = refl;
+  control_refusals = refl;
+  nearest_limit_first = refl;
+}

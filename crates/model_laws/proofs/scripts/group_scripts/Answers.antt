@@ -3,10 +3,9 @@ use Rattle.std.proofs.Common.{refl}
 use Rattle.model_laws.proofs.Computed.{computed}
 use Rattle.model_laws.proofs.scripts.group_scripts.Goals as goal
 
-pub returns-clause-set_pgid_in_order : goal.returns-clause-set_pgid_in_order
+pub returns : goal.returns
 unfolding computed
-returns-clause-set_pgid_in_order c = refl
-
-pub returns-clause-set_sid_once : goal.returns-clause-set_sid_once
-unfolding computed
-returns-clause-set_sid_once c = refl
+returns c = record {
+  set_pgid_in_order = refl;
+  set_sid_once = refl;
+}

@@ -4,18 +4,11 @@ use Rattle.model_laws.proofs.Computed.{computed}
 use Rattle.model_laws.proofs.StepKept.{ends_sound}
 use Rattle.model_laws.proofs.scripts.join_scripts.Goals as goal
 
-pub returns-clause-join_and_fall : goal.returns-clause-join_and_fall
+pub returns : goal.returns
 unfolding computed
-returns-clause-join_and_fall c = refl
-
-pub returns-clause-join_and_fall_end : goal.returns-clause-join_and_fall_end
-unfolding computed
-returns-clause-join_and_fall_end c = ends_sound 32768 (omega arith, omega arith) _ _ refl
-
-pub returns-clause-no_fork_into_dropped : goal.returns-clause-no_fork_into_dropped
-unfolding computed
-returns-clause-no_fork_into_dropped c = refl
-
-pub returns-clause-orphan_of_joined : goal.returns-clause-orphan_of_joined
-unfolding computed
-returns-clause-orphan_of_joined c = refl
+returns c = record {
+  join_and_fall = refl;
+  join_and_fall_end = ends_sound 32768 (omega arith, omega arith) _ _ refl;
+  no_fork_into_dropped = refl;
+  orphan_of_joined = refl;
+}

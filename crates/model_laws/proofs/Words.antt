@@ -1,0 +1,55 @@
+-- The definitions of the model that the lemmas cite, passed on from one place. Declares nothing.
+pub use Rattle.pid_types.specs.declared.plain.Name.{Name}
+pub use Rattle.pid_types.specs.declared.plain.Row.{Row}
+pub use Rattle.pid_types.specs.declared.plain.Space.{Space}
+pub use Rattle.pid_types.specs.Chains.{least_of, contains}
+unfoldable pub use Rattle.pid_types.specs.Chains.{climb}
+pub use Rattle.pid_types.specs.State.{State, root_state, root_init, root_name}
+pub use Rattle.pid_types.specs.Names.{parent_space, beside, root_number, is_live, row_at, number_or_zero, same_name, is_parent, live_row, on_row, is_within, is_member, is_numbered, names_in_use, space_at, beside_from}
+unfoldable pub use Rattle.pid_types.specs.Names.{path_up, number, with_row, level, task_at, numbers_from, taken}
+pub use Rattle.pid_types.specs.Exit.{parent_number, is_init, goes_in_fall, row_after_exit, row_after_fall, has_parent_within, fallen_below, ancestors, is_subreaper_in, nearest_subreaper}
+unfoldable pub use Rattle.pid_types.specs.Exit.{fall, rows_after_exit, exit, new_parent, rows_after_fall}
+pub use Rattle.pid_types.specs.Membership.{IsIn}
+pub use Rattle.pid_types.specs.Sound.{IsWellNumbered, IsTreeOfSpaces, IsCoherent, IsTreeOfControls, HasGoodLimit, IsSound, IsBelow, IsRising, IsGoodParent, HasGoodParents, HasGoodChildrenSpace, IsTree, HasLiveInit, IsEmptied, RootStands, HasGoodGroups}
+pub use Rattle.pid_types.specs.declared.call.Call.{Call}
+pub use Rattle.pid_types.specs.Outcome.{Outcome, answered, changed, for_found, unless_found, refuse_if, is_dead, by_caller}
+unfoldable pub use Rattle.pid_types.specs.Outcome.{sweep}
+pub use Rattle.pid_types.specs.Fork.{forked, with_space, is_gone, insert_row, moved_cursor, child_of, with_child}
+unfoldable pub use Rattle.pid_types.specs.Fork.{with_cursors, fork, no_room, drawn}
+pub use Rattle.pid_types.specs.Wait.{least_row, end_of, ended_children, is_selected}
+unfoldable pub use Rattle.pid_types.specs.Wait.{without_row, wait, matching}
+pub use Rattle.pid_types.specs.Changes.{set_executed, set_home, set_children_space, set_mark, rehome, limited, on_control}
+unfoldable pub use Rattle.pid_types.specs.Changes.{with_control, without_control, with_limit, exec, make_control, is_busy, remove_control, set_limit, move_task, count_tasks, join, set_subreaper}
+pub use Rattle.pid_types.specs.Step.{makes_id}
+unfoldable pub use Rattle.pid_types.specs.Step.{step}
+pub use Rattle.pid_types.specs.Replay.{state_after, calls_of, Along, RepliesAsOne, Replays}
+pub use Rattle.pid_types.specs.Bounds.{greatest_limit, deepest_space, deepest_control}
+pub use Rattle.pid_types.specs.declared.call.Call.TheVariants.{Fork, GetPid, NsPid, Exec, Exit, Wait, GetPpid, SetPgid, SetSid, MakeControl, RemoveControl, SetLimit, Move, Count, GetPgid, GetSid, Next, Join, SetSubreaper}
+pub use Rattle.pid_types.specs.declared.call.Which.{Which}
+pub use Rattle.pid_types.specs.declared.plain.Control.{Control}
+pub use Rattle.pid_types.specs.declared.reply.Reply.{Reply}
+pub use Rattle.pid_types.specs.declared.reply.Reply.TheVariants.{Forked, Done, Number, Reaped, NoneYet, Counted, Control as ControlMade, End, Refused, Levels as LevelList}
+pub use Rattle.pid_types.specs.declared.reply.Refusal.{Refusal}
+pub use Rattle.pid_types.specs.declared.reply.Refusal.TheVariants.{NoCaller, NoTask, NoChild, NoNumber, PidsLimit, SpaceFallen, TooDeep, Elsewhere, BadGroup, OtherSession, IsLeader, NoGroup, Executed, RootInit, NoControl, ControlBusy, RootControl, BadLimit, ControlDepth}
+pub use Rattle.pid_types.specs.Draw.{restart, cursor_of}
+unfoldable pub use Rattle.pid_types.specs.Draw.{draw, least_free, cyclic_draw}
+pub use Rattle.pid_types.specs.Controls.{control_at, parent_control, is_below, is_limited_below}
+unfoldable pub use Rattle.pid_types.specs.Controls.{control_path, count, passed_limit}
+pub use Rattle.pid_types.specs.Groups.{is_negative, target_of, group_for, set_group, has_members, start_session}
+unfoldable pub use Rattle.pid_types.specs.Groups.{set_group_of, set_pgid, set_sid, session_group}
+pub use Rattle.pid_types.specs.Queries.{self_or_task, numbers_by, of_task, name_by, asked_by}
+unfoldable pub use Rattle.pid_types.specs.Queries.{get_pid, get_ppid, get_pgid, get_sid, ns_pid, next}
+pub use Rattle.pid_types.specs.Sight.{Glimpse, is_seen, glimpse_of, glimpse_at, self_or_glimpse, number_by, of_glimpse}
+unfoldable pub use Rattle.pid_types.specs.Sight.{sight, seen}
+pub use Rattle.pid_types.specs.declared.plain.Ended.{Ended}
+pub use Rattle.pid_types.specs.declared.plain.Ended.TheVariants.{Exited, Killed}
+pub use Rattle.pid_types.specs.declared.plain.Life.{Life}
+pub use Rattle.pid_types.specs.declared.plain.Life.TheVariants.{Zombie}
+pub use Rattle.pid_types.specs.declared.call.Kind.{Kind}
+pub use Rattle.pid_types.specs.declared.entry.Entry.{Entry}
+pub use Rattle.pid_types.specs.Limits.{ForkedWithinLimits, ForksStayWithinLimits}
+pub use Rattle.pid_types.specs.Restore.{enlist, may_enlist, put_cursor}
+unfoldable pub use Rattle.pid_types.specs.Restore.{enlisted, with_cursor}
+pub use Rattle.pid_types.specs.Settings.{HasGoodPidMax}
+pub use Rattle.pid_types.specs.declared.plain.ControlRow.{ControlRow}
+pub use Rattle.pid_types.specs.Shown.{with_count}
