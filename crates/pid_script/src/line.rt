@@ -215,7 +215,7 @@ fn read_subreaper(words: &[u8]) -> Option<Call>
 }
 
 /// The call of a command of two letters and the words behind it.
-#[tactic(auto, unfolding(crate::specs::Reading::two_letters_of))]
+#[tactic(auto, unfolding(crate::specs::Reading::two_letters_of), using(crate::proofs::Prefixes::is_word_reads))]
 fn read_two_letters(command: &[u8], words: &[u8]) -> Option<Call>
     ensures { result ≡ two_letters_of command.now words.now }
 {
@@ -227,7 +227,7 @@ fn read_two_letters(command: &[u8], words: &[u8]) -> Option<Call>
 }
 
 /// The call of a command of four letters and the words behind it.
-#[tactic(auto, unfolding(crate::specs::Reading::four_letters_of))]
+#[tactic(auto, unfolding(crate::specs::Reading::four_letters_of), using(crate::proofs::Prefixes::is_word_reads))]
 fn read_four_letters(command: &[u8], words: &[u8]) -> Option<Call>
     ensures { result ≡ four_letters_of command.now words.now }
 {
@@ -244,7 +244,7 @@ fn read_four_letters(command: &[u8], words: &[u8]) -> Option<Call>
 }
 
 /// The call of a command of five letters and the words behind it.
-#[tactic(auto, unfolding(crate::specs::Reading::five_letters_of))]
+#[tactic(auto, unfolding(crate::specs::Reading::five_letters_of), using(crate::proofs::Prefixes::is_word_reads))]
 fn read_five_letters(command: &[u8], words: &[u8]) -> Option<Call>
     ensures { result ≡ five_letters_of command.now words.now }
 {
@@ -257,7 +257,7 @@ fn read_five_letters(command: &[u8], words: &[u8]) -> Option<Call>
 }
 
 /// The call of a command of six letters and the words behind it.
-#[tactic(auto, unfolding(crate::specs::Reading::six_letters_of))]
+#[tactic(auto, unfolding(crate::specs::Reading::six_letters_of), using(crate::proofs::Prefixes::is_word_reads))]
 fn read_six_letters(command: &[u8], words: &[u8]) -> Option<Call>
     ensures { result ≡ six_letters_of command.now words.now }
 {
@@ -270,7 +270,7 @@ fn read_six_letters(command: &[u8], words: &[u8]) -> Option<Call>
 }
 
 /// The call of a command of seven letters and the words behind it.
-#[tactic(auto, unfolding(crate::specs::Reading::seven_letters_of))]
+#[tactic(auto, unfolding(crate::specs::Reading::seven_letters_of), using(crate::proofs::Prefixes::is_word_reads))]
 fn read_seven_letters(command: &[u8], words: &[u8]) -> Option<Call>
     ensures { result ≡ seven_letters_of command.now words.now }
 {
@@ -283,7 +283,7 @@ fn read_seven_letters(command: &[u8], words: &[u8]) -> Option<Call>
 }
 
 /// The call of a command of nine letters and the words behind it.
-#[tactic(auto, unfolding(crate::specs::Reading::nine_letters_of))]
+#[tactic(auto, unfolding(crate::specs::Reading::nine_letters_of), using(crate::proofs::Prefixes::is_word_reads))]
 fn read_nine_letters(command: &[u8], words: &[u8]) -> Option<Call>
     ensures { result ≡ nine_letters_of command.now words.now }
 {

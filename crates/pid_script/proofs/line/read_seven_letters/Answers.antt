@@ -3,12 +3,6 @@ use Rattle.std.proofs.lemmas.Slice.Eq.{text_from_reads}
 use Rattle.pid_script.specs.Reading.{seven_letters_of}
 use Rattle.pid_script.proofs.line.read_seven_letters.Goals as goal
 
-pub returns-in-setpgid : goal.returns-in-setpgid
-unfolding seven_letters_of
-returns-in-setpgid c =
-    let is : c.args.command.now ≡ codes "setpgid" = text_from_reads _ (codes "setpgid") (omega arith) (cc, (cc, (cc, (cc, (cc, (cc, ((cc), tt))))))) in
-    rw is (search rules)
-
 pub returns-in-getppid : goal.returns-in-getppid
 unfolding seven_letters_of
 returns-in-getppid c =

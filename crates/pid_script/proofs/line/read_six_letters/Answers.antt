@@ -3,12 +3,6 @@ use Rattle.std.proofs.lemmas.Slice.Eq.{text_from_reads}
 use Rattle.pid_script.specs.Reading.{six_letters_of}
 use Rattle.pid_script.proofs.line.read_six_letters.Goals as goal
 
-pub returns-in-setsid : goal.returns-in-setsid
-unfolding six_letters_of
-returns-in-setsid c =
-    let is : c.args.command.now ≡ codes "setsid" = text_from_reads _ (codes "setsid") (omega arith) (cc, (cc, (cc, (cc, (cc, ((cc), tt)))))) in
-    rw is (search rules)
-
 pub returns-in-getpid : goal.returns-in-getpid
 unfolding six_letters_of
 returns-in-getpid c =
