@@ -1,4 +1,4 @@
-use Rattle.pid_script.proofs.Printed.{parsed-line_of}
+use Rattle.pid_script.proofs.Read.{parsed-line_of}
 use Rattle.pid_script.proofs.laws.lines_say_their_calls.Goals as goal
 
 pub returns : goal.returns

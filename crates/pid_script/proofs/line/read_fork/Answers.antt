@@ -1,5 +1,5 @@
 use Rattle.std.proofs.Common.{sym, ◌∙◌}
-use Rattle.pid_script.proofs.Printed.{fork_alone, fork_more}
+use Rattle.pid_script.proofs.Read.{fork_alone, fork_more}
 use Rattle.pid_script.proofs.line.read_fork.Goals as goal
 
 pub returns-in-Some : goal.returns-in-Some
