@@ -95,13 +95,3 @@ said_by_kept line = at (leb (length line) 200) refl
     at : (t : Bool) → leb (length line) 200 ≡ t → said_by (cond t (Some line) None) ≡ parsed line
     at true short = refl
     at false long = long_is_bad line (parsed line) (leb-false _ _ long) refl
-
-not_below : (n : ℕ) → 200 < n → leb n 200 ≡ false
-not_below n past = grind (arith, nat_tests)
-
--- what does not fit beside what is kept is not kept
-pub kept_more-beyond : (is_long : Bool) (items bytes : List ℕ) → length items ≤ 200 → 200 < length items + length bytes → None ≡ kept_more (cond is_long None (Some items)) bytes
-kept_more-beyond is_long items [] within beyond = absurd (omega arith)
-kept_more-beyond true items (b ∷ bs) within beyond = refl
-kept_more-beyond false items (b ∷ bs) within beyond =
-    let past : leb (length (items ++ b ∷ bs)) 200 ≡ false = not_below (length (items ++ b ∷ bs)) (omega (arith, beyond, length-append items (b ∷ bs))) in rw past

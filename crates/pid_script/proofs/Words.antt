@@ -18,7 +18,7 @@ use Rattle.pid_types.specs.declared.call.Kind.{Kind}
 use Rattle.pid_types.specs.declared.call.Kind.TheVariants as kind
 use Rattle.pid_script.specs.Lines.{word_of_kind, words_of_which, FitsWhich}
 use Rattle.pid_script.specs.Reading.{cut, number_below, signed_of, pair_of, is_word, exit_of, numbered_of, which_of, wait_of, set_pgid_of, kind_of, next_of, limit_of, move_of, switch_of, subreaper_of, by_pair}
-use Rattle.pid_script.proofs.Cuts.{Lacks, cut-append, cut-Some, option_map_some}
+use Rattle.pid_script.proofs.Cuts.{Lacks, by_test, cut-append, cut-Some, option_map_some}
 use Rattle.pid_script.proofs.Numbers.{numerals, number_below-decimal, number_below-Some, signed_of-decimal, signed_of-Some}
 
 -- which words are read, and as what
@@ -97,11 +97,8 @@ lacks_signed (negsuc n) fits = let small : n < 2 ^ 31 = fits.sfits in (refl, lac
 
 -- one test of a chain of words
 pub branch : {A : Type 0} (word bytes : List ℕ) (x y : Option A) (z : A) (P : List ℕ → Type 0) → (x ≡ Some z → P word) → (y ≡ Some z → P bytes) → cond (is_word word bytes) x y ≡ Some z → P bytes
-branch word bytes x y z P then otherwise = go (is_word word bytes) refl
-  where
-    go : (t : Bool) → is_word word bytes ≡ t → cond t x y ≡ Some z → P bytes
-    go true same is = subst P (sym ((bytes_eq-Decides bytes word).0 same)) (then is)
-    go false other is = otherwise is
+branch word bytes x y z P then otherwise is =
+    by_test (is_word word bytes) (λ same. subst P (sym ((bytes_eq-Decides bytes word).0 same)) (then (rw same at is))) (λ other. otherwise (rw other at is))
 
 choose : {A : Type 0} (P : List ℕ → A → Type 0) {y : Option A} (word bytes : List ℕ) (x z : A) → P word x → (y ≡ Some z → P bytes z) → cond (is_word word bytes) (Some x) y ≡ Some z → P bytes z
 choose P word bytes x z here = branch word bytes _ _ z (λ w. P w z) (λ is. subst (P word) (same_Some x z is) here)

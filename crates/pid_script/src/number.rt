@@ -95,6 +95,7 @@ fn read_front(word: &[u8]) -> Front
 }
 
 /// The number of a word of any length, where it is one below 2^32.
+#[tactic(auto, using(crate::proofs::Numbers::narrower))]
 #[inline(never)]
 fn read_long(word: &[u8]) -> Option<u32>
     ensures { result ≡ number_below (2 ^ 32) word.now }
@@ -143,6 +144,7 @@ pub fn read_then(words: &[u8]) -> Option<(u32, &[u8])>
 }
 
 /// The number of a word, where it is one below 2^8.
+#[tactic(auto, using(crate::proofs::Numbers::narrower))]
 pub fn read_u8(word: &[u8]) -> Option<u8>
     ensures { result ≡ number_below (2 ^ 8) word.now }
 {
@@ -150,6 +152,7 @@ pub fn read_u8(word: &[u8]) -> Option<u8>
 }
 
 /// The number with a minus sign, where it is one of 32 bits and not 0.
+#[tactic(auto, using(crate::proofs::Numbers::negative))]
 fn negated(magnitude: u32) -> Option<i32>
     ensures { (digits : List ℕ) → number_below (2 ^ 32) digits ≡ Some magnitude → result ≡ negative_of digits }
 {
@@ -160,6 +163,7 @@ fn negated(magnitude: u32) -> Option<i32>
 }
 
 /// The number with a minus sign before these digits, which are not those of 0.
+#[tactic(auto, using(crate::proofs::Numbers::negative))]
 fn read_negative(digits: &[u8]) -> Option<i32>
     ensures { result ≡ negative_of digits.now }
 {
