@@ -26,3 +26,5 @@ pub length_all : (text before : List ℕ) (n : ℕ) → text ≡ before ++ decim
 length_all text before n is several small = omega (arith, ap length is, length-append before (decimal (n / 10)), length_more n several small)
 
 pub ruleset few_digits = (length_one, length_more, length_all, shown_more)
+
+pub ruleset one_digit = (decimal_digit, length_one)

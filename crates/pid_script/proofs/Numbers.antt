@@ -11,7 +11,7 @@ use Rattle.std.proofs.lemmas.Bool.Decides.{nat_tests}
 use Rattle.std.specs.Str.Parse.{AllDigits, digits_value}
 use Rattle.std.proofs.lemmas.Slice.Eq.{bytes_eq-Decides}
 use Rattle.std.proofs.lemmas.Str.Parse.{IsNumeralModel, numerals_by_value, tells_digits, not_in_digits, digit_from_value, digits_value-take-le, digits_value_short}
-use Rattle.std.proofs.lemmas.Int.Digits.{digits_value_more}
+use Rattle.std.proofs.lemmas.Int.Digits.{digits_value_more, digits_more}
 use Rattle.std.proofs.lemmas.Str.{digit_value_digit}
 use Rattle.std.proofs.lemmas.Option.{none-some, same_Some, option_and_then_some}
 use Rattle.pid_script.proofs.Cuts.{by_test, cut-Some, cut-found, option_map_some}
@@ -291,3 +291,5 @@ signed_of-Some (b ∷ bs) z is =
 pub ruleset narrower = (number_below-missing, number_below-narrowed)
 
 pub ruleset negative = (negative_of-missing, negative_of-zero, negative_of-some)
+
+pub ruleset digits = (digits_stop, front_fits, digits_value_more, digits_more)

@@ -46,6 +46,8 @@ fork_more words none =
       | Some p ↦ new_or_none (is_word (codes "new") p.1) (number_below (2 ^ 32) p.0) p.1 refl
     ]
 
+pub ruleset forks = (fork_alone, fork_more)
+
 -- words that do not end so are no fork into a new namespace
 pub not_new : (words : List ℕ) → ((front : List ℕ) → words ≢ front ++ codes " new") → fork_new_of words ≡ None
 unfolding fork_new_of

@@ -25,6 +25,7 @@ pub(crate) fn push_bytes<const N: usize>(text: &mut ArrayVec<u8, N>, bytes: &[u8
 }
 
 /// A number of one digit.
+#[tactic(auto, using(crate::proofs::Digits::one_digit))]
 #[inline(always)]
 fn push_ones<const N: usize>(text: &mut ArrayVec<u8, N>, number: u32)
     requires few { number < 10 }

@@ -60,6 +60,7 @@ fn read_fork_more(words: &[u8]) -> Option<Call>
 }
 
 /// `P` or `P new`.
+#[tactic(auto, using(crate::proofs::Read::forks))]
 #[inline(always)]
 fn read_fork(words: &[u8]) -> Option<Call>
     ensures { result ≡ fork_of words.now }

@@ -43,6 +43,7 @@ fn with_digit(number: u64, byte: u8) -> Option<u64>
 }
 
 /// The number that the digits write, where they are digits and it is one below 2^64.
+#[tactic(auto, using(crate::proofs::Numbers::digits))]
 fn read_digits(word: &[u8]) -> Option<u64>
     ensures some { IfSome result (λ n. AllDigits 10 word.now × (n ≡ digits_value 10 word.now)) }
     ensures none { IfNone result (AllDigits 10 word.now → digits_value 10 word.now < 2 ^ 64 → ⊥) }
@@ -73,6 +74,7 @@ struct Front {
 }
 
 /// What the word begins with. So few digits write a number below 2^32, and are read without a test that it fits.
+#[tactic(auto, using(crate::proofs::Numbers::digits))]
 #[inline(always)]
 fn read_front(word: &[u8]) -> Front
     ensures { IsFrontOf word.now result.digits result.number }
