@@ -228,3 +228,5 @@ says_at_head b bs (Some c) some = line_of-parsed (b ∷ bs) c (ap call_or_bad so
 pub Says-parsed : (bytes : List ℕ) → Says (parsed bytes) bytes
 Says-parsed [] = refl
 Says-parsed (b ∷ bs) = says_at_head b bs (call_of (b ∷ bs)) refl
+
+pub ruleset tables = (Says-parsed, parsed-line_of)

@@ -93,6 +93,7 @@ impl Job {
     }
 
     /// Adds the last line, if it has no newline.
+    #[tactic(auto, using(crate::proofs::Said::last_line))]
     fn push_last(&mut self) -> Result<(), JobFault>
         requires room { self.old.lines + 1 < 2 ^ 64 }
         ensures ok { OnOk result (Adds self.old.calls.items self.old.lines
