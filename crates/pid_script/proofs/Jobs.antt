@@ -11,6 +11,7 @@ use Rattle.pid_script.specs.declared.line.Line.TheVariants as says
 use Rattle.pid_script.specs.Script.{said_whole, said_of, said_within}
 use Rattle.pid_script.specs.Job.{IsMet, IsRead, calls_said, AreGood, IsReached, Yields, Refuses, Adds, IsStopped}
 use Rattle.pid_script.proofs.Said.{said_within-whole}
+use Rattle.pid_script.proofs.Within.{no_end}
 
 calls_said-append : (xs ys : List Line) → calls_said (xs ++ ys) ≡ calls_said xs ++ calls_said ys
 calls_said-append [] ys = refl
@@ -144,3 +145,5 @@ module _ {from to : Option (List ℕ)} {failed : Bool} where
     consumed = consumed;
     met = (long, subst AreGood (said_within-whole (take (2 ^ 20) read)) adds.good);
   }
+
+pub ruleset pieces = (no_end, Adds-nothing)

@@ -6,6 +6,7 @@ use Rattle.std.specs.Fmt.{signed_decimal}
 use Rattle.std.specs.Char.{digit_value}
 use lib.IntN.{negsuc, +ℤ_idl}
 use Rattle.std.proofs.lemmas.List.{get_or-append-add, get_or_append_left, take_all, take_at}
+use Rattle.std.proofs.lemmas.Slice.{between_to_end}
 use Rattle.std.proofs.lemmas.Bool.{cases_lt, ne_eqb}
 use Rattle.std.proofs.lemmas.Bool.Decides.{nat_tests}
 use Rattle.std.specs.Str.Parse.{AllDigits, digits_value}
@@ -293,3 +294,7 @@ pub ruleset narrower = (number_below-missing, number_below-narrowed)
 pub ruleset negative = (negative_of-missing, negative_of-zero, negative_of-some)
 
 pub ruleset digits = (digits_stop, front_fits, digits_value_more, digits_more)
+
+pub ruleset fronts = (front_none, front_whole)
+
+pub ruleset signs = (signed_of-minus, signed_of-plain, number_below-missing, plain_some, between_to_end)

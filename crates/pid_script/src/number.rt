@@ -106,6 +106,7 @@ fn read_long(word: &[u8]) -> Option<u32>
 }
 
 /// The number of a word, where it is one below 2^32.
+#[tactic(auto, using(crate::proofs::Numbers::fronts))]
 #[inline(always)]
 pub fn read_u32(word: &[u8]) -> Option<u32>
     ensures { result ≡ number_below (2 ^ 32) word.now }
@@ -174,6 +175,7 @@ fn read_negative(digits: &[u8]) -> Option<i32>
 
 /// The number of a word with its sign, where it is one of 32 bits. A minus sign stands directly before a
 /// number that is not 0.
+#[tactic(auto, using(crate::proofs::Numbers::signs))]
 pub fn read_i32(word: &[u8]) -> Option<i32>
     ensures { result ≡ signed_of word.now }
 {
