@@ -5,7 +5,6 @@ use Rattle.pid_types.specs.State.{State}
 use Rattle.pid_types.specs.declared.call.Call.{Call}
 use Rattle.pid_types.specs.declared.reply.Reply.{Reply}
 use Rattle.pid_types.specs.Devices.{Event, heard, said}
-use Rattle.pid_script.specs.declared.line.Line.{Line}
 use Rattle.pid_script.specs.declared.tally.Tally.{Tally}
 use Rattle.pid_script.specs.Script.{begun, said_of, said_within, kept_after, last_said}
 use Rattle.pid_script.specs.Session.{progress_of, ended_at, Answers, Finishes}

@@ -3,7 +3,6 @@ use Rattle.std.proofs.Common.{◌≡◌, ℕ, ◌+◌, ◌^◌, ◌<◌, ◌≤�
 use lib.IntN.{negsuc}
 use Rattle.std.specs.Int.{w32}
 use Rattle.std.specs.Fmt.{signed_decimal}
-use Rattle.std.proofs.lemmas.Bool.Decides.{nat_tests}
 use Rattle.pid_types.specs.declared.call.Call.{Call}
 use Rattle.pid_types.specs.declared.call.Call.TheVariants.{Fork, GetPid, NsPid, Exec, Exit, Wait, GetPpid, SetPgid, SetSid, MakeControl, RemoveControl, SetLimit, Move, Count, GetPgid, GetSid, Next, Join, SetSubreaper}
 use Rattle.pid_types.specs.declared.call.Which.{Which}
@@ -14,7 +13,7 @@ use Rattle.pid_script.specs.declared.line.Line.{Line}
 use Rattle.pid_script.specs.declared.line.Line.TheVariants as says
 use Rattle.pid_script.specs.Lines.{line_of, word_of_kind, Fits, FitsWhich}
 use Rattle.pid_script.specs.Reading.{call_of, call_or_bad, parsed}
-use Rattle.pid_script.specs.Script.{kept_line, kept_more, said_by}
+use Rattle.pid_script.specs.Script.{kept_line, said_by}
 use Rattle.pid_script.proofs.Read.{line_of-parsed}
 use Rattle.pid_script.proofs.Room.{length_decimal_of_32, length_decimal_of_64}
 

@@ -1,8 +1,8 @@
 -- Lines that begin with a command, told by its first bytes.
-use Rattle.std.proofs.Common.{◌≡◌, ℕ, suc, ◌+◌, ◌<◌, ◌≤◌, List, [], ◌∷◌, ◌++◌, length, drop, get_or, get_or-take, take, ◌-◌, bytes_eq, true, sym, ap, ◌∙◌, arith, drop-cons}
+use Rattle.std.proofs.Common.{◌≡◌, ℕ, suc, ◌+◌, ◌<◌, ◌≤◌, List, [], ◌∷◌, ◌++◌, length, drop, get_or, get_or-take, take, ◌-◌, sym, ap, ◌∙◌, arith, drop-cons}
 use Rattle.std.specs.Array.{IsFirstChunk}
 use Rattle.std.proofs.lemmas.Slice.{between_to_end}
-use Rattle.std.proofs.lemmas.Slice.Eq.{HasBytesAt, text_from_reads, bytes_eq-Decides}
+use Rattle.std.proofs.lemmas.Slice.Eq.{HasBytesAt}
 use Rattle.pid_script.specs.declared.line.Line.{Line}
 use Rattle.pid_script.specs.Reading.{parsed}
 
@@ -39,7 +39,3 @@ pub front_says : (p : List ℕ) (says : List ℕ → Line) → ((words : List �
     → r ≡ says (take (length line - length p) (drop (length p) line)) → r ≡ parsed line
 front_says p says same line front first le reads is =
     line_says p says same line (omega (arith, le, first.enough)) (of_front line front p 0 first (omega (arith, le)) reads) is
-
--- a word whose bytes were read one by one
-pub is_word_reads : (word bytes : List ℕ) → length bytes ≡ length word → HasBytesAt bytes 0 word → bytes_eq bytes word ≡ true
-is_word_reads word bytes long reads = (bytes_eq-Decides bytes word).1 (text_from_reads bytes word long reads)

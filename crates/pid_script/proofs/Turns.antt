@@ -75,37 +75,12 @@ all_answered start p events lines answers empty are = record {
   text = answers.appended ∙ sym (append-nil answers.sent) ∙ ap (λ text. answers.sent ++ text) (sym empty) ∙ ap (λ q. q.text) answers.reached;
 }
 
--- and cut short, where their answers were not all written
-pub cut_short : (start : Progress) (events : List Event) (lines : List Line) → StopsShort start (λ sent. said events ≡ sent) lines → lines ≡ lines_heard events → IsCutShort start events
-cut_short start events lines stops are = record {
-  script = stops.script;
-  left = stops.left;
-  says = stops.says ∙ are;
-  text = stops.short ∙ ap (λ sent. sent ++ stops.left) (sym stops.appended);
-  some_left = stops.some_left;
-}
-
 by_end : (to : Option (List ℕ)) (read : List ℕ) (lines : List Line) (ended : Bool) → (ended ≡ true → IsAtEnd to) → lines ≡ (if ended then said_of read else said_whole read)
     → (lines ≡ said_whole read) ⊎ (IsAtEnd to × (lines ≡ said_of read))
 by_end to read lines true at_end are = inr (at_end refl, are)
 by_end to read lines false at_end are = inl are
 
--- so it is told by a source and a sink
-pub breaks : {from to before after : Option (List ℕ)} (start : Progress) (events : List Event) → IsCutShort start events → (list_any is_end events ≡ true → IsAtEnd to)
-    → Consumes from to (heard events) → Appends before after (said events) → Breaks start from to before after
-breaks {to = to} start events short at_end consumed appended = record {
-  read = heard events;
-  script = short.script;
-  sent = said events;
-  left = short.left;
-  consumed = consumed;
-  says = by_end to (heard events) _ (list_any is_end events) at_end short.says;
-  text = short.text;
-  some_left = short.some_left;
-  written = appended;
-}
-
--- and where the answers were all written
+-- what a source and a sink tell of events whose answers were all written
 pub halts : {from to before after : Option (List ℕ)} (start : Progress) (least : ℕ) (events : List Event) → IsAnswered start events → list_any is_end events ≡ false
     → least ≤ length (heard events) → Consumes from to (heard events) → Appends before after (said events) → Halts least start from to before after
 halts {before = before} {after = after} start least events answered endless long consumed appended = record {
@@ -216,19 +191,35 @@ module _ {start p : Progress} {AreMade : List (Call × Reply) → Type 0} {event
           let silent : said last ≡ [] = append-nil (said_by (Writing stalls.offered stalls.taken)) ∙ stopped_says stalls.offered stalls.taken stalls.stopped in
           let is_said : said (stalled stops) ≡ said stalls.events =
           flat_map-append said_by stalls.events last ∙ ap (λ rest. said stalls.events ++ rest) silent ∙ append-nil (said stalls.events) in
-          cut_short start (turn events asked (Some piece) (stalled stops)) (said_within (Some []) (heard events) ++ lines)
-          (StopsShort-more {a = λ sent. said events ≡ sent} {b = λ sent. said (stalled stops) ≡ sent} {c = λ sent. said (turn events asked (Some piece) (stalled stops)) ≡ sent}
+          let short = StopsShort-more {a = λ sent. said events ≡ sent} {b = λ sent. said (stalled stops) ≡ sent} {c = λ sent. said (turn events asked (Some piece) (stalled stops)) ≡ sent}
           (λ xs ys front back. turn_said events asked (Some piece) (stalled stops) ∙ (λ i. front i ++ back i))
           start p (said_within (Some []) (heard events)) lines on.answered
-          (record { sent = stops.sent; left = stops.left; script = stops.script; says = stops.says; appended = is_said ∙ stalls.sent; short = stops.short; some_left = stops.some_left }))
-          (are ∙ sym (turn_lines piece (stalled stops) stalled_writes))
+          (record { sent = stops.sent; left = stops.left; script = stops.script; says = stops.says; appended = is_said ∙ stalls.sent; short = stops.short; some_left = stops.some_left }) in
+          record {
+            script = short.script;
+            left = short.left;
+            says = short.says ∙ are ∙ sym (turn_lines piece (stalled stops) stalled_writes);
+            text = short.short ∙ ap (λ sent. sent ++ short.left) (sym short.appended);
+            some_left = short.some_left;
+          }
 
       pub stalled_breaks : {from to before after : Option (List ℕ)} → (is_end (Reading asked (Some piece)) ≡ true → readings (stalled stops) ≡ [] → IsAtEnd to)
           → Consumes from to (heard (turn events asked (Some piece) (stalled stops))) → Appends before after (said (turn events asked (Some piece) (stalled stops)))
           → Breaks start from to before after
-      stalled_breaks at_end consumed appended =
-          breaks start (turn events asked (Some piece) (stalled stops)) stalled_short
-          (λ ended. at_end (sym (turn_end events asked (Some piece) (stalled stops) stalled_writes on.ends) ∙ ended) stalled_writes) consumed appended
+      stalled_breaks {to = to} at_end consumed appended =
+          let all = turn events asked (Some piece) (stalled stops) in
+          let ends = turn_end events asked (Some piece) (stalled stops) stalled_writes on.ends in
+          record {
+            read = heard all;
+            script = stalled_short.script;
+            sent = said all;
+            left = stalled_short.left;
+            consumed = consumed;
+            says = by_end to (heard all) _ (list_any is_end all) (λ ended. at_end (sym ends ∙ ended) stalled_writes) stalled_short.says;
+            text = stalled_short.text;
+            some_left = stalled_short.some_left;
+            written = appended;
+          }
 
       pub stalled_talk : {T : Type 0} {all : List Event → Type 0} (turns : ℕ) → length (readings events) + 1 ≤ turns → all (turn events asked (Some piece) (stalled stops))
           → Converses {T = T} turns start all (Err Write)

@@ -216,7 +216,7 @@ fn read_subreaper(words: &[u8]) -> Option<Call>
 }
 
 /// The call of a command of two letters and the words behind it.
-#[tactic(auto, unfolding(crate::specs::Reading::two_letters_of), using(crate::proofs::Prefixes::is_word_reads))]
+#[tactic(auto, unfolding(crate::specs::Reading::two_letters_of))]
 fn read_two_letters(command: &[u8], words: &[u8]) -> Option<Call>
     ensures { result ≡ two_letters_of command.now words.now }
 {
@@ -228,7 +228,7 @@ fn read_two_letters(command: &[u8], words: &[u8]) -> Option<Call>
 }
 
 /// The call of a command of four letters and the words behind it.
-#[tactic(auto, unfolding(crate::specs::Reading::four_letters_of), using(crate::proofs::Prefixes::is_word_reads))]
+#[tactic(auto, unfolding(crate::specs::Reading::four_letters_of))]
 fn read_four_letters(command: &[u8], words: &[u8]) -> Option<Call>
     ensures { result ≡ four_letters_of command.now words.now }
 {
@@ -245,7 +245,7 @@ fn read_four_letters(command: &[u8], words: &[u8]) -> Option<Call>
 }
 
 /// The call of a command of five letters and the words behind it.
-#[tactic(auto, unfolding(crate::specs::Reading::five_letters_of), using(crate::proofs::Prefixes::is_word_reads))]
+#[tactic(auto, unfolding(crate::specs::Reading::five_letters_of))]
 fn read_five_letters(command: &[u8], words: &[u8]) -> Option<Call>
     ensures { result ≡ five_letters_of command.now words.now }
 {
@@ -258,7 +258,7 @@ fn read_five_letters(command: &[u8], words: &[u8]) -> Option<Call>
 }
 
 /// The call of a command of six letters and the words behind it.
-#[tactic(auto, unfolding(crate::specs::Reading::six_letters_of), using(crate::proofs::Prefixes::is_word_reads))]
+#[tactic(auto, unfolding(crate::specs::Reading::six_letters_of))]
 fn read_six_letters(command: &[u8], words: &[u8]) -> Option<Call>
     ensures { result ≡ six_letters_of command.now words.now }
 {
@@ -271,7 +271,7 @@ fn read_six_letters(command: &[u8], words: &[u8]) -> Option<Call>
 }
 
 /// The call of a command of seven letters and the words behind it.
-#[tactic(auto, unfolding(crate::specs::Reading::seven_letters_of), using(crate::proofs::Prefixes::is_word_reads))]
+#[tactic(auto, unfolding(crate::specs::Reading::seven_letters_of))]
 fn read_seven_letters(command: &[u8], words: &[u8]) -> Option<Call>
     ensures { result ≡ seven_letters_of command.now words.now }
 {
@@ -284,7 +284,7 @@ fn read_seven_letters(command: &[u8], words: &[u8]) -> Option<Call>
 }
 
 /// The call of a command of nine letters and the words behind it.
-#[tactic(auto, unfolding(crate::specs::Reading::nine_letters_of), using(crate::proofs::Prefixes::is_word_reads))]
+#[tactic(auto, unfolding(crate::specs::Reading::nine_letters_of))]
 fn read_nine_letters(command: &[u8], words: &[u8]) -> Option<Call>
     ensures { result ≡ nine_letters_of command.now words.now }
 {

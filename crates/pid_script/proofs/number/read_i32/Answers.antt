@@ -1,7 +1,7 @@
-use Rattle.std.proofs.Common.{◌≢◌, ◌<◌, length, get_or, ◌^◌, sym, ◌∙◌, arith, ap, lit≤}
+use Rattle.std.proofs.Common.{sym, ◌∙◌, arith, ap}
 use Rattle.std.proofs.lemmas.Slice.{between_to_end}
 use Rattle.pid_script.specs.Reading.{negative_of}
-use Rattle.pid_script.proofs.Numbers.{number_below-missing, plain_some, signed_of-minus, signed_of-plain}
+use Rattle.pid_script.proofs.Numbers.{signed_of-minus}
 use Rattle.pid_script.proofs.number.read_i32.Goals as goal
 
 pub returns-in-45 : goal.returns-in-45

@@ -1,9 +1,7 @@
-use Rattle.std.proofs.Common.{[], ◌∷◌, sym, ap, ◌∙◌, rules}
-use Rattle.std.proofs.lemmas.Bool.{false≢true}
+use Rattle.std.proofs.Common.{[], sym, ap, rules}
 use Rattle.pid_script.specs.Script.{last_said}
-use Rattle.pid_script.proofs.Said.{last_line}
-use Rattle.pid_script.proofs.Sent.{OnErr-weaker, OnOk-weaker, Sends-nothing}
-use Rattle.pid_script.proofs.Progress.{Answers-nothing, Answers-same, StopsShort-same}
+use Rattle.pid_script.proofs.Sent.{Sends-nothing}
+use Rattle.pid_script.proofs.Progress.{Answers-nothing, Answers-same}
 use Rattle.pid_script.proofs.session.answer_last.Goals as goal
 
 pub returns-then-is_empty : goal.returns-then-is_empty

@@ -6,7 +6,7 @@ use Rattle.std.specs.Io.KnownBytes.{Appends, Consumes, IsAtEnd}
 use Rattle.pid_types.specs.Devices.{Reading, heard, said}
 use Rattle.pid_script.specs.declared.tally.Tally.{Tally}
 use Rattle.pid_script.specs.Script.{said_of, said_within, kept_after, last_said}
-use Rattle.pid_script.specs.Dialogue.{Sends, is_end}
+use Rattle.pid_script.specs.Dialogue.{is_end}
 use Rattle.pid_script.proofs.Progress.{Answers-begun, Answers-flushed, StopsShort-flushed, Answers-same}
 use Rattle.pid_script.proofs.Turns.{turn, turn_heard, turn_said, turn_reads, turn_done, turn_lines, turned, stalled, stalled_breaks, stalled_talk, goes_on, read_follows, is_answered, all_answered, halts, lines_going, lines_ended}
 use Rattle.pid_script.proofs.Ends.{finishes, more_said, more_kept, last_of}

@@ -4,7 +4,7 @@ use Rattle.std.proofs.lemmas.Result.{err_from_is_err_and}
 use Rattle.pid_script.specs.Script.{said_within, kept_after}
 use Rattle.pid_script.specs.Job.{Adds, IsStopped}
 use Rattle.pid_script.proofs.Within.{first_end, no_end, said_more}
-use Rattle.pid_script.proofs.Jobs.{Adds-nothing, Adds-more, IsStopped-sooner, IsStopped-later}
+use Rattle.pid_script.proofs.Jobs.{Adds-more, IsStopped-sooner, IsStopped-later}
 use Rattle.pid_script.proofs.job.Job.push_bytes.Goals as goal
 
 pub loop-end-smaller : goal.loop-end-smaller
