@@ -5,6 +5,7 @@ use Rattle.std.proofs.lemmas.List.Elements.{All-from_get_or, recursion_from_All}
 use Rattle.std.proofs.lemmas.List.Sums.{fails_before_first}
 use Rattle.std.proofs.lemmas.List.Quantifiers.{position-Some}
 use Rattle.std.proofs.Math.Seq.{split_at}
+use Rattle.std.proofs.lemmas.Slice.{between_to_end}
 use Rattle.std.proofs.lemmas.Option.{none-some, same_Some}
 use Rattle.pid_script.specs.Reading.{cut}
 
@@ -63,15 +64,17 @@ pub option_map_some : {A B P : Type 0} (f : A → B) (o : Option A) (y : B) → 
 option_map_some f None y is go = absurd (none-some y is)
 option_map_some f (Some x) y is go = go x refl (same_Some _ y is)
 
-cut_at_head : (byte b : ℕ) (bs : List ℕ) (p : List ℕ × List ℕ) (t : Bool)
-    → ((q : List ℕ × List ℕ) → cut byte bs ≡ Some q → bs ≡ q.0 ++ byte ∷ q.1)
-    → eqb b byte ≡ t → cond t (Some ([], bs)) (option_map (λ q. (b ∷ q.0, q.1)) (cut byte bs)) ≡ Some p → b ∷ bs ≡ p.0 ++ byte ∷ p.1
-cut_at_head byte b bs p true later same is =
-    let parts = same_Some _ p is in ap (λ x. x ∷ bs) (eqb-true _ _ same) ∙ ap (λ q. q.0 ++ byte ∷ q.1) parts
-cut_at_head byte b bs p false later other is =
-    option_map_some _ (cut byte bs) p is (λ q found same. ap (λ rest. b ∷ rest) (later q found) ∙ ap (λ r. r.0 ++ byte ∷ r.1) same)
+-- a test holds, or it does not
+pub by_test : {P : Type 0} (t : Bool) → (t ≡ true → P) → (t ≡ false → P) → P
+by_test true then otherwise = then refl
+by_test false then otherwise = otherwise refl
 
 -- what a cut found, put together again
 pub cut-Some : (byte : ℕ) (bs : List ℕ) (p : List ℕ × List ℕ) → cut byte bs ≡ Some p → bs ≡ p.0 ++ byte ∷ p.1
 cut-Some byte [] p found = absurd (none-some p found)
-cut-Some byte (b ∷ bs) p found = cut_at_head byte b bs p (eqb b byte) (λ q later. cut-Some byte bs q later) refl found
+cut-Some byte (b ∷ bs) p found =
+    by_test (eqb b byte)
+    (λ same. ap (λ x. x ∷ bs) (eqb-true _ _ same) ∙ ap (λ q. q.0 ++ byte ∷ q.1) (same_Some ([], bs) p (rw same at found)))
+    (λ other. option_map_some _ (cut byte bs) p (rw other at found) (λ q later same. ap (λ rest. b ∷ rest) (cut-Some byte bs q later) ∙ ap (λ r. r.0 ++ byte ∷ r.1) same))
+
+pub ruleset cuts = (cut-missed, cut-found, cut-front, between_to_end)

@@ -20,3 +20,11 @@ length_more n several small =
 pub shown_more : (text : List ℕ) (n : ℕ) → 10 ≤ n → n < 2 ^ 64 → (text ++ decimal (n / 10)) ++ decimal (n % 10) ≡ text ++ decimal n
 shown_more text n several small =
     append_assoc text (decimal (n / 10)) (decimal (n % 10)) ∙ ap (λ ds. text ++ ds) (sym (decimal_more n several small))
+
+-- room for the last digit is what is left behind the others
+pub length_all : (text before : List ℕ) (n : ℕ) → text ≡ before ++ decimal (n / 10) → 10 ≤ n → n < 2 ^ 64 → length text + 1 ≡ length before + length (decimal n)
+length_all text before n is several small = omega (arith, ap length is, length-append before (decimal (n / 10)), length_more n several small)
+
+pub ruleset few_digits = (length_one, length_more, length_all, shown_more)
+
+pub ruleset one_digit = (decimal_digit, length_one)

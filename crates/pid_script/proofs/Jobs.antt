@@ -9,8 +9,9 @@ use Rattle.pid_script.specs.declared.job.JobFault.TheVariants as fault
 use Rattle.pid_script.specs.declared.line.Line.{Line}
 use Rattle.pid_script.specs.declared.line.Line.TheVariants as says
 use Rattle.pid_script.specs.Script.{said_whole, said_of, said_within}
-use Rattle.pid_script.specs.Job.{IsMet, calls_said, AreGood, IsReached, Yields, Refuses, Adds, IsStopped}
+use Rattle.pid_script.specs.Job.{IsMet, IsRead, calls_said, AreGood, IsReached, Yields, Refuses, Adds, IsStopped}
 use Rattle.pid_script.proofs.Said.{said_within-whole}
+use Rattle.pid_script.proofs.Within.{no_end}
 
 calls_said-append : (xs ys : List Line) → calls_said (xs ++ ys) ≡ calls_said xs ++ calls_said ys
 calls_said-append [] ys = refl
@@ -109,27 +110,23 @@ yields read calls adds short consumed at_end = record {
 }
 
 module _ {from to : Option (List ℕ)} {failed : Bool} where
-  -- a fault among the lines that end within the most bytes
+  -- a fault is met where each line that is reached among these is read
+  refuses : (read : List ℕ) (lines : List Line) (e : JobFault) → ((line : Line) (number : ℕ) → IsReached line number lines → IsRead read to line number) → IsStopped 0 lines e → Consumes from to read → Refuses from to failed e
+  refuses read lines e reach stops consumed = record { read = read; consumed = consumed; met = met e stops }
+    where
+      met : (e : JobFault) → IsStopped 0 lines e → IsMet read to failed e
+      met fault.Read stops = absurd stops
+      met fault.TooLong stops = absurd stops
+      met (fault.BadLine k) stops = reach says.Bad k (from_start k lines stops)
+      met fault.NoMemory stops = (stops.0, stops.1, reach (says.Call stops.0) stops.1 stops.2)
+
+  -- one among the lines that end within the most bytes, and one at the last line, which has no newline
   pub refuses_within : (read : List ℕ) (e : JobFault) → IsStopped 0 (said_within (Some []) (take (2 ^ 20) read)) e → Consumes from to read → Refuses from to failed e
   refuses_within read e stops consumed =
-      record { read = read; consumed = consumed; met = met e (subst (λ lines. IsStopped 0 lines e) (said_within-whole (take (2 ^ 20) read)) stops) }
-    where
-      met : (e : JobFault) → IsStopped 0 (said_whole (take (2 ^ 20) read)) e → IsMet read to failed e
-      met fault.Read stops = absurd stops
-      met fault.TooLong stops = absurd stops
-      met (fault.BadLine k) stops = inl (from_start k _ stops)
-      met fault.NoMemory stops = (stops.0, stops.1, inl stops.2)
+      refuses read (said_whole (take (2 ^ 20) read)) e (λ line number reached. inl reached) (subst (λ lines. IsStopped 0 lines e) (said_within-whole (take (2 ^ 20) read)) stops) consumed
 
-  -- a fault at the last line, which has no newline
-  pub refuses_last : (read : List ℕ) (e : JobFault) → IsStopped 0 (said_of read) e → length read ≤ 2 ^ 20 → Consumes from to read → IsAtEnd to
-      → Refuses from to failed e
-  refuses_last read e stops short consumed at_end = record { read = read; consumed = consumed; met = met e stops }
-    where
-      met : (e : JobFault) → IsStopped 0 (said_of read) e → IsMet read to failed e
-      met fault.Read stops = absurd stops
-      met fault.TooLong stops = absurd stops
-      met (fault.BadLine k) stops = inr (short, at_end, from_start k _ stops)
-      met fault.NoMemory stops = (stops.0, stops.1, inr (short, at_end, stops.2))
+  pub refuses_last : (read : List ℕ) (e : JobFault) → IsStopped 0 (said_of read) e → length read ≤ 2 ^ 20 → Consumes from to read → IsAtEnd to → Refuses from to failed e
+  refuses_last read e stops short consumed at_end = refuses read (said_of read) e (λ line number reached. inr (short, at_end, reached)) stops consumed
 
   -- a source that fails
   pub refuses_read : {cs cs' : List Call} {n n' : ℕ} (read : List ℕ) → Adds cs n cs' n' (said_within (Some []) read) → length read ≤ 2 ^ 20
@@ -148,3 +145,5 @@ module _ {from to : Option (List ℕ)} {failed : Bool} where
     consumed = consumed;
     met = (long, subst AreGood (said_within-whole (take (2 ^ 20) read)) adds.good);
   }
+
+pub ruleset pieces = (no_end, Adds-nothing)

@@ -3,7 +3,6 @@ use Rattle.std.proofs.Common.{◌≡◌, ℕ, ◌+◌, ◌^◌, ◌<◌, ◌≤�
 use lib.IntN.{negsuc}
 use Rattle.std.specs.Int.{w32}
 use Rattle.std.specs.Fmt.{signed_decimal}
-use Rattle.std.proofs.lemmas.Bool.Decides.{nat_tests}
 use Rattle.pid_types.specs.declared.call.Call.{Call}
 use Rattle.pid_types.specs.declared.call.Call.TheVariants.{Fork, GetPid, NsPid, Exec, Exit, Wait, GetPpid, SetPgid, SetSid, MakeControl, RemoveControl, SetLimit, Move, Count, GetPgid, GetSid, Next, Join, SetSubreaper}
 use Rattle.pid_types.specs.declared.call.Which.{Which}
@@ -14,7 +13,7 @@ use Rattle.pid_script.specs.declared.line.Line.{Line}
 use Rattle.pid_script.specs.declared.line.Line.TheVariants as says
 use Rattle.pid_script.specs.Lines.{line_of, word_of_kind, Fits, FitsWhich}
 use Rattle.pid_script.specs.Reading.{call_of, call_or_bad, parsed}
-use Rattle.pid_script.specs.Script.{kept_line, kept_more, said_by}
+use Rattle.pid_script.specs.Script.{kept_line, said_by}
 use Rattle.pid_script.proofs.Read.{line_of-parsed}
 use Rattle.pid_script.proofs.Room.{length_decimal_of_32, length_decimal_of_64}
 
@@ -95,13 +94,3 @@ said_by_kept line = at (leb (length line) 200) refl
     at : (t : Bool) → leb (length line) 200 ≡ t → said_by (cond t (Some line) None) ≡ parsed line
     at true short = refl
     at false long = long_is_bad line (parsed line) (leb-false _ _ long) refl
-
-not_below : (n : ℕ) → 200 < n → leb n 200 ≡ false
-not_below n past = grind (arith, nat_tests)
-
--- what does not fit beside what is kept is not kept
-pub kept_more-beyond : (is_long : Bool) (items bytes : List ℕ) → length items ≤ 200 → 200 < length items + length bytes → None ≡ kept_more (cond is_long None (Some items)) bytes
-kept_more-beyond is_long items [] within beyond = absurd (omega arith)
-kept_more-beyond true items (b ∷ bs) within beyond = refl
-kept_more-beyond false items (b ∷ bs) within beyond =
-    let past : leb (length (items ++ b ∷ bs)) 200 ≡ false = not_below (length (items ++ b ∷ bs)) (omega (arith, beyond, length-append items (b ∷ bs))) in rw past

@@ -1,7 +1,7 @@
 pub mod Cuts
 pub mod Digits
 pub mod Numbers
-pub mod Printed
+pub mod Words
 pub mod Prefixes
 pub mod Read
 pub mod Room

@@ -6,15 +6,16 @@ use Rattle.std.specs.Fmt.{signed_decimal}
 use Rattle.std.specs.Char.{digit_value}
 use lib.IntN.{negsuc, +ℤ_idl}
 use Rattle.std.proofs.lemmas.List.{get_or-append-add, get_or_append_left, take_all, take_at}
+use Rattle.std.proofs.lemmas.Slice.{between_to_end}
 use Rattle.std.proofs.lemmas.Bool.{cases_lt, ne_eqb}
 use Rattle.std.proofs.lemmas.Bool.Decides.{nat_tests}
 use Rattle.std.specs.Str.Parse.{AllDigits, digits_value}
 use Rattle.std.proofs.lemmas.Slice.Eq.{bytes_eq-Decides}
 use Rattle.std.proofs.lemmas.Str.Parse.{IsNumeralModel, numerals_by_value, tells_digits, not_in_digits, digit_from_value, digits_value-take-le, digits_value_short}
-use Rattle.std.proofs.lemmas.Int.Digits.{digits_value_more}
+use Rattle.std.proofs.lemmas.Int.Digits.{digits_value_more, digits_more}
 use Rattle.std.proofs.lemmas.Str.{digit_value_digit}
 use Rattle.std.proofs.lemmas.Option.{none-some, same_Some, option_and_then_some}
-use Rattle.pid_script.proofs.Cuts.{cut-Some, cut-found, option_map_some}
+use Rattle.pid_script.proofs.Cuts.{by_test, cut-Some, cut-found, option_map_some}
 use Rattle.pid_script.proofs.Search.{found}
 use Rattle.std.proofs.lemmas.Fmt.{digits_decimal, digits_value-decimal, decimal-digits_value, decimal_nonempty, first_decimal, decimal_digit}
 use Rattle.pid_script.specs.Reading.{IsFreeOf, IsFrontOf, IsPlain, cut, number_below, number_then, negative_of, signed_of}
@@ -275,20 +276,25 @@ negated_Some (suc m) z digits below written is =
     let small : m < 2 ^ 31 = omega arith in
     subst (λ y. FitsSigned w32 y × (signed_decimal y ≡ 45 ∷ digits)) (same_Some _ z some) (record { sfits = small }, ap (λ ds. 45 ∷ ds) written)
 
-signed_at_head : (b : ℕ) (bs : List ℕ) (z : ℤ) (t : Bool) → eqb b 45 ≡ t → cond t (negative_of bs) (option_map pos (number_below (2 ^ 31) (b ∷ bs))) ≡ Some z
-    → FitsSigned w32 z × (signed_decimal z ≡ b ∷ bs)
-unfolding negative_of
-signed_at_head b bs z true minus is =
-    option_and_then_some _ (number_below (2 ^ 31 + 1) bs) z is (λ n number negated.
-    let parts = number_below-Some (2 ^ 31 + 1) bs n number in
-    subst (λ x. FitsSigned w32 z × (signed_decimal z ≡ x ∷ bs)) (sym (eqb-true _ _ minus)) (negated_Some n z bs parts.0 parts.1 negated))
-signed_at_head b bs z false other is =
-    option_map_some pos (number_below (2 ^ 31) (b ∷ bs)) z is (λ n number same.
-    let parts = number_below-Some (2 ^ 31) (b ∷ bs) n number in
-    subst (λ y. FitsSigned w32 y × (signed_decimal y ≡ b ∷ bs)) same (record { sfits = parts.0 }, parts.1))
-
 -- a word that says a number with its sign is how that number is written
 pub signed_of-Some : (word : List ℕ) (z : ℤ) → signed_of word ≡ Some z → FitsSigned w32 z × (signed_decimal z ≡ word)
-unfolding signed_of
+unfolding signed_of negative_of
 signed_of-Some [] z is = absurd (none-some z is)
-signed_of-Some (b ∷ bs) z is = signed_at_head b bs z (eqb b 45) refl is
+signed_of-Some (b ∷ bs) z is =
+    by_test (eqb b 45)
+    (λ minus. option_and_then_some _ (number_below (2 ^ 31 + 1) bs) z (rw minus at is) (λ n number negated.
+    let parts = number_below-Some (2 ^ 31 + 1) bs n number in
+    subst (λ x. FitsSigned w32 z × (signed_decimal z ≡ x ∷ bs)) (sym (eqb-true _ _ minus)) (negated_Some n z bs parts.0 parts.1 negated)))
+    (λ other. option_map_some pos (number_below (2 ^ 31) (b ∷ bs)) z (rw other at is) (λ n number same.
+    let parts = number_below-Some (2 ^ 31) (b ∷ bs) n number in
+    subst (λ y. FitsSigned w32 y × (signed_decimal y ≡ b ∷ bs)) same (record { sfits = parts.0 }, parts.1)))
+
+pub ruleset narrower = (number_below-missing, number_below-narrowed)
+
+pub ruleset negative = (negative_of-missing, negative_of-zero, negative_of-some)
+
+pub ruleset digits = (digits_stop, front_fits, digits_value_more, digits_more)
+
+pub ruleset fronts = (front_none, front_whole)
+
+pub ruleset signs = (signed_of-minus, signed_of-plain, number_below-missing, plain_some, between_to_end)

@@ -13,9 +13,10 @@ use Rattle.pid_script.specs.declared.line.Line.TheVariants as says
 use Rattle.pid_script.specs.declared.tally.Tally.{Tally}
 use Rattle.pid_script.specs.Answers.{reply_text, fault_text, answer_of, replied}
 use Rattle.pid_script.specs.Script.{Progress, begun, with_newline, told, stepped, after_call, after_saying, after_line, after_script}
-use Rattle.pid_script.specs.Session.{Acts, made_by, Leads, progress_of, Answers, StopsShort}
+use Rattle.pid_script.specs.Session.{Acts, made_by, Leads, ended_at, progress_of, Answers, StopsShort}
 use Rattle.pid_types.specs.Devices.{Event}
 use Rattle.pid_script.specs.Dialogue.{Sends, Stalls, Queues, Stops}
+use Rattle.pid_script.proofs.Sent.{Joins, Sends-more, Stalls-more}
 
 -- two ways are as far if each of their parts is
 same_progress : (s s' : State) (n n' : ℕ) (t t' : List ℕ) (c c' : List (Call × Reply)) (l l' r r' b b' : ℕ) → s ≡ s' → n ≡ n' → t ≡ t' → c ≡ c' → l ≡ l' → r ≡ r' → b ≡ b'
@@ -202,34 +203,6 @@ Answers-same p q IsSent AreMade xs ys same answers = subst (Answers p q IsSent A
 pub StopsShort-same : (p : Progress) (IsSent : List ℕ → Type 0) (xs ys : List Line) → xs ≡ ys → StopsShort p IsSent xs → StopsShort p IsSent ys
 StopsShort-same p IsSent xs ys same stops = subst (StopsShort p IsSent) same stops
 
--- what waits is sent
-pub Answers-sent : (state : State) (stamp : ℕ) (tally : Tally) (held : List ℕ) (IsSent : List ℕ → Type 0) (AreMade : List (Call × Reply) → Type 0) → IsSent held → AreMade []
-    → Answers (progress_of state stamp tally held) (progress_of state stamp tally []) IsSent AreMade []
-unfolding after_script
-Answers-sent state stamp tally held IsSent AreMade appended none = record {
-  sent = held;
-  calls = [];
-  script = [];
-  says = refl;
-  appended = appended;
-  made = none;
-  reached = ap (λ text. progress_of state stamp tally text) (append-nil held);
-}
-
--- what waits is sent in part
-pub StopsShort-sent : (state : State) (stamp : ℕ) (tally : Tally) (held : List ℕ) (did : List Event → Type 0) → Stops did held
-    → StopsShort (progress_of state stamp tally held) (Stalls did) []
-unfolding after_script
-StopsShort-sent state stamp tally held did stops = record {
-  sent = stops.0;
-  left = stops.1;
-  script = [];
-  says = refl;
-  appended = stops.2;
-  short = stops.3;
-  some_left = stops.4;
-}
-
 -- a script that begins
 pub Answers-begun : (state : State) (stamp : ℕ) (tally : Tally) (held : List ℕ) (IsSent : List ℕ → Type 0) (AreMade : List (Call × Reply) → Type 0) → IsSent [] → AreMade []
     → tally ≡ record { lines = 0; recorded = 0; bad = 0 } → held ≡ [] → Answers (begun state stamp) (progress_of state stamp tally held) IsSent AreMade []
@@ -238,9 +211,27 @@ Answers-begun state stamp tally held IsSent AreMade nothing none zero empty =
     ((λ i. progress_of state stamp (sym zero i) (sym empty i)))
     (Answers-nothing (begun state stamp) IsSent AreMade nothing none)
 
--- what waited was sent, and nothing waits
-pub Answers-flushed : (state : State) (stamp : ℕ) (tally : Tally) (held held' : List ℕ) (IsSent : List ℕ → Type 0) (AreMade : List (Call × Reply) → Type 0) → IsSent held → AreMade [] → held' ≡ []
-    → Answers (progress_of state stamp tally held) (progress_of state stamp tally held') IsSent AreMade []
-Answers-flushed state stamp tally held held' IsSent AreMade sent none empty =
-    subst (λ waits. Answers (progress_of state stamp tally held) (progress_of state stamp tally waits) IsSent AreMade []) (sym empty)
-    (Answers-sent state stamp tally held IsSent AreMade sent none)
+-- some lines, and then what waits is sent: all of it, or not
+module _ {first second all : List Event → Type 0} (joins : Joins first second all) {AreMade : List (Call × Reply) → Type 0} (p : Progress) (state : State) (stamp : ℕ) (tally : Tally) (held : List ℕ) (lines : List Line)
+    (answers : Answers p (progress_of state stamp tally held) (Sends first) AreMade lines) where
+  pub Answers-flushed : (held' : List ℕ) → Sends second held → held' ≡ [] → Answers p (progress_of state stamp tally held') (Sends all) AreMade lines
+  Answers-flushed held' sends empty = record {
+    sent = answers.sent ++ held;
+    calls = answers.calls;
+    script = answers.script;
+    says = answers.says;
+    appended = Sends-more joins answers.sent held answers.appended sends;
+    made = answers.made;
+    reached = ap (λ text. ended_at state stamp tally text (answers.calls ++ [])) (ap (λ text. (answers.sent ++ held) ++ text) empty ∙ append-nil (answers.sent ++ held)) ∙ answers.reached;
+  }
+
+  pub StopsShort-flushed : Stops second held → StopsShort p (Stalls all) lines
+  StopsShort-flushed stops = record {
+    sent = answers.sent ++ stops.0;
+    left = stops.1;
+    script = answers.script;
+    says = answers.says;
+    appended = Stalls-more joins answers.sent stops.0 answers.appended stops.2;
+    short = ap (λ q. q.text) (sym answers.reached) ∙ ap (λ text. answers.sent ++ text) stops.3 ∙ sym (append_assoc answers.sent stops.0 stops.1);
+    some_left = stops.4;
+  }

@@ -1,54 +1,103 @@
--- A line that says a call is that call's line.
-use Rattle.std.proofs.Common.{◌≡◌, ℕ, ◌^◌, ◌<◌, Bool, true, false, cond, eqb, List, [], ◌∷◌, ◌++◌, length, Option, Some, None, decimal, codes, refl, sym, ap, ◌∙◌, subst, option_map, option_and_then, ℤ}
+-- Each call's line says that call, and a line that says a call is that call's line.
+use Rattle.std.proofs.Common.{◌≡◌, ◌≢◌, ℕ, ◌^◌, ◌<◌, Bool, true, false, cond, ◌==◌, List, [], ◌∷◌, ◌++◌, length, Option, Some, None, decimal, codes, refl, sym, ap, ◌∙◌, subst, arith, option_map, option_and_then}
 use Rattle.std.specs.Fmt.{signed_decimal}
-use Rattle.std.specs.List.{join_with_byte}
-use Rattle.std.proofs.lemmas.Option.{none-some, same_Some, option_and_then_some}
 use Rattle.std.proofs.lemmas.Slice.Eq.{bytes_eq-Decides}
+use Rattle.std.proofs.lemmas.Option.{none-some, option_and_then_some}
 use Rattle.pid_types.specs.declared.call.Call.{Call}
-use Rattle.pid_types.specs.declared.call.Call.TheVariants.{GetPid, NsPid, Exec, Wait, GetPpid, SetSid, MakeControl, RemoveControl, Count, GetPgid, GetSid, Join, SetSubreaper, SetPgid}
+use Rattle.pid_types.specs.declared.call.Call.TheVariants.{Fork, GetPid, NsPid, Exec, Exit, Wait, GetPpid, SetSid, MakeControl, RemoveControl, SetLimit, Move, Count, GetPgid, GetSid, Next, Join, SetSubreaper, SetPgid}
 use Rattle.pid_types.specs.declared.call.Which.{Which}
 use Rattle.pid_types.specs.declared.call.Which.TheVariants.{Any, Pid, OwnGroup, Group}
-use Rattle.pid_types.specs.declared.call.Kind.{Kind}
 use Rattle.pid_script.specs.declared.line.Line.TheVariants as says
-use Rattle.pid_script.specs.Lines.{word_of_kind, words_of_which, line_of, Fits, FitsWhich, IsLineOf, Says}
-use Rattle.pid_script.specs.Reading.{cut, number_below, number_then, signed_of, signed_then, pair_of, is_word, forked_by, fork_of, exit_of, numbered_of, which_of, wait_of, set_pgid_of, kind_of, next_of, limit_of, move_of, switch_of, subreaper_of, two_letters_of, four_letters_of, five_letters_of, six_letters_of, seven_letters_of, nine_letters_of, command_of, by_pair, call_of, call_or_bad, parsed}
-use Rattle.pid_script.proofs.Cuts.{cut-Some, option_map_some}
-use Rattle.pid_script.proofs.Printed.{parsed-line_of}
-use Rattle.pid_script.proofs.Numbers.{number_below-Some, signed_of-Some}
+use Rattle.pid_script.specs.Lines.{word_of_kind, line_of, Fits, IsLineOf, Says}
+use Rattle.pid_script.specs.Reading.{cut, number_below, is_word, forked_by, fork_new_of, fork_of, two_letters_of, four_letters_of, five_letters_of, six_letters_of, seven_letters_of, nine_letters_of, command_of, by_process, by_pair, by_control, call_of, call_or_bad, parsed}
+use Rattle.pid_script.proofs.Cuts.{cut-append, cut-lacks, cut-Some, option_map_some}
+use Rattle.pid_script.proofs.Numbers.{number_below-decimal, number_below-Some}
+use Rattle.pid_script.proofs.Words.{Writes, Before, Made, lacks_decimal, false_from, process, control, branch, word_of_switch, text_of_which, text_of_limit, exit, move, wait, subreaper, limit, set_pgid, next, two}
+
+fork_same : (n : ℕ) → n < 2 ^ 32 → fork_of (decimal n) ≡ Some (Fork n false)
+unfolding fork_of
+fork_same n below = rw (cut-lacks 32 (decimal n) (lacks_decimal n (omega arith)), number_below-decimal (2 ^ 32) n below (omega arith))
+
+fork_new : (n : ℕ) → n < 2 ^ 32 → fork_of (decimal n ++ 32 ∷ codes "new") ≡ Some (Fork n true)
+unfolding fork_of
+fork_new n below = rw (cut-append 32 (decimal n) (codes "new") (lacks_decimal n (omega arith)), number_below-decimal (2 ^ 32) n below (omega arith))
+
+-- no number has a space in it
+pub fork_alone : (words : List ℕ) (n : ℕ) → number_below (2 ^ 32) words ≡ Some n → fork_of words ≡ Some (Fork n false)
+fork_alone words n is =
+    let a = number_below-Some (2 ^ 32) words n is in subst (λ w. fork_of w ≡ Some (Fork n false)) a.1 (fork_same n a.0)
+
+new_or_none : (t : Bool) (o : Option ℕ) (rest : List ℕ) → is_word (codes "new") rest ≡ t
+    → cond t (option_map (λ caller. Fork caller true) o) None
+    ≡ option_and_then (λ (q : ℕ × List ℕ). cond (is_word (codes "new") q.1) (Some (Fork q.0 true)) None) (option_and_then (λ n. Some (n, rest)) o)
+new_or_none true None rest is = refl
+new_or_none false None rest is = refl
+new_or_none true (Some n) rest is = rw is
+new_or_none false (Some n) rest is = rw is
+
+-- what is no number alone may be one before the word `new`
+pub fork_more : (words : List ℕ) → number_below (2 ^ 32) words ≡ None → fork_of words ≡ fork_new_of words
+unfolding fork_of fork_new_of
+fork_more words none =
+    elim (cut 32 words) as (λ o. forked_by words o
+    ≡ option_and_then (λ (q : ℕ × List ℕ). cond (is_word (codes "new") q.1) (Some (Fork q.0 true)) None)
+    (option_and_then (λ (p : List ℕ × List ℕ). option_and_then (λ n. Some (n, p.1)) (number_below (2 ^ 32) p.0)) o)) [
+      | None ↦ (rw none)
+      | Some p ↦ new_or_none (is_word (codes "new") p.1) (number_below (2 ^ 32) p.0) p.1 refl
+    ]
+
+pub ruleset forks = (fork_alone, fork_more)
+
+-- words that do not end so are no fork into a new namespace
+pub not_new : (words : List ℕ) → ((front : List ℕ) → words ≢ front ++ codes " new") → fork_new_of words ≡ None
+unfolding fork_new_of
+not_new words never =
+    elim (cut 32 words) as (λ o. cut 32 words ≡ o
+    → option_and_then (λ (q : ℕ × List ℕ). cond (is_word (codes "new") q.1) (Some (Fork q.0 true)) None)
+    (option_and_then (λ (p : List ℕ × List ℕ). option_and_then (λ n. Some (n, p.1)) (number_below (2 ^ 32) p.0)) o) ≡ None) [
+      | None ↦ λ cuts. refl
+      | Some p ↦ λ cuts. sym (new_or_none false (number_below (2 ^ 32) p.0) p.1
+          (false_from _ (λ is. never p.0 (cut-Some 32 words p cuts ∙ ap (λ rest. p.0 ++ 32 ∷ rest) ((bytes_eq-Decides _ _).0 is)))))
+    ] refl
+
+by_one : (call : ℕ → Call) (n : ℕ) → n < 2 ^ 32 → call_or_bad (by_process call (decimal n)) ≡ says.Call (call n)
+by_one call n below = ap (λ o. call_or_bad (option_map call o)) (process.told (decimal n) n (refl, below))
+
+by_id : (call : ℕ → Call) (id : ℕ) → id < 2 ^ 64 → call_or_bad (by_control call (decimal id)) ≡ says.Call (call id)
+by_id call id below = ap (λ o. call_or_bad (option_map call o)) (control.told (decimal id) id (refl, below))
+
+-- each call's line says that call
+pub parsed-line_of : (c : Call) → Fits c → parsed (line_of c) ≡ says.Call c
+unfolding line_of command_of two_letters_of four_letters_of five_letters_of six_letters_of seven_letters_of nine_letters_of
+parsed-line_of (Fork caller false) fits = ap call_or_bad (fork_same caller fits)
+parsed-line_of (Fork caller true) fits = ap call_or_bad (fork_new caller fits)
+parsed-line_of (Exec caller) fits = by_one Exec caller fits
+parsed-line_of (Exit caller status) fits = ap call_or_bad (exit.told _ _ (caller, _, refl, fits.0, (status, (refl, fits.1), refl)))
+parsed-line_of (Wait caller Any) fits = ap call_or_bad (wait.told _ _ (caller, _, refl, fits.0, (Any, (refl, tt), refl)))
+parsed-line_of (Wait caller OwnGroup) fits = ap call_or_bad (wait.told _ _ (caller, _, refl, fits.0, (OwnGroup, (refl, tt), refl)))
+parsed-line_of (Wait caller (Pid number)) fits = ap call_or_bad (wait.told _ _ (caller, _, refl, fits.0, ((Pid number), (refl, fits.1), refl)))
+parsed-line_of (Wait caller (Group number)) fits = ap call_or_bad (wait.told _ _ (caller, _, refl, fits.0, ((Group number), (refl, fits.1), refl)))
+parsed-line_of (SetPgid caller pid pgid) fits = ap call_or_bad (set_pgid.told _ _ (caller, _, refl, fits.0, (pid, _, refl, fits.1, (pgid, (refl, fits.2), refl))))
+parsed-line_of (SetSid caller) fits = by_one SetSid caller fits
+parsed-line_of (GetPid caller) fits = by_one GetPid caller fits
+parsed-line_of (GetPpid caller) fits = by_one GetPpid caller fits
+parsed-line_of (GetPgid caller pid) fits = ap call_or_bad ((two GetPgid).told _ _ (caller, _, refl, fits.0, (pid, (refl, fits.1), refl)))
+parsed-line_of (GetSid caller pid) fits = ap call_or_bad ((two GetSid).told _ _ (caller, _, refl, fits.0, (pid, (refl, fits.1), refl)))
+parsed-line_of (NsPid caller target) fits = ap call_or_bad ((two NsPid).told _ _ (caller, _, refl, fits.0, (target, (refl, fits.1), refl)))
+parsed-line_of (Next caller kind from) fits = ap call_or_bad (next.told _ _ (caller, _, refl, fits.0, (kind, _, refl, tt, (from, (refl, fits.1), refl))))
+parsed-line_of (MakeControl parent) fits = by_id MakeControl parent fits
+parsed-line_of (RemoveControl id) fits = by_id RemoveControl id fits
+parsed-line_of (SetLimit id (Some most)) fits = ap call_or_bad (limit.told _ _ (id, _, refl, fits.0, ((Some most), (refl, fits.1), refl)))
+parsed-line_of (SetLimit id None) fits = ap call_or_bad (limit.told _ _ (id, _, refl, fits.0, (None, (refl, tt), refl)))
+parsed-line_of (Move task id) fits = ap call_or_bad (move.told _ _ (task, _, refl, fits.0, (id, (refl, fits.1), refl)))
+parsed-line_of (Count id) fits = by_id Count id fits
+parsed-line_of (Join caller target) fits = ap call_or_bad ((two Join).told _ _ (caller, _, refl, fits.0, (target, (refl, fits.1), refl)))
+parsed-line_of (SetSubreaper caller true) fits = ap call_or_bad (subreaper.told _ _ (caller, _, refl, fits, (true, (refl, tt), refl)))
+parsed-line_of (SetSubreaper caller false) fits = ap call_or_bad (subreaper.told _ _ (caller, _, refl, fits, (false, (refl, tt), refl)))
 
 -- a command, a space and its arguments are the line of the call
 abbrev Spells : List ℕ → List ℕ → Call → Type 0
 Spells command words c = IsLineOf (command ++ 32 ∷ words) c
-
--- one test of a chain of words
-branch : {A : Type 0} (word bytes : List ℕ) (x y : Option A) (z : A) (P : List ℕ → Type 0) → (x ≡ Some z → P word) → (y ≡ Some z → P bytes) → cond (is_word word bytes) x y ≡ Some z → P bytes
-branch word bytes x y z P then otherwise = go (is_word word bytes) refl
-  where
-    go : (t : Bool) → is_word word bytes ≡ t → cond t x y ≡ Some z → P bytes
-    go true same is = subst P (sym ((bytes_eq-Decides bytes word).0 same)) (then is)
-    go false other is = otherwise is
-
--- a number, and what stands behind it and a space
-number_first : {A : Type 0} (most : ℕ) (words : List ℕ) (then : ℕ × List ℕ → Option A) (x : A) (P : Type 0)
-    → ((n : ℕ) (rest : List ℕ) → words ≡ decimal n ++ 32 ∷ rest → n < most → then (n, rest) ≡ Some x → P)
-    → option_and_then then (number_then most words) ≡ Some x → P
-number_first most words then x P found is =
-    option_and_then_some then (number_then most words) x is (λ q first last.
-    option_and_then_some _ (cut 32 words) q first (λ p cuts rest.
-    option_and_then_some _ (number_below most p.0) q rest (λ n number same.
-    let a = number_below-Some most p.0 n number in
-    found n p.1 (cut-Some 32 words p cuts ∙ ap (λ w. w ++ 32 ∷ p.1) (sym a.1)) a.0 (subst (λ r. then r ≡ Some x) (sym (same_Some _ q same)) last))))
-
-read_exit : (words : List ℕ) (c : Call) → exit_of words ≡ Some c → Spells (codes "exit") words c
-unfolding exit_of line_of
-read_exit words c is =
-    number_first (2 ^ 32) words _ c _ (λ caller rest front below then.
-    option_and_then_some _ (number_below (2 ^ 8) rest) c then (λ status second last.
-    let b = number_below-Some (2 ^ 8) rest status second in
-    subst (Spells (codes "exit") words) (same_Some _ c last) (record {
-      written = ap (λ ws. codes "exit" ++ 32 ∷ ws) (front ∙ ap (λ w. decimal caller ++ 32 ∷ w) (sym b.1));
-      fits = (below, b.0);
-    }))) is
 
 read_forked : (words : List ℕ) (c : Call) (o : Option (List ℕ × List ℕ)) → cut 32 words ≡ o → forked_by words o ≡ Some c → Spells (codes "fork") words c
 unfolding line_of
@@ -68,226 +117,93 @@ read_fork : (words : List ℕ) (c : Call) → fork_of words ≡ Some c → Spell
 unfolding fork_of
 read_fork words c is = read_forked words c (cut 32 words) refl is
 
-read_which : (words : List ℕ) (which : Which) → which_of words ≡ Some which → (words ≡ join_with_byte 32 (words_of_which which)) × FitsWhich which
-unfolding which_of numbered_of
-read_which words which is =
-    branch (codes "any") words _ _ which (λ bytes. (bytes ≡ join_with_byte 32 (words_of_which which)) × FitsWhich which)
-    (λ any. subst (λ w. (codes "any" ≡ join_with_byte 32 (words_of_which w)) × FitsWhich w) (same_Some _ which any) (refl, tt))
-    (λ rest. branch (codes "own") words _ _ which (λ bytes. (bytes ≡ join_with_byte 32 (words_of_which which)) × FitsWhich which)
-    (λ own. subst (λ w. (codes "own" ≡ join_with_byte 32 (words_of_which w)) × FitsWhich w) (same_Some _ which own) (refl, tt))
-    (λ rest. option_and_then_some _ (cut 32 words) which rest (λ p cuts rest.
-    option_and_then_some _ (number_below (2 ^ 32) p.1) which rest (λ n number last.
-    let a = number_below-Some (2 ^ 32) p.1 n number in
-    let parts : words ≡ p.0 ++ 32 ∷ decimal n = cut-Some 32 words p cuts ∙ ap (λ w. p.0 ++ 32 ∷ w) (sym a.1) in
-    subst (λ bytes. (bytes ≡ join_with_byte 32 (words_of_which which)) × FitsWhich which) (sym parts)
-    (branch (codes "pid") p.0 _ _ which (λ selector. (selector ++ 32 ∷ decimal n ≡ join_with_byte 32 (words_of_which which)) × FitsWhich which)
-    (λ one. subst (λ w. (codes "pid" ++ 32 ∷ decimal n ≡ join_with_byte 32 (words_of_which w)) × FitsWhich w) (same_Some _ which one) (refl, a.0))
-    (λ rest. branch (codes "group") p.0 _ _ which (λ selector. (selector ++ 32 ∷ decimal n ≡ join_with_byte 32 (words_of_which which)) × FitsWhich which)
-    (λ group. subst (λ w. (codes "group" ++ 32 ∷ decimal n ≡ join_with_byte 32 (words_of_which w)) × FitsWhich w) (same_Some _ which group) (refl, a.0))
-    (λ none. absurd (none-some which none)) rest)
-    last)))) rest)
-    is
+-- a command with two words behind it, and with three
+read_two : {A B : Type 0} (word : List ℕ) (wa : A → List ℕ) (Fa : A → Type 0) (wb : B → List ℕ) (Fb : B → Type 0) (call : A → B → Call) → ((a : A) (b : B) → line_of (call a b) ≡ word ++ 32 ∷ (wa a ++ 32 ∷ wb b))
+    → ((a : A) (b : B) → Fa a → Fb b → Fits (call a b)) → (words : List ℕ) (c : Call) → Before wa Fa (λ a. Made (call a) (Writes wb Fb)) words c → Spells word words c
+read_two word wa Fa wb Fb call line fits words c is =
+    subst (Spells word words) is.4.2 (record {
+      written = ap (λ ws. word ++ 32 ∷ ws) (is.2 ∙ ap (λ w. wa is.0 ++ 32 ∷ w) is.4.1.0) ∙ sym (line is.0 is.4.0);
+      fits = fits is.0 is.4.0 is.3 is.4.1.1;
+    })
 
-wait_line : (caller : ℕ) (which : Which) (words : List ℕ) → words ≡ decimal caller ++ 32 ∷ join_with_byte 32 (words_of_which which)
-    → caller < 2 ^ 32 → FitsWhich which → Spells (codes "wait") words (Wait caller which)
+read_three : {A B D : Type 0} (word : List ℕ) (wa : A → List ℕ) (Fa : A → Type 0) (wb : B → List ℕ) (Fb : B → Type 0) (wd : D → List ℕ) (Fd : D → Type 0) (call : A → B → D → Call)
+    → ((a : A) (b : B) (d : D) → line_of (call a b d) ≡ word ++ 32 ∷ (wa a ++ 32 ∷ (wb b ++ 32 ∷ wd d))) → ((a : A) (b : B) (d : D) → Fa a → Fb b → Fd d → Fits (call a b d))
+    → (words : List ℕ) (c : Call) → Before wa Fa (λ a. Before wb Fb (λ b. Made (call a b) (Writes wd Fd))) words c → Spells word words c
+read_three word wa Fa wb Fb wd Fd call line fits words c is =
+    let t = is.4 in
+    subst (Spells word words) t.4.2 (record {
+      written = ap (λ ws. word ++ 32 ∷ ws) (is.2 ∙ ap (λ w. wa is.0 ++ 32 ∷ w) (t.2 ∙ ap (λ w. wb t.0 ++ 32 ∷ w) t.4.1.0)) ∙ sym (line is.0 t.0 t.4.0);
+      fits = fits is.0 t.0 t.4.0 is.3 t.3 t.4.1.1;
+    })
+
+wait_line : (caller : ℕ) (which : Which) → line_of (Wait caller which) ≡ codes "wait" ++ 32 ∷ (decimal caller ++ 32 ∷ text_of_which which)
 unfolding line_of
-wait_line caller Any words parts below fits = record { written = ap (λ ws. codes "wait" ++ 32 ∷ ws) parts; fits = (below, fits) }
-wait_line caller OwnGroup words parts below fits = record { written = ap (λ ws. codes "wait" ++ 32 ∷ ws) parts; fits = (below, fits) }
-wait_line caller (Pid number) words parts below fits = record { written = ap (λ ws. codes "wait" ++ 32 ∷ ws) parts; fits = (below, fits) }
-wait_line caller (Group number) words parts below fits = record { written = ap (λ ws. codes "wait" ++ 32 ∷ ws) parts; fits = (below, fits) }
+wait_line caller Any = refl
+wait_line caller OwnGroup = refl
+wait_line caller (Pid number) = refl
+wait_line caller (Group number) = refl
 
-read_wait : (words : List ℕ) (c : Call) → wait_of words ≡ Some c → Spells (codes "wait") words c
-unfolding wait_of line_of
-read_wait words c is =
-    number_first (2 ^ 32) words _ c _ (λ caller rest front below then.
-    option_and_then_some _ (which_of rest) c then (λ which second last.
-    let b = read_which rest which second in
-    subst (Spells (codes "wait") words) (same_Some _ c last)
-    (wait_line caller which words (front ∙ ap (λ w. decimal caller ++ 32 ∷ w) b.0) below b.1))) is
-
-read_set_pgid : (words : List ℕ) (c : Call) → set_pgid_of words ≡ Some c → Spells (codes "setpgid") words c
-unfolding set_pgid_of line_of
-read_set_pgid words c is =
-    number_first (2 ^ 32) words _ c _ (λ caller ids front below then.
-    option_and_then_some _ (signed_then ids) c then (λ first here rest.
-    option_and_then_some _ (cut 32 ids) first here (λ q cuts named.
-    option_and_then_some _ (signed_of q.0) first named (λ process second same.
-    let left : option_and_then (λ group. Some (SetPgid caller process group)) (signed_of q.1) ≡ Some c =
-    subst (λ (t : ℤ × List ℕ). option_and_then (λ group. Some (SetPgid caller t.0 group)) (signed_of t.1) ≡ Some c)
-    (sym (same_Some _ first same)) rest in
-    option_and_then_some _ (signed_of q.1) c left (λ group third last.
-    let b = signed_of-Some q.0 process second in
-    let d = signed_of-Some q.1 group third in
-    subst (Spells (codes "setpgid") words) (same_Some _ c last) (record {
-      written = ap (λ ws. codes "setpgid" ++ 32 ∷ ws) (front ∙ ap (λ w. decimal caller ++ 32 ∷ w) (cut-Some 32 ids q cuts)
-          ∙ ap (λ w. decimal caller ++ 32 ∷ (w ++ 32 ∷ q.1)) (sym b.1)
-          ∙ ap (λ w. decimal caller ++ 32 ∷ (signed_decimal process ++ 32 ∷ w)) (sym d.1));
-      fits = (below, b.0, d.0);
-    })))))) is
-
-read_kind : (word : List ℕ) (k : Kind) → kind_of word ≡ Some k → word ≡ word_of_kind k
-unfolding kind_of
-read_kind word k is =
-    branch (codes "task") word _ _ k (λ w. w ≡ word_of_kind k) (λ one. ap word_of_kind (same_Some _ k one))
-    (λ rest. branch (codes "group") word _ _ k (λ w. w ≡ word_of_kind k) (λ one. ap word_of_kind (same_Some _ k one))
-    (λ rest. branch (codes "session") word _ _ k (λ w. w ≡ word_of_kind k) (λ one. ap word_of_kind (same_Some _ k one))
-    (λ none. absurd (none-some k none)) rest) rest)
-    is
-
-read_next : (words : List ℕ) (c : Call) → next_of words ≡ Some c → Spells (codes "next") words c
-unfolding next_of line_of
-read_next words c is =
-    number_first (2 ^ 32) words _ c _ (λ caller place front below then.
-    option_and_then_some _ (cut 32 place) c then (λ q cuts rest.
-    option_and_then_some _ (kind_of q.0) c rest (λ k second rest.
-    option_and_then_some _ (number_below (2 ^ 32) q.1) c rest (λ from third last.
-    let d = number_below-Some (2 ^ 32) q.1 from third in
-    subst (Spells (codes "next") words) (same_Some _ c last) (record {
-      written = ap (λ ws. codes "next" ++ 32 ∷ ws) (front ∙ ap (λ w. decimal caller ++ 32 ∷ w) (cut-Some 32 place q cuts)
-          ∙ ap (λ w. decimal caller ++ 32 ∷ (w ++ 32 ∷ q.1)) (read_kind q.0 k second)
-          ∙ ap (λ w. decimal caller ++ 32 ∷ (word_of_kind k ++ 32 ∷ w)) (sym d.1));
-      fits = (below, d.0);
-    }))))) is
-
-read_limit : (words : List ℕ) (c : Call) → limit_of words ≡ Some c → Spells (codes "limit") words c
-unfolding limit_of line_of
-read_limit words c is =
-    number_first (2 ^ 64) words _ c _ (λ id rest front below then.
-    subst (λ ws. Spells (codes "limit") ws c) (sym front)
-    (branch (codes "max") rest _ _ c (λ w. Spells (codes "limit") (decimal id ++ 32 ∷ w) c)
-    (λ none. subst (Spells (codes "limit") (decimal id ++ 32 ∷ codes "max")) (same_Some _ c none) (record { written = refl; fits = (below, tt) }))
-    (λ some. option_map_some _ (number_below (2 ^ 32) rest) c some (λ limit second same.
-    let b = number_below-Some (2 ^ 32) rest limit second in
-    subst (Spells (codes "limit") (decimal id ++ 32 ∷ rest)) same (record {
-      written = ap (λ w. codes "limit" ++ 32 ∷ (decimal id ++ 32 ∷ w)) (sym b.1);
-      fits = (below, b.0);
-    })))
-    then)) is
-
-read_move : (words : List ℕ) (c : Call) → move_of words ≡ Some c → Spells (codes "move") words c
-unfolding move_of line_of
-read_move words c is =
-    number_first (2 ^ 32) words _ c _ (λ task rest front below then.
-    option_and_then_some _ (number_below (2 ^ 64) rest) c then (λ id second last.
-    let b = number_below-Some (2 ^ 64) rest id second in
-    subst (Spells (codes "move") words) (same_Some _ c last) (record {
-      written = ap (λ ws. codes "move" ++ 32 ∷ ws) (front ∙ ap (λ w. decimal task ++ 32 ∷ w) (sym b.1));
-      fits = (below, b.0);
-    }))) is
-
-abbrev word_of_switch : Bool → List ℕ
-word_of_switch true = codes "on"
-word_of_switch false = codes "off"
-
-read_switch : (word : List ℕ) (on : Bool) → switch_of word ≡ Some on → word ≡ word_of_switch on
-unfolding switch_of
-read_switch word on is =
-    branch (codes "on") word _ _ on (λ w. w ≡ word_of_switch on) (λ one. ap word_of_switch (same_Some _ on one))
-    (λ rest. branch (codes "off") word _ _ on (λ w. w ≡ word_of_switch on) (λ one. ap word_of_switch (same_Some _ on one))
-    (λ none. absurd (none-some on none)) rest)
-    is
-
-subreaper_line : (caller : ℕ) (on : Bool) (words : List ℕ) → words ≡ decimal caller ++ 32 ∷ word_of_switch on → caller < 2 ^ 32
-    → Spells (codes "subreaper") words (SetSubreaper caller on)
+limit_line : (id : ℕ) (most : Option ℕ) → line_of (SetLimit id most) ≡ codes "limit" ++ 32 ∷ (decimal id ++ 32 ∷ text_of_limit most)
 unfolding line_of
-subreaper_line caller true words parts below = record { written = ap (λ ws. codes "subreaper" ++ 32 ∷ ws) parts; fits = below }
-subreaper_line caller false words parts below = record { written = ap (λ ws. codes "subreaper" ++ 32 ∷ ws) parts; fits = below }
+limit_line id None = refl
+limit_line id (Some most) = refl
 
-read_subreaper : (words : List ℕ) (c : Call) → subreaper_of words ≡ Some c → Spells (codes "subreaper") words c
-unfolding subreaper_of
-read_subreaper words c is =
-    number_first (2 ^ 32) words _ c _ (λ caller rest front below then.
-    option_and_then_some _ (switch_of rest) c then (λ on second last.
-    subst (Spells (codes "subreaper") words) (same_Some _ c last)
-    (subreaper_line caller on words (front ∙ ap (λ w. decimal caller ++ 32 ∷ w) (read_switch rest on second)) below))) is
+subreaper_line : (caller : ℕ) (on : Bool) → line_of (SetSubreaper caller on) ≡ codes "subreaper" ++ 32 ∷ (decimal caller ++ 32 ∷ word_of_switch on)
+unfolding line_of
+subreaper_line caller true = refl
+subreaper_line caller false = refl
 
--- a command with one number, of a process or of a control group
-read_one : (most : ℕ) (word : List ℕ) (call : ℕ → Call) → ((n : ℕ) → line_of (call n) ≡ word ++ 32 ∷ decimal n) → ((n : ℕ) → n < most → Fits (call n))
-    → (words : List ℕ) (c : Call) → option_map call (number_below most words) ≡ Some c → Spells word words c
-read_one most word call line fits words c is =
-    option_map_some call (number_below most words) c is (λ n number same.
-    let a = number_below-Some most words n number in
-    subst (Spells word words) same (record { written = ap (λ w. word ++ 32 ∷ w) (sym a.1) ∙ sym (line n); fits = fits n a.0 }))
+module _ (command words : List ℕ) (c : Call) where
+  -- a command with one number, of a process or of a control group, and one about two processes
+  one : (bound : ℕ) (word : List ℕ) (call : ℕ → Call) → ((n : ℕ) → line_of (call n) ≡ word ++ 32 ∷ decimal n) → ((n : ℕ) → n < bound → Fits (call n))
+      → option_map call (number_below bound words) ≡ Some c → Spells word words c
+  one bound word call line fits is =
+      option_map_some call (number_below bound words) c is (λ n number same.
+      let a = number_below-Some bound words n number in
+      subst (Spells word words) same (record { written = ap (λ w. word ++ 32 ∷ w) (sym a.1) ∙ sym (line n); fits = fits n a.0 }))
 
-read_pair : (words : List ℕ) (pair : ℕ × ℕ) → pair_of words ≡ Some pair → (words ≡ decimal pair.0 ++ 32 ∷ decimal pair.1) × (pair.0 < 2 ^ 32) × (pair.1 < 2 ^ 32)
-unfolding pair_of
-read_pair words pair is =
-    number_first (2 ^ 32) words _ pair _ (λ first rest front below then.
-    option_and_then_some _ (number_below (2 ^ 32) rest) pair then (λ second is_second last.
-    let b = number_below-Some (2 ^ 32) rest second is_second in
-    subst (λ q. (words ≡ decimal q.0 ++ 32 ∷ decimal q.1) × (q.0 < 2 ^ 32) × (q.1 < 2 ^ 32)) (same_Some _ pair last)
-    (front ∙ ap (λ w. decimal first ++ 32 ∷ w) (sym b.1), below, b.0))) is
+  pair : (word : List ℕ) (call : ℕ → ℕ → Call) → ((a b : ℕ) → line_of (call a b) ≡ word ++ 32 ∷ (decimal a ++ 32 ∷ decimal b)) → ((a b : ℕ) → a < 2 ^ 32 → b < 2 ^ 32 → Fits (call a b))
+      → by_pair call words ≡ Some c → Spells word words c
+  pair word call line fits is = read_two word decimal _ decimal _ call line fits words c ((two call).says words c is)
 
--- a command about two processes
-read_two : (word : List ℕ) (call : ℕ → ℕ → Call) → ((a b : ℕ) → line_of (call a b) ≡ word ++ 32 ∷ (decimal a ++ 32 ∷ decimal b))
-    → ((a b : ℕ) → a < 2 ^ 32 → b < 2 ^ 32 → Fits (call a b)) → (words : List ℕ) (c : Call) → by_pair call words ≡ Some c → Spells word words c
-read_two word call line fits words c is =
-    option_map_some (λ p. call p.0 p.1) (pair_of words) c is (λ p pair same.
-    let a = read_pair words p pair in
-    subst (Spells word words) same (record { written = ap (λ w. word ++ 32 ∷ w) a.0 ∙ sym (line p.0 p.1); fits = fits p.0 p.1 a.1 a.2 }))
+  -- the tests of a command, one after another
+  try : {x y : Option Call} (word : List ℕ) → (x ≡ Some c → Spells word words c) → (y ≡ Some c → Spells command words c) → cond (is_word word command) x y ≡ Some c → Spells command words c
+  try word then otherwise = branch word command _ _ c (λ w. Spells w words c) then otherwise
 
-read_two_letters : (command words : List ℕ) (c : Call) → two_letters_of command words ≡ Some c → Spells command words c
-unfolding two_letters_of line_of
-read_two_letters command words c is =
-    branch (codes "mk") command _ _ c (λ w. Spells w words c) (read_one (2 ^ 64) (codes "mk") MakeControl (λ n. refl) (λ n h. h) words c) (λ rest.
-    branch (codes "rm") command _ _ c (λ w. Spells w words c) (read_one (2 ^ 64) (codes "rm") RemoveControl (λ n. refl) (λ n h. h) words c) (λ none. absurd (none-some c none))
-    rest) is
+  none : None ≡ Some c → Spells command words c
+  none is = absurd (none-some c is)
 
-read_four_letters : (command words : List ℕ) (c : Call) → four_letters_of command words ≡ Some c → Spells command words c
-unfolding four_letters_of line_of
-read_four_letters command words c is =
-    branch (codes "fork") command _ _ c (λ w. Spells w words c) (read_fork words c) (λ rest.
-    branch (codes "exec") command _ _ c (λ w. Spells w words c) (read_one (2 ^ 32) (codes "exec") Exec (λ n. refl) (λ n h. h) words c) (λ rest.
-    branch (codes "exit") command _ _ c (λ w. Spells w words c) (read_exit words c) (λ rest.
-    branch (codes "wait") command _ _ c (λ w. Spells w words c) (read_wait words c) (λ rest.
-    branch (codes "next") command _ _ c (λ w. Spells w words c) (read_next words c) (λ rest.
-    branch (codes "move") command _ _ c (λ w. Spells w words c) (read_move words c) (λ rest.
-    branch (codes "join") command _ _ c (λ w. Spells w words c) (read_two (codes "join") Join (λ a b. refl) (λ a b h k. (h, k)) words c) (λ none. absurd (none-some c none))
-    rest) rest) rest) rest) rest) rest) is
+  either : (letters : Bool) {x y : Option Call} → (x ≡ Some c → Spells command words c) → (y ≡ Some c → Spells command words c) → cond letters x y ≡ Some c → Spells command words c
+  either true then otherwise = then
+  either false then otherwise = otherwise
 
-read_five_letters : (command words : List ℕ) (c : Call) → five_letters_of command words ≡ Some c → Spells command words c
-unfolding five_letters_of line_of
-read_five_letters command words c is =
-    branch (codes "nspid") command _ _ c (λ w. Spells w words c) (read_two (codes "nspid") NsPid (λ a b. refl) (λ a b h k. (h, k)) words c) (λ rest.
-    branch (codes "limit") command _ _ c (λ w. Spells w words c) (read_limit words c) (λ rest.
-    branch (codes "count") command _ _ c (λ w. Spells w words c) (read_one (2 ^ 64) (codes "count") Count (λ n. refl) (λ n h. h) words c) (λ none. absurd (none-some c none))
-    rest) rest) is
-
-read_six_letters : (command words : List ℕ) (c : Call) → six_letters_of command words ≡ Some c → Spells command words c
-unfolding six_letters_of line_of
-read_six_letters command words c is =
-    branch (codes "setsid") command _ _ c (λ w. Spells w words c) (read_one (2 ^ 32) (codes "setsid") SetSid (λ n. refl) (λ n h. h) words c) (λ rest.
-    branch (codes "getpid") command _ _ c (λ w. Spells w words c) (read_one (2 ^ 32) (codes "getpid") GetPid (λ n. refl) (λ n h. h) words c) (λ rest.
-    branch (codes "getsid") command _ _ c (λ w. Spells w words c) (read_two (codes "getsid") GetSid (λ a b. refl) (λ a b h k. (h, k)) words c) (λ none. absurd (none-some c none))
-    rest) rest) is
-
-read_seven_letters : (command words : List ℕ) (c : Call) → seven_letters_of command words ≡ Some c → Spells command words c
-unfolding seven_letters_of line_of
-read_seven_letters command words c is =
-    branch (codes "setpgid") command _ _ c (λ w. Spells w words c) (read_set_pgid words c) (λ rest.
-    branch (codes "getppid") command _ _ c (λ w. Spells w words c) (read_one (2 ^ 32) (codes "getppid") GetPpid (λ n. refl) (λ n h. h) words c) (λ rest.
-    branch (codes "getpgid") command _ _ c (λ w. Spells w words c) (read_two (codes "getpgid") GetPgid (λ a b. refl) (λ a b h k. (h, k)) words c) (λ none. absurd (none-some c none))
-    rest) rest) is
-
-read_nine_letters : (command words : List ℕ) (c : Call) → nine_letters_of command words ≡ Some c → Spells command words c
-unfolding nine_letters_of line_of
-read_nine_letters command words c is =
-    branch (codes "subreaper") command _ _ c (λ w. Spells w words c) (read_subreaper words c) (λ none. absurd (none-some c none))
-    is
-
-either : {P : Type 0} (b : Bool) (x y : Option Call) (c : Call) → cond b x y ≡ Some c → (x ≡ Some c → P) → (y ≡ Some c → P) → P
-either true x y c is first second = first is
-either false x y c is first second = second is
-
-read_command : (command words : List ℕ) (c : Call) → command_of command words ≡ Some c → Spells command words c
-unfolding command_of
-read_command command words c is =
-    let letters = length command in
-    either (eqb letters 2) _ _ c is (read_two_letters command words c) (λ not_two.
-    either (eqb letters 4) _ _ c not_two (read_four_letters command words c) (λ not_four.
-    either (eqb letters 5) _ _ c not_four (read_five_letters command words c) (λ not_five.
-    either (eqb letters 6) _ _ c not_five (read_six_letters command words c) (λ not_six.
-    either (eqb letters 7) _ _ c not_six (read_seven_letters command words c) (read_nine_letters command words c)))))
+  read_command : command_of command words ≡ Some c → Spells command words c
+  unfolding command_of two_letters_of four_letters_of five_letters_of six_letters_of seven_letters_of nine_letters_of line_of
+  read_command =
+      either (length command == 2)
+      (try (codes "mk") (one (2 ^ 64) (codes "mk") MakeControl (λ n. refl) (λ n h. h))
+      (try (codes "rm") (one (2 ^ 64) (codes "rm") RemoveControl (λ n. refl) (λ n h. h)) none))
+      (either (length command == 4)
+      (try (codes "fork") (read_fork words c)
+      (try (codes "exec") (one (2 ^ 32) (codes "exec") Exec (λ n. refl) (λ n h. h))
+      (try (codes "exit") (λ is. read_two (codes "exit") decimal _ decimal _ Exit (λ a b. refl) (λ a b h k. (h, k)) words c (exit.says words c is))
+      (try (codes "wait") (λ is. read_two (codes "wait") decimal _ text_of_which _ Wait wait_line (λ a b h k. (h, k)) words c (wait.says words c is))
+      (try (codes "next") (λ is. read_three (codes "next") decimal _ word_of_kind _ decimal _ Next (λ a b d. refl) (λ a b d h k l. (h, l)) words c (next.says words c is))
+      (try (codes "move") (λ is. read_two (codes "move") decimal _ decimal _ Move (λ a b. refl) (λ a b h k. (h, k)) words c (move.says words c is))
+      (try (codes "join") (pair (codes "join") Join (λ a b. refl) (λ a b h k. (h, k))) none)))))))
+      (either (length command == 5)
+      (try (codes "nspid") (pair (codes "nspid") NsPid (λ a b. refl) (λ a b h k. (h, k)))
+      (try (codes "limit") (λ is. read_two (codes "limit") decimal _ text_of_limit _ SetLimit limit_line (λ a b h k. (h, k)) words c (limit.says words c is))
+      (try (codes "count") (one (2 ^ 64) (codes "count") Count (λ n. refl) (λ n h. h)) none)))
+      (either (length command == 6)
+      (try (codes "setsid") (one (2 ^ 32) (codes "setsid") SetSid (λ n. refl) (λ n h. h))
+      (try (codes "getpid") (one (2 ^ 32) (codes "getpid") GetPid (λ n. refl) (λ n h. h))
+      (try (codes "getsid") (pair (codes "getsid") GetSid (λ a b. refl) (λ a b h k. (h, k))) none)))
+      (either (length command == 7)
+      (try (codes "setpgid") (λ is. read_three (codes "setpgid") decimal _ signed_decimal _ signed_decimal _ SetPgid (λ a b d. refl) (λ a b d h k l. (h, k, l)) words c (set_pgid.says words c is))
+      (try (codes "getppid") (one (2 ^ 32) (codes "getppid") GetPpid (λ n. refl) (λ n h. h))
+      (try (codes "getpgid") (pair (codes "getpgid") GetPgid (λ a b. refl) (λ a b h k. (h, k))) none)))
+      (try (codes "subreaper") (λ is. read_two (codes "subreaper") decimal _ word_of_switch _ SetSubreaper subreaper_line (λ a b h k. h) words c (subreaper.says words c is)) none)))))
 
 says_call : (o : Option Call) (c : Call) → call_or_bad o ≡ says.Call c → o ≡ Some c
 says_call None c is = cc
@@ -312,3 +228,5 @@ says_at_head b bs (Some c) some = line_of-parsed (b ∷ bs) c (ap call_or_bad so
 pub Says-parsed : (bytes : List ℕ) → Says (parsed bytes) bytes
 Says-parsed [] = refl
 Says-parsed (b ∷ bs) = says_at_head b bs (call_of (b ∷ bs)) refl
+
+pub ruleset tables = (Says-parsed, parsed-line_of)

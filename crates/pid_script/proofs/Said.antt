@@ -4,6 +4,7 @@ use Rattle.std.specs.List.{onto_first}
 use Rattle.pid_script.specs.Reading.{parsed}
 use Rattle.pid_script.specs.Script.{lines_of, onto_whole, whole_lines_of, said_of, said_whole, kept_line, kept_more, said_by, last_said, said_within, kept_after}
 use Rattle.pid_script.proofs.Kept.{said_by_kept}
+use Rattle.pid_script.proofs.Cuts.{by_test}
 use Rattle.pid_script.proofs.Within.{kept_line-more}
 
 -- the bytes that came before go to the front of the first line
@@ -33,19 +34,12 @@ onto_nothing : (lines : List (List ℕ)) → onto_first_whole [] lines ≡ lines
 onto_nothing [] = refl
 onto_nothing (line ∷ lines) = refl
 
-whole_at_head : (part : List ℕ) (b : ℕ) (bs : List ℕ) (t : Bool)
-    → said_within (kept_line []) bs ≡ map parsed (onto_first_whole [] (whole_lines_of bs))
-    → said_within (kept_line (part ++ b ∷ [])) bs ≡ map parsed (onto_first_whole (part ++ b ∷ []) (whole_lines_of bs))
-    → cond t (said_by (kept_line part) ∷ said_within (Some []) bs) (said_within (kept_more (kept_line part) (b ∷ [])) bs)
-    ≡ map parsed (onto_first_whole part (cond t ([] ∷ whole_lines_of bs) (onto_whole b (whole_lines_of bs))))
-whole_at_head part b bs true ends goes_on =
-    (λ i. (said_by_kept part ∙ ap parsed (sym (append-nil part))) i ∷ (ends ∙ ap (map parsed) (onto_nothing (whole_lines_of bs))) i)
-whole_at_head part b bs false ends goes_on =
-    ap (λ kept. said_within kept bs) (kept_next part b) ∙ goes_on ∙ ap (map parsed) (onto_whole-more part b (whole_lines_of bs))
-
 whole_from : (part bs : List ℕ) → said_within (kept_line part) bs ≡ map parsed (onto_first_whole part (whole_lines_of bs))
 whole_from part [] = refl
-whole_from part (b ∷ bs) = whole_at_head part b bs (eqb b 10) (whole_from [] bs) (whole_from (part ++ b ∷ []) bs)
+whole_from part (b ∷ bs) =
+    by_test (eqb b 10)
+    (λ ends. (rw ends (λ i. (said_by_kept part ∙ ap parsed (sym (append-nil part))) i ∷ (whole_from [] bs ∙ ap (map parsed) (onto_nothing (whole_lines_of bs))) i)))
+    (λ goes_on. (rw goes_on (ap (λ kept. said_within kept bs) (kept_next part b) ∙ whole_from (part ++ b ∷ []) bs ∙ ap (map parsed) (onto_whole-more part b (whole_lines_of bs)))))
 
 -- the lines that have ended
 pub said_within-whole : (bytes : List ℕ) → said_within (Some []) bytes ≡ said_whole bytes
@@ -64,19 +58,11 @@ ended : (part : List ℕ) (lines : List (List ℕ)) → parsed part ∷ map pars
 ended [] lines = refl
 ended (p ∷ ps) lines = ap (λ l. parsed (p ∷ l) ∷ map parsed lines) (sym (append-nil ps))
 
-all_at_head : (part : List ℕ) (b : ℕ) (bs : List ℕ) (t : Bool)
-    → said_within (kept_line []) bs ++ last_said (kept_after (kept_line []) bs) ≡ map parsed (onto_first_line [] (lines_of bs))
-    → said_within (kept_line (part ++ b ∷ [])) bs ++ last_said (kept_after (kept_line (part ++ b ∷ [])) bs) ≡ map parsed (onto_first_line (part ++ b ∷ []) (lines_of bs))
-    → cond t (said_by (kept_line part) ∷ said_within (Some []) bs) (said_within (kept_more (kept_line part) (b ∷ [])) bs)
-    ++ last_said (cond t (kept_after (Some []) bs) (kept_after (kept_more (kept_line part) (b ∷ [])) bs))
-    ≡ map parsed (onto_first_line part (cond t ([] ∷ lines_of bs) (onto_first b (lines_of bs))))
-all_at_head part b bs true ends goes_on = (λ i. said_by_kept part i ∷ ends i) ∙ ended part (lines_of bs)
-all_at_head part b bs false ends goes_on =
-    ap (λ kept. said_within kept bs ++ last_said (kept_after kept bs)) (kept_next part b) ∙ goes_on ∙ ap (map parsed) (onto_line-more part b (lines_of bs))
-
 all_from : (part bs : List ℕ) → said_within (kept_line part) bs ++ last_said (kept_after (kept_line part) bs) ≡ map parsed (onto_first_line part (lines_of bs))
 all_from part [] = last_of_part part
-all_from part (b ∷ bs) = all_at_head part b bs (eqb b 10) (all_from [] bs) (all_from (part ++ b ∷ []) bs)
+all_from part (b ∷ bs) =
+    by_test (eqb b 10) (λ ends. (rw ends ((λ i. said_by_kept part i ∷ all_from [] bs i) ∙ ended part (lines_of bs))))
+    (λ goes_on. (rw goes_on (ap (λ kept. said_within kept bs ++ last_said (kept_after kept bs)) (kept_next part b) ∙ all_from (part ++ b ∷ []) bs ∙ ap (map parsed) (onto_line-more part b (lines_of bs)))))
 
 -- all lines
 pub said_within-all : (bytes : List ℕ) → said_within (Some []) bytes ++ last_said (kept_after (Some []) bytes) ≡ said_of bytes

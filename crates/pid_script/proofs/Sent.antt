@@ -90,3 +90,5 @@ pub stops_after : {first second all : List Event → Type 0} → Joins first sec
     → 0 < length left → Stops all bytes
 stops_after joins bytes sent left front back is some_left =
     (sent ++ [], left, Stalls-more joins sent [] front back, is ∙ ap (λ front. front ++ left) (sym (append-nil sent)), some_left)
+
+pub ruleset stops = (OnErr-always, stops_before)

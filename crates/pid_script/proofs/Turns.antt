@@ -1,19 +1,21 @@
 -- What a script does with its devices, turn by turn.
-use Rattle.std.proofs.Common.{◌≡◌, ℕ, ◌+◌, ◌<◌, ◌≤◌, Bool, false, true, List, [], ◌∷◌, ◌++◌, length, length-append, Option, Some, None, refl, sym, ap, ◌∙◌, subst, append_assoc, append-nil, arith, if◌then◌else◌, ◌||◌, zero, suc}
+use Rattle.std.proofs.Common.{◌≡◌, ℕ, ◌+◌, ◌<◌, ◌≤◌, Bool, false, true, List, [], ◌∷◌, ◌++◌, length, length-append, Option, Some, None, Err, refl, sym, ap, ◌∙◌, subst, append_assoc, append-nil, arith, if◌then◌else◌, ◌||◌, zero, suc, lt-ltb, inl, inr, ◌⊎◌, ◌↔◌}
 use Rattle.std.specs.List.{list_any}
 use Rattle.std.proofs.lemmas.List.Folds.{list_any-append}
 use Rattle.std.proofs.lemmas.List.Concat.{flat_map-append}
+use Rattle.std.specs.Io.KnownBytes.{Appends, Consumes, IsAtEnd}
 use Rattle.pid_types.specs.Devices.{Event, Reading, Writing, heard_by, heard, said_by, said, readings, IsWell, AreWell}
 use Rattle.pid_types.specs.DeviceLaws.{some_is_none, AreWell-more, readings-more, no_readings}
 use Rattle.pid_types.specs.declared.call.Call.{Call}
 use Rattle.pid_types.specs.declared.reply.Reply.{Reply}
 use Rattle.pid_script.specs.declared.line.Line.{Line}
-use Rattle.pid_script.specs.Script.{Progress, said_of, said_whole, said_within}
-use Rattle.pid_script.specs.Session.{Answers, StopsShort}
-use Rattle.pid_script.specs.Dialogue.{Sends, Stalls, is_end, lines_heard, IsAnswered, IsCutShort, Follows, Each, EndsBy}
+use Rattle.pid_script.specs.Script.{Progress, said_of, said_whole, said_within, kept_after, last_said}
+use Rattle.pid_script.specs.Session.{Answers, StopsShort, Halts, Breaks}
+use Rattle.pid_script.specs.Dialogue.{Sends, Stalls, is_end, lines_heard, IsAnswered, IsCutShort, Follows, Each, Converses}
 use Rattle.pid_script.specs.declared.tally.RunScriptFault.TheVariants.{Write}
 use Rattle.pid_script.proofs.Said.{said_within-whole}
 use Rattle.pid_script.proofs.Progress.{Answers-more, StopsShort-more}
+use Rattle.pid_script.proofs.Ends.{more_said, last_of}
 
 -- each event of some, and then each of others
 pub Each-more : (P : List Event → Event → Type 0) (before xs ys : List Event) → Each P before xs → Each P (before ++ xs) ys → Each P before (xs ++ ys)
@@ -43,21 +45,26 @@ writes_follow start before (Reading asked given ∷ es) well all none = absurd (
 writes_follow start before (Writing offered taken ∷ es) well all none =
     (well, writes_follow start (before ++ Writing offered taken ∷ []) es (AreWell-more before (Writing offered taken ∷ []) well (all.0, tt)) all.1 none)
 
--- events of which none is a fault or the end, and in which each read came once all before it was answered: so far a script goes on
-pub record GoesOn (start p : Progress) (AreMade : List (Call × Reply) → Type 0) (lines : List Line) (events : List Event) : Type 0 where
+-- events of which none is a fault, and in which each read came once all before it was answered; and whether they found the end
+pub record GoesOn (start p : Progress) (AreMade : List (Call × Reply) → Type 0) (lines : List Line) (events : List Event) (ended : Bool) : Type 0 where
   pub each : Each (Follows start) [] events
   pub well : AreWell events
-  pub endless : list_any is_end events ≡ false
+  pub ends : list_any is_end events ≡ ended
   pub answered : Answers start p (λ sent. said events ≡ sent) AreMade lines
 
--- the lines that were read, where the end was not found, and where it was
-pub lines_going : (events : List Event) (bytes : List ℕ) → list_any is_end events ≡ false → heard events ≡ bytes → said_whole bytes ≡ lines_heard events
-lines_going events bytes endless is =
-    ap said_whole (sym is) ∙ ap (λ ended. if ended then said_of (heard events) else said_whole (heard events)) (sym endless)
+-- the lines that a turn comes to: those that its piece ends, and at the end of the source what is left
+abbrev pub lines_of_turn : List ℕ → ℕ → List ℕ → List Line
+lines_of_turn read asked piece = if is_end (Reading asked (Some piece)) then said_of (read ++ piece) else said_whole (read ++ piece)
 
-pub lines_ended : (events : List Event) (bytes : List ℕ) → list_any is_end events ≡ true → heard events ≡ bytes → said_of bytes ≡ lines_heard events
-lines_ended events bytes ended is =
-    ap said_of (sym is) ∙ ap (λ ended. if ended then said_of (heard events) else said_whole (heard events)) (sym ended)
+pub lines_going : (read piece : List ℕ) (part : Option (List ℕ)) (asked : ℕ) → part ≡ kept_after (Some []) read → 0 < length piece
+    → said_within (Some []) read ++ said_within part piece ≡ lines_of_turn read asked piece
+lines_going read [] part asked is some = absurd (omega (arith, some))
+lines_going read (b ∷ bs) part asked is some = more_said read (b ∷ bs) part is ∙ said_within-whole (read ++ b ∷ bs)
+
+pub lines_ended : (read piece : List ℕ) (part : Option (List ℕ)) (asked : ℕ) → part ≡ kept_after (Some []) read → piece ≡ [] → 0 < asked
+    → said_within (Some []) read ++ last_said part ≡ lines_of_turn read asked piece
+lines_ended read piece part asked is nothing some =
+    rw (nothing, lt-ltb 0 asked some) (last_of read part is ∙ ap said_of (sym (append-nil read)))
 
 -- lines whose answers were all written are answered, where they are those that were read
 pub all_answered : {AreMade : List (Call × Reply) → Type 0} (start p : Progress) (events : List Event) (lines : List Line) → Answers start p (λ sent. said events ≡ sent) AreMade lines → p.text ≡ [] → lines ≡ lines_heard events
@@ -68,14 +75,21 @@ all_answered start p events lines answers empty are = record {
   text = answers.appended ∙ sym (append-nil answers.sent) ∙ ap (λ text. answers.sent ++ text) (sym empty) ∙ ap (λ q. q.text) answers.reached;
 }
 
--- and cut short, where their answers were not all written
-pub cut_short : (start : Progress) (events : List Event) (lines : List Line) → StopsShort start (λ sent. said events ≡ sent) lines → lines ≡ lines_heard events → IsCutShort start events
-cut_short start events lines stops are = record {
-  script = stops.script;
-  left = stops.left;
-  says = stops.says ∙ are;
-  text = stops.short ∙ ap (λ sent. sent ++ stops.left) (sym stops.appended);
-  some_left = stops.some_left;
+by_end : (to : Option (List ℕ)) (read : List ℕ) (lines : List Line) (ended : Bool) → (ended ≡ true → IsAtEnd to) → lines ≡ (if ended then said_of read else said_whole read)
+    → (lines ≡ said_whole read) ⊎ (IsAtEnd to × (lines ≡ said_of read))
+by_end to read lines true at_end are = inr (at_end refl, are)
+by_end to read lines false at_end are = inl are
+
+-- what a source and a sink tell of events whose answers were all written
+pub halts : {from to before after : Option (List ℕ)} (start : Progress) (least : ℕ) (events : List Event) → IsAnswered start events → list_any is_end events ≡ false
+    → least ≤ length (heard events) → Consumes from to (heard events) → Appends before after (said events) → Halts least start from to before after
+halts {before = before} {after = after} start least events answered endless long consumed appended = record {
+  read = heard events;
+  script = answered.script;
+  consumed = consumed;
+  long = long;
+  says = answered.says ∙ ap (λ ended. if ended then said_of (heard events) else said_whole (heard events)) endless;
+  written = subst (Appends before after) answered.text appended;
 }
 
 -- a write that took none says nothing
@@ -115,80 +129,117 @@ pub goes_on : (asked : ℕ) (piece : List ℕ) → 0 < length piece → is_end (
 goes_on asked [] some = absurd (omega (arith, some))
 goes_on asked (b ∷ bs) some = refl
 
+-- a read, and then what was written, are done after what was done before
+pub turn_done : {S : Type 0} {did wrote : S → S → List Event → Type 0} → ((a b c : S) (xs ys : List Event) → did a b xs → did b c ys → did a c (xs ++ ys))
+    → ((a b : S) (xs : List Event) → did a b xs ↔ wrote a b xs) → {a b c d : S} (events : List Event) (asked : ℕ) (given : Option (List ℕ)) (es : List Event)
+    → did a b events → did b c (Reading asked given ∷ []) → wrote c d es → did a d (turn events asked given es)
+turn_done more one {a} {b} {c} {d} events asked given es before event written =
+    more a b d events (Reading asked given ∷ es) before (more b c d (Reading asked given ∷ []) es event ((one c d es).1 written))
+
+-- where a write took none
+abbrev pub stalled : {p : Progress} {did : List Event → Type 0} {lines : List Line} → StopsShort p (Stalls did) lines → List Event
+stalled stops = stops.appended.events ++ Writing stops.appended.offered stops.appended.taken ∷ []
+
 -- where a script goes on and nothing waits
-module _ {start p : Progress} {AreMade : List (Call × Reply) → Type 0} {events : List Event} (on : GoesOn start p AreMade (said_within (Some []) (heard events)) events) (empty : p.text ≡ []) (asked : ℕ) (few : asked ≤ 4096) where
+module _ {start p : Progress} {AreMade : List (Call × Reply) → Type 0} {events : List Event} (on : GoesOn start p AreMade (said_within (Some []) (heard events)) events false)
+    (empty : p.text ≡ []) (asked : ℕ) (few : asked ≤ 4096) where
   -- all that was read is answered
   pub is_answered : IsAnswered start events
-  is_answered = all_answered start p events (said_within (Some []) (heard events)) on.answered empty (said_within-whole (heard events) ∙ lines_going events (heard events) on.endless refl)
+  is_answered =
+      all_answered start p events (said_within (Some []) (heard events)) on.answered empty
+      (said_within-whole (heard events) ∙ ap (λ ended. if ended then said_of (heard events) else said_whole (heard events)) (sym on.ends))
 
   -- a read may follow, and then what follows it
-  pub read_follows : (given : Option (List ℕ)) (es : List Event) → Each (Follows start) (events ++ Reading asked given ∷ []) es → Each (Follows start) [] (events ++ Reading asked given ∷ es)
-  read_follows given es rest = Each-more (Follows start) [] events (Reading asked given ∷ es) on.each ((on.well, on.endless, few, is_answered), rest)
+  pub read_follows : (given : Option (List ℕ)) (es : List Event) → Each (Follows start) (events ++ Reading asked given ∷ []) es → Each (Follows start) [] (turn events asked given es)
+  read_follows given es rest = Each-more (Follows start) [] events (Reading asked given ∷ es) on.each ((on.well, on.ends, few, is_answered), rest)
 
-  read_well : (piece : List ℕ) → AreWell (events ++ Reading asked (Some piece) ∷ [])
-  read_well piece = AreWell-more events (Reading asked (Some piece) ∷ []) on.well (tt, tt)
+  module _ (piece : List ℕ) where
+    read_well : AreWell (events ++ Reading asked (Some piece) ∷ [])
+    read_well = AreWell-more events (Reading asked (Some piece) ∷ []) on.well (tt, tt)
 
-  module _ (piece : List ℕ) {did : List Event → Type 0} {IsNext : List (Call × Reply) → Type 0} where
-    -- the answers to the lines of what it gave
-    pub turn_answers : {IsAll : List (Call × Reply) → Type 0} → ((xs ys : List (Call × Reply)) → AreMade xs → IsNext ys → IsAll (xs ++ ys)) → (q : Progress) (lines : List Line) → (more : Answers p q (Sends did) IsNext lines)
-        → Answers start q (λ sent. said (turn events asked (Some piece) more.appended.events) ≡ sent) IsAll (said_within (Some []) (heard events) ++ lines)
-    turn_answers {IsAll = IsAll} after q lines more =
-        Answers-more {a = λ sent. said events ≡ sent} {b = λ sent. said more.appended.events ≡ sent} {c = λ sent. said (turn events asked (Some piece) more.appended.events) ≡ sent} {m = IsAll}
-        (λ xs ys front back. turn_said events asked (Some piece) more.appended.events ∙ (λ i. front i ++ back i)) after
-        start p q (said_within (Some []) (heard events)) lines on.answered
-        (record { sent = more.sent; calls = more.calls; script = more.script; says = more.says; appended = more.appended.sent; made = more.made; reached = more.reached })
-
-    pub turn_each : (q : Progress) (lines : List Line) → (more : Answers p q (Sends did) IsNext lines) → Each (Follows start) [] (turn events asked (Some piece) more.appended.events)
-    turn_each q lines more =
-        let sends = more.appended in
-        read_follows (Some piece) sends.events (writes_follow start (events ++ Reading asked (Some piece) ∷ []) sends.events (read_well piece) sends.well sends.writes)
-
-    pub turn_well : (q : Progress) (lines : List Line) → (more : Answers p q (Sends did) IsNext lines) → AreWell (turn events asked (Some piece) more.appended.events)
-    turn_well q lines more = AreWell-more events (Reading asked (Some piece) ∷ more.appended.events) on.well (tt, more.appended.well)
+    pub turn_lines : (es : List Event) → readings es ≡ [] → lines_heard (turn events asked (Some piece) es) ≡ lines_of_turn (heard events) asked piece
+    turn_lines es none =
+        let all = turn events asked (Some piece) es in
+        ap (λ ended. if ended then said_of (heard all) else said_whole (heard all)) (turn_end events asked (Some piece) es none on.ends)
+        ∙ ap (λ bytes. if is_end (Reading asked (Some piece)) then said_of bytes else said_whole bytes) (turn_heard events asked (Some piece) es none)
 
   module _ (piece : List ℕ) {did : List Event → Type 0} where
-    -- where a write took none
-    abbrev pub stalled : {lines : List Line} → StopsShort p (Stalls did) lines → List Event
-    stalled stops = stops.appended.events ++ Writing stops.appended.offered stops.appended.taken ∷ []
+    -- where the lines of what it gave are answered
+    pub turned : {IsNext IsAll : List (Call × Reply) → Type 0} → ((xs ys : List (Call × Reply)) → AreMade xs → IsNext ys → IsAll (xs ++ ys)) → (q : Progress) (lines : List Line) → (more : Answers p q (Sends did) IsNext lines)
+        → GoesOn start q IsAll (said_within (Some []) (heard events) ++ lines) (turn events asked (Some piece) more.appended.events) (is_end (Reading asked (Some piece)))
+    turned {IsAll = IsAll} after q lines more =
+        let sends = more.appended in
+        record {
+          each = read_follows (Some piece) sends.events (writes_follow start (events ++ Reading asked (Some piece) ∷ []) sends.events (read_well piece) sends.well sends.writes);
+          well = AreWell-more events (Reading asked (Some piece) ∷ sends.events) on.well (tt, sends.well);
+          ends = turn_end events asked (Some piece) sends.events sends.writes on.ends;
+          answered = Answers-more {a = λ sent. said events ≡ sent} {b = λ sent. said sends.events ≡ sent} {c = λ sent. said (turn events asked (Some piece) sends.events) ≡ sent} {m = IsAll}
+              (λ xs ys front back. turn_said events asked (Some piece) sends.events ∙ (λ i. front i ++ back i)) after
+              start p q (said_within (Some []) (heard events)) lines on.answered
+              (record { sent = more.sent; calls = more.calls; script = more.script; says = more.says; appended = sends.sent; made = more.made; reached = more.reached });
+        }
 
-    pub stalled_writes : (lines : List Line) (stops : StopsShort p (Stalls did) lines) → readings (stalled stops) ≡ []
-    stalled_writes lines stops = no_readings stops.appended.events (Writing stops.appended.offered stops.appended.taken ∷ []) stops.appended.writes refl
+    module _ (lines : List Line) (stops : StopsShort p (Stalls did) lines) (are : said_within (Some []) (heard events) ++ lines ≡ lines_of_turn (heard events) asked piece) where
+      stalled_writes : readings (stalled stops) ≡ []
+      stalled_writes = no_readings stops.appended.events (Writing stops.appended.offered stops.appended.taken ∷ []) stops.appended.writes refl
 
-    pub stalled_each : (lines : List Line) (stops : StopsShort p (Stalls did) lines) → Each (Follows start) [] (turn events asked (Some piece) (stalled stops))
-    stalled_each lines stops =
-        let stalls = stops.appended in
-        let before = events ++ Reading asked (Some piece) ∷ [] in
-        read_follows (Some piece) (stalled stops)
-        (Each-more (Follows start) before stalls.events (Writing stalls.offered stalls.taken ∷ []) (writes_follow start before stalls.events (read_well piece) stalls.well stalls.writes)
-        (AreWell-more before stalls.events (read_well piece) stalls.well, tt))
+      -- where a write took none, not all of the answers were written
+      stalled_short : IsCutShort start (turn events asked (Some piece) (stalled stops))
+      stalled_short =
+          let stalls = stops.appended in
+          let last = Writing stalls.offered stalls.taken ∷ [] in
+          let silent : said last ≡ [] = append-nil (said_by (Writing stalls.offered stalls.taken)) ∙ stopped_says stalls.offered stalls.taken stalls.stopped in
+          let is_said : said (stalled stops) ≡ said stalls.events =
+          flat_map-append said_by stalls.events last ∙ ap (λ rest. said stalls.events ++ rest) silent ∙ append-nil (said stalls.events) in
+          let short = StopsShort-more {a = λ sent. said events ≡ sent} {b = λ sent. said (stalled stops) ≡ sent} {c = λ sent. said (turn events asked (Some piece) (stalled stops)) ≡ sent}
+          (λ xs ys front back. turn_said events asked (Some piece) (stalled stops) ∙ (λ i. front i ++ back i))
+          start p (said_within (Some []) (heard events)) lines on.answered
+          (record { sent = stops.sent; left = stops.left; script = stops.script; says = stops.says; appended = is_said ∙ stalls.sent; short = stops.short; some_left = stops.some_left }) in
+          record {
+            script = short.script;
+            left = short.left;
+            says = short.says ∙ are ∙ sym (turn_lines piece (stalled stops) stalled_writes);
+            text = short.short ∙ ap (λ sent. sent ++ short.left) (sym short.appended);
+            some_left = short.some_left;
+          }
 
-    pub turn_stops : (lines : List Line) (stops : StopsShort p (Stalls did) lines)
-        → StopsShort start (λ sent. said (turn events asked (Some piece) (stalled stops)) ≡ sent) (said_within (Some []) (heard events) ++ lines)
-    turn_stops lines stops =
-        let stalls = stops.appended in
-        let last = Writing stalls.offered stalls.taken ∷ [] in
-        let silent : said last ≡ [] = append-nil (said_by (Writing stalls.offered stalls.taken)) ∙ stopped_says stalls.offered stalls.taken stalls.stopped in
-        let whole : said (stalled stops) ≡ said stalls.events =
-        flat_map-append said_by stalls.events last ∙ ap (λ rest. said stalls.events ++ rest) silent ∙ append-nil (said stalls.events) in
-        StopsShort-more {a = λ sent. said events ≡ sent} {b = λ sent. said (stalled stops) ≡ sent} {c = λ sent. said (turn events asked (Some piece) (stalled stops)) ≡ sent}
-        (λ xs ys front back. turn_said events asked (Some piece) (stalled stops) ∙ (λ i. front i ++ back i))
-        start p (said_within (Some []) (heard events)) lines on.answered
-        (record { sent = stops.sent; left = stops.left; script = stops.script; says = stops.says; appended = whole ∙ stalls.sent; short = stops.short; some_left = stops.some_left })
+      pub stalled_breaks : {from to before after : Option (List ℕ)} → (is_end (Reading asked (Some piece)) ≡ true → readings (stalled stops) ≡ [] → IsAtEnd to)
+          → Consumes from to (heard (turn events asked (Some piece) (stalled stops))) → Appends before after (said (turn events asked (Some piece) (stalled stops)))
+          → Breaks start from to before after
+      stalled_breaks {to = to} at_end consumed appended =
+          let all = turn events asked (Some piece) (stalled stops) in
+          let ends = turn_end events asked (Some piece) (stalled stops) stalled_writes on.ends in
+          record {
+            read = heard all;
+            script = stalled_short.script;
+            sent = said all;
+            left = stalled_short.left;
+            consumed = consumed;
+            says = by_end to (heard all) _ (list_any is_end all) (λ ended. at_end (sym ends ∙ ended) stalled_writes) stalled_short.says;
+            text = stalled_short.text;
+            some_left = stalled_short.some_left;
+            written = appended;
+          }
 
-    -- where the events end by a write that took none
-    pub ends_stalled : (turns : ℕ) (lines : List Line) (stops : StopsShort p (Stalls did) lines)
-        → said_within (Some []) (heard events) ++ lines ≡ lines_heard (turn events asked (Some piece) (stalled stops)) → EndsBy turns start (Some Write) (turn events asked (Some piece) (stalled stops))
-    ends_stalled turns lines stops are =
-        let stalls = stops.appended in (
-          turn events asked (Some piece) stalls.events,
-          stalls.offered,
-          stalls.taken,
-          sym (append_assoc events (Reading asked (Some piece) ∷ stalls.events) (Writing stalls.offered stalls.taken ∷ [])),
-          stalls.stopped,
-          cut_short start (turn events asked (Some piece) (stalled stops)) _ (turn_stops lines stops) are,
-        )
-
--- what was sent one way was sent another way
-pub Answers-sent_so : {a b : List ℕ → Type 0} {k : List (Call × Reply) → Type 0} → ((sent : List ℕ) → a sent → b sent) → (p q : Progress) (lines : List Line) → Answers p q a k lines → Answers p q b k lines
-Answers-sent_so so p q lines answers =
-    record { sent = answers.sent; calls = answers.calls; script = answers.script; says = answers.says; appended = so answers.sent answers.appended; made = answers.made; reached = answers.reached }
+      pub stalled_talk : {T : Type 0} {all : List Event → Type 0} (turns : ℕ) → length (readings events) + 1 ≤ turns → all (turn events asked (Some piece) (stalled stops))
+          → Converses {T = T} turns start all (Err Write)
+      stalled_talk turns within done =
+          let stalls = stops.appended in
+          let last = Writing stalls.offered stalls.taken ∷ [] in
+          let before = events ++ Reading asked (Some piece) ∷ [] in
+          record {
+            events = turn events asked (Some piece) (stalled stops);
+            done = done;
+            each = read_follows (Some piece) (stalled stops)
+                (Each-more (Follows start) before stalls.events last (writes_follow start before stalls.events (read_well piece) stalls.well stalls.writes)
+                (AreWell-more before stalls.events (read_well piece) stalls.well, tt));
+            few = omega (arith, turn_reads events asked (Some piece) (stalled stops) stalled_writes, within);
+            ended = (
+              turn events asked (Some piece) stalls.events,
+              stalls.offered,
+              stalls.taken,
+              sym (append_assoc events (Reading asked (Some piece) ∷ stalls.events) last),
+              stalls.stopped,
+              stalled_short,
+            );
+          }

@@ -5,7 +5,7 @@ use Rattle.std.proofs.lemmas.Option.{none-some, same_Some}
 use Rattle.pid_script.specs.declared.line.Line.{Line}
 use Rattle.pid_script.specs.Reading.{cut}
 use Rattle.pid_script.specs.Script.{kept_line, kept_more, said_by, said_within, kept_after}
-use Rattle.pid_script.proofs.Cuts.{option_map_some}
+use Rattle.pid_script.proofs.Cuts.{by_test, option_map_some}
 
 kept_line-long : (line : List ℕ) → 200 < length line → kept_line line ≡ None
 kept_line-long line long =
@@ -34,38 +34,28 @@ option_map_none : {A B : Type 0} (f : A → B) (o : Option A) → option_map f o
 option_map_none f None is = refl
 option_map_none f (Some x) is = absurd (none-some (f x) (sym is))
 
-first_end_at_head : (kept : Option (List ℕ)) (b : ℕ) (bs : List ℕ) (p : List ℕ × List ℕ) (t : Bool)
-    → ((q : List ℕ × List ℕ) → cut 10 bs ≡ Some q → IsFirstEnd (kept_more kept (b ∷ [])) bs q)
-    → eqb b 10 ≡ t → cond t (Some ([], bs)) (option_map (λ q. (b ∷ q.0, q.1)) (cut 10 bs)) ≡ Some p → IsFirstEnd kept (b ∷ bs) p
-first_end_at_head kept b bs p true later ends is =
-    subst (IsFirstEnd kept (b ∷ bs)) (same_Some ([], bs) p is) (record { said = rw ends; left = rw ends; shorter = omega arith })
-first_end_at_head kept b bs p false later goes_on is =
-    option_map_some _ (cut 10 bs) p is (λ q found same.
-    let end = later q found in
+pub first_end : (kept : Option (List ℕ)) (bytes : List ℕ) (p : List ℕ × List ℕ) → cut 10 bytes ≡ Some p → IsFirstEnd kept bytes p
+first_end kept [] p found = absurd (none-some p found)
+first_end kept (b ∷ bs) p found =
+    by_test (eqb b 10)
+    (λ ends. subst (IsFirstEnd kept (b ∷ bs)) (same_Some ([], bs) p (rw ends at found)) (record { said = rw ends; left = rw ends; shorter = omega arith }))
+    (λ goes_on. option_map_some _ (cut 10 bs) p (rw goes_on at found) (λ q later same.
+    let end = first_end (kept_more kept (b ∷ [])) bs q later in
     subst (IsFirstEnd kept (b ∷ bs)) same (record {
       said = rw goes_on (end.said ∙ ap (λ k. said_by k ∷ said_within (Some []) q.1) (kept_more-cons kept b q.0));
       left = rw goes_on end.left;
       shorter = omega (arith, end.shorter);
-    }))
-
-pub first_end : (kept : Option (List ℕ)) (bytes : List ℕ) (p : List ℕ × List ℕ) → cut 10 bytes ≡ Some p → IsFirstEnd kept bytes p
-first_end kept [] p found = absurd (none-some p found)
-first_end kept (b ∷ bs) p found = first_end_at_head kept b bs p (eqb b 10) (λ q later. first_end (kept_more kept (b ∷ [])) bs q later) refl found
-
-no_end_at_head : (kept : Option (List ℕ)) (b : ℕ) (bs : List ℕ) (t : Bool)
-    → (cut 10 bs ≡ None → (said_within (kept_more kept (b ∷ [])) bs ≡ []) × (kept_after (kept_more kept (b ∷ [])) bs ≡ kept_more (kept_more kept (b ∷ [])) bs))
-    → eqb b 10 ≡ t → cond {A = Option (List ℕ × List ℕ)} t (Some ([], bs)) (option_map (λ q. (b ∷ q.0, q.1)) (cut 10 bs)) ≡ None
-    → (said_within kept (b ∷ bs) ≡ []) × (kept_after kept (b ∷ bs) ≡ kept_more kept (b ∷ bs))
-no_end_at_head kept b bs true later ends is = absurd (none-some {A = List ℕ × List ℕ} ([], bs) (sym is))
-no_end_at_head kept b bs false later goes_on is =
-    let end = later (option_map_none _ (cut 10 bs) is) in
-    (rw goes_on end.0, rw goes_on (end.1 ∙ kept_more-cons kept b bs))
+    })))
 
 -- where no newline comes, no line ends
 pub no_end : (kept : Option (List ℕ)) (bytes : List ℕ) → cut 10 bytes ≡ None → (said_within kept bytes ≡ []) × (kept_after kept bytes ≡ kept_more kept bytes)
 no_end None [] none = (refl, refl)
 no_end (Some line) [] none = (refl, refl)
-no_end kept (b ∷ bs) none = no_end_at_head kept b bs (eqb b 10) (λ later. no_end (kept_more kept (b ∷ [])) bs later) refl none
+no_end kept (b ∷ bs) none =
+    by_test (eqb b 10)
+    (λ ends. absurd (none-some {A = List ℕ × List ℕ} ([], bs) (sym (rw ends at none))))
+    (λ goes_on. let end = no_end (kept_more kept (b ∷ [])) bs (option_map_none _ (cut 10 bs) (rw goes_on at none)) in
+    (rw goes_on end.0, rw goes_on (end.1 ∙ kept_more-cons kept b bs)))
 
 -- one line that ended, and what the lines after it say
 pub said_more : (lines : List Line) (line : Line) (kept next : Option (List ℕ)) (bytes rest : List ℕ) (end : List ℕ) (all : List Line)
@@ -77,30 +67,14 @@ said_more lines line kept next bytes rest end all says begins ends is =
     ∙ ap (λ k. lines ++ said_by (kept_more kept end) ∷ said_within k rest) begins
     ∙ ap (λ ls. lines ++ ls) (sym ends.said) ∙ is
 
-said_at_head : (kept : Option (List ℕ)) (x : ℕ) (xs ys : List ℕ) (t : Bool)
-    → said_within (Some []) (xs ++ ys) ≡ said_within (Some []) xs ++ said_within (kept_after (Some []) xs) ys
-    → said_within (kept_more kept (x ∷ [])) (xs ++ ys) ≡ said_within (kept_more kept (x ∷ [])) xs ++ said_within (kept_after (kept_more kept (x ∷ [])) xs) ys
-    → cond t (said_by kept ∷ said_within (Some []) (xs ++ ys)) (said_within (kept_more kept (x ∷ [])) (xs ++ ys))
-    ≡ cond t (said_by kept ∷ said_within (Some []) xs) (said_within (kept_more kept (x ∷ [])) xs)
-    ++ said_within (cond t (kept_after (Some []) xs) (kept_after (kept_more kept (x ∷ [])) xs)) ys
-said_at_head kept x xs ys true ends goes_on = ap (λ ls. said_by kept ∷ ls) ends
-said_at_head kept x xs ys false ends goes_on = goes_on
-
 -- bytes in two pieces
 pub said_within-append : (kept : Option (List ℕ)) (xs ys : List ℕ) → said_within kept (xs ++ ys) ≡ said_within kept xs ++ said_within (kept_after kept xs) ys
 said_within-append kept [] ys = refl
 said_within-append kept (x ∷ xs) ys =
-    said_at_head kept x xs ys (eqb x 10) (said_within-append (Some []) xs ys) (said_within-append (kept_more kept (x ∷ [])) xs ys)
-
-kept_at_head : (kept : Option (List ℕ)) (x : ℕ) (xs ys : List ℕ) (t : Bool)
-    → kept_after (Some []) (xs ++ ys) ≡ kept_after (kept_after (Some []) xs) ys
-    → kept_after (kept_more kept (x ∷ [])) (xs ++ ys) ≡ kept_after (kept_after (kept_more kept (x ∷ [])) xs) ys
-    → cond t (kept_after (Some []) (xs ++ ys)) (kept_after (kept_more kept (x ∷ [])) (xs ++ ys))
-    ≡ kept_after (cond t (kept_after (Some []) xs) (kept_after (kept_more kept (x ∷ [])) xs)) ys
-kept_at_head kept x xs ys true ends goes_on = ends
-kept_at_head kept x xs ys false ends goes_on = goes_on
+    by_test (eqb x 10) (λ ends. (rw ends (ap (λ ls. said_by kept ∷ ls) (said_within-append (Some []) xs ys))))
+    (λ goes_on. (rw goes_on (said_within-append (kept_more kept (x ∷ [])) xs ys)))
 
 pub kept_after-append : (kept : Option (List ℕ)) (xs ys : List ℕ) → kept_after kept (xs ++ ys) ≡ kept_after (kept_after kept xs) ys
 kept_after-append kept [] ys = refl
 kept_after-append kept (x ∷ xs) ys =
-    kept_at_head kept x xs ys (eqb x 10) (kept_after-append (Some []) xs ys) (kept_after-append (kept_more kept (x ∷ [])) xs ys)
+    by_test (eqb x 10) (λ ends. (rw ends (kept_after-append (Some []) xs ys))) (λ goes_on. (rw goes_on (kept_after-append (kept_more kept (x ∷ [])) xs ys)))

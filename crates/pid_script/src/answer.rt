@@ -25,6 +25,7 @@ pub(crate) fn push_bytes<const N: usize>(text: &mut ArrayVec<u8, N>, bytes: &[u8
 }
 
 /// A number of one digit.
+#[tactic(auto, using(crate::proofs::Digits::one_digit))]
 #[inline(always)]
 fn push_ones<const N: usize>(text: &mut ArrayVec<u8, N>, number: u32)
     requires few { number < 10 }
@@ -36,6 +37,7 @@ fn push_ones<const N: usize>(text: &mut ArrayVec<u8, N>, number: u32)
 }
 
 /// A number of at most two digits.
+#[tactic(auto, using(crate::proofs::Digits::few_digits))]
 #[inline(always)]
 fn push_tens<const N: usize>(text: &mut ArrayVec<u8, N>, number: u32)
     requires few { number < 100 }
@@ -51,6 +53,7 @@ fn push_tens<const N: usize>(text: &mut ArrayVec<u8, N>, number: u32)
 }
 
 /// A number of at most three digits.
+#[tactic(auto, using(crate::proofs::Digits::few_digits))]
 #[inline(always)]
 fn push_hundreds<const N: usize>(text: &mut ArrayVec<u8, N>, number: u32)
     requires few { number < 1000 }
@@ -66,6 +69,7 @@ fn push_hundreds<const N: usize>(text: &mut ArrayVec<u8, N>, number: u32)
 }
 
 /// A number of at most four digits.
+#[tactic(auto, using(crate::proofs::Digits::few_digits))]
 #[inline(always)]
 fn push_thousands<const N: usize>(text: &mut ArrayVec<u8, N>, number: u32)
     requires few { number < 10000 }
@@ -81,6 +85,7 @@ fn push_thousands<const N: usize>(text: &mut ArrayVec<u8, N>, number: u32)
 }
 
 /// A number of at most five digits.
+#[tactic(auto, using(crate::proofs::Digits::few_digits))]
 #[inline(always)]
 fn push_ten_thousands<const N: usize>(text: &mut ArrayVec<u8, N>, number: u32)
     requires few { number < 100000 }

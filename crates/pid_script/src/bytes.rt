@@ -54,6 +54,7 @@ fn first_index(bytes: &[u8], byte: u8) -> Option<usize>
 }
 
 /// What stands before the first such byte, and what stands after it.
+#[tactic(auto, using(crate::proofs::Cuts::cuts))]
 #[inline(always)]
 fn split_at_first(bytes: &[u8], byte: u8) -> Option<(&[u8], &[u8])>
     ensures { option_map (λ p. (p.0.now, p.1.now)) result ≡ cut byte bytes.now }
@@ -71,6 +72,7 @@ pub fn split_word(words: &[u8]) -> Option<(&[u8], &[u8])>
 
 /// The first line without its newline, and what stands after that, where a line ends within the bytes. An empty line is
 /// told by its one byte, before any is searched for.
+#[tactic(auto, using(crate::proofs::Cuts::cuts))]
 #[inline(always)]
 pub fn split_line(bytes: &[u8]) -> Option<(&[u8], &[u8])>
     ensures { option_map (λ p. (p.0.now, p.1.now)) result ≡ cut 10 bytes.now }

@@ -74,6 +74,7 @@ impl Job {
     }
 
     /// Adds the lines that end within the bytes, and keeps what comes behind them.
+    #[tactic(auto, using(crate::proofs::Jobs::pieces))]
     fn push_bytes(&mut self, bytes: &[u8]) -> Result<(), JobFault>
         requires room { self.old.lines + length bytes.now < 2 ^ 64 }
         ensures ok { OnOk result (Adds self.old.calls.items self.old.lines
@@ -93,6 +94,7 @@ impl Job {
     }
 
     /// Adds the last line, if it has no newline.
+    #[tactic(auto, using(crate::proofs::Said::last_line))]
     fn push_last(&mut self) -> Result<(), JobFault>
         requires room { self.old.lines + 1 < 2 ^ 64 }
         ensures ok { OnOk result (Adds self.old.calls.items self.old.lines

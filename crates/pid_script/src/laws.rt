@@ -6,6 +6,7 @@ ghost use Rattle.pid_script.specs.Lines.{Fits, line_of};
 ghost use Rattle.pid_script.specs.Reading.{parsed};
 
 /// Each call's line says that call.
+#[tactic(auto, using(crate::proofs::Read::tables))]
 pub fn lines_say_their_calls()
     ensures { (c : Call) → Fits c → parsed (line_of c) ≡ says.Call c }
 {}

@@ -60,6 +60,7 @@ fn read_fork_more(words: &[u8]) -> Option<Call>
 }
 
 /// `P` or `P new`.
+#[tactic(auto, using(crate::proofs::Read::forks))]
 #[inline(always)]
 fn read_fork(words: &[u8]) -> Option<Call>
     ensures { result ≡ fork_of words.now }
@@ -489,6 +490,7 @@ fn read_line(line: &[u8]) -> Line
 /// | `subreaper C on`, `subreaper C off` | [`Call::SetSubreaper`] |
 ///
 /// `C`, `T`, `P` and `N` are a `u32`, `S` is a `u8`, `I` a `u64` and `G` an `i32`. The cost is linear in the line.
+#[tactic(auto, using(crate::proofs::Read::tables))]
 #[inline(always)]
 pub fn parse_line(line: &[u8]) -> Line
     ensures value { result ≡ parsed line.now }

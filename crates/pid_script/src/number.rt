@@ -43,6 +43,7 @@ fn with_digit(number: u64, byte: u8) -> Option<u64>
 }
 
 /// The number that the digits write, where they are digits and it is one below 2^64.
+#[tactic(auto, using(crate::proofs::Numbers::digits))]
 fn read_digits(word: &[u8]) -> Option<u64>
     ensures some { IfSome result (λ n. AllDigits 10 word.now × (n ≡ digits_value 10 word.now)) }
     ensures none { IfNone result (AllDigits 10 word.now → digits_value 10 word.now < 2 ^ 64 → ⊥) }
@@ -73,6 +74,7 @@ struct Front {
 }
 
 /// What the word begins with. So few digits write a number below 2^32, and are read without a test that it fits.
+#[tactic(auto, using(crate::proofs::Numbers::digits))]
 #[inline(always)]
 fn read_front(word: &[u8]) -> Front
     ensures { IsFrontOf word.now result.digits result.number }
@@ -95,6 +97,7 @@ fn read_front(word: &[u8]) -> Front
 }
 
 /// The number of a word of any length, where it is one below 2^32.
+#[tactic(auto, using(crate::proofs::Numbers::narrower))]
 #[inline(never)]
 fn read_long(word: &[u8]) -> Option<u32>
     ensures { result ≡ number_below (2 ^ 32) word.now }
@@ -103,6 +106,7 @@ fn read_long(word: &[u8]) -> Option<u32>
 }
 
 /// The number of a word, where it is one below 2^32.
+#[tactic(auto, using(crate::proofs::Numbers::fronts))]
 #[inline(always)]
 pub fn read_u32(word: &[u8]) -> Option<u32>
     ensures { result ≡ number_below (2 ^ 32) word.now }
@@ -143,6 +147,7 @@ pub fn read_then(words: &[u8]) -> Option<(u32, &[u8])>
 }
 
 /// The number of a word, where it is one below 2^8.
+#[tactic(auto, using(crate::proofs::Numbers::narrower))]
 pub fn read_u8(word: &[u8]) -> Option<u8>
     ensures { result ≡ number_below (2 ^ 8) word.now }
 {
@@ -150,6 +155,7 @@ pub fn read_u8(word: &[u8]) -> Option<u8>
 }
 
 /// The number with a minus sign, where it is one of 32 bits and not 0.
+#[tactic(auto, using(crate::proofs::Numbers::negative))]
 fn negated(magnitude: u32) -> Option<i32>
     ensures { (digits : List ℕ) → number_below (2 ^ 32) digits ≡ Some magnitude → result ≡ negative_of digits }
 {
@@ -160,6 +166,7 @@ fn negated(magnitude: u32) -> Option<i32>
 }
 
 /// The number with a minus sign before these digits, which are not those of 0.
+#[tactic(auto, using(crate::proofs::Numbers::negative))]
 fn read_negative(digits: &[u8]) -> Option<i32>
     ensures { result ≡ negative_of digits.now }
 {
@@ -168,6 +175,7 @@ fn read_negative(digits: &[u8]) -> Option<i32>
 
 /// The number of a word with its sign, where it is one of 32 bits. A minus sign stands directly before a
 /// number that is not 0.
+#[tactic(auto, using(crate::proofs::Numbers::signs))]
 pub fn read_i32(word: &[u8]) -> Option<i32>
     ensures { result ≡ signed_of word.now }
 {

@@ -73,6 +73,7 @@ impl Outbox {
     }
 
     /// Holds the line and its newline, and makes room for them first.
+    #[tactic(auto, using(crate::proofs::Sent::stops))]
     #[inline(always)]
     pub fn push_line<K: Sink>(&mut self, sink: &mut K, line: &[u8]) -> Result<(), RunScriptFault>
         requires { length line.now < 8192 }
@@ -90,6 +91,7 @@ impl Outbox {
     }
 
     /// Holds the answer and its newline, and makes room for the longest answer first.
+    #[tactic(auto, using(crate::proofs::Sent::stops))]
     #[inline(always)]
     pub fn push_answer<K: Sink>(
         &mut self,

@@ -175,6 +175,7 @@ fn answer_line<T: Table, K: Sink>(
 }
 
 /// Answers the lines that end within the chunk.
+#[tactic(auto, using(crate::proofs::Within::no_end))]
 fn answer_chunk<T: Table, K: Sink>(
     session: &mut Session,
     table: &mut T,
@@ -203,6 +204,7 @@ fn answer_chunk<T: Table, K: Sink>(
 }
 
 /// Answers the last line, if it has no newline.
+#[tactic(auto, using(crate::proofs::Said::last_line))]
 fn answer_last<T: Table, K: Sink>(
     session: &mut Session,
     table: &mut T,

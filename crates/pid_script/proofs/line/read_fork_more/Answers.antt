@@ -1,7 +1,7 @@
 use Rattle.std.proofs.Common.{sym, codes}
 use Rattle.std.proofs.lemmas.Bool.Decides.{Decides-eqb}
 use Rattle.std.proofs.lemmas.Slice.Eq.{ends_is}
-use Rattle.pid_script.proofs.Printed.{not_new}
+use Rattle.pid_script.proofs.Read.{not_new}
 use Rattle.pid_script.proofs.line.read_fork_more.Goals as goal
 
 pub returns-then-not-ends_with : goal.returns-then-not-ends_with

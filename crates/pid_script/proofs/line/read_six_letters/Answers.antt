@@ -1,22 +1,16 @@
-use Rattle.std.proofs.Common.{◌≡◌, codes, arith, rules}
+use Rattle.std.proofs.Common.{codes, arith, rules}
 use Rattle.std.proofs.lemmas.Slice.Eq.{text_from_reads}
 use Rattle.pid_script.specs.Reading.{six_letters_of}
 use Rattle.pid_script.proofs.line.read_six_letters.Goals as goal
 
 pub returns-in-setsid : goal.returns-in-setsid
 unfolding six_letters_of
-returns-in-setsid c =
-    let is : c.args.command.now ≡ codes "setsid" = text_from_reads _ (codes "setsid") (omega arith) (cc, (cc, (cc, (cc, (cc, ((cc), tt)))))) in
-    rw is (search rules)
+returns-in-setsid c = rw (text_from_reads c.args.command.now (codes "setsid") (omega arith) (cc, (cc, (cc, (cc, (cc, ((cc), tt))))))) (search rules)
 
 pub returns-in-getpid : goal.returns-in-getpid
 unfolding six_letters_of
-returns-in-getpid c =
-    let is : c.args.command.now ≡ codes "getpid" = text_from_reads _ (codes "getpid") (omega arith) (cc, (cc, (cc, (cc, (cc, ((cc), tt)))))) in
-    rw is (search rules)
+returns-in-getpid c = rw (text_from_reads c.args.command.now (codes "getpid") (omega arith) (cc, (cc, (cc, (cc, (cc, ((cc), tt))))))) (search rules)
 
 pub returns-in-getsid : goal.returns-in-getsid
 unfolding six_letters_of
-returns-in-getsid c =
-    let is : c.args.command.now ≡ codes "getsid" = text_from_reads _ (codes "getsid") (omega arith) (cc, (cc, (cc, (cc, (cc, ((cc), tt)))))) in
-    rw is (search rules)
+returns-in-getsid c = rw (text_from_reads c.args.command.now (codes "getsid") (omega arith) (cc, (cc, (cc, (cc, (cc, ((cc), tt))))))) (search rules)

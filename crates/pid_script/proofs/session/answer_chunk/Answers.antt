@@ -65,8 +65,3 @@ returns-clause-told g c =
       fault = search rules;
       stopped = search rules;
     }
-
-pub returns-clause-part : goal.returns-clause-part
-returns-clause-part g c =
-    let none = no_end c.loop-end.session.part c.loop-end.rest.now (sym c.in_default.ensures) in
-    c.push.ensures.value ∙ sym none.1 ∙ c.loop-end.invariant.kept

@@ -1,4 +1,4 @@
-use Rattle.std.proofs.Common.{◌≡◌, ◌*◌, ◌≤◌, List, [], Some, length}
+use Rattle.std.proofs.Common.{◌≡◌, ◌*◌, ◌≤◌, false, List, [], Some, length}
 use Rattle.pid_types.specs.Devices.{Event, heard, readings}
 use Rattle.pid_script.specs.Script.{begun, said_within, kept_after}
 use Rattle.pid_script.specs.Session.{progress_of, IsTallied}
@@ -11,7 +11,7 @@ invariant-loop-turn g l = record {
   done : g.D.Source.did l.initial.devices l.devices events;
   on : GoesOn (begun (g.T.Table.state l.initial.table) (g.T.Table.stamp l.initial.table))
       (progress_of (g.T.Table.state l.table) (g.T.Table.stamp l.table) l.session.tally l.session.outbox) (g.T.Table.did l.initial.table l.table)
-      (said_within (Some []) (heard events)) events;
+      (said_within (Some []) (heard events)) events false;
   part : l.session.part ≡ kept_after (Some []) (heard events);
   empty : l.session.outbox ≡ [];
   counted : IsTallied l.session.tally;

@@ -4,17 +4,8 @@ use Rattle.std.proofs.lemmas.Result.{err_from_is_err_and}
 use Rattle.pid_script.specs.Script.{said_within, kept_after}
 use Rattle.pid_script.specs.Job.{Adds, IsStopped}
 use Rattle.pid_script.proofs.Within.{first_end, no_end, said_more}
-use Rattle.pid_script.proofs.Jobs.{Adds-nothing, Adds-more, IsStopped-sooner, IsStopped-later}
+use Rattle.pid_script.proofs.Jobs.{Adds-more, IsStopped-sooner, IsStopped-later}
 use Rattle.pid_script.proofs.job.Job.push_bytes.Goals as goal
-
-pub loop-end-init : goal.loop-end-init
-loop-end-init c = record {
-  lines = [];
-  added = Adds-nothing _ _;
-  said = refl;
-  kept = refl;
-  few = omega arith;
-}
 
 pub loop-end-smaller : goal.loop-end-smaller
 loop-end-smaller c =
@@ -54,8 +45,3 @@ returns-clause-ok c =
     let before = c.loop-end.invariant in
     let none = no_end c.loop-end.self.part c.loop-end.rest.now (sym c.in_default.ensures) in
     subst (Adds _ _ _ _) (sym (append-nil before.lines) ∙ ap (λ lines. before.lines ++ lines) (sym none.0) ∙ before.said) before.added
-
-pub returns-clause-part : goal.returns-clause-part
-returns-clause-part c =
-    let none = no_end c.loop-end.self.part c.loop-end.rest.now (sym c.in_default.ensures) in
-    c.push-2.ensures.value ∙ sym none.1 ∙ c.loop-end.invariant.kept

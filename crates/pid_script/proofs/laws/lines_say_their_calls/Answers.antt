@@ -1,5 +1,0 @@
-use Rattle.pid_script.proofs.Printed.{parsed-line_of}
-use Rattle.pid_script.proofs.laws.lines_say_their_calls.Goals as goal
-
-pub returns : goal.returns
-returns c = parsed-line_of
