@@ -1,18 +1,18 @@
 -- A new namespace.
-use Rattle.std.proofs.Common.{◌≡◌, ◌≢◌, inl, inr, ℕ, zero, suc, ◌<◌, ◌≤◌, Bool, true, false, List, [], ◌∷◌, length, get_or, Option, Some, None, is_some, if◌then◌else◌, refl, sym, ap, subst, ◌∙◌, arith}
+use Rattle.std.proofs.Common.{◌≡◌, ◌≢◌, inl, inr, ℕ, zero, suc, ◌<◌, ◌≤◌, Bool, true, false, List, [], ◌∷◌, length, get_or, Option, Some, None, is_some, if◌then◌else◌, sym, ap, subst, ◌∙◌, arith}
 use Rattle.std.specs.Prelude.{nat_lt}
 use Rattle.std.proofs.lemmas.Bool.{cases_eq}
 use Rattle.std.proofs.lemmas.Bool.Decides.{nat_tests}
 use Rattle.pid_types.specs.Chains.{contains}
-use Rattle.pid_types.specs.Names.{beside}
 use Rattle.pid_types.specs.Draw.{least_free, cyclic_draw}
 use Rattle.pid_types.proofs.LeastFree.{least_free-found}
 use Rattle.index_array.specs.Place.{Entry, entry_at, indexes}
 use Rattle.index_array.proofs.Indexes.{contains_indexes}
 use Rattle.cyclic_ids.specs.Ids.{Ids, planned}
-use Rattle.pid_numbers.specs.Numbering.{Identifier, number_in}
+use Rattle.pid_numbers.specs.Numbering.{Identifier}
 use Rattle.ns_tree.specs.Tree.{IsTree}
 use Rattle.ns_tree.proofs.Growth as growth
+use Rattle.pid_numbers.proofs.Ties.{numbering-moved}
 use Rattle.pid_numbers.specs.Slabs.{IsNumbering, AreFallen, leads}
 
 -- where no number is taken, 1 is drawn first
@@ -38,28 +38,8 @@ module _ (pid_max : ℕ) (ways ways' : ℕ → List ℕ) (at : ℕ → ℕ → O
       let some = b.tied.some i u is in
       omega (arith, n, some)
 
-  number_stays : (s i : ℕ) → number_in ways' s (names i) ≡ number_in ways s (names i)
-  number_stays s i = go (names i) refl
-    where
-      go : (o : Option Identifier) → names i ≡ o → number_in ways' s o ≡ number_in ways s o
-      go None is = refl
-      go (Some u) is = ap (λ p. beside s p u.numbers) (others u.space (away i u is))
-
   pub numbering-added : IsTree ways' → ((s m : ℕ) → bound' s ≡ Some m → m ≡ pid_max) → IsNumbering pid_max ways' at bound' names
-  numbering-added tree bounds = record {
-    good = b.good;
-    bounds = bounds;
-    tree = tree;
-    tied = record {
-      found = λ s n i e. number_stays s i ∙ b.tied.found s n i e;
-      kept = λ s n i e. b.tied.kept s n i (sym (number_stays s i) ∙ e);
-      full = λ i u e. b.tied.full i u e ∙ ap length (sym (others u.space (away i u e)));
-      some = b.tied.some;
-      live = b.tied.live;
-    };
-    range = b.range;
-    marks = b.marks;
-  }
+  numbering-added tree bounds = numbering-moved pid_max ways ways' at bound bound' names b tree bounds (λ i u is. others u.space (away i u is))
 
   pub fallen-added : (fell fell' : ℕ → Bool) (at' : ℕ → ℕ → Option (Entry ℕ)) → AreFallen ways at fell → fell parent ≡ false → fell' key ≡ false → ((s : ℕ) → s ≢ key → fell' s ≡ fell s)
       → ((s n i : ℕ) → leads at s n ≡ Some i → (j : ℕ) × (leads at' s n ≡ Some j)) → AreFallen ways' at' fell'

@@ -3,15 +3,12 @@ use Rattle.std.proofs.Common.{◌≡◌, ℕ, ◌<◌, false, List, [], ◌∷�
 use Rattle.std.proofs.lemmas.Bool.{false≢true}
 use Rattle.cyclic_ids.specs.Ids.{Ids}
 use Rattle.index_array.specs.Place.{Entry, entry_at}
+use Rattle.std.proofs.lemmas.Option.{none-some}
 use Rattle.ns_tree.specs.Tree.{Node, IsTree, AreListed, new_node, node_in, way, id_in, fell}
 use Rattle.pid_types.specs.Settings.{HasGoodPidMax}
 use Rattle.pid_numbers.specs.Numbering.{number_in}
 use Rattle.pid_numbers.specs.Slabs.{entry_on, leads, bound_on, IsKept}
 use Rattle.pid_numbers.specs.Table.{Table, name_at}
-
--- nothing is no value
-no_value : {X : Type 0} {o : Option X} {x : X} → o ≡ None → o ≡ Some x → ⊥
-no_value {X} {o} {x} none some = let e : None ≡ Some x = sym none ∙ some in cc
 
 module _ (pid_max : ℕ) (good : HasGoodPidMax pid_max) (root : Ids ℕ) (empty : (n : ℕ) → entry_at root.places n ≡ None) (bound : root.pid_max ≡ pid_max) (idents : Table) (names : (i : ℕ) → name_at idents i ≡ None) where
   abbrev nodes : List (Option Node)
@@ -40,14 +37,14 @@ module _ (pid_max : ℕ) (good : HasGoodPidMax pid_max) (root : Ids ℕ) (empty 
         bounds = bound_root;
         tree = tree;
         tied = record {
-          found = λ s n i e. absurd (no_value (no_lead s n) e);
-          kept = λ s n i e. absurd (no_value (ap (number_in (way nodes) s) (names i)) e);
-          full = λ i u e. absurd (no_value (names i) e);
-          some = λ i u e. absurd (no_value (names i) e);
-          live = λ i u e. absurd (no_value (names i) e);
+          found = λ s n i e. absurd (none-some _ (sym (no_lead s n) ∙ e));
+          kept = λ s n i e. absurd (none-some _ (sym (ap (number_in (way nodes) s) (names i)) ∙ e));
+          full = λ i u e. absurd (none-some _ (sym (names i) ∙ e));
+          some = λ i u e. absurd (none-some _ (sym (names i) ∙ e));
+          live = λ i u e. absurd (none-some _ (sym (names i) ∙ e));
         };
-        range = λ s n i e. absurd (no_value (no_lead s n) e);
-        marks = λ s n e is. absurd (no_value (no_entry s n) is);
+        range = λ s n i e. absurd (none-some _ (sym (no_lead s n) ∙ e));
+        marks = λ s n e is. absurd (none-some _ (sym (no_entry s n) ∙ is));
       };
       fallen = record {
         stands = none_fell 0;

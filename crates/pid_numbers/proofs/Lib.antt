@@ -3,6 +3,7 @@ pub mod Seats
 pub mod Ties
 pub mod Sweeps
 pub mod Views
+pub mod Uses
 pub mod Climbs
 pub mod Drops
 pub mod Adds

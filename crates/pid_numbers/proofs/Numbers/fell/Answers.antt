@@ -1,5 +1,5 @@
 -- What falls has a number in use: that of the task whose own namespace it is, or that by which it had fallen before
-use Rattle.std.proofs.Common.{◌≡◌, ◌∙◌, ◌||◌, refl, sym, ap, arith, ℕ, List, [], Bool, true, false, Option, Some, None, option_map}
+use Rattle.std.proofs.Common.{◌≡◌, ◌∙◌, ◌||◌, refl, sym, ap, subst, arith, ℕ, List, [], Bool, true, false, Option, Some, None, option_map}
 use Rattle.std.specs.Option.{option_map_or}
 use Rattle.index_array.specs.Place.{Entry}
 use Rattle.ns_tree.specs.Tree.{Node, Tree, IsTree, node_in, way, fell, felled_within}
@@ -69,7 +69,7 @@ invariant_of-self c =
     (λ s within. used s within (fell old s) refl) in
     record {
       whole = record {
-        numbering = ties.numbering-same c.self.inside.pid_max (way old) (way new) at at bound bound names names b ways (λ s. refl) (λ s n. refl) (λ i. refl);
+        numbering = ties.numbering-moved c.self.inside.pid_max (way old) (way new) at bound bound names b (subst IsTree (λ i s. sym (ways s) i) b.tree) b.bounds (λ i u is. ways u.space);
         fallen = sweeps.fallen-kept (way old) (way new) at at (fell new) (fell new) fallen ways (λ s. refl) (λ s n i led. (i, led));
       };
       some = c.laws.ensures.some;
