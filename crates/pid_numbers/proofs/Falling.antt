@@ -60,9 +60,6 @@ module _ (ways : ℕ → List ℕ) (names : ℕ → Option Identifier) (at : ℕ
       ap (is_marked 0) e.1 ∙ ap (λ ms. get_or ms 0 false) (marks outer n e.0 e.1) ∙ ap (is_used_as Task) (ap names e.2 ∙ named) ∙ used
 
   module _ (old : ℕ → Option Node) (path : (s : ℕ) → option_map_or (λ t. t.path) (old s) [] ≡ ways s) where
-    pub falling-first : IsFalling ways names outer old old 0
-    falling-first = record { so_far = λ s. inl refl; met = λ i n u named has below used. absurd (omega (arith, below)) }
-
     twice : (o : Option Node) → option_map felled (option_map felled o) ≡ option_map felled o
     twice None = refl
     twice (Some t) = refl

@@ -30,32 +30,12 @@ pub record Removes (nodes new : Slab Node) (c p : ℕ) (n : Node) : Type 0 where
   pub childless : (k : ℕ) → child_of (tree_of nodes) k ≢ Some c
 
 module _ {nodes new : Slab Node} {c p : ℕ} {n : Node} (removes : Removes nodes new c p n) where
-  found : get nodes c ≡ Some n
-  found = removes.found
-
-  up : n.standing ≡ true
-  up = removes.up
-
-  parent : n.parent ≡ Some p
-  parent = removes.parent
-
-  is : new ≡ with_value nodes c (record n { standing = false })
-  is = removes.is
-
-  w : IsTree (tree_of nodes)
-  w = removes.tree
-
-  childless : (k : ℕ) → child_of (tree_of nodes) k ≢ Some c
-  childless = removes.childless
+  open removes use {found, up, parent, is, tree as w, childless}
 
   updates : Updates nodes new c (Some (record n { standing = false }))
   updates = subst (λ x. Updates nodes x c (Some (record n { standing = false }))) (sym is) (Updates-with_value nodes c (record n { standing = false }) (ap is_some found))
 
-  here : get new c ≡ Some (record n { standing = false })
-  here = updates.changed
-
-  others : (j : ℕ) → j ≢ c → get new j ≡ get nodes j
-  others = updates.others
+  open updates use {changed as here, others}
 
   field : {X : Type 0} (f : Option Node → X) → f (Some (record n { standing = false })) ≡ f (Some n) → (j : ℕ) → f (get new j) ≡ f (get nodes j)
   field f same j = elim (cases_eq j c) [
@@ -242,7 +222,7 @@ module _ {nodes new : Slab Node} {c p : ℕ} {n : Node} (removes : Removes nodes
   unfolding redirect
   home-unstood k = elim (cases_eq k c) [
     | inl e ↦ ap (home_in new) e ∙ at_c ∙ sym (ap (λ i. option_and_then (handed_on ((tree_of nodes).id c) ((tree_of nodes).id p)) (home_in nodes i)) e)
-    | inr d ↦ ap (option_and_then (seen (tree_of new) k)) (others removes k d) ∙ other k d (get nodes k) refl
+    | inr d ↦ ap (option_and_then (seen (tree_of new) k)) ((updates removes).others k d) ∙ other k d (get nodes k) refl
   ]
     where
       id_k : (k : ℕ) → (tree_of new).id (standing_key (tree_of new) k) ≡ (tree_of nodes).id (redirect (standing_key (tree_of nodes) k))
@@ -254,7 +234,7 @@ module _ {nodes new : Slab Node} {c p : ℕ} {n : Node} (removes : Removes nodes
       at_c : home_in new c ≡ option_and_then (handed_on ((tree_of nodes).id c) ((tree_of nodes).id p)) (home_in nodes c)
       at_c =
           let h : Home = record { id = (tree_of nodes).id (standing_key (tree_of nodes) c); stands = n.standing; live = n.live; zombies = n.zombies } in
-          ap (option_and_then (seen (tree_of new) c)) (here removes)
+          ap (option_and_then (seen (tree_of new) c)) (updates removes).changed
           ∙ ap (λ i. kept (record { id = i; stands = false; live = n.live; zombies = n.zombies })) (id_k c ∙ ap (λ s. (tree_of nodes).id (redirect s)) c_key ∙ ap (λ (b : Bool). (tree_of nodes).id (if b then p else c)) (eq-eqb c c refl))
           ∙ sym (ap (λ o. option_and_then (handed_on ((tree_of nodes).id c) ((tree_of nodes).id p)) (option_and_then (seen (tree_of nodes) c) o)) removes.found
           ∙ ap (option_and_then (handed_on ((tree_of nodes).id c) ((tree_of nodes).id p))) (kept_standing h removes.up)

@@ -87,14 +87,7 @@ pub record Writes (nodes new : Slab Node) (k : ℕ) (n m : Node) : Type 0 where
   pub is : new ≡ with_value nodes k m
 
 module _ {nodes new : Slab Node} {k : ℕ} {n m : Node} (writes : Writes nodes new k n m) where
-  found : get nodes k ≡ Some n
-  found = writes.found
-
-  shape : bare m ≡ bare n
-  shape = writes.shape
-
-  is : new ≡ with_value nodes k m
-  is = writes.is
+  open writes use {found, shape, is}
 
   updates : Updates nodes new k (Some m)
   updates = subst (λ x. Updates nodes x k (Some m)) (sym is) (Updates-with_value nodes k m (ap is_some found))
@@ -218,6 +211,3 @@ home-changed nodes new home change w ids v is g none same =
   where
     go : (o : Option Node) → get nodes home ≡ o → option_and_then (seen (tree_of nodes) home) (option_map change o) ≡ g (option_and_then (seen (tree_of nodes) home) o)
     go o e = grind arith
-
-pub field_of : {X : Type 0} (f : Node → X) (d : X) (nodes : Slab Node) (k : ℕ) (n : Node) → get nodes k ≡ Some n → option_map_or f (get nodes k) d ≡ f n
-field_of f d nodes k n is = ap (λ o. option_map_or f o d) is

@@ -20,7 +20,7 @@ returns-clause-home c =
     written.home-changed c.self.inside.nodes c.put_live.new.nodes c.args.home (λ (n : Node). record n { live = n.live + 1 }) c.put_live.ensures.changes c.self.inside.ids c.args.self.now c.self.view_is
     (option_map (λ (h : Home). record h { live = h.live + 1 })) refl
     (λ n found.
-    let up : n.standing ≡ true = sym (written.field_of (λ (x : Node). x.standing) false c.self.inside.nodes c.args.home n found) ∙ views.stand_in c.self.inside.nodes c.self.inside.ids c.args.self.now c.self.view_is c.args.home c.requires.stands in
+    let up : n.standing ≡ true = sym (views.field-is (λ (x : Node). x.standing) false c.self.inside.nodes c.args.home n found) ∙ views.stand_in c.self.inside.nodes c.self.inside.ids c.args.self.now c.self.view_is c.args.home c.requires.stands in
     views.kept_standing (record { id = (tree_of c.self.inside.nodes).id (standing_key (tree_of c.self.inside.nodes) c.args.home); stands = n.standing; live = n.live + 1; zombies = n.zombies }) up
     ∙ sym (ap (option_map (λ (h : Home). record h { live = h.live + 1 })) (views.kept_standing (record { id = (tree_of c.self.inside.nodes).id (standing_key (tree_of c.self.inside.nodes) c.args.home); stands = n.standing; live = n.live; zombies = n.zombies }) up)))
 

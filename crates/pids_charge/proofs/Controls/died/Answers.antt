@@ -18,7 +18,7 @@ returns-clause-home c =
     written.home-changed c.self.inside.nodes c.end_live.new.nodes c.args.home (λ (n : Node). record n { live = n.live - 1; zombies = n.zombies + 1 }) c.end_live.ensures.changes c.self.inside.ids c.args.self.now c.self.view_is
     (option_map (λ (h : Home). record h { live = h.live - 1; zombies = h.zombies + 1 })) refl
     (λ n found.
-    let own = written.field_of (λ (x : Node). x.live) 0 c.self.inside.nodes c.args.home n found in
+    let own = views.field-is (λ (x : Node). x.live) 0 c.self.inside.nodes c.args.home n found in
     views.kept_some (record { id = (tree_of c.self.inside.nodes).id (standing_key (tree_of c.self.inside.nodes) c.args.home); stands = n.standing; live = n.live - 1; zombies = n.zombies + 1 }) (omega arith)
     ∙ sym (ap (option_map (λ (h : Home). record h { live = h.live - 1; zombies = h.zombies + 1 })) (views.kept_some (record { id = (tree_of c.self.inside.nodes).id (standing_key (tree_of c.self.inside.nodes) c.args.home); stands = n.standing; live = n.live; zombies = n.zombies }) (omega (arith, own, some, c.requires)))))
 

@@ -78,8 +78,6 @@ invariant_of-self c =
 pub returns-clause-refusal : goal.returns-clause-refusal
 returns-clause-refusal c =
     let s = views.stand_in c.self.inside.nodes c.self.inside.ids c.args.self.now c.self.view_is c.args.c c.requires in
-    let u = removed.stands_is_field c.self.inside.nodes c.args.c c.node_at-node.result c.node_at-node.ensures s in
-    let q = removed.some_of c.node_at-node.result.parent (c.is_none.ensures ∙ ap not c.if-is_none.false) in
     let none : c.node_at-node.result.live ≡ 0 = omega (arith, c.if-node-gt0.false) in
     let childless = removed.childless_of (tree_of c.self.inside.nodes) c.self.inside.children c.self.inside.ids c.self.invariant.listed c.args.c c.first.result c.first.ensures (sym c.is_some.ensures ∙ c.if-is_some.false) in
     let some = limited.parent_some c.self.inside.nodes c.self.inside.children c.self.inside.ids c.args.self.now c.self.view_is c.self.invariant.listed c.args.c c.requires c.node_at-node.result c.node_at-node.ensures in

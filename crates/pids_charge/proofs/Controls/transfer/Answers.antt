@@ -24,15 +24,15 @@ returns-clause-homes c =
     let taken = written.home-changed c.self.inside.nodes c.take_live.new.nodes c.args.from (λ (n : Node). record n { live = n.live - 1 }) c.take_live.ensures.changes c.self.inside.ids c.args.self.now c.self.view_is
     (option_map (λ (h : Home). record h { live = h.live - 1 })) refl
     (λ n found.
-    let own = written.field_of (λ (x : Node). x.live) 0 c.self.inside.nodes c.args.from n found in
+    let own = views.field-is (λ (x : Node). x.live) 0 c.self.inside.nodes c.args.from n found in
     let s = written.live_stands c.self.inside.nodes c.args.from n found (total_at c.self.inside.counters.items) None c.self.invariant.counted (omega (arith, own, e, c.requires.some)) in
-    let stand : n.standing ≡ true = sym (written.field_of (λ (x : Node). x.standing) false c.self.inside.nodes c.args.from n found) ∙ s in
+    let stand : n.standing ≡ true = sym (views.field-is (λ (x : Node). x.standing) false c.self.inside.nodes c.args.from n found) ∙ s in
     views.kept_standing (record { id = (tree_of c.self.inside.nodes).id (standing_key (tree_of c.self.inside.nodes) c.args.from); stands = n.standing; live = n.live - 1; zombies = n.zombies }) stand
     ∙ sym (ap (option_map (λ (h : Home). record h { live = h.live - 1 })) (views.kept_standing (record { id = (tree_of c.self.inside.nodes).id (standing_key (tree_of c.self.inside.nodes) c.args.from); stands = n.standing; live = n.live; zombies = n.zombies }) stand))) in
     let put = written.home-changed c.take_live.new.nodes c.put_live.new.nodes c.args.to (λ (n : Node). record n { live = n.live + 1 }) c.put_live.ensures.changes c.self.inside.ids (charges_of c.take_live.new.nodes c.self.inside.ids) refl
     (option_map (λ (h : Home). record h { live = h.live + 1 })) refl
     (λ n found.
-    let stand : n.standing ≡ true = sym (written.field_of (λ (x : Node). x.standing) false c.take_live.new.nodes c.args.to n found) ∙ ap (λ (t : Tree). t.stand c.args.to) c.take_live.ensures.changes.tree ∙ up in
+    let stand : n.standing ≡ true = sym (views.field-is (λ (x : Node). x.standing) false c.take_live.new.nodes c.args.to n found) ∙ ap (λ (t : Tree). t.stand c.args.to) c.take_live.ensures.changes.tree ∙ up in
     views.kept_standing (record { id = (tree_of c.take_live.new.nodes).id (standing_key (tree_of c.take_live.new.nodes) c.args.to); stands = n.standing; live = n.live + 1; zombies = n.zombies }) stand
     ∙ sym (ap (option_map (λ (h : Home). record h { live = h.live + 1 })) (views.kept_standing (record { id = (tree_of c.take_live.new.nodes).id (standing_key (tree_of c.take_live.new.nodes) c.args.to); stands = n.standing; live = n.live; zombies = n.zombies }) stand))) in
     dropped.moves c.args.self.now (charges_of c.take_live.new.nodes c.self.inside.ids) _ c.args.from c.args.to taken put

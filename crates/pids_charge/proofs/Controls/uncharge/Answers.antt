@@ -30,7 +30,7 @@ returns-clause-home c =
     let changed = written.home-changed c.self.inside.nodes c.take_zombie.new.nodes c.args.home (λ (n : Node). record n { zombies = n.zombies - 1 }) c.take_zombie.ensures.changes c.self.inside.ids c.args.self.now c.self.view_is
     (option_and_then (λ (h : Home). kept (record h { zombies = h.zombies - 1 }))) refl
     (λ n found.
-    let own = written.field_of (λ (x : Node). x.zombies) 0 c.self.inside.nodes c.args.home n found in
+    let own = views.field-is (λ (x : Node). x.zombies) 0 c.self.inside.nodes c.args.home n found in
     sym (ap (option_and_then (λ (h : Home). kept (record h { zombies = h.zombies - 1 }))) (views.kept_some (record { id = (tree_of c.self.inside.nodes).id (standing_key (tree_of c.self.inside.nodes) c.args.home); stands = n.standing; live = n.live; zombies = n.zombies }) (omega (arith, own, some, c.requires))))) in
     dropped.ChangesHome-dropped c.take_zombie.new.nodes c.drop_empty.new.nodes c.drop_empty.ensures.drops c.args.self.now c.args.home _ c.self.inside.children c.self.inside.ids
     (subst IsTree (sym c.take_zombie.ensures.changes.tree) c.self.invariant.tree) (subst (λ t. IsListed t c.self.inside.children c.self.inside.ids) (sym c.take_zombie.ensures.changes.tree) c.self.invariant.listed) changed
