@@ -76,6 +76,17 @@ all-is nodes ids =
     ∙ ap (λ n. sum_below n (λ k. tasks_of (home_at (charges_of nodes ids) k))) (length-each (λ k slot. option_and_then (seen (tree_of nodes) k) slot) nodes.slots)
     ∙ sum-ext (length nodes.slots) (λ k. tasks_of (home_at (charges_of nodes ids) k)) (tasks_in nodes) (λ k. tasks-is nodes ids k)
 
+-- what a contract says of the tasks is so of the nodes
+module _ (nodes : Slab Node) (ids : List (ℕ × ℕ)) (v : Charges) (is : charges_of nodes ids ≡ v) where
+  pub all-of : all_tasks v ≡ all_in nodes
+  all-of = ap all_tasks (sym is) ∙ all-is nodes ids
+
+  pub live-of : (k : ℕ) → live_at v k ≡ live_in nodes k
+  live-of k = ap (λ (x : Charges). live_at x k) (sym is) ∙ live-is nodes ids k
+
+  pub zombies-of : (k : ℕ) → zombies_at v k ≡ zombies_in nodes k
+  zombies-of k = ap (λ (x : Charges). zombies_at x k) (sym is) ∙ zombies-is nodes ids k
+
 -- who stands is there
 pub there : (nodes : Slab Node) (k : ℕ) → (tree_of nodes).stand k ≡ true → ContainsKey nodes k
 there nodes k is = grind arith

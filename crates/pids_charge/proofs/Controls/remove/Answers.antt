@@ -5,7 +5,7 @@ use Rattle.std.proofs.lemmas.List.{length-set}
 use Rattle.pid_types.specs.declared.plain.Control.{Control}
 use Rattle.pids_charge.specs.declared.node.Node.{Node}
 use Rattle.pids_charge.specs.Nodes.{tree_of}
-use Rattle.pids_charge.specs.Charges.{Charges, home_at, id_at, is_busy, handed_on, all_tasks}
+use Rattle.pids_charge.specs.Charges.{Charges, home_at, id_at, is_busy, handed_on}
 use Rattle.pids_charge.specs.Kept.{IsKept, control_in, limit_in, total_at}
 use Rattle.id_slab.specs.Ids.{without}
 use Rattle.pids_charge.proofs.Climbs as climbs
@@ -112,9 +112,4 @@ returns-clause-homes c parent above k =
     ∙ ap (option_and_then (handed_on (id_at c.args.self.now c.args.c) parent)) (sym (views.home_at-is c.self.inside.nodes c.self.inside.ids k) ∙ ap (λ (v : Charges). home_at v k) c.self.view_is)
 
 pub returns-clause-tasks : goal.returns-clause-tasks
-returns-clause-tasks c =
-    let r = removes (goal.at.returns-clause-tasks c).After-set_node in
-    let old = sym (views.all-is c.self.inside.nodes c.self.inside.ids) ∙ ap (λ (v : Charges). all_tasks v) c.self.view_is in
-    let new = views.all-is c.drop_empty.new.nodes c.remove.new.self in
-    let same = removed.all-same r in
-    omega (arith, old, new, same, c.drop_empty.ensures.all)
+returns-clause-tasks c = omega (arith, views.all-of c.self.inside.nodes c.self.inside.ids c.args.self.now c.self.view_is, views.all-is c.drop_empty.new.nodes c.remove.new.self, removed.all-same (removes (goal.at.returns-clause-tasks c).After-set_node), c.drop_empty.ensures.all)
