@@ -89,7 +89,10 @@ module _ (ways : ℕ → List ℕ) (names : ℕ → Option Identifier) (at : ℕ
         → now' l.identifier.space ≡ option_map felled (now l.identifier.space) → ((s : ℕ) → s ≢ l.identifier.space → now' s ≡ now s)
         → IsFalling ways names outer old now' (n + 1)
     falling-more now now' from n f l between here others = record {
-      so_far = λ s. so_far s (cases_eq s l.identifier.space);
+      so_far = λ s. elim (cases_eq s l.identifier.space) [
+        | inl same ↦ inr (subst (λ (z : ℕ). (contains (ways z) outer ≡ true) × (now' z ≡ option_map felled (old z))) (sym same) (inside, marked_now))
+        | inr differs ↦ elim (f.so_far s) [ inl same ↦ inl (others s differs ∙ same) | inr w ↦ inr (w.0, others s differs ∙ w.1) ]
+      ];
       met = met;
     }
       where
@@ -105,19 +108,8 @@ module _ (ways : ℕ → List ℕ) (names : ℕ → Option Identifier) (at : ℕ
           | inr w ↦ here ∙ ap (option_map felled) w.1 ∙ twice (old home)
         ]
 
-        so_far : (s : ℕ) → (s ≡ home) ⊎ (s ≢ home) → (now' s ≡ old s) ⊎ ((contains (ways s) outer ≡ true) × (now' s ≡ option_map felled (old s)))
-        so_far s (inl same) = inr (subst (λ (z : ℕ). (contains (ways z) outer ≡ true) × (now' z ≡ option_map felled (old z))) (sym same) (inside, marked_now))
-        so_far s (inr differs) = elim (f.so_far s) [
-          | inl same ↦ inl (others s differs ∙ same)
-          | inr w ↦ inr (w.0, others s differs ∙ w.1)
-        ]
-
         fallen_home : (s : ℕ) → s ≡ home → has_fallen (now' s) ≡ true
         fallen_home s same = ap (λ z. has_fallen (now' z)) same ∙ ap has_fallen marked_now ∙ there home inside
-
-        stays : (s : ℕ) → has_fallen (now s) ≡ true → (s ≡ home) ⊎ (s ≢ home) → has_fallen (now' s) ≡ true
-        stays s fallen (inl same) = fallen_home s same
-        stays s fallen (inr differs) = ap has_fallen (others s differs) ∙ fallen
 
         met : (i m : ℕ) (u : Identifier) → names i ≡ Some u → number_in ways outer (Some u) ≡ Some m → m < n + 1 → is_used_as Task (Some u) ≡ true → has_fallen (now' u.space) ≡ true
         met i m u named has below used = elim (cases_eq m n) [
@@ -129,7 +121,10 @@ module _ (ways : ℕ → List ℕ) (names : ℕ → Option Identifier) (at : ℕ
             one same = same_Some u l.identifier (sym named ∙ ap names (same_Some i l.key (sym (tied.kept outer m i (ap (number_in ways outer) named ∙ has)) ∙ ap (leads at outer) same ∙ l.leads)) ∙ l.named)
 
             before : m ≢ n → (m < from) ⊎ (from ≤ m) → has_fallen (now' u.space) ≡ true
-            before differs (inl less) = stays u.space (f.met i m u named has less used) (cases_eq u.space home)
+            before differs (inl less) = elim (cases_eq u.space home) [
+              | inl same ↦ fallen_home u.space same
+              | inr off ↦ ap has_fallen (others u.space off) ∙ f.met i m u named has less used
+            ]
             before differs (inr more) = absurd (both_ways (is_marked 0 (at outer m)) (between m more (omega (arith, below, differs))) (marked m i u named has used))
 
     -- when no number is left, all inside have fallen

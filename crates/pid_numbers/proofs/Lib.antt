@@ -6,7 +6,6 @@ pub mod Views
 pub mod Uses
 pub mod Climbs
 pub mod Drops
-pub mod Adds
 pub mod Begins
 pub mod Inwards
 pub mod Model
