@@ -5,7 +5,6 @@ use Rattle.std.proofs.lemmas.Bool.{cases_eq, eq-eqb, ne_eqb, or_right, false_fro
 use Rattle.pid_types.specs.Chains.{contains}
 use Rattle.ns_tree.specs.Tree.{IsPath, IsTree}
 use Rattle.ns_tree.specs.Vacancy.{IsDistinct}
-
 pub use Rattle.std.proofs.lemmas.Bool.{cases_Bool as cases}
 
 -- a list holds what stands in a place of it
