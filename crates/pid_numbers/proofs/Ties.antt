@@ -368,15 +368,10 @@ marks-turned Task n v on e = ap (λ b. b ∷ is_used_as Group (Some v) ∷ is_us
 marks-turned Group n v on e = ap (λ b. is_used_as Task (Some v) ∷ b ∷ is_used_as Session (Some v) ∷ []) (sym e)
 marks-turned Session n v on e = ap (λ b. is_used_as Task (Some v) ∷ is_used_as Group (Some v) ∷ b ∷ []) (sym e)
 
-pub space-kept : (kind : Kind) (n : ℕ) (v : Identifier) → (with_uses kind n v).space ≡ v.space
-space-kept Task n v = refl
-space-kept Group n v = refl
-space-kept Session n v = refl
-
-pub numbers-kept : (kind : Kind) (n : ℕ) (v : Identifier) → (with_uses kind n v).numbers ≡ v.numbers
-numbers-kept Task n v = refl
-numbers-kept Group n v = refl
-numbers-kept Session n v = refl
+pub path-kept : (kind : Kind) (n : ℕ) (v : Identifier) → ((with_uses kind n v).space ≡ v.space) × ((with_uses kind n v).numbers ≡ v.numbers)
+path-kept Task n v = (refl, refl)
+path-kept Group n v = (refl, refl)
+path-kept Session n v = (refl, refl)
 
 module _ (path numbers : List ℕ) (m : ℕ) (on : Bool) (at at' : ℕ → ℕ → Option (Entry ℕ)) (is : (s n : ℕ) → at' s n ≡ touched path numbers (with_mark m on) at s n) where
   -- a change of marks leads nowhere else
@@ -391,7 +386,7 @@ module _ (pid_max : ℕ) (ways : ℕ → List ℕ) (at at' : ℕ → ℕ → Opt
   -- another number of uses, but no first and no last one
   pub numbering-counted : is_used_as kind (Some (with_uses kind count v)) ≡ is_used_as kind (Some v) → ((s n : ℕ) → at' s n ≡ at s n) → IsNumbering pid_max ways at' bound' names'
   numbering-counted still same =
-      numbering-used pid_max ways at at' bound bound' names names' b same_bound i (with_uses kind count v) others v was now (space-kept kind count v) (numbers-kept kind count v)
+      numbering-used pid_max ways at at' bound bound' names names' b same_bound i (with_uses kind count v) others v was now (path-kept kind count v).0 (path-kept kind count v).1
       (marks-live (with_uses kind count v) v (marks-kept kind count v still) (b.tied.live i v was))
       (λ s n. ap (option_map (λ e. e.value)) (same s n)) (λ s n miss. same s n)
       (λ s n e hit stands old e' stands'. ap (λ (e : Entry ℕ). e.marks) (same_Some e' e (sym stands' ∙ same s n ∙ stands)) ∙ old ∙ sym (marks-kept kind count v still))
@@ -399,7 +394,7 @@ module _ (pid_max : ℕ) (ways : ℕ → List ℕ) (at at' : ℕ → ℕ → Opt
   -- a first or a last use
   pub numbering-marked : (on : Bool) → is_used_as kind (Some (with_uses kind count v)) ≡ on → is_used (with_uses kind count v) ≡ true → ((s n : ℕ) → at' s n ≡ touched (ways v.space) v.numbers (with_mark (mark_of kind) on) at s n) → IsNumbering pid_max ways at' bound' names'
   numbering-marked on turned live is =
-      numbering-used pid_max ways at at' bound bound' names names' b same_bound i (with_uses kind count v) others v was now (space-kept kind count v) (numbers-kept kind count v) live
+      numbering-used pid_max ways at at' bound bound' names names' b same_bound i (with_uses kind count v) others v was now (path-kept kind count v).0 (path-kept kind count v).1 live
       (leads-marked (ways v.space) v.numbers (mark_of kind) on at at' is) (λ s n miss. is s n ∙ touched-miss (ways v.space) v.numbers (with_mark (mark_of kind) on) at s n miss)
       (λ s n e hit stands old e' stands'.
       let r : Some e' ≡ with_mark (mark_of kind) on (Some e) = sym stands' ∙ is s n ∙ touched-hit (ways v.space) v.numbers (with_mark (mark_of kind) on) at s n hit ∙ ap (with_mark (mark_of kind) on) stands in

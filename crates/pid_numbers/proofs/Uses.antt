@@ -23,7 +23,7 @@ module _ {pid_max : ℕ} {tree : Tree} {ids : List (Ids ℕ)} {old new : Table} 
   -- its path has as many levels
   pub full : IfSome (name_at new i) (λ u. length u.numbers ≡ length (way tree.nodes u.space))
   full = subst (λ o. IfSome o (λ u. length u.numbers ≡ length (way tree.nodes u.space))) (sym r.now)
-      (ap length (ties.numbers-kept kind r.count r.identifier) ∙ k.whole.numbering.tied.full i r.identifier r.was ∙ ap (λ s. length (way tree.nodes s)) (sym (ties.space-kept kind r.count r.identifier)))
+      (ap length (ties.path-kept kind r.count r.identifier).1 ∙ k.whole.numbering.tied.full i r.identifier r.was ∙ ap (λ s. length (way tree.nodes s)) (sym (ties.path-kept kind r.count r.identifier).0))
 
   -- all that is known stays, where it is no first and no last use of the kind
   pub counted : is_used_as kind (name_at new i) ≡ is_used_as kind (name_at old i) → IsKept pid_max tree ids new
@@ -47,4 +47,5 @@ module _ {pid_max : ℕ} {tree : Tree} {ids : List (Ids ℕ)} {old new : Table} 
   pub same_path : (u : Identifier) → name_at new i ≡ Some u → (u.space ≡ r.identifier.space) × (u.numbers ≡ r.identifier.numbers)
   same_path u is =
       let e : with_uses kind r.count r.identifier ≡ u = same_Some (with_uses kind r.count r.identifier) u (sym r.now ∙ is) in
-      (sym (ap (λ u. u.space) e) ∙ ties.space-kept kind r.count r.identifier, sym (ap (λ u. u.numbers) e) ∙ ties.numbers-kept kind r.count r.identifier)
+      let p = ties.path-kept kind r.count r.identifier in
+      (sym (ap (λ u. u.space) e) ∙ p.0, sym (ap (λ u. u.numbers) e) ∙ p.1)

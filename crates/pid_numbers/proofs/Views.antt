@@ -25,7 +25,7 @@ use Rattle.pid_types.specs.declared.call.Kind.{Kind}
 use Rattle.pid_types.specs.declared.call.Kind.TheVariants.{Task, Group, Session}
 use Rattle.pid_numbers.specs.Slabs.{numbering_of, namespace_of, with_cursors, entry_on, leads, plan_on, cursor_on, marks_of, mark_of, bound_on, touched, stepped, AreIn, ArePlanned, IsNumbering, IsKept}
 use Rattle.pid_numbers.specs.Table.{identifier_of, name_at}
-use Rattle.pid_numbers.proofs.Ties.{at_key, among_from, listed, planned_each, space-kept, numbers-kept, told}
+use Rattle.pid_numbers.proofs.Ties.{at_key, among_from, listed, planned_each, path-kept, told}
 
 -- a look-up among the namespaces
 pub namespace-at : (cursor : ℕ → ℕ) (nodes : List (Option Node)) (s : ℕ) → get_or (with_cursors cursor nodes) s None ≡ option_map (namespace_of (cursor s)) (node_in nodes s)
@@ -34,7 +34,7 @@ namespace-at cursor (o ∷ nodes) zero = refl
 namespace-at cursor (o ∷ nodes) (suc s) = namespace-at (λ s. cursor (suc s)) nodes s
 
 -- what is seen of one that is there or not
-map_or-map : {X Y Z : Type 0} (f : Y → Z) (g : X → Y) (o : Option X) (d : Z) → option_map_or f (option_map g o) d ≡ option_map_or (λ x. f (g x)) o d
+pub map_or-map : {X Y Z : Type 0} (f : Y → Z) (g : X → Y) (o : Option X) (d : Z) → option_map_or f (option_map g o) d ≡ option_map_or (λ x. f (g x)) o d
 map_or-map f g None d = refl
 map_or-map f g (Some x) d = refl
 
@@ -217,8 +217,8 @@ pub marked-as : (kind : Kind) (n : ℕ) (v : Identifier) (on : Bool) (ways : ℕ
     → IfSome o (λ u. (s m : ℕ) → at' s m ≡ touched (ways u.space) u.numbers (with_mark (mark_of kind) on) at s m) → o ≡ Some (with_uses kind n v) → (s m : ℕ) → at' s m ≡ touched (ways v.space) v.numbers (with_mark (mark_of kind) on) at s m
 marked-as kind n v on ways at at' o e now s m =
     at-some (λ u. (s m : ℕ) → at' s m ≡ touched (ways u.space) u.numbers (with_mark (mark_of kind) on) at s m) o (with_uses kind n v) e now s m
-    ∙ ap (λ p. touched (ways p) (with_uses kind n v).numbers (with_mark (mark_of kind) on) at s m) (space-kept kind n v)
-    ∙ ap (λ l. touched (ways v.space) l (with_mark (mark_of kind) on) at s m) (numbers-kept kind n v)
+    ∙ ap (λ p. touched (ways p) (with_uses kind n v).numbers (with_mark (mark_of kind) on) at s m) (path-kept kind n v).0
+    ∙ ap (λ l. touched (ways v.space) l (with_mark (mark_of kind) on) at s m) (path-kept kind n v).1
 
 -- a use that was counted
 pub used-with : (kind : Kind) (n : ℕ) (v : Identifier) → is_used_as kind (Some (with_uses kind n v)) ≡ not (n == 0)
