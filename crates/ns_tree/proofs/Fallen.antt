@@ -1,11 +1,16 @@
 -- A walk over the namespaces in their order, which marks those inside one.
-use Rattle.std.proofs.Common.{map, ◌||◌, ◌≡◌, ◌≢◌, inl, inr, ℕ, List, [], ◌∷◌, ◌++◌, ◌==◌, Bool, true, false, if◌then◌else◌, Option, Some, None, option_map, unwrap_or, refl, sym, ap, ◌∙◌, arith}
+use Rattle.std.proofs.Common.{map, ◌||◌, ◌≡◌, ◌≢◌, inl, inr, ℕ, List, [], ◌∷◌, ◌++◌, ◌==◌, Bool, true, false, if◌then◌else◌, Option, Some, None, option_map, unwrap_or, refl, sym, ap, ◌∙◌}
 use Rattle.std.specs.Option.{option_map_or}
-use Rattle.std.proofs.lemmas.Bool.{cases_eq, eq-eqb}
+use Rattle.std.proofs.lemmas.Bool.{cases_eq, eq-eqb, ne_eqb, or_right}
+use Rattle.std.proofs.lemmas.List.{map-append}
 use Rattle.std.proofs.lemmas.List.Folds.{list_any-append}
 use Rattle.pid_types.specs.Chains.{contains}
 use Rattle.id_slab.specs.Ids.{key_of}
 use Rattle.ns_tree.specs.Tree.{Node, felled_within}
+
+pub or_false : (b : Bool) → (b || false) ≡ b
+or_false true = refl
+or_false false = refl
 
 -- the namespace, fallen where its key is among those that a walk has met
 abbrev pub fallen_among : ℕ → List (ℕ × ℕ) → ℕ → Option Node → Option Node
@@ -14,15 +19,7 @@ fallen_among outer met s o = if contains (map (λ p. p.1) met) s then option_map
 module _ (outer : ℕ) (met : List (ℕ × ℕ)) (id key : ℕ) (first old new : ℕ → Option Node) (so_far : (s : ℕ) → old s ≡ fallen_among outer met s (first s))
     (here : new key ≡ option_map (felled_within outer) (old key)) (others : (s : ℕ) → s ≢ key → new s ≡ old s) where
   met-more : (s : ℕ) → contains (map (λ p. p.1) (met ++ (id, key) ∷ [])) s ≡ (contains (map (λ p. p.1) met) s || (key == s))
-  met-more s = ap (λ l. contains l s) (keys met) ∙ list_any-append (λ m. m == s) (map (λ p. p.1) met) (key ∷ []) ∙ ap (λ b. contains (map (λ p. p.1) met) s || b) (plain (key == s))
-    where
-      keys : (ps : List (ℕ × ℕ)) → map (λ p. p.1) (ps ++ (id, key) ∷ []) ≡ map (λ p. p.1) ps ++ key ∷ []
-      keys [] = refl
-      keys (p ∷ ps) = ap (λ l. p.1 ∷ l) (keys ps)
-
-      plain : (b : Bool) → (b || false) ≡ b
-      plain true = refl
-      plain false = refl
+  met-more s = ap (λ l. contains l s) (map-append (λ p. p.1) met ((id, key) ∷ [])) ∙ list_any-append (λ m. m == s) (map (λ p. p.1) met) (key ∷ []) ∙ ap (λ b. contains (map (λ p. p.1) met) s || b) (or_false (key == s))
 
   twice : (o : Option Node) → option_map (felled_within outer) (option_map (felled_within outer) o) ≡ option_map (felled_within outer) o
   twice None = refl
@@ -38,24 +35,15 @@ module _ (outer : ℕ) (met : List (ℕ × ℕ)) (id key : ℕ) (first old new :
   more s = elim (cases_eq s key) [
     | inl same ↦
         ap new same ∙ here ∙ ap (option_map (felled_within outer)) (so_far key) ∙ go (contains (map (λ p. p.1) met) key)
-        ∙ sym (ap (λ z. if contains (map (λ p. p.1) (met ++ (id, key) ∷ [])) z then option_map (felled_within outer) (first z) else first z) same ∙ ap (λ b. if b then option_map (felled_within outer) (first key) else first key) (met-more key ∙ on (contains (map (λ p. p.1) met) key)))
+        ∙ sym (ap (λ z. if contains (map (λ p. p.1) (met ++ (id, key) ∷ [])) z then option_map (felled_within outer) (first z) else first z) same ∙ ap (λ b. if b then option_map (felled_within outer) (first key) else first key) (met-more key ∙ or_right (contains (map (λ p. p.1) met) key) (key == key) (eq-eqb key key refl)))
     | inr d ↦
-        let m : key ≢ s = λ e. d (sym e) in
-        let off : (key == s) ≡ false = grind (arith, m) in
-        others s d ∙ so_far s ∙ sym (ap (λ b. if b then option_map (felled_within outer) (first s) else first s) (met-more s ∙ ap (λ b. contains (map (λ p. p.1) met) s || b) off ∙ right (contains (map (λ p. p.1) met) s)))
+        others s d ∙ so_far s
+        ∙ sym (ap (λ b. if b then option_map (felled_within outer) (first s) else first s) (met-more s ∙ ap (λ b. contains (map (λ p. p.1) met) s || b) (ne_eqb key s (λ e. d (sym e))) ∙ or_false (contains (map (λ p. p.1) met) s)))
   ]
     where
       go : (b : Bool) → option_map (felled_within outer) (if b then option_map (felled_within outer) (first key) else first key) ≡ option_map (felled_within outer) (first key)
       go true = twice (first key)
       go false = refl
-
-      on : (b : Bool) → (b || (key == key)) ≡ true
-      on true = refl
-      on false = eq-eqb key key refl
-
-      right : (b : Bool) → (b || false) ≡ b
-      right true = refl
-      right false = refl
 
 -- the walk over all of them meets each that is there
 pub all-met : (outer : ℕ) (first : ℕ → Option Node) (order : List (ℕ × ℕ)) → ((s i : ℕ) → option_map (λ t. t.id) (first s) ≡ Some i → key_of order i ≡ Some s) → (s : ℕ) → fallen_among outer order s (first s) ≡ option_map (felled_within outer) (first s)
@@ -68,10 +56,6 @@ all-met outer first order listed s = go (first s) refl
         by : (b : Bool) → (key_of ps i ≡ Some s → contains (map (λ p. p.1) ps) s ≡ true) → (if b then Some p.1 else key_of ps i) ≡ Some s → (p.1 == s || contains (map (λ p. p.1) ps) s) ≡ true
         by true again e = ap (λ b. b || contains (map (λ p. p.1) ps) s) (eq-eqb p.1 s (ap (λ o. unwrap_or o s) e))
         by false again e = or_right (p.1 == s) (contains (map (λ p. p.1) ps) s) (again e)
-          where
-            or_right : (a b : Bool) → b ≡ true → (a || b) ≡ true
-            or_right true b e = refl
-            or_right false b e = e
 
     go : (o : Option Node) → first s ≡ o → (if contains (map (λ p. p.1) order) s then option_map (felled_within outer) (first s) else first s) ≡ option_map (felled_within outer) (first s)
     go None is = ap (λ o. if contains (map (λ p. p.1) order) s then option_map (felled_within outer) o else o) is ∙ same None (contains (map (λ p. p.1) order) s) ∙ sym (ap (option_map (felled_within outer)) is)

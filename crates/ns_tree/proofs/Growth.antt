@@ -1,32 +1,29 @@
 -- The tree where it begins, where a namespace comes, and where one goes.
-use Rattle.std.proofs.Common.{◌≡◌, ◌≢◌, ◌⊎◌, inl, inr, ℕ, zero, suc, ◌<◌, ◌≤◌, ◌==◌, ◌||◌, Bool, true, false, List, [], ◌∷◌, length, get_or, refl, sym, ap, subst, ◌∙◌, arith, lit≤}
-use Rattle.std.proofs.lemmas.Bool.{cases_eq, eq-eqb}
+use Rattle.std.proofs.Common.{◌≡◌, ◌≢◌, ◌⊎◌, inl, inr, ℕ, zero, suc, ◌<◌, ◌≤◌, ◌==◌, true, false, List, [], ◌∷◌, length, get_or, refl, sym, ap, subst, ◌∙◌, arith, lit≤}
+use Rattle.std.proofs.lemmas.Bool.{cases_eq, eq-eqb, both_ways, or_parts, or_right}
 use Rattle.pid_types.specs.Chains.{contains}
 use Rattle.ns_tree.specs.Tree.{IsPath, IsTree}
 
+-- what is true of each path, where one alone is another
+each-way : (ways ways' : ℕ → List ℕ) (key : ℕ) → ((s : ℕ) → s ≢ key → ways' s ≡ ways s) → (P : ℕ → List ℕ → Type 0) → P key (ways' key) → ((s : ℕ) → s ≢ key → P s (ways s)) → (s : ℕ) → P s (ways' s)
+each-way ways ways' key others P here there s = elim (cases_eq s key) [
+  | inl e ↦ subst (λ (z : ℕ). P z (ways' z)) (sym e) here
+  | inr m ↦ subst (P s) (sym (others s m)) (there s m)
+]
+
 -- the root alone
 module _ (ways : ℕ → List ℕ) (root : ways 0 ≡ 0 ∷ []) (others : (s : ℕ) → s ≢ 0 → ways s ≡ []) where
-  each_path : (s : ℕ) (P : List ℕ → Type 0) → P (0 ∷ []) → P [] → P (ways s)
-  each_path s P one none = elim (cases_eq s 0) [
-    | inl same ↦ subst P (sym (ap ways same ∙ root)) one
-    | inr ne ↦ subst P (sym (others s ne)) none
-  ]
+  each_path : (P : ℕ → List ℕ → Type 0) → P 0 (0 ∷ []) → ((s : ℕ) → P s []) → (s : ℕ) → P s (ways s)
+  each_path P one none = each-way (λ _. []) ways 0 others P (subst (P 0) (sym root) one) (λ s m. none s)
 
   pub tree-founded : IsTree ways
   tree-founded = record {
     root = root;
-    head = λ s. elim (cases_eq s 0) [
-      | inl same ↦ inr ([], ap ways same ∙ root ∙ ap (λ k. k ∷ []) (sym same))
-      | inr ne ↦ inl (others s ne)
-    ];
-    paths = λ s. each_path s (IsPath ways) (root, tt) tt;
-    few = λ s. each_path s (λ p. length p ≤ 33) (lit≤ tt) (lit≤ tt);
-    ends = λ s. each_path s (λ p. 0 < length p → contains p 0 ≡ true) (λ up. refl) (λ up. absurd (omega (arith, up)));
+    head = each_path (λ s p. (p ≡ []) ⊎ ((rest : List ℕ) × (p ≡ s ∷ rest))) (inr ([], refl)) (λ s. inl refl);
+    paths = each_path (λ s p. IsPath ways p) (root, tt) (λ s. tt);
+    few = each_path (λ s p. length p ≤ 33) (lit≤ tt) (λ s. lit≤ tt);
+    ends = each_path (λ s p. 0 < length p → contains p 0 ≡ true) (λ up. refl) (λ s up. absurd (omega (arith, up)));
   }
-
-or_right : (a b : Bool) → b ≡ true → (a || b) ≡ true
-or_right true b e = refl
-or_right false b e = e
 
 -- a namespace more, at a key that had none
 module _ (ways ways' : ℕ → List ℕ) (tree : IsTree ways) (key parent : ℕ) (was : ways key ≡ []) (now : ways' key ≡ key ∷ ways parent) (others : (s : ℕ) → s ≢ key → ways' s ≡ ways s) where
@@ -46,53 +43,26 @@ module _ (ways ways' : ℕ → List ℕ) (tree : IsTree ways) (key parent : ℕ)
   pub tree-added : 0 < length (ways parent) → length (ways parent) < 33 → IsTree ways'
   tree-added there few = record {
     root = others 0 not_root ∙ tree.root;
-    head = λ s. elim (cases_eq s key) [
-      | inl e ↦ inr (ways parent, ap ways' e ∙ now ∙ ap (λ z. z ∷ ways parent) (sym e))
-      | inr m ↦ subst (λ (p : List ℕ). (p ≡ []) ⊎ ((rest : List ℕ) × (p ≡ s ∷ rest))) (sym (others s m)) (tree.head s)
-    ];
-    paths = λ s. elim (cases_eq s key) [
-      | inl e ↦ subst (IsPath ways') (sym (ap ways' e ∙ now)) (now, path_kept (ways parent) (tree.paths parent))
-      | inr m ↦ subst (IsPath ways') (sym (others s m)) (path_kept (ways s) (tree.paths s))
-    ];
-    few = λ s. elim (cases_eq s key) [
-      | inl e ↦ (let l = ap length (ap ways' e ∙ now) in omega (arith, l, few))
-      | inr m ↦ subst (λ (p : List ℕ). length p ≤ 33) (sym (others s m)) (tree.few s)
-    ];
-    ends = λ s some. elim (cases_eq s key) [
-      | inl e ↦ ap (λ p. contains p 0) (ap ways' e ∙ now) ∙ or_right (key == 0) (contains (ways parent) 0) (tree.ends parent there)
-      | inr m ↦ ap (λ p. contains p 0) (others s m) ∙ tree.ends s (subst (λ (p : List ℕ). 0 < length p) (others s m) some)
-    ];
+    head = each-way ways ways' key others (λ s p. (p ≡ []) ⊎ ((rest : List ℕ) × (p ≡ s ∷ rest))) (inr (ways parent, now)) (λ s m. tree.head s);
+    paths = each-way ways ways' key others (λ s p. IsPath ways' p) (subst (IsPath ways') (sym now) (now, path_kept (ways parent) (tree.paths parent))) (λ s m. path_kept (ways s) (tree.paths s));
+    few = each-way ways ways' key others (λ s p. length p ≤ 33) (let l = ap length now in omega (arith, l, few)) (λ s m. tree.few s);
+    ends = each-way ways ways' key others (λ s p. 0 < length p → contains p 0 ≡ true)
+        (λ some. ap (λ p. contains p 0) now ∙ or_right (key == 0) (contains (ways parent) 0) (tree.ends parent there)) (λ s m. tree.ends s);
   }
 
 -- a namespace less, which none is inside
 module _ (ways ways' : ℕ → List ℕ) (tree : IsTree ways) (key : ℕ) (inner : key ≢ 0) (bare : (s : ℕ) → s ≢ key → contains (ways s) key ≡ false) (gone : ways' key ≡ []) (others : (s : ℕ) → s ≢ key → ways' s ≡ ways s) where
-  neither : (a b : Bool) → (a || b) ≡ false → (a ≡ false) × (b ≡ false)
-  neither true b e = absurd (cc)
-  neither false b e = (refl, e)
-
   path_stays : (p : List ℕ) → contains p key ≡ false → IsPath ways p → IsPath ways' p
   path_stays [] off h = tt
   path_stays (s ∷ ss) off h =
-      let r = neither (s == key) (contains ss key) off in
-      (others s (λ e. let bad : true ≡ false = sym (eq-eqb s key e) ∙ r.0 in cc) ∙ h.0, path_stays ss r.1 h.1)
+      let r = or_parts (s == key) (contains ss key) off in
+      (others s (λ e. both_ways (s == key) r.0 (eq-eqb s key e)) ∙ h.0, path_stays ss r.1 h.1)
 
   pub tree-dropped : IsTree ways'
   tree-dropped = record {
     root = others 0 (λ e. inner (sym e)) ∙ tree.root;
-    head = λ s. elim (cases_eq s key) [
-      | inl e ↦ inl (ap ways' e ∙ gone)
-      | inr m ↦ subst (λ (p : List ℕ). (p ≡ []) ⊎ ((rest : List ℕ) × (p ≡ s ∷ rest))) (sym (others s m)) (tree.head s)
-    ];
-    paths = λ s. elim (cases_eq s key) [
-      | inl e ↦ subst (IsPath ways') (sym (ap ways' e ∙ gone)) tt
-      | inr m ↦ subst (IsPath ways') (sym (others s m)) (path_stays (ways s) (bare s m) (tree.paths s))
-    ];
-    few = λ s. elim (cases_eq s key) [
-      | inl e ↦ (let l = ap length (ap ways' e ∙ gone) in omega (arith, l))
-      | inr m ↦ subst (λ (p : List ℕ). length p ≤ 33) (sym (others s m)) (tree.few s)
-    ];
-    ends = λ s some. elim (cases_eq s key) [
-      | inl e ↦ absurd (let l = ap length (ap ways' e ∙ gone) in omega (arith, l, some))
-      | inr m ↦ ap (λ p. contains p 0) (others s m) ∙ tree.ends s (subst (λ (p : List ℕ). 0 < length p) (others s m) some)
-    ];
+    head = each-way ways ways' key others (λ s p. (p ≡ []) ⊎ ((rest : List ℕ) × (p ≡ s ∷ rest))) (inl gone) (λ s m. tree.head s);
+    paths = each-way ways ways' key others (λ s p. IsPath ways' p) (subst (IsPath ways') (sym gone) tt) (λ s m. path_stays (ways s) (bare s m) (tree.paths s));
+    few = each-way ways ways' key others (λ s p. length p ≤ 33) (let l = ap length gone in omega (arith, l)) (λ s m. tree.few s);
+    ends = each-way ways ways' key others (λ s p. 0 < length p → contains p 0 ≡ true) (λ some. absurd (let l = ap length gone in omega (arith, l, some))) (λ s m. tree.ends s);
   }

@@ -4,7 +4,7 @@ use Rattle.std.specs.Option.{option_map_or}
 use Rattle.std.proofs.lemmas.List.{length-map}
 use Rattle.std.proofs.lemmas.Bool.{cases_lt}
 use Rattle.ns_tree.specs.declared.places.Place.{Place}
-use Rattle.ns_tree.specs.Tree.{Node, IsTree, node_in, way, id_in, felled, felled_within}
+use Rattle.ns_tree.specs.Tree.{Node, IsTree, node_in, way, id_in}
 use Rattle.ns_tree.specs.Places.{node_of, shown, nodes_of, IsKept}
 use Rattle.ns_tree.specs.Vacancy.{AreVacant}
 use Rattle.ns_tree.proofs.Filled as filled
@@ -98,18 +98,10 @@ kept-same old new len ways ids vacant room order k = record {
 }
 
 -- a namespace that fell keeps its path and its id
-pub felled-path : (o : Option Node) → option_map_or (λ t. t.path) (option_map felled o) [] ≡ option_map_or (λ t. t.path) o []
-felled-path None = refl
-felled-path (Some t) = refl
+pub same-path : (g : Node → Node) → ((t : Node) → (g t).path ≡ t.path) → (o : Option Node) → option_map_or (λ t. t.path) (option_map g o) [] ≡ option_map_or (λ t. t.path) o []
+same-path g same None = refl
+same-path g same (Some t) = same t
 
-pub felled-id : (o : Option Node) → option_map (λ t. t.id) (option_map felled o) ≡ option_map (λ t. t.id) o
-felled-id None = refl
-felled-id (Some t) = refl
-
-pub within-path : (outer : ℕ) (o : Option Node) → option_map_or (λ t. t.path) (option_map (felled_within outer) o) [] ≡ option_map_or (λ t. t.path) o []
-within-path outer None = refl
-within-path outer (Some t) = refl
-
-pub within-id : (outer : ℕ) (o : Option Node) → option_map (λ t. t.id) (option_map (felled_within outer) o) ≡ option_map (λ t. t.id) o
-within-id outer None = refl
-within-id outer (Some t) = refl
+pub same-id : (g : Node → Node) → ((t : Node) → (g t).id ≡ t.id) → (o : Option Node) → option_map (λ t. t.id) (option_map g o) ≡ option_map (λ t. t.id) o
+same-id g same None = refl
+same-id g same (Some t) = ap Some (same t)

@@ -1,7 +1,8 @@
 -- The order of the namespaces, where one is added and where some go.
-use Rattle.std.proofs.Common.{◌≡◌, ◌≢◌, inl, inr, ℕ, List, [], ◌∷◌, ◌++◌, cond, not, ◌==◌, Bool, true, false, Option, Some, None, is_some, option_map, unwrap_or, refl, sym, ap, subst, ◌∙◌, arith}
+use Rattle.std.proofs.Common.{◌≡◌, ◌≢◌, inl, inr, ℕ, List, [], ◌∷◌, ◌++◌, cond, not, ◌==◌, Bool, true, false, Option, Some, None, is_some, option_map, refl, sym, ap, subst, ◌∙◌}
 use Rattle.std.specs.List.{AllByRecursion, filter}
-use Rattle.std.proofs.lemmas.Bool.{cases_eq, eq-eqb}
+use Rattle.std.proofs.lemmas.Bool.{cases_eq, eq-eqb, ne_eqb, both_ways}
+use Rattle.std.proofs.lemmas.Option.{none-some, same_Some}
 use Rattle.id_slab.specs.Ids.{key_of, without, AreBelow}
 use Rattle.id_slab.proofs.Keys.{key_of-push, key_of-new, key_of-kept}
 use Rattle.ns_tree.specs.Tree.{Node, AreListed}
@@ -23,7 +24,7 @@ module _ {X : Type 0} where
     where
       go : (b : Bool) → g x ≡ b → (c : Bool) → f x ≡ c → filter f (filter g xs) ≡ filter f xs → filter f (cond b (x ∷ filter g xs) (filter g xs)) ≡ cond c (x ∷ filter f xs) (filter f xs)
       go true on c is again = ap (λ b. cond b (x ∷ filter f (filter g xs)) (filter f (filter g xs))) is ∙ ap (λ rest. cond c (x ∷ rest) rest) again
-      go false off true is again = absurd (let bad : false ≡ true = sym off ∙ more x is in cc)
+      go false off true is again = absurd (both_ways (g x) off (more x is))
       go false off false is again = again
 
   pub all-weaken : (P Q : X → Type 0) → ((x : X) → P x → Q x) → (xs : List X) → AllByRecursion P xs → AllByRecursion Q xs
@@ -41,7 +42,7 @@ module _ (id id' : ℕ → Option ℕ) (order : List (ℕ × ℕ)) (l : AreListe
     each = each order l.each;
     listed = λ s j e. elim (cases_eq s key) [
       | inl same ↦
-          let is : i ≡ j = ap (λ o. unwrap_or o 0) (sym here ∙ ap id' (sym same) ∙ e) in
+          let is = same_Some i j (sym here ∙ ap id' (sym same) ∙ e) in
           ap (key_of (order ++ (i, key) ∷ [])) (sym is) ∙ key_of-new order i key below ∙ ap Some (sym same)
       | inr d ↦ key_of-push order i key j s (l.listed s j (sym (others s d) ∙ e))
     ];
@@ -49,7 +50,7 @@ module _ (id id' : ℕ → Option ℕ) (order : List (ℕ × ℕ)) (l : AreListe
     where
       each : (ps : List (ℕ × ℕ)) → AllByRecursion (λ p. id p.1 ≡ Some p.0) ps → AllByRecursion (λ p. id' p.1 ≡ Some p.0) (ps ++ (i, key) ∷ [])
       each [] all = (here, tt)
-      each (p ∷ ps) all = (others p.1 (λ e. let bad : Some p.0 ≡ None = sym all.0 ∙ ap id e ∙ vacant in cc) ∙ all.0, each ps all.1)
+      each (p ∷ ps) all = (others p.1 (λ e. none-some p.0 (sym (ap id e ∙ vacant) ∙ all.0)) ∙ all.0, each ps all.1)
 
   -- some go
   pub listed-kept : (keep : ℕ → Bool) → ((s : ℕ) → keep s ≡ true → id' s ≡ id s) → ((s : ℕ) → keep s ≡ false → id' s ≡ None) → AreListed id' (filter (λ p. keep p.1) order)
@@ -68,7 +69,7 @@ module _ (id id' : ℕ → Option ℕ) (order : List (ℕ × ℕ)) (l : AreListe
 
       listed : (s i : ℕ) (b : Bool) → keep s ≡ b → id' s ≡ Some i → key_of (filter (λ p. keep p.1) order) i ≡ Some s
       listed s i true on e = key_of-kept keep order i s on (l.listed s i (sym (stay s on) ∙ e))
-      listed s i false off e = absurd (let bad : None ≡ Some i = sym (go_away s off) ∙ e in cc)
+      listed s i false off e = absurd (none-some i (sym (go_away s off) ∙ e))
 
   -- where one of the ids goes, its key goes
   pub without-key : (keep : ℕ → Bool) (i key : ℕ) → id key ≡ Some i → keep key ≡ false → ((s j : ℕ) → s ≢ key → id s ≡ Some j → keep s ≡ true) → without order i ≡ filter (λ p. keep p.1) order
@@ -76,13 +77,8 @@ module _ (id id' : ℕ → Option ℕ) (order : List (ℕ × ℕ)) (l : AreListe
     where
       one : (p : ℕ × ℕ) → id p.1 ≡ Some p.0 → not (p.0 == i) ≡ keep p.1
       one p at = elim (cases_eq p.1 key) [
-        | inl same ↦
-            let id_is : p.0 ≡ i = ap (λ o. unwrap_or o 0) (sym at ∙ ap id same ∙ is) in
-            ap not (eq-eqb p.0 i id_is) ∙ sym (ap keep same ∙ off)
-        | inr d ↦
-            let differs : p.0 ≢ i = λ e. d (ap (λ o. unwrap_or o 0) (sym (l.listed p.1 i (at ∙ ap Some e)) ∙ l.listed key i is)) in
-            let apart : (p.0 == i) ≡ false = grind (arith, differs) in
-            ap not apart ∙ sym (others p.1 p.0 d at)
+        | inl same ↦ ap not (eq-eqb p.0 i (same_Some p.0 i (sym at ∙ ap id same ∙ is))) ∙ sym (ap keep same ∙ off)
+        | inr d ↦ ap not (ne_eqb p.0 i (λ e. d (same_Some p.1 key (sym (l.listed p.1 i (at ∙ ap Some e)) ∙ l.listed key i is)))) ∙ sym (others p.1 p.0 d at)
       ]
 
   -- where none goes the order stays

@@ -1,36 +1,25 @@
 -- Lists of keys, and the paths of a tree.
-use Rattle.std.proofs.Common.{◌≡◌, ◌≢◌, ◌⊎◌, inl, inr, ℕ, zero, suc, ◌+◌, ◌-◌, ◌<◌, ◌≤◌, Bool, true, false, ◌==◌, ◌||◌, List, [], ◌∷◌, length, get_or, drop, length-drop, refl, sym, ap, subst, ◌∙◌, arith}
+use Rattle.std.proofs.Common.{◌≡◌, ◌≢◌, inl, inr, ℕ, zero, suc, ◌+◌, ◌-◌, ◌<◌, ◌≤◌, true, false, ◌==◌, ◌||◌, List, [], ◌∷◌, length, get_or, drop, length-drop, refl, sym, ap, subst, ◌∙◌, arith}
 use Rattle.std.proofs.lemmas.List.{get_or-drop}
-use Rattle.std.proofs.lemmas.Bool.{cases_eq, eq-eqb}
+use Rattle.std.proofs.lemmas.Bool.{cases_eq, eq-eqb, ne_eqb, or_right, false_from_ne_true}
 use Rattle.pid_types.specs.Chains.{contains}
 use Rattle.ns_tree.specs.Tree.{IsPath, IsTree}
 use Rattle.ns_tree.specs.Vacancy.{IsDistinct}
-
-pub cases : (b : Bool) → (b ≡ true) ⊎ (b ≡ false)
-cases true = inl refl
-cases false = inr refl
+pub use Rattle.std.proofs.lemmas.Bool.{cases_Bool as cases}
 
 -- a list holds what stands in a place of it
 pub contains_at : (ns : List ℕ) (j : ℕ) → j < length ns → contains ns (get_or ns j 0) ≡ true
 contains_at [] j lt = absurd (omega (arith, lt))
 contains_at (n ∷ ns) zero lt = ap (λ b. b || contains ns n) (eq-eqb n n refl)
-contains_at (n ∷ ns) (suc j) lt = go (n == get_or ns j 0) (contains_at ns j (omega (arith, lt)))
-  where
-    go : (b : Bool) → contains ns (get_or ns j 0) ≡ true → (b || contains ns (get_or ns j 0)) ≡ true
-    go true e = refl
-    go false e = e
+contains_at (n ∷ ns) (suc j) lt = or_right (n == get_or ns j 0) (contains ns (get_or ns j 0)) (contains_at ns j (omega (arith, lt)))
 
 -- and what it holds stands in one
 pub place_of : (ns : List ℕ) (n : ℕ) → contains ns n ≡ true → (j : ℕ) × (j < length ns) × (get_or ns j 0 ≡ n)
 place_of [] n e = absurd (cc)
-place_of (m ∷ ms) n e = go (λ h. place_of ms n h) (cases_eq m n) e
-  where
-    go : (contains ms n ≡ true → (j : ℕ) × (j < length ms) × (get_or ms j 0 ≡ n)) → (m ≡ n) ⊎ (m ≢ n) → (m == n || contains ms n) ≡ true → (j : ℕ) × (j < length (m ∷ ms)) × (get_or (m ∷ ms) j 0 ≡ n)
-    go again (inl same) e = (0, omega arith, same)
-    go again (inr differs) e =
-        let off : (m == n) ≡ false = grind (arith, differs) in
-        let r = again (rw off at e) in
-        (suc r.0, omega (arith, r.1), r.2)
+place_of (m ∷ ms) n e = elim (cases_eq m n) [
+  | inl same ↦ (0, omega arith, same)
+  | inr differs ↦ let r = place_of ms n (rw (ne_eqb m n differs) at e) in (suc r.0, omega (arith, r.1), r.2)
+]
 
 -- so one that holds something is not empty
 pub held-some : (ns : List ℕ) (n : ℕ) → contains ns n ≡ true → 0 < length ns
@@ -96,16 +85,10 @@ module _ (ways : ℕ → List ℕ) (tree : IsTree ways) (key outer : ℕ) where
       (omega (arith, len, dropped, lt), omega (arith, len, dropped, lt), ap (λ j. get_or (ways key) j 0) place ∙ p.2)
 
   pub not-within : (0 < length (ways outer) → length (ways outer) ≤ length (ways key) → ⊥) → false ≡ contains (ways key) outer
-  not-within h = elim (cases (contains (ways key) outer)) [
-    | inl e ↦ absurd (let w = within e in h w.0 w.1)
-    | inr e ↦ sym e
-  ]
+  not-within h = sym (false_from_ne_true (contains (ways key) outer) (λ e. let w = within e in h w.0 w.1))
 
   pub within-by : (j : ℕ) → 0 < length (ways outer) → length (ways outer) ≤ length (ways key) → j ≡ length (ways key) - length (ways outer) → (get_or (ways key) j 0 == outer) ≡ contains (ways key) outer
   within-by j some few is = elim (cases_eq (get_or (ways key) j 0) outer) [
     | inl e ↦ eq-eqb (get_or (ways key) j 0) outer e ∙ sym (ap (contains (ways key)) (sym e) ∙ contains_at (ways key) j (omega (arith, some, few, is)))
-    | inr d ↦ elim (cases (contains (ways key) outer)) [
-      | inl e ↦ absurd (d (ap (λ k. get_or (ways key) k 0) is ∙ (within e).2))
-      | inr e ↦ (let off : (get_or (ways key) j 0 == outer) ≡ false = grind (arith, d) in off ∙ sym e)
-    ]
+    | inr d ↦ ne_eqb (get_or (ways key) j 0) outer d ∙ sym (false_from_ne_true (contains (ways key) outer) (λ e. d (ap (λ k. get_or (ways key) k 0) is ∙ (within e).2)))
   ]

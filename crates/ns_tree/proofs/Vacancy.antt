@@ -4,8 +4,7 @@ use Rattle.std.specs.Prelude.{nat_eq}
 use Rattle.std.specs.List.{list_any, AllByRecursion, IsDistinct as IsApart}
 use Rattle.std.proofs.lemmas.List.{length-append, get_or_append_left, get_or-append_right, get_or_default, length-set, get_or_past, get_or-set_same, get_or-set_other}
 use Rattle.std.proofs.lemmas.Map.Steps.{length-le_from_distinct_below}
-use Rattle.std.proofs.lemmas.Bool.{cases_eq, cases_lt}
-use Rattle.std.proofs.lemmas.Bool.Decides.{nat_tests}
+use Rattle.std.proofs.lemmas.Bool.{cases_eq, cases_lt, ne_eqb}
 use Rattle.ns_tree.specs.Vacancy.{next_place, AreVacant, IsDistinct}
 
 -- where a number of a list stands
@@ -14,8 +13,7 @@ place_in [] q e = absurd (cc)
 place_in (k ∷ ks) q e = elim (cases_eq k q) [
   | inl same ↦ (0, omega arith, same)
   | inr differs ↦
-      let off : nat_eq q k ≡ false = grind (arith, nat_tests, differs) in
-      let r = place_in ks q (rw off at e) in (suc r.0, omega (arith, r.1), r.2)
+      let r = place_in ks q (rw (ne_eqb q k (λ e. differs (sym e))) at e) in (suc r.0, omega (arith, r.1), r.2)
 ]
 
 -- no two of them are the same
@@ -26,7 +24,7 @@ apart (k ∷ ks) d = (others ks (λ j lt. d 0 (suc j) (omega arith) (omega (arit
   where
     others : (ms : List ℕ) → ((j : ℕ) → j < length ms → k ≢ get_or ms j 0) → AllByRecursion (λ y. nat_eq k y ≡ false) ms
     others [] h = tt
-    others (m ∷ ms) h = (let differs = h 0 (omega arith) in grind (arith, nat_tests, differs), others ms (λ j lt. h (suc j) (omega (arith, lt))))
+    others (m ∷ ms) h = (ne_eqb k m (h 0 (omega arith)), others ms (λ j lt. h (suc j) (omega (arith, lt))))
 
 -- keys below a number are at most so many
 pub few : (ks : List ℕ) (n : ℕ) → IsDistinct ks → ((j : ℕ) → j < length ks → get_or ks j 0 < n) → length ks ≤ n
@@ -69,46 +67,36 @@ module _ {X : Type 0} where
     distinct i j lo lt = elim (cases_lt j (length keys)) [
       | inl inside ↦ (λ e. v.distinct i j lo inside (sym (at i (omega (arith, lo, inside))) ∙ e ∙ at j inside))
       | inr past ↦
-          let l = length-append keys (key ∷ []) in
-          let before : i < length keys = omega (arith, lo, lt, past, l) in
+          let before : i < length keys = omega (arith, lo, lt, past, length-append keys (key ∷ [])) in
           (λ e. stands i before (sym (at i before) ∙ e ∙ last j lt past))
     ]
 
     pub room-more : length keys < room
     room-more =
-        let l = length-append keys (key ∷ []) in
-        let r = v.rooms in
         let n = few (keys ++ key ∷ []) (length slots) distinct (λ j lt. elim (cases_lt j (length keys)) [
-          | inl inside ↦ (let b = (v.each j inside).0 in let e = at j inside in omega (arith, b, e))
-          | inr past ↦ (let b = in_range in let e = last j lt past in omega (arith, b, e))
+          | inl inside ↦ omega (arith, (v.each j inside).0, at j inside)
+          | inr past ↦ omega (arith, in_range, last j lt past)
         ]) in
-        omega (arith, l, r, n)
+        omega (arith, length-append keys (key ∷ []), v.rooms, n)
 
     -- it goes
     pub one-more : AreVacant (set slots key None) (keys ++ key ∷ []) room
     one-more = record {
       each = λ j lt. elim (cases_lt j (length keys)) [
         | inl inside ↦
-            let b = (v.each j inside).0 in
             let e = at j inside in
-            let n = length-set slots key None in
-            (omega (arith, b, e, n), ap (at_key (set slots key None)) e ∙ get_or-set_other slots key (get_or keys j 0) None None (stands j inside) ∙ (v.each j inside).1)
+            (omega (arith, (v.each j inside).0, e, length-set slots key None), ap (at_key (set slots key None)) e ∙ get_or-set_other slots key (get_or keys j 0) None None (stands j inside) ∙ (v.each j inside).1)
         | inr past ↦
-            let b = in_range in
             let e = last j lt past in
-            let n = length-set slots key None in
-            (omega (arith, b, e, n), ap (at_key (set slots key None)) e ∙ get_or-set_same slots key None None b)
+            (omega (arith, in_range, e, length-set slots key None), ap (at_key (set slots key None)) e ∙ get_or-set_same slots key None None in_range)
       ];
       all = λ s lt none. elim (cases_eq s key) [
         | inl same ↦
             let l = length-append keys (key ∷ []) in
             (length keys, omega (arith, l), last (length keys) (omega (arith, l)) (omega arith) ∙ sym same)
         | inr differs ↦
-            let n = length-set slots key None in
-            let r = v.all s (omega (arith, lt, n)) (sym (get_or-set_other slots key s None None differs) ∙ none) in
-            let inside = r.1 in
-            let l = length-append keys (key ∷ []) in
-            (r.0, omega (arith, l, inside), at r.0 inside ∙ r.2)
+            let r = v.all s (omega (arith, lt, length-set slots key None)) (sym (get_or-set_other slots key s None None differs) ∙ none) in
+            (r.0, omega (arith, length-append keys (key ∷ []), r.1), at r.0 r.1 ∙ r.2)
       ];
       distinct = distinct;
       rooms = let r = v.rooms in let n = length-set slots key None in omega (arith, r, n);
@@ -139,21 +127,16 @@ module _ {X : Type 0} where
     one-less x = record {
       each = λ j lt.
           let e = v.each j (omega (arith, lt, long)) in
-          let n = length-set slots key (Some x) in
           let same = before j lt in
           let differs : get_or rest j 0 ≢ key = λ z. v.distinct j (length rest) lt (omega (arith, long)) (same ∙ z ∙ sym end) in
-          let b = e.0 in
-          (omega (arith, b, n, same), get_or-set_other slots key (get_or rest j 0) (Some x) None differs ∙ ap (at_key slots) (sym same) ∙ e.1);
+          (omega (arith, e.0, length-set slots key (Some x), same), get_or-set_other slots key (get_or rest j 0) (Some x) None differs ∙ ap (at_key slots) (sym same) ∙ e.1);
       all = λ s lt none. elim (cases_eq s key) [
         | inl same ↦ absurd (no_value (sym (ap (at_key (set slots key (Some x))) same) ∙ none) (get_or-set_same slots key (Some x) None vacant-last.0))
         | inr differs ↦
-            let n = length-set slots key (Some x) in
-            let r = v.all s (omega (arith, lt, n)) (sym (get_or-set_other slots key s (Some x) None differs) ∙ none) in
+            let r = v.all s (omega (arith, lt, length-set slots key (Some x))) (sym (get_or-set_other slots key s (Some x) None differs) ∙ none) in
             let inside : r.0 < length rest = elim (cases_lt r.0 (length rest)) [
               | inl below ↦ below
-              | inr past ↦
-                  let at_end : r.0 ≡ length rest = let lt = r.1 in omega (arith, past, lt, long) in
-                  absurd (differs (sym r.2 ∙ ap (λ j. get_or keys j 0) at_end ∙ end))
+              | inr past ↦ absurd (differs (sym r.2 ∙ ap (λ j. get_or keys j 0) (let e : r.0 ≡ length rest = omega (arith, past, r.1, long) in e) ∙ end))
             ] in
             (r.0, inside, sym (before r.0 inside) ∙ r.2)
       ];
@@ -182,11 +165,8 @@ module _ {X : Type 0} where
       all = λ s lt empty. absurd (elim (cases_eq s (length slots)) [
         | inl same ↦ no_value (sym (ap (at_key (slots ++ Some x ∷ [])) same) ∙ empty) at-new
         | inr differs ↦
-            let n = length-append slots (Some x ∷ []) in
-            let r = v.all s (omega (arith, lt, n, differs)) (sym (at-old s differs) ∙ empty) in
-            let lt = r.1 in
-            let l = ap length none in
-            omega (arith, l, lt)
+            let r = v.all s (omega (arith, lt, length-append slots (Some x ∷ []), differs)) (sym (at-old s differs) ∙ empty) in
+            omega (arith, ap length none, r.1)
       ]);
       distinct = λ i j lo lt e. (let l = ap length none in omega (arith, l, lt));
       rooms = let l = length-append slots (Some x ∷ []) in omega (arith, l, more);
@@ -215,8 +195,7 @@ module _ {X : Type 0} where
   next-near {Y} places slots keys room len v = elim (cases_lt 0 (length keys)) [
     | inl some ↦
         let is = get_or_default keys (length keys - 1) (length places) 0 (omega (arith, some)) in
-        let lt = (v.each (length keys - 1) (omega (arith, some))).0 in
-        omega (arith, is, lt, len)
+        omega (arith, is, (v.each (length keys - 1) (omega (arith, some))).0, len)
     | inr none ↦ (let past = get_or_past keys (length keys - 1) (length places) (omega (arith, none)) in omega (arith, past))
   ]
 

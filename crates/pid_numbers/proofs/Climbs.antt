@@ -1,9 +1,9 @@
 -- A sweep goes from a namespace outwards, as long as it finds dead ones.
-use Rattle.std.proofs.Common.{◌≡◌, ◌≢◌, inl, inr, ℕ, ◌+◌, ◌<◌, true, false, ◌==◌, ◌&&◌, ◌||◌, List, [], ◌∷◌, length, get_or, drop, Option, Some, None, is_some, if◌then◌else◌, sym, ap, subst, arith, ◌∙◌}
+use Rattle.std.proofs.Common.{◌≡◌, ◌≢◌, inl, inr, ℕ, ◌+◌, ◌<◌, true, false, ◌&&◌, ◌||◌, List, [], ◌∷◌, length, get_or, drop, Option, Some, None, is_some, if◌then◌else◌, sym, ap, subst, arith, ◌∙◌}
 use Rattle.std.specs.Prelude.{nat_lt}
 use Rattle.std.specs.Option.{option_map_or}
-use Rattle.std.proofs.lemmas.Bool.{cases_eq}
-use Rattle.std.proofs.lemmas.Bool.Decides.{nat_tests}
+use Rattle.std.proofs.lemmas.Bool.{cases_eq, ne_eqb, ltb-true, false_from_ne_true}
+use Rattle.std.proofs.lemmas.Option.{cond_some}
 use Rattle.std.proofs.lemmas.List.{drop_more}
 use Rattle.cyclic_ids.specs.Ids.{Ids}
 use Rattle.ns_tree.specs.Tree.{Node, IsTree, node_in, way}
@@ -13,43 +13,28 @@ use Rattle.pid_numbers.specs.Slabs.{empty_on, dead_on, AreAround}
 
 -- what is around a namespace is the path of its parent
 pub above : (ways : ℕ → List ℕ) → IsTree ways → (key parent : ℕ) → Some parent ≡ (if nat_lt 1 (length (ways key)) then Some (get_or (ways key) 1 0) else None) → ways key ≡ key ∷ ways parent
-above ways tree key parent is = elim (paths.cases (nat_lt 1 (length (ways key)))) [
-  | inr off ↦ absurd (let bad : Some parent ≡ None = is ∙ ap (λ b. if b then Some (get_or (ways key) 1 0) else None) off in cc)
-  | inl on ↦
-      let lt : 1 < length (ways key) = grind (arith, nat_tests, on) in
-      let e : Some parent ≡ Some (get_or (ways key) 1 0) = is ∙ ap (λ b. if b then Some (get_or (ways key) 1 0) else None) on in
-      let at : parent ≡ get_or (ways key) 1 0 = ap (λ o. option_map_or (λ n. n) o 0) e in
-      drop_more (ways key) 0 0 (omega (arith, lt)) ∙ ap (λ k. k ∷ drop 1 (ways key)) (paths.own-first ways tree key (omega (arith, lt)))
-      ∙ ap (λ l. key ∷ l) (sym (ap ways at ∙ paths.at-path ways (ways key) (tree.paths key) 1 lt))
-]
+above ways tree key parent is =
+    let r = cond_some (nat_lt 1 (length (ways key))) (get_or (ways key) 1 0) parent (sym is) in
+    let lt = ltb-true 1 (length (ways key)) r.0 in
+    drop_more (ways key) 0 0 (omega (arith, lt)) ∙ ap (λ k. k ∷ drop 1 (ways key)) (paths.own-first ways tree key (omega (arith, lt)))
+    ∙ ap (λ l. key ∷ l) (sym (ap ways (sym r.1) ∙ paths.at-path ways (ways key) (tree.paths key) 1 lt))
 
 module _ (nodes : List (Option Node)) (ids : List (Ids ℕ)) (key : ℕ) (a : AreAround nodes ids (way nodes key)) where
-  -- where the innermost lives all do
-  pub all-live : dead_on nodes ids key ≡ false → (s : ℕ) → dead_on nodes ids s ≡ false
-  all-live lives s = elim (paths.cases (dead_on nodes ids s)) [
-    | inr off ↦ off
-    | inl dead ↦ absurd (let bad : true ≡ false = sym (a.inside key s (a.on s dead) dead) ∙ lives in cc)
-  ]
-
   module _ (tree : IsTree (way nodes)) (dead : dead_on nodes ids key ≡ true) where
     -- none is inside it that is left
     pub bare : (s : ℕ) → s ≢ key → contains (way nodes s) key ≡ false
-    bare s differs = elim (paths.cases (contains (way nodes s) key)) [
-      | inr off ↦ off
-      | inl within ↦
-          let ways = way nodes in
-          let p = paths.place_of (ways key) s (a.on s (a.inside s key within dead)) in
-          let q = paths.place_of (ways s) key within in
-          let lt : q.0 < length (ways (get_or (ways key) p.0 0)) = subst (λ (z : ℕ). q.0 < length (ways z)) (sym p.2) q.1 in
-          let r = paths.around-around ways tree key p.0 q.0 p.1 lt in
-          let again : get_or (ways key) (p.0 + q.0) 0 ≡ key = r.1 ∙ ap (λ z. get_or (ways z) q.0 0) p.2 ∙ q.2 in
-          let some : 0 < length (ways key) = (let m = p.1 in omega (arith, m)) in
-          let first = paths.own-first ways tree key some in
-          elim (cases_eq p.0 0) [
-            | inl zero ↦ absurd (differs (sym p.2 ∙ ap (λ j. get_or (ways key) j 0) zero ∙ first))
-            | inr up ↦ absurd (paths.distinct-path ways (ways key) (tree.paths key) 0 (p.0 + q.0) (omega (arith, up)) r.0 (first ∙ sym again))
-          ]
-    ]
+    bare s differs = false_from_ne_true (contains (way nodes s) key) (λ within.
+        let ways = way nodes in
+        let p = paths.place_of (ways key) s (a.on s (a.inside s key within dead)) in
+        let q = paths.place_of (ways s) key within in
+        let lt : q.0 < length (ways (get_or (ways key) p.0 0)) = subst (λ (z : ℕ). q.0 < length (ways z)) (sym p.2) q.1 in
+        let r = paths.around-around ways tree key p.0 q.0 p.1 lt in
+        let again : get_or (ways key) (p.0 + q.0) 0 ≡ key = r.1 ∙ ap (λ z. get_or (ways z) q.0 0) p.2 ∙ q.2 in
+        let first = paths.own-first ways tree key (omega (arith, p.1)) in
+        elim (cases_eq p.0 0) [
+          | inl zero ↦ differs (sym p.2 ∙ ap (λ j. get_or (ways key) j 0) zero ∙ first)
+          | inr up ↦ paths.distinct-path ways (ways key) (tree.paths key) 0 (p.0 + q.0) (omega (arith, up)) r.0 (first ∙ sym again)
+        ])
 
     -- once it is gone the same is true of the one that it was in
     module _ (nodes' : List (Option Node)) (parent : ℕ) (up : way nodes key ≡ key ∷ way nodes parent) (here : node_in nodes' key ≡ None) (others : (s : ℕ) → s ≢ key → node_in nodes' s ≡ node_in nodes s) where
@@ -68,16 +53,11 @@ module _ (nodes : List (Option Node)) (ids : List (Ids ℕ)) (key : ℕ) (a : Ar
       path-same : way nodes' parent ≡ way nodes parent
       path-same = way_same parent (λ e. let l = ap length (up ∙ ap (λ z. key ∷ way nodes z) e) in omega (arith, l))
 
-      pub shorter : length (way nodes' parent) < length (way nodes key)
-      shorter = let l = ap length up in let m = ap length path-same in omega (arith, l, m)
-
       pub around-next : AreAround nodes' ids (way nodes' parent)
       around-next = record {
         on = λ s d.
             let m = other s d in
-            let differs : key ≢ s = λ e. m (sym e) in
-            let off : (key == s) ≡ false = grind (arith, differs) in
-            ap (λ p. contains p s) path-same ∙ sym (ap (λ b. b || contains (way nodes parent) s) off) ∙ sym (ap (λ p. contains p s) up) ∙ a.on s (sym (same_dead s m) ∙ d);
+            ap (λ p. contains p s) path-same ∙ sym (ap (λ b. b || contains (way nodes parent) s) (ne_eqb key s (λ e. m (sym e)))) ∙ sym (ap (λ p. contains p s) up) ∙ a.on s (sym (same_dead s m) ∙ d);
         inside = λ s outer within d.
             let m = other outer d in
             let n : s ≢ key = λ e. let bad : false ≡ true = sym (ap (λ z. contains (way nodes' z) outer) e ∙ ap (λ o. contains (option_map_or (λ (t : Node). t.path) o []) outer) here) ∙ within in cc in

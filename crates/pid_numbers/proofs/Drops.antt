@@ -1,41 +1,33 @@
 -- The sweep after an identifier went.
-use Rattle.std.proofs.Common.{◌≡◌, ◌≢◌, inl, inr, ℕ, ◌<◌, ◌-◌, Bool, true, false, ◌==◌, ◌&&◌, List, [], ◌∷◌, length, Option, Some, None, is_some, if◌then◌else◌, refl, sym, ap, subst, arith, ◌∙◌, option_map, option_and_then}
+use Rattle.std.proofs.Common.{◌≡◌, ◌≢◌, ℕ, ◌<◌, Bool, true, false, ◌==◌, ◌&&◌, List, [], ◌∷◌, length, Option, Some, None, is_some, if◌then◌else◌, refl, sym, ap, subst, arith, ◌∙◌, option_map, option_and_then}
 use Rattle.std.specs.Prelude.{filter_map, slice_get}
 use Rattle.std.specs.Option.{option_map_or}
-use Rattle.std.proofs.lemmas.Bool.Decides.{nat_tests}
+use Rattle.std.proofs.lemmas.Bool.{and_parts, both_ways, false_from_ne_true, true_from_ne_false}
+use Rattle.std.proofs.lemmas.Option.{none-some}
 use Rattle.cyclic_ids.specs.Ids.{Ids}
 use Rattle.index_array.specs.Place.{Entry, entry_at, indexes}
 use Rattle.index_array.proofs.Indexes.{contains_indexes}
 use Rattle.ns_tree.specs.Tree.{Node, Tree, IsTree, node_in, way, fell}
 use Rattle.pid_types.specs.Chains.{contains}
-use Rattle.pid_types.specs.declared.call.Kind.{Kind}
-use Rattle.pid_numbers.specs.Numbering.{Identifier, Numbering, namespace_at, identifier_at, is_used_as, less, uses, number_in, number_of, path_at, taken_in, is_dead, swept_at}
-use Rattle.pid_numbers.specs.Slabs.{AreFallen, namespace_of, numbering_of, cursor_on, entry_on, bound_on, leads, empty_on, dead_on, touched, AreAround, IsTied, IsNumbering, IsWhole}
+use Rattle.pid_numbers.specs.Numbering.{Identifier, Numbering, namespace_at, number_in, number_of, path_at, taken_in, is_dead, swept_at}
+use Rattle.pid_numbers.specs.Slabs.{AreFallen, namespace_of, numbering_of, cursor_on, entry_on, bound_on, leads, empty_on, dead_on, touched, AreAround, IsNumbering, IsWhole}
 use Rattle.pid_numbers.specs.Table.{Table, name_at}
 use Rattle.pid_numbers.proofs.Sweeps as sweeps
 use Rattle.pid_numbers.proofs.Ties as ties
-use Rattle.pid_numbers.proofs.Ties.{at_key, listed_from, listed}
+use Rattle.pid_numbers.proofs.Ties.{at_key, listed}
 use Rattle.pid_numbers.proofs.Views as views
 use Rattle.pid_numbers.proofs.Views.{taken_same}
 
-both : (a b : Bool) → (a && b) ≡ true → (a ≡ true) × (b ≡ true)
-both true b e = (refl, e)
-both false b e = absurd (cc)
-
 -- a dead one has fallen, and no number in use
 pub dead_fell : (nodes : List (Option Node)) (ids : List (Ids ℕ)) (s : ℕ) → dead_on nodes ids s ≡ true → fell nodes s ≡ true
-dead_fell nodes ids s e = (both (fell nodes s) (empty_on ids s) e).0
+dead_fell nodes ids s e = (and_parts (fell nodes s) (empty_on ids s) e).0
 
 no_entry : (ids : List (Ids ℕ)) (s : ℕ) → empty_on ids s ≡ true → (n : ℕ) → entry_on ids s n ≡ None
 no_entry ids s e n = go (slice_get ids s) e
   where
-    bare : (o : Option (Entry ℕ)) → is_some o ≡ false → o ≡ None
-    bare None e = refl
-    bare (Some x) e = absurd (cc)
-
     go : (o : Option (Ids ℕ)) → option_map_or (λ t. length (indexes t.places) == 0) o true ≡ true → option_and_then (λ t. entry_at t.places n) o ≡ None
     go None e = refl
-    go (Some z) e = bare (entry_at z.places n) (sym (contains_indexes z.places n) ∙ sweeps.none_in (indexes z.places) e n)
+    go (Some z) e = views.absent (entry_at z.places n) (sym (contains_indexes z.places n) ∙ sweeps.none_in (indexes z.places) e n)
 
 some_entry : (ids : List (Ids ℕ)) (s : ℕ) → empty_on ids s ≡ false → (n : ℕ) × (i : ℕ) × (leads (entry_on ids) s n ≡ Some i)
 some_entry ids s e = go (slice_get ids s) e
@@ -55,36 +47,30 @@ some_entry ids s e = go (slice_get ids s) e
 not_dead : (nodes : List (Option Node)) (ids : List (Ids ℕ)) (s : ℕ) → fell nodes s ≡ true → dead_on nodes ids s ≡ false → (n : ℕ) × (i : ℕ) × (leads (entry_on ids) s n ≡ Some i)
 not_dead nodes ids s f e = some_entry ids s (sym (ap (λ b. b && empty_on ids s) f) ∙ e)
 
-module _ (pid_max : ℕ) (nodes : List (Option Node)) (ids ids1 : List (Ids ℕ)) (names names' : ℕ → Option Identifier)
-    (old : IsWhole pid_max (way nodes) (entry_on ids) (bound_on ids) names (fell nodes)) (b : IsNumbering pid_max (way nodes) (entry_on ids1) (bound_on ids1) names')
-    (space : ℕ) (kept : (s n : ℕ) → contains (way nodes space) s ≡ false → entry_on ids1 s n ≡ entry_on ids s n) where
+-- the numbers of an identifier are free again: the others, and what was known before
+pub record IsReleased (pid_max : ℕ) (nodes : List (Option Node)) (ids ids1 : List (Ids ℕ)) (names names' : ℕ → Option Identifier) (space : ℕ) : Type 0 where
+  pub old : IsWhole pid_max (way nodes) (entry_on ids) (bound_on ids) names (fell nodes)
+  pub after : IsNumbering pid_max (way nodes) (entry_on ids1) (bound_on ids1) names'
+  pub kept : (s n : ℕ) → contains (way nodes space) s ≡ false → entry_on ids1 s n ≡ entry_on ids s n
+
+module _ {pid_max : ℕ} {nodes : List (Option Node)} {ids ids1 : List (Ids ℕ)} {names names' : ℕ → Option Identifier} {space : ℕ} (r : IsReleased pid_max nodes ids ids1 names names' space) where
   empty : (s n : ℕ) → dead_on nodes ids1 s ≡ true → entry_on ids1 s n ≡ None
-  empty s n e = no_entry ids1 s (both (fell nodes s) (empty_on ids1 s) e).1 n
+  empty s n e = no_entry ids1 s (and_parts (fell nodes s) (empty_on ids1 s) e).1 n
 
   on : (s : ℕ) → dead_on nodes ids1 s ≡ true → contains (way nodes space) s ≡ true
-  on s dead = elim (sweeps.cases (contains (way nodes space) s)) [
-    | inl within ↦ within
-    | inr without ↦
-        let r = old.fallen.held s (dead_fell nodes ids1 s dead) in
-        absurd (let bad : None ≡ Some r.1 = sym (ap (option_map (λ e. e.value)) (sym (kept s r.0 without) ∙ empty s r.0 dead)) ∙ r.2 in cc)
-  ]
+  on s dead = true_from_ne_false (contains (way nodes space) s) (λ without.
+      let h = r.old.fallen.held s (dead_fell nodes ids1 s dead) in
+      none-some h.1 (sym (ap (option_map (λ e. e.value)) (sym (r.kept s h.0 without) ∙ empty s h.0 dead)) ∙ h.2))
 
   inside : (s outer : ℕ) → contains (way nodes s) outer ≡ true → dead_on nodes ids1 outer ≡ true → dead_on nodes ids1 s ≡ true
-  inside s outer within dead = elim (sweeps.cases (dead_on nodes ids1 s)) [
-    | inl too ↦ too
-    | inr lives ↦
-        let p = sweeps.place_of (way nodes s) outer within in
-        let f = old.fallen.inner s p.0 p.1 (ap (fell nodes) p.2 ∙ dead_fell nodes ids1 outer dead) in
-        let r = not_dead nodes ids1 s f lives in
-        let m = sweeps.around-held pid_max (way nodes) (entry_on ids1) (bound_on ids1) names' b s p.0 r.0 r.1 p.1 r.2 in
-        absurd (let bad : None ≡ Some r.1 = sym (ap (λ z. leads (entry_on ids1) z m.0) p.2 ∙ ap (option_map (λ e. e.value)) (empty outer m.0 dead)) ∙ m.1 in cc)
-  ]
+  inside s outer within dead = true_from_ne_false (dead_on nodes ids1 s) (λ lives.
+      let p = sweeps.place_of (way nodes s) outer within in
+      let h = not_dead nodes ids1 s (r.old.fallen.inner s p.0 p.1 (ap (fell nodes) p.2 ∙ dead_fell nodes ids1 outer dead)) lives in
+      let m = sweeps.around-held pid_max (way nodes) (entry_on ids1) (bound_on ids1) names' r.after s p.0 h.0 h.1 p.1 h.2 in
+      none-some h.1 (sym (ap (λ z. leads (entry_on ids1) z m.0) p.2 ∙ ap (option_map (λ e. e.value)) (empty outer m.0 dead)) ∙ m.1))
 
   root : dead_on nodes ids1 0 ≡ false
-  root = elim (sweeps.cases (dead_on nodes ids1 0)) [
-    | inl dead ↦ absurd (let bad : true ≡ false = sym (dead_fell nodes ids1 0 dead) ∙ old.fallen.stands in cc)
-    | inr lives ↦ lives
-  ]
+  root = false_from_ne_true (dead_on nodes ids1 0) (λ dead. both_ways (fell nodes 0) r.old.fallen.stands (dead_fell nodes ids1 0 dead))
 
   -- the dead ones are on the path of the one where a number went
   pub around : AreAround nodes ids1 (way nodes space)
@@ -94,9 +80,9 @@ module _ (pid_max : ℕ) (nodes : List (Option Node)) (ids ids1 : List (Ids ℕ)
     -- all that is known holds of what is left
     pub whole-swept : IsTree (way nodes2) → IsWhole pid_max (way nodes2) (entry_on ids1) (bound_on ids1) names' (fell nodes2)
     whole-swept tree = record {
-      numbering = sweeps.numbering-swept pid_max (way nodes) (entry_on ids1) (bound_on ids1) names' b (dead_on nodes ids1) empty (way nodes2) way_left tree;
-      fallen = sweeps.fallen-swept pid_max (way nodes) (entry_on ids1) (bound_on ids1) names' b (dead_on nodes ids1) empty (way nodes2) way_left tree
-          (fell nodes) (fell nodes2) old.fallen.stands root old.fallen.inner fell_left (not_dead nodes ids1);
+      numbering = sweeps.numbering-swept pid_max (way nodes) (entry_on ids1) (bound_on ids1) names' r.after (dead_on nodes ids1) empty (way nodes2) way_left tree;
+      fallen = sweeps.fallen-swept pid_max (way nodes) (entry_on ids1) (bound_on ids1) names' r.after (dead_on nodes ids1) empty (way nodes2) way_left tree
+          (fell nodes) (fell nodes2) r.old.fallen.stands root r.old.fallen.inner fell_left (not_dead nodes ids1);
     }
       where
         way_left : (s : ℕ) → way nodes2 s ≡ if dead_on nodes ids1 s then [] else way nodes s
@@ -111,21 +97,9 @@ module _ (pid_max : ℕ) (tree : Tree) (ids : List (Ids ℕ)) (idents : Table) (
   mid = numbering_of pid_max tree ids idents
 
   empty_taken : (s : ℕ) → empty_on ids s ≡ (length (taken_in mid s) == 0)
-  empty_taken s = elim (sweeps.cases (empty_on ids s)) [
-    | inl none ↦ none ∙ sym (elim (sweeps.cases (length (taken_in mid s) == 0)) [
-      | inl e ↦ e
-      | inr e ↦
-          let r = sweeps.one_in (taken_in mid s) e in
-          absurd (let bad : false ≡ true = sym (ap is_some (no_entry ids s none r.0)) ∙ taken_same pid_max tree ids idents b s r.0 ∙ r.1 in cc)
-    ])
-    | inr some ↦ some ∙ sym (elim (sweeps.cases (length (taken_in mid s) == 0)) [
-      | inr e ↦ e
-      | inl e ↦
-          let r = some_entry ids s some in
-          let x = at_key (entry_on ids s r.0) r.1 r.2 in
-          absurd (let bad : true ≡ false = sym (ap is_some x.1) ∙ taken_same pid_max tree ids idents b s r.0 ∙ sweeps.none_in (taken_in mid s) e r.0 in cc)
-    ])
-  ]
+  empty_taken s =
+      sweeps.empty_by (empty_on ids s) (taken_in mid s) (λ none n. sym (taken_same pid_max tree ids idents b s n) ∙ ap is_some (no_entry ids s none n))
+      (λ some. let r = some_entry ids s some in (r.0, sym (taken_same pid_max tree ids idents b s r.0) ∙ ap is_some (at_key (entry_on ids s r.0) r.1 r.2).1))
 
   pub swept-same : (nodes : List (Option Node)) → ((s : ℕ) → node_in nodes s ≡ if dead_on tree.nodes ids s then None else node_in tree.nodes s) → (s : ℕ) → option_map (namespace_of (cursor_on ids s)) (node_in nodes s) ≡ swept_at mid s
   swept-same nodes left s =
@@ -147,43 +121,26 @@ module _ (pid_max : ℕ) (tree : Tree) (ids : List (Ids ℕ)) (idents : Table) (
   nothing-dead f s = views.space_is pid_max tree ids idents s ∙ swept-same tree.nodes (λ t. sym (ap (λ g. if g then None else node_in tree.nodes t) (lives t))) s
     where
       lives : (t : ℕ) → dead_on tree.nodes ids t ≡ false
-      lives t = elim (sweeps.cases (dead_on tree.nodes ids t)) [
-        | inr e ↦ e
-        | inl e ↦
-            let r = f.held t (dead_fell tree.nodes ids t e) in
-            absurd (let bad : None ≡ Some r.1 = sym (ap (option_map (λ e. e.value)) (no_entry ids t (both (fell tree.nodes t) (empty_on ids t) e).1 r.0)) ∙ r.2 in cc)
-      ]
+      lives t = false_from_ne_true (dead_on tree.nodes ids t) (λ e.
+          let r = f.held t (dead_fell tree.nodes ids t e) in
+          none-some r.1 (sym (ap (option_map (λ e. e.value)) (no_entry ids t (and_parts (fell tree.nodes t) (empty_on ids t) e).1 r.0)) ∙ r.2))
 
 -- what a sweep leaves does not hang on the key of the next identifier
 pub swept-next : (b : Numbering) (next s : ℕ) → swept_at b s ≡ swept_at (record b { next = next }) s
 unfolding taken_in
 swept-next b next s = refl
 
--- the identifier that lost its last use
-pub last_one : (pid_max : ℕ) (tree : Tree) (ids : List (Ids ℕ)) (idents : Table) (idents1 : Table) (b : Numbering) → numbering_of pid_max tree ids idents ≡ b → (i : ℕ) (kind : Kind) → is_used_as kind (identifier_at b i) ≡ true
-    → ((u : Identifier) → name_at idents i ≡ Some u → name_at idents1 i ≡ Some (less kind u)) → (gone : Identifier) → name_at idents1 i ≡ Some gone
-    → (v : Identifier) × (name_at idents i ≡ Some v) × (gone.space ≡ v.space) × (gone.numbers ≡ v.numbers)
-last_one pid_max tree ids idents idents1 b view i kind used here gone is =
-    let v = views.used kind (name_at idents i) (ap (is_used_as kind) (sym (views.identifier_is pid_max tree ids idents b view i)) ∙ used) in
-    let g : gone ≡ less kind v.0 = ap (λ o. option_map_or (λ y. y) o gone) (sym is ∙ here v.0 v.1) in
-    (v.0, v.1, ap (λ u. u.space) g ∙ ties.space-kept kind (uses kind v.0 - 1) v.0, ap (λ u. u.numbers) g ∙ ties.numbers-kept kind (uses kind v.0 - 1) v.0)
-
-pub gone-len : (ways : ℕ → List ℕ) (names : ℕ → Option Identifier) (see : ℕ → ℕ → Option ℕ) → IsTied ways names see → (i : ℕ) (gone : Identifier)
-    → (v : Identifier) × (names i ≡ Some v) × (gone.space ≡ v.space) × (gone.numbers ≡ v.numbers) → length gone.numbers ≡ length (ways gone.space)
-gone-len ways names see t i gone one = ap length one.3 ∙ t.full i one.0 one.1 ∙ ap (λ s. length (ways s)) (sym one.2)
-
-module _ (pid_max : ℕ) (nodes : List (Option Node)) (ids ids1 : List (Ids ℕ)) (names names' : ℕ → Option Identifier) (b : IsNumbering pid_max (way nodes) (entry_on ids) (bound_on ids) names)
-    (i : ℕ) (gone : Identifier) (one : (v : Identifier) × (names i ≡ Some v) × (gone.space ≡ v.space) × (gone.numbers ≡ v.numbers)) (bounds : (s : ℕ) → bound_on ids1 s ≡ bound_on ids s)
-    (entries : (s n : ℕ) → entry_on ids1 s n ≡ touched (way nodes gone.space) gone.numbers (λ _. None) (entry_on ids) s n) where
-  -- what the release leaves
-  pub after-release : names' i ≡ None → ((j : ℕ) → j ≢ i → names' j ≡ names j) → IsNumbering pid_max (way nodes) (entry_on ids1) (bound_on ids1) names'
-  after-release now others =
-      ties.numbering-released pid_max (way nodes) (way nodes) (entry_on ids) (entry_on ids1) (bound_on ids) (bound_on ids1) names names' b (λ s. refl) bounds i one.0 others one.1 now
-      (λ s n. entries s n ∙ ap (λ p. touched (way nodes p) gone.numbers (λ _. None) (entry_on ids) s n) one.2 ∙ ap (λ l. touched (way nodes one.0.space) l (λ _. None) (entry_on ids) s n) one.3)
-
-  -- and in the other namespaces nothing has changed
-  pub off-release : (s n : ℕ) → contains (way nodes gone.space) s ≡ false → entry_on ids1 s n ≡ entry_on ids s n
-  off-release s n out = entries s n ∙ ties.touched-miss (way nodes gone.space) gone.numbers (λ _. None) (entry_on ids) s n (sweeps.off-path s (way nodes gone.space) gone.numbers (gone-len (way nodes) names (leads (entry_on ids)) b.tied i gone one) out n)
+-- what the release leaves, and in the other namespaces nothing has changed
+pub released : (pid_max : ℕ) (nodes : List (Option Node)) (ids ids1 : List (Ids ℕ)) (names names' : ℕ → Option Identifier) → IsWhole pid_max (way nodes) (entry_on ids) (bound_on ids) names (fell nodes)
+    → (i : ℕ) (gone v : Identifier) → names i ≡ Some v → (gone.space ≡ v.space) × (gone.numbers ≡ v.numbers) → ((s : ℕ) → bound_on ids1 s ≡ bound_on ids s)
+    → ((s n : ℕ) → entry_on ids1 s n ≡ touched (way nodes gone.space) gone.numbers (λ _. None) (entry_on ids) s n) → names' i ≡ None → ((j : ℕ) → j ≢ i → names' j ≡ names j) → IsReleased pid_max nodes ids ids1 names names' gone.space
+released pid_max nodes ids ids1 names names' old i gone v was path bounds entries now others = record {
+  old = old;
+  after =
+      ties.numbering-released pid_max (way nodes) (entry_on ids) (entry_on ids1) (bound_on ids) (bound_on ids1) names names' old.numbering bounds i v others was now
+      (λ s n. entries s n ∙ ap (λ p. touched (way nodes p) gone.numbers (λ _. None) (entry_on ids) s n) path.0 ∙ ap (λ l. touched (way nodes v.space) l (λ _. None) (entry_on ids) s n) path.1);
+  kept = λ s n out. entries s n ∙ ties.touched-miss (way nodes gone.space) gone.numbers (λ _. None) (entry_on ids) s n (λ hit. none-some n (sym (sweeps.off-path s (way nodes gone.space) gone.numbers out) ∙ hit));
+}
 
 -- a namespace in which an identifier has a number has it in use
 pub taken-some : (b : Numbering) (i s n : ℕ) → number_of b i s ≡ Some n → 0 < length (taken_in b s)

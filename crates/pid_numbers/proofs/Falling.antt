@@ -1,7 +1,8 @@
 -- The tasks of a namespace lead to all namespaces inside it.
 use Rattle.std.proofs.Common.{◌≡◌, ◌≢◌, ◌⊎◌, inl, inr, ℕ, ◌+◌, ◌<◌, ◌≤◌, ◌||◌, Bool, true, false, List, [], get_or, Option, Some, None, IsSome, option_map, refl, sym, ap, subst, ◌∙◌, arith}
 use Rattle.std.specs.Option.{option_map_or}
-use Rattle.std.proofs.lemmas.Bool.{cases_eq, cases_lt}
+use Rattle.std.proofs.lemmas.Bool.{cases_eq, cases_lt, both_ways, false≢true, or_right}
+use Rattle.std.proofs.lemmas.Option.{none-some, same_Some}
 use Rattle.pid_types.specs.Chains.{contains}
 use Rattle.pid_types.specs.declared.call.Kind.TheVariants.{Task}
 use Rattle.index_array.specs.Place.{Entry, index_count, is_marked}
@@ -44,36 +45,21 @@ module _ (ways : ℕ → List ℕ) (names : ℕ → Option Identifier) (at : ℕ
   pub led : (n : ℕ) → is_marked 0 (at outer n) ≡ true → IsLed ways names at outer n
   led n marked = go (at outer n) refl marked
     where
-      named : (e : Entry ℕ) → at outer n ≡ Some e → (o : Option Identifier) → names e.value ≡ o → IsLed ways names at outer n
-      named e is None none =
-          let bad = tied.found outer n e.value (ap (option_map (λ (e : Entry ℕ). e.value)) is) in
-          absurd (let z : None ≡ Some n = ap (number_in ways outer) (sym none) ∙ bad in cc)
-      named e is (Some u) some = record {
-        key = e.value;
-        identifier = u;
-        leads = ap (option_map (λ (e : Entry ℕ). e.value)) is;
-        named = some;
-        has = ap (number_in ways outer) (sym some) ∙ tied.found outer n e.value (ap (option_map (λ (e : Entry ℕ). e.value)) is);
-      }
+      named : (e : Entry ℕ) → at outer n ≡ Some e → (o : Option Identifier) → names e.value ≡ o → number_in ways outer o ≡ Some n → IsLed ways names at outer n
+      named e is None none has = absurd (none-some n has)
+      named e is (Some u) some has = record { key = e.value; identifier = u; leads = ap (option_map (λ (e : Entry ℕ). e.value)) is; named = some; has = has }
 
       go : (o : Option (Entry ℕ)) → at outer n ≡ o → is_marked 0 o ≡ true → IsLed ways names at outer n
       go None is m = absurd (cc)
-      go (Some e) is m = named e is (names e.value) refl
+      go (Some e) is m = named e is (names e.value) refl (tied.found outer n e.value (ap (option_map (λ (e : Entry ℕ). e.value)) is))
 
   -- and a task's number is marked
   pub marked : (n i : ℕ) (u : Identifier) → names i ≡ Some u → number_in ways outer (Some u) ≡ Some n → is_used_as Task (Some u) ≡ true → is_marked 0 (at outer n) ≡ true
-  marked n i u named has used = go (at outer n) refl (tied.kept outer n i (ap (number_in ways outer) named ∙ has))
-    where
-      go : (o : Option (Entry ℕ)) → at outer n ≡ o → option_map (λ (e : Entry ℕ). e.value) o ≡ Some i → is_marked 0 o ≡ true
-      go None is led = absurd (cc)
-      go (Some e) is led =
-          let value : e.value ≡ i = ap (λ o. option_map_or (λ n. n) o e.value) led in
-          ap (λ ms. get_or ms 0 false) (marks outer n e is) ∙ ap (λ o. is_used_as Task o) (ap names value ∙ named) ∙ used
+  marked n i u named has used =
+      let e = ties.at_key (at outer n) i (tied.kept outer n i (ap (number_in ways outer) named ∙ has)) in
+      ap (is_marked 0) e.1 ∙ ap (λ ms. get_or ms 0 false) (marks outer n e.0 e.1) ∙ ap (is_used_as Task) (ap names e.2 ∙ named) ∙ used
 
   module _ (old : ℕ → Option Node) (path : (s : ℕ) → option_map_or (λ t. t.path) (old s) [] ≡ ways s) where
-    pub falling-first : IsFalling ways names outer old old 0
-    falling-first = record { so_far = λ s. inl refl; met = λ i n u named has below used. absurd (omega (arith, below)) }
-
     twice : (o : Option Node) → option_map felled (option_map felled o) ≡ option_map felled o
     twice None = refl
     twice (Some t) = refl
@@ -83,7 +69,7 @@ module _ (ways : ℕ → List ℕ) (names : ℕ → Option Identifier) (at : ℕ
     there s inside = go (old s) (path s)
       where
         go : (o : Option Node) → option_map_or (λ t. t.path) o [] ≡ ways s → has_fallen (option_map felled o) ≡ true
-        go None is = absurd (let z : false ≡ true = ap (λ p. contains p outer) is ∙ inside in cc)
+        go None is = absurd (false≢true (ap (λ p. contains p outer) is ∙ inside))
         go (Some t) is = refl
 
     -- so the one that a task's number leads to is there at each step
@@ -95,9 +81,7 @@ module _ (ways : ℕ → List ℕ) (names : ℕ → Option Identifier) (at : ℕ
       where
         go : (o : Option Node) → option_map felled o ≡ option_map felled (old l.identifier.space) → IsSome o
         go (Some t) e = refl
-        go None e =
-            let h = there l.identifier.space (inside-of ways outer n l.identifier l.has) in
-            absurd (let bad : false ≡ true = ap has_fallen e ∙ h in cc)
+        go None e = absurd (false≢true (ap has_fallen e ∙ there l.identifier.space (inside-of ways outer n l.identifier l.has)))
 
     -- one number more
     pub falling-more : (now now' : ℕ → Option Node) (from n : ℕ) → IsFalling ways names outer old now from → (l : IsLed ways names at outer n)
@@ -105,7 +89,10 @@ module _ (ways : ℕ → List ℕ) (names : ℕ → Option Identifier) (at : ℕ
         → now' l.identifier.space ≡ option_map felled (now l.identifier.space) → ((s : ℕ) → s ≢ l.identifier.space → now' s ≡ now s)
         → IsFalling ways names outer old now' (n + 1)
     falling-more now now' from n f l between here others = record {
-      so_far = λ s. so_far s (cases_eq s l.identifier.space);
+      so_far = λ s. elim (cases_eq s l.identifier.space) [
+        | inl same ↦ inr (subst (λ (z : ℕ). (contains (ways z) outer ≡ true) × (now' z ≡ option_map felled (old z))) (sym same) (inside, marked_now))
+        | inr differs ↦ elim (f.so_far s) [ inl same ↦ inl (others s differs ∙ same) | inr w ↦ inr (w.0, others s differs ∙ w.1) ]
+      ];
       met = met;
     }
       where
@@ -121,19 +108,8 @@ module _ (ways : ℕ → List ℕ) (names : ℕ → Option Identifier) (at : ℕ
           | inr w ↦ here ∙ ap (option_map felled) w.1 ∙ twice (old home)
         ]
 
-        so_far : (s : ℕ) → (s ≡ home) ⊎ (s ≢ home) → (now' s ≡ old s) ⊎ ((contains (ways s) outer ≡ true) × (now' s ≡ option_map felled (old s)))
-        so_far s (inl same) = inr (subst (λ (z : ℕ). (contains (ways z) outer ≡ true) × (now' z ≡ option_map felled (old z))) (sym same) (inside, marked_now))
-        so_far s (inr differs) = elim (f.so_far s) [
-          | inl same ↦ inl (others s differs ∙ same)
-          | inr w ↦ inr (w.0, others s differs ∙ w.1)
-        ]
-
         fallen_home : (s : ℕ) → s ≡ home → has_fallen (now' s) ≡ true
         fallen_home s same = ap (λ z. has_fallen (now' z)) same ∙ ap has_fallen marked_now ∙ there home inside
-
-        stays : (s : ℕ) → has_fallen (now s) ≡ true → (s ≡ home) ⊎ (s ≢ home) → has_fallen (now' s) ≡ true
-        stays s fallen (inl same) = fallen_home s same
-        stays s fallen (inr differs) = ap has_fallen (others s differs) ∙ fallen
 
         met : (i m : ℕ) (u : Identifier) → names i ≡ Some u → number_in ways outer (Some u) ≡ Some m → m < n + 1 → is_used_as Task (Some u) ≡ true → has_fallen (now' u.space) ≡ true
         met i m u named has below used = elim (cases_eq m n) [
@@ -142,15 +118,14 @@ module _ (ways : ℕ → List ℕ) (names : ℕ → Option Identifier) (at : ℕ
         ]
           where
             one : m ≡ n → u ≡ l.identifier
-            one same =
-                let key : Some i ≡ Some l.key = sym (tied.kept outer m i (ap (number_in ways outer) named ∙ has)) ∙ ap (leads at outer) same ∙ l.leads in
-                let is : i ≡ l.key = ap (λ o. option_map_or (λ k. k) o i) key in
-                ap (λ (o : Option Identifier). option_map_or (λ v. v) o u) (sym named ∙ ap names is ∙ l.named)
+            one same = same_Some u l.identifier (sym named ∙ ap names (same_Some i l.key (sym (tied.kept outer m i (ap (number_in ways outer) named ∙ has)) ∙ ap (leads at outer) same ∙ l.leads)) ∙ l.named)
 
             before : m ≢ n → (m < from) ⊎ (from ≤ m) → has_fallen (now' u.space) ≡ true
-            before differs (inl less) = stays u.space (f.met i m u named has less used) (cases_eq u.space home)
-            before differs (inr more) =
-                absurd (let z : false ≡ true = sym (between m more (omega (arith, below, differs))) ∙ marked m i u named has used in cc)
+            before differs (inl less) = elim (cases_eq u.space home) [
+              | inl same ↦ fallen_home u.space same
+              | inr off ↦ ap has_fallen (others u.space off) ∙ f.met i m u named has less used
+            ]
+            before differs (inr more) = absurd (both_ways (is_marked 0 (at outer m)) (between m more (omega (arith, below, differs))) (marked m i u named has used))
 
     -- when no number is left, all inside have fallen
     pub falling-all : (now : ℕ → Option Node) (from : ℕ) → IsFalling ways names outer old now from
@@ -166,20 +141,14 @@ module _ (ways : ℕ → List ℕ) (names : ℕ → Option Identifier) (at : ℕ
             let below = range some.0 t.key (tied.kept outer some.0 t.key (ap (number_in ways outer) t.named ∙ some.1)) in
             elim (cases_lt some.0 from) [
               | inl less ↦ ap (λ z. has_fallen (now z)) (sym t.own) ∙ f.met t.key some.0 t.identifier t.named some.1 less t.used
-              | inr more ↦ absurd (let z : false ≡ true = sym (none some.0 more below) ∙ marked some.0 t.key t.identifier t.named some.1 t.used in cc)
+              | inr more ↦ absurd (both_ways (is_marked 0 (at outer some.0)) (none some.0 more below) (marked some.0 t.key t.identifier t.named some.1 t.used))
             ]
 
         stands : (t : Node) → old s ≡ Some t → t.path ≡ ways s → now s ≡ old s → (b : Bool) → contains (ways s) outer ≡ b → (c : Bool) → t.fallen ≡ c
             → Some t ≡ Some (record t { fallen = c || b })
         stands t is p same false off false stood = ap (λ z. Some (record t { fallen = z })) stood
         stands t is p same b off true fell = ap (λ z. Some (record t { fallen = z })) fell
-        stands t is p same true inside false stood =
-            let fell = in_range (homes s inside (ap has_fallen is ∙ stood)) inside in
-            absurd (let z : false ≡ true = sym (ap has_fallen (same ∙ is) ∙ stood) ∙ fell in cc)
-
-        or_true : (b : Bool) → (b || true) ≡ true
-        or_true true = refl
-        or_true false = refl
+        stands t is p same true inside false stood = absurd (both_ways (has_fallen (now s)) (ap has_fallen (same ∙ is) ∙ stood) (in_range (homes s inside (ap has_fallen is ∙ stood)) inside))
 
         by : (o : Option Node) → old s ≡ o → option_map_or (λ t. t.path) o [] ≡ ways s
             → (now s ≡ old s) ⊎ ((contains (ways s) outer ≡ true) × (now s ≡ option_map felled (old s))) → now s ≡ option_map (felled_within outer) o
@@ -190,4 +159,4 @@ module _ (ways : ℕ → List ℕ) (names : ℕ → Option Identifier) (at : ℕ
             ∙ ap (λ q. Some (record t { fallen = t.fallen || contains q outer })) (sym p)
         by (Some t) is p (inr w) =
             w.1 ∙ ap (option_map felled) is
-            ∙ ap (λ z. Some (record t { fallen = z })) (sym (ap (λ q. t.fallen || contains q outer) p ∙ ap (λ b. t.fallen || b) w.0 ∙ or_true t.fallen))
+            ∙ ap (λ z. Some (record t { fallen = z })) (sym (ap (λ q. t.fallen || contains q outer) p ∙ or_right t.fallen (contains (ways s) outer) w.0))

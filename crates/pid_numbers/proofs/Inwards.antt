@@ -1,13 +1,13 @@
 -- The numbers from a namespace inwards.
-use Rattle.std.proofs.Common.{◌≡◌, ◌⊎◌, inl, inr, ℕ, zero, suc, ◌<◌, Bool, true, false, ◌==◌, ◌||◌, List, [], ◌∷◌, ◌++◌, length, get_or, take, if◌then◌else◌, refl, sym, ap, ◌∙◌, arith}
+use Rattle.std.proofs.Common.{◌≡◌, ℕ, zero, suc, ◌<◌, Bool, true, false, ◌==◌, ◌||◌, List, [], ◌∷◌, ◌++◌, length, get_or, take, if◌then◌else◌, refl, sym, ap, ◌∙◌, arith}
 use Rattle.std.specs.Prelude.{reverse}
-use Rattle.std.proofs.lemmas.Bool.{eq-eqb}
+use Rattle.std.proofs.lemmas.Bool.{eq-eqb, or_parts, false_from_ne_true}
 use Rattle.std.proofs.lemmas.List.{length-reverse, reverse-append}
 use Rattle.std.proofs.lemmas.List.Sorted.{list_any-IsPermutation, IsPermutation-reverse}
 use Rattle.pid_types.specs.Chains.{contains}
 use Rattle.pid_types.specs.Names.{beside_from}
 use Rattle.ns_tree.specs.Vacancy.{IsDistinct}
-use Rattle.ns_tree.proofs.Paths.{cases, contains_at, place_of}
+use Rattle.ns_tree.proofs.Paths.{contains_at, place_of}
 
 contains-reverse : (ts : List ℕ) (s : ℕ) → contains (reverse ts) s ≡ contains ts s
 contains-reverse ts s = sym (list_any-IsPermutation (λ m. m == s) ts (reverse ts) (IsPermutation-reverse ts))
@@ -36,13 +36,9 @@ module _ (s t n : ℕ) (ts ns : List ℕ) (len : length ns ≡ length ts) where
 pub from-place : (s : ℕ) (path numbers : List ℕ) → IsDistinct path → length numbers ≡ length path → (k : ℕ) → k < length path → get_or path k 0 ≡ s → beside_from s (reverse path) (reverse numbers) ≡ reverse (take (suc k) numbers)
 from-place s [] numbers d len k lt at = absurd (omega (arith, lt))
 from-place s (t ∷ ts) [] d len k lt at = absurd (omega (arith, len))
-from-place s (t ∷ ts) (n ∷ ns) d len zero lt at = outwards s t n ts ns (omega (arith, len)) ∙ go (cases (contains ts s))
-  where
-    go : (contains ts s ≡ true) ⊎ (contains ts s ≡ false) → (if contains ts s then beside_from s (reverse ts) (reverse ns) ++ n ∷ [] else (if t == s then n ∷ [] else [])) ≡ n ∷ []
-    go (inl on) = let p = place_of ts s on in absurd (d 0 (suc p.0) (omega arith) (omega (arith, p.1)) (at ∙ sym p.2))
-    go (inr off) =
-        ap (λ b. if b then beside_from s (reverse ts) (reverse ns) ++ n ∷ [] else (if t == s then n ∷ [] else [])) off
-        ∙ ap (λ b. if b then n ∷ [] else []) (eq-eqb t s at)
+from-place s (t ∷ ts) (n ∷ ns) d len zero lt at =
+    let off = false_from_ne_true (contains ts s) (λ on. let p = place_of ts s on in d 0 (suc p.0) (omega arith) (omega (arith, p.1)) (at ∙ sym p.2)) in
+    outwards s t n ts ns (omega (arith, len)) ∙ rw (off, eq-eqb t s at) refl
 from-place s (t ∷ ts) (n ∷ ns) d len (suc k) lt at =
     let low : k < length ts = omega (arith, lt) in
     let on : contains ts s ≡ true = ap (contains ts) (sym at) ∙ contains_at ts k low in
@@ -58,8 +54,4 @@ from-none s path numbers off = go (reverse path) (reverse numbers) (contains-rev
     go : (ts ns : List ℕ) → contains ts s ≡ false → beside_from s ts ns ≡ []
     go [] ns off = refl
     go (t ∷ ts) [] off = refl
-    go (t ∷ ts) (n ∷ ns) off = by (t == s) off (go ts ns)
-      where
-        by : (b : Bool) → (b || contains ts s) ≡ false → (contains ts s ≡ false → beside_from s ts ns ≡ []) → (if b then n ∷ ns else beside_from s ts ns) ≡ []
-        by true off again = absurd (cc)
-        by false off again = again off
+    go (t ∷ ts) (n ∷ ns) off = let r = or_parts (t == s) (contains ts s) off in rw r.0 (go ts ns r.1)

@@ -2,7 +2,9 @@
 use Rattle.std.proofs.Common.{inl, inr, zero, suc, ◌≡◌, ◌≢◌, ℕ, ◌<◌, Bool, true, List, [], ◌∷◌, length, get_or, set, Option, Some, refl, sym, ap, ◌∙◌, arith}
 use Rattle.std.specs.Prelude.{slice_get}
 use Rattle.std.proofs.lemmas.Bool.{cases_eq}
+use Rattle.std.proofs.lemmas.List.{length-set, get_or-set_same}
 use Rattle.std.proofs.lemmas.Option.{slice_get_read}
+use Rattle.ns_tree.proofs.Paths.{everywhere}
 
 module _ {X : Type 0} where
   -- what is at a key below their number
@@ -12,9 +14,7 @@ module _ {X : Type 0} where
   got (x ∷ xs) (suc k) lt = got xs k (omega (arith, lt))
 
   pub set_same : (xs : List X) (k : ℕ) (y : X) → k < length xs → slice_get (set xs k y) k ≡ Some y
-  set_same [] k y lt = absurd (omega (arith, lt))
-  set_same (x ∷ xs) zero y lt = refl
-  set_same (x ∷ xs) (suc k) y lt = set_same xs k y (omega (arith, lt))
+  set_same xs k y lt = slice_get_read (set xs k y) (length xs) k y (sym (length-set xs k y)) lt (sym (get_or-set_same xs k y y lt))
 
   pub set_other : (xs : List X) (k s : ℕ) (y : X) → s ≢ k → slice_get (set xs k y) s ≡ slice_get xs s
   set_other [] k s y differs = refl
@@ -39,10 +39,7 @@ module _ {X : Type 0} where
   module _ {old : List X} {key : ℕ} {was now : X} (w : Written old key was now) where
     -- what it shows as before is shown everywhere as before
     pub same : {Y : Type 0} (f : Option X → Y) → f (Some now) ≡ f (Some was) → (s : ℕ) → f (slice_get (set old key now) s) ≡ f (slice_get old s)
-    same f e s = elim (cases_eq s key) [
-      | inl at ↦ ap (λ s. f (slice_get (set old key now) s)) at ∙ ap f w.after ∙ e ∙ sym (ap f w.before) ∙ sym (ap (λ s. f (slice_get old s)) at)
-      | inr differs ↦ ap f (w.others s differs)
-    ]
+    same f e = everywhere (λ s. f (slice_get (set old key now) s)) (λ s. f (slice_get old s)) key (ap f w.after ∙ e ∙ sym (ap f w.before)) (λ s differs. ap f (w.others s differs))
 
     -- and what is true of it stays true everywhere
     pub kept : (f : Option X → Bool) → (f (Some was) ≡ true → f (Some now) ≡ true) → (s : ℕ) → f (slice_get old s) ≡ true → f (slice_get (set old key now) s) ≡ true

@@ -3,11 +3,10 @@ pub mod Seats
 pub mod Ties
 pub mod Sweeps
 pub mod Views
+pub mod Uses
 pub mod Climbs
 pub mod Drops
-pub mod Adds
 pub mod Begins
 pub mod Inwards
 pub mod Model
 pub mod Falling
-pub mod Founded

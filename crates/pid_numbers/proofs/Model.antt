@@ -1,9 +1,10 @@
 -- The model's paths and numbers are those of the keys.
-use Rattle.std.proofs.Common.{◌≡◌, ◌≢◌, ◌⊎◌, inl, inr, ℕ, zero, suc, ◌<◌, ◌≤◌, Bool, true, false, ◌==◌, ◌||◌, List, [], ◌∷◌, ◌++◌, length, map, get_or, Option, Some, None, if◌then◌else◌, refl, sym, ap, ◌∙◌, arith, option_and_then}
+use Rattle.std.proofs.Common.{◌≡◌, ◌≢◌, ◌⊎◌, inl, inr, ℕ, zero, suc, ◌<◌, ◌≤◌, Bool, true, false, ◌==◌, List, [], ◌∷◌, ◌++◌, length, map, get_or, Option, Some, None, if◌then◌else◌, refl, sym, ap, ◌∙◌, arith, option_and_then}
 use Rattle.std.specs.Prelude.{reverse}
 use Rattle.std.specs.Option.{option_map_or}
-use Rattle.std.proofs.lemmas.Bool.{cases_eq, eq-eqb}
-use Rattle.std.proofs.lemmas.List.{length-reverse, reverse-append}
+use Rattle.std.proofs.lemmas.Bool.{cases_eq, eq-eqb, ne_eqb}
+use Rattle.std.proofs.lemmas.Option.{option_and_then_some}
+use Rattle.std.proofs.lemmas.List.{length-reverse, reverse-append, map-append}
 use Rattle.pid_types.specs.declared.plain.Space.{Space}
 use Rattle.pid_types.specs.declared.plain.Name.{Name}
 use Rattle.pid_types.specs.Chains.{climb}
@@ -12,19 +13,15 @@ use Rattle.pid_types.specs.Chains.{contains}
 use Rattle.pid_types.specs.State.{State, root_name}
 use Rattle.pid_types.specs.Names.{names_in_use, taken}
 use Rattle.pid_types.specs.Draw.{cyclic_draw, cursor_of, draw}
-use Rattle.std.specs.List.{filter_map, cons_option}
 use Rattle.cyclic_ids.proofs.Draws.{cyclic_draw-same}
 use Rattle.pid_numbers.specs.Numbering.{Numbering, Namespace, Identifier, namespace_at, identifier_at, number_of, number_in, path_at, taken_in, draw_in}
 use Rattle.ns_tree.specs.Tree.{IsPath}
 use Rattle.ns_tree.proofs.Paths.{distinct-path}
-use Rattle.pid_numbers.proofs.Ties.{beside-none, listed, listed_from}
+use Rattle.pid_numbers.proofs.Ties.{beside-none, among_from, among, listed}
 
 abbrev first : (ℕ → ℕ) → List ℕ → Option ℕ
 first id [] = None
 first id (q ∷ qs) = Some (id q)
-
-off_of : (a b : ℕ) → a ≢ b → (a == b) ≡ false
-off_of a b m = grind (arith, m)
 
 -- beside the id is what is beside the key
 pub beside-ids : (id : ℕ → ℕ) (s : ℕ) (p ns : List ℕ) → ((t : ℕ) → id t ≡ id s → t ≡ s) → beside (id s) (map id p) ns ≡ beside s p ns
@@ -34,7 +31,7 @@ beside-ids id s (t ∷ ts) (n ∷ ns) only = go (beside-ids id s ts ns only) (ca
   where
     go : beside (id s) (map id ts) ns ≡ beside s ts ns → (t ≡ s) ⊎ (t ≢ s) → (if id t == id s then Some n else beside (id s) (map id ts) ns) ≡ (if t == s then Some n else beside s ts ns)
     go again (inl e) = rw (eq-eqb t s e, eq-eqb (id t) (id s) (ap id e)) refl
-    go again (inr m) = rw (off_of t s m, off_of (id t) (id s) (λ e. m (only t e))) again
+    go again (inr m) = rw (ne_eqb t s m, ne_eqb (id t) (id s) (λ e. m (only t e))) again
 
 abbrev either : Option ℕ → Option ℕ → Option ℕ
 either None b = b
@@ -74,7 +71,7 @@ module _ (ways : ℕ → List ℕ) where
       go (inl same) =
           let none : beside s ts ns ≡ None = beside-none s ts ns (λ j lt z. distinct-path ways (t ∷ ts) h 0 (suc j) (omega arith) (omega (arith, lt)) (same ∙ sym z)) in
           rw (none, eq-eqb t s same) refl
-      go (inr m) = rw (off_of t s m) (plain (beside s ts ns))
+      go (inr m) = rw (ne_eqb t s m) (plain (beside s ts ns))
 
   module _ (spaces : List Space) (id : ℕ → ℕ) (up : (s : ℕ) (rest : List ℕ) → ways s ≡ s ∷ rest → parent_space spaces (id s) ≡ first id rest) where
     climb-is : (fuel s : ℕ) (rest : List ℕ) → IsPath ways (s ∷ rest) → length (s ∷ rest) ≤ fuel → climb (parent_space spaces) fuel (id s) ≡ map id (s ∷ rest)
@@ -102,40 +99,9 @@ module _ (ways : ℕ → List ℕ) where
         ∙ beside-ids id s (reverse (t ∷ rest)) (reverse ns) only
         ∙ beside-reverse s (t ∷ rest) ns h len
       where
-        map-append : (xs ys : List ℕ) → map id (xs ++ ys) ≡ map id xs ++ map id ys
-        map-append [] ys = refl
-        map-append (x ∷ xs) ys = ap (λ l. id x ∷ l) (map-append xs ys)
-
         map-reverse : (p : List ℕ) → reverse (map id p) ≡ map id (reverse p)
         map-reverse [] = refl
-        map-reverse (x ∷ xs) = reverse-append (id x ∷ []) (map id xs) ∙ ap (λ l. l ++ id x ∷ []) (map-reverse xs) ∙ sym (ap (map id) (reverse-append (x ∷ []) xs) ∙ map-append (reverse xs) (x ∷ []))
-
-module _ {X : Type 0} (f : X → Option ℕ) (d : X) where
-  -- what is listed is some element's
-  among_from : (xs : List X) (n : ℕ) → contains (filter_map f xs) n ≡ true → (i : ℕ) × (i < length xs) × (f (get_or xs i d) ≡ Some n)
-  among_from [] n e = absurd (cc)
-  among_from (x ∷ xs) n e = go (λ h. among_from xs n h) (f x) refl e
-    where
-      go : (contains (filter_map f xs) n ≡ true → (i : ℕ) × (i < length xs) × (f (get_or xs i d) ≡ Some n)) → (o : Option ℕ) → f x ≡ o → contains (cons_option o (filter_map f xs)) n ≡ true → (i : ℕ) × (i < length (x ∷ xs)) × (f (get_or (x ∷ xs) i d) ≡ Some n)
-      go again None is e = let r = again e in (suc r.0, omega (arith, r.1), r.2)
-      go again (Some m) is e = elim (cases_eq m n) [
-        | inl same ↦ (0, omega arith, is ∙ ap Some same)
-        | inr differs ↦ let r = again (rw (off_of m n differs) at e) in (suc r.0, omega (arith, r.1), r.2)
-      ]
-
-  -- and each element's is listed
-  among : (xs : List X) (i n : ℕ) → i < length xs → f (get_or xs i d) ≡ Some n → contains (filter_map f xs) n ≡ true
-  among [] i n lt e = absurd (omega (arith, lt))
-  among (x ∷ xs) zero n lt e = rw (e, eq-eqb n n refl) refl
-  among (x ∷ xs) (suc i) n lt e = go (among xs i n (omega (arith, lt)) e) (f x)
-    where
-      or_right : (a b : Bool) → b ≡ true → (a || b) ≡ true
-      or_right true b e = refl
-      or_right false b e = e
-
-      go : contains (filter_map f xs) n ≡ true → (o : Option ℕ) → contains (cons_option o (filter_map f xs)) n ≡ true
-      go later None = later
-      go later (Some m) = or_right (m == n) (contains (filter_map f xs) n) later
+        map-reverse (x ∷ xs) = reverse-append (id x ∷ []) (map id xs) ∙ ap (λ l. l ++ id x ∷ []) (map-reverse xs) ∙ sym (ap (map id) (reverse-append (x ∷ []) xs) ∙ map-append id (reverse xs) (x ∷ []))
 
 same_test : (a b : Bool) → (a ≡ true → b ≡ true) → (b ≡ true → a ≡ true) → a ≡ b
 same_test true true f g = refl
@@ -154,11 +120,10 @@ draw-is state b sid s t at max cursor there back =
     ∙ ap (λ m. cyclic_draw m (cursor_of state sid) (taken_in b s)) max ∙ ap (λ k. cyclic_draw b.pid_max k (taken_in b s)) cursor
     ∙ sym (ap (option_and_then (λ t. cyclic_draw b.pid_max t.cursor (taken_in b s))) at)
   where
-    of_key : (i n : ℕ) → number_of b i s ≡ Some n → (o : Option Identifier) → identifier_at b i ≡ o → contains (taken state sid) n ≡ true
-    of_key i n e None is = absurd (let z : Some n ≡ None = sym e ∙ ap (number_in (path_at b) s) is in cc)
-    of_key i n e (Some u) is =
+    of_key : (i n : ℕ) → number_of b i s ≡ Some n → contains (taken state sid) n ≡ true
+    of_key i n e = option_and_then_some (λ u. beside s (path_at b u.space) u.numbers) (identifier_at b i) n e (λ u is h.
         let r = there i u is in
-        among (λ name. number state.spaces name sid) root_name (names_in_use state.rows) r.0 n r.1 (r.2 ∙ e)
+        among (λ name. number state.spaces name sid) root_name (names_in_use state.rows) r.0 n r.1 (r.2 ∙ e))
 
     same : (n : ℕ) → contains (taken state sid) n ≡ contains (taken_in b s) n
     same n = same_test (contains (taken state sid) n) (contains (taken_in b s) n)
@@ -166,4 +131,4 @@ draw-is state b sid s t at max cursor there back =
         let r = among_from (λ name. number state.spaces name sid) root_name (names_in_use state.rows) n e in
         let k = back r.0 r.1 in
         listed (number_in (path_at b) s) refl b.names k.0 n (sym k.1 ∙ r.2))
-        (λ e. let r = listed_from (number_in (path_at b) s) b.names n e in of_key r.0 n r.1 (identifier_at b r.0) refl)
+        (λ e. let r = among_from (number_in (path_at b) s) None b.names n e in of_key r.0 n r.2)

@@ -4,7 +4,7 @@ use Rattle.std.proofs.lemmas.List.{length-map, length-set}
 use Rattle.std.proofs.lemmas.Bool.{cases_eq}
 use Rattle.pid_numbers.specs.declared.idents.Ident.{Ident}
 use Rattle.pid_numbers.specs.Numbering.{Identifier}
-use Rattle.pid_numbers.specs.Table.{identifier_of, shown, IsTable}
+use Rattle.pid_numbers.specs.Table.{Table, identifier_of, get, name_at, shown, ChangesPlace, IsTable}
 use Rattle.ns_tree.proofs.Filled as filled
 use Rattle.ns_tree.proofs.Vacancy as vacancy
 
@@ -46,3 +46,16 @@ module _ (places : List Ident) (key : ℕ) (y z : Ident) (lt : key < length plac
         ]);
     few = let n = length-set places key z in let f = t.few in omega (arith, n, f);
   }
+
+-- an identifier that was put into the place with the key
+pub record IsPut (old new : Table) (key : ℕ) (u : Identifier) : Type 0 where
+  pub was : name_at old key ≡ None
+  pub now : name_at new key ≡ Some u
+  pub others : (j : ℕ) → j ≢ key → name_at new j ≡ name_at old j
+
+pub put : (old mid new : Table) (key at : ℕ) (x : Ident) (u : Identifier) → identifier_of x ≡ u → get old key ≡ None → mid ≡ record old { ready = mid.ready } → key ≡ at → ChangesPlace mid new at (Some x) → IsPut old new key u
+put old mid new key at x u e vacant same is changes = record {
+  was = ap (option_map identifier_of) vacant;
+  now = ap (name_at new) is ∙ ap (option_map identifier_of) changes.changed ∙ ap Some e;
+  others = λ j differs. ap (option_map identifier_of) (changes.others j (λ e. differs (e ∙ sym is))) ∙ ap (λ t. name_at t j) same;
+}

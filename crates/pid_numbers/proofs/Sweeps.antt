@@ -1,7 +1,8 @@
 -- Namespaces that fall, and those that go.
-use Rattle.std.proofs.Common.{◌≡◌, ◌≢◌, ◌⊎◌, inl, inr, ℕ, zero, suc, ◌+◌, ◌-◌, ◌<◌, Bool, true, false, ◌==◌, ◌||◌, List, [], ◌∷◌, length, get_or, Option, Some, None, is_some, if◌then◌else◌, refl, sym, ap, subst, ◌∙◌, arith, option_map}
+use Rattle.std.proofs.Common.{◌≡◌, ◌≢◌, inl, inr, ℕ, zero, suc, ◌+◌, ◌-◌, ◌<◌, Bool, true, false, ◌==◌, ◌||◌, List, [], ◌∷◌, length, get_or, Option, Some, None, is_some, if◌then◌else◌, refl, sym, ap, subst, ◌∙◌, arith, option_map}
 use Rattle.std.specs.Prelude.{MatchBool}
-use Rattle.std.proofs.lemmas.Bool.{cases_eq, eq-eqb}
+use Rattle.std.proofs.lemmas.Bool.{cases_eq, eq-eqb, ne_eqb, or_cases, or_left, or_right, both_ways, false_from_ne_true, true≢false, false≢true}
+use Rattle.std.proofs.lemmas.Option.{none-some}
 use Rattle.std.proofs.lemmas.Bool.Decides.{nat_tests}
 use Rattle.pid_types.specs.Chains.{contains}
 use Rattle.pid_types.specs.Names.{beside}
@@ -46,26 +47,14 @@ kept-with pid_max tree ids ids' idents idents' k count numbering more = record {
 pub beside-at : (s : ℕ) (path numbers : List ℕ) → length numbers ≡ length path → contains path s ≡ true → (n : ℕ) × (beside s path numbers ≡ Some n)
 beside-at s [] numbers len e = absurd (cc)
 beside-at s (t ∷ ts) [] len e = absurd (omega (arith, len))
-beside-at s (t ∷ ts) (n ∷ ns) len e = go (λ h. beside-at s ts ns (omega (arith, len)) h) (cases_eq t s) e
-  where
-    go : (contains ts s ≡ true → (m : ℕ) × (beside s ts ns ≡ Some m)) → (t ≡ s) ⊎ (t ≢ s) → (t == s || contains ts s) ≡ true → (m : ℕ) × (beside s (t ∷ ts) (n ∷ ns) ≡ Some m)
-    go again (inl same) e = (n, ap (λ b. if b then Some n else beside s ts ns) (eq-eqb t s same))
-    go again (inr differs) e =
-        let off : (t == s) ≡ false = grind (arith, differs) in
-        let r = again (rw off at e) in
-        (r.0, ap (λ b. if b then Some n else beside s ts ns) off ∙ r.1)
+beside-at s (t ∷ ts) (n ∷ ns) len e = elim (cases_eq t s) [
+  | inl same ↦ (n, rw (eq-eqb t s same) refl)
+  | inr differs ↦ let r = beside-at s ts ns (omega (arith, len)) (rw (ne_eqb t s differs) at e) in (r.0, rw (ne_eqb t s differs) r.1)
+]
 
 -- where nothing stands beside a key it is none of the path
-pub off-path : (s : ℕ) (path numbers : List ℕ) → length numbers ≡ length path → contains path s ≡ false → (n : ℕ) → beside s path numbers ≢ Some n
-off-path s [] numbers len off n e = absurd (cc)
-off-path s (t ∷ ts) [] len off n e = absurd (omega (arith, len))
-off-path s (t ∷ ts) (m ∷ ms) len off n e = go (λ h. off-path s ts ms (omega (arith, len)) h n) (cases_eq t s) off e
-  where
-    go : (contains ts s ≡ false → beside s ts ms ≢ Some n) → (t ≡ s) ⊎ (t ≢ s) → (t == s || contains ts s) ≡ false → (if t == s then Some m else beside s ts ms) ≡ Some n → ⊥
-    go again (inl same) off e = let on : true ≡ false = sym (ap (λ b. b || contains ts s) (eq-eqb t s same)) ∙ off in cc
-    go again (inr differs) off e =
-        let no : (t == s) ≡ false = grind (arith, differs) in
-        again (rw no at off) (rw no at e)
+pub off-path : (s : ℕ) (path numbers : List ℕ) → contains path s ≡ false → beside s path numbers ≡ None
+off-path s path numbers off = ties.beside-none s path numbers (λ j lt at. both_ways (contains path s) off (ap (contains path) (sym at) ∙ contains_at path j lt))
 
 module _ (pid_max : ℕ) (ways : ℕ → List ℕ) (at : ℕ → ℕ → Option (Entry ℕ)) (bound : ℕ → Option ℕ) (names : ℕ → Option Identifier) (b : IsNumbering pid_max ways at bound names) where
   -- a number in a namespace comes with one in each namespace around it
@@ -74,21 +63,14 @@ module _ (pid_max : ℕ) (ways : ℕ → List ℕ) (at : ℕ → ℕ → Option 
     where
       go : (o : Option Identifier) → names i ≡ o → number_in ways t o ≡ Some n → (m : ℕ) × (leads at (get_or (ways t) j 0) m ≡ Some i)
       go None is has = absurd (cc)
-      go (Some u) is has = by_place (cases (contains (ways u.space) t))
-        where
-          len : length u.numbers ≡ length (ways u.space)
-          len = b.tied.full i u is
-
-          by_place : (contains (ways u.space) t ≡ true) ⊎ (contains (ways u.space) t ≡ false) → (m : ℕ) × (leads at (get_or (ways t) j 0) m ≡ Some i)
-          by_place (inr off) = absurd (off-path t (ways u.space) u.numbers len off n has)
-          by_place (inl on) =
-              let p = place_of (ways u.space) t on in
-              let lt' : j < length (ways (get_or (ways u.space) p.0 0)) = subst (λ (q : ℕ). j < length (ways q)) (sym p.2) lt in
-              let r = paths.around-around ways b.tree u.space p.0 j p.1 lt' in
-              let key : get_or (ways u.space) (p.0 + j) 0 ≡ get_or (ways t) j 0 = r.1 ∙ ap (λ q. get_or (ways q) j 0) p.2 in
-              let on' : contains (ways u.space) (get_or (ways t) j 0) ≡ true = ap (contains (ways u.space)) (sym key) ∙ contains_at (ways u.space) (p.0 + j) r.0 in
-              let m = beside-at (get_or (ways t) j 0) (ways u.space) u.numbers len on' in
-              (m.0, b.tied.kept (get_or (ways t) j 0) m.0 i (ap (number_in ways (get_or (ways t) j 0)) is ∙ m.1))
+      go (Some u) is has =
+          let p = ties.beside-some t n (ways u.space) u.numbers has in
+          let lt' : j < length (ways (get_or (ways u.space) p.0 0)) = subst (λ (q : ℕ). j < length (ways q)) (sym p.2) lt in
+          let r = paths.around-around ways b.tree u.space p.0 j p.1 lt' in
+          let key : get_or (ways u.space) (p.0 + j) 0 ≡ get_or (ways t) j 0 = r.1 ∙ ap (λ q. get_or (ways q) j 0) p.2 in
+          let on : contains (ways u.space) (get_or (ways t) j 0) ≡ true = ap (contains (ways u.space)) (sym key) ∙ contains_at (ways u.space) (p.0 + j) r.0 in
+          let m = beside-at (get_or (ways t) j 0) (ways u.space) u.numbers (b.tied.full i u is) on in
+          (m.0, b.tied.kept (get_or (ways t) j 0) m.0 i (ap (number_in ways (get_or (ways t) j 0)) is ∙ m.1))
 
   -- where there is no namespace no number is in use
   pub vacant-empty : (s n : ℕ) → ways s ≡ [] → at s n ≡ None
@@ -112,10 +94,7 @@ module _ (pid_max : ℕ) (ways : ℕ → List ℕ) (at : ℕ → ℕ → Option 
     stays s e = ways_are s ∙ ap (λ g. if g then [] else ways s) e
 
     not_gone : (s n i : ℕ) → leads at s n ≡ Some i → gone s ≡ false
-    not_gone s n i led = elim (cases (gone s)) [
-      | inl g ↦ absurd (let bad : None ≡ Some i = sym (ap (option_map (λ e. e.value)) (empty s n g)) ∙ led in cc)
-      | inr g ↦ g
-    ]
+    not_gone s n i led = false_from_ne_true (gone s) (λ g. none-some i (sym (ap (option_map (λ e. e.value)) (empty s n g)) ∙ led))
 
     -- no identifier stands in one that goes
     home_stays : (i : ℕ) (u : Identifier) → names i ≡ Some u → gone u.space ≡ false
@@ -125,28 +104,8 @@ module _ (pid_max : ℕ) (ways : ℕ → List ℕ) (at : ℕ → ℕ → Option 
         let m = beside-at u.space (ways u.space) u.numbers full (paths.own-in ways b.tree u.space (omega (arith, full, some))) in
         not_gone u.space m.0 i (b.tied.kept u.space m.0 i (ap (number_in ways u.space) is ∙ m.1))
 
-    number_stays : (s i : ℕ) → number_in ways' s (names i) ≡ number_in ways s (names i)
-    number_stays s i = go (names i) refl
-      where
-        go : (o : Option Identifier) → names i ≡ o → number_in ways' s o ≡ number_in ways s o
-        go None is = refl
-        go (Some u) is = ap (λ p. beside s p u.numbers) (stays u.space (home_stays i u is))
-
     pub numbering-swept : IsNumbering pid_max ways' at bound names
-    numbering-swept = record {
-      good = b.good;
-      bounds = b.bounds;
-      tree = tree';
-      tied = record {
-        found = λ s n i e. number_stays s i ∙ b.tied.found s n i e;
-        kept = λ s n i e. b.tied.kept s n i (sym (number_stays s i) ∙ e);
-        full = λ i u e. b.tied.full i u e ∙ ap length (sym (stays u.space (home_stays i u e)));
-        some = b.tied.some;
-        live = b.tied.live;
-      };
-      range = b.range;
-      marks = b.marks;
-    }
+    numbering-swept = ties.numbering-moved pid_max ways ways' at bound bound names b tree' b.bounds (λ i u is. stays u.space (home_stays i u is))
 
     module _ (fell fell' : ℕ → Bool) (stands : fell 0 ≡ false) (root : gone 0 ≡ false) (inner : (t j : ℕ) → j < length (ways t) → fell (get_or (ways t) j 0) ≡ true → fell t ≡ true)
         (fell_is : (s : ℕ) → fell' s ≡ if gone s then false else fell s) (rest : (s : ℕ) → fell s ≡ true → gone s ≡ false → (n : ℕ) × (i : ℕ) × (leads at s n ≡ Some i)) where
@@ -178,19 +137,23 @@ pub one_in : (ns : List ℕ) → (length ns == 0) ≡ false → (n : ℕ) × (co
 one_in [] e = absurd (cc)
 one_in (m ∷ ms) e = (m, ap (λ b. b || contains ms m) (eq-eqb m m refl))
 
+-- so a test is that of being empty, where it says so
+pub empty_by : (b : Bool) (ns : List ℕ) → (b ≡ true → (n : ℕ) → contains ns n ≡ false) → (b ≡ false → (n : ℕ) × (contains ns n ≡ true)) → b ≡ (length ns == 0)
+empty_by b ns none some = elim (cases b) [
+  | inl on ↦ elim (cases (length ns == 0)) [
+    | inl e ↦ on ∙ sym e
+    | inr e ↦ absurd (let r = one_in ns e in both_ways (contains ns r.0) (none on r.0) r.1)
+  ]
+  | inr off ↦ elim (cases (length ns == 0)) [
+    | inl e ↦ absurd (let r = some off in both_ways (contains ns r.0) (none_in ns e r.0) r.1)
+    | inr e ↦ off ∙ sym e
+  ]
+]
+
 -- where no number has an entry the list of those that have one is empty
 pub empty_is : (ps : List (Place ℕ)) (b : Bool) → MatchBool b ((n : ℕ) → entry_at ps n ≡ None) ((n : ℕ) × (is_some (entry_at ps n) ≡ true)) → b ≡ (length (indexes ps) == 0)
-empty_is ps true none = elim (cases (length (indexes ps) == 0)) [
-  | inl e ↦ sym e
-  | inr e ↦
-      let r = one_in (indexes ps) e in
-      let there : is_some (entry_at ps r.0) ≡ true = sym (contains_indexes ps r.0) ∙ r.1 in
-      absurd (let bad : true ≡ false = sym there ∙ ap is_some (none r.0) in cc)
-]
-empty_is ps false some = elim (cases (length (indexes ps) == 0)) [
-  | inl e ↦ absurd (let bad : false ≡ true = sym (none_in (indexes ps) e some.0) ∙ contains_indexes ps some.0 ∙ some.1 in cc)
-  | inr e ↦ sym e
-]
+empty_is ps true none = empty_by true (indexes ps) (λ on n. contains_indexes ps n ∙ ap is_some (none n)) (λ off. absurd (true≢false off))
+empty_is ps false some = empty_by false (indexes ps) (λ on. absurd (false≢true on)) (λ off. (some.0, contains_indexes ps some.0 ∙ some.1))
 
 -- what a slab shows of one that is there or not
 pub through : {X Y : Type 0} (h : X → Y) (g : Bool) (a b : X) → h (if g then a else b) ≡ if g then h a else h b
@@ -200,32 +163,17 @@ through h false a b = refl
 -- a namespace falls with all inside it
 module _ (pid_max : ℕ) (ways : ℕ → List ℕ) (at : ℕ → ℕ → Option (Entry ℕ)) (bound : ℕ → Option ℕ) (names : ℕ → Option Identifier) (b : IsNumbering pid_max ways at bound names) (fell fell' : ℕ → Bool) (f : AreFallen ways at fell)
     (outer : ℕ) (inner : outer ≢ 0) (falls : (s : ℕ) → fell' s ≡ (fell s || contains (ways s) outer)) (held : (s : ℕ) → contains (ways s) outer ≡ true → (n : ℕ) × (i : ℕ) × (leads at s n ≡ Some i)) where
-  either : (x y : Bool) → (x || y) ≡ true → (x ≡ true) ⊎ (y ≡ true)
-  either true y e = inl refl
-  either false y e = inr e
-
-  first : (x y : Bool) → x ≡ true → (x || y) ≡ true
-  first true y e = refl
-  first false y e = absurd (cc)
-
-  second : (x y : Bool) → y ≡ true → (x || y) ≡ true
-  second true y e = refl
-  second false y e = e
-
   pub fallen-fell : AreFallen ways at fell'
   fallen-fell = record {
-    stands =
-        let differs : 0 ≢ outer = λ e. inner (sym e) in
-        let off : (0 == outer) ≡ false = grind (arith, differs) in
-        falls 0 ∙ ap (λ p. fell 0 || contains p outer) b.tree.root ∙ ap (λ x. x || (0 == outer || false)) f.stands ∙ ap (λ x. x || false) off;
-    inner = λ t j lt e. elim (either (fell (get_or (ways t) j 0)) (contains (ways (get_or (ways t) j 0)) outer) (sym (falls (get_or (ways t) j 0)) ∙ e)) [
-      | inl was ↦ falls t ∙ first (fell t) (contains (ways t) outer) (f.inner t j lt was)
+    stands = falls 0 ∙ ap (λ p. fell 0 || contains p outer) b.tree.root ∙ ap (λ x. x || (0 == outer || false)) f.stands ∙ ap (λ x. x || false) (ne_eqb 0 outer (λ e. inner (sym e)));
+    inner = λ t j lt e. elim (or_cases (fell (get_or (ways t) j 0)) (contains (ways (get_or (ways t) j 0)) outer) (sym (falls (get_or (ways t) j 0)) ∙ e)) [
+      | inl was ↦ falls t ∙ or_left (fell t) (contains (ways t) outer) (f.inner t j lt was)
       | inr within ↦
           let p = place_of (ways (get_or (ways t) j 0)) outer within in
           let r = paths.around-around ways b.tree t j p.0 lt p.1 in
-          falls t ∙ second (fell t) (contains (ways t) outer) (ap (contains (ways t)) (sym (r.1 ∙ p.2)) ∙ contains_at (ways t) (j + p.0) r.0)
+          falls t ∙ or_right (fell t) (contains (ways t) outer) (ap (contains (ways t)) (sym (r.1 ∙ p.2)) ∙ contains_at (ways t) (j + p.0) r.0)
     ];
-    held = λ s e. elim (either (fell s) (contains (ways s) outer) (sym (falls s) ∙ e)) [
+    held = λ s e. elim (or_cases (fell s) (contains (ways s) outer) (sym (falls s) ∙ e)) [
       | inl was ↦ f.held s was
       | inr within ↦ held s within
     ];
@@ -237,9 +185,7 @@ beside-get s [] numbers d len k lt at = absurd (omega (arith, lt))
 beside-get s (t ∷ ts) [] d len k lt at = absurd (omega (arith, len))
 beside-get s (t ∷ ts) (n ∷ ns) d len zero lt at = ap (λ b. if b then Some n else beside s ts ns) (eq-eqb t s at)
 beside-get s (t ∷ ts) (n ∷ ns) d len (suc k) lt at =
-    let m : t ≢ s = λ e. d 0 (suc k) (omega arith) lt (e ∙ sym at) in
-    let off : (t == s) ≡ false = grind (arith, m) in
-    ap (λ b. if b then Some n else beside s ts ns) off
+    ap (λ b. if b then Some n else beside s ts ns) (ne_eqb t s (λ e. d 0 (suc k) (omega arith) lt (e ∙ sym at)))
     ∙ beside-get s ts ns (λ i j a b e. d (suc i) (suc j) (omega (arith, a)) (omega (arith, b)) e) (omega (arith, len)) k (omega (arith, lt)) at
 
 -- the number beside a namespace, by the levels
@@ -252,10 +198,3 @@ module _ (ways : ℕ → List ℕ) (tree : IsTree ways) (own s : ℕ) (numbers :
         omega (arith, some, few, is, len),
         beside-get s (ways own) numbers (paths.distinct-path ways (ways own) (tree.paths own)) len k (omega (arith, some, few, is)) (ap (λ j. get_or (ways own) j 0) is ∙ w.2),
       )
-
-  pub beside-without : contains (ways own) s ≡ false → beside s (ways own) numbers ≡ None
-  beside-without e = go (beside s (ways own) numbers) (off-path s (ways own) numbers len e)
-    where
-      go : (o : Option ℕ) → ((n : ℕ) → o ≢ Some n) → o ≡ None
-      go None h = refl
-      go (Some n) h = absurd (h n refl)

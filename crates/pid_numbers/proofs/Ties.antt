@@ -3,8 +3,9 @@ use Rattle.std.proofs.Common.{◌≡◌, ◌≢◌, ◌⊎◌, inl, inr, ℕ, ze
 use Rattle.std.specs.Prelude.{filter_map, slice_set, slice_index_or}
 use Rattle.std.specs.Option.{option_map_or, option_eq}
 use Rattle.std.specs.List.{cons_option}
-use Rattle.std.proofs.lemmas.List.{drop_more, get_or-drop}
-use Rattle.std.proofs.lemmas.Bool.{cases_eq, eq-eqb}
+use Rattle.std.proofs.lemmas.List.{drop_more, get_or-drop, get_or_past}
+use Rattle.std.proofs.lemmas.Bool.{cases_eq, cases_lt, eq-eqb, ne_eqb, or_right}
+use Rattle.std.proofs.lemmas.Option.{none-some, same_Some}
 use Rattle.pid_types.specs.Chains.{contains}
 use Rattle.pid_types.specs.Names.{beside}
 use Rattle.index_array.specs.Place.{Entry, with_mark}
@@ -18,80 +19,58 @@ use Rattle.ns_tree.specs.Vacancy.{IsDistinct}
 -- where each draws, each number is the one drawn
 pub planned_each : (d : ℕ → Option ℕ) (path : List ℕ) → find (λ s. is_none (d s)) path ≡ None → (k : ℕ) → k < length path → d (get_or path k 0) ≡ Some (get_or (map (λ s. unwrap_or (d s) 0) path) k 0)
 planned_each d [] all k below = absurd (omega (arith, below))
-planned_each d (s ∷ ss) all zero below = go (d s) all
+planned_each d (s ∷ ss) all k below = go (planned_each d ss) (d s) refl all k below
   where
-    go : (o : Option ℕ) → (if is_none o then Some s else find (λ s. is_none (d s)) ss) ≡ None → o ≡ Some (unwrap_or o 0)
-    go None e = absurd (cc)
-    go (Some n) e = refl
-planned_each d (s ∷ ss) all (suc k) below = planned_each d ss (go (d s) all) k (omega (arith, below))
-  where
-    go : (o : Option ℕ) → (if is_none o then Some s else find (λ s. is_none (d s)) ss) ≡ None → find (λ s. is_none (d s)) ss ≡ None
-    go None e = absurd (cc)
-    go (Some n) e = e
+    go : (find (λ s. is_none (d s)) ss ≡ None → (k : ℕ) → k < length ss → d (get_or ss k 0) ≡ Some (get_or (map (λ s. unwrap_or (d s) 0) ss) k 0)) → (o : Option ℕ) → d s ≡ o
+        → (if is_none o then Some s else find (λ s. is_none (d s)) ss) ≡ None → (k : ℕ) → k < length (s ∷ ss) → d (get_or (s ∷ ss) k 0) ≡ Some (get_or (map (λ s. unwrap_or (d s) 0) (s ∷ ss)) k 0)
+    go again None is e k lt = absurd (cc)
+    go again (Some n) is e zero lt = is ∙ ap (λ o. Some (unwrap_or o 0)) (sym is)
+    go again (Some n) is e (suc k) lt = again e k (omega (arith, lt))
 
--- a look-up in a list that was mapped
-pub get_or-map_option : {X Y : Type 0} (f : X → Y) (xs : List (Option X)) (k : ℕ) → get_or (map (option_map f) xs) k None ≡ option_map f (get_or xs k None)
-get_or-map_option f [] k = refl
-get_or-map_option f (x ∷ xs) zero = refl
-get_or-map_option f (x ∷ xs) (suc k) = get_or-map_option f xs k
-
-bool_cases : (b : Bool) → (b ≡ true) ⊎ (b ≡ false)
-bool_cases true = inl refl
-bool_cases false = inr refl
-
-module _ (f : Option Identifier → Option ℕ) where
-  -- what is listed is some name's
-  pub listed_from : (xs : List (Option Identifier)) (n : ℕ) → contains (filter_map f xs) n ≡ true → (i : ℕ) × (f (get_or xs i None) ≡ Some n)
-  listed_from [] n e = absurd (cc)
-  listed_from (x ∷ xs) n e = go (λ h. listed_from xs n h) (f x) refl e
+module _ {X : Type 0} (f : X → Option ℕ) (d : X) where
+  -- what is listed is some element's
+  pub among_from : (xs : List X) (n : ℕ) → contains (filter_map f xs) n ≡ true → (i : ℕ) × (i < length xs) × (f (get_or xs i d) ≡ Some n)
+  among_from [] n e = absurd (cc)
+  among_from (x ∷ xs) n e = go (among_from xs n) (f x) refl e
     where
-      go : (contains (filter_map f xs) n ≡ true → (i : ℕ) × (f (get_or xs i None) ≡ Some n)) → (o : Option ℕ) → f x ≡ o → contains (cons_option o (filter_map f xs)) n ≡ true → (i : ℕ) × (f (get_or (x ∷ xs) i None) ≡ Some n)
-      go again None is e = let r = again e in (suc r.0, r.1)
+      go : (contains (filter_map f xs) n ≡ true → (i : ℕ) × (i < length xs) × (f (get_or xs i d) ≡ Some n)) → (o : Option ℕ) → f x ≡ o → contains (cons_option o (filter_map f xs)) n ≡ true → (i : ℕ) × (i < length (x ∷ xs)) × (f (get_or (x ∷ xs) i d) ≡ Some n)
+      go again None is e = let r = again e in (suc r.0, omega (arith, r.1), r.2)
       go again (Some m) is e = elim (cases_eq m n) [
-        | inl same ↦ (0, is ∙ ap Some same)
-        | inr differs ↦
-            let off : (m == n) ≡ false = grind (arith, differs) in
-            let r = again (rw off at e) in (suc r.0, r.1)
+        | inl same ↦ (0, omega arith, is ∙ ap Some same)
+        | inr differs ↦ let r = again (rw (ne_eqb m n differs) at e) in (suc r.0, omega (arith, r.1), r.2)
       ]
 
-  -- and each name's is listed
-  pub listed : f None ≡ None → (xs : List (Option Identifier)) (i n : ℕ) → f (get_or xs i None) ≡ Some n → contains (filter_map f xs) n ≡ true
-  listed none [] i n e = absurd (let z : Some n ≡ None = sym e ∙ none in cc)
-  listed none (x ∷ xs) zero n e = rw (e, eq-eqb n n refl) refl
-  listed none (x ∷ xs) (suc i) n e = go (listed none xs i n e) (f x)
+  -- and each element's is listed
+  pub among : (xs : List X) (i n : ℕ) → i < length xs → f (get_or xs i d) ≡ Some n → contains (filter_map f xs) n ≡ true
+  among [] i n lt e = absurd (omega (arith, lt))
+  among (x ∷ xs) zero n lt e = rw (e, eq-eqb n n refl) refl
+  among (x ∷ xs) (suc i) n lt e = go (among xs i n (omega (arith, lt)) e) (f x)
     where
-      or_right : (a b : Bool) → b ≡ true → (a || b) ≡ true
-      or_right true b e = refl
-      or_right false b e = e
-
       go : contains (filter_map f xs) n ≡ true → (o : Option ℕ) → contains (cons_option o (filter_map f xs)) n ≡ true
       go later None = later
       go later (Some m) = or_right (m == n) (contains (filter_map f xs) n) later
+
+-- so it is where nothing past the end has one
+pub listed : (f : Option Identifier → Option ℕ) → f None ≡ None → (xs : List (Option Identifier)) (i n : ℕ) → f (get_or xs i None) ≡ Some n → contains (filter_map f xs) n ≡ true
+listed f none xs i n e = elim (cases_lt i (length xs)) [
+  | inl lt ↦ among f None xs i n lt e
+  | inr past ↦ absurd (let z : Some n ≡ None = sym e ∙ ap f (get_or_past xs i None past) ∙ none in cc)
+]
 
 -- what stands beside a number that is not in the list
 pub beside-none : (s : ℕ) (path numbers : List ℕ) → ((j : ℕ) → j < length path → get_or path j 0 ≢ s) → beside s path numbers ≡ None
 beside-none s [] numbers h = refl
 beside-none s (t ∷ ts) [] h = refl
-beside-none s (t ∷ ts) (n ∷ ns) h =
-    let m : t ≢ s = h 0 (omega arith) in
-    let off : (t == s) ≡ false = grind (arith, m) in
-    rw off (beside-none s ts ns (λ j lt. h (suc j) (omega (arith, lt))))
+beside-none s (t ∷ ts) (n ∷ ns) h = rw (ne_eqb t s (h 0 (omega arith))) (beside-none s ts ns (λ j lt. h (suc j) (omega (arith, lt))))
 
 -- a number that stands beside another one is in a place
 pub beside-some : (s n : ℕ) (path numbers : List ℕ) → beside s path numbers ≡ Some n → (j : ℕ) × (j < length path) × (get_or path j 0 ≡ s) × (get_or numbers j 0 ≡ n)
 beside-some s n [] numbers e = absurd (cc)
 beside-some s n (t ∷ ts) [] e = absurd (cc)
-beside-some s n (t ∷ ts) (m ∷ ms) e = go (λ h. beside-some s n ts ms h) (cases_eq t s) e
-  where
-    go : (beside s ts ms ≡ Some n → (j : ℕ) × (j < length ts) × (get_or ts j 0 ≡ s) × (get_or ms j 0 ≡ n)) → (t ≡ s) ⊎ (t ≢ s) → (if t == s then Some m else beside s ts ms) ≡ Some n → (j : ℕ) × (j < length (t ∷ ts)) × (get_or (t ∷ ts) j 0 ≡ s) × (get_or (m ∷ ms) j 0 ≡ n)
-    go again (inl same) e =
-        let on : (t == s) ≡ true = eq-eqb t s same in
-        let r : Some m ≡ Some n = rw on at e in
-        (0, omega arith, same, cc)
-    go again (inr differs) e =
-        let off : (t == s) ≡ false = grind (arith, differs) in
-        let r = again (rw off at e) in
-        (suc r.0, omega (arith, r.1), r.2, r.3)
+beside-some s n (t ∷ ts) (m ∷ ms) e = elim (cases_eq t s) [
+  | inl same ↦ (0, omega arith, same, same_Some m n (rw (eq-eqb t s same) at e))
+  | inr differs ↦ let r = beside-some s n ts ms (rw (ne_eqb t s differs) at e) in (suc r.0, omega (arith, r.1), r.2, r.3)
+]
 
 module _ (a b : ℕ) (ps ns : List ℕ) (absent : beside a ps ns ≡ None) where
   -- one namespace after the other
@@ -99,19 +78,13 @@ module _ (a b : ℕ) (ps ns : List ℕ) (absent : beside a ps ns ≡ None) where
       → (s n : ℕ) → touched ps ns h f' s n ≡ touched (a ∷ ps) (b ∷ ns) h f s n
   touched-cons h f f' here same others s n = elim (cases_eq s a) [
     | inl e ↦ ap (λ z. touched ps ns h f' z n) e ∙ at_a ∙ sym (ap (λ z. touched (a ∷ ps) (b ∷ ns) h f z n) e)
-    | inr differs ↦
-        let m : a ≢ s = λ e. differs (sym e) in
-        let off : (a == s) ≡ false = grind (arith, m) in
-        rw (off, others s differs n) refl
+    | inr differs ↦ rw (ne_eqb a s (λ e. differs (sym e)), others s differs n) refl
   ]
     where
       at_a : touched ps ns h f' a n ≡ touched (a ∷ ps) (b ∷ ns) h f a n
       at_a = rw (absent, eq-eqb a a refl) (elim (cases_eq n b) [
         | inl e ↦ rw (e, eq-eqb b b refl) here
-        | inr differs ↦
-            let m : b ≢ n = λ e. differs (sym e) in
-            let off : (b == n) ≡ false = grind (arith, m) in
-            rw off (same n differs)
+        | inr differs ↦ rw (ne_eqb b n (λ e. differs (sym e))) (same n differs)
       ])
 
   pub stepped-cons : (g g' : ℕ → ℕ) → g' a ≡ b + 1 → ((s : ℕ) → s ≢ a → g' s ≡ g s) → (s : ℕ) → stepped ps ns s (g' s) ≡ stepped (a ∷ ps) (b ∷ ns) s (g s)
@@ -119,10 +92,7 @@ module _ (a b : ℕ) (ps ns : List ℕ) (absent : beside a ps ns ≡ None) where
     | inl e ↦
         ap (λ z. stepped ps ns z (g' z)) e ∙ ap (λ o. option_map_or (λ n. n + 1) o (g' a)) absent ∙ here
         ∙ sym (ap (λ z. stepped (a ∷ ps) (b ∷ ns) z (g z)) e ∙ ap (λ t. option_map_or (λ n. n + 1) (if t then Some b else beside a ps ns) (g a)) (eq-eqb a a refl))
-    | inr differs ↦
-        let m : a ≢ s = λ e. differs (sym e) in
-        let off : (a == s) ≡ false = grind (arith, m) in
-        ap (stepped ps ns s) (others s differs) ∙ sym (ap (λ t. option_map_or (λ n. n + 1) (if t then Some b else beside s ps ns) (g s)) off)
+    | inr differs ↦ ap (stepped ps ns s) (others s differs) ∙ sym (ap (λ t. option_map_or (λ n. n + 1) (if t then Some b else beside s ps ns) (g s)) (ne_eqb a s (λ e. differs (sym e))))
   ]
 
 module _ (path numbers : List ℕ) (distinct : IsDistinct path) (len : length numbers ≡ length path) (k : ℕ) (below : k < length path) (key n : ℕ) (at : key ≡ get_or path k 0) (is : n ≡ get_or numbers k 0) where
@@ -172,159 +142,88 @@ module _ (path numbers : List ℕ) (h : Option (Entry ℕ) → Option (Entry ℕ
     where
       go : (o : Option ℕ) → o ≢ Some n → (if option_eq ◌==◌ o (Some n) then h (f s n) else f s n) ≡ f s n
       go None d = refl
-      go (Some m) d =
-          let x : m ≢ n = λ e. d (ap Some e) in
-          let off : (m == n) ≡ false = grind (arith, x) in
-          rw off refl
-
--- an identifier with the marks of a new one is used
-first-live : (u : Identifier) → marks_of (Some u) ≡ true ∷ false ∷ false ∷ [] → is_used u ≡ true
-first-live u e = go (u.tasks == 0) (ap (λ l. slice_index_or l 0 false) e)
-  where
-    go : (a : Bool) → not a ≡ true → not (a && ((u.groups == 0) && (u.sessions == 0))) ≡ true
-    go true e = absurd (cc)
-    go false e = refl
+      go (Some m) d = rw (ne_eqb m n (λ e. d (ap Some e))) refl
 
 -- the marks tell whether an identifier is used
-marks-live : (u v : Identifier) → marks_of (Some u) ≡ marks_of (Some v) → is_used v ≡ true → is_used u ≡ true
-marks-live u v e live = told u ∙ ap any_of e ∙ sym (told v) ∙ live
+pub told : (u : Identifier) → is_used u ≡ (is_used_as Task (Some u) || (is_used_as Group (Some u) || is_used_as Session (Some u)))
+told u = go (u.tasks == 0) (u.groups == 0) (u.sessions == 0)
   where
-    any_of : List Bool → Bool
-    any_of l = not (not (slice_index_or l 0 false) && (not (slice_index_or l 1 false) && not (slice_index_or l 2 false)))
+    go : (a b d : Bool) → not (a && (b && d)) ≡ (not a || (not b || not d))
+    go true true d = refl
+    go true false d = refl
+    go false b d = refl
 
-    twice : (a b d : Bool) → not (a && (b && d)) ≡ not (not (not a) && (not (not b) && not (not d)))
-    twice true true true = refl
-    twice true true false = refl
-    twice true false d = refl
-    twice false b d = refl
+marks-live : (u v : Identifier) → marks_of (Some u) ≡ marks_of (Some v) → is_used v ≡ true → is_used u ≡ true
+marks-live u v e live = told u ∙ ap (λ l. slice_index_or l 0 false || (slice_index_or l 1 false || slice_index_or l 2 false)) e ∙ sym (told v) ∙ live
 
-    told : (w : Identifier) → is_used w ≡ any_of (marks_of (Some w))
-    told w = twice (w.tasks == 0) (w.groups == 0) (w.sessions == 0)
+first-live : (u : Identifier) → marks_of (Some u) ≡ true ∷ false ∷ false ∷ [] → is_used u ≡ true
+first-live u e = told u ∙ ap (λ l. slice_index_or l 0 false || (slice_index_or l 1 false || slice_index_or l 2 false)) e
 
-module _ (ways ways' : ℕ → List ℕ) (see see' : ℕ → ℕ → Option ℕ) (names names' : ℕ → Option Identifier) (t : IsTied ways names see) (same_ways : (s : ℕ) → ways' s ≡ ways s) where
-  number_same : (s : ℕ) (o o' : Option Identifier) → o' ≡ o → number_in ways' s o' ≡ number_in ways s o
-  number_same s o o' e = ap (λ w. number_in w s o') (λ i s. same_ways s i) ∙ ap (number_in ways s) e
+-- what is said of each name, where one alone is another
+module _ (ways : ℕ → List ℕ) (see see' : ℕ → ℕ → Option ℕ) (names names' : ℕ → Option Identifier) (t : IsTied ways names see) (i : ℕ) (others : (j : ℕ) → j ≢ i → names' j ≡ names j) where
+  each : (P : Identifier → Type 0) → ((u : Identifier) → names' i ≡ Some u → P u) → ((j : ℕ) (x : Identifier) → names j ≡ Some x → P x) → (j : ℕ) (x : Identifier) → names' j ≡ Some x → P x
+  each P here there j x e = elim (cases_eq j i) [
+    | inl same ↦ here x (sym (ap names' same) ∙ e)
+    | inr differs ↦ there j x (sym (others j differs) ∙ e)
+  ]
 
-  -- the look-ups and the names stay
-  pub tied-same : ((s n : ℕ) → see' s n ≡ see s n) → ((i : ℕ) → names' i ≡ names i) → IsTied ways' names' see'
-  tied-same seen_same names_same = record {
-    found = λ s n i e. number_same s (names i) (names' i) (names_same i) ∙ t.found s n i (sym (seen_same s n) ∙ e);
-    kept = λ s n i e. seen_same s n ∙ t.kept s n i (sym (number_same s (names i) (names' i) (names_same i)) ∙ e);
-    full = λ i u e. t.full i u (sym (names_same i) ∙ e) ∙ ap length (sym (same_ways u.space));
-    some = λ i u e. t.some i u (sym (names_same i) ∙ e);
-    live = λ i u e. t.live i u (sym (names_same i) ∙ e);
+  tied-with : ((u : Identifier) → names' i ≡ Some u → (length u.numbers ≡ length (ways u.space)) × (0 < length u.numbers) × (is_used u ≡ true))
+      → ((s n j : ℕ) → see' s n ≡ Some j → number_in ways s (names' j) ≡ Some n) → ((s n j : ℕ) → number_in ways s (names' j) ≡ Some n → see' s n ≡ Some j) → IsTied ways names' see'
+  tied-with here found kept = record {
+    found = found;
+    kept = kept;
+    full = each (λ u. length u.numbers ≡ length (ways u.space)) (λ u e. (here u e).0) t.full;
+    some = each (λ u. 0 < length u.numbers) (λ u e. (here u e).1) t.some;
+    live = each (λ u. is_used u ≡ true) (λ u e. (here u e).2) t.live;
   }
 
-  module _ (i : ℕ) (others : (j : ℕ) → j ≢ i → names' j ≡ names j) (u : Identifier) where
+  module _ (u : Identifier) where
+    new_one : names' i ≡ Some u → (length u.numbers ≡ length (ways u.space)) × (0 < length u.numbers) × (is_used u ≡ true) → (x : Identifier) → names' i ≡ Some x → (length x.numbers ≡ length (ways x.space)) × (0 < length x.numbers) × (is_used x ≡ true)
+    new_one now fits x e = subst (λ (x : Identifier). (length x.numbers ≡ length (ways x.space)) × (0 < length x.numbers) × (is_used x ≡ true)) (same_Some u x (sym now ∙ e)) fits
+
     -- a new name
-    pub tied-given : names i ≡ None → names' i ≡ Some u → length u.numbers ≡ length (ways u.space) → 0 < length u.numbers → is_used u ≡ true
+    pub tied-given : names i ≡ None → names' i ≡ Some u → (length u.numbers ≡ length (ways u.space)) × (0 < length u.numbers) × (is_used u ≡ true)
         → ((s n : ℕ) → beside s (ways u.space) u.numbers ≡ Some n → see s n ≡ None)
-        → ((s n : ℕ) → beside s (ways u.space) u.numbers ≡ Some n → see' s n ≡ Some i) → ((s n : ℕ) → beside s (ways u.space) u.numbers ≢ Some n → see' s n ≡ see s n) → IsTied ways' names' see'
-    tied-given was now len some live free hits misses = record {
-      found = λ s n j e. elim (decide_some (beside s (ways u.space) u.numbers) n) [
-        | inl hit ↦
-            let r : Some i ≡ Some j = sym (hits s n hit) ∙ e in
-            let same : i ≡ j = ap (λ o. unwrap_or o 0) r in
-            number_same s (Some u) (names' j) (ap names' (sym same) ∙ now) ∙ hit
-        | inr miss ↦
-            let old : see s n ≡ Some j = sym (misses s n miss) ∙ e in
-            let is : number_in ways s (names j) ≡ Some n = t.found s n j old in
-            number_same s (names j) (names' j) (others j (λ z. let bad : Some n ≡ None = sym is ∙ ap (λ k. number_in ways s (names k)) z ∙ ap (number_in ways s) was in cc)) ∙ is
-      ];
-      kept = λ s n j e. elim (cases_eq j i) [
-        | inl same ↦
-            let hit : beside s (ways u.space) u.numbers ≡ Some n = sym (number_same s (Some u) (names' j) (ap names' same ∙ now)) ∙ e in
-            hits s n hit ∙ ap Some (sym same)
-        | inr differs ↦
-            let old : see s n ≡ Some j = t.kept s n j (sym (number_same s (names j) (names' j) (others j differs)) ∙ e) in
-            misses s n (λ hit. let bad : Some j ≡ None = sym old ∙ free s n hit in cc) ∙ old
-      ];
-      full = λ j x e. elim (cases_eq j i) [
-        | inl same ↦
-            let r : Some u ≡ Some x = sym now ∙ ap names' (sym same) ∙ e in
-            let z : u ≡ x = ap (λ o. option_map_or (λ y. y) o u) r in
-            ap (λ y. length y.numbers) (sym z) ∙ len ∙ ap length (sym (same_ways u.space)) ∙ ap (λ y. length (ways' y.space)) z
-        | inr differs ↦ t.full j x (sym (others j differs) ∙ e) ∙ ap length (sym (same_ways x.space))
-      ];
-      some = λ j x e. elim (cases_eq j i) [
-        | inl same ↦
-            let r : Some u ≡ Some x = sym now ∙ ap names' (sym same) ∙ e in
-            let z : u ≡ x = ap (λ o. option_map_or (λ y. y) o u) r in
-            subst (λ (y : Identifier). 0 < length y.numbers) z some
-        | inr differs ↦ t.some j x (sym (others j differs) ∙ e)
-      ];
-      live = λ j x e. elim (cases_eq j i) [
-        | inl same ↦
-            let r : Some u ≡ Some x = sym now ∙ ap names' (sym same) ∙ e in
-            let z : u ≡ x = ap (λ o. option_map_or (λ y. y) o u) r in
-            sym (ap is_used z) ∙ live
-        | inr differs ↦ t.live j x (sym (others j differs) ∙ e)
-      ];
-    }
+        → ((s n : ℕ) → beside s (ways u.space) u.numbers ≡ Some n → see' s n ≡ Some i) → ((s n : ℕ) → beside s (ways u.space) u.numbers ≢ Some n → see' s n ≡ see s n) → IsTied ways names' see'
+    tied-given was now fits free hits misses = tied-with (new_one now fits)
+        (λ s n j e. elim (decide_some (beside s (ways u.space) u.numbers) n) [
+          | inl hit ↦ ap (number_in ways s) (ap names' (sym (same_Some i j (sym (hits s n hit) ∙ e))) ∙ now) ∙ hit
+          | inr miss ↦
+              let is : number_in ways s (names j) ≡ Some n = t.found s n j (sym (misses s n miss) ∙ e) in
+              ap (number_in ways s) (others j (λ z. let bad : Some n ≡ None = sym is ∙ ap (number_in ways s) (ap names z ∙ was) in cc)) ∙ is
+        ])
+        (λ s n j e. elim (cases_eq j i) [
+          | inl same ↦ hits s n (sym (ap (number_in ways s) (ap names' same ∙ now)) ∙ e) ∙ ap Some (sym same)
+          | inr differs ↦
+              let old : see s n ≡ Some j = t.kept s n j (sym (ap (number_in ways s) (others j differs)) ∙ e) in
+              misses s n (λ hit. let bad : Some j ≡ None = sym old ∙ free s n hit in cc) ∙ old
+        ])
 
     -- a name that goes
-    pub tied-released : names i ≡ Some u → names' i ≡ None → ((s n : ℕ) → beside s (ways u.space) u.numbers ≡ Some n → see' s n ≡ None) → ((s n : ℕ) → beside s (ways u.space) u.numbers ≢ Some n → see' s n ≡ see s n) → IsTied ways' names' see'
-    tied-released was now hits misses = record {
-      found = λ s n j e. elim (decide_some (beside s (ways u.space) u.numbers) n) [
-        | inl hit ↦ absurd (let r : None ≡ Some j = sym (hits s n hit) ∙ e in cc)
-        | inr miss ↦
-            let old : see s n ≡ Some j = sym (misses s n miss) ∙ e in
-            let is : number_in ways s (names j) ≡ Some n = t.found s n j old in
-            number_same s (names j) (names' j) (others j (λ z. miss (sym (ap (λ k. number_in ways s (names k)) z ∙ ap (number_in ways s) was) ∙ is))) ∙ is
-      ];
-      kept = λ s n j e. elim (cases_eq j i) [
-        | inl same ↦ absurd (let bad : Some n ≡ None = sym e ∙ ap (number_in ways' s) (ap names' same ∙ now) in cc)
-        | inr differs ↦
-            let old : see s n ≡ Some j = t.kept s n j (sym (number_same s (names j) (names' j) (others j differs)) ∙ e) in
-            misses s n (λ hit. differs (ap (λ o. unwrap_or o 0) (sym old ∙ t.kept s n i (ap (number_in ways s) was ∙ hit)))) ∙ old
-      ];
-      full = λ j x e. elim (cases_eq j i) [
-        | inl same ↦ absurd (let bad : Some x ≡ None = sym e ∙ ap names' same ∙ now in cc)
-        | inr differs ↦ t.full j x (sym (others j differs) ∙ e) ∙ ap length (sym (same_ways x.space))
-      ];
-      some = λ j x e. elim (cases_eq j i) [
-        | inl same ↦ absurd (let bad : Some x ≡ None = sym e ∙ ap names' same ∙ now in cc)
-        | inr differs ↦ t.some j x (sym (others j differs) ∙ e)
-      ];
-      live = λ j x e. elim (cases_eq j i) [
-        | inl same ↦ absurd (let bad : Some x ≡ None = sym e ∙ ap names' same ∙ now in cc)
-        | inr differs ↦ t.live j x (sym (others j differs) ∙ e)
-      ];
-    }
+    pub tied-released : names i ≡ Some u → names' i ≡ None → ((s n : ℕ) → beside s (ways u.space) u.numbers ≡ Some n → see' s n ≡ None) → ((s n : ℕ) → beside s (ways u.space) u.numbers ≢ Some n → see' s n ≡ see s n) → IsTied ways names' see'
+    tied-released was now hits misses = tied-with (λ x e. absurd (none-some x (sym now ∙ e)))
+        (λ s n j e. elim (decide_some (beside s (ways u.space) u.numbers) n) [
+          | inl hit ↦ absurd (none-some j (sym (hits s n hit) ∙ e))
+          | inr miss ↦
+              let is : number_in ways s (names j) ≡ Some n = t.found s n j (sym (misses s n miss) ∙ e) in
+              ap (number_in ways s) (others j (λ z. miss (sym (ap (number_in ways s) (ap names z ∙ was)) ∙ is))) ∙ is
+        ])
+        (λ s n j e. elim (cases_eq j i) [
+          | inl same ↦ absurd (none-some n (sym (ap (number_in ways s) (ap names' same ∙ now)) ∙ e))
+          | inr differs ↦
+              let old : see s n ≡ Some j = t.kept s n j (sym (ap (number_in ways s) (others j differs)) ∙ e) in
+              misses s n (λ hit. differs (same_Some j i (sym old ∙ t.kept s n i (ap (number_in ways s) was ∙ hit)))) ∙ old
+        ])
 
     -- a name whose uses change
-    pub tied-renamed : (v : Identifier) → names i ≡ Some v → names' i ≡ Some u → ((s : ℕ) → number_in ways s (Some u) ≡ number_in ways s (Some v)) → length u.numbers ≡ length (ways u.space) → 0 < length u.numbers → is_used u ≡ true
-        → ((s n : ℕ) → see' s n ≡ see s n) → IsTied ways' names' see'
-    tied-renamed v was now same_number len some live sees = record {
-      found = λ s n j e. number s j ∙ t.found s n j (sym (sees s n) ∙ e);
-      kept = λ s n j e. sees s n ∙ t.kept s n j (sym (number s j) ∙ e);
-      full = λ j x e. elim (cases_eq j i) [
-        | inl same ↦
-            let r : Some u ≡ Some x = sym now ∙ ap names' (sym same) ∙ e in
-            let z : u ≡ x = ap (λ o. option_map_or (λ y. y) o u) r in
-            ap (λ y. length y.numbers) (sym z) ∙ len ∙ ap length (sym (same_ways u.space)) ∙ ap (λ y. length (ways' y.space)) z
-        | inr differs ↦ t.full j x (sym (others j differs) ∙ e) ∙ ap length (sym (same_ways x.space))
-      ];
-      some = λ j x e. elim (cases_eq j i) [
-        | inl same ↦
-            let r : Some u ≡ Some x = sym now ∙ ap names' (sym same) ∙ e in
-            let z : u ≡ x = ap (λ o. option_map_or (λ y. y) o u) r in
-            subst (λ (y : Identifier). 0 < length y.numbers) z some
-        | inr differs ↦ t.some j x (sym (others j differs) ∙ e)
-      ];
-      live = λ j x e. elim (cases_eq j i) [
-        | inl same ↦
-            let r : Some u ≡ Some x = sym now ∙ ap names' (sym same) ∙ e in
-            let z : u ≡ x = ap (λ o. option_map_or (λ y. y) o u) r in
-            sym (ap is_used z) ∙ live
-        | inr differs ↦ t.live j x (sym (others j differs) ∙ e)
-      ];
-    }
+    pub tied-renamed : (v : Identifier) → names i ≡ Some v → names' i ≡ Some u → ((s : ℕ) → number_in ways s (Some u) ≡ number_in ways s (Some v)) → (length u.numbers ≡ length (ways u.space)) × (0 < length u.numbers) × (is_used u ≡ true)
+        → ((s n : ℕ) → see' s n ≡ see s n) → IsTied ways names' see'
+    tied-renamed v was now same_number fits sees = tied-with (new_one now fits) (λ s n j e. number s j ∙ t.found s n j (sym (sees s n) ∙ e)) (λ s n j e. sees s n ∙ t.kept s n j (sym (number s j) ∙ e))
       where
-        number : (s j : ℕ) → number_in ways' s (names' j) ≡ number_in ways s (names j)
+        number : (s j : ℕ) → number_in ways s (names' j) ≡ number_in ways s (names j)
         number s j = elim (cases_eq j i) [
-          | inl same ↦ number_same s (Some u) (names' j) (ap names' same ∙ now) ∙ same_number s ∙ ap (number_in ways s) (sym was ∙ ap names (sym same))
-          | inr differs ↦ number_same s (names j) (names' j) (others j differs)
+          | inl same ↦ ap (number_in ways s) (ap names' same ∙ now) ∙ same_number s ∙ ap (number_in ways s) (sym was ∙ ap names (sym same))
+          | inr differs ↦ ap (number_in ways s) (others j differs)
         ]
 
 -- the marks where the uses of one identifier changed
@@ -340,10 +239,10 @@ module _ (at at' : ℕ → ℕ → Option (Entry ℕ)) (names names' : ℕ → O
   ]
 
 -- each number is in range where the new ones are
-pub range-set : (pid_max : ℕ) (see see' : ℕ → ℕ → Option ℕ) → AreInRange pid_max see → (path numbers : List ℕ) → ((s n : ℕ) → beside s path numbers ≡ Some n → (0 < n) × (n < pid_max))
+range-set : (pid_max : ℕ) (see see' : ℕ → ℕ → Option ℕ) → AreInRange pid_max see → (path numbers : List ℕ) → ((s n i : ℕ) → see' s n ≡ Some i → beside s path numbers ≡ Some n → (0 < n) × (n < pid_max))
     → ((s n : ℕ) → beside s path numbers ≢ Some n → see' s n ≡ see s n) → AreInRange pid_max see'
 range-set pid_max see see' old path numbers hits misses s n i e = elim (decide_some (beside s path numbers) n) [
-  | inl hit ↦ hits s n hit
+  | inl hit ↦ hits s n i e hit
   | inr miss ↦ old s n i (sym (misses s n miss) ∙ e)
 ]
 
@@ -357,87 +256,102 @@ pub at_key : (o : Option (Entry ℕ)) (i : ℕ) → option_map (λ (e : Entry �
 at_key None i h = absurd (cc)
 at_key (Some e) i h = (e, refl, ap (λ o. unwrap_or o 0) h)
 
--- the paths and the bounds stay
-pub numbering-with : (pid_max : ℕ) (ways ways' : ℕ → List ℕ) (at at' : ℕ → ℕ → Option (Entry ℕ)) (bound bound' : ℕ → Option ℕ) (names names' : ℕ → Option Identifier) → IsNumbering pid_max ways at bound names
-    → ((s : ℕ) → ways' s ≡ ways s) → ((s : ℕ) → bound' s ≡ bound s) → IsTied ways' names' (leads at') → AreInRange pid_max (leads at') → AreMarked at' names' → IsNumbering pid_max ways' at' bound' names'
-numbering-with pid_max ways ways' at at' bound bound' names names' b same_ways same_bound t r m = record {
+-- the paths change where no identifier is
+pub numbering-moved : (pid_max : ℕ) (ways ways' : ℕ → List ℕ) (at : ℕ → ℕ → Option (Entry ℕ)) (bound bound' : ℕ → Option ℕ) (names : ℕ → Option Identifier) → IsNumbering pid_max ways at bound names → IsTree ways' → ((s m : ℕ) → bound' s ≡ Some m → m ≡ pid_max)
+    → ((i : ℕ) (u : Identifier) → names i ≡ Some u → ways' u.space ≡ ways u.space) → IsNumbering pid_max ways' at bound' names
+numbering-moved pid_max ways ways' at bound bound' names b tree bounds homes = record {
   good = b.good;
-  bounds = λ s m e. b.bounds s m (sym (same_bound s) ∙ e);
-  tree = subst IsTree (λ i s. sym (same_ways s) i) b.tree;
-  tied = t;
-  range = r;
-  marks = m;
+  bounds = bounds;
+  tree = tree;
+  tied = record {
+    found = λ s n i e. stays s i ∙ b.tied.found s n i e;
+    kept = λ s n i e. b.tied.kept s n i (sym (stays s i) ∙ e);
+    full = λ i u e. b.tied.full i u e ∙ ap length (sym (homes i u e));
+    some = b.tied.some;
+    live = b.tied.live;
+  };
+  range = b.range;
+  marks = b.marks;
 }
+  where
+    stays : (s i : ℕ) → number_in ways' s (names i) ≡ number_in ways s (names i)
+    stays s i = go (names i) refl
+      where
+        go : (o : Option Identifier) → names i ≡ o → number_in ways' s o ≡ number_in ways s o
+        go None is = refl
+        go (Some u) is = ap (λ p. beside s p u.numbers) (homes i u is)
 
-module _ (pid_max : ℕ) (ways ways' : ℕ → List ℕ) (at at' : ℕ → ℕ → Option (Entry ℕ)) (bound bound' : ℕ → Option ℕ) (names names' : ℕ → Option Identifier) (b : IsNumbering pid_max ways at bound names)
-    (same_ways : (s : ℕ) → ways' s ≡ ways s) (same_bound : (s : ℕ) → bound' s ≡ bound s) where
+module _ (pid_max : ℕ) (ways : ℕ → List ℕ) (at at' : ℕ → ℕ → Option (Entry ℕ)) (bound bound' : ℕ → Option ℕ) (names names' : ℕ → Option Identifier) (b : IsNumbering pid_max ways at bound names)
+    (same_bound : (s : ℕ) → bound' s ≡ bound s) where
+  -- the paths and the bounds stay
+  numbering-with : IsTied ways names' (leads at') → AreInRange pid_max (leads at') → AreMarked at' names' → IsNumbering pid_max ways at' bound' names'
+  numbering-with t r m = record {
+    good = b.good;
+    bounds = λ s m e. b.bounds s m (sym (same_bound s) ∙ e);
+    tree = b.tree;
+    tied = t;
+    range = r;
+    marks = m;
+  }
+
   -- nothing that is seen has changed
-  pub numbering-same : ((s n : ℕ) → at' s n ≡ at s n) → ((i : ℕ) → names' i ≡ names i) → IsNumbering pid_max ways' at' bound' names'
+  pub numbering-same : ((s n : ℕ) → at' s n ≡ at s n) → ((i : ℕ) → names' i ≡ names i) → IsNumbering pid_max ways at' bound' names'
   numbering-same same_at same_names =
-      subst (λ (a : ℕ → ℕ → Option (Entry ℕ)). IsNumbering pid_max ways' a bound' names') (λ i s n. sym (same_at s n) i)
-      (subst (λ (a : ℕ → Option Identifier). IsNumbering pid_max ways' at bound' a) (λ i j. sym (same_names j) i)
-      (subst (λ (a : ℕ → Option ℕ). IsNumbering pid_max ways' at a names) (λ i s. sym (same_bound s) i)
-      (subst (λ (a : ℕ → List ℕ). IsNumbering pid_max a at bound names) (λ i s. sym (same_ways s) i) b)))
+      subst (λ (a : ℕ → ℕ → Option (Entry ℕ)). IsNumbering pid_max ways a bound' names') (λ i s n. sym (same_at s n) i)
+      (subst (λ (a : ℕ → Option Identifier). IsNumbering pid_max ways at bound' a) (λ i j. sym (same_names j) i)
+      (subst (λ (a : ℕ → Option ℕ). IsNumbering pid_max ways at a names) (λ i s. sym (same_bound s) i) b))
 
   module _ (i : ℕ) (u : Identifier) (others : (j : ℕ) → j ≢ i → names' j ≡ names j) where
+    -- where nothing changes but along the path
+    module _ (change : Option (Entry ℕ) → Option (Entry ℕ)) (is : (s n : ℕ) → at' s n ≡ touched (ways u.space) u.numbers change at s n) where
+      hits : (s n : ℕ) → beside s (ways u.space) u.numbers ≡ Some n → at' s n ≡ change (at s n)
+      hits s n hit = is s n ∙ touched-hit (ways u.space) u.numbers change at s n hit
+
+      misses : (s n : ℕ) → beside s (ways u.space) u.numbers ≢ Some n → at' s n ≡ at s n
+      misses s n miss = is s n ∙ touched-miss (ways u.space) u.numbers change at s n miss
+
+      misled : (s n : ℕ) → beside s (ways u.space) u.numbers ≢ Some n → leads at' s n ≡ leads at s n
+      misled s n miss = ap (option_map (λ e. e.value)) (misses s n miss)
+
     -- a new identifier
     pub numbering-given : names i ≡ None → names' i ≡ Some u → length u.numbers ≡ length (ways u.space) → 0 < length u.numbers → marks_of (Some u) ≡ true ∷ false ∷ false ∷ []
         → ((s n : ℕ) → beside s (ways u.space) u.numbers ≡ Some n → (at s n ≡ None) × (0 < n) × (n < pid_max))
-        → ((s n : ℕ) → at' s n ≡ touched (ways u.space) u.numbers (λ _. given_to i) at s n) → IsNumbering pid_max ways' at' bound' names'
+        → ((s n : ℕ) → at' s n ≡ touched (ways u.space) u.numbers (λ _. given_to i) at s n) → IsNumbering pid_max ways at' bound' names'
     numbering-given was now len some marks free is =
-        numbering-with pid_max ways ways' at at' bound bound' names names' b same_ways same_bound
-        (tied-given ways ways' (leads at) (leads at') names names' b.tied same_ways i others u was now len some (first-live u marks)
-        (λ s n hit. ap (option_map (λ e. e.value)) (free s n hit).0) (λ s n hit. ap (option_map (λ e. e.value)) (hits s n hit)) (λ s n miss. ap (option_map (λ e. e.value)) (misses s n miss)))
-        (range-set pid_max (leads at) (leads at') b.range (ways u.space) u.numbers (λ s n hit. ((free s n hit).1, (free s n hit).2)) (λ s n miss. ap (option_map (λ e. e.value)) (misses s n miss)))
+        numbering-with
+        (tied-given ways (leads at) (leads at') names names' b.tied i others u was now (len, some, first-live u marks)
+        (λ s n hit. ap (option_map (λ e. e.value)) (free s n hit).0) (λ s n hit. ap (option_map (λ e. e.value)) (hits (λ _. given_to i) is s n hit)) (misled (λ _. given_to i) is))
+        (range-set pid_max (leads at) (leads at') b.range (ways u.space) u.numbers (λ s n j e hit. ((free s n hit).1, (free s n hit).2)) (misled (λ _. given_to i) is))
         (marks-set at at' names names' b.marks (ways u.space) u.numbers i others
-        (λ s n e hit stands. new_marks e (sym (hits s n hit) ∙ stands)) misses (λ s n miss h. let bad : Some n ≡ None = sym (b.tied.found s n i h) ∙ ap (number_in ways s) was in cc))
+        (λ s n e hit stands. new_marks e (sym (hits (λ _. given_to i) is s n hit) ∙ stands)) (misses (λ _. given_to i) is) (λ s n miss h. none-some n (sym (ap (number_in ways s) was) ∙ b.tied.found s n i h)))
       where
-        hits : (s n : ℕ) → beside s (ways u.space) u.numbers ≡ Some n → at' s n ≡ given_to i
-        hits s n hit = is s n ∙ touched-hit (ways u.space) u.numbers (λ _. given_to i) at s n hit
-
-        misses : (s n : ℕ) → beside s (ways u.space) u.numbers ≢ Some n → at' s n ≡ at s n
-        misses s n miss = is s n ∙ touched-miss (ways u.space) u.numbers (λ _. given_to i) at s n miss
-
         new_marks : (e : Entry ℕ) → given_to i ≡ Some e → e.marks ≡ marks_of (names' e.value)
-        new_marks e same =
-            let r : record { value = i; marks = true ∷ false ∷ false ∷ [] } ≡ e = ap (λ o. option_map_or (λ y. y) o e) same in
-            subst (λ (e : Entry ℕ). e.marks ≡ marks_of (names' e.value)) r (sym marks ∙ ap marks_of (sym now))
+        new_marks e same = subst (λ (e : Entry ℕ). e.marks ≡ marks_of (names' e.value)) (same_Some (record { value = i; marks = true ∷ false ∷ false ∷ [] }) e same) (sym marks ∙ ap marks_of (sym now))
 
     -- an identifier that goes
-    pub numbering-released : names i ≡ Some u → names' i ≡ None → ((s n : ℕ) → at' s n ≡ touched (ways u.space) u.numbers (λ _. None) at s n) → IsNumbering pid_max ways' at' bound' names'
+    pub numbering-released : names i ≡ Some u → names' i ≡ None → ((s n : ℕ) → at' s n ≡ touched (ways u.space) u.numbers (λ _. None) at s n) → IsNumbering pid_max ways at' bound' names'
     numbering-released was now is =
-        numbering-with pid_max ways ways' at at' bound bound' names names' b same_ways same_bound
-        (tied-released ways ways' (leads at) (leads at') names names' b.tied same_ways i others u was now
-        (λ s n hit. ap (option_map (λ e. e.value)) (hits s n hit)) (λ s n miss. ap (option_map (λ e. e.value)) (misses s n miss)))
-        (λ s n j e. elim (decide_some (beside s (ways u.space) u.numbers) n) [
-          | inl hit ↦ absurd (let bad : None ≡ Some j = sym (ap (option_map (λ e. e.value)) (hits s n hit)) ∙ e in cc)
-          | inr miss ↦ b.range s n j (sym (ap (option_map (λ e. e.value)) (misses s n miss)) ∙ e)
-        ])
+        numbering-with
+        (tied-released ways (leads at) (leads at') names names' b.tied i others u was now (λ s n hit. ap (option_map (λ e. e.value)) (hits (λ _. None) is s n hit)) (misled (λ _. None) is))
+        (range-set pid_max (leads at) (leads at') b.range (ways u.space) u.numbers (λ s n j e hit. absurd (none-some j (sym (ap (option_map (λ e. e.value)) (hits (λ _. None) is s n hit)) ∙ e))) (misled (λ _. None) is))
         (marks-set at at' names names' b.marks (ways u.space) u.numbers i others
-        (λ s n e hit stands. absurd (let bad : None ≡ Some e = sym (hits s n hit) ∙ stands in cc)) misses
-        (λ s n miss h. miss (sym (ap (number_in ways s) was) ∙ b.tied.found s n i h)))
-      where
-        hits : (s n : ℕ) → beside s (ways u.space) u.numbers ≡ Some n → at' s n ≡ None
-        hits s n hit = is s n ∙ touched-hit (ways u.space) u.numbers (λ _. None) at s n hit
-
-        misses : (s n : ℕ) → beside s (ways u.space) u.numbers ≢ Some n → at' s n ≡ at s n
-        misses s n miss = is s n ∙ touched-miss (ways u.space) u.numbers (λ _. None) at s n miss
+        (λ s n e hit stands. absurd (none-some e (sym (hits (λ _. None) is s n hit) ∙ stands))) (misses (λ _. None) is) (λ s n miss h. miss (sym (ap (number_in ways s) was) ∙ b.tied.found s n i h)))
 
     -- an identifier whose uses change
     pub numbering-used : (v : Identifier) → names i ≡ Some v → names' i ≡ Some u → u.space ≡ v.space → u.numbers ≡ v.numbers → is_used u ≡ true
         → ((s n : ℕ) → leads at' s n ≡ leads at s n) → ((s n : ℕ) → beside s (ways v.space) v.numbers ≢ Some n → at' s n ≡ at s n)
-        → ((s n : ℕ) (e : Entry ℕ) → beside s (ways v.space) v.numbers ≡ Some n → at s n ≡ Some e → e.marks ≡ marks_of (Some v) → (e' : Entry ℕ) → at' s n ≡ Some e' → e'.marks ≡ marks_of (Some u)) → IsNumbering pid_max ways' at' bound' names'
+        → ((s n : ℕ) (e : Entry ℕ) → beside s (ways v.space) v.numbers ≡ Some n → at s n ≡ Some e → e.marks ≡ marks_of (Some v) → (e' : Entry ℕ) → at' s n ≡ Some e' → e'.marks ≡ marks_of (Some u)) → IsNumbering pid_max ways at' bound' names'
     numbering-used v was now same_space same_numbers live same_leads misses marks =
-        numbering-with pid_max ways ways' at at' bound bound' names names' b same_ways same_bound
-        (tied-renamed ways ways' (leads at) (leads at') names names' b.tied same_ways i others u v was now
-        (λ s. ap (λ p. beside s (ways p) u.numbers) same_space ∙ ap (beside s (ways v.space)) same_numbers) (ap length same_numbers ∙ b.tied.full i v was ∙ ap (λ p. length (ways p)) (sym same_space))
-        (subst (λ (l : List ℕ). 0 < length l) (sym same_numbers) (b.tied.some i v was)) live same_leads)
+        numbering-with
+        (tied-renamed ways (leads at) (leads at') names names' b.tied i others u v was now
+        (λ s. ap (λ p. beside s (ways p) u.numbers) same_space ∙ ap (beside s (ways v.space)) same_numbers)
+        (ap length same_numbers ∙ b.tied.full i v was ∙ ap (λ p. length (ways p)) (sym same_space), subst (λ (l : List ℕ). 0 < length l) (sym same_numbers) (b.tied.some i v was), live) same_leads)
         (λ s n j e. b.range s n j (sym (same_leads s n) ∙ e))
         (marks-set at at' names names' b.marks (ways v.space) v.numbers i others
         (λ s n e' hit stands.
         let led : leads at s n ≡ Some i = b.tied.kept s n i (ap (number_in ways s) was ∙ hit) in
         let old = at_key (at s n) i led in
-        let key : e'.value ≡ i = ap (λ o. unwrap_or o 0) (sym (ap (option_map (λ e. e.value)) stands) ∙ same_leads s n ∙ led) in
+        let key : e'.value ≡ i = same_Some e'.value i (sym (ap (option_map (λ e. e.value)) stands) ∙ same_leads s n ∙ led) in
         let before : (old.0).marks ≡ marks_of (Some v) = b.marks s n old.0 old.1 ∙ ap (λ k. marks_of (names k)) old.2 ∙ ap marks_of was in
         marks s n old.0 hit old.1 before e' stands ∙ ap marks_of (sym now) ∙ ap (λ k. marks_of (names' k)) (sym key))
         misses
@@ -454,50 +368,37 @@ marks-turned Task n v on e = ap (λ b. b ∷ is_used_as Group (Some v) ∷ is_us
 marks-turned Group n v on e = ap (λ b. is_used_as Task (Some v) ∷ b ∷ is_used_as Session (Some v) ∷ []) (sym e)
 marks-turned Session n v on e = ap (λ b. is_used_as Task (Some v) ∷ is_used_as Group (Some v) ∷ b ∷ []) (sym e)
 
-pub space-kept : (kind : Kind) (n : ℕ) (v : Identifier) → (with_uses kind n v).space ≡ v.space
-space-kept Task n v = refl
-space-kept Group n v = refl
-space-kept Session n v = refl
+pub path-kept : (kind : Kind) (n : ℕ) (v : Identifier) → ((with_uses kind n v).space ≡ v.space) × ((with_uses kind n v).numbers ≡ v.numbers)
+path-kept Task n v = (refl, refl)
+path-kept Group n v = (refl, refl)
+path-kept Session n v = (refl, refl)
 
-pub numbers-kept : (kind : Kind) (n : ℕ) (v : Identifier) → (with_uses kind n v).numbers ≡ v.numbers
-numbers-kept Task n v = refl
-numbers-kept Group n v = refl
-numbers-kept Session n v = refl
+module _ (path numbers : List ℕ) (m : ℕ) (on : Bool) (at at' : ℕ → ℕ → Option (Entry ℕ)) (is : (s n : ℕ) → at' s n ≡ touched path numbers (with_mark m on) at s n) where
+  -- a change of marks leads nowhere else
+  pub leads-marked : (s n : ℕ) → leads at' s n ≡ leads at s n
+  leads-marked s n = elim (decide_some (beside s path numbers) n) [
+    | inl hit ↦ ap (option_map (λ e. e.value)) (is s n ∙ touched-hit path numbers (with_mark m on) at s n hit) ∙ value-marked m on (at s n)
+    | inr miss ↦ ap (option_map (λ e. e.value)) (is s n ∙ touched-miss path numbers (with_mark m on) at s n miss)
+  ]
 
-module _ (pid_max : ℕ) (ways ways' : ℕ → List ℕ) (at at' : ℕ → ℕ → Option (Entry ℕ)) (bound bound' : ℕ → Option ℕ) (names names' : ℕ → Option Identifier) (b : IsNumbering pid_max ways at bound names)
-    (same_ways : (s : ℕ) → ways' s ≡ ways s) (same_bound : (s : ℕ) → bound' s ≡ bound s)
+module _ (pid_max : ℕ) (ways : ℕ → List ℕ) (at at' : ℕ → ℕ → Option (Entry ℕ)) (bound bound' : ℕ → Option ℕ) (names names' : ℕ → Option Identifier) (b : IsNumbering pid_max ways at bound names) (same_bound : (s : ℕ) → bound' s ≡ bound s)
     (i : ℕ) (kind : Kind) (count : ℕ) (v : Identifier) (was : names i ≡ Some v) (now : names' i ≡ Some (with_uses kind count v)) (others : (j : ℕ) → j ≢ i → names' j ≡ names j) where
   -- another number of uses, but no first and no last one
-  pub numbering-counted : is_used_as kind (Some (with_uses kind count v)) ≡ is_used_as kind (Some v) → ((s n : ℕ) → at' s n ≡ at s n) → IsNumbering pid_max ways' at' bound' names'
+  pub numbering-counted : is_used_as kind (Some (with_uses kind count v)) ≡ is_used_as kind (Some v) → ((s n : ℕ) → at' s n ≡ at s n) → IsNumbering pid_max ways at' bound' names'
   numbering-counted still same =
-      numbering-used pid_max ways ways' at at' bound bound' names names' b same_ways same_bound i (with_uses kind count v) others v was now (space-kept kind count v) (numbers-kept kind count v)
+      numbering-used pid_max ways at at' bound bound' names names' b same_bound i (with_uses kind count v) others v was now (path-kept kind count v).0 (path-kept kind count v).1
       (marks-live (with_uses kind count v) v (marks-kept kind count v still) (b.tied.live i v was))
       (λ s n. ap (option_map (λ e. e.value)) (same s n)) (λ s n miss. same s n)
-      (λ s n e hit stands old e' stands'.
-      let r : Some e' ≡ Some e = sym stands' ∙ same s n ∙ stands in
-      ap (λ o. option_map_or (λ y. y.marks) o e.marks) r ∙ old ∙ sym (marks-kept kind count v still))
+      (λ s n e hit stands old e' stands'. ap (λ (e : Entry ℕ). e.marks) (same_Some e' e (sym stands' ∙ same s n ∙ stands)) ∙ old ∙ sym (marks-kept kind count v still))
 
   -- a first or a last use
-  pub numbering-marked : (on : Bool) → is_used_as kind (Some (with_uses kind count v)) ≡ on → is_used (with_uses kind count v) ≡ true → ((s n : ℕ) → at' s n ≡ touched (ways v.space) v.numbers (with_mark (mark_of kind) on) at s n) → IsNumbering pid_max ways' at' bound' names'
+  pub numbering-marked : (on : Bool) → is_used_as kind (Some (with_uses kind count v)) ≡ on → is_used (with_uses kind count v) ≡ true → ((s n : ℕ) → at' s n ≡ touched (ways v.space) v.numbers (with_mark (mark_of kind) on) at s n) → IsNumbering pid_max ways at' bound' names'
   numbering-marked on turned live is =
-      numbering-used pid_max ways ways' at at' bound bound' names names' b same_ways same_bound i (with_uses kind count v) others v was now (space-kept kind count v) (numbers-kept kind count v) live
-      (λ s n. elim (decide_some (beside s (ways v.space) v.numbers) n) [
-        | inl hit ↦ ap (option_map (λ e. e.value)) (is s n ∙ touched-hit (ways v.space) v.numbers (with_mark (mark_of kind) on) at s n hit) ∙ value-marked (mark_of kind) on (at s n)
-        | inr miss ↦ ap (option_map (λ e. e.value)) (misses s n miss)
-      ]) misses
+      numbering-used pid_max ways at at' bound bound' names names' b same_bound i (with_uses kind count v) others v was now (path-kept kind count v).0 (path-kept kind count v).1 live
+      (leads-marked (ways v.space) v.numbers (mark_of kind) on at at' is) (λ s n miss. is s n ∙ touched-miss (ways v.space) v.numbers (with_mark (mark_of kind) on) at s n miss)
       (λ s n e hit stands old e' stands'.
       let r : Some e' ≡ with_mark (mark_of kind) on (Some e) = sym stands' ∙ is s n ∙ touched-hit (ways v.space) v.numbers (with_mark (mark_of kind) on) at s n hit ∙ ap (with_mark (mark_of kind) on) stands in
       ap (λ o. option_map_or (λ y. y.marks) o e'.marks) r ∙ ap (λ l. slice_set l (mark_of kind) on) old ∙ marks-turned kind count v on turned)
-    where
-      misses : (s n : ℕ) → beside s (ways v.space) v.numbers ≢ Some n → at' s n ≡ at s n
-      misses s n miss = is s n ∙ touched-miss (ways v.space) v.numbers (with_mark (mark_of kind) on) at s n miss
-
--- a change of marks leads nowhere else
-pub leads-marked : (path numbers : List ℕ) (m : ℕ) (on : Bool) (at at' : ℕ → ℕ → Option (Entry ℕ)) → ((s n : ℕ) → at' s n ≡ touched path numbers (with_mark m on) at s n) → (s n : ℕ) → leads at' s n ≡ leads at s n
-leads-marked path numbers m on at at' is s n = elim (decide_some (beside s path numbers) n) [
-  | inl hit ↦ ap (option_map (λ e. e.value)) (is s n ∙ touched-hit path numbers (with_mark m on) at s n hit) ∙ value-marked m on (at s n)
-  | inr miss ↦ ap (option_map (λ e. e.value)) (is s n ∙ touched-miss path numbers (with_mark m on) at s n miss)
-]
 
 -- a number that was in use is so still once others are given
 pub leads-given : (path numbers : List ℕ) (key : ℕ) (at at' : ℕ → ℕ → Option (Entry ℕ)) → ((s n : ℕ) → at' s n ≡ touched path numbers (λ _. given_to key) at s n) → (s n i : ℕ) → leads at s n ≡ Some i → (j : ℕ) × (leads at' s n ≡ Some j)

@@ -1,14 +1,14 @@
 -- What a numbering shows of the slabs.
-use Rattle.std.proofs.Common.{rules, inl, inr, zero, suc, ◌∷◌, ◌≡◌, ◌≢◌, ℕ, ◌<◌, arith, if◌then◌else◌, Bool, true, false, List, [], length, map, get_or, Option, Some, None, IsSome, IfSome, not, ◌&&◌, ◌==◌, ◌+◌, subst, is_some, is_none, refl, sym, ap, ◌∙◌, option_map, option_and_then, unwrap_or, find}
+use Rattle.std.proofs.Common.{rules, inl, inr, zero, suc, ◌∷◌, ◌≡◌, ◌≢◌, ℕ, ◌<◌, arith, if◌then◌else◌, Bool, true, false, List, [], length, map, get_or, Option, Some, None, IsSome, IfSome, not, ◌||◌, ◌==◌, ◌+◌, subst, is_some, is_none, refl, sym, ap, ◌∙◌, option_map, option_and_then, unwrap_or, find}
 use Rattle.std.specs.Prelude.{nat_lt, reverse, slice_get}
-use Rattle.pid_types.specs.Names.{beside_from}
+use Rattle.pid_types.specs.Names.{beside, beside_from}
 use Rattle.std.specs.Option.{option_map_or}
 use Rattle.std.proofs.lemmas.List.{length-map}
-use Rattle.std.proofs.lemmas.Bool.{cases_lt}
-use Rattle.std.proofs.lemmas.Option.{slice_get_within}
-use Rattle.std.proofs.lemmas.Bool.Decides.{nat_tests}
+use Rattle.std.proofs.lemmas.Bool.{cases_lt, cond_both, false_from_ne_true, ne_eqb, not_from_false, or_right}
+use Rattle.std.proofs.lemmas.Option.{slice_get_within, option_and_then_some}
+use Rattle.std.proofs.Math.ListN.{get_or-map}
 use Rattle.pid_types.specs.Chains.{contains}
-use Rattle.pid_types.specs.Draw.{cyclic_draw, restart}
+use Rattle.pid_types.specs.Draw.{cyclic_draw}
 use Rattle.pid_types.proofs.LeastFree.{draw-Some}
 use Rattle.cyclic_ids.specs.Ids.{Ids, planned}
 use Rattle.pid_numbers.specs.Table.{Table}
@@ -16,21 +16,39 @@ use Rattle.index_array.specs.Place.{Entry, entry_at, indexes, is_marked, with_ma
 use Rattle.index_array.proofs.Indexes.{contains_indexes}
 use Rattle.cyclic_ids.proofs.Draws.{cyclic_draw-same}
 use Rattle.ns_tree.specs.Tree.{Node, Tree, node_in, way, id_in, fell}
+use Rattle.ns_tree.specs.Vacancy.{IsDistinct}
 use Rattle.ns_tree.proofs.Paths as paths
 use Rattle.ns_tree.proofs.Vacancy.{filled-in}
 use Rattle.pid_numbers.proofs.Items as items
 use Rattle.pid_numbers.specs.Numbering.{Numbering, Identifier, moved, levels_of, is_there, namespace_at, id_at, has_fallen_at, identifier_at, path_at, number_in, number_of, taken_in, draw_in, is_used_as, is_used, with_uses, uses, more, IsNumberUsedAs, IsNextUsed}
 use Rattle.pid_types.specs.declared.call.Kind.{Kind}
 use Rattle.pid_types.specs.declared.call.Kind.TheVariants.{Task, Group, Session}
-use Rattle.pid_numbers.specs.Slabs.{numbering_of, namespace_of, with_cursors, entry_on, leads, plan_on, cursor_on, marks_of, mark_of, bound_on, touched, stepped, AreIn, ArePlanned, IsNumbering}
+use Rattle.pid_numbers.specs.Slabs.{numbering_of, namespace_of, with_cursors, entry_on, leads, plan_on, cursor_on, marks_of, mark_of, bound_on, touched, stepped, AreIn, ArePlanned, IsNumbering, IsKept}
 use Rattle.pid_numbers.specs.Table.{identifier_of, name_at}
-use Rattle.pid_numbers.proofs.Ties.{at_key, get_or-map_option, listed_from, listed, planned_each, space-kept, numbers-kept}
+use Rattle.pid_numbers.proofs.Ties.{at_key, among_from, listed, planned_each, path-kept, told}
 
 -- a look-up among the namespaces
 pub namespace-at : (cursor : ℕ → ℕ) (nodes : List (Option Node)) (s : ℕ) → get_or (with_cursors cursor nodes) s None ≡ option_map (namespace_of (cursor s)) (node_in nodes s)
 namespace-at cursor [] s = refl
 namespace-at cursor (o ∷ nodes) zero = refl
 namespace-at cursor (o ∷ nodes) (suc s) = namespace-at (λ s. cursor (suc s)) nodes s
+
+-- what is seen of one that is there or not
+pub map_or-map : {X Y Z : Type 0} (f : Y → Z) (g : X → Y) (o : Option X) (d : Z) → option_map_or f (option_map g o) d ≡ option_map_or (λ x. f (g x)) o d
+map_or-map f g None d = refl
+map_or-map f g (Some x) d = refl
+
+some-map : {X Y : Type 0} (g : X → Y) (o : Option X) → is_some (option_map g o) ≡ is_some o
+some-map g None = refl
+some-map g (Some x) = refl
+
+pub held : {X : Type 0} (o : Option X) → IsSome o → (v : X) × (o ≡ Some v)
+held None h = absurd (search rules)
+held (Some v) h = (v, refl)
+
+pub absent : {X : Type 0} (o : Option X) → is_some o ≡ false → o ≡ None
+absent None e = refl
+absent (Some v) e = absurd (cc)
 
 -- a namespace with a path is there
 pub there-of : (nodes : List (Option Node)) (s : ℕ) → 0 < length (way nodes s) → (z : Node) × (node_in nodes s ≡ Some z)
@@ -62,24 +80,16 @@ module _ (pid_max : ℕ) (tree : Tree) (ids : List (Ids ℕ)) (idents : Table) w
   space_is s = namespace-at (cursor_on ids) tree.nodes s
 
   pub there_is : (s : ℕ) → is_there numbering s ≡ is_some (node_in tree.nodes s)
-  there_is s = ap is_some (space_is s) ∙ go (node_in tree.nodes s)
-    where
-      go : (o : Option Node) → is_some (option_map (namespace_of (cursor_on ids s)) o) ≡ is_some o
-      go None = refl
-      go (Some t) = refl
+  there_is s = ap is_some (space_is s) ∙ some-map (namespace_of (cursor_on ids s)) (node_in tree.nodes s)
 
   pub path_is : (s : ℕ) → path_at numbering s ≡ way tree.nodes s
-  path_is s = ap (λ o. option_map_or (λ t. t.path) o []) (space_is s) ∙ go (node_in tree.nodes s)
-    where
-      go : (o : Option Node) → option_map_or (λ t. t.path) (option_map (namespace_of (cursor_on ids s)) o) [] ≡ option_map_or (λ t. t.path) o []
-      go None = refl
-      go (Some t) = refl
+  path_is s = ap (λ o. option_map_or (λ t. t.path) o []) (space_is s) ∙ map_or-map (λ t. t.path) (namespace_of (cursor_on ids s)) (node_in tree.nodes s) []
 
   pub paths_are : path_at numbering ≡ way tree.nodes
   paths_are = λ i s. path_is s i
 
   pub name_is : (k : ℕ) → identifier_at numbering k ≡ name_at idents k
-  name_is k = get_or-map_option identifier_of idents.slots k
+  name_is k = get_or-map (option_map identifier_of) idents.slots k None
 
   pub number_is : (k s : ℕ) → number_of numbering k s ≡ number_in (way tree.nodes) s (name_at idents k)
   number_is k s = ap (number_in (path_at numbering) s) (name_is k) ∙ ap (λ w. number_in w s (name_at idents k)) paths_are
@@ -97,13 +107,9 @@ module _ (pid_max : ℕ) (tree : Tree) (ids : List (Ids ℕ)) (idents : Table) w
     taken_same s n = go (entry_on ids s n) refl
       where
         go : (o : Option (Entry ℕ)) → entry_on ids s n ≡ o → is_some o ≡ contains (taken_in numbering s) n
-        go None is = bool_cases (contains (taken_in numbering s) n) refl
-          where
-            bool_cases : (b : Bool) → contains (taken_in numbering s) n ≡ b → false ≡ b
-            bool_cases false e = refl
-            bool_cases true e =
-                let r = listed_from (number_in (path_at numbering) s) numbering.names n e in
-                absurd (none_found s n (ap (option_map (λ e. e.value)) is) r.0 r.1)
+        go None is = sym (false_from_ne_true (contains (taken_in numbering s) n) (λ e.
+            let r = among_from (number_in (path_at numbering) s) None numbering.names n e in
+            none_found s n (ap (option_map (λ e. e.value)) is) r.0 r.2))
         go (Some e) is = sym (listed (number_in (path_at numbering) s) refl numbering.names e.value n (one_found s n e.value (ap (option_map (λ e. e.value)) is)))
 
     -- so a namespace that is there gives the number that the model draws
@@ -144,66 +150,58 @@ module _ (pid_max : ℕ) (tree : Tree) (ids : List (Ids ℕ)) (idents : Table) w
 
 -- a planned number has no entry
 pub plan_free : (ids : List (Ids ℕ)) (s n : ℕ) → plan_on ids s ≡ Some n → entry_on ids s n ≡ None
-plan_free ids s n e = go (slice_get ids s) e
-  where
-    bare : (o : Option (Entry ℕ)) → is_some o ≡ false → o ≡ None
-    bare None e = refl
-    bare (Some x) e = absurd (cc)
-
-    go : (o : Option (Ids ℕ)) → option_and_then planned o ≡ Some n → option_and_then (λ t. entry_at t.places n) o ≡ None
-    go None e = refl
-    go (Some z) e = bare (entry_at z.places n) (sym (contains_indexes z.places n) ∙ (draw-Some z.pid_max z.cursor (indexes z.places) n e).0)
-
-from_one : (cursor : ℕ) → 0 < restart cursor
-from_one cursor = go (nat_lt 300 cursor)
-  where
-    go : (b : Bool) → 0 < (if b then 300 else 1)
-    go true = omega arith
-    go false = omega arith
+plan_free ids s n e =
+    option_and_then_some planned (slice_get ids s) n e (λ z at d. ap (option_and_then (λ t. entry_at t.places n)) at
+    ∙ absent (entry_at z.places n) (sym (contains_indexes z.places n) ∙ (draw-Some z.pid_max z.cursor (indexes z.places) n d).0))
 
 -- and is in range
 pub plan_in_range : (pid_max : ℕ) (ids : List (Ids ℕ)) (s n : ℕ) → ((m : ℕ) → bound_on ids s ≡ Some m → m ≡ pid_max) → plan_on ids s ≡ Some n → (0 < n) × (n < pid_max)
-plan_in_range pid_max ids s n bounds e = go (slice_get ids s) bounds e
-  where
-    go : (o : Option (Ids ℕ)) → ((m : ℕ) → option_map (λ t. t.pid_max) o ≡ Some m → m ≡ pid_max) → option_and_then planned o ≡ Some n → (0 < n) × (n < pid_max)
-    go None b e = absurd (cc)
-    go (Some z) b e =
-        let drawn = draw-Some z.pid_max z.cursor (indexes z.places) n e in
-        let low = from_one z.cursor in
-        let same = b z.pid_max refl in
-        (omega (arith, low, drawn.1), omega (arith, drawn.2, same))
+plan_in_range pid_max ids s n bounds e = option_and_then_some planned (slice_get ids s) n e (λ z at d.
+    let drawn = draw-Some z.pid_max z.cursor (indexes z.places) n d in
+    let low = cond_both (nat_lt 300 z.cursor) 300 1 (λ x. 0 < x) (λ _. omega arith) (λ _. omega arith) in
+    let same = bounds z.pid_max (ap (option_map (λ t. t.pid_max)) at) in
+    (omega (arith, low, drawn.1), omega (arith, drawn.2, same)))
 
 -- and its namespace has numbers
 pub plan_in : (ids : List (Ids ℕ)) (s n : ℕ) → plan_on ids s ≡ Some n → s < length ids
-plan_in ids s n e = go (slice_get ids s) refl e
-  where
-    go : (o : Option (Ids ℕ)) → slice_get ids s ≡ o → option_and_then planned o ≡ Some n → s < length ids
-    go None at e = absurd (cc)
-    go (Some z) at e = slice_get_within ids s z at
+plan_in ids s n e = option_and_then_some planned (slice_get ids s) n e (λ z at d. slice_get_within ids s z at)
 
 pub below_bound : (ids : Ids ℕ) (n : ℕ) → planned ids ≡ Some n → n < ids.pid_max
 below_bound ids n e = (draw-Some ids.pid_max ids.cursor (indexes ids.places) n e).2
 
+-- what the plan of a path says of it
+pub record IsPlan (pid_max : ℕ) (nodes : List (Option Node)) (ids : List (Ids ℕ)) (space : ℕ) (numbers : List ℕ) : Type 0 where
+  pub len : length numbers ≡ length (way nodes space)
+  pub drawn : ArePlanned ids (way nodes space) numbers
+  pub distinct : IsDistinct (way nodes space)
+  -- each number of it is free, and in range
+  pub free : (j : ℕ) → j < length (way nodes space) → (entry_on ids (get_or (way nodes space) j 0) (get_or numbers j 0) ≡ None) × (0 < get_or numbers j 0) × (get_or numbers j 0 < pid_max)
+
+pub plan-of : (pid_max : ℕ) (tree : Tree) (ids : List (Ids ℕ)) (idents : Table) (b : Numbering) → numbering_of pid_max tree ids idents ≡ b → IsKept pid_max tree ids idents → (space : ℕ) (numbers : List ℕ)
+    → find (λ s. is_none (draw_in b s)) (path_at b space) ≡ None → numbers ≡ map (λ s. unwrap_or (draw_in b s) 0) (path_at b space) → IsPlan pid_max tree.nodes ids space numbers
+plan-of pid_max tree ids idents b view k space numbers all is = record {
+  len = planned_len pid_max tree ids idents k.whole.numbering space numbers here;
+  drawn = drawn;
+  distinct = paths.distinct-path (way tree.nodes) (way tree.nodes space) (k.whole.numbering.tree.paths space);
+  free = λ j lt.
+      let s = get_or (way tree.nodes space) j 0 in
+      let range = plan_in_range pid_max ids s (get_or numbers j 0) (λ m e. k.whole.numbering.bounds s m e) (drawn j lt) in
+      (plan_free ids s (get_or numbers j 0) (drawn j lt), range.0, range.1);
+}
+  where
+    here : numbers ≡ map (λ s. unwrap_or (draw_in (numbering_of pid_max tree ids idents) s) 0) (path_at (numbering_of pid_max tree ids idents) space)
+    here = subst (λ b. numbers ≡ map (λ s. unwrap_or (draw_in b s) 0) (path_at b space)) (sym view) is
+
+    drawn : ArePlanned ids (way tree.nodes space) numbers
+    drawn = all_planned pid_max tree ids idents k.whole.numbering k.count space numbers (subst (λ b. find (λ s. is_none (draw_in b s)) (path_at b space) ≡ None) (sym view) all) here
+
 -- a namespace that is there is one of the tree
 pub there : (pid_max : ℕ) (tree : Tree) (ids : List (Ids ℕ)) (idents : Table) (b : Numbering) → numbering_of pid_max tree ids idents ≡ b → (s : ℕ) → IsSome (namespace_at b s) → IsSome (node_in tree.nodes s)
-there pid_max tree ids idents b view s some = go (node_in tree.nodes s) (subst IsSome (ap (λ z. namespace_at z s) (sym view) ∙ space_is pid_max tree ids idents s) some)
-  where
-    go : (o : Option Node) → IsSome (option_map (namespace_of (cursor_on ids s)) o) → IsSome o
-    go None h = h
-    go (Some z) h = refl
+there pid_max tree ids idents b view s some = sym (there_is pid_max tree ids idents s) ∙ ap (λ z. is_there z s) view ∙ some
 
 -- the identifier with a key is that of the slab
 pub identifier_is : (pid_max : ℕ) (tree : Tree) (ids : List (Ids ℕ)) (idents : Table) (b : Numbering) → numbering_of pid_max tree ids idents ≡ b → (k : ℕ) → identifier_at b k ≡ name_at idents k
 identifier_is pid_max tree ids idents b view k = ap (λ z. identifier_at z k) (sym view) ∙ name_is pid_max tree ids idents k
-
--- what is there, and what is not
-pub held : {X : Type 0} (o : Option X) → IsSome o → (v : X) × (o ≡ Some v)
-held None h = absurd (search rules)
-held (Some v) h = (v, refl)
-
-pub absent : {X : Type 0} (o : Option X) → is_some o ≡ false → o ≡ None
-absent None e = refl
-absent (Some v) e = absurd (cc)
 
 -- one that has a use is there
 pub used : (kind : Kind) (o : Option Identifier) → is_used_as kind o ≡ true → (v : Identifier) × (o ≡ Some v)
@@ -219,8 +217,8 @@ pub marked-as : (kind : Kind) (n : ℕ) (v : Identifier) (on : Bool) (ways : ℕ
     → IfSome o (λ u. (s m : ℕ) → at' s m ≡ touched (ways u.space) u.numbers (with_mark (mark_of kind) on) at s m) → o ≡ Some (with_uses kind n v) → (s m : ℕ) → at' s m ≡ touched (ways v.space) v.numbers (with_mark (mark_of kind) on) at s m
 marked-as kind n v on ways at at' o e now s m =
     at-some (λ u. (s m : ℕ) → at' s m ≡ touched (ways u.space) u.numbers (with_mark (mark_of kind) on) at s m) o (with_uses kind n v) e now s m
-    ∙ ap (λ p. touched (ways p) (with_uses kind n v).numbers (with_mark (mark_of kind) on) at s m) (space-kept kind n v)
-    ∙ ap (λ l. touched (ways v.space) l (with_mark (mark_of kind) on) at s m) (numbers-kept kind n v)
+    ∙ ap (λ p. touched (ways p) (with_uses kind n v).numbers (with_mark (mark_of kind) on) at s m) (path-kept kind n v).0
+    ∙ ap (λ l. touched (ways v.space) l (with_mark (mark_of kind) on) at s m) (path-kept kind n v).1
 
 -- a use that was counted
 pub used-with : (kind : Kind) (n : ℕ) (v : Identifier) → is_used_as kind (Some (with_uses kind n v)) ≡ not (n == 0)
@@ -229,31 +227,13 @@ used-with Group n v = refl
 used-with Session n v = refl
 
 pub more_used : (kind : Kind) (v : Identifier) → is_used_as kind (Some (more kind v)) ≡ true
-more_used kind v = used-with kind (uses kind v + 1) v ∙ go (uses kind v)
-  where
-    go : (n : ℕ) → not (n + 1 == 0) ≡ true
-    go n = grind (arith, nat_tests)
+more_used kind v = used-with kind (uses kind v + 1) v ∙ not_from_false (uses kind v + 1 == 0) (ne_eqb (uses kind v + 1) 0 (λ e. omega (arith, e)))
 
 -- an identifier with a use of some kind is used
 pub used_some : (kind : Kind) (v : Identifier) → is_used_as kind (Some v) ≡ true → is_used v ≡ true
-used_some Task v e = go (v.tasks == 0) e
-  where
-    go : (b : Bool) → not b ≡ true → not (b && ((v.groups == 0) && (v.sessions == 0))) ≡ true
-    go true e = absurd (cc)
-    go false e = refl
-used_some Group v e = go (v.tasks == 0) (v.groups == 0) e
-  where
-    go : (a b : Bool) → not b ≡ true → not (a && (b && (v.sessions == 0))) ≡ true
-    go a true e = absurd (cc)
-    go true false e = refl
-    go false false e = refl
-used_some Session v e = go (v.tasks == 0) (v.groups == 0) (v.sessions == 0) e
-  where
-    go : (a b d : Bool) → not d ≡ true → not (a && (b && d)) ≡ true
-    go a b true e = absurd (cc)
-    go true true false e = refl
-    go true false false e = refl
-    go false b false e = refl
+used_some Task v e = told v ∙ ap (λ b. b || (is_used_as Group (Some v) || is_used_as Session (Some v))) e
+used_some Group v e = told v ∙ or_right (is_used_as Task (Some v)) (is_used_as Group (Some v) || is_used_as Session (Some v)) (ap (λ b. b || is_used_as Session (Some v)) e)
+used_some Session v e = told v ∙ or_right (is_used_as Task (Some v)) (is_used_as Group (Some v) || is_used_as Session (Some v)) (or_right (is_used_as Group (Some v)) (is_used_as Session (Some v)) e)
 
 get_mark : (kind : Kind) (o : Option Identifier) → get_or (marks_of o) (mark_of kind) false ≡ is_used_as kind o
 get_mark Task o = refl
@@ -323,11 +303,7 @@ id_is pid_max tree ids idents b view s = ap (option_map (λ t. t.id)) (namespace
     go (Some t) = refl
 
 pub fell_is : (pid_max : ℕ) (tree : Tree) (ids : List (Ids ℕ)) (idents : Table) (b : Numbering) → numbering_of pid_max tree ids idents ≡ b → (s : ℕ) → has_fallen_at b s ≡ fell tree.nodes s
-fell_is pid_max tree ids idents b view s = ap (λ o. option_map_or (λ t. t.fallen) o false) (namespace_is pid_max tree ids idents b view s) ∙ go (node_in tree.nodes s)
-  where
-    go : (o : Option Node) → option_map_or (λ t. t.fallen) (option_map (namespace_of (cursor_on ids s)) o) false ≡ option_map_or (λ t. t.fallen) o false
-    go None = refl
-    go (Some t) = refl
+fell_is pid_max tree ids idents b view s = ap (λ o. option_map_or (λ t. t.fallen) o false) (namespace_is pid_max tree ids idents b view s) ∙ map_or-map (λ t. t.fallen) (namespace_of (cursor_on ids s)) (node_in tree.nodes s) false
 
 -- and its path
 pub path-of : (pid_max : ℕ) (tree : Tree) (ids : List (Ids ℕ)) (idents : Table) (b : Numbering) → numbering_of pid_max tree ids idents ≡ b → (s : ℕ) → path_at b s ≡ way tree.nodes s
@@ -337,6 +313,12 @@ path-of pid_max tree ids idents b view s = ap (λ z. path_at z s) (sym view) ∙
 pub home : (o : Option Identifier) (own : ℕ) → Some own ≡ option_map (λ (u : Identifier). u.space) o → (u : Identifier) × (o ≡ Some u) × (u.space ≡ own)
 home None own e = absurd (cc)
 home (Some u) own e = (u, refl, ap (λ o. unwrap_or o 0) (sym e))
+
+-- its number in a namespace
+pub number-of : (pid_max : ℕ) (tree : Tree) (ids : List (Ids ℕ)) (idents : Table) (b : Numbering) → numbering_of pid_max tree ids idents ≡ b → (i s own : ℕ) (u : Identifier) → name_at idents i ≡ Some u → u.space ≡ own
+    → number_of b i s ≡ beside s (way tree.nodes own) u.numbers
+number-of pid_max tree ids idents b view i s own u is at =
+    ap (λ z. number_of z i s) (sym view) ∙ number_is pid_max tree ids idents i s ∙ ap (number_in (way tree.nodes) s) is ∙ ap (λ p. beside s (way tree.nodes p) u.numbers) at
 
 -- its numbers from a namespace inwards
 pub levels-of : (pid_max : ℕ) (tree : Tree) (ids : List (Ids ℕ)) (idents : Table) (b : Numbering) → numbering_of pid_max tree ids idents ≡ b → (i s own : ℕ) (u : Identifier) → name_at idents i ≡ Some u → u.space ≡ own

@@ -1,7 +1,8 @@
 -- The way up from a key: what a step leaves of it.
-use Rattle.std.proofs.Common.{◌≡◌, ◌≢◌, ℕ, zero, suc, ◌+◌, ◌-◌, ◌<◌, ◌≤◌, ◌==◌, Bool, true, false, ◌||◌, if◌then◌else◌, Option, Some, None, option_and_then, refl, sym, ap, ◌∙◌, arith, List, set, length}
+use Rattle.std.proofs.Common.{◌≡◌, ℕ, zero, suc, ◌+◌, ◌-◌, ◌<◌, ◌≤◌, ◌==◌, Bool, true, false, ◌||◌, if◌then◌else◌, Option, Some, None, option_and_then, refl, sym, ap, ◌∙◌, arith, List, set, length}
 use Rattle.std.specs.Option.{option_map_or}
-use Rattle.std.proofs.lemmas.Bool.{eq-eqb, eqb-true, ne_eqb, cases_eq}
+use Rattle.std.proofs.lemmas.Bool.{eq-eqb, eqb-true, cases_eq}
+pub use Rattle.std.proofs.lemmas.Bool.{ne_eqb as eqb-apart}
 use Rattle.std.proofs.lemmas.List.{get_or-set_same, get_or-set_other}
 use Rattle.slab.specs.Slab.{Slab, get}
 use Rattle.pids_charge.specs.declared.node.Node.{Node}
@@ -14,9 +15,6 @@ one_if b = if b then 1 else 0
 
 pub eqb-self : (k : ℕ) → (k == k) ≡ true
 eqb-self k = eq-eqb k k refl
-
-pub eqb-apart : (a b : ℕ) → a ≢ b → (a == b) ≡ false
-eqb-apart a b differ = ne_eqb a b differ
 
 module _ (up : ℕ → Option ℕ) (lv : ℕ → ℕ) (levels : (j p : ℕ) → up j ≡ Some p → lv j ≡ suc (lv p)) where
   pub reaches-self : (n k : ℕ) → reaches up n k k ≡ true

@@ -117,17 +117,7 @@ pub record Visits (nodes : Slab Node) (totals : ℕ → ℕ) (at : Option ℕ) (
   pub found : get nodes a ≡ Some n
 
 module _ {nodes : Slab Node} {totals : ℕ → ℕ} {at : Option ℕ} {a : ℕ} {n : Node} (visits : Visits nodes totals at a n) where
-  w : IsTree (tree_of nodes)
-  w = visits.tree
-
-  counted : IsCounted nodes totals at
-  counted = visits.counted
-
-  is : at ≡ Some a
-  is = visits.is
-
-  found : get nodes a ≡ Some n
-  found = visits.found
+  open visits use {tree as w, counted, is, found}
 
   standing_is : (tree_of nodes).stand a ≡ n.standing
   standing_is = ap (λ o. option_map_or (λ (x : Node). x.standing) o false) found

@@ -1,12 +1,13 @@
 -- One more control group.
-use Rattle.std.proofs.Common.{◌≡◌, ◌≢◌, ℕ, zero, suc, ◌+◌, ◌<◌, ◌≤◌, ◌==◌, Bool, true, false, if◌then◌else◌, Option, Some, None, option_map, option_and_then, is_some, List, [], ◌∷◌, ◌++◌, length, set, map, refl, sym, ap, subst, ◌∙◌, arith}
+use Rattle.std.proofs.Common.{◌≡◌, ◌≢◌, ℕ, zero, suc, ◌+◌, ◌<◌, ◌≤◌, Bool, true, false, if◌then◌else◌, Option, Some, None, option_map, option_and_then, is_some, List, [], ◌∷◌, ◌++◌, length, set, map, refl, sym, ap, subst, ◌∙◌, arith}
 use Rattle.std.specs.Option.{option_map_or}
 use Rattle.std.specs.List.{AllByRecursion}
-use Rattle.std.proofs.lemmas.Bool.{cases_eq, eq-eqb}
+use Rattle.std.proofs.lemmas.Bool.{cases_eq}
 use Rattle.std.proofs.lemmas.List.{get_or-set_same, get_or-set_other}
 use Rattle.slab.specs.Slab.{Slab, get, ContainsKey, Updates}
 use Rattle.member_lists.specs.Owners.{owner_of}
-use Rattle.id_slab.specs.Ids.{key_of, AreBelow}
+use Rattle.id_slab.specs.Ids.{AreBelow}
+use Rattle.id_slab.proofs.Keys.{key_of-push, key_of-new}
 use Rattle.pid_types.specs.Chains.{climb}
 use Rattle.pid_types.specs.declared.plain.Control.{Control}
 use Rattle.pid_types.specs.Controls.{parent_control, control_path}
@@ -15,7 +16,7 @@ use Rattle.pids_charge.specs.declared.counter.Counter.{Counter}
 use Rattle.pids_charge.proofs.Linked as linked
 use Rattle.pids_charge.specs.Nodes.{Tree, tree_of, is_under, tasks_in, total_in, all_in, IsTree}
 use Rattle.pids_charge.specs.Kept.{control_in, child_of, limit_in, seen, IsEntry, IsListed, IsCounted, IsKept, counter_at, total_at}
-use Rattle.pids_charge.proofs.Climbs.{up_levels, eqb-apart}
+use Rattle.pids_charge.proofs.Climbs.{up_levels}
 use Rattle.pids_charge.proofs.Sums.{sum-zero}
 use Rattle.pids_charge.proofs.Views.{home_in, parent-is, there, nearest-self, kept_standing}
 use Rattle.pids_charge.proofs.Written.{reaches_there}
@@ -78,23 +79,7 @@ pub record Makes (nodes new : Slab Node) (a q id level : ℕ) : Type 0 where
   pub low : level ≤ 64
 
 module _ {nodes new : Slab Node} {a q id level : ℕ} (makes : Makes nodes new a q id level) where
-  old : get nodes a ≡ None
-  old = makes.old
-
-  updates : Updates nodes new a (Some (node id q level))
-  updates = makes.updates
-
-  w : IsTree (tree_of nodes)
-  w = makes.tree
-
-  q_up : (tree_of nodes).stand q ≡ true
-  q_up = makes.stands
-
-  next : level ≡ (tree_of nodes).level q + 1
-  next = makes.next
-
-  low : level ≤ 64
-  low = makes.low
+  open makes use {old, updates, tree as w, stands as q_up, next, low}
 
   q_apart : q ≢ a
   q_apart e = let h = ap (tree_of nodes).stand e ∙ ap (λ o. option_map_or (λ (x : Node). x.standing) o false) old in cc
@@ -147,17 +132,6 @@ module _ {nodes new : Slab Node} {a q id level : ℕ} (makes : Makes nodes new a
     entry_apart : (p : ℕ × ℕ) → IsEntry (tree_of nodes) p → p.1 ≢ a
     entry_apart p e s = let h = sym (e.0) ∙ ap (tree_of nodes).stand s ∙ ap (λ o. option_map_or (λ (x : Node). x.standing) o false) old in cc
 
-    key_of-push : (ps : List (ℕ × ℕ)) (i k : ℕ) → key_of ps i ≡ Some k → key_of (ps ++ (id, a) ∷ []) i ≡ Some k
-    key_of-push [] i k e = absurd (cc)
-    key_of-push (p ∷ ps) i k e = go (p.0 == i) (λ f. key_of-push ps i k f) e
-      where
-        go : (b : Bool) → (key_of ps i ≡ Some k → key_of (ps ++ (id, a) ∷ []) i ≡ Some k) → (if b then Some p.1 else key_of ps i) ≡ Some k → (if b then Some p.1 else key_of (ps ++ (id, a) ∷ []) i) ≡ Some k
-        go b rest e = grind arith
-
-    key_of-new : (ps : List (ℕ × ℕ)) → AreBelow ps id → key_of (ps ++ (id, a) ∷ []) id ≡ Some a
-    key_of-new [] all = ap (λ (b : Bool). if b then Some a else None) (eq-eqb id id refl)
-    key_of-new (p ∷ ps) all = ap (λ (b : Bool). if b then Some p.1 else key_of (ps ++ (id, a) ∷ []) id) (eqb-apart p.0 id (λ e. let h = all.0 in omega (arith, h, e))) ∙ key_of-new ps all.1
-
     all-push : (P : ℕ × ℕ → Type 0) (ps : List (ℕ × ℕ)) → AllByRecursion P ps → P (id, a) → AllByRecursion P (ps ++ (id, a) ∷ [])
     all-push P [] all here = (here, tt)
     all-push P (p ∷ ps) all here = (all.0, all-push P ps all.1 here)
@@ -168,7 +142,7 @@ module _ {nodes new : Slab Node} {a q id level : ℕ} (makes : Makes nodes new a
       entries = all-push (IsEntry (tree_of new)) ids
           (all-weaken (IsEntry (tree_of nodes)) (IsEntry (tree_of new)) (λ p e. let d = entry_apart p e in (same (λ o. option_map_or (λ (x : Node). x.standing) o false) p.1 d ∙ e.0, same (λ o. option_map_or (λ (x : Node). x.id) o 0) p.1 d ∙ e.1)) ids l.entries)
           (stand_a, ap (λ o. option_map_or (λ (x : Node). x.id) o 0) updates.changed);
-      listed = grind (arith, cases_eq, key_of-new, same, key_of-push);
+      listed = grind (arith, cases_eq, key_of-new ids id a below, same, key_of-push);
     }
 
     pub controls-made : map (control_in (tree_of new) (limit_in new)) (ids ++ (id, a) ∷ []) ≡ map (control_in (tree_of nodes) (limit_in nodes)) ids ++ (let g : Control = record { id = id; parent = Some ((tree_of nodes).id q); limit = None } in g) ∷ []

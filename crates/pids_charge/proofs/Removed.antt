@@ -4,9 +4,8 @@ use Rattle.std.specs.Option.{option_map_or, option_eq}
 use Rattle.std.specs.List.{AllByRecursion, filter, list_any}
 use Rattle.std.proofs.Math.Path.{fun_ext}
 use Rattle.std.proofs.lemmas.Bool.{cases_eq, eq-eqb, eqb-true, or_left, or_right, or_from, lt-ltb, le-ltb, false_from_ne_true}
-use Rattle.std.proofs.lemmas.List.{length-set, get_or-set_same, get_or-set_other}
+use Rattle.std.proofs.lemmas.List.{get_or-set_same, get_or-set_other}
 use Rattle.slab.specs.Slab.{Slab, get, with_value, Updates}
-use Rattle.slab.proofs.SlabLemmas.{Updates-with_value}
 use Rattle.member_lists.specs.Owners.{owner_of}
 use Rattle.id_slab.specs.Ids.{key_of, without}
 use Rattle.pid_types.specs.declared.plain.Control.{Control}
@@ -19,6 +18,7 @@ use Rattle.pids_charge.proofs.Climbs.{eqb-apart, up-is, weight-self, weight_one,
 use Rattle.pids_charge.proofs.Views.{home_in, same_key, live-is, kept_cases, kept_standing, nearest-self, id-is}
 use Rattle.pids_charge.proofs.Sums.{sum-ext}
 use Rattle.pids_charge.proofs.Bridges.{nearest_stands}
+use Rattle.pids_charge.proofs.Written.{set-updates, set-field, set-len}
 
 -- the control group of key c, below that of key p, is removed: its node stands no more, and nothing that stands is below it
 pub record Removes (nodes new : Slab Node) (c p : ℕ) (n : Node) : Type 0 where
@@ -30,56 +30,30 @@ pub record Removes (nodes new : Slab Node) (c p : ℕ) (n : Node) : Type 0 where
   pub childless : (k : ℕ) → child_of (tree_of nodes) k ≢ Some c
 
 module _ {nodes new : Slab Node} {c p : ℕ} {n : Node} (removes : Removes nodes new c p n) where
-  found : get nodes c ≡ Some n
-  found = removes.found
-
-  up : n.standing ≡ true
-  up = removes.up
-
-  parent : n.parent ≡ Some p
-  parent = removes.parent
-
-  is : new ≡ with_value nodes c (record n { standing = false })
-  is = removes.is
-
-  w : IsTree (tree_of nodes)
-  w = removes.tree
-
-  childless : (k : ℕ) → child_of (tree_of nodes) k ≢ Some c
-  childless = removes.childless
+  open removes use {found, up, parent, is, tree as w, childless}
 
   updates : Updates nodes new c (Some (record n { standing = false }))
-  updates = subst (λ x. Updates nodes x c (Some (record n { standing = false }))) (sym is) (Updates-with_value nodes c (record n { standing = false }) (ap is_some found))
+  updates = set-updates nodes new c n (record n { standing = false }) found is
 
-  here : get new c ≡ Some (record n { standing = false })
-  here = updates.changed
-
-  others : (j : ℕ) → j ≢ c → get new j ≡ get nodes j
-  others = updates.others
-
-  field : {X : Type 0} (f : Option Node → X) → f (Some (record n { standing = false })) ≡ f (Some n) → (j : ℕ) → f (get new j) ≡ f (get nodes j)
-  field f same j = elim (cases_eq j c) [
-    | inl e ↦ ap (λ i. f (get new i)) e ∙ ap f updates.changed ∙ same ∙ sym (ap f found) ∙ sym (ap (λ i. f (get nodes i)) e)
-    | inr differs ↦ ap f (updates.others j differs)
-  ]
+  open updates use {changed as here, others}
 
   ups : (tree_of new).up ≡ (tree_of nodes).up
-  ups = fun_ext (field (option_and_then (λ x. x.parent)) refl)
+  ups = fun_ext (set-field nodes new c n (record n { standing = false }) found is (option_and_then (λ x. x.parent)) refl)
 
   levels : (tree_of new).level ≡ (tree_of nodes).level
-  levels = fun_ext (field (λ o. option_map_or (λ x. x.level) o 0) refl)
+  levels = fun_ext (set-field nodes new c n (record n { standing = false }) found is (λ o. option_map_or (λ x. x.level) o 0) refl)
 
   ids_same : (tree_of new).id ≡ (tree_of nodes).id
-  ids_same = fun_ext (field (λ o. option_map_or (λ x. x.id) o 0) refl)
+  ids_same = fun_ext (set-field nodes new c n (record n { standing = false }) found is (λ o. option_map_or (λ x. x.id) o 0) refl)
 
   limits : limit_in new ≡ limit_in nodes
-  limits = fun_ext (field (option_and_then (λ x. x.limit)) refl)
+  limits = fun_ext (set-field nodes new c n (record n { standing = false }) found is (option_and_then (λ x. x.limit)) refl)
 
   tasks : tasks_in new ≡ tasks_in nodes
-  tasks = fun_ext (field (λ o. option_map_or (λ x. x.live + x.zombies) o 0) refl)
+  tasks = fun_ext (set-field nodes new c n (record n { standing = false }) found is (λ o. option_map_or (λ x. x.live + x.zombies) o 0) refl)
 
   pub there_same : (j : ℕ) → (tree_of new).there j ≡ (tree_of nodes).there j
-  there_same = field is_some refl
+  there_same = set-field nodes new c n (record n { standing = false }) found is is_some refl
 
   stand_here : (tree_of new).stand c ≡ false
   stand_here = ap (λ o. option_map_or (λ (x : Node). x.standing) o false) updates.changed
@@ -97,7 +71,7 @@ module _ {nodes new : Slab Node} {c p : ℕ} {n : Node} (removes : Removes nodes
   up_c = up-is nodes c n found ∙ parent
 
   slots : length new.slots ≡ length nodes.slots
-  slots = ap (λ (x : Slab Node). length x.slots) is ∙ length-set nodes.slots c (Some (record n { standing = false }))
+  slots = set-len nodes new c n (record n { standing = false }) found is
 
   pub under-same : (j k : ℕ) → is_under (tree_of new) j k ≡ is_under (tree_of nodes) j k
   under-same j k = ap (λ u. reaches u ((tree_of new).level j) j k) ups ∙ ap (λ l. reaches (tree_of nodes).up (l j) j k) levels
@@ -242,7 +216,7 @@ module _ {nodes new : Slab Node} {c p : ℕ} {n : Node} (removes : Removes nodes
   unfolding redirect
   home-unstood k = elim (cases_eq k c) [
     | inl e ↦ ap (home_in new) e ∙ at_c ∙ sym (ap (λ i. option_and_then (handed_on ((tree_of nodes).id c) ((tree_of nodes).id p)) (home_in nodes i)) e)
-    | inr d ↦ ap (option_and_then (seen (tree_of new) k)) (others removes k d) ∙ other k d (get nodes k) refl
+    | inr d ↦ ap (option_and_then (seen (tree_of new) k)) ((updates removes).others k d) ∙ other k d (get nodes k) refl
   ]
     where
       id_k : (k : ℕ) → (tree_of new).id (standing_key (tree_of new) k) ≡ (tree_of nodes).id (redirect (standing_key (tree_of nodes) k))
@@ -254,7 +228,7 @@ module _ {nodes new : Slab Node} {c p : ℕ} {n : Node} (removes : Removes nodes
       at_c : home_in new c ≡ option_and_then (handed_on ((tree_of nodes).id c) ((tree_of nodes).id p)) (home_in nodes c)
       at_c =
           let h : Home = record { id = (tree_of nodes).id (standing_key (tree_of nodes) c); stands = n.standing; live = n.live; zombies = n.zombies } in
-          ap (option_and_then (seen (tree_of new) c)) (here removes)
+          ap (option_and_then (seen (tree_of new) c)) (updates removes).changed
           ∙ ap (λ i. kept (record { id = i; stands = false; live = n.live; zombies = n.zombies })) (id_k c ∙ ap (λ s. (tree_of nodes).id (redirect s)) c_key ∙ ap (λ (b : Bool). (tree_of nodes).id (if b then p else c)) (eq-eqb c c refl))
           ∙ sym (ap (λ o. option_and_then (handed_on ((tree_of nodes).id c) ((tree_of nodes).id p)) (option_and_then (seen (tree_of nodes) c) o)) removes.found
           ∙ ap (option_and_then (handed_on ((tree_of nodes).id c) ((tree_of nodes).id p))) (kept_standing h removes.up)

@@ -1,10 +1,10 @@
 -- What a contract sees of the nodes, by look-ups.
-use Rattle.std.proofs.Common.{◌≡◌, ◌⊎◌, inl, inr, ℕ, zero, suc, ◌+◌, ◌<◌, ◌==◌, Bool, true, false, if◌then◌else◌, Option, Some, None, option_map, option_and_then, is_some, IsSome, IfSome, MatchOption, List, [], ◌∷◌, get_or, length, map, refl, sym, ap, ◌∙◌, arith}
+use Rattle.std.proofs.Common.{◌≡◌, ◌⊎◌, inl, inr, ℕ, zero, suc, ◌+◌, ◌<◌, true, false, Option, Some, None, option_map, option_and_then, is_some, IsSome, IfSome, MatchOption, List, [], ◌∷◌, get_or, length, map, refl, sym, ap, ◌∙◌, arith}
 use Rattle.std.specs.Option.{option_map_or}
-use Rattle.std.specs.List.{AllByRecursion}
 use Rattle.std.proofs.lemmas.Bool.{eqb-true, lt-ltb, cases_lt}
 use Rattle.slab.specs.Slab.{Slab, get, ContainsKey}
 use Rattle.id_slab.specs.Ids.{key_of}
+use Rattle.id_slab.proofs.Keys.{entry_of}
 use Rattle.pid_types.specs.declared.plain.Control.{Control}
 use Rattle.pid_types.specs.Controls.{control_at, parent_control}
 use Rattle.pids_charge.specs.declared.node.Node.{Node}
@@ -76,6 +76,17 @@ all-is nodes ids =
     ∙ ap (λ n. sum_below n (λ k. tasks_of (home_at (charges_of nodes ids) k))) (length-each (λ k slot. option_and_then (seen (tree_of nodes) k) slot) nodes.slots)
     ∙ sum-ext (length nodes.slots) (λ k. tasks_of (home_at (charges_of nodes ids) k)) (tasks_in nodes) (λ k. tasks-is nodes ids k)
 
+-- what a contract says of the tasks is so of the nodes
+module _ (nodes : Slab Node) (ids : List (ℕ × ℕ)) (v : Charges) (is : charges_of nodes ids ≡ v) where
+  pub all-of : all_tasks v ≡ all_in nodes
+  all-of = ap all_tasks (sym is) ∙ all-is nodes ids
+
+  pub live-of : (k : ℕ) → live_at v k ≡ live_in nodes k
+  live-of k = ap (λ (x : Charges). live_at x k) (sym is) ∙ live-is nodes ids k
+
+  pub zombies-of : (k : ℕ) → zombies_at v k ≡ zombies_in nodes k
+  zombies-of k = ap (λ (x : Charges). zombies_at x k) (sym is) ∙ zombies-is nodes ids k
+
 -- who stands is there
 pub there : (nodes : Slab Node) (k : ℕ) → (tree_of nodes).stand k ≡ true → ContainsKey nodes k
 there nodes k is = grind arith
@@ -84,13 +95,6 @@ module _ (t : Tree) (limits : ℕ → Option ℕ) where
   pub control-is : (ids : List (ℕ × ℕ)) (id : ℕ) → control_at (map (control_in t limits) ids) id ≡ option_map (λ k. control_in t limits (id, k)) (key_of ids id)
   control-is [] id = refl
   control-is (p ∷ ids) id = grind (arith, eqb-true, control-is ids id)
-
-  pub entry_of : (ids : List (ℕ × ℕ)) (id k : ℕ) → AllByRecursion (IsEntry t) ids → key_of ids id ≡ Some k → (t.stand k ≡ true) × (t.id k ≡ id)
-  entry_of [] id k all is = absurd (cc)
-  entry_of (p ∷ ids) id k all is = go (p.0 == id) refl (λ e. entry_of ids id k all.1 e) is
-    where
-      go : (b : Bool) → (p.0 == id) ≡ b → (key_of ids id ≡ Some k → (t.stand k ≡ true) × (t.id k ≡ id)) → (if b then Some p.1 else key_of ids id) ≡ Some k → (t.stand k ≡ true) × (t.id k ≡ id)
-      go b e rest is = grind (arith, eqb-true)
 
   module _ (children : List (Option ℕ)) (ids : List (ℕ × ℕ)) (w : IsListed t children ids) where
     pub same_key : (j c : ℕ) → t.stand j ≡ true → t.stand c ≡ true → t.id j ≡ t.id c → j ≡ c
@@ -148,7 +152,7 @@ pub find_is : (nodes : Slab Node) (children : List (Option ℕ)) (ids : List (�
 find_is nodes children ids v is l id None e = (sym (ap (λ (x : Charges). control_at x.controls id) is) ∙ control-is (tree_of nodes) (limit_in nodes) ids id ∙ ap (option_map (λ k. control_in (tree_of nodes) (limit_in nodes) (id, k))) e, tt, tt, tt)
 find_is nodes children ids v is l id (Some c) e =
     let at = sym (ap (λ (x : Charges). control_at x.controls id) is) ∙ control-is (tree_of nodes) (limit_in nodes) ids id ∙ ap (option_map (λ k. control_in (tree_of nodes) (limit_in nodes) (id, k))) e in
-    let entry = entry_of (tree_of nodes) (limit_in nodes) ids id c l.entries e in
+    let entry = entry_of (λ i k. IsEntry (tree_of nodes) (i, k)) ids id c l.entries e in
     let up : stands v c ≡ true = sym (ap (λ (x : Charges). stands x c) is) ∙ stands-is nodes ids c ∙ entry.0 in (
       ap is_some at,
       up,

@@ -10,10 +10,10 @@ use Rattle.pids_charge.specs.declared.node.Node.{Node}
 use Rattle.pids_charge.specs.Sums.{sum_below}
 use Rattle.pids_charge.specs.Nodes.{Tree, tree_of, reaches, is_under, weight, left, HasLevels, live_in, tasks_in, total_in, all_in, IsTree}
 use Rattle.pids_charge.specs.Charges.{Home, Charges, home_at, ChangesHome}
-use Rattle.pids_charge.specs.Kept.{seen, control_in, charges_of, IsCounted, ChangesTasks, limit_in}
+use Rattle.pids_charge.specs.Kept.{seen, standing_key, control_in, charges_of, IsCounted, ChangesTasks, limit_in}
 use Rattle.pids_charge.proofs.Climbs.{one_if}
 use Rattle.pids_charge.proofs.Sums.{sum-at, sum_le, sum_ge}
-use Rattle.pids_charge.proofs.Views.{home_at-is}
+use Rattle.pids_charge.proofs.Views.{home_at-is, field-is, kept_standing}
 
 abbrev pub bare : Node → Node
 bare n = record n { live = 0; zombies = 0; limit = None }
@@ -80,6 +80,20 @@ module _ (nodes : Slab Node) (k : ℕ) (n : Node) (found : get nodes k ≡ Some 
   pub none_live : (totals : ℕ → ℕ) (at : Option ℕ) → IsCounted nodes totals at → n.standing ≡ false → n.live ≡ 0
   none_live totals at w gone = grind arith
 
+-- a node that is written, and the others
+module _ (nodes new : Slab Node) (k : ℕ) (n m : Node) (found : get nodes k ≡ Some n) (is : new ≡ with_value nodes k m) where
+  pub set-updates : Updates nodes new k (Some m)
+  set-updates = subst (λ x. Updates nodes x k (Some m)) (sym is) (Updates-with_value nodes k m (ap is_some found))
+
+  pub set-field : {X : Type 0} (f : Option Node → X) → f (Some m) ≡ f (Some n) → (j : ℕ) → f (get new j) ≡ f (get nodes j)
+  set-field f same j = elim (cases_eq j k) [
+    | inl e ↦ ap (λ i. f (get new i)) e ∙ ap f set-updates.changed ∙ same ∙ sym (ap f found) ∙ sym (ap (λ i. f (get nodes i)) e)
+    | inr differs ↦ ap f (set-updates.others j differs)
+  ]
+
+  pub set-len : length new.slots ≡ length nodes.slots
+  set-len = ap (λ (x : Slab Node). length x.slots) is ∙ length-set nodes.slots k (Some m)
+
 -- the node of key k is written, and keeps all but its tasks and its limit
 pub record Writes (nodes new : Slab Node) (k : ℕ) (n m : Node) : Type 0 where
   pub found : get nodes k ≡ Some n
@@ -87,17 +101,10 @@ pub record Writes (nodes new : Slab Node) (k : ℕ) (n m : Node) : Type 0 where
   pub is : new ≡ with_value nodes k m
 
 module _ {nodes new : Slab Node} {k : ℕ} {n m : Node} (writes : Writes nodes new k n m) where
-  found : get nodes k ≡ Some n
-  found = writes.found
-
-  shape : bare m ≡ bare n
-  shape = writes.shape
-
-  is : new ≡ with_value nodes k m
-  is = writes.is
+  open writes use {found, shape, is}
 
   updates : Updates nodes new k (Some m)
-  updates = subst (λ x. Updates nodes x k (Some m)) (sym is) (Updates-with_value nodes k m (ap is_some found))
+  updates = set-updates nodes new k n m found is
 
   pub here : get new k ≡ Some m
   here = updates.changed
@@ -106,24 +113,18 @@ module _ {nodes new : Slab Node} {k : ℕ} {n m : Node} (writes : Writes nodes n
   others = updates.others
 
   pub len : length new.slots ≡ length nodes.slots
-  len = ap (λ (x : Slab Node). length x.slots) is ∙ length-set nodes.slots k (Some m)
+  len = set-len nodes new k n m found is
 
   pub within : k < length nodes.slots
   within = ContainsKey-within nodes k (ap is_some found)
 
-  field : {X : Type 0} (f : Option Node → X) → f (Some m) ≡ f (Some n) → (j : ℕ) → f (get new j) ≡ f (get nodes j)
-  field f same j = elim (cases_eq j k) [
-    | inl e ↦ ap (λ i. f (get new i)) e ∙ ap f updates.changed ∙ same ∙ sym (ap f found) ∙ sym (ap (λ i. f (get nodes i)) e)
-    | inr differs ↦ ap f (updates.others j differs)
-  ]
-
   pub tree-same : tree_of new ≡ tree_of nodes
   tree-same = same_trees (tree_of new) (tree_of nodes)
-      (field is_some refl)
-      (field (option_and_then (λ x. x.parent)) (ap (λ (x : Node). x.parent) shape))
-      (field (λ o. option_map_or (λ x. x.level) o 0) (ap (λ (x : Node). x.level) shape))
-      (field (λ o. option_map_or (λ x. x.standing) o false) (ap (λ (x : Node). x.standing) shape))
-      (field (λ o. option_map_or (λ x. x.id) o 0) (ap (λ (x : Node). x.id) shape))
+      (set-field nodes new k n m found is is_some refl)
+      (set-field nodes new k n m found is (option_and_then (λ x. x.parent)) (ap (λ (x : Node). x.parent) shape))
+      (set-field nodes new k n m found is (λ o. option_map_or (λ x. x.level) o 0) (ap (λ (x : Node). x.level) shape))
+      (set-field nodes new k n m found is (λ o. option_map_or (λ x. x.standing) o false) (ap (λ (x : Node). x.standing) shape))
+      (set-field nodes new k n m found is (λ o. option_map_or (λ x. x.id) o 0) (ap (λ (x : Node). x.id) shape))
 
   tasks_here : tasks_in new k ≡ m.live + m.zombies
   tasks_here = ap (λ o. option_map_or (λ (x : Node). x.live + x.zombies) o 0) here
@@ -187,8 +188,8 @@ module _ {nodes new : Slab Node} {k : ℕ} {n m : Node} (writes : Writes nodes n
         → ((j : ℕ) → ContainsKey nodes j → (tree_of nodes).stand j ≡ false → left (tree_of nodes) later j ≡ 0 → 0 < total_in new j)
         → (n.standing ≡ false → m.live ≡ 0) → all_in new < 2 ^ 64 → IsCounted new after later
     IsCounted-written later counts filled ended few = record {
-      counts = λ j on. counts j (sym (field is_some refl j) ∙ on);
-      filled = λ j on gone past. filled j (sym (field is_some refl j) ∙ on) (sym (ap (λ (x : Tree). x.stand j) tree-same) ∙ gone) (sym (ap (λ (x : Tree). left x later j) tree-same) ∙ past);
+      counts = λ j on. counts j (sym (set-field nodes new k n m found is is_some refl j) ∙ on);
+      filled = λ j on gone past. filled j (sym (set-field nodes new k n m found is is_some refl j) ∙ on) (sym (ap (λ (x : Tree). x.stand j) tree-same) ∙ gone) (sym (ap (λ (x : Tree). left x later j) tree-same) ∙ past);
       ended = λ j gone. let g = sym (ap (λ (x : Tree). x.stand j) tree-same) ∙ gone in elim (cases_eq j k) [
         | inl e ↦ ap (live_in new) e ∙ ap (λ o. option_map_or (λ (x : Node). x.live) o 0) here ∙ ended (sym (ap (λ o. option_map_or (λ (x : Node). x.standing) o false) found) ∙ sym (ap (tree_of nodes).stand e) ∙ g)
         | inr differs ↦ ap (λ o. option_map_or (λ (x : Node). x.live) o 0) (updates.others j differs) ∙ w.ended j g
@@ -197,7 +198,7 @@ module _ {nodes new : Slab Node} {k : ℕ} {n m : Node} (writes : Writes nodes n
     }
 
   pub changes : m.limit ≡ n.limit → (change : Node → Node) → m ≡ change n → ChangesTasks nodes new k change
-  changes limit change same = record { tree = tree-same; limits = field (option_and_then (λ x. x.limit)) limit; here = here ∙ ap Some same ∙ sym (ap (option_map change) found); others = updates.others }
+  changes limit change same = record { tree = tree-same; limits = set-field nodes new k n m found is (option_and_then (λ x. x.limit)) limit; here = here ∙ ap Some same ∙ sym (ap (option_map change) found); others = updates.others }
 
 -- what a contract sees of a change of tasks
 pub ChangesHome-tasks : (nodes new : Slab Node) (home : ℕ) (change : Node → Node) → ChangesTasks nodes new home change → (ids : List (ℕ × ℕ)) (after : Option Home)
@@ -219,5 +220,15 @@ home-changed nodes new home change w ids v is g none same =
     go : (o : Option Node) → get nodes home ≡ o → option_and_then (seen (tree_of nodes) home) (option_map change o) ≡ g (option_and_then (seen (tree_of nodes) home) o)
     go o e = grind arith
 
-pub field_of : {X : Type 0} (f : Node → X) (d : X) (nodes : Slab Node) (k : ℕ) (n : Node) → get nodes k ≡ Some n → option_map_or f (get nodes k) d ≡ f n
-field_of f d nodes k n is = ap (λ o. option_map_or f o d) is
+-- so where the node stands
+pub standing-changed : (nodes new : Slab Node) (home : ℕ) (l z : ℕ → ℕ) → ChangesTasks nodes new home (λ (n : Node). record n { live = l n.live; zombies = z n.zombies }) → (ids : List (ℕ × ℕ)) (v : Charges) → charges_of nodes ids ≡ v
+    → ((n : Node) → get nodes home ≡ Some n → n.standing ≡ true) → ChangesHome v (charges_of new ids) home (option_map (λ (h : Home). record h { live = l h.live; zombies = z h.zombies }) (home_at v home))
+standing-changed nodes new home l z w ids v is stands = home-changed nodes new home (λ (n : Node). record n { live = l n.live; zombies = z n.zombies }) w ids v is (option_map (λ (h : Home). record h { live = l h.live; zombies = z h.zombies })) refl
+    (λ n found.
+    let id = (tree_of nodes).id (standing_key (tree_of nodes) home) in
+    kept_standing (record { id = id; stands = n.standing; live = l n.live; zombies = z n.zombies }) (stands n found)
+    ∙ sym (ap (option_map (λ (h : Home). record h { live = l h.live; zombies = z h.zombies })) (kept_standing (record { id = id; stands = n.standing; live = n.live; zombies = n.zombies }) (stands n found))))
+
+-- as one with a live task does
+pub live-standing : (nodes : Slab Node) (k : ℕ) (totals : ℕ → ℕ) (at : Option ℕ) → IsCounted nodes totals at → 0 < live_in nodes k → (n : Node) → get nodes k ≡ Some n → n.standing ≡ true
+live-standing nodes k totals at w some n found = sym (field-is (λ (x : Node). x.standing) false nodes k n found) ∙ live_stands nodes k n found totals at w (omega (arith, field-is (λ (x : Node). x.live) 0 nodes k n found, some))

@@ -1,7 +1,7 @@
-use Rattle.std.proofs.Common.{◌∙◌, ap, [], option_map}
+use Rattle.std.proofs.Common.{refl, ◌∙◌, ap, [], option_map}
 use Rattle.std.specs.Prelude.{vec_capacity}
 use Rattle.std.specs.Option.{option_map_or}
-use Rattle.ns_tree.specs.Tree.{way, id_in, node_in}
+use Rattle.ns_tree.specs.Tree.{felled, way, id_in, node_in}
 use Rattle.ns_tree.specs.Places.{nodes_of}
 use Rattle.ns_tree.proofs.Nodes as nodes
 use Rattle.ns_tree.proofs.Paths.{everywhere}
@@ -13,6 +13,6 @@ invariant_of-self c =
     let new = c.mark_at.new.places.items in
     let was = node_in (nodes_of old) c.args.key in
     nodes.kept-same old new c.mark_at.ensures.count
-    (everywhere (way (nodes_of new)) (way (nodes_of old)) c.args.key (ap (λ o. option_map_or (λ t. t.path) o []) c.mark_at.ensures.here ∙ nodes.felled-path was) (λ s m. ap (λ o. option_map_or (λ t. t.path) o []) (c.mark_at.ensures.others s m)))
-    (everywhere (id_in (nodes_of new)) (id_in (nodes_of old)) c.args.key (ap (option_map (λ t. t.id)) c.mark_at.ensures.here ∙ nodes.felled-id was) (λ s m. ap (option_map (λ t. t.id)) (c.mark_at.ensures.others s m)))
+    (everywhere (way (nodes_of new)) (way (nodes_of old)) c.args.key (ap (λ o. option_map_or (λ t. t.path) o []) c.mark_at.ensures.here ∙ nodes.same-path felled (λ t. refl) was) (λ s m. ap (λ o. option_map_or (λ t. t.path) o []) (c.mark_at.ensures.others s m)))
+    (everywhere (id_in (nodes_of new)) (id_in (nodes_of old)) c.args.key (ap (option_map (λ t. t.id)) c.mark_at.ensures.here ∙ nodes.same-id felled (λ t. refl) was) (λ s m. ap (option_map (λ t. t.id)) (c.mark_at.ensures.others s m)))
     c.self.inside.vacant.items (vec_capacity c.self.inside.vacant) c.self.inside.order c.self.invariant

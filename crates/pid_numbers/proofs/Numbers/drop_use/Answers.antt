@@ -1,5 +1,5 @@
 -- Only the last use of all frees numbers; a namespace loses its last one then, if at all, and so only those on the path can be dropped
-use Rattle.std.proofs.Common.{◌≡◌, ◌∙◌, sym, ap, refl, subst, List, Bool, ℕ, ◌-◌, length, Some, None, true, false, IfSome, IsSome, map, option_map, if◌then◌else◌}
+use Rattle.std.proofs.Common.{◌≡◌, ◌∙◌, sym, ap, refl, subst, List, Bool, ℕ, ◌-◌, length, Some, None, true, false, IsSome, map, option_map, if◌then◌else◌}
 use Rattle.std.specs.List.{filter}
 use Rattle.ns_tree.specs.Tree.{AreListed, id_in, node_in, way}
 use Rattle.ns_tree.specs.Vacancy.{IsDistinct}
@@ -8,30 +8,27 @@ use Rattle.ns_tree.proofs.Paths as paths
 use Rattle.cyclic_ids.specs.Ids.{Ids}
 use Rattle.ns_tree.specs.Tree.{Tree}
 use Rattle.pid_numbers.specs.Numbering.{Numbering, is_there, less, uses, is_used, is_used_as, swept_at}
-use Rattle.pid_numbers.specs.Slabs.{numbering_of, with_cursors, cursor_on, leads, entry_on, bound_on, touched, mark_of, AreIn}
+use Rattle.pid_numbers.specs.Slabs.{numbering_of, with_cursors, cursor_on, entry_on, touched, AreIn}
 use Rattle.pid_numbers.specs.Table.{Table, identifier_of, name_at}
 use Rattle.pid_numbers.proofs.Views as views
-use Rattle.pid_numbers.proofs.Ties as ties
-use Rattle.pid_numbers.proofs.Sweeps as sweeps
+use Rattle.pid_numbers.proofs.Uses.{IsRecounted}
+use Rattle.pid_numbers.proofs.Uses as uses
 use Rattle.pid_numbers.proofs.Drops as drops
 use Rattle.pid_numbers.proofs.Numbers.drop_use.Goals as goal
+use Rattle.pid_numbers.proofs.Numbers.drop_use.Goals.{After-less_use, After-release_path}
+
+-- one use less
+recounted : (c : After-less_use) → IsRecounted c.self.inside.idents c.less_use.new.self c.args.ident c.args.kind
+recounted c =
+    let v = views.used c.args.kind (name_at c.self.inside.idents c.args.ident) (ap (is_used_as c.args.kind) (sym (views.identifier_is c.self.inside.pid_max c.self.inside.tree c.self.inside.ids.items c.self.inside.idents c.args.self.now c.self.view_is c.args.ident)) ∙ c.requires) in
+    record { identifier = v.0; count = uses c.args.kind v.0 - 1; was = v.1; now = c.less_use.ensures.here v.0 v.1; others = c.less_use.ensures.others }
 
 pub less_use-requires : goal.less_use-requires
 less_use-requires c = ap (is_used_as c.args.kind) (sym (views.identifier_is c.self.inside.pid_max c.self.inside.tree c.self.inside.ids.items c.self.inside.idents c.args.self.now c.self.view_is c.args.ident)) ∙ c.requires
 
 pub invariant_of-self : goal.invariant_of-self
 invariant_of-self c =
-    let ways = way c.self.inside.tree.nodes in
-    let ids = c.self.inside.ids.items in
-    let idents = c.self.inside.idents in
-    let had : is_used_as c.args.kind (name_at idents c.args.ident) ≡ true = ap (is_used_as c.args.kind) (sym (views.identifier_is c.self.inside.pid_max c.self.inside.tree c.self.inside.ids.items c.self.inside.idents c.args.self.now c.self.view_is c.args.ident)) ∙ c.requires in
-    let v = views.used c.args.kind (name_at idents c.args.ident) had in
-    let now = c.less_use.ensures.here v.0 v.1 in
-    sweeps.kept-with c.self.inside.pid_max c.self.inside.tree ids ids idents c.less_use.new.self c.self.invariant refl
-    (ties.numbering-counted c.self.inside.pid_max ways ways (entry_on ids) (entry_on ids) (bound_on ids) (bound_on ids) (name_at idents) (name_at c.less_use.new.self) c.self.invariant.whole.numbering (λ s. refl) (λ s. refl)
-    c.args.ident c.args.kind (uses c.args.kind v.0 - 1) v.0 v.1 now c.less_use.ensures.others
-    (ap (is_used_as c.args.kind) (sym now) ∙ sym c.has_use.ensures ∙ c.if-has_use.true ∙ sym had ∙ ap (is_used_as c.args.kind) v.1) (λ s n. refl))
-    (λ s n i led. (i, led))
+    uses.counted c.self.invariant (recounted (goal.at.invariant_of-self c).After-less_use) (sym c.has_use.ensures ∙ c.if-has_use.true ∙ sym (ap (is_used_as c.args.kind) (sym (views.identifier_is c.self.inside.pid_max c.self.inside.tree c.self.inside.ids.items c.self.inside.idents c.args.self.now c.self.view_is c.args.ident)) ∙ c.requires))
 
 pub returns-then-has_use-clause-here : goal.returns-then-has_use-clause-here
 returns-then-has_use-clause-here c u is =
@@ -46,30 +43,17 @@ returns-then-has_use-clause-others c j m =
 
 pub mark_numbers-requires : goal.mark_numbers-requires
 mark_numbers-requires c =
-    let ways = way c.self.inside.tree.nodes in
     let b = c.self.invariant.whole.numbering in
-    let v = views.used c.args.kind (name_at c.self.inside.idents c.args.ident) (ap (is_used_as c.args.kind) (sym (views.identifier_is c.self.inside.pid_max c.self.inside.tree c.self.inside.ids.items c.self.inside.idents c.args.self.now c.self.view_is c.args.ident)) ∙ c.requires) in
     record {
       there = views.path_in c.self.inside.pid_max c.self.inside.tree c.self.inside.ids.items c.self.inside.idents b c.self.invariant.count;
-      distinct = λ s. paths.distinct-path ways (ways s) (b.tree.paths s);
-      full = subst (λ o. IfSome o (λ u. length u.numbers ≡ length (ways u.space))) (sym (c.less_use.ensures.here v.0 v.1))
-          (ap length (ties.numbers-kept c.args.kind (uses c.args.kind v.0 - 1) v.0) ∙ b.tied.full c.args.ident v.0 v.1 ∙ ap (λ s. length (ways s)) (sym (ties.space-kept c.args.kind (uses c.args.kind v.0 - 1) v.0)));
+      distinct = λ s. paths.distinct-path (way c.self.inside.tree.nodes) (way c.self.inside.tree.nodes s) (b.tree.paths s);
+      full = uses.full c.self.invariant (recounted (goal.at.mark_numbers-requires c).After-less_use);
     }
 
 pub invariant_of-self-then-in_use : goal.invariant_of-self-then-in_use
 invariant_of-self-then-in_use c =
-    let ways = way c.self.inside.tree.nodes in
-    let ids = c.self.inside.ids.items in
-    let new = c.mark_numbers.new.ids.items in
-    let idents = c.self.inside.idents in
-    let kind = c.args.kind in
-    let v = views.used kind (name_at idents c.args.ident) (ap (is_used_as kind) (sym (views.identifier_is c.self.inside.pid_max c.self.inside.tree c.self.inside.ids.items c.self.inside.idents c.args.self.now c.self.view_is c.args.ident)) ∙ c.requires) in
-    let now : name_at c.less_use.new.self c.args.ident ≡ Some (less kind v.0) = c.less_use.ensures.here v.0 v.1 in
-    let is = views.marked-as kind (uses kind v.0 - 1) v.0 false ways (entry_on ids) (entry_on new) (name_at c.less_use.new.self c.args.ident) c.mark_numbers.ensures.entries now in
-    sweeps.kept-with c.self.inside.pid_max c.self.inside.tree ids new idents c.less_use.new.self c.self.invariant c.mark_numbers.ensures.count
-    (ties.numbering-marked c.self.inside.pid_max ways ways (entry_on ids) (entry_on new) (bound_on ids) (bound_on new) (name_at idents) (name_at c.less_use.new.self) c.self.invariant.whole.numbering (λ s. refl) c.mark_numbers.ensures.bound
-    c.args.ident kind (uses kind v.0 - 1) v.0 v.1 now c.less_use.ensures.others false (ap (is_used_as kind) (sym now) ∙ sym c.has_use.ensures ∙ c.if-has_use.false) (sym (c.in_use.ensures (less kind v.0) now) ∙ c.if-in_use.true) is)
-    (λ s n i led. (i, ties.leads-marked (ways v.0.space) v.0.numbers (mark_of kind) false (entry_on ids) (entry_on new) is s n ∙ led))
+    uses.marked c.self.invariant (recounted (goal.at.invariant_of-self-then-in_use c).After-less_use) false c.mark_numbers.new.ids.items (sym c.has_use.ensures ∙ c.if-has_use.false) (λ u is. sym (c.in_use.ensures u is) ∙ c.if-in_use.true)
+    c.mark_numbers.ensures.count c.mark_numbers.ensures.bound c.mark_numbers.ensures.entries
 
 pub returns-then-in_use-clause-here : goal.returns-then-in_use-clause-here
 returns-then-in_use-clause-here c u is =
@@ -83,56 +67,39 @@ returns-then-in_use-clause-others c j m =
     ∙ sym (views.identifier_is c.self.inside.pid_max c.self.inside.tree c.self.inside.ids.items c.self.inside.idents c.args.self.now c.self.view_is j)
 
 pub remove-gone-requires : goal.remove-gone-requires
-remove-gone-requires c =
-    let v = views.used c.args.kind (name_at c.self.inside.idents c.args.ident) (ap (is_used_as c.args.kind) (sym (views.identifier_is c.self.inside.pid_max c.self.inside.tree c.self.inside.ids.items c.self.inside.idents c.args.self.now c.self.view_is c.args.ident)) ∙ c.requires) in
-    subst IsSome (sym (c.less_use.ensures.here v.0 v.1)) refl
+remove-gone-requires c = let r = recounted (goal.at.remove-gone-requires c).After-less_use in subst IsSome (sym r.now) refl
 
 pub release_path-requires : goal.release_path-requires
 release_path-requires c =
-    let ways = way c.self.inside.tree.nodes in
     let b = c.self.invariant.whole.numbering in
-    let gone = identifier_of c.remove-gone.result in
-    let one = drops.last_one c.self.inside.pid_max c.self.inside.tree c.self.inside.ids.items c.self.inside.idents c.less_use.new.self c.args.self.now c.self.view_is c.args.ident c.args.kind c.requires c.less_use.ensures.here gone (ap (option_map identifier_of) c.remove-gone.ensures.value) in
+    let space = c.remove-gone.result.space in
+    let r = recounted (goal.at.release_path-requires c).After-less_use in
+    let p = uses.same_path c.self.invariant r (identifier_of c.remove-gone.result) (ap (option_map identifier_of) c.remove-gone.ensures.value) in
     record {
-      there = subst (AreIn c.self.inside.ids.items) (sym c.path_up-path.ensures) (views.path_in c.self.inside.pid_max c.self.inside.tree c.self.inside.ids.items c.self.inside.idents b c.self.invariant.count gone.space);
-      distinct = subst IsDistinct (sym c.path_up-path.ensures) (paths.distinct-path ways (ways gone.space) (b.tree.paths gone.space));
-      len = ap length c.as_slice.ensures ∙ drops.gone-len ways (name_at c.self.inside.idents) (leads (entry_on c.self.inside.ids.items)) b.tied c.args.ident gone one ∙ ap length (sym c.path_up-path.ensures);
+      there = subst (AreIn c.self.inside.ids.items) (sym c.path_up-path.ensures) (views.path_in c.self.inside.pid_max c.self.inside.tree c.self.inside.ids.items c.self.inside.idents b c.self.invariant.count space);
+      distinct = subst IsDistinct (sym c.path_up-path.ensures) (paths.distinct-path (way c.self.inside.tree.nodes) (way c.self.inside.tree.nodes space) (b.tree.paths space));
+      len = ap length c.as_slice.ensures ∙ ap length p.1 ∙ b.tied.full c.args.ident r.identifier r.was ∙ ap (λ s. length (way c.self.inside.tree.nodes s)) (sym p.0) ∙ ap length (sym c.path_up-path.ensures);
     }
+
+-- what the release leaves
+released : (c : After-release_path) → IsRecounted c.self.inside.idents c.less_use.new.self c.args.ident c.args.kind → drops.IsReleased c.self.inside.pid_max c.self.inside.tree.nodes c.self.inside.ids.items c.release_path.new.ids.items (name_at c.self.inside.idents) (name_at c.remove-gone.new.self) c.remove-gone.result.space
+released c r =
+    let ids = c.self.inside.ids.items in
+    let gone = identifier_of c.remove-gone.result in
+    drops.released c.self.inside.pid_max c.self.inside.tree.nodes ids c.release_path.new.ids.items (name_at c.self.inside.idents) (name_at c.remove-gone.new.self) c.self.invariant.whole c.args.ident gone r.identifier r.was (uses.same_path c.self.invariant r (identifier_of c.remove-gone.result) (ap (option_map identifier_of) c.remove-gone.ensures.value)) c.release_path.ensures.bound
+    (λ s n. c.release_path.ensures.entries s n ∙ ap (λ p. touched p c.as_slice.result.now (λ _. None) (entry_on ids) s n) c.path_up-path.ensures ∙ ap (λ l. touched (way c.self.inside.tree.nodes gone.space) l (λ _. None) (entry_on ids) s n) c.as_slice.ensures)
+    (ap (option_map identifier_of) c.remove-gone.ensures.updates.changed) (λ j m. ap (option_map identifier_of) (c.remove-gone.ensures.updates.others j m) ∙ c.less_use.ensures.others j m)
 
 pub sweep-requires : goal.sweep-requires
-sweep-requires c =
-    let nodes = c.self.inside.tree.nodes in
-    let ids = c.self.inside.ids.items in
-    let ids1 = c.release_path.new.ids.items in
-    let idents = c.self.inside.idents in
-    let left = c.remove-gone.new.self in
-    let gone = identifier_of c.remove-gone.result in
-    let one = drops.last_one c.self.inside.pid_max c.self.inside.tree c.self.inside.ids.items c.self.inside.idents c.less_use.new.self c.args.self.now c.self.view_is c.args.ident c.args.kind c.requires c.less_use.ensures.here gone (ap (option_map identifier_of) c.remove-gone.ensures.value) in
-    let entries : (s n : ℕ) → entry_on ids1 s n ≡ touched (way nodes gone.space) gone.numbers (λ _. None) (entry_on ids) s n = λ s n. c.release_path.ensures.entries s n ∙ ap (λ p. touched p c.as_slice.result.now (λ _. None) (entry_on ids) s n) c.path_up-path.ensures ∙ ap (λ l. touched (way nodes gone.space) l (λ _. None) (entry_on ids) s n) c.as_slice.ensures in
-    let b = drops.after-release c.self.inside.pid_max nodes ids ids1 (name_at idents) (name_at left) c.self.invariant.whole.numbering c.args.ident gone one c.release_path.ensures.bound entries
-    (ap (option_map identifier_of) c.remove-gone.ensures.updates.changed) (λ j m. ap (option_map identifier_of) (c.remove-gone.ensures.updates.others j m) ∙ c.less_use.ensures.others j m) in
-    let kept = drops.off-release c.self.inside.pid_max nodes ids ids1 (name_at idents) (name_at left) c.self.invariant.whole.numbering c.args.ident gone one c.release_path.ensures.bound entries in
-    drops.around c.self.inside.pid_max nodes ids ids1 (name_at idents) (name_at left) c.self.invariant.whole b gone.space kept
+sweep-requires c = drops.around (released (goal.at.sweep-requires c).After-release_path (recounted (goal.at.sweep-requires c).After-less_use))
 
 pub invariant_of-self-2 : goal.invariant_of-self-2
-invariant_of-self-2 c =
-    let nodes = c.self.inside.tree.nodes in
-    let ids = c.self.inside.ids.items in
-    let ids1 = c.release_path.new.ids.items in
-    let idents = c.self.inside.idents in
-    let left = c.remove-gone.new.self in
-    let gone = identifier_of c.remove-gone.result in
-    let one = drops.last_one c.self.inside.pid_max c.self.inside.tree c.self.inside.ids.items c.self.inside.idents c.less_use.new.self c.args.self.now c.self.view_is c.args.ident c.args.kind c.requires c.less_use.ensures.here gone (ap (option_map identifier_of) c.remove-gone.ensures.value) in
-    let entries : (s n : ℕ) → entry_on ids1 s n ≡ touched (way nodes gone.space) gone.numbers (λ _. None) (entry_on ids) s n = λ s n. c.release_path.ensures.entries s n ∙ ap (λ p. touched p c.as_slice.result.now (λ _. None) (entry_on ids) s n) c.path_up-path.ensures ∙ ap (λ l. touched (way nodes gone.space) l (λ _. None) (entry_on ids) s n) c.as_slice.ensures in
-    let b = drops.after-release c.self.inside.pid_max nodes ids ids1 (name_at idents) (name_at left) c.self.invariant.whole.numbering c.args.ident gone one c.release_path.ensures.bound entries
-    (ap (option_map identifier_of) c.remove-gone.ensures.updates.changed) (λ j m. ap (option_map identifier_of) (c.remove-gone.ensures.updates.others j m) ∙ c.less_use.ensures.others j m) in
-    let kept = drops.off-release c.self.inside.pid_max nodes ids ids1 (name_at idents) (name_at left) c.self.invariant.whole.numbering c.args.ident gone one c.release_path.ensures.bound entries in
-    record {
-      whole = drops.whole-swept c.self.inside.pid_max nodes ids ids1 (name_at idents) (name_at left) c.self.invariant.whole b gone.space kept c.sweep.new.tree.nodes c.sweep.ensures.nodes c.sweep.ensures.tree;
-      some = c.sweep.ensures.some;
-      listed = c.sweep.ensures.listed;
-      count = c.release_path.ensures.count ∙ c.self.invariant.count ∙ sym c.sweep.ensures.count;
-    }
+invariant_of-self-2 c = record {
+  whole = drops.whole-swept (released (goal.at.invariant_of-self-2 c).After-release_path (recounted (goal.at.invariant_of-self-2 c).After-less_use)) c.sweep.new.tree.nodes c.sweep.ensures.nodes c.sweep.ensures.tree;
+  some = c.sweep.ensures.some;
+  listed = c.sweep.ensures.listed;
+  count = c.release_path.ensures.count ∙ c.self.invariant.count ∙ sym c.sweep.ensures.count;
+}
 
 -- what is said of the namespaces before the call, with the identifiers that are left
 swept_from : (pid_max : ℕ) (tree : Tree) (ids ids1 : List (Ids ℕ)) (idents idents1 : Table) (b : Numbering) → numbering_of pid_max tree ids idents ≡ b → ((s : ℕ) → cursor_on ids1 s ≡ cursor_on ids s)
@@ -144,20 +111,9 @@ swept_from pid_max tree ids ids1 idents idents1 b view cursors s =
 
 pub returns-clause-namespaces : goal.returns-clause-namespaces
 returns-clause-namespaces c s =
-    let nodes = c.self.inside.tree.nodes in
-    let ids = c.self.inside.ids.items in
-    let ids1 = c.release_path.new.ids.items in
-    let idents = c.self.inside.idents in
-    let left = c.remove-gone.new.self in
-    let gone = identifier_of c.remove-gone.result in
-    let one = drops.last_one c.self.inside.pid_max c.self.inside.tree c.self.inside.ids.items c.self.inside.idents c.less_use.new.self c.args.self.now c.self.view_is c.args.ident c.args.kind c.requires c.less_use.ensures.here gone (ap (option_map identifier_of) c.remove-gone.ensures.value) in
-    let entries : (s n : ℕ) → entry_on ids1 s n ≡ touched (way nodes gone.space) gone.numbers (λ _. None) (entry_on ids) s n = λ s n. c.release_path.ensures.entries s n ∙ ap (λ p. touched p c.as_slice.result.now (λ _. None) (entry_on ids) s n) c.path_up-path.ensures ∙ ap (λ l. touched (way nodes gone.space) l (λ _. None) (entry_on ids) s n) c.as_slice.ensures in
-    let b = drops.after-release c.self.inside.pid_max nodes ids ids1 (name_at idents) (name_at left) c.self.invariant.whole.numbering c.args.ident gone one c.release_path.ensures.bound entries
-    (ap (option_map identifier_of) c.remove-gone.ensures.updates.changed) (λ j m. ap (option_map identifier_of) (c.remove-gone.ensures.updates.others j m) ∙ c.less_use.ensures.others j m) in
-    let kept = drops.off-release c.self.inside.pid_max nodes ids ids1 (name_at idents) (name_at left) c.self.invariant.whole.numbering c.args.ident gone one c.release_path.ensures.bound entries in
-    views.namespace-at (cursor_on ids1) c.sweep.new.tree.nodes s
-    ∙ drops.swept-same c.self.inside.pid_max c.self.inside.tree ids1 left b c.sweep.new.tree.nodes c.sweep.ensures.nodes s
-    ∙ swept_from c.self.inside.pid_max c.self.inside.tree ids ids1 idents left c.args.self.now c.self.view_is c.release_path.ensures.cursors s
+    views.namespace-at (cursor_on c.release_path.new.ids.items) c.sweep.new.tree.nodes s
+    ∙ drops.swept-same c.self.inside.pid_max c.self.inside.tree c.release_path.new.ids.items c.remove-gone.new.self (released (goal.at.returns-clause-namespaces c).After-release_path (recounted (goal.at.returns-clause-namespaces c).After-less_use)).after c.sweep.new.tree.nodes c.sweep.ensures.nodes s
+    ∙ swept_from c.self.inside.pid_max c.self.inside.tree c.self.inside.ids.items c.release_path.new.ids.items c.self.inside.idents c.remove-gone.new.self c.args.self.now c.self.view_is c.release_path.ensures.cursors s
 
 pub returns-then-has_use-clause-namespaces : goal.returns-then-has_use-clause-namespaces
 returns-then-has_use-clause-namespaces c s =

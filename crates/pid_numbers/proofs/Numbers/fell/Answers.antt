@@ -1,5 +1,5 @@
 -- What falls has a number in use: that of the task whose own namespace it is, or that by which it had fallen before
-use Rattle.std.proofs.Common.{◌≡◌, ◌∙◌, ◌||◌, refl, sym, ap, arith, ℕ, List, [], Bool, true, false, Option, Some, None, option_map}
+use Rattle.std.proofs.Common.{◌≡◌, ◌∙◌, ◌||◌, refl, sym, ap, subst, arith, ℕ, List, [], Bool, true, false, Option, Some, None, option_map}
 use Rattle.std.specs.Option.{option_map_or}
 use Rattle.index_array.specs.Place.{Entry}
 use Rattle.ns_tree.specs.Tree.{Node, Tree, IsTree, node_in, way, fell, felled_within}
@@ -19,12 +19,7 @@ falls : (outer : ℕ) (o : Option Node) → option_map_or (λ t. t.fallen) (opti
 falls outer None = refl
 falls outer (Some z) = refl
 
--- it keeps its path
-same_path : (outer : ℕ) (o : Option Node) → option_map_or (λ t. t.path) (option_map (felled_within outer) o) [] ≡ option_map_or (λ t. t.path) o []
-same_path outer None = refl
-same_path outer (Some z) = refl
-
--- and its cursor
+-- it keeps its cursor
 seen : (outer cursor : ℕ) (o : Option Node) → option_map (namespace_of cursor) (option_map (felled_within outer) o) ≡ option_map (fallen_within outer) (option_map (namespace_of cursor) o)
 seen outer cursor None = refl
 seen outer cursor (Some z) = refl
@@ -62,14 +57,14 @@ invariant_of-self c =
     let names = name_at c.self.inside.idents in
     let b = c.self.invariant.whole.numbering in
     let f = c.self.invariant.whole.fallen in
-    let ways : (s : ℕ) → way new s ≡ way old s = λ s. ap (λ o. option_map_or (λ t. t.path) o []) (c.fall_all.ensures.nodes s) ∙ same_path c.args.space (node_in old s) in
+    let ways : (s : ℕ) → way new s ≡ way old s = λ s. ap (λ o. option_map_or (λ t. t.path) o []) (c.fall_all.ensures.nodes s) ∙ views.map_or-map (λ t. t.path) (felled_within c.args.space) (node_in old s) [] in
     let used = still-used (way old) names at b.tree b.tied (fell old) f c.args.space (homes c.self.inside.pid_max c.self.inside.tree c.self.inside.ids.items c.self.inside.idents c.args.self.now c.self.view_is c.args.space c.requires.homes) in
     let fallen = sweeps.fallen-fell c.self.inside.pid_max (way old) at bound names b (fell old) (fell new) f c.args.space c.requires.inner
     (λ s. ap (λ o. option_map_or (λ t. t.fallen) o false) (c.fall_all.ensures.nodes s) ∙ falls c.args.space (node_in old s))
     (λ s within. used s within (fell old s) refl) in
     record {
       whole = record {
-        numbering = ties.numbering-same c.self.inside.pid_max (way old) (way new) at at bound bound names names b ways (λ s. refl) (λ s n. refl) (λ i. refl);
+        numbering = ties.numbering-moved c.self.inside.pid_max (way old) (way new) at bound bound names b (subst IsTree (λ i s. sym (ways s) i) b.tree) b.bounds (λ i u is. ways u.space);
         fallen = sweeps.fallen-kept (way old) (way new) at at (fell new) (fell new) fallen ways (λ s. refl) (λ s n i led. (i, led));
       };
       some = c.laws.ensures.some;

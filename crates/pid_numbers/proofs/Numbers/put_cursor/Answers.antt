@@ -1,5 +1,5 @@
 -- No entry and no bound changes, so all that is known stays; of the namespaces one has another cursor
-use Rattle.std.proofs.Common.{◌≡◌, ◌≢◌, inl, inr, ℕ, ◌==◌, refl, sym, ap, ◌∙◌, Option, Some, None, IsSome, option_map, subst, if◌then◌else◌}
+use Rattle.std.proofs.Common.{◌≡◌, ◌≢◌, inl, inr, ℕ, ◌==◌, refl, sym, ap, ◌∙◌, Option, Some, None, option_map, if◌then◌else◌}
 use Rattle.std.proofs.lemmas.Bool.{cases_eq, eq-eqb, ne_eqb}
 use Rattle.ns_tree.specs.Tree.{Node, node_in, way}
 use Rattle.pid_numbers.specs.Numbering.{cursor_put}
@@ -10,18 +10,10 @@ use Rattle.pid_numbers.proofs.Ties as ties
 use Rattle.pid_numbers.proofs.Sweeps as sweeps
 use Rattle.pid_numbers.proofs.Numbers.put_cursor.Goals as goal
 
--- a namespace that is seen is there
-seen_there : (cursor : ℕ) (o : Option Node) → IsSome (option_map (namespace_of cursor) o) → IsSome o
-seen_there cursor None some = some
-seen_there cursor (Some z) some = refl
-
 pub put_cursor-requires : goal.put_cursor-requires
 put_cursor-requires c =
-    let ids = c.self.inside.ids.items in
-    let some = seen_there (cursor_on ids c.args.space) (node_in c.self.inside.tree.nodes c.args.space)
-    (subst IsSome (views.namespace_is c.self.inside.pid_max c.self.inside.tree ids c.self.inside.idents c.args.self.now c.self.view_is c.args.space) c.requires) in
-    let z = views.held (node_in c.self.inside.tree.nodes c.args.space) some in
-    views.there_in c.self.inside.tree.nodes ids c.self.invariant.count c.args.space z.0 z.1
+    let z = views.held (node_in c.self.inside.tree.nodes c.args.space) (views.there c.self.inside.pid_max c.self.inside.tree c.self.inside.ids.items c.self.inside.idents c.args.self.now c.self.view_is c.args.space c.requires) in
+    views.there_in c.self.inside.tree.nodes c.self.inside.ids.items c.self.invariant.count c.args.space z.0 z.1
 
 pub invariant_of-self : goal.invariant_of-self
 invariant_of-self c =
@@ -30,7 +22,7 @@ invariant_of-self c =
     let new = c.put_cursor.new.ids.items in
     let names = name_at c.self.inside.idents in
     sweeps.kept-with c.self.inside.pid_max c.self.inside.tree old new c.self.inside.idents c.self.inside.idents c.self.invariant c.put_cursor.ensures.count
-    (ties.numbering-same c.self.inside.pid_max ways ways (entry_on old) (entry_on new) (bound_on old) (bound_on new) names names c.self.invariant.whole.numbering (λ s. refl) c.put_cursor.ensures.bound c.put_cursor.ensures.entries (λ i. refl))
+    (ties.numbering-same c.self.inside.pid_max ways (entry_on old) (entry_on new) (bound_on old) (bound_on new) names names c.self.invariant.whole.numbering c.put_cursor.ensures.bound c.put_cursor.ensures.entries (λ i. refl))
     (λ s n i led. (i, ap (option_map (λ e. e.value)) (c.put_cursor.ensures.entries s n) ∙ led))
 
 -- the cursor is put at one key

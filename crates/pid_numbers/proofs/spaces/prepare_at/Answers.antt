@@ -1,5 +1,5 @@
 -- Memory for a number is in no view of a namespace: so plans, entries and cursors stay at every key, and what was ready is so still
-use Rattle.std.proofs.Common.{arith, ◌≡◌, refl, true, OnOk, length, subst, sym, ap, ◌∙◌, option_map, option_and_then, Some, false}
+use Rattle.std.proofs.Common.{rules, arith, ◌≡◌, refl, true, OnOk, length, subst, sym, ap, ◌∙◌, option_map, option_and_then, Some, false}
 use Rattle.std.specs.Option.{option_map_or}
 use Rattle.std.proofs.lemmas.Option.{slice_get_read}
 use Rattle.index_array.specs.Place.{entry_at, is_prepared}
@@ -17,38 +17,15 @@ prepare-requires c =
     let at = slice_get_read c.args.ids.now.items (length c.args.ids.now.items) c.args.key y refl (views.plan_in c.args.ids.now.items c.args.key c.args.n c.requires) c.index_mut.ensures.value in
     views.below_bound y c.args.n (sym (ap (option_and_then planned) at) ∙ c.requires)
 
-pub returns-clause-ok : goal.returns-clause-ok
-returns-clause-ok c =
-    let y = c.index_mut.result.now in
-    let w = items.written c.args.ids.now.items c.args.key y c.prepare.new.self (views.plan_in c.args.ids.now.items c.args.key c.args.n c.requires) c.index_mut.ensures.value in
-    subst (λ b. OnOk c.prepare.result (b ≡ true)) (sym (ap (λ o. option_map_or (λ t. is_prepared t.places c.args.n) o false) w.after)) c.prepare.ensures.ok
-
-pub returns-clause-ready : goal.returns-clause-ready
-returns-clause-ready c s m =
-    let y = c.index_mut.result.now in
-    let w = items.written c.args.ids.now.items c.args.key y c.prepare.new.self (views.plan_in c.args.ids.now.items c.args.key c.args.n c.requires) c.index_mut.ensures.value in
-    items.kept w (λ o. option_map_or (λ t. is_prepared t.places m) o false) (c.prepare.ensures.keeps m) s
-
-pub returns-clause-plan : goal.returns-clause-plan
-returns-clause-plan c s =
-    let y = c.index_mut.result.now in
-    let w = items.written c.args.ids.now.items c.args.key y c.prepare.new.self (views.plan_in c.args.ids.now.items c.args.key c.args.n c.requires) c.index_mut.ensures.value in
-    items.same w (option_and_then planned) c.prepare.ensures.planned s
-
-pub returns-clause-entries : goal.returns-clause-entries
-returns-clause-entries c s m =
-    let y = c.index_mut.result.now in
-    let w = items.written c.args.ids.now.items c.args.key y c.prepare.new.self (views.plan_in c.args.ids.now.items c.args.key c.args.n c.requires) c.index_mut.ensures.value in
-    items.same w (option_and_then (λ t. entry_at t.places m)) (c.prepare.ensures.entries m) s
-
-pub returns-clause-bound : goal.returns-clause-bound
-returns-clause-bound c s =
-    let y = c.index_mut.result.now in
-    let w = items.written c.args.ids.now.items c.args.key y c.prepare.new.self (views.plan_in c.args.ids.now.items c.args.key c.args.n c.requires) c.index_mut.ensures.value in
-    items.same w (option_map (λ t. t.pid_max)) (ap Some c.prepare.ensures.pid_max) s
-
-pub returns-clause-cursors : goal.returns-clause-cursors
-returns-clause-cursors c s =
-    let y = c.index_mut.result.now in
-    let w = items.written c.args.ids.now.items c.args.key y c.prepare.new.self (views.plan_in c.args.ids.now.items c.args.key c.args.n c.requires) c.index_mut.ensures.value in
-    items.same w (λ o. option_map_or (λ t. t.cursor) o 0) c.prepare.ensures.cursor s
+pub returns : goal.returns
+returns c =
+    let w = items.written c.args.ids.now.items c.args.key c.index_mut.result.now c.prepare.new.self (views.plan_in c.args.ids.now.items c.args.key c.args.n c.requires) c.index_mut.ensures.value in
+    record {
+      ok = subst (λ b. OnOk c.prepare.result (b ≡ true)) (sym (ap (λ o. option_map_or (λ t. is_prepared t.places c.args.n) o false) w.after)) c.prepare.ensures.ok;
+      ready = λ s m. items.kept w (λ o. option_map_or (λ t. is_prepared t.places m) o false) (c.prepare.ensures.keeps m) s;
+      plan = items.same w (option_and_then planned) c.prepare.ensures.planned;
+      entries = λ s m. items.same w (option_and_then (λ t. entry_at t.places m)) (c.prepare.ensures.entries m) s;
+      bound = items.same w (option_map (λ t. t.pid_max)) (ap Some c.prepare.ensures.pid_max);
+      cursors = items.same w (λ o. option_map_or (λ t. t.cursor) o 0) c.prepare.ensures.cursor;
+      count = search rules;
+    }

@@ -8,7 +8,7 @@ use Rattle.pid_types.specs.Controls.{control_path}
 use Rattle.pid_types.specs.declared.plain.Control.{Control}
 use Rattle.pids_charge.specs.declared.node.Node.{Node}
 use Rattle.pids_charge.specs.Nodes.{tree_of}
-use Rattle.pids_charge.specs.Charges.{Charges, home_at, id_at, all_tasks}
+use Rattle.pids_charge.specs.Charges.{Charges, home_at, id_at}
 use Rattle.pids_charge.specs.Kept.{charges_of, control_in, limit_in, IsKept}
 use Rattle.pids_charge.proofs.Views as views
 use Rattle.pids_charge.proofs.Linked as linked
@@ -111,9 +111,4 @@ pub returns-clause-deep : goal.returns-clause-deep
 returns-clause-deep c = grind (arith, long, level)
 
 pub returns-clause-tasks : goal.returns-clause-tasks
-returns-clause-tasks c =
-    let m = makes (goal.at.returns-clause-tasks c).After-insert_reserved in
-    let was = sym (views.all-is c.self.inside.nodes c.self.inside.ids) ∙ ap (λ (v : Charges). all_tasks v) c.self.view_is in
-    let new = views.all-is c.insert_reserved.new.self c.push.new.self in
-    let same = made.all-made m in
-    omega (arith, was, new, same)
+returns-clause-tasks c = omega (arith, views.all-of c.self.inside.nodes c.self.inside.ids c.args.self.now c.self.view_is, views.all-is c.insert_reserved.new.self c.push.new.self, made.all-made (makes (goal.at.returns-clause-tasks c).After-insert_reserved))

@@ -5,7 +5,7 @@ use Rattle.std.proofs.lemmas.List.{length-set}
 use Rattle.pid_types.specs.declared.plain.Control.{Control}
 use Rattle.pids_charge.specs.declared.node.Node.{Node}
 use Rattle.pids_charge.specs.Nodes.{tree_of}
-use Rattle.pids_charge.specs.Charges.{Charges, home_at, id_at, is_busy, handed_on, all_tasks}
+use Rattle.pids_charge.specs.Charges.{Charges, home_at, id_at, is_busy, handed_on}
 use Rattle.pids_charge.specs.Kept.{IsKept, control_in, limit_in, total_at}
 use Rattle.id_slab.specs.Ids.{without}
 use Rattle.pids_charge.proofs.Climbs as climbs
@@ -78,8 +78,6 @@ invariant_of-self c =
 pub returns-clause-refusal : goal.returns-clause-refusal
 returns-clause-refusal c =
     let s = views.stand_in c.self.inside.nodes c.self.inside.ids c.args.self.now c.self.view_is c.args.c c.requires in
-    let u = removed.stands_is_field c.self.inside.nodes c.args.c c.node_at-node.result c.node_at-node.ensures s in
-    let q = removed.some_of c.node_at-node.result.parent (c.is_none.ensures ∙ ap not c.if-is_none.false) in
     let none : c.node_at-node.result.live ≡ 0 = omega (arith, c.if-node-gt0.false) in
     let childless = removed.childless_of (tree_of c.self.inside.nodes) c.self.inside.children c.self.inside.ids c.self.invariant.listed c.args.c c.first.result c.first.ensures (sym c.is_some.ensures ∙ c.if-is_some.false) in
     let some = limited.parent_some c.self.inside.nodes c.self.inside.children c.self.inside.ids c.args.self.now c.self.view_is c.self.invariant.listed c.args.c c.requires c.node_at-node.result c.node_at-node.ensures in
@@ -114,9 +112,4 @@ returns-clause-homes c parent above k =
     ∙ ap (option_and_then (handed_on (id_at c.args.self.now c.args.c) parent)) (sym (views.home_at-is c.self.inside.nodes c.self.inside.ids k) ∙ ap (λ (v : Charges). home_at v k) c.self.view_is)
 
 pub returns-clause-tasks : goal.returns-clause-tasks
-returns-clause-tasks c =
-    let r = removes (goal.at.returns-clause-tasks c).After-set_node in
-    let old = sym (views.all-is c.self.inside.nodes c.self.inside.ids) ∙ ap (λ (v : Charges). all_tasks v) c.self.view_is in
-    let new = views.all-is c.drop_empty.new.nodes c.remove.new.self in
-    let same = removed.all-same r in
-    omega (arith, old, new, same, c.drop_empty.ensures.all)
+returns-clause-tasks c = omega (arith, views.all-of c.self.inside.nodes c.self.inside.ids c.args.self.now c.self.view_is, views.all-is c.drop_empty.new.nodes c.remove.new.self, removed.all-same (removes (goal.at.returns-clause-tasks c).After-set_node), c.drop_empty.ensures.all)

@@ -3,7 +3,7 @@ use Rattle.std.proofs.Common.{not, None, true, false, map, refl, sym, ap, ◌∙
 use Rattle.std.proofs.lemmas.List.{get_or_read}
 use Rattle.pid_types.specs.Changes.{limited as limited_to}
 use Rattle.pids_charge.specs.Nodes.{tree_of}
-use Rattle.pids_charge.specs.Charges.{Charges, home_at, id_at, all_tasks}
+use Rattle.pids_charge.specs.Charges.{Charges, home_at, id_at}
 use Rattle.pids_charge.specs.Kept.{control_in, limit_in}
 use Rattle.pids_charge.proofs.Views as views
 use Rattle.pids_charge.proofs.Written as written
@@ -44,8 +44,4 @@ pub returns-clause-homes : goal.returns-clause-homes
 returns-clause-homes c k = limited.homes-limited c.self.inside.nodes c.set_node.new.nodes c.args.c c.node_at-node.result c.args.limit c.node_at-node.ensures c.set_node.ensures c.self.inside.counters.items c.self.inside.children c.self.inside.ids c.self.invariant k ∙ ap (λ (v : Charges). home_at v k) c.self.view_is
 
 pub returns-clause-tasks : goal.returns-clause-tasks
-returns-clause-tasks c =
-    let old = sym (views.all-is c.self.inside.nodes c.self.inside.ids) ∙ ap (λ (v : Charges). all_tasks v) c.self.view_is in
-    let new = views.all-is c.set_node.new.nodes c.self.inside.ids in
-    let all = written.all-changed (record { found = c.node_at-node.ensures; shape = refl; is = c.set_node.ensures }) in
-    omega (arith, old, new, all)
+returns-clause-tasks c = omega (arith, views.all-of c.self.inside.nodes c.self.inside.ids c.args.self.now c.self.view_is, views.all-is c.set_node.new.nodes c.self.inside.ids, written.all-changed (record { found = c.node_at-node.ensures; shape = refl; is = c.set_node.ensures }))

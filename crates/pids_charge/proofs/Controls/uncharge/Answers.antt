@@ -2,7 +2,7 @@
 use Rattle.std.proofs.Common.{◌-◌, option_and_then, arith, refl, sym, ap, subst, ◌∙◌}
 use Rattle.pids_charge.specs.declared.node.Node.{Node}
 use Rattle.pids_charge.specs.Nodes.{Tree, tree_of, IsTree}
-use Rattle.pids_charge.specs.Charges.{Home, Charges, zombies_at, kept, all_tasks}
+use Rattle.pids_charge.specs.Charges.{Home, kept}
 use Rattle.pids_charge.specs.Kept.{standing_key, IsListed}
 use Rattle.pids_charge.proofs.Views as views
 use Rattle.pids_charge.proofs.Written as written
@@ -10,14 +10,10 @@ use Rattle.pids_charge.proofs.Dropped as dropped
 use Rattle.pids_charge.proofs.Controls.uncharge.Goals as goal
 
 pub take_zombie-requires-clause-some : goal.take_zombie-requires-clause-some
-take_zombie-requires-clause-some c =
-    let e = sym (views.zombies-is c.self.inside.nodes c.self.inside.ids c.args.home) ∙ ap (λ (v : Charges). zombies_at v c.args.home) c.self.view_is in
-    omega (arith, e, c.requires)
+take_zombie-requires-clause-some c = omega (arith, views.zombies-of c.self.inside.nodes c.self.inside.ids c.args.self.now c.self.view_is c.args.home, c.requires)
 
 pub drop_empty-requires-clause-there : goal.drop_empty-requires-clause-there
-drop_empty-requires-clause-there c =
-    let e = sym (views.zombies-is c.self.inside.nodes c.self.inside.ids c.args.home) ∙ ap (λ (v : Charges). zombies_at v c.args.home) c.self.view_is in
-    ap (λ (t : Tree). t.there c.args.home) c.take_zombie.ensures.changes.tree ∙ views.zombie_there c.self.inside.nodes c.args.home (omega (arith, e, c.requires))
+drop_empty-requires-clause-there c = ap (λ (t : Tree). t.there c.args.home) c.take_zombie.ensures.changes.tree ∙ views.zombie_there c.self.inside.nodes c.args.home (omega (arith, views.zombies-of c.self.inside.nodes c.self.inside.ids c.args.self.now c.self.view_is c.args.home, c.requires))
 
 pub invariant_of-self : goal.invariant_of-self
 invariant_of-self c =
@@ -26,17 +22,13 @@ invariant_of-self c =
 
 pub returns-clause-home : goal.returns-clause-home
 returns-clause-home c =
-    let some = sym (views.zombies-is c.self.inside.nodes c.self.inside.ids c.args.home) ∙ ap (λ (v : Charges). zombies_at v c.args.home) c.self.view_is in
     let changed = written.home-changed c.self.inside.nodes c.take_zombie.new.nodes c.args.home (λ (n : Node). record n { zombies = n.zombies - 1 }) c.take_zombie.ensures.changes c.self.inside.ids c.args.self.now c.self.view_is
     (option_and_then (λ (h : Home). kept (record h { zombies = h.zombies - 1 }))) refl
     (λ n found.
-    let own = written.field_of (λ (x : Node). x.zombies) 0 c.self.inside.nodes c.args.home n found in
-    sym (ap (option_and_then (λ (h : Home). kept (record h { zombies = h.zombies - 1 }))) (views.kept_some (record { id = (tree_of c.self.inside.nodes).id (standing_key (tree_of c.self.inside.nodes) c.args.home); stands = n.standing; live = n.live; zombies = n.zombies }) (omega (arith, own, some, c.requires))))) in
+    let own = views.field-is (λ (x : Node). x.zombies) 0 c.self.inside.nodes c.args.home n found in
+    sym (ap (option_and_then (λ (h : Home). kept (record h { zombies = h.zombies - 1 }))) (views.kept_some (record { id = (tree_of c.self.inside.nodes).id (standing_key (tree_of c.self.inside.nodes) c.args.home); stands = n.standing; live = n.live; zombies = n.zombies }) (omega (arith, own, views.zombies-of c.self.inside.nodes c.self.inside.ids c.args.self.now c.self.view_is c.args.home, c.requires))))) in
     dropped.ChangesHome-dropped c.take_zombie.new.nodes c.drop_empty.new.nodes c.drop_empty.ensures.drops c.args.self.now c.args.home _ c.self.inside.children c.self.inside.ids
     (subst IsTree (sym c.take_zombie.ensures.changes.tree) c.self.invariant.tree) (subst (λ t. IsListed t c.self.inside.children c.self.inside.ids) (sym c.take_zombie.ensures.changes.tree) c.self.invariant.listed) changed
 
 pub returns-clause-tasks : goal.returns-clause-tasks
-returns-clause-tasks c =
-    let old = sym (views.all-is c.self.inside.nodes c.self.inside.ids) ∙ ap (λ (v : Charges). all_tasks v) c.self.view_is in
-    let new = views.all-is c.drop_empty.new.nodes c.self.inside.ids in
-    omega (arith, old, new, c.take_zombie.ensures.all, c.drop_empty.ensures.all)
+returns-clause-tasks c = omega (arith, views.all-of c.self.inside.nodes c.self.inside.ids c.args.self.now c.self.view_is, views.all-is c.drop_empty.new.nodes c.self.inside.ids, c.take_zombie.ensures.all, c.drop_empty.ensures.all)
