@@ -1,7 +1,7 @@
 //! Identifiers by key, in places of a vector.
 
-ghost use Rattle.std.specs.Prelude.{◌≡◌, ◌≢◌, ℕ, ◌<◌, ◌^◌, ◌+◌, ◌==◌, [], length, None, Some, IfOk, OnOk, IfSome};
-ghost use Rattle.std.specs.Prelude.{IsSome, true, false};
+ghost use Rattle.std.specs.Prelude.{◌≡◌, ◌≢◌, ℕ, ◌<◌, ◌≤◌, ◌^◌, ◌+◌, ◌==◌, [], length, None, Some, IfOk, OnOk, IfSome};
+ghost use Rattle.std.specs.Prelude.{OnErr, IsSome, true, false};
 ghost use Rattle.std.specs.Option.{option_copied};
 ghost use Rattle.pid_numbers.specs.Numbering.{Identifier, uses, less, more, is_used_as};
 ghost use Rattle.pid_numbers.specs.Table.{get, identifier_of, name_at, ChangesPlace};
@@ -127,6 +127,7 @@ impl Idents {
         ensures key { IfOk result (λ key. key ≡ self.now.vacant_key) }
         ensures few { IfOk result (λ key. key < 2 ^ 30) }
         ensures vacant { IfOk result (λ key. get self.now key ≡ None) }
+        ensures err { OnErr result (2 ^ 30 ≤ self.now.vacant_key) }
     {
         if let Some(&key) = self.vacant.last() {
             return Ok(key);

@@ -366,7 +366,8 @@ impl Numbers {
     /// [`draw_new`](Numbers::draw_new) do. The error is that there are 2^30 identifiers.
     #[inline(always)]
     pub fn next_key(&self) -> Result<IdentKey, AllocError>
-        ensures { IfOk result (λ key. (key ≡ self.now.next) × (key < 2 ^ 30)) }
+        ensures ok { IfOk result (λ key. (key ≡ self.now.next) × (key < 2 ^ 30)) }
+        ensures err { OnErr result (2 ^ 30 ≤ self.now.next) }
     {
         self.idents.next_key()
     }

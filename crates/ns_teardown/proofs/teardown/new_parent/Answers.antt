@@ -1,3 +1,4 @@
+-- The namespace that is given is the one of the task's identifier: so who is first or a subreaper in it is the task's heir
 use Rattle.std.proofs.Common.{◌≡◌, ℕ, true, false, Some, None, MatchOption, option_map, is_some, refl, sym, ap, subst, ◌∙◌}
 use Rattle.std.specs.Option.{option_map_or}
 use Rattle.pid_numbers.specs.Numbering.{Identifier, identifier_at, number_of}

@@ -1,3 +1,4 @@
+-- The plan is that of the parent's path behind a 1, and that path is the same in the view and in the tree
 use Rattle.std.proofs.Common.{◌≡◌, ◌≤◌, [], ◌∷◌, ◌++◌, ◌+◌, ◌∙◌, sym, ap, subst, arith, length, find, is_none, None, map, unwrap_or, Some, OnOk, IfErr}
 use Rattle.ns_tree.specs.Tree.{way}
 use Rattle.pid_types.specs.Bounds.{deepest_space}

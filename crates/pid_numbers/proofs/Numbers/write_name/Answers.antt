@@ -1,3 +1,4 @@
+-- An identifier that is there has a namespace that is there, and as many numbers as that has levels
 use Rattle.std.proofs.Common.{◌≡◌, ◌∙◌, sym, ap, subst, arith, refl, ◌≤◌, length, [], Option, Some, None, IfSome, option_map}
 use Rattle.std.specs.Option.{option_map_or}
 use Rattle.ns_tree.specs.Tree.{Node, node_in, way}

@@ -1,3 +1,4 @@
+-- The numbers that are read are the words before the place, joined: one number more is one mark and one word more
 use Rattle.std.proofs.Common.{◌<◌, ℕ, List, length, codes, sym, subst, arith, ◌∙◌}
 use Rattle.pid_script.specs.Answers.{joined}
 use Rattle.table_text.specs.Ranges.{IsWord, Each}

@@ -1,3 +1,4 @@
+-- Where the reader of one part gives up, the parts before it are read: so the line is of no task
 use Rattle.table_text.proofs.Scanned.{task_read, if_none}
 use Rattle.table_text.proofs.Tasks.{no_task_name, no_task_parent, no_task_group, no_task_session, no_task_home, no_task_children, no_task_life, no_task_end}
 use Rattle.table_text.proofs.read.read_task.Goals as goal

@@ -1,3 +1,4 @@
+-- Where the reader of one list gives up, the lists before it are read: so the text is of no state
 use Rattle.std.proofs.lemmas.Result.{err_from_is_err_and}
 use Rattle.table_text.proofs.Whole.{no_text_tasks, no_text_spaces, no_text_controls, no_text_end}
 use Rattle.table_text.proofs.read.read_text.Goals as goal
