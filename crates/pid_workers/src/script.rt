@@ -26,39 +26,6 @@ use std::sync::ledger::{Blank, Ledger};
 /// The most reads of one [`run`].
 pub const MOST_READS: u32 = 1_000_000_000;
 
-/// Runs a script on a new table, and hands back the table.
-fn run_table<L: Ledger, S: Source, K: Sink>(
-    alloc: Global,
-    blank: Blank,
-    source: &mut S,
-    sink: &mut K,
-    config: &Config,
-    turns: u32,
-) -> Result<(Tally, OneSeat<L>), RunScriptFault>
-    requires name { blank.name ≡ L.name }
-    requires parts { (blank.parts ≡ L.parts) × (L.parts ≡ 1) }
-    ensures ok { IfOk result (λ r. (text : List ℕ) × Finishes (start_of config.now)
-        (ended_at r.1.record.present (next_stamp r.1.record) r.0 text (calls_of r.1.record))
-        (S.remaining source.old) (S.remaining source.new) (K.contents sink.old) (K.contents sink.new)) }
-    ensures config { IfOk result (λ r. r.1.record.config ≡ config.now) }
-    ensures history { IfOk result (λ r. r.1.record.first_kept ≡ 0) }
-    ensures err { IfErr result (Leaves turns (start_of config.now)
-        (S.remaining source.old) (S.remaining source.new) (K.contents sink.old) (K.contents sink.new)
-        (S.has_failed source.new)) }
-    ensures talk { Converses turns (start_of config.now) (DidBoth (S.did source.old source.new)
-        (K.did sink.old sink.new)) result }
-    ensures whole { OnOk result ((S.has_failed source.new ≡ S.has_failed source.old)
-        × (K.has_failed sink.new ≡ K.has_failed sink.old) × (K.is_full sink.new ≡ K.is_full sink.old)) }
-    ensures stopped { result ≡ Err Write → HasStopped (K.has_failed sink.new) (K.is_full sink.new) }
-{
-    let mut table = match OneSeat::<L>::new(alloc, blank, config) {
-        Ok(table) => table,
-        Err(_) => return Err(RunScriptFault::NoMemory),
-    };
-    let tally = run_script(&mut table, source, sink, turns)?;
-    Ok((tally, table))
-}
-
 /// Runs a script on a new table: reads the source to its end, and writes the answer to each line to
 /// the sink, as [`run_script`] says. There are at most `turns` reads.
 ///
@@ -149,7 +116,11 @@ pub fn run_state<L: Ledger, S: Source, K: Sink>(
         × (K.has_failed sink.new ≡ K.has_failed sink.old) × (K.is_full sink.new ≡ K.is_full sink.old)) }
     ensures stopped { result ≡ Err Write → HasStopped (K.has_failed sink.new) (K.is_full sink.new) }
 {
-    let (tally, table) = run_table::<L, S, K>(alloc, blank, source, sink, config, MOST_READS)?;
+    let mut table = match OneSeat::<L>::new(alloc, blank, config) {
+        Ok(table) => table,
+        Err(_) => return Err(RunScriptFault::NoMemory),
+    };
+    let tally = run_script(&mut table, source, sink, MOST_READS)?;
     let OneSeat {
         record,
         seat: _seat,
