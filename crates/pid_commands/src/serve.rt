@@ -9,8 +9,8 @@ ghost use Rattle.pid_words.specs.declared.words.WordsFault.{WordsFault};
 ghost use Rattle.pid_workers.specs.declared.threads.RunFault.{RunFault};
 ghost use Rattle.pid_commands.specs.Faults.{of_run};
 ghost use Rattle.pid_commands.specs.Output.{ListsScript, FailsToList, ShowsRun};
-ghost use Rattle.pid_commands.specs.Commands.{RunsScript, FailsToRun, RunsInput, FailsToRunInput, WritesList};
-ghost use Rattle.pid_commands.specs.Commands.{FailsToWriteList, WritesRun, FailsToWriteRun, Does, Stops, Fails, Ends};
+ghost use Rattle.pid_commands.specs.Commands.{RunsInput, FailsToRunInput, WritesList};
+ghost use Rattle.pid_commands.specs.Commands.{FailsToWriteList, WritesRun, FailsToWriteRun, Does, Fails, Ends};
 ghost use Rattle.pid_commands.specs.Commands.{IsSomeFile};
 
 use crate::fault::{Fault, write_fault_line};
@@ -113,35 +113,14 @@ where
     ensures fault { IfErr result (Fails MOST_READS (D.holds disk.now) command (I.remaining input)
         (O.contents output.old) (O.contents output.new)) }
 {
-    do_command(rt, disk, command, input, output)?;
+    match command {
+        Command::Run(config) => run_script(rt.alloc(), &config, input, output)?,
+        Command::List(config) => list_script(rt, &config, input, output)?,
+        Command::Work { config, files } => work(rt, disk, &config, files, output)?,
+    }
     match output.flush() {
         Ok(()) => Ok(()),
         Err(_) => Err(Fault::Write),
-    }
-}
-
-/// Runs a command. The output is not flushed.
-fn do_command<R, D, I, O>(
-    rt: &R,
-    disk: &D,
-    command: Command,
-    input: I,
-    output: &mut O,
-) -> Result<(), Fault>
-where
-    R: Threads + Wait + Clock + Sync + AllocGlobal,
-    D: Opens,
-    I: Read + Drop,
-    O: Write,
-    ensures ok { OnOk result (Does (D.holds disk.now) command (I.remaining input) (O.contents output.old)
-        (O.contents output.new)) }
-    ensures fault { IfErr result (Stops MOST_READS (D.holds disk.now) command (I.remaining input)
-        (O.contents output.old) (O.contents output.new)) }
-{
-    match command {
-        Command::Run(config) => run_script(rt.alloc(), &config, input, output),
-        Command::List(config) => list_script(rt, &config, input, output),
-        Command::Work { config, files } => work(rt, disk, &config, files, output),
     }
 }
 
@@ -159,26 +138,7 @@ fn run_script<I: Read + Drop, O: Write>(
 {
     let mut source = FromReader::new(input);
     let mut sink = ToWriter::new(output);
-    run_to_writer::<Brand, _, _>(alloc, Blank::new(1), &mut source, &mut sink, config)
-}
-
-/// Writes the answers to the script of a source to a writer that is lent.
-fn run_to_writer<L: Ledger, S: Source, O: Write>(
-    alloc: Global,
-    blank: Blank,
-    source: &mut S,
-    sink: &mut ToWriter<'_, O>,
-    config: &Config,
-) -> Result<(), Fault>
-    requires name { blank.name ≡ L.name }
-    requires parts { (blank.parts ≡ L.parts) × (L.parts ≡ 1) }
-    ensures ok { OnOk result (RunsScript config.now (S.remaining source.old) (S.remaining source.new)
-        (O.contents sink.old.writer.now) (O.contents sink.new.writer.now)) }
-    ensures fault { IfErr result (FailsToRun MOST_READS config.now (S.remaining source.old) (S.remaining source.new)
-        (O.contents sink.old.writer.now) (O.contents sink.new.writer.now) (S.has_failed source.new)) }
-    ensures same { sink.new.writer.ghost_name ≡ sink.old.writer.ghost_name }
-{
-    match run::<L, S, ToWriter<'_, O>>(alloc, blank, source, sink, config) {
+    match run::<Brand, _, _>(alloc, Blank::new(1), &mut source, &mut sink, config) {
         Ok(_) => Ok(()),
         Err(fault) => Err(Fault::from(fault)),
     }
