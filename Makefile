@@ -16,7 +16,7 @@ PIDTAB ?= crates/pidtab/out/pidtab
 # What cannot go on without the toolchain says so.
 define need_rt
 @command -v rt > /dev/null || { echo 'The Rattle toolchain (its command is `rt`) is not on the PATH: it proves and compiles this repository.' \
-	'It comes as the kit rattle-kit-13f: add the folder bin of that kit to the PATH.' >&2; exit 1; }
+	'It comes as the kit rattle-kit-13b or rattle-kit-13f: add the folder bin of that kit to the PATH.' >&2; exit 1; }
 endef
 
 define need_script
@@ -69,6 +69,7 @@ gate:
 	@tools/architecture --check
 	@tools/pages --check
 	@tools/widths --check
+	@tools/walk --check
 	@tools/gate --check
 	rt ci
 	@$(MAKE) -s hostile

@@ -22,6 +22,8 @@ os.makedirs("rt-edit-1-x", exist_ok=True)
 for folder, seconds in () if "STATUS" in os.environ else (("crates/low", "2"), ("rt-edit-1-x", "1")):
     subprocess.run([sys.executable, "-c", BUSY, seconds, "--crate-name", "low"], cwd=folder, check=True)
 print(" ".join(sys.argv[1:]))
+if "PLAIN" in os.environ and sys.argv[1:] != ["ci"]:
+    sys.exit(2)
 print("3 passed, 0 failed")
 sys.exit(int(os.environ.get("STATUS", "0")))
 """
@@ -144,6 +146,10 @@ class Checkout(unittest.TestCase):
         self.assertEqual(self.run_gate("measure", "low")[0], 0)
         self.assertEqual(self.table.read_text(), TABLE.replace("low\t5\t1\t7\t1", "low\t2\t\t1\t1"))
         self.assertEqual((self.top / "out/gate.log").read_text().splitlines()[0], "ci --anew low")
+
+    def test_measure_by_a_toolchain_that_keeps_nothing(self) -> None:
+        self.assertEqual(self.run_gate("measure", PLAIN="1"), (0, "3 passed, 0 failed\n", ""))
+        self.assertEqual((self.top / "out/gate.log").read_text().splitlines()[0], "ci")
 
     def test_a_gate_that_fails(self) -> None:
         status, _, said = self.run_gate("measure", STATUS="1")
