@@ -3,6 +3,7 @@ use Rattle.std.proofs.Common.{◌≡◌, ◌≢◌, inl, inr, ℕ, ◌+◌, ◌<
 use Rattle.std.specs.Prelude.{reverse}
 use Rattle.std.specs.Option.{option_map_or}
 use Rattle.std.proofs.lemmas.Bool.{cases_eq}
+use Rattle.pid_types.proofs.General.{held}
 use Rattle.pid_types.specs.declared.plain.Name.{Name}
 use Rattle.pid_types.specs.declared.plain.Life.TheVariants.{Live}
 use Rattle.pid_types.specs.State.{State, root_name}
@@ -17,7 +18,6 @@ use Rattle.task_tree.specs.Tree.{task_at, parent_of}
 use Rattle.groups_sessions.specs.Membership.{Membership, membership_at}
 use Rattle.pids_charge.specs.Charges.{Home, home_at, id_at as home_id}
 use Rattle.task_table.specs.Store.{Store, Begins, bare}
-use Rattle.task_table.proofs.Groups.{held}
 use Rattle.task_table.specs.View.{name_of, name_at, row_of, row_with, spaces_of, state_of}
 use Rattle.task_table.specs.Lawful.{IsLawful}
 use Rattle.task_table.specs.Whole.{HasParents}

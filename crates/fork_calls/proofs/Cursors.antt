@@ -4,6 +4,7 @@ use Rattle.std.specs.Prelude.{slice_index_or}
 use Rattle.std.specs.Option.{option_map_or}
 use Rattle.std.specs.List.{AllByRecursion}
 use Rattle.std.proofs.lemmas.Bool.{cases_eq, eq-eqb}
+use Rattle.pid_types.proofs.General.{apart}
 use Rattle.pid_types.specs.declared.plain.Space.{Space}
 use Rattle.pid_types.specs.Chains.{contains}
 use Rattle.pid_types.specs.State.{State}
@@ -16,9 +17,6 @@ use Rattle.task_table.specs.Lawful.{HasLaws, IsLawful}
 use Rattle.task_table.proofs.Keys.{id_for, own_id, only, on_path, path-is, space_at-key, number-is_key}
 use Rattle.fork_calls.proofs.Draws.{IsPlanned, draw-key, beside-map}
 use Rattle.fork_calls.proofs.Born.{KeepsNamespaces}
-
-differ : (a b : ℕ) → a ≢ b → (a == b) ≡ false
-differ a b m = grind (arith, m)
 
 -- a store's own state is planned so
 pub IsPlanned-own : (s : Store) → IsLawful s → IsPlanned s (state_of s)
@@ -38,7 +36,7 @@ module _ (b : Numbering) (h : HasLaws b) where
     where
       go : (t ≡ q) ⊎ (t ≢ q) → contains (map (id_for b h i) ts) i ≡ contains ts q → ((id_for b h i t == i) || contains (map (id_for b h i) ts) i) ≡ ((t == q) || contains ts q)
       go (inl same) again = rw (eq-eqb (id_for b h i t) i (ap (id_for b h i) same ∙ own_id b h q i e i), eq-eqb t q same) refl
-      go (inr m) again = rw (differ (id_for b h i t) i (λ f. m (only b h q i e t (f ∙ sym (own_id b h q i e i)))), differ t q m) again
+      go (inr m) again = rw (apart (id_for b h i t) i (λ f. m (only b h q i e t (f ∙ sym (own_id b h q i e i)))), apart t q m) again
 
 module _ (b c : Numbering) (h : HasLaws b) (keeps : KeepsNamespaces b c) (planned : State) (path ids : List ℕ) (f : ℕ → ℕ) where
   -- a namespace with its cursor behind what it gave

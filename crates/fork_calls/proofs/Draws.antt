@@ -1,6 +1,7 @@
 -- What namespaces give next, in the model and in a store.
 use Rattle.std.proofs.Common.{◌≡◌, ◌≢◌, ◌⊎◌, inl, inr, ℕ, zero, suc, ◌<◌, false, ◌==◌, ◌||◌, List, [], ◌∷◌, length, map, find, get_or, Option, Some, None, is_none, if◌then◌else◌, refl, sym, ap, subst, ◌∙◌, arith, option_map, unwrap_or}
 use Rattle.std.proofs.lemmas.Bool.{cases_eq, eq-eqb}
+use Rattle.pid_types.proofs.General.{apart}
 use Rattle.pid_types.specs.declared.plain.Name.{Name}
 use Rattle.pid_types.specs.Chains.{contains}
 use Rattle.pid_types.specs.Membership.{IsIn}
@@ -79,10 +80,7 @@ pub beside-map : (f : ℕ → ℕ) (s : ℕ) (path : List ℕ) → beside s path
 beside-map f s [] = refl
 beside-map f s (t ∷ ts) = go (cases_eq t s) (beside-map f s ts)
   where
-    off : (a b : ℕ) → a ≢ b → (a == b) ≡ false
-    off a b m = grind (arith, m)
-
     go : (t ≡ s) ⊎ (t ≢ s) → beside s ts (map f ts) ≡ (if contains ts s then Some (f s) else None)
         → (if t == s then Some (f t) else beside s ts (map f ts)) ≡ (if (t == s) || contains ts s then Some (f s) else None)
     go (inl same) again = rw (eq-eqb t s same) (ap (λ x. Some (f x)) same)
-    go (inr differs) again = rw (off t s differs) again
+    go (inr differs) again = rw (apart t s differs) again

@@ -4,6 +4,7 @@ use Rattle.std.specs.Prelude.{slice_index_or}
 use Rattle.std.specs.Option.{option_map_or}
 use Rattle.std.specs.List.{AllByRecursion}
 use Rattle.std.proofs.lemmas.Bool.{eq-eqb}
+use Rattle.pid_types.proofs.General.{apart}
 use Rattle.pid_types.specs.declared.plain.Life.TheVariants.{Live}
 use Rattle.pid_types.specs.declared.reply.Reply.TheVariants.{Forked}
 use Rattle.pid_types.specs.Chains.{contains}
@@ -25,9 +26,6 @@ use Rattle.fork_calls.proofs.Draws.{draw-key}
 use Rattle.fork_calls.proofs.Born.{KeepsNamespaces, state-born, reply-born}
 use Rattle.fork_calls.proofs.Cursors.{contains-ids, space-moved, gives}
 use Rattle.fork_calls.proofs.Inside as inside
-
-differ : (a b : ℕ) → a ≢ b → (a == b) ≡ false
-differ a b m = grind (arith, m)
 
 map-over : {X Y : Type 0} (f : X → Y) (xs ys : List X) → map f (xs ++ ys) ≡ map f xs ++ map f ys
 map-over f [] ys = refl
@@ -83,7 +81,7 @@ module _ (s : Store) (l : IsLawful s) (w : IsWhole s) (stamp : ℕ) (below : IsB
           space-moved s.numbering s'.numbering l.numbering keeps plan (path_at s.numbering own) (path_up plan.spaces stamp) (gives s.numbering) q e
           (now q.1 (away q.1 n is) ∙ ap (λ ns. option_map (moved (path_at s.numbering own) (drop 1 ns) q.1) (namespace_at s.numbering q.1)) planned)
           (ap (λ ids. contains ids q.0) (inside.path-ids s l w stamp below own p id stands shallow q.0)
-          ∙ ap (λ b. b || contains (map (id_for s.numbering l.numbering q.0) (path_at s.numbering own)) q.0) (differ stamp q.0 (λ z. omega (arith, z, less)))
+          ∙ ap (λ b. b || contains (map (id_for s.numbering l.numbering q.0) (path_at s.numbering own)) q.0) (apart stamp q.0 (λ z. omega (arith, z, less)))
           ∙ contains-ids s.numbering l.numbering q.0 q.1 e (path_at s.numbering own))
           (λ on. ap (λ o. unwrap_or o 0) (draw-key s l plan (inside.IsPlanned-new s l w stamp below own p id stands shallow) q.1 q.0 e))
 

@@ -2,6 +2,7 @@
 use Rattle.std.proofs.Common.{◌≡◌, ◌≢◌, ℕ, zero, suc, ◌==◌, ◌&&◌, Bool, true, false, if◌then◌else◌, List, [], ◌∷◌, Option, Some, None, option_map, find, filter_map, refl, sym, ap, subst, ◌∙◌}
 use Rattle.std.specs.Option.{option_eq}
 use Rattle.std.proofs.lemmas.Bool.{eq-eqb, eqb-true}
+use Rattle.pid_types.proofs.General.{both, some_number}
 use Rattle.pid_numbers.specs.Numbering.{Numbering, number_of}
 use Rattle.groups_sessions.specs.Membership.{Membership, membership_at, HasMembers, AreInSession, IsSessionOf}
 use Rattle.groups_sessions.specs.Setpgid.{is_numbered, session_group}
@@ -31,15 +32,6 @@ module _ (p : Membership → Bool) where
       go later false e none zero is = let same : x ≡ m = cc in sym (ap p same) ∙ e
       go later false e none (suc i) is = later none i is
 
-both : (a b : Bool) → (a && b) ≡ true → (a ≡ true) × (b ≡ true)
-both true true e = (refl, refl)
-both true false e = absurd (cc)
-both false b e = absurd (cc)
-
-same_number : (o : Option ℕ) (n : ℕ) → option_eq ◌==◌ o (Some n) ≡ true → o ≡ Some n
-same_number None n e = absurd (cc)
-same_number (Some m) n e = ap Some (eqb-true m n e)
-
 module _ (members : List (Option Membership)) (numbers : Numbering) (session space n : ℕ) where
   -- the group has the number, and some task of the session is in it
   pub session_group-some : (i : ℕ) → session_group members numbers session space n ≡ Some i
@@ -59,7 +51,7 @@ module _ (members : List (Option Membership)) (numbers : Numbering) (session spa
           let group : m.group ≡ i = cc in
           let mine : m.session ≡ session = eqb-true m.session session test.0 in
           let as_told : m ≡ record { group = i; session = session } = ap (λ (g : ℕ). record { group = g; session = m.session }) group ∙ ap (λ (t : ℕ). record { group = i; session = t }) mine in
-          (sym (ap (λ (g : ℕ). number_of numbers g space) group) ∙ same_number (number_of numbers m.group space) n test.1, ((at.1).0, (at.1).1 ∙ ap Some as_told))
+          (sym (ap (λ (g : ℕ). number_of numbers g space) group) ∙ some_number (number_of numbers m.group space) n test.1, ((at.1).0, (at.1).1 ∙ ap Some as_told))
 
   -- no task of the session is in a group with the number
   pub session_group-none : session_group members numbers session space n ≡ None → (k : ℕ) (m : Membership) → membership_at members k ≡ Some m → m.session ≡ session
@@ -120,7 +112,7 @@ module _ (members : List (Option Membership)) (numbers : Numbering) (session spa
     pub session_group-same : (o : Option ℕ) → IsSessionOf members i o → option_eq ◌==◌ o (Some session) ≡ true → session_group members numbers session space n ≡ Some i
     session_group-same o told same =
         let P : Option ℕ → Type 0 = λ t. IsSessionOf members i t in
-        let all = subst P (same_number o session same) told in
+        let all = subst P (some_number o session same) told in
         here all.0 all.1 (session_group members numbers session space n) refl
 
     -- and else there is none

@@ -1,20 +1,12 @@
 -- The list of one owner comes before that of another.
 use Rattle.std.proofs.Common.{◌≡◌, ◌≢◌, ◌⊎◌, inl, inr, ℕ, ◌+◌, ◌<◌, ◌==◌, false, List, length, map, set, if◌then◌else◌, option_map, refl, sym, ap, ◌∙◌, arith}
-use Rattle.std.proofs.lemmas.Bool.{cases_eq, eq-eqb}
+use Rattle.std.proofs.lemmas.Bool.{cases_eq, eq-eqb, ne_eqb}
 use Rattle.std.proofs.lemmas.List.{get_or_past, get_or-set_same, get_or-set_other, length-set}
+use Rattle.member_lists.proofs.Owners.{handed-from, handed-other}
 use Rattle.member_lists.specs.declared.Link.{Link}
 use Rattle.member_lists.specs.Owners.{owner_of, handed}
 use Rattle.member_lists.specs.Links.{nil, lone, link_at, head_at, owner_in, AreTold, IsLinked}
 use Rattle.member_lists.proofs.Linked.{within, owner_of-links, link_some, link_none}
-
-handed-from : (from to : ℕ) → handed from to from ≡ to
-handed-from from to = rw (eq-eqb from from refl) refl
-
-not_same : (x y : ℕ) → x ≢ y → (x == y) ≡ false
-not_same x y differs = grind (arith, differs)
-
-handed-other : (from to p : ℕ) → p ≢ from → handed from to p ≡ p
-handed-other from to p differs = rw (not_same p from differs) refl
 
 -- what joining the two lists makes of the links
 pub record Joined (hs hs' : List ℕ) (ls ls' : List Link) (from to last : ℕ) : Type 0 where
@@ -78,7 +70,7 @@ module _ (hs hs' : List ℕ) (ls ls' : List Link) (from to last : ℕ) (w : IsLi
 
   rank_other : (k : ℕ) → (link_at ls k).owner ≢ to → rank' k ≡ w.rank k
   unfolding rank'
-  rank_other k other = rw (not_same (link_at ls k).owner to other) refl
+  rank_other k other = rw (ne_eqb (link_at ls k).owner to other) refl
 
   rank_rises : (j k : ℕ) → (link_at ls j).owner ≡ (link_at ls k).owner → w.rank j < w.rank k → rank' j < rank' k
   rank_rises j k same less = elim (cases_eq (link_at ls k).owner to) [

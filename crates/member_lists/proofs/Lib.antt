@@ -1,3 +1,4 @@
+pub mod Owners
 pub mod Rooms
 pub mod Linked
 pub mod Walks

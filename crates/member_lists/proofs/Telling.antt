@@ -3,6 +3,7 @@ use Rattle.std.proofs.Common.{◌≡◌, ◌≢◌, ◌⊎◌, inl, inr, ℕ, �
 use Rattle.std.specs.List.{AllByRecursion}
 use Rattle.std.proofs.lemmas.Bool.{cases_eq}
 use Rattle.std.proofs.lemmas.List.{get_or-set_same, get_or-set_other, length-set}
+use Rattle.member_lists.proofs.Owners.{times-later}
 use Rattle.member_lists.specs.declared.Link.{Link}
 use Rattle.member_lists.specs.Owners.{owner_of, times, AreMembers}
 use Rattle.member_lists.specs.Links.{nil, link_at, owner_in, chain, AreTold, Ends}
@@ -51,7 +52,7 @@ module _ (ls ls' : List Link) (from to first at last : ℕ) (w : IsTelling ls ls
   at_kept = grind (arith, at_owned)
 
   pub turn : (z : Link) → z ≡ link_at ls' at → IsTelling ls (set ls' at (record { owner = to; next = z.next; prev = z.prev })) from to first z.next at
-  turn z is = grind (arith, cases_eq, get_or-set_other, at_owned, length-set, walks.step, here_owned, get_or-set_same, at_within, walks.times-later)
+  turn z is = grind (arith, cases_eq, get_or-set_other, at_owned, length-set, walks.step, here_owned, get_or-set_same, at_within, times-later)
 
   -- fewer are to come
   pub fewer : length (chain ls (link_at ls at).next (length ls)) < length (chain ls at (length ls))

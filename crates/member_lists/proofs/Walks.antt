@@ -4,6 +4,7 @@ use Rattle.std.specs.List.{AllByRecursion, IsDistinct, list_any}
 use Rattle.std.proofs.lemmas.Bool.{cases_eq, eq-eqb}
 use Rattle.std.proofs.lemmas.List.Sums.{sum_by-cons}
 use Rattle.std.proofs.lemmas.Map.Steps.{length-le_from_distinct_below}
+use Rattle.member_lists.proofs.Owners.{times-cons, times-here, times-later}
 use Rattle.member_lists.specs.declared.Link.{Link}
 use Rattle.member_lists.specs.Owners.{owner_of, times, AreMembers}
 use Rattle.member_lists.specs.Links.{nil, link_at, head_at, owner_in, IsLinked, chain, Ends}
@@ -41,15 +42,6 @@ module _ (ls : List Link) where
 
   pub over : (k n : ℕ) → k ≡ nil → chain ls k n ≡ []
   over = chain-nil
-
-times-cons : (k j : ℕ) (xs : List ℕ) → times k (j ∷ xs) ≡ (if j == k then 1 else 0) + times k xs
-times-cons k j xs = sum_by-cons (λ i. if i == k then 1 else 0) j xs
-
-times-here : (k : ℕ) (xs : List ℕ) → times k (k ∷ xs) ≡ 1 + times k xs
-times-here k xs = times-cons k k xs ∙ ap (λ (b : Bool). (if b then 1 else 0) + times k xs) (eq-eqb k k refl)
-
-pub times-later : (k j : ℕ) (xs : List ℕ) → k ≢ j → times j (k ∷ xs) ≡ times j xs
-times-later k j xs differs = grind (arith, times-cons)
 
 module _ (hs : List ℕ) (ls : List Link) (w : IsLinked hs ls) (h : ℕ) (room : h < length hs) where
   some_h : h ≢ nil

@@ -4,26 +4,12 @@ use Rattle.std.specs.List.{AllByRecursion}
 use Rattle.std.proofs.lemmas.Bool.{cases_eq, eq-eqb}
 use Rattle.std.proofs.lemmas.List.{get_or_past, get_or-set_same, get_or-set_other, length-set, length-map}
 use Rattle.std.proofs.lemmas.List.Sums.{sum_by-cons}
+use Rattle.member_lists.proofs.Owners.{handed-from, handed-other, times-cons, times-here, times-later}
 use Rattle.member_lists.specs.Owners.{times, handed}
 use Rattle.member_queues.specs.declared.Node.{Node}
 use Rattle.member_queues.specs.Ranks.{ranked, holder, AreRankedMembers}
 use Rattle.member_queues.specs.Heap.{nil, blank, node_at, root_at, member_in, told, IsBelow, IsHeap}
 use Rattle.member_queues.proofs.Trees.{within, is_some, ranked-nodes, member_some, some_member, none_member}
-
-handed-from : (from to : ℕ) → handed from to from ≡ to
-handed-from from to = rw (eq-eqb from from refl) refl
-
-handed-other : (from to p : ℕ) → p ≢ from → handed from to p ≡ p
-handed-other from to p differs = let e : (p == from) ≡ false = grind (arith, differs) in rw e refl
-
-times-cons : (k j : ℕ) (xs : List ℕ) → times k (j ∷ xs) ≡ (if j == k then 1 else 0) + times k xs
-times-cons k j xs = sum_by-cons (λ i. if i == k then 1 else 0) j xs
-
-times-here : (k : ℕ) (xs : List ℕ) → times k (k ∷ xs) ≡ 1 + times k xs
-times-here k xs = times-cons k k xs ∙ ap (λ (b : Bool). (if b then 1 else 0) + times k xs) (eq-eqb k k refl)
-
-times-later : (k j : ℕ) (xs : List ℕ) → k ≢ j → times j (k ∷ xs) ≡ times j xs
-times-later k j xs differs = grind (arith, times-cons)
 
 -- a key with its owner told
 abbrev with_owner : ℕ → Node → Node

@@ -1,6 +1,7 @@
 -- The climb from task to task by keys, and by root numbers.
 use Rattle.std.proofs.Common.{◌≡◌, ℕ, zero, suc, ◌+◌, ◌≤◌, Bool, true, false, List, ◌∷◌, length, map, Option, Some, None, is_some, refl, sym, ap, subst, ◌∙◌, arith, option_map, option_and_then}
 use Rattle.std.specs.Option.{option_map_or}
+use Rattle.pid_types.proofs.General.{held}
 use Rattle.pid_types.specs.Chains.{climb}
 use Rattle.pid_types.specs.Membership.{IsIn}
 use Rattle.pid_types.specs.Names.{root_number, row_at}
@@ -12,7 +13,6 @@ use Rattle.model_laws.proofs.Ancestry.{parent_number-at, top_row}
 use Rattle.task_tree.specs.declared.Task.{Task}
 use Rattle.task_tree.specs.Tree.{task_at, parent_of}
 use Rattle.task_table.specs.Store.{Store, one_if}
-use Rattle.task_table.proofs.Groups.{held}
 use Rattle.task_table.specs.Collect.{collect}
 use Rattle.task_table.specs.View.{name_at, key_numbered, row_of, row_with, row_numbered, state_of}
 use Rattle.task_table.specs.Lawful.{IsLawful}

@@ -4,6 +4,7 @@ use Rattle.std.specs.Prelude.{slice_set}
 use Rattle.std.specs.Option.{option_map_or, option_eq}
 use Rattle.std.proofs.lemmas.Bool.{cases_eq, eq-eqb, ne_eqb}
 use Rattle.std.proofs.lemmas.List.{get_or-set_same, get_or-set_other}
+use Rattle.pid_types.proofs.General.{held}
 use Rattle.pid_types.specs.declared.plain.Row.{Row}
 use Rattle.pid_types.specs.declared.plain.Life.{Life}
 use Rattle.pid_types.specs.declared.plain.Life.TheVariants.{Zombie}
@@ -19,7 +20,6 @@ use Rattle.task_tree.specs.Tree.{task_at, parent_of, lives, handed}
 use Rattle.groups_sessions.specs.Membership.{group_of, session_of}
 use Rattle.task_table.specs.Store.{Store, IsLess}
 use Rattle.task_table.proofs.Changes.{in_range}
-use Rattle.task_table.proofs.Groups.{held}
 use Rattle.task_table.specs.View.{name_at, row_of, row_with, state_of}
 use Rattle.task_table.specs.Lawful.{IsLawful}
 use Rattle.task_table.specs.Whole.{IsWhole}

@@ -5,6 +5,7 @@ use Rattle.std.specs.Option.{option_map_or}
 use Rattle.std.specs.List.{AllByRecursion}
 use Rattle.std.proofs.lemmas.Bool.{cases_eq, eq-eqb, ne_eqb}
 use Rattle.std.proofs.lemmas.Map.Entries.{option_filter}
+use Rattle.pid_types.proofs.General.{held}
 use Rattle.pid_types.specs.declared.plain.Name.{Name}
 use Rattle.pid_types.specs.declared.plain.Row.{Row}
 use Rattle.pid_types.specs.declared.plain.Life.{Life}
@@ -20,7 +21,6 @@ use Rattle.pids_charge.specs.Charges.{Home, id_at as home_id}
 use Rattle.task_tree.specs.declared.Task.{Task}
 use Rattle.task_tree.specs.Tree.{task_at, parent_of, lives}
 use Rattle.task_table.specs.Store.{Store, IsLess}
-use Rattle.task_table.proofs.Groups.{held}
 use Rattle.task_table.proofs.Less.{number-less}
 use Rattle.task_table.specs.View.{name_of, name_at, parent_id, space_of, spaces_of, row_of, row_with, state_of}
 use Rattle.task_table.specs.Lawful.{HasLaws, IsLawful}

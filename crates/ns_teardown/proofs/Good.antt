@@ -1,6 +1,7 @@
 -- The tasks of a sound state, by key.
 use Rattle.std.proofs.Common.{◌≡◌, ◌≢◌, ℕ, true, false, length, Option, Some, None, IsSome, is_some, refl, sym, ap, subst, ◌∙◌, option_map}
 use Rattle.std.specs.Option.{option_map_or}
+use Rattle.pid_types.proofs.General.{held}
 use Rattle.pid_types.specs.declared.plain.Row.{Row}
 use Rattle.pid_types.specs.Chains.{climb, contains}
 use Rattle.pid_types.specs.Membership.{IsIn}
@@ -12,7 +13,6 @@ use Rattle.model_laws.proofs.Trees.{space_at-Some}
 use Rattle.task_tree.specs.declared.Task.{Task}
 use Rattle.task_tree.specs.Tree.{task_at, parent_of, lives}
 use Rattle.task_table.specs.Store.{Store}
-use Rattle.task_table.proofs.Groups.{held}
 use Rattle.task_table.specs.View.{name_at, row_of, space_of, state_of}
 use Rattle.task_table.specs.Lawful.{IsLawful}
 use Rattle.task_table.specs.Whole.{IsWhole}

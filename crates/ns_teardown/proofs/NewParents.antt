@@ -6,6 +6,7 @@ use Rattle.std.proofs.lemmas.List.{get_or-set_same, get_or-set_other}
 use Rattle.task_table.proofs.Changes.{in_range}
 use Rattle.task_table.specs.Whole.{HasParents}
 use Rattle.std.proofs.lemmas.Bool.{cases_eq, eqb-true}
+use Rattle.pid_types.proofs.General.{both}
 use Rattle.pid_types.specs.Chains.{climb, contains}
 use Rattle.pid_numbers.specs.Numbering.{Namespace, Identifier, identifier_at, namespace_at, path_at, number_of}
 use Rattle.task_tree.specs.declared.Task.{Task}
@@ -14,12 +15,9 @@ use Rattle.task_table.specs.Store.{Store}
 use Rattle.task_table.specs.Lawful.{IsLawful}
 use Rattle.ns_teardown.specs.GoodTasks.{HasGoodTasks, HasInit}
 use Rattle.ns_teardown.specs.Heirs.{IsHeir, is_subreaper_in, ancestors, nearest_subreaper}
+use Rattle.pid_types.proofs.Ancestors.{climb-step}
 use Rattle.ns_teardown.proofs.Ancestors as above
 use Rattle.ns_teardown.proofs.Visible as visible
-
-both : (a b : Bool) → (a && b) ≡ true → (a ≡ true) × (b ≡ true)
-both true b e = (refl, e)
-both false b e = absurd (cc)
 
 -- a subreaper is a task of the namespace
 subreaper : (s : Store) (space k : ℕ) → is_subreaper_in s space k ≡ true → IsSome (task_at s.tree k) × (v : Identifier) × (identifier_at s.numbering k ≡ Some v) × (v.space ≡ space)
@@ -32,7 +30,7 @@ subreaper s space k e = go (task_at s.tree k) (identifier_at s.numbering k) (bot
 
 -- an ancestor is not the task itself, where the climb ends
 another : (f : ℕ → Option ℕ) (limit most key a heir : ℕ) → contains (climb f limit key) a ≡ true → f a ≡ None → contains (drop 1 (climb f (most + 1) key)) heir ≡ true → key ≢ heir
-another f limit most key a heir ends top is same = go (f key) refl (sym (ap (λ l. contains (drop 1 l) heir) (above.climb-step f (most + 1) most key refl)) ∙ is)
+another f limit most key a heir ends top is same = go (f key) refl (sym (ap (λ l. contains (drop 1 l) heir) (climb-step f (most + 1) most key refl)) ∙ is)
   where
     go : (o : Option ℕ) → f key ≡ o → contains (option_map_or (climb f most) o []) heir ≡ true → ⊥
     go None e z = absurd (cc)
@@ -102,7 +100,7 @@ module _ (s : Store) (law : IsLawful s) (good : HasGoodTasks s) where
             sym init.own,
           )
       go (Some a) e is =
-          let found = above.found-is (parent_of s.tree) (is_subreaper_in s space) (ancestors s key) a e in
+          let found = above.found-is (is_subreaper_in s space) (ancestors s key) a e in
           let r = subreaper s space heir (ap (is_subreaper_in s space) is ∙ found.0) in
           let x = visible.live_of (task_at s.tree key) live in
           let end = good.chain key (ap is_some x.1) in (

@@ -12,7 +12,7 @@ use Rattle.task_table.specs.Store.{Store}
 use Rattle.task_table.specs.Lawful.{HasLaws, IsLawful}
 use Rattle.ns_teardown.specs.GoodTasks.{HasGoodTasks}
 use Rattle.ns_teardown.specs.Heirs.{is_subreaper_in}
-use Rattle.ns_teardown.proofs.Ancestors.{found_above}
+use Rattle.pid_types.proofs.Ancestors.{found_above}
 use Rattle.ns_teardown.proofs.Visible as visible
 
 module _ (b : Numbering) (laws : HasLaws b) where

@@ -1,1 +1,4 @@
+pub mod General
+pub mod Equal
+pub mod Ancestors
 pub mod LeastFree

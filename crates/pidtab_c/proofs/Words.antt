@@ -30,6 +30,7 @@ use Rattle.pidtab_c.specs.contracts.loose.Loose as loose
 use Rattle.pidtab_c.specs.contracts.stamped.StampedTable as table
 use Rattle.std.specs.contracts.alloc.Global as heap
 use Rattle.std.specs.contracts.impls.GlobalAllocator.TheImpl.{ghosts}
+use Rattle.pid_types.proofs.General.{held}
 
 -- an address and a handle to an allocator
 abbrev pub beside : ℕ → ℕ → Val → Val
@@ -95,8 +96,3 @@ module _ {M : Type 1} {𝓤 : Ura M} {𝓛 : Logic 𝓤} {K : Type 0} {Γ : List
       in_a_block t d.at (λ p. box_owns (ghosts.dealloc_token d.heap) table.the_row p x) (fst∗ 𝓤 (never 𝓤) (sem 𝓛 (ghosts.dealloc_token d.heap (bare (lone table.the_row.mir)) null_ptr))) (λ b o here.
       let with_address = subst (λ (us : List Val). vs ≡ vstruct (of_list (us ++ [])) ∷ []) address whole in
       next b o here (subst (λ (p : Ptr). vs ≡ vstruct (of_list (ptr_val p ∷ [])) ∷ []) here with_address)))))
-
--- what an option has that has something
-pub had : {X : Type 0} (o : Option X) → is_some o ≡ true → (x : X) × (o ≡ Some x)
-had None h = absurd (subst (λ (b : Bool). T (not b)) h tt)
-had (Some x) h = (x, refl)

@@ -1,4 +1,3 @@
-pub mod Ancestors
 pub mod Drawn
 pub mod InsertedRow
 pub mod LeastNumber

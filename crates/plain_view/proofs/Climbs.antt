@@ -2,20 +2,15 @@
 use Rattle.std.proofs.Common.{◌≡◌, ℕ, zero, suc, ◌+◌, ◌-◌, ◌<◌, ◌∷◌, [], ◌++◌, Option, Some, None, List, sym, ap, ◌∙◌, subst, arith, append_assoc}
 use Rattle.std.proofs.lemmas.List.{append-nil}
 use Rattle.std.specs.Option.{option_map_or}
+use Rattle.pid_types.proofs.Ancestors.{climb-step}
 use Rattle.pid_types.specs.Chains.{climb}
-
--- one step of a climb
-pub climb-suc : (f : ℕ → Option ℕ) (most n id : ℕ) → most ≡ n + 1 → climb f most id ≡ id ∷ option_map_or (climb f n) (f id) []
-unfolding climb
-climb-suc f zero n id e = absurd (omega arith)
-climb-suc f (suc most) n id e = let same : most ≡ n = omega arith in ap (λ m. id ∷ option_map_or (climb f m) (f id) []) same
 
 -- what is climbed so far, with what is left to climb, is the whole chain after a step too
 pub climb_more : (f : ℕ → Option ℕ) (limit : ℕ) (path whole : List ℕ) (count at : ℕ) (next : Option ℕ) → count < limit → next ≡ Some at
     → path ++ option_map_or (climb f (limit - count)) next [] ≡ whole → (path ++ at ∷ []) ++ option_map_or (climb f (limit - (count + 1))) (f at) [] ≡ whole
 climb_more f limit path whole count at next l is h =
     append_assoc path (at ∷ []) _
-    ∙ ap (λ ids. path ++ ids) (sym (climb-suc f (limit - count) (limit - (count + 1)) at (omega arith)))
+    ∙ ap (λ ids. path ++ ids) (sym (climb-step f (limit - count) (limit - (count + 1)) at (omega arith)))
     ∙ subst (λ o. path ++ option_map_or (climb f (limit - count)) o [] ≡ whole) is h
 
 -- at the top of the chain it is whole

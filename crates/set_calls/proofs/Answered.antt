@@ -3,6 +3,7 @@ use Rattle.std.proofs.Common.{◌≡◌, ◌≢◌, ℕ, ◌<◌, ◌==◌, nat_
 use Rattle.std.specs.Option.{option_map_or}
 use Rattle.std.specs.List.{AllByRecursion}
 use Rattle.std.proofs.lemmas.Bool.Decides.{nat_tests}
+use Rattle.pid_types.proofs.General.{held}
 use Rattle.pid_types.specs.declared.plain.Control.{Control}
 use Rattle.pid_types.specs.declared.reply.Reply.TheVariants.{Done, Control as ControlMade, Counted}
 use Rattle.pid_types.specs.declared.reply.Refusal.{Refusal}
@@ -15,7 +16,6 @@ use Rattle.pid_types.specs.Outcome.{Outcome, answered, changed, refused, for_fou
 use Rattle.pid_types.specs.Changes.{is_busy, limited, with_control, without_control, with_limit, make_control, remove_control, set_limit, count_tasks}
 use Rattle.pids_charge.specs.Charges.{home_at, handed_on, stands, id_at as home_id, remove_refusal, limit_refusal}
 use Rattle.task_table.specs.Store.{Store}
-use Rattle.task_table.proofs.Groups.{held}
 use Rattle.task_table.specs.View.{state_of}
 use Rattle.task_table.specs.Lawful.{IsLawful}
 use Rattle.task_table.proofs.InUse.{homed}

@@ -3,6 +3,7 @@ use Rattle.std.proofs.Common.{◌≡◌, ◌≢◌, ◌⊎◌, inl, inr, ℕ, �
 use Rattle.std.specs.Prelude.{ℤ, pos, negsuc, Result, Ok, Err, ok_or}
 use Rattle.std.specs.Option.{option_map_or, option_eq}
 use Rattle.std.proofs.lemmas.Bool.{eqb-true}
+use Rattle.pid_types.proofs.General.{held}
 use Rattle.pid_types.specs.declared.plain.Name.{Name}
 use Rattle.pid_types.specs.declared.plain.Row.{Row}
 use Rattle.pid_types.specs.declared.reply.Refusal.{Refusal}
@@ -22,7 +23,7 @@ use Rattle.groups_sessions.specs.Setpgid.{target_refusal, answer_for, setpgid_an
 use Rattle.groups_sessions.proofs.SessionGroups.{session_group-some}
 use Rattle.task_table.specs.Store.{Store}
 use Rattle.task_table.proofs.Changes.{in_range}
-use Rattle.task_table.proofs.Groups.{held, session_is, in_group}
+use Rattle.task_table.proofs.Groups.{session_is, in_group}
 use Rattle.task_table.specs.View.{name_at, row_of, state_of}
 use Rattle.task_table.specs.Lawful.{IsLawful}
 use Rattle.task_table.specs.Whole.{IsWhole}

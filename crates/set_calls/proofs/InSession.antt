@@ -2,6 +2,7 @@
 use Rattle.std.proofs.Common.{◌≡◌, ℕ, ◌==◌, ◌&&◌, Bool, true, false, find, Option, Some, None, IsSome, is_some, option_map, refl, sym, ap, ◌∙◌}
 use Rattle.std.specs.Option.{option_eq}
 use Rattle.std.proofs.lemmas.Bool.{eq-eqb, eqb-true, and_parts, and_from}
+use Rattle.pid_types.proofs.General.{some_number}
 use Rattle.pid_types.specs.declared.plain.Row.{Row}
 use Rattle.pid_types.specs.Membership.{IsIn}
 use Rattle.pid_types.specs.Names.{is_numbered, same_name}
@@ -19,10 +20,6 @@ use Rattle.task_table.proofs.Keys.{number-is_key}
 use Rattle.task_table.proofs.LookUps.{group-named, session-named, same-name, in-rows, rows-in}
 use Rattle.task_table.proofs.InUse.{member}
 use Rattle.set_calls.proofs.Members.{group-name, session-name, who}
-
-some_number : (o : Option ℕ) (n : ℕ) → option_eq ◌==◌ o (Some n) ≡ true → o ≡ Some n
-some_number None n e = absurd (cc)
-some_number (Some m) n e = ap Some (eqb-true m n e)
 
 -- the row of who asks, whose session and namespace have these keys
 module _ (s : Store) (l : IsLawful s) (row : Row) (session space : ℕ) (here : row.session ≡ name_at s.numbering session) (there : IsSome (identifier_at s.numbering session))

@@ -2,6 +2,7 @@
 use Rattle.std.proofs.Common.{◌≡◌, ◌≢◌, ℕ, Bool, true, false, Some, IsSome, is_some, refl, sym, ap, ◌∙◌, option_map}
 use Rattle.std.specs.Option.{option_map_or}
 use Rattle.std.proofs.lemmas.Bool.{eqb-true}
+use Rattle.pid_types.proofs.General.{held}
 use Rattle.pid_types.specs.declared.plain.Row.{Row}
 use Rattle.pid_types.specs.State.{root_name}
 use Rattle.pid_types.specs.Names.{same_name}
@@ -13,7 +14,7 @@ use Rattle.task_tree.specs.declared.Task.{Task}
 use Rattle.task_tree.specs.Tree.{task_at}
 use Rattle.groups_sessions.specs.Membership.{Membership, membership_at, group_of, HasMembers}
 use Rattle.task_table.specs.Store.{Store}
-use Rattle.task_table.proofs.Groups.{held, in_group}
+use Rattle.task_table.proofs.Groups.{in_group}
 use Rattle.task_table.specs.View.{name_at, row_of, state_of}
 use Rattle.task_table.specs.Lawful.{IsLawful}
 use Rattle.task_table.proofs.LookUps.{named, group-named, same-name, in-rows, rows-in}

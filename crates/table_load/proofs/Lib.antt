@@ -1,3 +1,2 @@
 pub mod Below
-pub mod Same
 pub mod Controls

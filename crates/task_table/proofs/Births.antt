@@ -3,6 +3,7 @@ use Rattle.std.proofs.Common.{◌≡◌, ◌≢◌, inl, inr, ℕ, ◌+◌, ◌<
 use Rattle.std.specs.Prelude.{slice_set}
 use Rattle.std.specs.Option.{option_map_or}
 use Rattle.std.proofs.lemmas.Bool.{cases_eq, eq-eqb}
+use Rattle.pid_types.proofs.General.{nothing, held}
 use Rattle.pid_types.specs.declared.call.Kind.{Kind}
 use Rattle.pid_types.specs.declared.call.Kind.TheVariants.{Task as AsTask, Group, Session}
 use Rattle.pid_types.specs.Names.{beside}
@@ -14,7 +15,6 @@ use Rattle.groups_sessions.specs.Membership.{Membership, membership_at}
 use Rattle.task_table.specs.Store.{Store, IsStore, IsSame, uses_at, one_if, is_kind, is_in_group, is_in_session, lives_in, waits_in, bare, bare_at, joins, use_of}
 use Rattle.task_table.proofs.Less.{AreRanks, ranked_task}
 use Rattle.task_table.proofs.Changes.{IsStore-changed}
-use Rattle.task_table.proofs.Groups.{held}
 use Rattle.task_table.proofs.HomeCounts as homes
 
 -- the identifiers that a new task's group and session are named after are there
@@ -167,15 +167,11 @@ pub no_task : (s : Store) → IsStore s → (key : ℕ) → identifier_at s.numb
 no_task s w key fresh =
     let none : one_if (is_some (task_at s.tree key)) ≡ 0 = sym (w.tasks key) ∙ ap (λ o. option_map_or (uses AsTask) o 0) fresh in
     let vacant = empty (task_at s.tree key) none in
-    (vacant, empty_too (membership_at s.members key) (w.members key ∙ ap is_some vacant))
+    (vacant, nothing (membership_at s.members key) (w.members key ∙ ap is_some vacant))
   where
     empty : {X : Type 0} (o : Option X) → one_if (is_some o) ≡ 0 → o ≡ None
     empty None e = refl
     empty (Some x) e = absurd (omega (arith, e))
-
-    empty_too : {X : Type 0} (o : Option X) → is_some o ≡ false → o ≡ None
-    empty_too None e = refl
-    empty_too (Some x) e = absurd (cc)
 
 -- who is a task has an identifier
 pub task_named : (s : Store) → IsStore s → (k : ℕ) → is_some (task_at s.tree k) ≡ true → IsSome (identifier_at s.numbering k)

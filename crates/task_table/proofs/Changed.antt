@@ -5,6 +5,7 @@ use Rattle.std.specs.Option.{option_map_or}
 use Rattle.std.specs.List.{AllByRecursion}
 use Rattle.std.proofs.lemmas.Bool.{cases_eq}
 use Rattle.std.proofs.lemmas.List.{get_or-set_same, get_or-set_other}
+use Rattle.pid_types.proofs.General.{held}
 use Rattle.pid_types.specs.declared.plain.Row.{Row}
 use Rattle.pid_types.specs.State.{State, root_name}
 use Rattle.pid_types.specs.Names.{with_row, on_row}
@@ -16,7 +17,6 @@ use Rattle.groups_sessions.specs.Membership.{membership_at, group_of, session_of
 use Rattle.pids_charge.specs.Charges.{Home, home_at, moved, id_at as home_id}
 use Rattle.task_table.specs.Store.{Store, IsLess, IsSame}
 use Rattle.task_table.proofs.Changes.{in_range}
-use Rattle.task_table.proofs.Groups.{held}
 use Rattle.task_table.specs.Collect.{collect}
 use Rattle.task_table.specs.View.{name_at, key_numbered, row_of, row_with, row_numbered, spaces_of, state_of}
 use Rattle.task_table.proofs.Collects.{collect-same}

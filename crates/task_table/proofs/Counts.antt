@@ -4,6 +4,7 @@ use Rattle.std.specs.Option.{option_map_or, option_eq}
 use Rattle.std.proofs.lemmas.Bool.{cases_eq, cases_lt, eq-eqb, eqb-true}
 use Rattle.std.proofs.lemmas.List.{get_or_past}
 use Rattle.std.proofs.lemmas.List.Sums.{sum_by-cons, length-filter}
+use Rattle.pid_types.proofs.General.{some_number}
 use Rattle.pid_types.specs.declared.plain.Row.{Row}
 use Rattle.pid_types.specs.Controls.{is_below, count as count_in}
 use Rattle.pid_numbers.specs.Numbering.{number_of}
@@ -54,10 +55,6 @@ count-all p f len =
     count-collect p f 0 len
     ∙ sum-ext len (λ i. option_map_or (λ x. cond {A = ℕ} (p x) 1 0) (f (0 + i)) 0) (λ i. option_map_or (λ x. cond {A = ℕ} (p x) 1 0) (f i) 0) (λ i. ap (λ j. option_map_or (λ x. cond {A = ℕ} (p x) 1 0) (f j) 0) (omega arith))
 
-same_some : (o : Option ℕ) (n : ℕ) → option_eq ◌==◌ o (Some n) ≡ true → o ≡ Some n
-same_some None n e = absurd (cc)
-same_some (Some m) n e = ap Some (eqb-true m n e)
-
 same_number : (m n : ℕ) → ◌≡◌ {A = Option ℕ} (Some m) (Some n) → m ≡ n
 same_number m n e = ap (λ o. option_map_or (λ x. x) o m) e
 
@@ -77,7 +74,7 @@ module _ (s : Store) (l : IsLawful s) where
     not_both n k d = go (option_eq ◌==◌ (number_of s.numbering k 0) (Some n)) refl
       where
         go : (b : Bool) → option_eq ◌==◌ (number_of s.numbering k 0) (Some n) ≡ b → (if b then w (task_at s.tree k) else 0) ≡ 0
-        go true e = absurd (d (same_some (number_of s.numbering k 0) n e))
+        go true e = absurd (d (some_number (number_of s.numbering k 0) n e))
         go false e = refl
 
     by_keys : (n : ℕ) → sum_below (length s.tree.tasks) (at_both n) ≡ w (task_numbered n)

@@ -5,6 +5,7 @@ use Rattle.std.specs.Option.{option_map_or}
 use Rattle.std.proofs.lemmas.Bool.{cases_eq, eq-eqb}
 use Rattle.std.proofs.lemmas.List.{set-get_or, get_or-set_other}
 use Rattle.std.proofs.lemmas.List.Sums.{count_by-le-length}
+use Rattle.pid_types.proofs.General.{held}
 use Rattle.pid_types.specs.declared.call.Kind.{Kind}
 use Rattle.pid_types.specs.declared.call.Kind.TheVariants.{Task as AsTask, Group, Session}
 use Rattle.pid_numbers.specs.Numbering.{Numbering}
@@ -158,10 +159,6 @@ left s s' w key task m there is tasks members uses live zombies all ranks =
       all = let e = ap (λ o. one_if (is_some o)) there in omega (arith, all, e);
       ranks = ranks;
     })
-
-pub held : {X : Type 0} (o : Option X) → is_some o ≡ true → (x : X) × (o ≡ Some x)
-held None e = absurd (cc)
-held (Some x) e = (x, refl)
 
 pub group_is : (members : List (Option Membership)) (key : ℕ) (m : Membership) → membership_at members key ≡ Some m → (g : ℕ) → group_of members key ≡ Some g → m.group ≡ g
 group_is members key m is g e = ap (λ o. option_map_or (λ (n : ℕ). n) o 0) (sym (ap (option_map (λ (m : Membership). m.group)) is) ∙ e)

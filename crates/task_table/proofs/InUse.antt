@@ -5,6 +5,7 @@ use Rattle.std.proofs.lemmas.Bool.{eqb-true}
 use Rattle.std.proofs.lemmas.Bool.Decides.{nat_tests}
 use Rattle.pid_types.specs.Queries.{name_by}
 use Rattle.std.proofs.lemmas.List.Sums.{sum_by-cons}
+use Rattle.pid_types.proofs.General.{held}
 use Rattle.pid_types.specs.declared.plain.Row.{Row}
 use Rattle.pid_types.specs.declared.plain.Name.{Name}
 use Rattle.pid_types.specs.declared.call.Kind.{Kind}
@@ -20,7 +21,7 @@ use Rattle.groups_sessions.specs.Membership.{Membership, membership_at}
 use Rattle.task_table.specs.Store.{Store, uses_at, one_if, is_in_group, is_in_session}
 use Rattle.pids_charge.specs.Charges.{Home, home_at, stands, live_at, zombies_at}
 use Rattle.task_table.proofs.Changes.{live_some, zombie_some}
-use Rattle.task_table.proofs.Groups.{held, group_used, session_used}
+use Rattle.task_table.proofs.Groups.{group_used, session_used}
 use Rattle.task_table.specs.View.{name_at, row_of, state_of}
 use Rattle.task_table.specs.Lawful.{IsLawful}
 use Rattle.task_table.proofs.LookUps.{named, group-named, session-named, in-rows, rows-in}

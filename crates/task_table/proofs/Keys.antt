@@ -6,6 +6,7 @@ use Rattle.std.proofs.lemmas.List.{reverse-append}
 use Rattle.std.proofs.lemmas.List.Quantifiers.{position-Some}
 use Rattle.std.specs.Option.{option_map_or, option_eq}
 use Rattle.std.proofs.lemmas.Bool.{cases_eq, eq-eqb, eqb-true}
+use Rattle.pid_types.proofs.General.{apart, some_number, number_tested}
 use Rattle.id_slab.specs.Ids.{key_of}
 use Rattle.pid_types.specs.declared.plain.Space.{Space}
 use Rattle.pid_types.specs.Membership.{IsIn}
@@ -16,9 +17,6 @@ use Rattle.pid_numbers.specs.Slabs.{IsPath}
 use Rattle.pid_numbers.proofs.Model.{path_up-is, number-is}
 use Rattle.task_table.specs.Lawful.{HasLaws}
 use Rattle.task_table.specs.View.{name_of, name_at, key_numbered, space_of, spaces_of}
-
-off : (a b : ℕ) → a ≢ b → (a == b) ≡ false
-off a b m = grind (arith, m)
 
 -- no element passes where no place is found
 module _ {X : Type 0} (p : X → Bool) where
@@ -46,22 +44,15 @@ by_cases : (P : List ℕ → Type 0) → P [] → ((q : ℕ) (qs : List ℕ) →
 by_cases P none some [] = none
 by_cases P none some (q ∷ qs) = some q qs
 
-same_some : (o : Option ℕ) (n : ℕ) → option_eq ◌==◌ o (Some n) ≡ true → o ≡ Some n
-same_some None n e = absurd (cc)
-same_some (Some m) n e = ap Some (eqb-true m n e)
-
-eq_some : (o : Option ℕ) (n : ℕ) → o ≡ Some n → option_eq ◌==◌ o (Some n) ≡ true
-eq_some o n e = rw e (eq-eqb n n refl)
-
 module _ (b : Numbering) (l : HasLaws b) where
   -- a number leads to the key that has it
   pub key-some : (s n k : ℕ) → key_numbered b s n ≡ Some k → number_of b k s ≡ Some n
-  key-some s n k e = same_some (number_of b k s) n (position-Some (λ o. option_eq ◌==◌ (number_in (path_at b) s o) (Some n)) b.names k None e).1
+  key-some s n k e = some_number (number_of b k s) n (position-Some (λ o. option_eq ◌==◌ (number_in (path_at b) s o) (Some n)) b.names k None e).1
 
   pub key-none : (s n : ℕ) → key_numbered b s n ≡ None → (k : ℕ) → number_of b k s ≢ Some n
   key-none s n e k at =
       let no = position-none (λ o. option_eq ◌==◌ (number_in (path_at b) s o) (Some n)) None refl b.names e k in
-      absurd (let z : true ≡ false = sym (eq_some (number_of b k s) n at) ∙ no in cc)
+      absurd (let z : true ≡ false = sym (number_tested (number_of b k s) n at) ∙ no in cc)
 
   pub key-of : (s n k : ℕ) → number_of b k s ≡ Some n → key_numbered b s n ≡ Some k
   key-of s n k at = go (key_numbered b s n) refl
@@ -130,7 +121,7 @@ module _ (b : Numbering) (l : HasLaws b) where
           go : (p.0 ≡ i) ⊎ (p.0 ≢ i) → find (λ (s : Space). s.id == i) (map (space_of b) ids) ≡ option_map (λ k. space_of b (i, k)) (key_of ids i)
               → (if p.0 == i then Some (space_of b p) else find (λ (s : Space). s.id == i) (map (space_of b) ids)) ≡ option_map (λ k. space_of b (i, k)) (if p.0 == i then Some p.1 else key_of ids i)
           go (inl same) again = rw (eq-eqb p.0 i same) (ap (λ j. Some (space_of b (j, p.1))) same)
-          go (inr differs) again = rw (off p.0 i differs) again
+          go (inr differs) again = rw (apart p.0 i differs) again
 
   pub space_at-key : (s i : ℕ) → id_at b s ≡ Some i → space_at (spaces_of b) i ≡ Some (space_of b (i, s))
   space_at-key s i e = space_at-is i ∙ ap (option_map (λ k. space_of b (i, k))) (l.listed s i e)
@@ -193,7 +184,7 @@ module _ (b : Numbering) (l : HasLaws b) where
       go : beside_from (id_for i s) (map (id_for i) ts) ns ≡ beside_from s ts ns → (t ≡ s) ⊎ (t ≢ s)
           → (if id_for i t == id_for i s then n ∷ ns else beside_from (id_for i s) (map (id_for i) ts) ns) ≡ (if t == s then n ∷ ns else beside_from s ts ns)
       go again (inl e) = rw (eq-eqb t s e, eq-eqb (id_for i t) (id_for i s) (ap (id_for i) e)) refl
-      go again (inr m) = rw (off t s m, off (id_for i t) (id_for i s) (λ e. m (only t e))) again
+      go again (inr m) = rw (apart t s m, apart (id_for i t) (id_for i s) (λ e. m (only t e))) again
 
   -- the numbers from a namespace inwards, in the model
   pub levels-are : (s i k : ℕ) (u : Identifier) → id_at b s ≡ Some i → identifier_at b k ≡ Some u → numbers_from (spaces_of b) (name_at b k) i ≡ levels_of b k s

@@ -4,6 +4,7 @@ use Rattle.std.specs.Prelude.{reverse, slice_index}
 use Rattle.std.specs.Option.{option_map_or, option_eq}
 use Rattle.std.proofs.lemmas.Bool.{cases_eq, eq-eqb, eqb-true}
 use Rattle.std.proofs.lemmas.List.{length-reverse, reverse-append}
+use Rattle.pid_types.proofs.General.{apart, some_number, held}
 use Rattle.pid_types.specs.declared.plain.Row.{Row}
 use Rattle.pid_types.specs.declared.call.Kind.TheVariants.{Group, Session}
 use Rattle.pid_types.specs.Chains.{contains}
@@ -19,7 +20,7 @@ use Rattle.groups_sessions.specs.Membership.{Membership, membership_at}
 use Rattle.task_table.specs.Store.{Store}
 use Rattle.task_table.proofs.Births.{task_named}
 use Rattle.task_table.proofs.Less.{used}
-use Rattle.task_table.proofs.Groups.{held, group_used, session_used}
+use Rattle.task_table.proofs.Groups.{group_used, session_used}
 use Rattle.task_table.specs.View.{name_of, name_at, key_numbered, row_of, row_with, row_numbered, state_of}
 use Rattle.task_table.specs.Lawful.{IsLawful}
 use Rattle.model_laws.proofs.Lists.{find-only, find-none}
@@ -36,9 +37,6 @@ outermost ways [] ns h root on len = absurd (cc)
 outermost ways (t ∷ ts) [] h root on len = absurd (omega (arith, len))
 outermost ways (t ∷ ts) (n ∷ ns) h root on len = go (cases_eq t 0) (λ e. outermost ways ts ns h.1 root e (omega (arith, len)))
   where
-    differ : (a b : ℕ) → a ≢ b → (a == b) ≡ false
-    differ a b m = grind (arith, m)
-
     alone : (ms : List ℕ) → length ms ≡ 0 → ms ≡ []
     alone [] e = refl
     alone (m ∷ ms) e = absurd (omega (arith, e))
@@ -56,9 +54,9 @@ outermost ways (t ∷ ts) (n ∷ ns) h root on len = go (cases_eq t 0) (λ e. ou
         let none : ns ≡ [] = alone ns (let e : length ts ≡ 0 = ap length tail in omega (arith, len, e)) in
         ap (λ b. if b then Some n else beside 0 ts ns) (eq-eqb t 0 same) ∙ ap (λ (l : List ℕ). Some (slice_index (reverse (n ∷ l)) 0)) (sym none)
     go (inr m) again =
-        let later : contains ts 0 ≡ true = rw (differ t 0 m) at on in
+        let later : contains ts 0 ≡ true = rw (apart t 0 m) at on in
         let some = filled ts later in
-        ap (λ b. if b then Some n else beside 0 ts ns) (differ t 0 m) ∙ again later ∙ ap Some (sym (more ns (omega (arith, some, len))))
+        ap (λ b. if b then Some n else beside 0 ts ns) (apart t 0 m) ∙ again later ∙ ap Some (sym (more ns (omega (arith, some, len))))
 
 module _ (s : Store) (l : IsLawful s) where
   -- a task, a group and a session have an identifier
@@ -193,22 +191,18 @@ module _ (s : Store) (l : IsLawful s) where
   numbered : (sp i n k : ℕ) (t : Task) → id_at s.numbering sp ≡ Some i → task_at s.tree k ≡ Some t → is_numbered (state_of s).spaces (name_at s.numbering k) i n ≡ option_eq ◌==◌ (number_of s.numbering k sp) (Some n)
   numbered sp i n k t e f = let u = named k t f in ap (λ o. option_eq ◌==◌ o (Some n)) (number-is_key s.numbering l.numbering sp i k u.0 e u.1)
 
-  is_some_number : (o : Option ℕ) (n : ℕ) → option_eq ◌==◌ o (Some n) ≡ true → o ≡ Some n
-  is_some_number None n e = absurd (cc)
-  is_some_number (Some m) n e = ap Some (eqb-true m n e)
-
   pub task_at-key : (sp i n k : ℕ) (t : Task) → id_at s.numbering sp ≡ Some i → task_at s.tree k ≡ Some t → number_of s.numbering k sp ≡ Some n → task_in (state_of s) i n ≡ Some (row_of s k t)
   unfolding task_in
   task_at-key sp i n k t e f at =
       find-task (λ row. is_numbered (state_of s).spaces row.name i n) k t f (numbered sp i n k t e f ∙ rw at (eq-eqb n n refl))
-      (λ j v g is. l.numbering.distinct j k sp n (is_some_number (number_of s.numbering j sp) n (sym (numbered sp i n j v e g) ∙ is)) at)
+      (λ j v g is. l.numbering.distinct j k sp n (some_number (number_of s.numbering j sp) n (sym (numbered sp i n j v e g) ∙ is)) at)
 
   pub task_at-none : (sp i n : ℕ) → id_at s.numbering sp ≡ Some i → ((k : ℕ) (t : Task) → task_at s.tree k ≡ Some t → number_of s.numbering k sp ≢ Some n) → task_in (state_of s) i n ≡ None
   unfolding task_in
   task_at-none sp i n e none = find-nobody (λ row. is_numbered (state_of s).spaces row.name i n) (λ j v g. numbered sp i n j v e g ∙ test j v g (option_eq ◌==◌ (number_of s.numbering j sp) (Some n)) refl)
     where
       test : (j : ℕ) (v : Task) → task_at s.tree j ≡ Some v → (b : Bool) → option_eq ◌==◌ (number_of s.numbering j sp) (Some n) ≡ b → b ≡ false
-      test j v g true is = absurd (none j v g (is_some_number (number_of s.numbering j sp) n is))
+      test j v g true is = absurd (none j v g (some_number (number_of s.numbering j sp) n is))
       test j v g false is = refl
 
   -- the id of an identifier's namespace

@@ -3,6 +3,7 @@ use Rattle.std.proofs.Common.{◌≡◌, ◌≢◌, inl, inr, ℕ, Bool, false, 
 use Rattle.std.specs.Option.{option_map_or}
 use Rattle.std.proofs.lemmas.Bool.{cases_eq, eq-eqb}
 use Rattle.std.proofs.lemmas.Map.Entries.{option_filter}
+use Rattle.pid_types.proofs.General.{apart}
 use Rattle.pid_types.specs.declared.plain.Row.{Row}
 use Rattle.pid_types.specs.Names.{root_number, same_name, on_row}
 use Rattle.pid_types.specs.Fork.{insert_row}
@@ -21,9 +22,6 @@ use Rattle.task_table.proofs.LookUps.{named, row-at, row-from, keyed, root-numbe
 pub row-ext : (a b : Row) → a.name ≡ b.name → a.parent ≡ b.parent → a.group ≡ b.group → a.session ≡ b.session → a.executed ≡ b.executed → a.life ≡ b.life → a.home ≡ b.home
     → a.children_space ≡ b.children_space → a.subreaper ≡ b.subreaper → a ≡ b
 row-ext a b n p g s e l h c r = λ i. record { name = n i; parent = p i; group = g i; session = s i; executed = e i; life = l i; home = h i; children_space = c i; subreaper = r i }
-
-apart : (a b : ℕ) → a ≢ b → (a == b) ≡ false
-apart a b m = grind (arith, m)
 
 module _ (s s' : Store) (l : IsLawful s) (l' : IsLawful s') (bound : s'.numbering.pid_max ≡ s.numbering.pid_max)
     (roots : (k : ℕ) (t : Task) → task_at s'.tree k ≡ Some t → number_of s'.numbering k 0 ≡ number_of s.numbering k 0) where

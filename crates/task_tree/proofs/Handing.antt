@@ -4,18 +4,13 @@ use Rattle.std.specs.List.{AllByRecursion}
 use Rattle.std.specs.Option.{option_map_or}
 use Rattle.std.specs.Prelude.{slice_index_or, if◌then◌else◌}
 use Rattle.std.proofs.lemmas.Bool.{eq-eqb, cases_eq}
+use Rattle.member_lists.proofs.Owners.{handed-from, handed-other}
 use Rattle.member_lists.specs.Owners.{owner_of, AreMembers}
 use Rattle.member_queues.specs.Ranks.{ranked, holder, AreRankedMembers}
 use Rattle.task_tree.specs.declared.Task.{Task}
 use Rattle.task_tree.specs.Tree.{IsTree, is_zombie, waits_for, handed}
 use Rattle.task_tree.specs.Ended.{AreListed}
 use Rattle.task_tree.proofs.Changes.{of_parent}
-
-pub handed-from : (from to : ℕ) → handed from to from ≡ to
-handed-from from to = rw (eq-eqb from from refl) refl
-
-pub handed-other : (from to p : ℕ) → p ≢ from → handed from to p ≡ p
-handed-other from to p differs = let e : (p == from) ≡ false = grind (arith, differs) in rw e refl
 
 -- the rank among the children of the one or of the other
 abbrev pub rank_handed : ℕ → ℕ → ℕ × ℕ → ℕ × ℕ

@@ -4,6 +4,7 @@ use Rattle.std.specs.Prelude.{reverse}
 use Rattle.std.specs.Option.{option_map_or}
 use Rattle.std.proofs.lemmas.Bool.{cases_eq}
 use Rattle.std.proofs.lemmas.Bool.Decides.{nat_tests}
+use Rattle.pid_types.proofs.General.{held}
 use Rattle.pid_types.specs.declared.plain.Name.{Name}
 use Rattle.pid_types.specs.declared.plain.Row.{Row}
 use Rattle.pid_types.specs.declared.plain.Control.{Control}
@@ -18,7 +19,6 @@ use Rattle.pid_numbers.specs.Numbering.{Numbering, Identifier, id_at, identifier
 use Rattle.task_tree.specs.declared.Task.{Task}
 use Rattle.task_tree.specs.Tree.{task_at}
 use Rattle.task_table.specs.Store.{Store, uses_at, one_if}
-use Rattle.task_table.proofs.Groups.{held}
 use Rattle.task_table.specs.Collect.{collect}
 use Rattle.task_table.specs.View.{name_of, name_at, row_numbered}
 use Rattle.task_table.specs.Lawful.{IsLawful}

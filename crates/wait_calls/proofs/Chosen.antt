@@ -6,6 +6,7 @@ use Rattle.std.proofs.lemmas.Bool.{eq-eqb, eqb-true}
 use Rattle.std.proofs.lemmas.List.Sums.{sum_by-cons}
 use Rattle.member_lists.specs.Owners.{times}
 use Rattle.std.specs.List.{AllByRecursion}
+use Rattle.pid_types.proofs.General.{both, some_number}
 use Rattle.task_table.specs.Store.{Store}
 use Rattle.task_tree.specs.Ended.{waiting_at}
 use Rattle.task_tree.specs.Tree.{task_at, parent_of, rank_of, is_zombie, waits_for}
@@ -15,16 +16,6 @@ use Rattle.wait_calls.specs.declared.selection.Choice.{Choice}
 use Rattle.wait_calls.specs.declared.selection.Choice.TheVariants.{NoChild, NoneEnded, Ended}
 use Rattle.wait_calls.specs.Choice.{IsMatch, IsChoice, IsEndedChoice}
 use Rattle.wait_calls.specs.Walk.{is_group_match, rank_alone, counted, looked_at, walked}
-
--- two tests that hold, and a key that is the one asked for
-pub both : (a b : Bool) → (a && b) ≡ true → (a ≡ true) × (b ≡ true)
-both true true e = (refl, refl)
-both true false e = absurd (cc)
-both false b e = absurd (cc)
-
-pub same_key : (o : Option ℕ) (n : ℕ) → option_eq ◌==◌ o (Some n) ≡ true → o ≡ Some n
-same_key None n e = absurd (cc)
-same_key (Some m) n e = ap Some (eqb-true m n e)
 
 -- what is 1 is not 0
 pub differ : (n : ℕ) → n ≡ 1 → n ≡ 0 → ⊥
@@ -41,7 +32,7 @@ module _ (s : Store) (caller group : ℕ) where
   is_match : (k : ℕ) → is_group_match s caller group k ≡ true → IsMatch s caller (Group group) k
   is_match k e =
       let tests = both (option_eq ◌==◌ (parent_of s.tree k) (Some caller)) (option_eq ◌==◌ (group_of s.members k) (Some group)) e in
-      (same_key (parent_of s.tree k) caller tests.0, same_key (group_of s.members k) group tests.1)
+      (some_number (parent_of s.tree k) caller tests.0, some_number (group_of s.members k) group tests.1)
 
   -- what the choice names matches
   abbrev Names : Choice → Type 0

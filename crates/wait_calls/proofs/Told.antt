@@ -2,6 +2,7 @@
 use Rattle.std.proofs.Common.{◌≡◌, ◌≢◌, ◌⊎◌, inl, inr, ℕ, ◌==◌, ◌&&◌, not, Bool, true, false, [], length, Option, Some, None, IsSome, is_some, if◌then◌else◌, option_map, refl, sym, ap, ◌∙◌, arith, unwrap_or}
 use Rattle.std.specs.Option.{option_map_or, option_eq}
 use Rattle.std.proofs.lemmas.Bool.{cases_eq, eq-eqb, eqb-true}
+use Rattle.pid_types.proofs.General.{apart, number_tested, held, both, some_number}
 use Rattle.pid_types.specs.declared.call.Which.{Which}
 use Rattle.pid_types.specs.declared.call.Which.TheVariants.{Any as AnyChild, Pid, OwnGroup, Group as InGroup}
 use Rattle.pid_types.specs.declared.plain.Row.{Row}
@@ -15,7 +16,6 @@ use Rattle.task_tree.specs.declared.Task.{Task}
 use Rattle.task_tree.specs.Tree.{task_at, parent_of, rank_of, lives, is_zombie, waits_for}
 use Rattle.groups_sessions.specs.Membership.{Membership, group_of}
 use Rattle.task_table.specs.Store.{Store}
-use Rattle.task_table.proofs.Groups.{held}
 use Rattle.task_table.specs.View.{name_of, name_at, row_of, state_of}
 use Rattle.task_table.specs.Lawful.{IsLawful}
 use Rattle.task_table.proofs.Keys.{number-is_key}
@@ -26,7 +26,6 @@ use Rattle.wait_calls.specs.declared.selection.Selected.TheVariants.{Any, Task a
 use Rattle.wait_calls.specs.declared.selection.Choice.{Choice}
 use Rattle.wait_calls.specs.declared.selection.Choice.TheVariants.{NoChild, NoneEnded, Ended}
 use Rattle.wait_calls.specs.Choice.{IsSelected, IsMatch, IsChoice}
-use Rattle.wait_calls.proofs.Chosen.{both, same_key}
 use Rattle.wait_calls.specs.Told.{Means, IsUnknown, IsTold}
 use Rattle.wait_calls.proofs.Least.{filter-none, some-there, least-is}
 
@@ -36,12 +35,6 @@ ended-of t e = go (lives t) e
     go : (b : Bool) → not b ≡ true → b ≡ false
     go true e = absurd (cc)
     go false e = refl
-
-differ : (a b : ℕ) → a ≢ b → (a == b) ≡ false
-differ a b m = grind (arith, m)
-
-key_same : (o : Option ℕ) (n : ℕ) → o ≡ Some n → option_eq ◌==◌ o (Some n) ≡ true
-key_same o n e = ap (λ o. option_eq ◌==◌ o (Some n)) e ∙ eq-eqb n n refl
 
 module _ (s : Store) (l : IsLawful s) (parents : (k p : ℕ) → parent_of s.tree k ≡ Some p → IsSome (task_at s.tree p))
     (caller : ℕ) (own : Task) (here : task_at s.tree caller ≡ Some own) (u : Identifier) (known : identifier_at s.numbering caller ≡ Some u) where
@@ -77,12 +70,12 @@ module _ (s : Store) (l : IsLawful s) (parents : (k p : ℕ) → parent_of s.tre
   number-only j n has k = go (cases_eq k j)
     where
       go : (k ≡ j) ⊎ (k ≢ j) → option_eq ◌==◌ (number_of b k u.space) (Some n) ≡ (k == j)
-      go (inl same) = key_same (number_of b k u.space) n (ap (λ i. number_of b i u.space) same ∙ has) ∙ sym (eq-eqb k j same)
+      go (inl same) = number_tested (number_of b k u.space) n (ap (λ i. number_of b i u.space) same ∙ has) ∙ sym (eq-eqb k j same)
       go (inr other) = test (option_eq ◌==◌ (number_of b k u.space) (Some n)) refl
         where
           test : (t : Bool) → option_eq ◌==◌ (number_of b k u.space) (Some n) ≡ t → t ≡ (k == j)
-          test true e = absurd (other (l.numbering.distinct k j u.space n (same_key (number_of b k u.space) n e) has))
-          test false e = sym (differ k j other)
+          test true e = absurd (other (l.numbering.distinct k j u.space n (some_number (number_of b k u.space) n e) has))
+          test false e = sym (apart k j other)
 
   -- whether a task is a child
   child-is : (k : ℕ) (t : Task) → is_parent row.name (row_of s k t) ≡ option_eq ◌==◌ (parent_of s.tree k) (Some caller)
@@ -136,12 +129,12 @@ module _ (s : Store) (l : IsLawful s) (parents : (k p : ℕ) → parent_of s.tre
   is_chosen-true : (sel : Selected) (k : ℕ) → is_chosen sel k ≡ true → IsSelected s sel k
   is_chosen-true Any k e = tt
   is_chosen-true (OneTask j) k e = eqb-true k j e
-  is_chosen-true (Group g) k e = same_key (group_of s.members k) g e
+  is_chosen-true (Group g) k e = some_number (group_of s.members k) g e
 
   is_chosen-of : (sel : Selected) (k : ℕ) → IsSelected s sel k → is_chosen sel k ≡ true
   is_chosen-of Any k e = refl
   is_chosen-of (OneTask j) k e = eq-eqb k j e
-  is_chosen-of (Group g) k e = key_same (group_of s.members k) g e
+  is_chosen-of (Group g) k e = number_tested (group_of s.members k) g e
 
   -- who matches is a task
   matching_task : (k p : ℕ) → parent_of s.tree k ≡ Some p → (t : Task) × (task_at s.tree k ≡ Some t)
@@ -162,7 +155,7 @@ module _ (s : Store) (l : IsLawful s) (parents : (k p : ℕ) → parent_of s.tre
     in-matching : (k : ℕ) (t : Task) → task_at s.tree k ≡ Some t → IsMatch s caller sel k → IsIn (row_of s k t) (matching state row which)
     unfolding matching
     in-matching k t e (child, mine) =
-        let one = key_same (parent_of s.tree k) caller child in
+        let one = number_tested (parent_of s.tree k) caller child in
         let two = is_chosen-of sel k mine in
         IsIn-filter (λ r. is_parent row.name r && is_selected state row which r) (row_of s k t) state.rows (rows-in s l k t e)
         (test-is k t e ∙ (let z : (option_eq ◌==◌ (parent_of s.tree k) (Some caller) && is_chosen sel k) ≡ true = rw (one, two) refl in z))
@@ -174,7 +167,7 @@ module _ (s : Store) (l : IsLawful s) (parents : (k p : ℕ) → parent_of s.tre
         let w = in-rows s l r f.0 in
         let tests = both (option_eq ◌==◌ (parent_of s.tree w.0) (Some caller)) (is_chosen sel w.0)
         (sym (test-is w.0 w.1 w.2) ∙ ap (λ x. is_parent row.name x && is_selected state row which x) (sym w.3) ∙ f.1) in
-        (w.0, w.1, w.2, w.3, (same_key (parent_of s.tree w.0) caller tests.0, is_chosen-true sel w.0 tests.1))
+        (w.0, w.1, w.2, w.3, (some_number (parent_of s.tree w.0) caller tests.0, is_chosen-true sel w.0 tests.1))
 
     module _ (waiting : (k : ℕ) → option_map (λ (m : ℕ × ℕ). m.0) (rank_of s.tree k) ≡ waits_for (task_at s.tree k) (parent_of s.tree k)) where
       -- the number in the caller's namespace of a child that has ended
@@ -245,7 +238,7 @@ module _ (s : Store) (l : IsLawful s) (parents : (k p : ℕ) → parent_of s.tre
   not_there o n none = go (option_eq ◌==◌ o (Some n)) refl
     where
       go : (x : Bool) → option_eq ◌==◌ o (Some n) ≡ x → x ≡ false
-      go true e = absurd (none (same_key o n e))
+      go true e = absurd (none (some_number o n e))
       go false e = refl
 
   -- a number that nobody has selects nobody

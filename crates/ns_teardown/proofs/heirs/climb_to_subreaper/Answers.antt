@@ -4,7 +4,7 @@ use Rattle.task_tree.specs.Tree.{parent_of}
 use Rattle.ns_teardown.specs.Heirs.{is_subreaper_in}
 use Rattle.task_table.proofs.Changes.{in_range}
 use Rattle.ns_teardown.proofs.Outer as outer
-use Rattle.ns_teardown.proofs.Ancestors as ancestors
+use Rattle.pid_types.proofs.Ancestors as ancestors
 use Rattle.ns_teardown.proofs.heirs.climb_to_subreaper.Goals as goal
 
 pub loop-init : goal.loop-init

@@ -2,7 +2,7 @@ use Rattle.std.proofs.Common.{◌≡◌, ◌-◌, ◌<◌, length, Some, option_
 use Rattle.pid_numbers.specs.Numbering.{Identifier, identifier_at}
 use Rattle.task_tree.specs.Tree.{parent_of}
 use Rattle.ns_teardown.specs.Heirs.{is_subreaper_in, nearest_subreaper}
-use Rattle.ns_teardown.proofs.Ancestors.{found_above}
+use Rattle.pid_types.proofs.Ancestors.{found_above}
 use Rattle.ns_teardown.proofs.heirs.climb_to_subreaper.Given as goal
 
 abbrev pub invariant-loop : goal.invariant-loop

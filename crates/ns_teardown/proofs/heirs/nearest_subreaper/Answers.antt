@@ -10,4 +10,4 @@ pub returns-then-not-any_subreaper : goal.returns-then-not-any_subreaper
 returns-then-not-any_subreaper c =
     let s = c.args.store.now in
     let none : (k : ℕ) → is_subreaper (task_at s.tree k) ≡ false = rw c.tree.ensures at c.any_subreaper.ensures.none c.if-not-any_subreaper.true in
-    sym (ancestors.found-none (parent_of s.tree) (is_subreaper_in s c.args.space) (λ k. ap (λ b. b && option_map_or (λ u. u.space == c.args.space) (identifier_at s.numbering k) false) (none k)) (ancestors_of s c.args.key))
+    sym (ancestors.found-none (is_subreaper_in s c.args.space) (λ k. ap (λ b. b && option_map_or (λ u. u.space == c.args.space) (identifier_at s.numbering k) false) (none k)) (ancestors_of s c.args.key))

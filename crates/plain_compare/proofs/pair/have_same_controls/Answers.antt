@@ -1,5 +1,5 @@
 use Rattle.std.proofs.lemmas.Slice.Eq.{slice_eq-Decides}
-use Rattle.plain_compare.proofs.Same.{control_Decides}
+use Rattle.pid_types.proofs.Equal.{control_Decides}
 use Rattle.plain_compare.proofs.pair.have_same_controls.Goals as goal
 
 pub returns : goal.returns

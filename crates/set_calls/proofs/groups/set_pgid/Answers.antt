@@ -1,13 +1,13 @@
 use Rattle.std.proofs.Common.{◌≡◌, ◌∙◌, sym, ap, refl, option_map, w32}
 use Rattle.std.specs.Prelude.{slice_set}
 use Rattle.std.proofs.lemmas.Int.{to_z-of_z}
+use Rattle.pid_types.proofs.General.{held}
 use Rattle.pid_types.specs.declared.reply.Reply.TheVariants.{Done}
 use Rattle.pid_types.specs.Names.{with_row}
 use Rattle.pid_types.specs.Outcome.{Outcome, changed}
 use Rattle.pid_types.specs.Groups.{set_group, set_pgid}
 use Rattle.task_tree.specs.Tree.{task_at}
 use Rattle.groups_sessions.specs.Membership.{Membership, membership_at}
-use Rattle.task_table.proofs.Groups.{held}
 use Rattle.task_table.specs.View.{name_at, state_of}
 use Rattle.set_calls.proofs.Regrouped.{IsRegrouped, joined, parents-regrouped}
 use Rattle.set_calls.proofs.groups.set_pgid.Goals as goal

@@ -1,5 +1,5 @@
 use Rattle.std.proofs.lemmas.Slice.Eq.{slice_eq-Decides}
-use Rattle.table_load.proofs.Same.{row_Decides}
+use Rattle.pid_types.proofs.Equal.{row_Decides}
 use Rattle.table_load.proofs.compare.have_same_rows.Goals as goal
 
 pub returns : goal.returns

@@ -1,5 +1,6 @@
 -- The new uses come before the old ones go: so no identifier in use goes, and the counts of both kinds are the memberships' again
 use Rattle.std.proofs.Common.{◌==◌, ◌&&◌, ap, subst, arith}
+use Rattle.pid_types.proofs.General.{held}
 use Rattle.pid_types.specs.declared.call.Kind.TheVariants.{Group, Session}
 use Rattle.groups_sessions.specs.Membership.{Membership, membership_at}
 use Rattle.task_table.specs.Store.{Store, IsLess, uses_at, one_if, is_kind}
@@ -11,7 +12,7 @@ pub take_uses-requires-clause-group : goal.take_uses-requires-clause-group
 take_uses-requires-clause-group c =
     let old : Store = record { numbering = c.self.inside.numbers; tree = c.self.inside.tree; members = c.self.inside.members; charges = c.self.inside.controls } in
     let there = rw (← c.self.view_is) at c.requires.there in
-    let m = groups.held (membership_at c.self.inside.members c.args.key) there in
+    let m = held (membership_at c.self.inside.members c.args.key) there in
     let mine = groups.group_used old c.self.invariant c.args.key m.0 m.1 in
     let same = ap (uses_at c.self.inside.numbers Group) (groups.group_is c.self.inside.members c.args.key m.0 m.1 c.group-old_group.result c.group-old_group.ensures) in
     let more = c.add_uses.ensures.uses Group c.group-old_group.result in
@@ -21,7 +22,7 @@ pub take_uses-requires-clause-session : goal.take_uses-requires-clause-session
 take_uses-requires-clause-session c =
     let old : Store = record { numbering = c.self.inside.numbers; tree = c.self.inside.tree; members = c.self.inside.members; charges = c.self.inside.controls } in
     let there = rw (← c.self.view_is) at c.requires.there in
-    let m = groups.held (membership_at c.self.inside.members c.args.key) there in
+    let m = held (membership_at c.self.inside.members c.args.key) there in
     let mine = groups.session_used old c.self.invariant c.args.key m.0 m.1 in
     let same = ap (uses_at c.self.inside.numbers Session) (groups.session_is c.self.inside.members c.args.key m.0 m.1 c.session-old_session.result c.session-old_session.ensures) in
     let more = c.add_uses.ensures.uses Session c.session-old_session.result in
@@ -31,7 +32,7 @@ pub invariant_of-self : goal.invariant_of-self
 invariant_of-self c =
     let old : Store = record { numbering = c.self.inside.numbers; tree = c.self.inside.tree; members = c.self.inside.members; charges = c.self.inside.controls } in
     let there = rw (← c.self.view_is) at c.requires.there in
-    let m = groups.held (membership_at c.self.inside.members c.args.key) there in
+    let m = held (membership_at c.self.inside.members c.args.key) there in
     let n : Membership = record { group = c.args.group; session = c.args.session } in
     let group = groups.group_is c.self.inside.members c.args.key m.0 m.1 c.group-old_group.result c.group-old_group.ensures in
     let session = groups.session_is c.self.inside.members c.args.key m.0 m.1 c.session-old_session.result c.session-old_session.ensures in

@@ -1,4 +1,5 @@
 use Rattle.std.proofs.Common.{◌==◌, ◌&&◌, ap, subst, arith}
+use Rattle.pid_types.proofs.General.{held}
 use Rattle.pid_types.specs.declared.call.Kind.TheVariants.{Group, Session}
 use Rattle.groups_sessions.specs.Membership.{membership_at}
 use Rattle.task_table.specs.Store.{Store, IsLess, one_if, is_kind}
@@ -14,7 +15,7 @@ invariant_of-self c =
     let new : Store = record { numbering = c.take_use.new.numbers; tree = c.remove.new.self; members = c.leave.new.self; charges = c.leave_home.new.controls } in
     let there = rw (← c.self.view_is) at c.requires in
     let w = c.self.invariant in
-    let m = groups.held (membership_at c.self.inside.members c.args.key) (changes.member_there old w c.args.key c.args.task there) in
+    let m = held (membership_at c.self.inside.members c.args.key) (changes.member_there old w c.args.key c.args.task there) in
     let group = groups.group_is c.self.inside.members c.args.key m.0 m.1 c.group-group.result c.group-group.ensures in
     let session = groups.session_is c.self.inside.members c.args.key m.0 m.1 c.session-session.result c.session-session.ensures in
     let uses : groups.UsesLeft c.self.inside.numbers c.take_use.new.numbers c.args.key m.0 = λ k i. (

@@ -1,6 +1,7 @@
 -- The new group's use comes before the old one's goes, and the two may be one: so the identifier never goes in between
 use Rattle.std.proofs.Common.{◌≡◌, ◌+◌, ℕ, sym, ap, subst, ◌∙◌, option_map, arith}
 use Rattle.std.specs.Prelude.{slice_set, ◌==◌, ◌&&◌}
+use Rattle.pid_types.proofs.General.{held}
 use Rattle.pid_types.specs.declared.call.Kind.{Kind}
 use Rattle.pid_types.specs.declared.call.Kind.TheVariants.{Group}
 use Rattle.groups_sessions.specs.Membership.{Membership, membership_at}
@@ -20,7 +21,7 @@ take_use-requires c =
     let old : Store = record { numbering = c.self.inside.numbers; tree = c.self.inside.tree; members = c.self.inside.members; charges = c.self.inside.controls } in
     let there = rw (← c.self.view_is) at c.requires.there in
     let group = rw (← c.self.view_is) at c.requires.group in
-    let m = groups.held (membership_at c.self.inside.members c.args.key) there in
+    let m = held (membership_at c.self.inside.members c.args.key) there in
     let mine = groups.group_used old c.self.invariant c.args.key m.0 m.1 in
     let same = groups.group_is c.self.inside.members c.args.key m.0 m.1 c.group-old.result c.group-old.ensures in
     let more = uses.uses-added c.self.inside.numbers c.add_use.new.self c.args.group Group c.add_use.ensures.others group c.add_use.ensures.here Group c.group-old.result in
@@ -31,7 +32,7 @@ invariant_of-self c =
     let old : Store = record { numbering = c.self.inside.numbers; tree = c.self.inside.tree; members = c.self.inside.members; charges = c.self.inside.controls } in
     let there = rw (← c.self.view_is) at c.requires.there in
     let group = rw (← c.self.view_is) at c.requires.group in
-    let m = groups.held (membership_at c.self.inside.members c.args.key) there in
+    let m = held (membership_at c.self.inside.members c.args.key) there in
     let same = groups.group_is c.self.inside.members c.args.key m.0 m.1 c.group-old.result c.group-old.ensures in
     let added = uses.uses-added c.self.inside.numbers c.add_use.new.self c.args.group Group c.add_use.ensures.others group c.add_use.ensures.here in
     let taken = subst (λ (g : ℕ). (k : Kind) (i : ℕ) → uses_at c.take_use.new.numbers k i + one_if ((i == g) && is_kind k Group) ≡ uses_at c.add_use.new.self k i) (sym same) c.take_use.ensures.uses in

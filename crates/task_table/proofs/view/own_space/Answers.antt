@@ -1,7 +1,7 @@
 use Rattle.std.proofs.Common.{◌≡◌, ◌∙◌, sym, ap, Some, option_map}
 use Rattle.std.specs.Option.{option_map_or}
+use Rattle.pid_types.proofs.General.{held}
 use Rattle.pid_numbers.specs.Numbering.{Identifier, id_at, identifier_at}
-use Rattle.task_table.proofs.Groups.{held}
 use Rattle.task_tree.specs.Tree.{task_at}
 use Rattle.task_table.proofs.LookUps.{named, space-id}
 use Rattle.task_table.proofs.view.own_space.Goals as goal

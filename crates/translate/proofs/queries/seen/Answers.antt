@@ -1,7 +1,7 @@
 use Rattle.std.proofs.Common.{◌∙◌, sym, ap}
 use Rattle.std.specs.Prelude.{unwrap_or}
+use Rattle.pid_types.proofs.General.{held}
 use Rattle.pid_numbers.specs.Numbering.{identifier_at, number_of}
-use Rattle.task_table.proofs.Groups.{held}
 use Rattle.task_table.proofs.LookUps as look_ups
 use Rattle.translate.proofs.queries.seen.Goals as goal
 

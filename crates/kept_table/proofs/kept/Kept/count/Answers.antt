@@ -2,16 +2,13 @@ use Rattle.std.proofs.Common.{◌≡◌, ◌∙◌, sym, ap, subst, refl, ◌==�
 use Rattle.std.specs.Prelude.{is_some, find, ◌≢◌}
 use Rattle.std.proofs.lemmas.Bool.{eq-eqb, false≢true}
 use Rattle.std.proofs.lemmas.Bool.Decides.{eqb_tells}
+use Rattle.pid_types.proofs.General.{nothing}
 use Rattle.pid_types.specs.declared.plain.Control.{Control}
 use Rattle.pid_types.specs.Controls.{control_at}
 use Rattle.pid_types.specs.Membership.{IsIn}
 use Rattle.model_laws.proofs.Lists.{find-None}
 use Rattle.kept_table.specs.Chronicle.{Chronicle}
 use Rattle.kept_table.proofs.kept.Kept.count.Goals as goal
-
-nothing : {X : Type 0} (o : Option X) → is_some o ≡ false → o ≡ None
-nothing None e = refl
-nothing (Some x) e = absurd (cc)
 
 -- where no group has the id, none is found
 not_there : (control : ℕ) (controls : List Control) → ((g : Control) → IsIn g controls → g.id ≢ control) → control_at controls control ≡ None

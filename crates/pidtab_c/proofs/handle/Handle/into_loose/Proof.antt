@@ -22,9 +22,10 @@ use Rattle.std.proofs.alloc.Global.TheLaws as heap_laws
 use Rattle.std.proofs.raw_atomic.Walks.{proved_at, leaves}
 use Rattle.std.specs.contracts.alloc.Global as heap
 use Rattle.std.specs.contracts.impls.GlobalAllocator.TheImpl.{ghosts}
+use Rattle.pid_types.proofs.General.{held}
 use Rattle.pidtab_c.specs.contracts.handle.Handle as handle
 use Rattle.pidtab_c.specs.contracts.stamped.StampedTable as table
-use Rattle.pidtab_c.proofs.Words.{allocator, beside, beside_fits, loose_closes, alone, handle_opens, had}
+use Rattle.pidtab_c.proofs.Words.{allocator, beside, beside_fits, loose_closes, alone, handle_opens}
 use Rattle.pidtab_c.specs.contracts.handle.Handle.into_loose as f
 use Rattle.pidtab_c.proofs.handle.Handle.into_loose.Statement.{statement}
 use Rattle.pidtab_c.proofs.handle.Handle.into_loose.Code as code
@@ -37,7 +38,7 @@ into_loose_spec 𝓤 𝓛 𝓜 𝓡 wired =
     proved_at 𝓛 En hs c 𝓜 𝓡 (Goes-blank 𝓛 0 (plain (λ _. handle.the_row)) yes (λ κs x f. tt), (Goes-blank 𝓛 0 (plain (λ _. Z)) yes (λ κs x f. tt), tt)) f.Key.name fn (code.unfolded 𝓤 H 𝓜 𝓡 wired) (λ z are.
     let κs = z.0.0 in let v = z.0.3.0 in let a = z.0.3.1.0 in let Post : Val → SProp 𝓤 = (walk_of 𝓛 En hs c).post z in let Run : List Val → SProp 𝓤 = λ ws. WpFn 𝓤 H 𝓣.C 𝓣.Λ fn ws Post in
     qed 𝓛 ((‵ ftrue ⊛ ‵ (owns (types_at En.signature.params κs) z.0.3 z.0.4)) ∷ raw (fact 𝓤 (IsSome v.held)) ∷ []) ∵ split ! $ move ! (2 ∷ []) $ heard ! _ (λ some.
-    let x = (had v.held some).0 in let holds = (had v.held some).1 in let says = Some x ≡ v.held in
+    let x = (held v.held some).0 in let holds = (held v.held some).1 in let says = Some x ≡ v.held in
     move ! (1 ∷ []) $ fsplit ! $ handle_opens ! v x z.0.4.0 holds (λ b o here whole_is.
     move ! (1 ∷ []) $ fsplit ! $ handle_tells (allocator R Z LZ ghosts) ! a z.0.4.1.0 (λ h is_h good.
     -- [the allocator; nothing; what is at the address]

@@ -1,6 +1,6 @@
 use Rattle.std.proofs.Common.{◌≡◌, ◌-◌, length}
 use Rattle.pid_types.specs.Exit.{parent_number, is_subreaper_in, nearest_subreaper}
-use Rattle.plain_table.proofs.Ancestors.{found_above}
+use Rattle.pid_types.proofs.Ancestors.{found_above}
 use Rattle.plain_table.proofs.table.PlainTable.nearest_subreaper.Given as goal
 
 abbrev pub invariant-loop : goal.invariant-loop

@@ -1,9 +1,10 @@
--- `==` at the tasks and the namespaces of a snapshot is true exactly where the two are one.
+-- `==` at what a snapshot lists is true exactly where the two are one.
 use Rattle.std.proofs.Common.{◌≡◌, Bool, ◌==◌, Option, Some, None, refl, ap}
 use Rattle.std.specs.Bool.{Decides}
 use Rattle.std.specs.Option.{option_eq}
 use Rattle.std.specs.Cmp.{booleans_Decides}
 use Rattle.std.proofs.lemmas.Bool.Decides.{Decides-eqb, Decides-and, Decides-like}
+use Rattle.std.proofs.lemmas.Slice.Eq.{bytes_eq-Decides}
 use Rattle.pid_types.specs.declared.plain.Name.{Name}
 use Rattle.pid_types.specs.declared.plain.Ended.{Ended}
 use Rattle.pid_types.specs.declared.plain.Ended.TheVariants.{Exited, Killed}
@@ -11,12 +12,13 @@ use Rattle.pid_types.specs.declared.plain.Life.{Life}
 use Rattle.pid_types.specs.declared.plain.Life.TheVariants.{Live, Zombie}
 use Rattle.pid_types.specs.declared.plain.Row.{Row}
 use Rattle.pid_types.specs.declared.plain.Space.{Space}
+use Rattle.pid_types.specs.declared.plain.ControlRow.{ControlRow}
 use Rattle.pid_types.specs.Names.{same_name}
 use Rattle.pid_types.specs.contracts.plain.EndedPartialEq.TheImpl as ended
 use Rattle.pid_types.specs.contracts.plain.LifePartialEq.TheImpl as life
 use Rattle.pid_types.specs.contracts.plain.RowPartialEq.TheImpl as row
 use Rattle.pid_types.specs.contracts.plain.SpacePartialEq.TheImpl as space
-use Rattle.model_laws.proofs.Names.{same_name-true, same_name-refl}
+use Rattle.pid_types.specs.contracts.plain.ControlRowPartialEq.TheImpl as control
 
 -- of two options, where it is so of what they hold
 option_Decides : {T : Type 0} (E : T → T → Bool) → ((a b : T) → Decides (E a b) (a ≡ b)) → (o p : Option T) → Decides (option_eq E o p) (o ≡ p)
@@ -26,8 +28,13 @@ option_Decides E each (Some a) None = (λ e. absurd (cc), λ e. absurd (cc))
 option_Decides {T} E each (Some a) (Some b) = Decides-like (E a b) (λ (e : a ≡ b). ap Some e) (λ (e : Some a ≡ Some b). let same : a ≡ b = cc in same) (each a b)
 
 -- of two names
-name_Decides : (a b : Name) → Decides (same_name a b) (a ≡ b)
-name_Decides a b = (same_name-true a b, same_name-refl a b)
+pub name_Decides : (a b : Name) → Decides (same_name a b) (a ≡ b)
+name_Decides a b =
+    let parts = Decides-and _ _ (Decides-eqb a.space b.space) (bytes_eq-Decides a.numbers.items b.numbers.items) in
+    Decides-like _
+    (λ h i. record { space = h.0 i; numbers = record { items = h.1 i } })
+    (λ e. (ap (λ n. n.space) e, ap (λ n. n.numbers.items) e))
+    parts
 
 -- of two ends
 ended_Decides : (a b : Ended) → Decides (ended.eq-value.it a b) (a ≡ b)
@@ -97,4 +104,15 @@ space_Decides a b =
     Decides-like _
     (λ h i. record { id = h.0 i; parent = h.1.0 i; cursor = h.1.1.0 i; fallen = h.1.1.1 i })
     (λ e. (ap (λ s. s.id) e, (ap (λ s. s.parent) e, (ap (λ s. s.cursor) e, ap (λ s. s.fallen) e))))
+    parts
+
+-- of two control groups with their counts
+pub control_Decides : (a b : ControlRow) → Decides (control.eq-value.it a b) (a ≡ b)
+control_Decides a b =
+    let parts = Decides-and _ _ (Decides-eqb a.id b.id)
+    (Decides-and _ _ (option_Decides ◌==◌ Decides-eqb a.parent b.parent)
+    (Decides-and _ _ (option_Decides ◌==◌ Decides-eqb a.limit b.limit) (Decides-eqb a.count b.count))) in
+    Decides-like _
+    (λ h i. record { id = h.0 i; parent = h.1.0 i; limit = h.1.1.0 i; count = h.1.1.1 i })
+    (λ e. (ap (λ c. c.id) e, (ap (λ c. c.parent) e, (ap (λ c. c.limit) e, ap (λ c. c.count) e))))
     parts
