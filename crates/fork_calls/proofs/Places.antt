@@ -1,6 +1,8 @@
 -- The namespace for the caller's children, in the model and in a store.
-use Rattle.std.proofs.Common.{◌≡◌, ◌≢◌, ℕ, ◌-◌, Bool, true, false, not, ◌&&◌, ◌==◌, nat_le, [], ◌∷◌, length, Option, Some, None, if◌then◌else◌, refl, ap, ◌∙◌, option_map, option_and_then}
+use Rattle.std.proofs.Common.{◌≡◌, ◌≢◌, ℕ, ◌+◌, ◌-◌, Bool, true, false, not, ◌&&◌, ◌==◌, nat_le, [], ◌∷◌, length, Option, Some, None, if◌then◌else◌, refl, sym, ap, ◌∙◌, option_map, option_and_then, arith}
 use Rattle.std.specs.Option.{option_map_or}
+use Rattle.std.proofs.lemmas.Bool.{eq-eqb, eqb-true, ne_eqb}
+use Rattle.std.proofs.lemmas.Bool.Decides.{Decides-eqb, same_from_decides}
 use Rattle.std.proofs.lemmas.List.{length-map}
 use Rattle.id_slab.specs.Ids.{key_of}
 use Rattle.id_slab.proofs.Keys.{entry_of}
@@ -41,6 +43,29 @@ module _ (s : Store) (l : IsLawful s) where
   pub level-none : (id : ℕ) → ((q : ℕ) → id_at s.numbering q ≢ Some id) → level (state_of s).spaces id ≡ 0
   unfolding level path_up climb
   level-none id none = ap (λ o. length (id ∷ option_map_or (climb (parent_space (spaces_of s.numbering)) 32) o []) - 1) (ap (option_and_then (λ (t : Space). t.parent)) (absent id none))
+
+-- what the tests of a namespace tell of the namespace with its id
+module _ (s : Store) (l : IsLawful s) (q id : ℕ) (there : id_at s.numbering q ≡ Some id) where
+  pub deep-level : (n : ℕ) → n + 1 ≡ length (path_at s.numbering q) → nat_le 32 (level (state_of s).spaces id) ≡ nat_le 32 n
+  deep-level n e = let same : length (path_at s.numbering q) - 1 ≡ n = omega (arith, e) in ap (nat_le 32) (level-is s l id q there ∙ same)
+
+  pub same-key : (own i : ℕ) → id_at s.numbering own ≡ Some i → (id == i) ≡ (q == own)
+  same-key own i at = same_from_decides {P = q ≡ own} _ _ (
+    λ e. l.numbering.ids q own id there (at ∙ ap Some (sym (eqb-true _ _ e))),
+    λ e. eq-eqb _ _ (let z : Some id ≡ Some i = sym there ∙ ap (id_at s.numbering) e ∙ at in cc),
+  )
+      (Decides-eqb q own)
+
+-- a namespace that was dropped is not the caller's own
+pub dropped : (s : Store) → IsLawful s → (caller : Row) (own : ℕ) → id_at s.numbering own ≡ Some caller.name.space → ((q : ℕ) → id_at s.numbering q ≢ Some caller.children_space)
+    → (n : Bool) → space_refusal (state_of s) caller n ≡ Some (if n then Elsewhere else SpaceFallen)
+dropped s l caller own at none false = ap (λ b. if b then Some SpaceFallen else None) (gone-none s l caller.children_space none)
+dropped s l caller own at none true =
+    let id = caller.children_space in
+    let gone = is_gone (state_of s) id in
+    let refusal = λ (deep same : Bool). option_map_or Some (if deep then Some TooDeep else (if not same then Some Elsewhere else None)) (if gone then Some SpaceFallen else None) in
+    ap (λ n. refusal (nat_le 32 n) (id == caller.name.space)) (level-none s l id none)
+    ∙ ap (refusal false) (ne_eqb id caller.name.space (λ same. none own (at ∙ ap Some (sym same))))
 
 -- a fork is refused by the namespace, or else goes on
 module _ (state : State) (stamp : ℕ) (caller : Row) (new_space : Bool) where

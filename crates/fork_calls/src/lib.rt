@@ -87,26 +87,8 @@ fn number_seen(store: &Tasks, key: TaskKey, space: SpaceKey) -> Pid
     store.numbers().number_in(key, space).unwrap_or(0)
 }
 
-/// The identifier's number in its parent's namespace, where that in the root is known: most parents are there.
-fn child_number(store: &Tasks, key: TaskKey, own: SpaceKey, root: Pid) -> Pid
-    requires { root ≡ unwrap_or (number_of store.now.numbering key 0) 0 }
-    ensures { result ≡ unwrap_or (number_of store.now.numbering key own) 0 }
-{
-    if own == 0 {
-        return root;
-    }
-    number_seen(store, key, own)
-}
-
-/// The root number of an identifier with these numbers: the outermost of them.
-fn outermost(numbers: &[Pid]) -> Pid
-    requires { 0 < length numbers.now }
-    ensures { result ≡ slice_index (reverse numbers.now) 0 }
-{
-    numbers[numbers.len() - 1]
-}
-
-/// The reply for a new task with the planned numbers: its numbers in the caller's namespace and in the root.
+/// The reply for a new task with the planned numbers: its numbers in the caller's namespace and in the root, which is
+/// the outermost of them. Most callers are in the root.
 #[inline(always)]
 fn reply_for(store: &Tasks, key: TaskKey, own: SpaceKey, numbers: &[Pid]) -> ShortReply
     requires there { IsSome (task_at store.now.tree key) }
@@ -116,8 +98,12 @@ fn reply_for(store: &Tasks, key: TaskKey, own: SpaceKey, numbers: &[Pid]) -> Sho
         (name_at store.now.numbering key) i) (root_number (name_at store.now.numbering key)) }
 {
     laws(store);
-    let root = outermost(numbers);
-    let child = child_number(store, key, own, root);
+    let root = numbers[numbers.len() - 1];
+    let child = if own == 0 {
+        root
+    } else {
+        number_seen(store, key, own)
+    };
     ShortReply::Forked { child, root }
 }
 
@@ -258,72 +244,6 @@ fn fork_inside(store: &mut Tasks, found: &Found, stamp: u64) -> Result<ShortRepl
     }
 }
 
-/// Whether the namespace, if it is there, has the deepest level.
-fn is_deepest(store: &Tasks, space: Option<SpaceKey>) -> bool
-    requires { IfSome space (λ s. IsSome (id_at store.now.numbering s)) }
-    ensures { (id : ℕ) → IsKeyOf store.now.numbering id space
-        → result ≡ nat_le deepest_space (level (state_of store.now).spaces id) }
-{
-    laws(store);
-    match space {
-        Some(space) => store.numbers().level(space) >= DEEPEST_SPACE,
-        None => false,
-    }
-}
-
-/// Whether the namespace, which is there, has fallen.
-fn has_fallen(store: &Tasks, space: SpaceKey) -> bool
-    ensures { (id : ℕ) → id_at store.now.numbering space ≡ Some id → result ≡ is_gone (state_of store.now) id }
-{
-    laws(store);
-    store.numbers().is_fallen(space)
-}
-
-/// Whether the namespace is the caller's own.
-fn is_own(store: &Tasks, space: Option<SpaceKey>, own: SpaceKey) -> bool
-    ensures { (id i : ℕ) → IsKeyOf store.now.numbering id space → id_at store.now.numbering own ≡ Some i
-        → result ≡ (id == i) }
-{
-    laws(store);
-    match space {
-        Some(space) => space == own,
-        None => false,
-    }
-}
-
-/// Why the caller can have no new namespace in the namespace for its children.
-fn nest_refusal(store: &Tasks, space: Option<SpaceKey>, own: SpaceKey) -> Option<Refusal>
-    requires { IfSome space (λ s. IsSome (id_at store.now.numbering s)) }
-    ensures { (id i : ℕ) → IsKeyOf store.now.numbering id space → id_at store.now.numbering own ≡ Some i
-        → result ≡ nest_refusal_of (state_of store.now) id i }
-{
-    if is_deepest(store, space) {
-        return Some(Refusal::TooDeep);
-    }
-    if !is_own(store, space, own) {
-        return Some(Refusal::Elsewhere);
-    }
-    None
-}
-
-/// The namespace for the caller's children, or why it can have none there.
-fn standing(store: &Tasks, found: &Found, space: Option<SpaceKey>) -> Result<SpaceKey, Refusal>
-    requires { IsKeyOf store.now.numbering found.now.task.children_space space }
-    ensures ok { IfOk result (λ space. (is_gone (state_of store.now) found.now.task.children_space ≡ false)
-        × (id_at store.now.numbering space ≡ Some found.now.task.children_space)) }
-    ensures err { IfErr result (λ r. (is_gone (state_of store.now) found.now.task.children_space ≡ true)
-        × (r ≡ Refusal.SpaceFallen)) }
-{
-    laws(store);
-    let Some(key) = space else {
-        return Err(Refusal::SpaceFallen);
-    };
-    if has_fallen(store, key) {
-        return Err(Refusal::SpaceFallen);
-    }
-    Ok(key)
-}
-
 /// The namespace with the id, looked for at the caller's own first: the children of most tasks go there.
 fn find_space(store: &Tasks, id: u64, own: SpaceKey) -> Option<SpaceKey>
     ensures { IsKeyOf store.now.numbering id result }
@@ -332,6 +252,36 @@ fn find_space(store: &Tasks, id: u64, own: SpaceKey) -> Option<SpaceKey>
         return Some(own);
     }
     store.numbers().find_space(id)
+}
+
+/// Why the caller, whose own namespace is the second, can have no new one in the first.
+fn nest_refusal(store: &Tasks, space: SpaceKey, own: SpaceKey) -> Option<Refusal>
+    requires { IsSome (namespace_at store.now.numbering space) }
+    ensures { (id i : ℕ) → id_at store.now.numbering space ≡ Some id → id_at store.now.numbering own ≡ Some i
+        → result ≡ nest_refusal_of (state_of store.now) id i }
+{
+    laws(store);
+    if store.numbers().level(space) >= DEEPEST_SPACE {
+        return Some(Refusal::TooDeep);
+    }
+    if space != own {
+        return Some(Refusal::Elsewhere);
+    }
+    None
+}
+
+/// The namespace, if it has not fallen.
+fn standing(store: &Tasks, space: SpaceKey) -> Result<SpaceKey, Refusal>
+    ensures ok { IfOk result (λ s. (s ≡ space) × ((id : ℕ) → id_at store.now.numbering space ≡ Some id
+        → is_gone (state_of store.now) id ≡ false)) }
+    ensures err { IfErr result (λ r. (r ≡ Refusal.SpaceFallen) × ((id : ℕ) → id_at store.now.numbering space ≡ Some id
+        → is_gone (state_of store.now) id ≡ true)) }
+{
+    laws(store);
+    if store.numbers().is_fallen(space) {
+        return Err(Refusal::SpaceFallen);
+    }
+    Ok(space)
 }
 
 /// The namespace for the caller's children, or why it can have none there or in a new one below it.
@@ -344,13 +294,20 @@ fn namespace_for(store: &Tasks, found: &Found, new_space: bool) -> Result<SpaceK
     ensures err { IfErr result (λ r. space_refusal (state_of store.now)
         (row_of store.now found.now.key found.now.task) new_space ≡ Some r) }
 {
-    let space = find_space(store, found.task.children_space, found.space);
+    laws(store);
+    let Some(space) = find_space(store, found.task.children_space, found.space) else {
+        return Err(if new_space {
+            Refusal::Elsewhere
+        } else {
+            Refusal::SpaceFallen
+        });
+    };
     if !new_space {
-        return standing(store, found, space);
+        return standing(store, space);
     }
     match nest_refusal(store, space, found.space) {
         Some(refusal) => Err(refusal),
-        None => standing(store, found, space),
+        None => standing(store, space),
     }
 }
 
