@@ -2,8 +2,8 @@
 use Rattle.std.specs.Prelude.{◌≡◌, ◌<◌, ◌≤◌, ℕ, List, length, sum}
 use Rattle.pid_types.specs.State.{State}
 use Rattle.table_text.specs.Texts.{text_of}
-use Rattle.table_load.specs.declared.fault.RestoreFault.{RestoreFault}
-use Rattle.table_load.specs.declared.fault.RestoreFault.TheVariants as why
+use Rattle.table_plan.specs.declared.fault.RestoreFault.{RestoreFault}
+use Rattle.table_plan.specs.declared.fault.RestoreFault.TheVariants as why
 use Rattle.kept_table.specs.Calls.{resumed}
 use Rattle.kept_table.specs.Chronicle.{Chronicle, next_stamp}
 use Rattle.pidtab_c.specs.declared.saved_table.FaultNumbers.{FaultNumbers}

@@ -1,7 +1,7 @@
 //! A table as a text, for C: the text is written, and a table is opened as such a text says.
 ghost use Rattle.std.specs.Prelude.{◌≡◌, ◌≢◌, ◌<◌, ◌≤◌, ◌↔◌, ◌⊎◌, IsSome, None, IfOk};
 ghost use Rattle.std.specs.Prelude.{length, take, drop};
-ghost use Rattle.table_load.specs.declared.fault.RestoreFault.TheVariants.{NoMemory};
+ghost use Rattle.table_plan.specs.declared.fault.RestoreFault.TheVariants.{NoMemory};
 ghost use Rattle.table_text.specs.Texts.{text_of};
 ghost use Rattle.pidtab_c.specs.Records.{Has};
 ghost use Rattle.pidtab_c.specs.Saved.{no_fault, fault_numbers};
@@ -12,8 +12,8 @@ use crate::stamped::StampedTable;
 use crate::status::{BAD_TEXT, BUSY, CLOSED, DONE, NO_MEMORY, NO_ROOM};
 use crate::texts::write_text;
 use std::alloc::Global;
-use table_load::fault::RestoreFault;
 use table_load::load::load;
+use table_plan::fault::RestoreFault;
 
 /// Why no table is loaded from a text: the fault's line, counted from 1, and its kind, which is its place among the
 /// faults of a text in [`RestoreFault`], from 1 on. Both are 0 where the text has no fault.

@@ -3,8 +3,8 @@ ghost use Rattle.std.specs.Prelude.{◌≡◌, IsTrue, map};
 ghost use Rattle.table_text.specs.Texts.{without_count, state_in};
 ghost use Rattle.table_text.specs.Reading.{saved_state};
 
-use crate::lines::{control_line, space_line, task_line};
 use pid_types::plain::{Control, ControlRow, Plain, Row, Space};
+use table_plan::lines::{control_line, space_line, task_line};
 use table_text::read::Saved;
 
 /// Whether the tasks are the same.

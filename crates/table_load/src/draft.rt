@@ -6,7 +6,6 @@ ghost use Rattle.pid_types.specs.Step.{makes_id};
 ghost use Rattle.table_text.specs.Reading.{saved_state};
 
 use crate::compare::{first_unlike, is_same};
-use crate::fault::RestoreFault;
 use crate::load::Loaded;
 use model_laws::soundness::{root_state_is_sound, soundness_is_kept, soundness_is_restored};
 use pid_table::PidTable;
@@ -16,6 +15,7 @@ use pid_types::keys::Pid;
 use pid_types::reply::Reply;
 use std::alloc::{AllocError, Global};
 use std::marker::Model;
+use table_plan::fault::RestoreFault;
 use table_text::laws::snapshots_have_their_state;
 use table_text::read::Saved;
 

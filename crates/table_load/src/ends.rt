@@ -1,11 +1,11 @@
 //! The end of all that does not live: stand-ins and bare names go again, tasks exit, and namespaces fall. Then limits
 //! and cursors are as the lines say.
 
-use crate::fault::RestoreFault;
-use crate::lines::control_line;
 use crate::make::Work;
 use pid_types::call::{Call, Which};
 use pid_types::plain::{Ended, Life};
+use table_plan::fault::RestoreFault;
+use table_plan::lines::control_line;
 use table_text::read::Saved;
 
 /// The status of a task that exited by itself.

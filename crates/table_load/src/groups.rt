@@ -1,13 +1,13 @@
 //! What is set of the tasks while all of them live: their marks, control groups, sessions and process groups, and the
 //! namespaces that their children go into.
 
-use crate::fault::RestoreFault;
-use crate::lines::task_line;
 use crate::make::Work;
-use crate::spaces::place_of;
 use pid_types::call::Call;
 use pid_types::keys::Pid;
 use pid_types::plain::Row;
+use table_plan::fault::RestoreFault;
+use table_plan::lines::task_line;
+use table_plan::spaces::place_of;
 use table_text::read::Saved;
 
 impl Work {

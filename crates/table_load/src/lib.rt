@@ -12,11 +12,6 @@
 mod compare;
 mod draft;
 mod ends;
-pub mod fault;
 mod groups;
-mod lines;
 pub mod load;
 mod make;
-mod names;
-mod plan;
-mod spaces;

@@ -3,10 +3,10 @@ ghost use Rattle.std.specs.Prelude.{◌≡◌, IfOk};
 ghost use Rattle.pid_types.specs.Sound.{IsSound, IsBelow};
 ghost use Rattle.table_text.specs.Texts.{text_of};
 
-use crate::fault::RestoreFault;
 use crate::make::make_table;
 use pid_table::PidTable;
 use std::alloc::Global;
+use table_plan::fault::RestoreFault;
 use table_text::read::read_text;
 
 /// A table that was loaded from a text.

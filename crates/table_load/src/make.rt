@@ -5,16 +5,16 @@ ghost use Rattle.std.specs.Prelude.{◌≡◌, false};
 ghost use Rattle.pid_types.specs.Step.{makes_id};
 
 use crate::draft::Draft;
-use crate::fault::RestoreFault;
-use crate::lines::{control_line, space_line};
-use crate::names::number_at;
-use crate::plan::{Plan, plan_for};
-use crate::spaces::Place;
 use pid_types::call::Call;
 use pid_types::config::Config;
 use pid_types::keys::Pid;
 use pid_types::plain::{Control, LEVELS, Name};
 use std::alloc::Global;
+use table_plan::fault::RestoreFault;
+use table_plan::lines::{control_line, space_line};
+use table_plan::names::number_at;
+use table_plan::plan::{Plan, plan_for};
+use table_plan::spaces::Place;
 use table_text::read::Saved;
 
 /// The table in the making, and what has to be made.

@@ -4,8 +4,8 @@ use hex::encode;
 use sha2::{Digest, Sha256};
 use std::alloc::{AllocError, Global};
 use std::test::Fail;
-use table_load::fault::RestoreFault;
 use table_load::load::load;
+use table_plan::fault::RestoreFault;
 
 /// The text with its last line.
 fn with_end(alloc: Global, said: &[u8]) -> Result<Vec<u8>, AllocError> {

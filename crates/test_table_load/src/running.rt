@@ -8,8 +8,8 @@ use pid_types::plain::Plain;
 use pid_types::reply::Reply;
 use std::alloc::{AllocError, Global};
 use std::marker::Model;
-use table_load::fault::RestoreFault;
 use table_load::load::load;
+use table_plan::fault::RestoreFault;
 use table_text::dump::dump_text;
 use thiserror::Error;
 

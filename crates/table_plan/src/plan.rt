@@ -27,7 +27,7 @@ pub struct Lost {
 }
 
 /// A number that some name of the text has in a namespace.
-#[derive(Clone, Copy, PartialEq, Eq, PartialOrd, Ord)]
+#[derive(Clone, Copy)]
 struct Taken {
     place: usize,
     number: Pid,
@@ -153,7 +153,7 @@ fn list_taken(
             take_numbers(&mut taken, places, member.place, name)?;
         }
     }
-    taken.sort_unstable();
+    taken.sort_unstable_by_key(|it: &Taken| (it.place, it.number));
     Ok(taken)
 }
 
@@ -198,7 +198,9 @@ pub fn plan_for(alloc: Global, saved: &Saved) -> Result<Plan, RestoreFault> {
 fn free_number(taken: &[Taken], place: usize, from: Pid, pid_max: u32) -> Option<Pid> {
     (from..pid_max).find(|number| {
         let number = *number;
-        taken.binary_search(&Taken { place, number }).is_err()
+        taken
+            .binary_search_by_key(&(place, number), |it| (it.place, it.number))
+            .is_err()
     })
 }
 

@@ -162,7 +162,7 @@ fn find(members: &[Member], rows: &[Row], name: &Name, near: (usize, usize)) -> 
 }
 
 /// A bare name that a task's group or session has.
-#[derive(Clone, Copy, PartialEq, Eq, PartialOrd, Ord)]
+#[derive(Clone, Copy)]
 struct Mention {
     root: Pid,
     row: usize,
@@ -266,7 +266,7 @@ fn find_all(
             member.session = named.session.unwrap_or(index);
         }
     }
-    mentions.sort_unstable();
+    mentions.sort_unstable_by_key(|it: &Mention| (it.root, it.row, it.of_session));
     Ok(mentions)
 }
 
