@@ -30,6 +30,7 @@ pub fn numbers_are_apart()
 {}
 
 /// In a sound state no path to the root is longer than namespaces and control groups may be deep.
+#[tactic(auto, using(crate::proofs::Levels::levels_bounded))]
 pub fn levels_are_bounded()
     ensures { LevelsAreBounded }
 {}
@@ -41,6 +42,7 @@ pub fn sweep_keeps_numbered()
 {}
 
 /// A call is refused exactly where a refusal applies, by the first one in its order.
+#[tactic(auto, using(crate::proofs::Refusals::first_step))]
 pub fn first_refusal_answers()
     ensures { FirstRefusalAnswers }
 {}

@@ -24,12 +24,14 @@ pub fn fork_scripts()
 {}
 
 /// Worked scripts of process groups and sessions.
+#[tactic(auto, unfolding(crate::proofs::Computed::computed))]
 pub fn group_scripts()
     ensures set_pgid_in_order { SetPgidInOrder }
     ensures set_sid_once { SetSidOnce }
 {}
 
 /// Worked scripts of exit and wait.
+#[tactic(auto, unfolding(crate::proofs::Computed::computed))]
 pub fn wait_scripts()
     ensures wait_selects { WaitSelects }
     ensures orphans_go_to_init { OrphansGoToInit }
@@ -47,6 +49,7 @@ pub fn fall_scripts()
 {}
 
 /// Worked scripts of control groups.
+#[tactic(auto, unfolding(crate::proofs::Computed::computed))]
 pub fn control_scripts()
     ensures limits_and_moves { LimitsAndMoves }
     ensures zombies_go_up { ZombiesGoUp }
@@ -55,6 +58,7 @@ pub fn control_scripts()
 {}
 
 /// A worked script of the depth of control groups.
+#[tactic(auto, unfolding(crate::proofs::Computed::computed))]
 pub fn depth_scripts()
     ensures { ControlDepthIs64 }
 {}
@@ -68,6 +72,7 @@ pub fn join_scripts()
 {}
 
 /// Worked scripts of child subreapers.
+#[tactic(auto, unfolding(crate::proofs::Computed::computed))]
 pub fn subreaper_scripts()
     ensures subreaper_takes_children { SubreaperTakesChildren }
     ensures mark_kept_over_exec { MarkKeptOverExec }
