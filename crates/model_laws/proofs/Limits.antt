@@ -7,7 +7,8 @@ use Rattle.model_laws.proofs.Lists.{find-None}
 use Rattle.model_laws.proofs.Rising.{find-key}
 use Rattle.model_laws.proofs.Trees.{row_at-listed}
 use Rattle.model_laws.proofs.Inserts.{IsIn-insert_new}
-use Rattle.model_laws.proofs.Calls.{MayFork, Comes, still, born, born_first, no_answer, step_comes}
+use Rattle.model_laws.proofs.Calls.{MayFork, Comes, still, born, born_first, no_answer}
+use Rattle.model_laws.proofs.Refusals.{step_comes}
 use Rattle.model_laws.specs.CountLaws.{one_if}
 use Rattle.model_laws.proofs.StepKept.{step_keeps}
 

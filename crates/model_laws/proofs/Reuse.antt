@@ -9,7 +9,8 @@ use Rattle.model_laws.proofs.Names.{user_of_name, IsIn-names_in_use}
 use Rattle.model_laws.proofs.Trees.{row_at-listed, live_row-Some}
 use Rattle.model_laws.proofs.Inserts.{IsIn-insert_new, IsIn-insert_old}
 use Rattle.model_laws.proofs.Sweeps.{name_number}
-use Rattle.model_laws.proofs.Calls.{MayFork, Comes, still, born, born_first, no_answer, step_comes}
+use Rattle.model_laws.proofs.Calls.{MayFork, Comes, still, born, born_first, no_answer}
+use Rattle.model_laws.proofs.Refusals.{step_comes}
 use Rattle.model_laws.proofs.ForkKept.{IsReady, IsReady-old, IsReady-new, with_new, fresh, IsCoherent-forked}
 use Rattle.model_laws.proofs.SpaceMaps.{number-map_spaces}
 use Rattle.model_laws.proofs.StepKept.{step_keeps, run_keeps}

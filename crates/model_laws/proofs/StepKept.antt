@@ -11,7 +11,8 @@ use Rattle.model_laws.proofs.ControlsKept.{make_control_keeps, remove_control_ke
 use Rattle.model_laws.proofs.EndsKept.{wait_keeps, IsCoherent-fall, IsBelow-fall}
 use Rattle.model_laws.proofs.ExitKept.{exit_keeps}
 use Rattle.model_laws.proofs.ForkKept.{forked_keeps, forked_first_keeps}
-use Rattle.model_laws.proofs.Calls.{Comes, still, born, born_first, fell, handed_on, waits, reaped, grouped, led, executed, control_made, control_removed, limit_set, moved, joined, marked, step_comes}
+use Rattle.model_laws.proofs.Calls.{Comes, still, born, born_first, fell, handed_on, waits, reaped, grouped, led, executed, control_made, control_removed, limit_set, moved, joined, marked}
+use Rattle.model_laws.proofs.Refusals.{step_comes}
 
 -- a call that makes nothing with an id leaves a sound state, whose ids are below the stamp
 pub plain_keeps : (state : State) (stamp : ℕ) (call : Call) (o : Outcome) → Comes state stamp call o → makes_id call ≡ false → IsSound state

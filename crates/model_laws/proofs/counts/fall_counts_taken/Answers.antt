@@ -1,5 +1,5 @@
 use Rattle.pid_types.specs.declared.call.Call.TheVariants.{Exit}
-use Rattle.model_laws.proofs.Calls.{step_comes}
+use Rattle.model_laws.proofs.Refusals.{step_comes}
 use Rattle.model_laws.proofs.Counting.{comes_fall}
 use Rattle.model_laws.proofs.counts.fall_counts_taken.Goals as goal
 

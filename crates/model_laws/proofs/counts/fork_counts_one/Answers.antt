@@ -1,5 +1,5 @@
 use Rattle.pid_types.specs.declared.call.Call.TheVariants.{Fork}
-use Rattle.model_laws.proofs.Calls.{step_comes}
+use Rattle.model_laws.proofs.Refusals.{step_comes}
 use Rattle.model_laws.proofs.Counting.{comes_fork}
 use Rattle.model_laws.proofs.counts.fork_counts_one.Goals as goal
 

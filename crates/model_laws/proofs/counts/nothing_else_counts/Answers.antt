@@ -1,4 +1,4 @@
-use Rattle.model_laws.proofs.Calls.{step_comes}
+use Rattle.model_laws.proofs.Refusals.{step_comes}
 use Rattle.model_laws.proofs.Counting.{nothing_else}
 use Rattle.model_laws.proofs.counts.nothing_else_counts.Goals as goal
 

@@ -1,5 +1,5 @@
 use Rattle.pid_types.specs.declared.call.Call.TheVariants.{Fork}
-use Rattle.model_laws.proofs.Calls.{step_comes}
+use Rattle.model_laws.proofs.Refusals.{step_comes}
 use Rattle.model_laws.proofs.Limits.{comes_within, run_within}
 use Rattle.model_laws.proofs.laws.forks_keep_limits.Goals as goal
 

@@ -1,4 +1,4 @@
-use Rattle.model_laws.proofs.Calls.{step_comes}
+use Rattle.model_laws.proofs.Refusals.{step_comes}
 use Rattle.model_laws.proofs.Refusals.{comes_stays, query_stays}
 use Rattle.model_laws.proofs.laws.nothing_changes.Goals as goal
 

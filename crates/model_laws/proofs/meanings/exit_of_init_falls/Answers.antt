@@ -1,5 +1,5 @@
 use Rattle.pid_types.specs.declared.call.Call.TheVariants.{Exit}
-use Rattle.model_laws.proofs.Calls.{step_comes}
+use Rattle.model_laws.proofs.Refusals.{step_comes}
 use Rattle.model_laws.proofs.Falls.{comes_fallen}
 use Rattle.model_laws.proofs.meanings.exit_of_init_falls.Goals as goal
 

@@ -1,5 +1,5 @@
 use Rattle.pid_types.specs.declared.call.Call.TheVariants.{Wait}
-use Rattle.model_laws.proofs.Calls.{step_comes}
+use Rattle.model_laws.proofs.Refusals.{step_comes}
 use Rattle.model_laws.proofs.Reaping.{comes_reaped, comes_none_yet}
 use Rattle.model_laws.proofs.meanings.wait_reaps_least.Goals as goal
 

@@ -1,4 +1,4 @@
-use Rattle.model_laws.proofs.Calls.{step_comes}
+use Rattle.model_laws.proofs.Refusals.{step_comes}
 use Rattle.model_laws.proofs.StepKept.{plain_keeps, step_keeps, run_keeps}
 use Rattle.model_laws.proofs.soundness.soundness_is_kept.Goals as goal
 
