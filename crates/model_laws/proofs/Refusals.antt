@@ -5,10 +5,10 @@ use Rattle.std.specs.List.{list_any}
 use Rattle.std.proofs.lemmas.Bool.{eqb-true, eq-eqb, ne_eqb, and_parts, and_from, not-true, not_from_false, ltb-true, lt-ltb, leb-true, le-leb}
 use Rattle.std.proofs.lemmas.Bool.Decides.{Decides-eqb, Decides-ltb, Decides-and, Decides-or, Decides-not, Decides-like, not_from_Decides}
 use Rattle.std.proofs.lemmas.Bool.{not-false, cond_both}
-use Rattle.model_laws.proofs.Words.{Call, Fork, GetPid, NsPid, Exec, Exit, Wait, GetPpid, SetPgid, SetSid, MakeControl, RemoveControl, SetLimit, Move, Count, GetPgid, GetSid, Next, Join, SetSubreaper, Which, Name, Row, Space, Reply, Number, Reaped, NoneYet, End, Refused, Control, Refusal, NoCaller, NoTask, NoChild, NoNumber, PidsLimit, SpaceFallen, TooDeep, Elsewhere, BadGroup, OtherSession, IsLeader, NoGroup, Executed, RootInit, NoControl, ControlBusy, RootControl, BadLimit, ControlDepth, deepest_space, deepest_control, greatest_limit, IsIn, contains, least_of, State, space_at, path_up, level, number, root_number, number_or_zero, is_numbered, same_name, is_parent, is_live, live_row, task_at, taken, restart, cyclic_draw, cursor_of, draw, control_at, control_path, count, is_limited_below, passed_limit, Outcome, answered, changed, for_found, unless_found, refuse_if, by_caller, fork, forked, no_room, with_space, is_gone, is_init, ended_children, exit, is_selected, matching, least_row, end_of, without_row, wait, is_negative, target_of, session_group, group_for, has_members, set_group_of, set_pgid, set_sid, asked_by, self_or_task, numbers_by, get_pid, get_ppid, get_pgid, get_sid, ns_pid, next, on_control, is_busy, exec, make_control, remove_control, set_limit, move_task, count_tasks, join, set_subreaper, step}
+use Rattle.model_laws.proofs.Words.{Call, Fork, GetPid, NsPid, Exec, Exit, Wait, GetPpid, SetPgid, SetSid, MakeControl, RemoveControl, SetLimit, Move, Count, GetPgid, GetSid, Next, Join, SetSubreaper, Which, Name, Row, Space, Reply, Number, Reaped, NoneYet, End, Refused, Control, Refusal, NoCaller, NoTask, NoChild, NoNumber, PidsLimit, SpaceFallen, TooDeep, Elsewhere, BadGroup, OtherSession, IsLeader, NoGroup, Executed, RootInit, NoControl, ControlBusy, RootControl, BadLimit, ControlDepth, deepest_space, deepest_control, greatest_limit, IsIn, contains, least_of, State, space_at, path_up, level, number, root_number, number_or_zero, is_numbered, same_name, is_parent, is_live, live_row, task_at, taken, restart, cyclic_draw, cursor_of, draw, control_at, control_path, count, is_limited_below, passed_limit, Outcome, answered, changed, for_found, unless_found, refuse_if, fork, forked, no_room, with_space, is_gone, is_init, ended_children, exit, is_selected, matching, least_row, end_of, without_row, wait, is_negative, target_of, session_group, group_for, has_members, set_group_of, set_pgid, set_sid, self_or_task, numbers_by, get_pid, get_ppid, get_pgid, get_sid, ns_pid, next, is_busy, exec, make_control, remove_control, set_limit, move_task, count_tasks, join, set_subreaper, step}
 use Rattle.pid_types.specs.declared.call.Which.TheVariants.{Any, Pid, OwnGroup, Group}
 use Rattle.model_laws.specs.Draws.{IsCyclicDraw, IsLeastFree}
-use Rattle.model_laws.specs.Refusals.{goes_on, refuse, find_one, refuse_first, IsLiveTask, IsTaskTo, IsSelfOrTask, IsTarget, IsChild, IsSelected, NamesTarget, IsSessionGroup, IsGroupFor, IsSpace, IsControl, IsBusy, HasNoNumber, wants_room, forks, changes_group, by_live, wants_number, verdict, refusal_in, is_query}
+use Rattle.model_laws.specs.Refusals.{goes_on, refuse, find_one, refuse_first, IsLiveTask, IsTaskTo, IsSelfOrTask, IsTarget, IsChild, IsSelected, NamesTarget, IsSessionGroup, IsGroupFor, IsSpace, IsControl, IsBusy, HasNoNumber, wants_room, wants_number, verdict, refusal_in, is_query}
 use Rattle.model_laws.specs.WaitLaws.{MayBeReaped}
 use Rattle.model_laws.proofs.Lists.{IsIn-filter, IsIn-from_filter, find-Some, find-None, some_passes, list_any-from_one}
 use Rattle.model_laws.proofs.Names.{option_eq-true, is_parent-true, is_parent-from, same_name-true, same_name-refl, is_numbered-true, is_numbered-from}
@@ -55,44 +55,44 @@ finds fits p xs to from = record {
 
 module _ {state : State} {stamp : ℕ} {call : Call} where
   -- a call that is not refused
-  goes : (o : Outcome) → refusal_in o.reply ≡ None → Comes state stamp call o → IsJudged state stamp call goes_on o
-  goes o none comes = record { comes = comes; said = none }
+  goes : {o : Outcome} → refusal_in o.reply ≡ None → Comes state stamp call o → IsJudged state stamp call goes_on o
+  goes none comes = record { comes = comes; said = none }
 
   -- an answer
   says : (reply : Reply) → is_answer reply ≡ true → refusal_in reply ≡ None → IsJudged state stamp call goes_on (answered state reply)
-  says reply answer none = goes _ none (still _ reply answer)
+  says reply answer none = goes none (still _ reply answer)
 
   -- a refusal
   refuses : (r : Refusal) (later : Option Refusal → Type 0) → later (Some r) → IsJudged state stamp call later (answered state (Refused r))
   refuses r later said = record { comes = still _ (Refused r) refl; said = said }
 
   -- a test tells whether the reason of a refusal holds
-  refused_by : (reason : Type 0) (b : Bool) (r : Refusal) (o : Outcome) (later : Option Refusal → Type 0) → Decides b reason
+  refused_by : {reason : Type 0} {o : Outcome} {later : Option Refusal → Type 0} (b : Bool) (r : Refusal) → Decides b reason
       → (b ≡ false → IsJudged state stamp call later o) → IsJudged state stamp call (refuse reason r later) (refuse_if state b r o)
-  refused_by reason true r o later d h = refuses r _ (inl (d.0 refl, refl))
-  refused_by reason false r o later d h = record { comes = (h refl).comes; said = inr (not_from_Decides false d refl, (h refl).said) }
+  refused_by true r d h = refuses r _ (inl (d.0 refl, refl))
+  refused_by false r d h = record { comes = (h refl).comes; said = inr (not_from_Decides false d refl, (h refl).said) }
 
   -- a search finds one that fits, or there is none
-  found_by : {A : Type 0} (fits : A → Type 0) (o : Option A) (r : Refusal) (f : A → Outcome) (later : A → Option Refusal → Type 0)
+  found_by : {A : Type 0} {fits : A → Type 0} {f : A → Outcome} {later : A → Option Refusal → Type 0} (o : Option A) (r : Refusal)
       → IsFound fits o → ((a : A) → o ≡ Some a → IsJudged state stamp call (later a) (f a))
       → IsJudged state stamp call (find_one fits r later) (for_found state o r f)
-  found_by fits None r f later found h = refuses r _ (inr (found.none refl, refl))
-  found_by fits (Some a) r f later found h = let j = h a refl in record { comes = j.comes; said = inl (a, found.some a refl, j.said) }
+  found_by None r found h = refuses r _ (inr (found.none refl, refl))
+  found_by (Some a) r found h = let j = h a refl in record { comes = j.comes; said = inl (a, found.some a refl, j.said) }
 
   -- the same of a query
-  answered_by : {A : Type 0} (fits : A → Type 0) (o : Option A) (r : Refusal) (f : A → Reply) (later : A → Option Refusal → Type 0)
+  answered_by : {A : Type 0} {fits : A → Type 0} {later : A → Option Refusal → Type 0} (o : Option A) (r : Refusal) (f : A → Reply)
       → IsFound fits o → ((a : A) → IsJudged state stamp call (later a) (answered state (f a)))
       → IsJudged state stamp call (find_one fits r later) (answered state (option_map_or f o (Refused r)))
-  answered_by fits None r f later found h = refuses r _ (inr (found.none refl, refl))
-  answered_by fits (Some a) r f later found h = record { comes = (h a).comes; said = inl (a, found.some a refl, (h a).said) }
+  answered_by None r f found h = refuses r _ (inr (found.none refl, refl))
+  answered_by (Some a) r f found h = record { comes = (h a).comes; said = inl (a, found.some a refl, (h a).said) }
 
   -- a search along a list names the first for which the reason holds
-  first_by : (reason : ℕ → Type 0) (p : ℕ → Bool) (r : ℕ → Refusal) (xs : List ℕ) (later : Option Refusal → Type 0) (o : Option ℕ → Outcome)
+  first_by : {reason : ℕ → Type 0} {later : Option Refusal → Type 0} (p : ℕ → Bool) (r : ℕ → Refusal) (xs : List ℕ) (o : Option ℕ → Outcome)
       → ((x : ℕ) → Decides (p x) (reason x)) → ((x : ℕ) → answered state (Refused (r x)) ≡ o (Some x))
       → (find p xs ≡ None → IsJudged state stamp call later (o None))
       → IsJudged state stamp call (refuse_first reason r xs later) (o (find p xs))
-  first_by reason p r [] later o tells some none = none refl
-  first_by reason p r (x ∷ xs) later o tells some none = go (first_by reason p r xs later o tells some) (p x) (tells x) none
+  first_by p r [] o tells some none = none refl
+  first_by {reason} {later} p r (x ∷ xs) o tells some none = go (first_by p r xs o tells some) (p x) (tells x) none
     where
       go : ((find p xs ≡ None → IsJudged state stamp call later (o None)) → IsJudged state stamp call (refuse_first reason r xs later) (o (find p xs)))
           → (b : Bool) → Decides b (reason x) → (cond b (Some x) (find p xs) ≡ None → IsJudged state stamp call later (o None))
@@ -101,6 +101,10 @@ module _ {state : State} {stamp : ℕ} {call : Call} where
       go rest false d lost = let j = rest lost in record { comes = j.comes; said = inr (not_from_Decides false d refl, j.said) }
 
 -- ---- what the tests tell, and what the look-ups find
+
+-- a test says what it says
+Decides-it : (b : Bool) → Decides b (b ≡ true)
+Decides-it b = (λ e. e, λ e. e)
 
 -- a name is the other one
 Decides-name : (a b : Name) → Decides (same_name a b) (a ≡ b)
@@ -275,51 +279,31 @@ module _ {stamp : ℕ} {call : Call} where
       → IsJudged old stamp call (wants_room state caller t) (unless_found old (no_room state caller t) (λ r. r) (forked state caller t))
   unfolding no_room passed_limit
   first_room old state caller t made =
-      first_by (HasNoNumber state) (λ s. is_none (draw state s)) NoNumber (path_up state.spaces t) _
+      first_by (λ s. is_none (draw state s)) NoNumber (path_up state.spaces t)
       (λ o. unless_found old (option_map_or (λ s. Some (NoNumber s)) o (option_map PidsLimit (passed_limit state caller.home))) (λ r. r) (forked state caller t))
       (Decides-no_number state) (λ s. refl) (λ numbers.
-      first_by (λ c. is_limited_below state (count state c + 1) c ≡ true) (λ c. is_limited_below state (count state c + 1) c) PidsLimit
-      (control_path state.controls caller.home) goes_on (λ o. unless_found old (option_map PidsLimit o) (λ r. r) (forked state caller t))
-      (λ c. (λ e. e, λ e. e)) (λ c. refl) (λ limits. goes _ refl (made (record { numbers = numbers; limits = limits }))))
+      first_by (λ c. is_limited_below state (count state c + 1) c) PidsLimit (control_path state.controls caller.home)
+      (λ o. unless_found old (option_map PidsLimit o) (λ r. r) (forked state caller t)) (λ c. Decides-it _) (λ c. refl) (λ limits.
+      goes refl (made (record { numbers = numbers; limits = limits }))))
 
-  module _ (state : State) where
-    -- the namespace that a fork goes into is there, and stands
-    first_space : (p : ℕ) (o : Outcome) (later : Option Refusal → Type 0) → (is_gone state p ≡ false → IsJudged state stamp call later o)
-        → IsJudged state stamp call (find_one (IsSpace state p) SpaceFallen (λ s. refuse (s.fallen ≡ true) SpaceFallen later)) (refuse_if state (is_gone state p) SpaceFallen o)
-    first_space p o later h =
-        go (space_at state.spaces p) (finds (IsSpace state p) (λ s. s.id == p) state.spaces (λ s i e. (i, eqb-true s.id p e)) (λ s t. (t.0, eq-eqb s.id p t.1))) h
-      where
-        go : (x : Option Space) → IsFound (IsSpace state p) x → (option_map_or (λ t. t.fallen) x true ≡ false → IsJudged state stamp call later o)
-            → IsJudged state stamp call (find_one (IsSpace state p) SpaceFallen (λ s. refuse (s.fallen ≡ true) SpaceFallen later)) (refuse_if state (option_map_or (λ t. t.fallen) x true) SpaceFallen o)
-        go None f h = refuses SpaceFallen _ (inr (f.none refl, refl))
-        go (Some s) f h = let j = refused_by (s.fallen ≡ true) s.fallen SpaceFallen o later (λ e. e, λ e. e) h in record { comes = j.comes; said = inl (s, f.some s refl, j.said) }
-
-    -- the call of a live caller
-    first_live : (n : ℕ) (f : Row → Outcome) (later : Row → Option Refusal → Type 0)
-        → ((row : Row) → live_row state.rows n ≡ Some row → IsJudged state stamp call (later row) (f row))
-        → IsJudged state stamp call (by_live state n later) (by_caller state n f)
-    first_live n f later h = found_by (IsLiveTask state n) (live_row state.rows n) NoCaller f later (live_found state n) h
-
-    -- the query of a live caller
-    first_asked : (n : ℕ) (f : Row → Reply) (later : Row → Option Refusal → Type 0)
-        → ((row : Row) → IsJudged state stamp call (later row) (answered state (f row)))
-        → IsJudged state stamp call (by_live state n later) (answered state (asked_by state n f))
-    first_asked n f later h = answered_by (IsLiveTask state n) (live_row state.rows n) NoCaller f later (live_found state n) h
-
-    -- a call on a control group
-    first_control : (id : ℕ) (f : Control → Outcome) (later : Control → Option Refusal → Type 0)
-        → ((c : Control) → control_at state.controls id ≡ Some c → IsJudged state stamp call (later c) (f c))
-        → IsJudged state stamp call (find_one (IsControl state id) NoControl later) (on_control state id f)
-    first_control id f later h = found_by (IsControl state id) (control_at state.controls id) NoControl f later (control_found state id) h
+  -- the namespace that a fork goes into is there, and stands
+  first_space : (state : State) (p : ℕ) (o : Outcome) (later : Option Refusal → Type 0) → (is_gone state p ≡ false → IsJudged state stamp call later o)
+      → IsJudged state stamp call (find_one (IsSpace state p) SpaceFallen (λ s. refuse (s.fallen ≡ true) SpaceFallen later)) (refuse_if state (is_gone state p) SpaceFallen o)
+  first_space state p o later =
+      go (space_at state.spaces p) (finds (IsSpace state p) (λ s. s.id == p) state.spaces (λ s i e. (i, eqb-true s.id p e)) (λ s t. (t.0, eq-eqb s.id p t.1)))
+    where
+      go : (x : Option Space) → IsFound (IsSpace state p) x → (option_map_or (λ t. t.fallen) x true ≡ false → IsJudged state stamp call later o)
+          → IsJudged state stamp call (find_one (IsSpace state p) SpaceFallen (λ s. refuse (s.fallen ≡ true) SpaceFallen later))
+          (refuse_if state (option_map_or (λ t. t.fallen) x true) SpaceFallen o)
+      go None f h = refuses SpaceFallen _ (inr (f.none refl, refl))
+      go (Some s) f h = let j = refused_by s.fallen SpaceFallen (Decides-it s.fallen) h in record { comes = j.comes; said = inl (s, f.some s refl, j.said) }
 
 -- each call is judged so
 judged : (state : State) (stamp : ℕ) (call : Call) → IsJudged state stamp call (verdict state stamp call) (step state stamp call)
 unfolding step fork exec exit wait set_pgid set_group_of set_sid make_control remove_control set_limit move_task count_tasks join set_subreaper get_pid get_ppid get_pgid get_sid ns_pid next
-judged state stamp (Fork n new_space) = first_live state n _ (forks state stamp new_space) (λ caller found.
-    refused_by _ (new_space && nat_le deepest_space (level state.spaces caller.children_space)) TooDeep _ _
-    (Decides-and new_space _ (λ e. e, λ e. e) (leb-true deepest_space (level state.spaces caller.children_space), le-leb deepest_space (level state.spaces caller.children_space))) (λ shallow.
-    refused_by _ (new_space && not (caller.children_space == caller.name.space)) Elsewhere _ _
-    (Decides-and new_space _ (λ e. e, λ e. e) (Decides-not _ (Decides-eqb caller.children_space caller.name.space))) (λ here.
+judged state stamp (Fork n new_space) = found_by _ NoCaller (live_found state n) (λ caller found.
+    refused_by _ TooDeep (Decides-and new_space _ (Decides-it _) (leb-true deepest_space _, le-leb deepest_space _)) (λ shallow.
+    refused_by _ Elsewhere (Decides-and new_space _ (Decides-it _) (Decides-not _ (Decides-eqb caller.children_space caller.name.space))) (λ here.
     first_space state caller.children_space _ (wants_number state stamp new_space caller) (λ stands. room caller found stands new_space shallow here))))
   where
     room : (caller : Row) → live_row state.rows n ≡ Some caller → is_gone state caller.children_space ≡ false → (b : Bool)
@@ -332,21 +316,20 @@ judged state stamp (Fork n new_space) = first_live state n _ (forks state stamp 
         first_room state (with_space state caller.children_space stamp) caller stamp (λ may. born_first n caller found stands shallow (not-false _ here) may)
     room caller found stands false shallow here =
         first_room state state caller caller.children_space (λ may. born n false caller refl found stands may)
-judged state stamp (GetPid n) = first_asked state n _ (λ row. goes_on) (λ row. says _ refl refl)
-judged state stamp (NsPid n target) = first_asked state n _ _ (λ row.
-    answered_by (IsTaskTo state row target) (task_at state row.name.space target) NoTask _ (λ task. goes_on) (task_found state row target) (λ task. says _ refl refl))
-judged state stamp (Exec n) = first_live state n _ (λ row. goes_on) (λ row found. goes _ refl (executed n row found))
-judged state stamp (Exit n status) = first_live state n _ _ (λ row found.
-    refused_by (root_number row.name ≡ 1) (root_number row.name == 1) RootInit _ goes_on (Decides-eqb (root_number row.name) 1) (λ deep.
-    cond_both (is_init state row) _ _ (IsJudged state stamp (Exit n status) goes_on) (λ e. goes _ refl (fell n status row found deep e))
-    (λ e. goes _ refl (handed_on n status row found e))))
-judged state stamp (Wait n which) = first_live state n _ _ (λ row found. go row found (matching state row which) refl)
+judged state stamp (GetPid n) = answered_by _ NoCaller _ (live_found state n) (λ row. says _ refl refl)
+judged state stamp (NsPid n target) =
+    answered_by _ NoCaller _ (live_found state n) (λ row. answered_by _ NoTask _ (task_found state row target) (λ task. says _ refl refl))
+judged state stamp (Exec n) = found_by _ NoCaller (live_found state n) (λ row found. goes refl (executed n row found))
+judged state stamp (Exit n status) = found_by _ NoCaller (live_found state n) (λ row found.
+    refused_by _ RootInit (Decides-eqb (root_number row.name) 1) (λ deep. cond_both (is_init state row) _ _ (IsJudged state stamp (Exit n status) goes_on)
+    (λ e. goes refl (fell n status row found deep e)) (λ e. goes refl (handed_on n status row found e))))
+judged state stamp (Wait n which) = found_by _ NoCaller (live_found state n) (λ row found. go row found (matching state row which) refl)
   where
     reaps : (caller : Row) → live_row state.rows n ≡ Some caller → (o : Option Row) → least_row state caller.name.space (ended_children state caller which) ≡ o
         → IsJudged state stamp (Wait n which) goes_on
         (option_map_or (λ row. changed (without_row state row) (Reaped (number_or_zero state.spaces row.name caller.name.space) (end_of row))) o (answered state NoneYet))
-    reaps caller found None e = goes _ refl (waits n which caller found e)
-    reaps caller found (Some row) e = goes _ refl (reaped n which caller row found e)
+    reaps caller found None e = goes refl (waits n which caller found e)
+    reaps caller found (Some row) e = goes refl (reaped n which caller row found e)
 
     go : (caller : Row) → live_row state.rows n ≡ Some caller → (kept : List Row) → matching state caller which ≡ kept
         → IsJudged state stamp (Wait n which) (find_one (MayBeReaped state caller which) NoChild (λ child. goes_on))
@@ -358,51 +341,39 @@ judged state stamp (Wait n which) = first_live state n _ _ (λ row found. go row
         let some : (length (child ∷ kept) == 0) ≡ false = ne_eqb (suc (length kept)) 0 (λ z. omega arith) in
         let j = reaps caller found (least_row state caller.name.space (ended_children state caller which)) refl in
         rw some (record { comes = j.comes; said = inl (child, f, j.said) })
-judged state stamp (GetPpid n) = first_asked state n _ (λ row. goes_on) (λ row. says _ refl refl)
-judged state stamp (SetPgid n pid pgid) = first_live state n _ _ (λ row found.
-    refused_by ((m : ℕ) × (pgid ≡ negsuc m)) (is_negative pgid) BadGroup _ _ (Decides-negative pgid) (λ good.
-    found_by (IsTarget state row pid) (target_of state row pid) NoTask _ (changes_group state row pgid) (target_found state row pid) (λ target aimed.
-    refused_by (IsChild row target × (target.session ≡ row.session → ⊥)) (is_parent row.name target && not (same_name target.session row.session)) OtherSession _ _
-    (Decides-and _ _ (Decides-child row target) (Decides-not _ (Decides-name target.session row.session))) (λ same.
-    refused_by (IsChild row target × (target.executed ≡ true)) (is_parent row.name target && target.executed) Executed _ _
-    (Decides-and _ _ (Decides-child row target) (λ e. e, λ e. e)) (λ fresh.
-    refused_by ((IsChild row target → ⊥) × (target.name ≡ row.name → ⊥)) (not (is_parent row.name target || same_name target.name row.name)) NoTask _ _
-    (Decides-like _ (λ h. (λ c. h (inl c), λ s. h (inr s))) (λ h u. elim u [ inl c ↦ h.0 c | inr s ↦ h.1 s ])
+judged state stamp (GetPpid n) = answered_by _ NoCaller _ (live_found state n) (λ row. says _ refl refl)
+judged state stamp (SetPgid n pid pgid) = found_by _ NoCaller (live_found state n) (λ row found.
+    refused_by _ BadGroup (Decides-negative pgid) (λ good. found_by _ NoTask (target_found state row pid) (λ target aimed.
+    refused_by _ OtherSession (Decides-and _ _ (Decides-child row target) (Decides-not _ (Decides-name target.session row.session))) (λ same.
+    refused_by _ Executed (Decides-and _ _ (Decides-child row target) (Decides-it _)) (λ fresh.
+    refused_by _ NoTask (Decides-like _ (λ h. (λ c. h (inl c), λ s. h (inr s))) (λ h u. elim u [ inl c ↦ h.0 c | inr s ↦ h.1 s ])
     (Decides-not _ (Decides-or _ _ (Decides-child row target) (Decides-name target.name row.name)))) (λ own.
-    refused_by (target.session ≡ target.name) (same_name target.session target.name) IsLeader _ _ (Decides-name target.session target.name) (λ member.
-    found_by (IsGroupFor state row target pgid) (group_for state row target pgid) NoGroup _ (λ group. goes_on)
-    (group_found state row target pgid) (λ group there. goes _ refl (grouped n pid pgid row target group found aimed same own there)))))))))
-judged state stamp (SetSid n) = first_live state n _ _ (λ row found.
-    refused_by ((r : Row) × IsIn r state.rows × (r.group ≡ row.name)) (has_members state row.name) IsLeader _ goes_on
-    (Decides-members state row.name) (λ none. goes _ refl (led n row found none)))
-judged state stamp (MakeControl parent) = first_control state parent _ _ (λ c found.
-    refused_by (deepest_control < length (control_path state.controls parent)) (nat_lt deepest_control (length (control_path state.controls parent))) ControlDepth _ goes_on
-    (Decides-ltb deepest_control (length (control_path state.controls parent))) (λ shallow. goes _ refl (control_made parent c found shallow)))
-judged state stamp (RemoveControl id) = first_control state id _ _ (λ c found.
-    found_by (λ parent. c.parent ≡ Some parent) c.parent RootControl _ _ (parent_found c) (λ parent under.
-    refused_by (IsBusy state id) (is_busy state id) ControlBusy _ goes_on (Decides-busy state id) (λ idle. goes _ refl (control_removed id parent c found under idle))))
-judged state stamp (SetLimit id limit) = first_control state id _ _ (λ c found.
-    found_by (λ parent. c.parent ≡ Some parent) c.parent RootControl _ _ (parent_found c) (λ parent under.
-    refused_by ((n : ℕ) × (limit ≡ Some n) × (greatest_limit < n)) (option_map_or (nat_lt greatest_limit) limit false) BadLimit _
-    goes_on (Decides-limit limit) (λ good. goes _ refl (limit_set id parent limit c found under good))))
+    refused_by _ IsLeader (Decides-name target.session target.name) (λ member. found_by _ NoGroup (group_found state row target pgid) (λ group there.
+    goes refl (grouped n pid pgid row target group found aimed same own there)))))))))
+judged state stamp (SetSid n) = found_by _ NoCaller (live_found state n) (λ row found.
+    refused_by _ IsLeader (Decides-members state row.name) (λ none. goes refl (led n row found none)))
+judged state stamp (MakeControl parent) = found_by _ NoControl (control_found state parent) (λ c found.
+    refused_by _ ControlDepth (Decides-ltb deepest_control (length (control_path state.controls parent))) (λ shallow. goes refl (control_made parent c found shallow)))
+judged state stamp (RemoveControl id) = found_by _ NoControl (control_found state id) (λ c found. found_by _ RootControl (parent_found c) (λ parent under.
+    refused_by _ ControlBusy (Decides-busy state id) (λ idle. goes refl (control_removed id parent c found under idle))))
+judged state stamp (SetLimit id limit) = found_by _ NoControl (control_found state id) (λ c found. found_by _ RootControl (parent_found c) (λ parent under.
+    refused_by _ BadLimit (Decides-limit limit) (λ good. goes refl (limit_set id parent limit c found under good))))
 judged state stamp (Move n id) =
-    found_by (IsLiveTask state n) (live_row state.rows n) NoTask _ _ (live_found state n) (λ row found.
-    first_control state id _ (λ c. goes_on) (λ c there. goes _ refl (moved n id row c found there)))
-judged state stamp (Count id) = first_control state id _ (λ c. goes_on) (λ c found. says _ refl refl)
-judged state stamp (GetPgid n pid) = first_asked state n _ _ (λ row.
-    answered_by (IsSelfOrTask state row pid) (self_or_task state row pid) NoTask _ (λ task. goes_on) (self_found state row pid) (λ task. says _ refl refl))
-judged state stamp (GetSid n pid) = first_asked state n _ _ (λ row.
-    answered_by (IsSelfOrTask state row pid) (self_or_task state row pid) NoTask _ (λ task. goes_on) (self_found state row pid) (λ task. says _ refl refl))
-judged state stamp (Next n kind from) = first_asked state n _ (λ row. goes_on) (λ row. ends (least_of (filter (nat_le from) (numbers_by state kind row.name.space))))
+    found_by _ NoTask (live_found state n) (λ row found. found_by _ NoControl (control_found state id) (λ c there. goes refl (moved n id row c found there)))
+judged state stamp (Count id) = found_by _ NoControl (control_found state id) (λ c found. says _ refl refl)
+judged state stamp (GetPgid n pid) =
+    answered_by _ NoCaller _ (live_found state n) (λ row. answered_by _ NoTask _ (self_found state row pid) (λ task. says _ refl refl))
+judged state stamp (GetSid n pid) =
+    answered_by _ NoCaller _ (live_found state n) (λ row. answered_by _ NoTask _ (self_found state row pid) (λ task. says _ refl refl))
+judged state stamp (Next n kind from) =
+    answered_by _ NoCaller _ (live_found state n) (λ row. ends (least_of (filter (nat_le from) (numbers_by state kind row.name.space))))
   where
     ends : (o : Option ℕ) → IsJudged state stamp (Next n kind from) goes_on (answered state (option_map_or Number o End))
     ends None = says _ refl refl
     ends (Some m) = says _ refl refl
-judged state stamp (Join n target) = first_live state n _ _ (λ row found.
-    found_by (IsTaskTo state row target) (task_at state row.name.space target) NoTask _ _ (task_found state row target) (λ task there.
-    refused_by (is_live task ≡ false) (not (is_live task)) NoTask _ goes_on (not-true (is_live task), not_from_false (is_live task)) (λ lives.
-    goes _ refl (joined n target row task found there (not-false _ lives)))))
-judged state stamp (SetSubreaper n on) = first_live state n _ (λ row. goes_on) (λ row found. goes _ refl (marked n on row found))
+judged state stamp (Join n target) = found_by _ NoCaller (live_found state n) (λ row found. found_by _ NoTask (task_found state row target) (λ task there.
+    refused_by _ NoTask (not-true (is_live task), not_from_false (is_live task)) (λ lives. goes refl (joined n target row task found there (not-false _ lives)))))
+judged state stamp (SetSubreaper n on) = found_by _ NoCaller (live_found state n) (λ row found. goes refl (marked n on row found))
 
 -- each call comes to one of the outcomes
 pub step_comes : (state : State) (stamp : ℕ) (call : Call) → Comes state stamp call (step state stamp call)
