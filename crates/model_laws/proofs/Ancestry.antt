@@ -2,7 +2,7 @@
 use Rattle.std.proofs.Common.{◌≡◌, ℕ, zero, suc, ◌+◌, ◌-◌, ◌<◌, ◌≤◌, Bool, true, false, not, ◌==◌, List, [], ◌∷◌, ◌++◌, map, reverse, length, Option, Some, None, refl, sym, ap, ◌∙◌, subst, inl, inr, arith, filter, option_map, option_and_then, slice_index}
 use Rattle.std.proofs.lemmas.Bool.{eq-eqb, ne_eqb, not_from_false, not_from_true}
 use Rattle.std.proofs.lemmas.List.{length-map, reverse-append, length-reverse}
-use Rattle.model_laws.proofs.Words.{Name, Row, Space, climb, State, parent_space, path_up, beside, number, root_number, is_live, row_at, parent_number, IsIn, IsWellNumbered, IsTreeOfSpaces, IsCoherent}
+use Rattle.model_laws.proofs.Words.{Name, Row, Space, climb, State, parent_space, path_up, beside, number, root_number, is_live, row_at, parent_number, IsIn, IsRising, IsWellNumbered, IsTreeOfSpaces, IsCoherent}
 use Rattle.model_laws.proofs.Lists.{IsIn-map, IsIn-filter}
 use Rattle.model_laws.proofs.Chains.{Stops-at_root, climb-None, climb_cases, climb_suffix, IsIn-climb_first, IsIn-climb_parent, IsIn-climb_more}
 use Rattle.model_laws.proofs.Names.{own_name_in_use}
@@ -191,6 +191,43 @@ module _ (state : State) (sound : IsCoherent state) where
       let at = row_at-Some state.rows n u.0 u.2 in
       let g = (sound.parents u.0 at.0).good u.1 u.3 in
       (u.0, g.lives.0, at.0, at.1, g.lives.1, ap root_number g.lives.2 ∙ u.4, g.lives.3, u.3 ∙ ap Some (sym g.lives.2))
+
+  -- rows whose parents are among them keep their parents, under the names that they had
+  module _ (after : List Row) (rise : IsRising (roots after)) (g : Row → Row) (Stays : Row → Type 0)
+      (there : (x : Row) → IsIn x state.rows → Stays x → IsIn (g x) after × ((g x).name ≡ x.name) × ((g x).parent ≡ x.parent))
+      (up : (x q : Row) → IsIn x state.rows → IsIn q state.rows → Stays x → x.parent ≡ Some q.name → is_live q ≡ true → Stays q) where
+    -- the number is that of such a row
+    abbrev IsAt : ℕ → Type 0
+    IsAt n = (x : Row) × IsIn x state.rows × (root_number x.name ≡ n) × Stays x
+
+    -- it is found by its root number
+    found : (n : ℕ) (s : IsAt n) → row_at after n ≡ Some (g s.0)
+    found n s = let k = there s.0 s.1 s.3 in subst (λ m. row_at after m ≡ Some (g s.0)) (ap root_number k.1 ∙ s.2) (row_at-listed after rise (g s.0) k.0)
+
+    -- and has the parent that it had
+    same_parent : (n : ℕ) → IsAt n → parent_number after n ≡ parent_number state.rows n
+    same_parent n s =
+        parent_number-at after n (g s.0) (found n s) ∙ ap (option_map root_number) (there s.0 s.1 s.3).2
+        ∙ sym (parent_number-at state.rows n s.0 (subst (λ m. row_at state.rows m ≡ Some s.0) s.2 (row_at-listed state.rows sound.rows_rise s.0 s.1)))
+
+    -- which is such a row
+    next : (n m : ℕ) → IsAt n → parent_number state.rows n ≡ Some m → IsAt m
+    next n m s e =
+        let u = parent_row n m e in
+        let same : s.0 ≡ u.0 = unique_key (λ (x : Row). root_number x.name) state.rows sound.rows_rise s.0 u.0 s.1 u.2 (s.2 ∙ sym u.3) in
+        (u.1, u.4, u.5, up s.0 u.1 s.1 u.4 s.3 (ap (λ (x : Row). x.parent) same ∙ u.7) u.6)
+
+    -- so it is as far from number 1 as it was, which is there without a parent
+    pub far_kept : (x : Row) → IsIn x state.rows → Stays x
+        → (k : ℕ) × Far (parent_number after) k (root_number x.name) × (parent_number after 1 ≡ None) × IsIn 1 (roots after)
+    far_kept x i s =
+        let far = row_far x i in
+        let f = Far-same (parent_number state.rows) (parent_number after) IsAt same_parent next far.0 (root_number x.name) far.1 (x, i, refl, s) in
+        (far.0, f.0, same_parent 1 f.1 ∙ top_row, IsIn-roots after 1 (g f.1.0) (found 1 f.1))
+
+    -- and its chain is long enough
+    pub chain_kept : (x : Row) → IsIn x state.rows → Stays x → IsIn 1 (climb (parent_number after) (length after) (root_number x.name))
+    chain_kept x i s = let f = far_kept x i s in chain-in_rows after f.2 f.3 f.0 (root_number x.name) f.1
 
   -- the root init lives in the root namespace, and has no parent
   pub root_init_lives : (init : Row) × IsRootInit state init

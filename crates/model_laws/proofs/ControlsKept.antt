@@ -2,18 +2,15 @@
 use Rattle.std.proofs.Common.{◌≡◌, ℕ, ◌+◌, ◌<◌, ◌≤◌, false, not, ◌==◌, List, [], ◌∷◌, ◌++◌, map, length, Option, Some, None, refl, sym, ap, ◌∙◌, subst, inl, inr, arith, filter, nat_lt, option_map, option_and_then}
 use Rattle.std.specs.Option.{option_map_or}
 use Rattle.std.proofs.lemmas.Bool.{cond_both, eqb-true, ne_eqb, eqb-false, ltb-false, not_from_false, not-true}
-use Rattle.model_laws.proofs.Words.{Row, Control, greatest_limit, climb, State, control_at, parent_control, control_path, with_control, is_busy, rehome, without_control, limited, with_limit, IsIn, IsTreeOfControls, HasGoodLimit, IsCoherent, IsSound, IsBelow, Reply, changed}
+use Rattle.model_laws.proofs.Words.{Row, Control, greatest_limit, climb, State, control_at, parent_control, control_path, with_control, is_busy, rehome, without_control, limited, with_limit, IsIn, IsTreeOfControls, HasGoodLimit, IsCoherent, IsBelow}
 use Rattle.std.proofs.lemmas.Bool.Decides.{not_from_Decides}
 use Rattle.model_laws.proofs.Refusals.{Decides-busy}
-use Rattle.model_laws.proofs.Lists.{IsIn-from_filter, IsIn-from_map, find-filter, each_pushed}
+use Rattle.model_laws.proofs.Lists.{each_of_map, IsIn-from_filter, find-filter, each_pushed}
 use Rattle.model_laws.proofs.Chains.{Stops, Stops-at_root, climb_trans, climb_cases, IsIn-climb_first, IsIn-climb_parent, IsIn-climb_more, climb-same, climb_child}
-use Rattle.model_laws.proofs.Names.{group_in_use, session_in_use}
 use Rattle.model_laws.proofs.Rising.{IsRising-filter}
 use Rattle.model_laws.proofs.Trees.{control_to_root, control_at-Some, root_control_parent, control_path_listed}
 use Rattle.model_laws.proofs.Forests.{at-map, chain-map, IsTree-map, at-push_old, chain-push, IsIn-chain_new, IsTree-push}
-use Rattle.model_laws.proofs.Survivors.{IsCoherent-map_rows}
-use Rattle.model_laws.proofs.RowMaps.{HasGoodGroups-map, each_of_map}
-use Rattle.model_laws.proofs.Kept.{Keeps, Keeps-changed}
+use Rattle.model_laws.proofs.Survivors.{settled, Leaves, own_leaves}
 
 -- a coherent state with other control groups, where each home is
 IsCoherent-controls : (state : State) (controls : List Control) → IsCoherent state → IsTreeOfControls controls
@@ -75,26 +72,23 @@ module _ (controls : List Control) (tree : IsTreeOfControls controls) (stamp par
       (λ c i. path_old c.id (tree.chains c i)) (path_new on short) elder tree
 
 -- a new control group leaves a sound state
-pub make_control_keeps : (state : State) (stamp parent : ℕ) (c : Control) (reply : Reply) → IsSound state → IsBelow stamp state
+pub make_control_keeps : (state : State) (stamp parent : ℕ) (c : Control) → IsCoherent state → IsBelow stamp state
     → control_at state.controls parent ≡ Some c → nat_lt 64 (length (control_path state.controls parent)) ≡ false
-    → Keeps (stamp + 1) (changed (with_control state parent stamp) reply)
+    → IsCoherent (with_control state parent stamp) × IsBelow (stamp + 1) (with_control state parent stamp)
 unfolding with_control
-make_control_keeps state stamp parent c reply sound below found shallow =
-    let tree : IsTreeOfControls state.controls = sound.coherent.controls in
-    let on : IsIn 0 (control_path state.controls parent) = control_to_root state.controls tree parent c found in
-    Keeps-changed (stamp + 1) (with_control state parent stamp) _
-    (IsCoherent-controls state (with_made state.controls tree stamp parent below.controls) sound.coherent
-    (IsTreeOfControls-made state.controls tree stamp parent below.controls on (ltb-false 64 (length (control_path state.controls parent)) shallow)
-    (let at = control_at-Some state.controls parent c found in subst (λ x. x < stamp) at.1 (below.controls c at.0)))
-    (each_pushed HasGoodLimit state.controls (made state.controls tree stamp parent below.controls) sound.coherent.limits
-    (record { root = λ _. refl; bounded = λ limit some. absurd (cc) }))
-    (λ r i. let h = sound.coherent.homes r i in (h.0, at_old state.controls tree stamp parent below.controls r.home h.0 h.1)))
-    (record {
-      spaces = λ s i. omega (arith, below.spaces s i);
-      controls = each_pushed (λ (d : Control). d.id < stamp + 1) state.controls (made state.controls tree stamp parent below.controls)
-          (λ d j. omega (arith, below.controls d j)) (omega arith);
-      children = λ r i. omega (arith, below.children r i);
-    })
+make_control_keeps state stamp parent c sound below found shallow =
+    let on : IsIn 0 (control_path state.controls parent) = control_to_root state.controls sound.controls parent c found in
+    let at = control_at-Some state.controls parent c found in (
+      IsCoherent-controls state (with_made state.controls sound.controls stamp parent below.controls) sound
+          (IsTreeOfControls-made state.controls sound.controls stamp parent below.controls on (ltb-false 64 _ shallow) (subst (λ x. x < stamp) at.1 (below.controls c at.0)))
+          (each_pushed HasGoodLimit state.controls _ sound.limits (record { root = λ _. refl; bounded = λ limit some. absurd (cc) }))
+          (λ r i. let h = sound.homes r i in (h.0, at_old state.controls sound.controls stamp parent below.controls r.home h.0 h.1)),
+      record {
+        spaces = λ s i. omega (arith, below.spaces s i);
+        controls = each_pushed (λ (d : Control). d.id < stamp + 1) state.controls _ (λ d j. omega (arith, below.controls d j)) (omega arith);
+        children = λ r i. omega (arith, below.children r i);
+      },
+    )
 
 -- ---- the end of a control group
 
@@ -181,41 +175,46 @@ path_of_child controls id parent g found under c differs i = elim (climb_cases (
       IsIn-climb_more (parent_control controls) 64 parent c (subst (λ x. IsIn c (climb (parent_control controls) 64 x)) same r.2)
 ]
 
--- the end of a control group leaves a sound state
-pub remove_control_keeps : (state : State) (stamp id parent : ℕ) (c : Control) (reply : Reply) → IsSound state → IsBelow stamp state
-    → control_at state.controls id ≡ Some c → c.parent ≡ Some parent → is_busy state id ≡ false
-    → Keeps stamp (changed (without_control state id parent) reply)
-unfolding without_control is_busy
-remove_control_keeps state stamp id parent c reply sound below found under idle =
-    let tree : IsTreeOfControls state.controls = sound.coherent.controls in
-    let childless : (d : Control) → IsIn d state.controls → d.parent ≡ Some id → ⊥ = no_child state id idle in
-    let root : id ≡ 0 → ⊥ = not_root state.controls tree id parent c found under in
-    let up = parent_listed state.controls tree id parent c found under in
-    let differs : parent ≡ id → ⊥ = λ e. childless c (control_at-Some state.controls id c found).0 (under ∙ ap Some e) in
-    Keeps-changed stamp (without_control state id parent) _
-    (IsCoherent-controls (record state { rows = map (rehome id parent) state.rows }) (others state.controls tree id childless)
-    (IsCoherent-map_rows state (rehome id parent) sound.coherent (record {
-      names = λ r. refl;
-      parents = λ r. refl;
-      lives = λ r. refl;
-      group = λ r i. group_in_use state.rows r i;
-      session = λ r i. session_in_use state.rows r i;
-      children = sound.coherent.children;
-      groups = HasGoodGroups-map state.rows (rehome id parent) (λ r. refl) (λ r. refl) (λ r. refl) sound.coherent.groups;
-      homes =
-          λ r i. cond_both (r.home == id) parent r.home (λ x. (d : Control) × (control_at state.controls x ≡ Some d)) (λ e. up) (λ e. sound.coherent.homes r i);
-    }))
-    (IsTreeOfControls-others state.controls tree id childless root)
-    (λ d i. sound.coherent.limits d (IsIn-from_filter (λ c. not (c.id == id)) d state.controls i).0)
-    (each_of_map (λ r. (d : Control) × (control_at (others state.controls tree id childless) r.home ≡ Some d)) (rehome id parent) state.rows (λ r i.
-    cond_both (r.home == id) parent r.home (λ x. (d : Control) × (control_at (others state.controls tree id childless) x ≡ Some d))
-    (λ e. (up.0, other_at state.controls tree id childless parent differs ∙ up.1))
-    (λ e. let h = sound.coherent.homes r i in (h.0, other_at state.controls tree id childless r.home (eqb-false r.home id e) ∙ h.1)))))
-    (record {
-      spaces = λ s i. omega (arith, below.spaces s i);
-      controls = λ d i. omega (arith, below.controls d (IsIn-from_filter (λ c. not (c.id == id)) d state.controls i).0);
-      children = each_of_map (λ r. r.children_space < stamp) (rehome id parent) state.rows (λ r i. omega (arith, below.children r i));
-    })
+-- the end of a control group leaves a coherent state
+pub remove_control_leaves : (state : State) (id parent : ℕ) (c : Control) → IsCoherent state
+    → control_at state.controls id ≡ Some c → c.parent ≡ Some parent → is_busy state id ≡ false → Leaves state (without_control state id parent)
+unfolding without_control
+remove_control_leaves state id parent c sound found under idle = (
+  IsCoherent-controls (record state { rows = map (rehome id parent) state.rows }) left rows.0 (IsTreeOfControls-others state.controls tree id childless root)
+      (λ d i. sound.limits d (IsIn-from_filter _ d state.controls i).0)
+      (each_of_map (λ r. (d : Control) × (control_at left r.home ≡ Some d)) (rehome id parent) state.rows (λ r i.
+      cond_both (r.home == id) parent r.home (λ x. (d : Control) × (control_at left x ≡ Some d))
+      (λ e. (up.0, other_at state.controls tree id childless parent differs ∙ up.1))
+      (λ e. let h = sound.homes r i in (h.0, other_at state.controls tree id childless r.home (eqb-false r.home id e) ∙ h.1)))),
+  λ stamp below. record {
+    spaces = below.spaces;
+    controls = λ d i. below.controls d (IsIn-from_filter _ d state.controls i).0;
+    children = (rows.1 stamp below).children;
+  },
+)
+  where
+    tree : IsTreeOfControls state.controls
+    tree = sound.controls
+
+    childless : (d : Control) → IsIn d state.controls → d.parent ≡ Some id → ⊥
+    childless = no_child state id idle
+
+    root : id ≡ 0 → ⊥
+    root = not_root state.controls tree id parent c found under
+
+    up : (d : Control) × (control_at state.controls parent ≡ Some d)
+    up = parent_listed state.controls tree id parent c found under
+
+    differs : parent ≡ id → ⊥
+    differs e = childless c (control_at-Some state.controls id c found).0 (under ∙ ap Some e)
+
+    left : List Control
+    left = others state.controls tree id childless
+
+    rows : Leaves state (record state { rows = map (rehome id parent) state.rows })
+    rows = own_leaves state (rehome id parent) sound (λ r. refl) (λ r i.
+        let s = settled state sound r i in
+        (s.0, s.1, s.2, cond_both (r.home == id) parent r.home (λ x. (d : Control) × (control_at state.controls x ≡ Some d)) (λ e. up) (λ e. s.3), s.4))
 
 -- ---- a limit
 
@@ -249,22 +248,20 @@ HasGoodLimit-limited controls tree id parent limit g found under good c old =
     bounded None e l some = absurd (cc)
     bounded (Some m) e l some = grind (arith, ltb-false greatest_limit m)
 
--- a limit leaves a sound state
-pub set_limit_keeps : (state : State) (stamp id parent : ℕ) (limit : Option ℕ) (g : Control) (reply : Reply) → IsSound state → IsBelow stamp state
+-- a limit leaves a coherent state
+pub set_limit_leaves : (state : State) (id parent : ℕ) (limit : Option ℕ) (g : Control) → IsCoherent state
     → control_at state.controls id ≡ Some g → g.parent ≡ Some parent → option_map_or (nat_lt greatest_limit) limit false ≡ false
-    → Keeps stamp (changed (with_limit state id limit) reply)
+    → Leaves state (with_limit state id limit)
 unfolding with_limit
-set_limit_keeps state stamp id parent limit g reply sound below found under good =
-    Keeps-changed stamp (with_limit state id limit) _
-    (IsCoherent-controls state (map (limited id limit) state.controls) sound.coherent
-    (IsTreeOfControls-map state.controls (limited id limit) (λ c. refl) (λ c. refl) sound.coherent.controls)
-    (λ d i. let q = IsIn-from_map (limited id limit) d state.controls i in
-    subst HasGoodLimit (sym q.2) (HasGoodLimit-limited state.controls sound.coherent.controls id parent limit g found under good q.0 (sound.coherent.limits q.0 q.1)))
-    (λ r i.
-    let h = sound.coherent.homes r i in
-    (limited id limit h.0, control_at-map state.controls (limited id limit) (λ c. refl) (λ c. refl) r.home ∙ ap (option_map (limited id limit)) h.1)))
-    (record {
-      spaces = λ s i. omega (arith, below.spaces s i);
-      controls = λ c i. let r = IsIn-from_map (limited id limit) c state.controls i in omega (arith, below.controls r.0 r.1, ap (λ (d : Control). d.id) r.2);
-      children = λ r i. omega (arith, below.children r i);
-    })
+set_limit_leaves state id parent limit g sound found under good = (
+  IsCoherent-controls state (map (limited id limit) state.controls) sound
+      (IsTreeOfControls-map state.controls (limited id limit) (λ c. refl) (λ c. refl) sound.controls)
+      (each_of_map HasGoodLimit (limited id limit) state.controls (λ c i.
+      HasGoodLimit-limited state.controls sound.controls id parent limit g found under good c (sound.limits c i)))
+      (λ r i. let h = sound.homes r i in (limited id limit h.0, control_at-map state.controls (limited id limit) (λ c. refl) (λ c. refl) r.home ∙ ap (option_map (limited id limit)) h.1)),
+  λ stamp below. record {
+    spaces = below.spaces;
+    controls = each_of_map (λ c. c.id < stamp) (limited id limit) state.controls below.controls;
+    children = below.children;
+  },
+)

@@ -1,18 +1,17 @@
 -- Exit leaves a sound state.
-use Rattle.std.proofs.Common.{◌≡◌, ℕ, zero, suc, ◌+◌, ◌<◌, ◌≤◌, Bool, true, false, List, map, length, Option, Some, None, refl, sym, ap, ◌∙◌, subst, ◌⊎◌, inl, inr, arith, option_map, option_and_then, if◌then◌else◌}
+use Rattle.std.proofs.Common.{◌≡◌, ℕ, zero, suc, ◌+◌, ◌≤◌, Bool, true, false, List, map, length, Option, Some, None, refl, sym, ap, ◌∙◌, subst, ◌⊎◌, inl, inr, arith, option_map, option_and_then, if◌then◌else◌}
 use Rattle.std.proofs.lemmas.Bool.{cases_eq}
-use Rattle.model_laws.proofs.Words.{Name, Row, Ended, Exited, climb, State, path_up, number, root_number, is_parent, is_live, row_at, is_init, parent_number, new_parent, row_after_exit, rows_after_exit, IsIn, HasGoodParents, IsCoherent, IsSound, IsBelow, Reply, changed}
+use Rattle.model_laws.proofs.Words.{Name, Row, Ended, Exited, climb, State, path_up, number, root_number, is_parent, is_live, row_at, is_init, parent_number, row_after_exit, rows_after_exit, IsIn, HasGoodParents, IsCoherent}
 use Rattle.model_laws.specs.ParentLaws.{TakesOrphans}
 use Rattle.model_laws.proofs.NearestSubreaper.{climbs, takes_orphans}
 use Rattle.model_laws.proofs.SpaceMaps.{HasGoodParents-kept}
-use Rattle.model_laws.proofs.Lists.{IsIn-map, filter-all}
-use Rattle.model_laws.proofs.Names.{is_parent-true, is_parent-from, same_name-true, is_numbered-from, group_in_use, session_in_use}
-use Rattle.model_laws.proofs.Rising.{unique_key}
+use Rattle.model_laws.proofs.Lists.{IsIn-map}
+use Rattle.model_laws.proofs.Names.{is_parent-true, is_parent-from, same_name-true, is_numbered-from}
+use Rattle.model_laws.proofs.Rising.{unique_key, row_at-map}
 use Rattle.model_laws.proofs.Trees.{row_at-listed, path_trans, path_antisym}
-use Rattle.model_laws.proofs.RowMaps.{row_at-map, each_of_map, HasGoodGroups-map}
 use Rattle.model_laws.proofs.Ancestry.{Far, Far-unique, Far-same, IsIn-roots, chain-in_rows, row_on_tree, root_init_row, top_row, row_far, parent_row, Climbs, one_step}
-use Rattle.model_laws.proofs.Survivors.{all_stay, IsCoherent-all_stay}
-use Rattle.model_laws.proofs.Kept.{Keeps, Keeps-changed, IsBelow-rows}
+use Rattle.model_laws.proofs.Survivors.{Leaves, leaves, all_stay, all_there, settled, pairs}
+use Rattle.std.proofs.lemmas.List.{map-id}
 
 -- ---- the rows after a task ended
 
@@ -177,15 +176,12 @@ module _ (state : State) (sound : IsCoherent state) (task heir : Row) (ended : E
               chain = chain;
             }
 
-    IsCoherent-exit : IsCoherent (record state { rows = rows_after })
-    IsCoherent-exit = IsCoherent-all_stay state after sound (λ r. refl) (record {
-      group = group_in_use state.rows;
-      session = session_in_use state.rows;
-      parents = λ r i stays. subst (λ rows. HasGoodParents (map after rows) state.spaces (after r))
-          (sym (filter-all all_stay state.rows (λ x j. refl))) (parents_after r i);
-      children = sound.children;
-      groups = HasGoodGroups-map state.rows after (λ r. refl) (λ r. refl) (λ r. refl) sound.groups;
-      homes = sound.homes;
+    exit_leaves : Leaves state (record state { rows = rows_after })
+    exit_leaves = leaves state all_stay after (λ s. s) sound (record {
+      names = λ r. refl;
+      rows = settled state sound;
+      groups = pairs state.rows sound.groups;
+      parents = λ r i stays. subst (λ rows. HasGoodParents rows state.spaces (after r)) (sym (all_there after state.rows)) (parents_after r i);
       spaces = λ s. (refl, refl);
       standing = λ s i e. (
         e,
@@ -199,7 +195,7 @@ module _ (state : State) (sound : IsCoherent state) (task heir : Row) (ended : E
       );
       fallen = λ s i e. let em = sound.fallen s i e in (λ r j stays live. em.ended r j (lived r live), em.below);
       root = sound.root;
-    })
+    }) _ _ (all_there after state.rows) (map-id state.spaces)
 
 -- ---- who takes the children
 
@@ -211,10 +207,10 @@ nearer f top (suc i) (suc k) n m c far =
     let r = nearer f top i k c.0 m c.2 (subst (Far f k) (one_step f n far.0 c.0 far.1 c.1) far.2) in (r.0, r.1, omega (arith, r.2))
 
 -- where one who takes orphans takes the children, the state is coherent
-IsCoherent-heir : (state : State) (sound : IsCoherent state) (task heir : Row) (ended : Ended) → IsIn task state.rows → is_live task ≡ true
+heir_leaves : (state : State) (sound : IsCoherent state) (task heir : Row) (ended : Ended) → IsIn task state.rows → is_live task ≡ true
     → (number state.spaces task.name task.name.space ≡ Some 1 → ⊥) → TakesOrphans state task heir
-    → IsCoherent (record state { rows = map (row_after_exit task (Some heir.name) ended) state.rows })
-IsCoherent-heir state sound task heir ended there lives no_init takes = elim takes.who [
+    → Leaves state (record state { rows = map (row_after_exit task (Some heir.name) ended) state.rows })
+heir_leaves state sound task heir ended there lives no_init takes = elim takes.who [
   | inl near ↦
       let f : ℕ → Option ℕ = parent_number state.rows in
       let far = row_far state sound task there in
@@ -223,28 +219,24 @@ IsCoherent-heir state sound task heir ended there lives no_init takes = elim tak
       let other : heir.name ≡ task.name → ⊥ = λ e.
       (let same : h.0 ≡ far.0 = Far-unique f (top_row state sound) h.0 far.0 (root_number task.name)
       (subst (Far f h.0) (ap root_number e) h.1) far.1 in omega (arith, h.2)) in
-      IsCoherent-exit state sound task heir ended there lives takes.there takes.lives takes.beside other no_init
+      exit_leaves state sound task heir ended there lives takes.there takes.lives takes.beside other no_init
       (far_from_ancestor state sound task heir ended there lives takes.there takes.lives takes.beside other no_init h.0 far.0 far.1
       (omega (arith, h.2)) (root_number heir.name) h.1)
   | inr init ↦
       let other : heir.name ≡ task.name → ⊥ = λ e. no_init (subst (λ a. number state.spaces a task.name.space ≡ Some 1) e init.1) in
-      IsCoherent-exit state sound task heir ended there lives takes.there takes.lives takes.beside other no_init
+      exit_leaves state sound task heir ended there lives takes.there takes.lives takes.beside other no_init
       (far_from_init state sound task heir ended there lives takes.there takes.lives takes.beside other no_init
       (subst (λ x. number state.spaces heir.name x ≡ Some 1) (sym takes.beside) init.1))
 ]
 
 -- ---- the call
 
--- an exit that lets no namespace fall leaves a sound state
-pub exit_keeps : (state : State) (stamp status : ℕ) (caller : Row) (reply : Reply) → IsSound state → IsBelow stamp state
-    → IsIn caller state.rows → is_live caller ≡ true → is_init state caller ≡ false
-    → Keeps stamp (changed (record state { rows = rows_after_exit state caller status }) reply)
+-- an exit that lets no namespace fall leaves a coherent state
+pub handed_on_leaves : (state : State) (status : ℕ) (caller : Row) → IsCoherent state → IsIn caller state.rows → is_live caller ≡ true
+    → is_init state caller ≡ false → Leaves state (record state { rows = rows_after_exit state caller status })
 unfolding rows_after_exit
-exit_keeps state stamp status caller reply sound below i live none =
+handed_on_leaves state status caller sound i live none =
     let no_init : number state.spaces caller.name caller.name.space ≡ Some 1 → ⊥ = λ e. (let yes : is_init state caller ≡ true = is_numbered-from state.spaces caller.name caller.name.space 1 e in cc) in
-    let h = takes_orphans state caller sound.coherent i live in
-    Keeps-changed stamp (record state { rows = rows_after_exit state caller status }) _
-    (subst (λ o. IsCoherent (record state { rows = map (row_after_exit caller o (Exited status)) state.rows })) (sym h.1)
-    (IsCoherent-heir state sound.coherent caller h.0 (Exited status) i live no_init h.2))
-    (IsBelow-rows stamp state _ below (each_of_map (λ r. r.children_space < stamp)
-    (row_after_exit caller (new_parent state caller) (Exited status)) state.rows below.children))
+    let h = takes_orphans state caller sound i live in
+    subst (λ o. Leaves state (record state { rows = map (row_after_exit caller o (Exited status)) state.rows })) (sym h.1)
+    (heir_leaves state sound caller h.0 (Exited status) i live no_init h.2)

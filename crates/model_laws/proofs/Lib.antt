@@ -9,8 +9,6 @@ pub mod Rising
 pub mod Trees
 pub mod Forests
 pub mod Sweeps
-pub mod RowMaps
-pub mod Placed
 pub mod Kept
 pub mod ControlsKept
 pub mod Ancestry

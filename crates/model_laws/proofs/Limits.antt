@@ -103,4 +103,4 @@ pub run_within : (opening : State) (first : ℕ) (entries : List Entry) → IsSo
 run_within opening first [] sound below = tt
 run_within opening first (e ∷ entries) sound below =
     let k = step_keeps opening first e.call sound below in
-    (step_within opening first e.call _ (step_comes opening first e.call) k.sound, run_within (step opening first e.call).state (first + 1) entries k.sound k.below)
+    (step_within opening first e.call _ (step_comes opening first e.call) k.0, run_within (step opening first e.call).state (first + 1) entries k.0 k.1)

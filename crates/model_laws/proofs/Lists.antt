@@ -61,6 +61,10 @@ pub IsIn-from_map : {X Y : Type 0} (f : X → Y) (y : Y) (xs : List X) → IsIn 
 IsIn-from_map f y [] h = elim h [ ]
 IsIn-from_map f y (x ∷ xs) h = grind (arith, IsIn-from_map f y xs)
 
+-- what holds of the image of each element holds of each element of the image
+pub each_of_map : {X Y : Type 0} (P : Y → Type 0) (f : X → Y) (xs : List X) → ((x : X) → IsIn x xs → P (f x)) → (y : Y) → IsIn y (map f xs) → P y
+each_of_map P f xs h y i = let q = IsIn-from_map f y xs i in subst P (sym q.2) (h q.0 q.1)
+
 -- what a filter keeps is in the list and passes
 pub IsIn-from_filter : {X : Type 0} (p : X → Bool) (x : X) (xs : List X) → IsIn x (filter p xs) → IsIn x xs × (p x ≡ true)
 IsIn-from_filter p x [] h = elim h [ ]

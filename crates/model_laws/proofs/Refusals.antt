@@ -226,7 +226,7 @@ Decides-negative (pos n) = (λ e. absurd (cc), λ f. let g : pos n ≡ negsuc f.
 Decides-negative (negsuc n) = (λ e. (n, refl), λ f. refl)
 
 -- a group that some task is in
-Decides-members : (state : State) (group : Name) → Decides (has_members state group) ((r : Row) × IsIn r state.rows × (r.group ≡ group))
+pub Decides-members : (state : State) (group : Name) → Decides (has_members state group) ((r : Row) × IsIn r state.rows × (r.group ≡ group))
 Decides-members state group =
     Decides-like (has_members state group) (λ f. (f.0, f.1, same_name-true f.0.group group f.2)) (λ f. (f.0, f.1, same_name-refl f.0.group group f.2))
     (Decides-any (λ row. same_name row.group group) state.rows)

@@ -11,7 +11,7 @@ use Rattle.model_laws.proofs.Inserts.{IsIn-insert_new, IsIn-insert_old}
 use Rattle.model_laws.proofs.Sweeps.{name_number}
 use Rattle.model_laws.proofs.Calls.{MayFork, Comes, still, born, born_first, no_answer}
 use Rattle.model_laws.proofs.Refusals.{step_comes}
-use Rattle.model_laws.proofs.ForkKept.{IsReady, IsReady-old, IsReady-new, with_new, fresh, IsCoherent-forked}
+use Rattle.model_laws.proofs.ForkKept.{IsReady, IsReady-old, IsReady-new, with_new, fresh, forked_coherent}
 use Rattle.model_laws.proofs.SpaceMaps.{number-map_spaces}
 use Rattle.model_laws.proofs.StepKept.{step_keeps, run_keeps}
 
@@ -39,7 +39,7 @@ module _ (old : State) (sound : IsCoherent old) (spaces : List Space) (caller : 
 
   -- which is coherent
   made_coherent : IsCoherent made
-  made_coherent = IsCoherent-forked old sound spaces caller t ready there live may
+  made_coherent = (forked_coherent old sound spaces caller t ready there live may).0
 
   -- what was in use still is
   in_use_after : (a : Name) → IsIn a (names_in_use old.rows) → IsIn a (names_in_use made.rows)
@@ -115,5 +115,5 @@ no_reuse opening first entries sound below run k e child root row name at used t
     let below : IsBelow (first + k) now = subst (λ n. IsBelow (first + n) now) long kept.1 in
     (comes_fresh now (first + k) e.call _ (step_comes now (first + k) e.call) kept.0 below name used) child root row
     (Along-at RepliesAsOne opening first entries run k e at ∙ told)
-    (step_keeps now (first + k) e.call kept.0 below).sound (subst (λ (x : State). row_at x.rows root ≡ Some row) next found)
+    (step_keeps now (first + k) e.call kept.0 below).0 (subst (λ (x : State). row_at x.rows root ≡ Some row) next found)
     (subst (λ (x : State). ShareNumber x name row.name) next share)

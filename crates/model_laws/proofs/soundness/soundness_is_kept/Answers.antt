@@ -4,7 +4,7 @@ use Rattle.model_laws.proofs.soundness.soundness_is_kept.Goals as goal
 
 pub returns : goal.returns
 returns c = record {
-  step = λ state stamp call sound below. let k = step_keeps state stamp call sound below in (k.sound, k.below);
-  plain = λ state stamp call plain sound below. (plain_keeps state stamp call _ (step_comes state stamp call) plain sound below).below;
+  step = λ state stamp call sound below. step_keeps state stamp call sound below;
+  plain = λ state stamp call plain sound below. (plain_keeps state stamp call _ (step_comes state stamp call) plain sound).1 stamp below;
   run = run_keeps;
 }
