@@ -41,6 +41,13 @@ no_further f top (suc i) zero n x a b = let none : f n ≡ None = subst (λ z. f
 no_further f top (suc i) (suc j) n x a b =
     let l = no_further f top i j a.0 x a.2 (subst (λ z. Climbs f i z x) (one_step f n b.0 a.0 b.1 a.1) b.2) in omega (arith, l)
 
+-- what is so many parents above is so much nearer to number 1
+pub nearer : (f : ℕ → Option ℕ) → f 1 ≡ None → (i k n m : ℕ) → Climbs f i n m → Far f k n → (j : ℕ) × Far f j m × (j + i ≡ k)
+nearer f top zero k n m c far = (k, subst (Far f k) c far, omega arith)
+nearer f top (suc i) zero n m c far = absurd (let none : f n ≡ None = subst (λ x. f x ≡ None) (sym far) top in let some : f n ≡ Some c.0 = c.1 in cc)
+nearer f top (suc i) (suc k) n m c far =
+    let r = nearer f top i k c.0 m c.2 (subst (Far f k) (one_step f n far.0 c.0 far.1 c.1) far.2) in (r.0, r.1, omega (arith, r.2))
+
 -- and a number that is so far has a chain that meets it
 chain-from_Far : (f : ℕ → Option ℕ) (k n : ℕ) → Far f k n → IsIn 1 (climb f (suc k) n)
 chain-from_Far f zero n e = subst (λ x. IsIn 1 (climb f 1 x)) (sym e) (IsIn-climb_first f 0 1)
@@ -192,6 +199,14 @@ module _ (state : State) (sound : IsCoherent state) where
       let g = (sound.parents u.0 at.0).good u.1 u.3 in
       (u.0, g.lives.0, at.0, at.1, g.lives.1, ap root_number g.lives.2 ∙ u.4, g.lives.3, u.3 ∙ ap Some (sym g.lives.2))
 
+  -- the parent of a row, by its number
+  pub row_parent : (x : Row) → IsIn x state.rows → (m : ℕ) → parent_number state.rows (root_number x.name) ≡ Some m
+      → (q : Row) × IsIn q state.rows × (root_number q.name ≡ m) × (is_live q ≡ true) × (x.parent ≡ Some q.name)
+  row_parent x i m e =
+      let u = parent_row (root_number x.name) m e in
+      let same : u.0 ≡ x = unique_key (λ (r : Row). root_number r.name) state.rows sound.rows_rise u.0 x u.2 i u.3 in
+      (u.1, u.4, u.5, u.6, ap (λ (r : Row). r.parent) (sym same) ∙ u.7)
+
   -- rows whose parents are among them keep their parents, under the names that they had
   module _ (after : List Row) (rise : IsRising (roots after)) (g : Row → Row) (Stays : Row → Type 0)
       (there : (x : Row) → IsIn x state.rows → Stays x → IsIn (g x) after × ((g x).name ≡ x.name) × ((g x).parent ≡ x.parent))
@@ -213,9 +228,8 @@ module _ (state : State) (sound : IsCoherent state) where
     -- which is such a row
     next : (n m : ℕ) → IsAt n → parent_number state.rows n ≡ Some m → IsAt m
     next n m s e =
-        let u = parent_row n m e in
-        let same : s.0 ≡ u.0 = unique_key (λ (x : Row). root_number x.name) state.rows sound.rows_rise s.0 u.0 s.1 u.2 (s.2 ∙ sym u.3) in
-        (u.1, u.4, u.5, up s.0 u.1 s.1 u.4 s.3 (ap (λ (x : Row). x.parent) same ∙ u.7) u.6)
+        let u = row_parent s.0 s.1 m (subst (λ k. parent_number state.rows k ≡ Some m) (sym s.2) e) in
+        (u.0, u.1, u.2, up s.0 u.0 s.1 u.1 s.3 u.4 u.3)
 
     -- so it is as far from number 1 as it was, which is there without a parent
     pub far_kept : (x : Row) → IsIn x state.rows → Stays x

@@ -6,9 +6,8 @@ use Rattle.model_laws.proofs.Words.{Row, IsIn, climb, State, root_number, is_liv
 use Rattle.model_laws.proofs.Names.{own_name_in_use, is_numbered-true, is_numbered-from, number-on_path}
 use Rattle.model_laws.proofs.Lists.{find-only}
 use Rattle.model_laws.specs.ParentLaws.{IsAbove, IsNearestSubreaper, HasNoSubreaper, TakesOrphans}
-use Rattle.model_laws.proofs.Rising.{unique_key}
 use Rattle.model_laws.proofs.Trees.{row_at-listed, path_first, space_at-Some, same_row}
-use Rattle.model_laws.proofs.Ancestry.{parent_number-at, top_row, parent_row, Climbs, one_step, way_to_one, no_further}
+use Rattle.model_laws.proofs.Ancestry.{parent_number-at, top_row, row_parent, Climbs, one_step, way_to_one, no_further}
 
 -- what is found along a chain is so many parents above its beginning, and nothing nearer passes
 find-climb : (f : ℕ → Option ℕ) (p : ℕ → Bool) (k n m : ℕ) → find p (climb f k n) ≡ Some m
@@ -40,10 +39,6 @@ module _ (state : State) (sound : IsCoherent state) where
   abbrev parent_of : ℕ → Option ℕ
   parent_of = parent_number state.rows
 
-  -- a row is the one at its number
-  row_is : (r q : Row) → IsIn r state.rows → IsIn q state.rows → root_number r.name ≡ root_number q.name → r ≡ q
-  row_is r q i j e = unique_key (λ (x : Row). root_number x.name) state.rows sound.rows_rise r q i j e
-
   -- a row's parent by its number
   parent_is : (r : Row) → IsIn r state.rows → (parent : Row) → r.parent ≡ Some parent.name → parent_of (root_number r.name) ≡ Some (root_number parent.name)
   parent_is r i parent e = parent_number-at state.rows (root_number r.name) r (row_at-listed state.rows sound.rows_rise r i) ∙ ap (option_map root_number) e
@@ -59,10 +54,9 @@ module _ (state : State) (sound : IsCoherent state) where
       → (a : Row) × IsIn a state.rows × (is_live a ≡ true) × (root_number a.name ≡ m) × IsAbove state.rows k a task
   above zero m task i live e = (task, i, live, e, refl)
   above (suc k) m task i live c =
-      let u = parent_row state sound (root_number task.name) c.0 c.1 in
-      let own : u.0 ≡ task = row_is u.0 task u.2 i u.3 in
-      let r = above k m u.1 u.4 u.6 (subst (λ z. Climbs parent_of k z m) (sym u.5) c.2) in
-      (r.0, r.1, r.2, r.3, (u.1, u.4, ap (λ (x : Row). x.parent) (sym own) ∙ u.7, r.4))
+      let u = row_parent state sound task i c.0 c.1 in
+      let r = above k m u.0 u.1 u.3 (subst (λ z. Climbs parent_of k z m) (sym u.2) c.2) in
+      (r.0, r.1, r.2, r.3, (u.0, u.1, u.4, r.4))
 
   -- ---- the nearest
 
