@@ -16,9 +16,9 @@ IsFull-above : (ns : List ℕ) (low high : ℕ) → high ≤ least_free ns low �
 IsFull-above ns low high h n from below = (LeastFree.least_free-IsLeastFree ns low).least n from (omega arith)
 
 -- the draw is the cyclic one
-pub cyclic_draw-IsCyclicDraw : (pid_max cursor : ℕ) (ns : List ℕ) → IsCyclicDraw pid_max cursor ns (cyclic_draw pid_max cursor ns)
+pub draw_is_least : (pid_max cursor : ℕ) (ns : List ℕ) → IsCyclicDraw pid_max cursor ns (cyclic_draw pid_max cursor ns)
 unfolding cyclic_draw
-cyclic_draw-IsCyclicDraw pid_max cursor ns =
+draw_is_least pid_max cursor ns =
     cond_both (nat_lt upper pid_max) (Some upper) (cond (nat_lt lower pid_max) (Some lower) None) (IsCyclicDraw pid_max cursor ns)
     (λ e. inl (IsLeastFree-below ns (max cursor low) pid_max (ltb-true _ _ e)))
     (λ e. cond_both (nat_lt lower pid_max) (Some lower) None (IsCyclicDraw pid_max cursor ns)

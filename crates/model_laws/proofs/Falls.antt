@@ -2,8 +2,9 @@
 use Rattle.std.proofs.Common.{◌≡◌, ℕ, Bool, true, false, not, Option, Some, None, refl, sym, ap, ◌∙◌, subst, filter, is_some, arith}
 use Rattle.std.specs.Option.{option_map_or}
 use Rattle.std.proofs.lemmas.Bool.{and_left, or_from, or_right, not_from_false, not-true, false_from_ne_true}
-use Rattle.model_laws.proofs.Words.{Name, Row, Space, Life, Zombie, Exited, Killed, Done, IsIn, State, path_up, number, is_within, is_member, same_name, Outcome, sweep, is_init, has_parent_within, goes_in_fall, row_after_fall, rows_after_fall, fallen_below, fall, IsSound, Exit, live_row}
-use Rattle.model_laws.specs.FallLaws.{IsMember, HasMemberParent, IsOtherMember, HasFallen}
+use Rattle.model_laws.proofs.Words.{Name, Row, Space, Life, Zombie, Exited, Killed, Done, IsIn, State, path_up, number, is_within, is_member, same_name, Outcome, sweep, is_init, has_parent_within, goes_in_fall, row_after_fall, rows_after_fall, fallen_below, fall, IsSound, Exit}
+use Rattle.model_laws.specs.FallLaws.{IsMember, HasMemberParent, IsOtherMember, HasFallen, ExitOfInitFalls}
+use Rattle.model_laws.proofs.Refusals.{step_comes}
 use Rattle.model_laws.proofs.Lists.{IsIn-map, IsIn-from_map, IsIn-filter, IsIn-from_filter, IsIn-from_contains, contains-from_IsIn}
 use Rattle.model_laws.proofs.Names.{same_name-true, same_name-refl, own_name_in_use, number-on_path, number-within}
 use Rattle.model_laws.proofs.Rising.{unique_key}
@@ -106,18 +107,12 @@ module _ (state : State) (sound : IsSound state) (init : Row) (status : ℕ) (th
           cc
 
 -- the exit of a namespace's init lets the namespace fall
-pub comes_fallen : (state : State) (stamp n status : ℕ) (o : Outcome) → Comes state stamp (Exit n status) o → (init : Row) → IsSound state
-    → live_row state.rows n ≡ Some init → is_init state init ≡ true → o.reply ≡ Done → HasFallen state o.state init status
+pub exit_of_init_falls : ExitOfInitFalls
 unfolding sweep fall
-comes_fallen state stamp n status o (still _ reply answer) init sound found one told = absurd (no_answer reply Done answer refl told)
-comes_fallen state stamp n status o (handed_on _ _ caller there none) init sound found one told =
-    absurd (let same : init ≡ caller = cc in let yes : is_init state caller ≡ true = subst (λ (x : Row). is_init state x ≡ true) same one in cc)
-comes_fallen state stamp n status o (fell _ _ caller there deep is) init sound found one told =
-    let same : init ≡ caller = cc in
-    subst (λ (x : Row). HasFallen state (sweep (fall state x status)) init status) same (falls (live_row-Some state.rows n init found).0)
+exit_of_init_falls state stamp n status init sound found one told = go _ (step_comes state stamp (Exit n status)) told
   where
-    falls : IsIn init state.rows → HasFallen state (sweep (fall state init status)) init status
-    falls there = fallen_rows state sound init status there (sweep (fall state init status)) refl
+    falls : HasFallen state (sweep (fall state init status)) init status
+    falls = fallen_rows state sound init status (live_row-Some state.rows n init found).0 (sweep (fall state init status)) refl
         (λ s t i up j e.
         let f = from_kept (fall state init status) t j in
         let q = IsIn-from_map (fallen_below state.spaces init.name.space) t state.spaces f.0 in
@@ -133,3 +128,9 @@ comes_fallen state stamp n status o (fell _ _ caller there deep is) init sound f
         (to_kept (fall state init status) (fallen_below state.spaces init.name.space s) (IsIn-map (fallen_below state.spaces init.name.space) s state.spaces i)
         (and_left (fallen_below state.spaces init.name.space s).fallen _ stands)))
         refl
+
+    go : (o : Outcome) → Comes state stamp (Exit n status) o → o.reply ≡ Done → HasFallen state o.state init status
+    go o (still _ reply answer) told = absurd (no_answer reply Done answer refl told)
+    go o (handed_on _ _ caller there none) told =
+        absurd (let same : caller ≡ init = cc in let no : is_init state init ≡ false = rw same at none in cc)
+    go o (fell _ _ caller there deep is) told = let same : caller ≡ init = cc in rw same falls

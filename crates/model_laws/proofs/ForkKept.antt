@@ -7,7 +7,7 @@ use Rattle.model_laws.proofs.SpaceMaps.{IsWellNumbered-kept, HasGoodParents-kept
 use Rattle.model_laws.specs.Draws.{IsCyclicDraw, IsLeastFree}
 use Rattle.model_laws.proofs.Lists.{IsIn-append_right, IsIn-from_map, IsIn-reverse, contains-from_IsIn, each_pushed, no_element}
 use Rattle.model_laws.proofs.Names.{user_of_name, IsIn-names_in_use, own_name_in_use, group_in_use, number-within, number-off_path, number-same_path, IsIn-taken, user_of_number}
-use Rattle.model_laws.proofs.Draws.{cyclic_draw-IsCyclicDraw}
+use Rattle.model_laws.proofs.Draws.{draw_is_least}
 use Rattle.model_laws.proofs.Trees.{IsOnTree, IsOnTree-listed, IsOnTree-name, space_at-Some, path_first, path_listed, row_at-listed}
 use Rattle.model_laws.proofs.Forests.{at-push_old, at-push_none, at-push_new, not_there, chain-push, chain-new_cases, IsIn-chain_new, IsTree-push}
 use Rattle.model_laws.proofs.Survivors.{Leaves, spaces_leave}
@@ -333,7 +333,7 @@ module _ (state : State) (sound : IsCoherent state) (stamp : ℕ) (below : IsBel
   first_drawn caller may =
       let n : ℕ = drawn (with_space state p stamp) stamp in
       let f = drawn-free (with_space state p stamp) (path_up with_new stamp) may.numbers stamp (path_first with_new stamp) in
-      let c : IsCyclicDraw state.pid_max 0 [] (cyclic_draw state.pid_max 0 []) = cyclic_draw-IsCyclicDraw state.pid_max 0 [] in
+      let c : IsCyclicDraw state.pid_max 0 [] (cyclic_draw state.pid_max 0 []) = draw_is_least state.pid_max 0 [] in
       let d : cyclic_draw state.pid_max 0 [] ≡ Some n = ap (λ k. cyclic_draw state.pid_max k []) (sym new_cursor) ∙ ap (cyclic_draw state.pid_max (cursor_of (with_space state p stamp) stamp)) (sym nothing_taken) ∙ f.3 in
       least n (subst (IsCyclicDraw state.pid_max 0 []) d c)
     where

@@ -62,42 +62,42 @@ on_path spaces name s root on i =
     }
 
 -- a name's number in a namespace on its path is the entry at the level of that namespace
-pub number-level : (spaces : List Space) (name : Name) (s : ℕ) → parent_space spaces 0 ≡ None → IsIn 0 (path_up spaces name.space)
+pub number_is_at_level : (spaces : List Space) (name : Name) (s : ℕ) → parent_space spaces 0 ≡ None → IsIn 0 (path_up spaces name.space)
     → IsIn s (path_up spaces name.space)
     → number spaces name s ≡ slice_get name.numbers.items (level spaces s)
 unfolding number
-number-level spaces name s root on i =
+number_is_at_level spaces name s root on i =
     let p = on_path spaces name s root on i in
     ap (λ xs. beside s xs name.numbers.items) p.cut
     ∙ beside-place s p.outer p.inner name.numbers.items p.once
     ∙ ap (slice_get name.numbers.items) p.deep
 
 -- its numbers from that namespace inwards are those from that level on
-pub numbers_from-level : (spaces : List Space) (name : Name) (s : ℕ) → parent_space spaces 0 ≡ None → IsIn 0 (path_up spaces name.space)
+pub numbers_are_from_level : (spaces : List Space) (name : Name) (s : ℕ) → parent_space spaces 0 ≡ None → IsIn 0 (path_up spaces name.space)
     → IsIn s (path_up spaces name.space)
     → numbers_from spaces name s ≡ drop (level spaces s) name.numbers.items
 unfolding numbers_from
-numbers_from-level spaces name s root on i =
+numbers_are_from_level spaces name s root on i =
     let p = on_path spaces name s root on i in
     ap (λ xs. beside_from s xs name.numbers.items) p.cut
     ∙ beside_from-place s p.outer p.inner name.numbers.items p.once
     ∙ ap (λ k. drop k name.numbers.items) p.deep
 
 -- the sweep takes no namespace in which a name in use has a number
-pub sweep-numbered : (state : State) (s : Space) (name : Name) (n : ℕ) → IsIn s state.spaces → IsIn name (names_in_use state.rows)
+pub sweep_keeps_numbered : (state : State) (s : Space) (name : Name) (n : ℕ) → IsIn s state.spaces → IsIn name (names_in_use state.rows)
     → number state.spaces name s.id ≡ Some n → IsIn s (sweep state).spaces
-sweep-numbered state s name n i used e = to_kept state s i (kept-by_name state name s.id n used e s i refl)
+sweep_keeps_numbered state s name n i used e = to_kept state s i (kept-by_name state name s.id n used e s i refl)
 
 -- a name in use has a number exactly on its path
-pub number-iff_on_path : (state : State) (name : Name) (s : ℕ) → IsSound state → IsIn name (names_in_use state.rows)
+pub names_have_numbers : (state : State) (name : Name) (s : ℕ) → IsSound state → IsIn name (names_in_use state.rows)
     → IsIn s (path_up state.spaces name.space) ↔ (is_some (number state.spaces name s) ≡ true)
-number-iff_on_path state name s sound used =
+names_have_numbers state name s sound used =
     (λ i. let n = number-on_path state.spaces name s (sound.coherent.numbered name used).one_each i in rw n.1 refl, λ h. grind (arith, number-within state.spaces name s))
 
 -- a sound state has no dead namespace
-pub sweep-sound : (state : State) → IsSound state → sweep state ≡ state
+pub sound_needs_no_sweep : (state : State) → IsSound state → sweep state ≡ state
 unfolding sweep
-sweep-sound state sound =
+sound_needs_no_sweep state sound =
     ap (λ spaces. record state { spaces = spaces }) (filter-all (λ s. not (is_dead state s)) state.spaces (λ s i. not_from_false (is_dead state s) (alive s i s.fallen refl)))
   where
     alive : (s : Space) → IsIn s state.spaces → (b : Bool) → s.fallen ≡ b → is_dead state s ≡ false

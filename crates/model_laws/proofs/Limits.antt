@@ -1,8 +1,8 @@
 -- No fork raises a count above its limit.
-use Rattle.std.proofs.Common.{◌≡◌, ℕ, ◌+◌, ◌≤◌, Bool, false, List, [], ◌∷◌, length, Option, Some, None, cond, refl, sym, ap, ◌∙◌, subst, arith, filter, nat_lt, option_and_then}
+use Rattle.std.proofs.Common.{◌≡◌, ℕ, ◌+◌, ◌≤◌, Bool, false, List, [], ◌∷◌, length, Option, Some, None, cond, refl, sym, ap, ◌∙◌, arith, filter, nat_lt, option_and_then}
 use Rattle.std.specs.Option.{option_map_or}
 use Rattle.std.proofs.lemmas.Bool.{ltb-false, le-ltb}
-use Rattle.model_laws.proofs.Words.{Call, Fork, Row, Control, Entry, Forked, State, live_row, control_at, control_path, count, is_below, is_limited_below, passed_limit, Outcome, sweep, insert_row, with_space, child_of, step, ForkedWithinLimits, ForksStayWithinLimits, IsIn, IsSound, IsBelow, forked}
+use Rattle.model_laws.proofs.Words.{Call, Fork, Row, Control, Entry, Forked, State, control_at, control_path, count, is_below, is_limited_below, passed_limit, Outcome, sweep, insert_row, with_space, child_of, step, ForkedWithinLimits, ForksStayWithinLimits, IsIn, IsSound, IsBelow, forked}
 use Rattle.model_laws.proofs.Lists.{find-None}
 use Rattle.model_laws.proofs.Rising.{find-key}
 use Rattle.model_laws.proofs.Trees.{row_at-listed}
@@ -10,6 +10,7 @@ use Rattle.model_laws.proofs.Inserts.{IsIn-insert_new}
 use Rattle.model_laws.proofs.Calls.{MayFork, Comes, still, born, born_first, no_answer}
 use Rattle.model_laws.proofs.Refusals.{step_comes}
 use Rattle.model_laws.specs.CountLaws.{one_if}
+use Rattle.model_laws.specs.LimitLaws.{ForkKeepsLimits}
 use Rattle.model_laws.proofs.StepKept.{step_keeps}
 
 -- ---- counts after a fork
@@ -51,19 +52,17 @@ fork_within state caller t may c i =
     (find-None (λ d. is_limited_below state (count state d + 1) d) (control_path state.controls caller.home) may.limits c i)
 
 -- so does every fork that is answered
-pub comes_within : (state : State) (stamp n : ℕ) (new_space : Bool) (o : Outcome) → Comes state stamp (Fork n new_space) o
-    → (caller : Row) (child root : ℕ)
-    → live_row state.rows n ≡ Some caller → o.reply ≡ Forked child root → (c : ℕ) → IsIn c (control_path o.state.controls caller.home)
-    → is_limited_below o.state (count o.state c) c ≡ false
+pub fork_keeps_limits : ForkKeepsLimits
 unfolding sweep
-comes_within state stamp n new_space o (still _ reply answer) caller child root found told c i =
-    absurd (no_answer reply (Forked child root) answer refl told)
-comes_within state stamp n new_space o (born _ _ other plain there stands may) caller child root found told c i =
-    fork_within state other other.children_space may c (subst (λ (z : Row). IsIn c (control_path state.controls z.home))
-    (let same : caller ≡ other = cc in same) i)
-comes_within state stamp n new_space o (born_first _ other there stands shallow here may) caller child root found told c i =
-    fork_within (with_space state other.children_space stamp) other stamp may c
-    (subst (λ (z : Row). IsIn c (control_path state.controls z.home)) (let same : caller ≡ other = cc in same) i)
+fork_keeps_limits state stamp n new_space caller child root found told = go new_space _ (step_comes state stamp (Fork n new_space)) told
+  where
+    go : (b : Bool) (o : Outcome) → Comes state stamp (Fork n b) o → o.reply ≡ Forked child root → (c : ℕ) → IsIn c (control_path o.state.controls caller.home)
+        → is_limited_below o.state (count o.state c) c ≡ false
+    go b o (still _ reply answer) told c i = absurd (no_answer reply (Forked child root) answer refl told)
+    go b o (born _ _ other plain there stands may) told c i =
+        let same : caller ≡ other = cc in fork_within state other other.children_space may c (rw same at i)
+    go b o (born_first _ other there stands shallow here may) told c i =
+        let same : caller ≡ other = cc in fork_within (with_space state other.children_space stamp) other stamp may c (rw same at i)
 
 -- ---- runs
 

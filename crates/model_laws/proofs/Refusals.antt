@@ -8,30 +8,12 @@ use Rattle.std.proofs.lemmas.Bool.{not-false, cond_both}
 use Rattle.model_laws.proofs.Words.{Call, Fork, GetPid, NsPid, Exec, Exit, Wait, GetPpid, SetPgid, SetSid, MakeControl, RemoveControl, SetLimit, Move, Count, GetPgid, GetSid, Next, Join, SetSubreaper, Which, Name, Row, Space, Reply, Number, Reaped, NoneYet, End, Refused, Control, Refusal, NoCaller, NoTask, NoChild, NoNumber, PidsLimit, SpaceFallen, TooDeep, Elsewhere, BadGroup, OtherSession, IsLeader, NoGroup, Executed, RootInit, NoControl, ControlBusy, RootControl, BadLimit, ControlDepth, deepest_space, deepest_control, greatest_limit, IsIn, contains, least_of, State, space_at, path_up, level, number, root_number, number_or_zero, is_numbered, same_name, is_parent, is_live, live_row, task_at, taken, restart, cyclic_draw, cursor_of, draw, control_at, control_path, count, is_limited_below, passed_limit, Outcome, answered, changed, for_found, unless_found, refuse_if, fork, forked, no_room, with_space, is_gone, is_init, ended_children, exit, is_selected, matching, least_row, end_of, without_row, wait, is_negative, target_of, session_group, group_for, has_members, set_group_of, set_pgid, set_sid, self_or_task, numbers_by, get_pid, get_ppid, get_pgid, get_sid, ns_pid, next, is_busy, exec, make_control, remove_control, set_limit, move_task, count_tasks, join, set_subreaper, step}
 use Rattle.pid_types.specs.declared.call.Which.TheVariants.{Any, Pid, OwnGroup, Group}
 use Rattle.model_laws.specs.Draws.{IsCyclicDraw, IsLeastFree}
-use Rattle.model_laws.specs.Refusals.{goes_on, refuse, find_one, refuse_first, IsLiveTask, IsTaskTo, IsSelfOrTask, IsTarget, IsChild, IsSelected, NamesTarget, IsSessionGroup, IsGroupFor, IsSpace, IsControl, IsBusy, HasNoNumber, wants_room, wants_number, verdict, refusal_in, is_query}
+use Rattle.model_laws.specs.Refusals.{goes_on, refuse, find_one, refuse_first, IsLiveTask, IsTaskTo, IsSelfOrTask, IsTarget, IsChild, IsSelected, NamesTarget, IsSessionGroup, IsGroupFor, IsSpace, IsControl, IsBusy, HasNoNumber, wants_room, wants_number, verdict, refusal_in, is_query, RefusalChangesNothing, NoneYetChangesNothing, QueryChangesNothing}
 use Rattle.model_laws.specs.WaitLaws.{MayBeReaped}
 use Rattle.model_laws.proofs.Lists.{IsIn-filter, IsIn-from_filter, find-Some, find-None, some_passes, list_any-from_one}
 use Rattle.model_laws.proofs.Names.{option_eq-true, is_parent-true, is_parent-from, same_name-true, same_name-refl, is_numbered-true, is_numbered-from}
-use Rattle.model_laws.proofs.Draws.{cyclic_draw-IsCyclicDraw}
+use Rattle.model_laws.proofs.Draws.{draw_is_least}
 use Rattle.model_laws.proofs.Calls.{MayFork, is_answer, Comes, still, born, born_first, fell, handed_on, waits, reaped, grouped, led, executed, control_made, control_removed, limit_set, moved, joined, marked}
-
--- ---- nothing changes
-
--- where the reply is a refusal or NoneYet, the state is the one before
-pub record Stays (state : State) (o : Outcome) : Type 0 where
-  pub refused : (r : Refusal) → o.reply ≡ Refused r → o.state ≡ state
-  pub none_yet : o.reply ≡ NoneYet → o.state ≡ state
-
--- a refused call leaves the state as it was, and so does a wait that reaps nothing
-pub comes_stays : (state : State) (stamp : ℕ) (call : Call) (o : Outcome) → Comes state stamp call o → Stays state o
-comes_stays state stamp call o (still _ reply answer) = record { refused = λ r h. refl; none_yet = λ h. refl }
-comes_stays state stamp call o (waits n which caller found none) = record { refused = λ r h. refl; none_yet = λ h. refl }
-comes_stays state stamp call o _ = record { refused = λ r h. absurd (cc); none_yet = λ h. absurd (cc) }
-
--- a query leaves the state as it was
-pub query_stays : (state : State) (stamp : ℕ) (call : Call) (o : Outcome) → Comes state stamp call o → IsTrue (is_query call) → o.state ≡ state
-query_stays state stamp call o (still _ reply answer) query = refl
-query_stays state stamp call o _ query = absurd (cc)
 
 -- ---- the first that applies
 
@@ -254,7 +236,7 @@ Decides-limit (Some m) = (
 Decides-no_number : (state : State) (s : ℕ) → Decides (is_none (draw state s)) (HasNoNumber state s)
 unfolding draw
 Decides-no_number state s =
-    go (cyclic_draw state.pid_max (cursor_of state s) (taken state s)) (cyclic_draw-IsCyclicDraw state.pid_max (cursor_of state s) (taken state s))
+    go (cyclic_draw state.pid_max (cursor_of state s) (taken state s)) (draw_is_least state.pid_max (cursor_of state s) (taken state s))
   where
     low : ℕ
     low = restart (cursor_of state s)
@@ -382,3 +364,30 @@ step_comes state stamp call = (judged state stamp call).comes
 -- a call is refused exactly where a reason holds, by the first one
 pub first_step : (state : State) (stamp : ℕ) (call : Call) → verdict state stamp call (refusal_in (step state stamp call).reply)
 first_step state stamp call = (judged state stamp call).said
+
+-- ---- nothing changes
+
+-- a refused call leaves the state as it was
+pub refusal_changes_nothing : RefusalChangesNothing
+refusal_changes_nothing state stamp call r = go call _ (step_comes state stamp call)
+  where
+    go : (call : Call) (o : Outcome) → Comes state stamp call o → o.reply ≡ Refused r → o.state ≡ state
+    go call o (still _ reply answer) h = refl
+    go call o _ h = absurd (cc)
+
+-- so does a wait that reaps nothing
+pub none_yet_changes_nothing : NoneYetChangesNothing
+none_yet_changes_nothing state stamp call = go call _ (step_comes state stamp call)
+  where
+    go : (call : Call) (o : Outcome) → Comes state stamp call o → o.reply ≡ NoneYet → o.state ≡ state
+    go call o (still _ reply answer) h = refl
+    go call o (waits n which caller found none) h = refl
+    go call o _ h = absurd (cc)
+
+-- and a query
+pub query_changes_nothing : QueryChangesNothing
+query_changes_nothing state stamp call = go call _ (step_comes state stamp call)
+  where
+    go : (call : Call) (o : Outcome) → Comes state stamp call o → IsTrue (is_query call) → o.state ≡ state
+    go call o (still _ reply answer) query = refl
+    go call o _ query = absurd (cc)

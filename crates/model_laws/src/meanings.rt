@@ -28,6 +28,7 @@ pub fn new_parent_is_nearest()
 
 /// The exit of a namespace's init ends every member, takes away those whose parent is a member, and
 /// changes nobody outside.
+#[tactic(auto, using(crate::proofs::Falls::exit_of_init_falls))]
 pub fn exit_of_init_falls()
     ensures { ExitOfInitFalls }
 {}
