@@ -3,8 +3,8 @@ use Rattle.std.proofs.Common.{◌≡◌, ℕ, zero, suc, ◌+◌, ◌<◌, true,
 use Rattle.std.proofs.lemmas.Bool.{eqb-true}
 use Rattle.std.proofs.lemmas.List.{length-map, length-take-le}
 use Rattle.std.proofs.lemmas.Option.{slice_get_within}
-use Rattle.model_laws.proofs.Words.{Call, Name, Row, Space, Forked, Entry, State, path_up, number, root_number, is_live, row_at, names_in_use, Outcome, sweep, child_of, with_child, with_cursors, step, calls_of, Along, RepliesAsOne, Replays, IsIn, IsCoherent, IsSound, IsBelow, forked, moved_cursor}
-use Rattle.model_laws.specs.ReuseLaws.{state_at, IsInUse, ShareNumber}
+use Rattle.model_laws.proofs.Words.{Call, Name, Row, Space, Forked, Entry, State, path_up, number, root_number, is_live, row_at, names_in_use, Outcome, sweep, child_of, with_child, with_cursors, step, calls_of, Along, RepliesAsOne, IsIn, IsCoherent, IsSound, IsBelow, forked, moved_cursor}
+use Rattle.model_laws.specs.ReuseLaws.{NoReuse, state_at, IsInUse, ShareNumber}
 use Rattle.model_laws.proofs.Names.{user_of_name, IsIn-names_in_use}
 use Rattle.model_laws.proofs.Trees.{row_at-listed, live_row-Some}
 use Rattle.model_laws.proofs.Inserts.{IsIn-insert_new, IsIn-insert_old}
@@ -103,17 +103,14 @@ state_at-suc opening first (x ∷ entries) (suc k) e at =
     ∙ ap (λ n. (step (state_at (step opening first x.call).state (first + 1) entries k) n e.call).state) (let z : first + 1 + k ≡ first + suc k = omega arith in z)
 
 -- while a name is in use, no fork makes a row that has one of its numbers in the same namespace
-pub no_reuse : (opening : State) (first : ℕ) (entries : List Entry) → IsSound opening → IsBelow first opening → Replays opening first entries
-    → (k : ℕ) (e : Entry) (child root : ℕ) (row : Row) (name : Name) → slice_get entries k ≡ Some e → IsInUse name (state_at opening first entries k)
-    → e.reply ≡ Forked child root → row_at (state_at opening first entries (k + 1)).rows root ≡ Some row
-    → ShareNumber (state_at opening first entries (k + 1)) name row.name → ⊥
-no_reuse opening first entries sound below run k e child root row name at used told found share =
+pub no_reuse : NoReuse
+no_reuse opening first entries sound below run i j within name used k e child root row from to at told found share =
     let now : State = state_at opening first entries k in
     let kept = run_keeps opening first (calls_of (take k entries)) sound below in
     let long : length (calls_of (take k entries)) ≡ k = length-map (take k entries) (λ (x : Entry). x.call) ∙ length-take-le k entries (let l : k < length entries = slice_get_within entries k e at in omega arith) in
     let next : state_at opening first entries (k + 1) ≡ (step now (first + k) e.call).state = ap (state_at opening first entries) (add-one k) ∙ state_at-suc opening first entries k e at in
     let below : IsBelow (first + k) now = subst (λ n. IsBelow (first + n) now) long kept.1 in
-    (comes_fresh now (first + k) e.call _ (step_comes now (first + k) e.call) kept.0 below name used) child root row
+    (comes_fresh now (first + k) e.call _ (step_comes now (first + k) e.call) kept.0 below name (used k from (omega arith))) child root row
     (Along-at RepliesAsOne opening first entries run k e at ∙ told)
     (step_keeps now (first + k) e.call kept.0 below).0 (subst (λ (x : State). row_at x.rows root ≡ Some row) next found)
     (subst (λ (x : State). ShareNumber x name row.name) next share)

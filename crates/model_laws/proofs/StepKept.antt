@@ -9,6 +9,7 @@ use Rattle.model_laws.proofs.Names.{is_numbered-true}
 use Rattle.model_laws.proofs.Kept.{IsBelow-next, swept, swept_below, row_leaves, placed_leaves, join_leaves, group_for-IsOpen, target_of-IsIn, target_session, IsOpen-new}
 use Rattle.model_laws.proofs.Survivors.{settled}
 use Rattle.model_laws.specs.RestoreLaws.{StaysSound}
+use Rattle.model_laws.specs.StepLaws.{PlainCallsMakeNoId}
 use Rattle.model_laws.proofs.ControlsKept.{make_control_keeps, remove_control_leaves, set_limit_leaves}
 use Rattle.model_laws.proofs.EndsKept.{reaped_row, wait_leaves, fall_leaves}
 use Rattle.model_laws.proofs.ExitKept.{handed_on_leaves}
@@ -71,6 +72,10 @@ comes_keeps state stamp call o m sound below =
 pub step_keeps : (state : State) (stamp : ℕ) (call : Call) → IsSound state → IsBelow stamp state
     → IsSound (step state stamp call).state × IsBelow (stamp + 1) (step state stamp call).state
 step_keeps state stamp call sound below = comes_keeps state stamp call _ (step_comes state stamp call) sound below
+
+-- a call that makes nothing with an id leaves all ids below its stamp
+pub plain_calls_make_no_id : PlainCallsMakeNoId
+plain_calls_make_no_id state stamp call plain sound = (plain_keeps state stamp call _ (step_comes state stamp call) plain sound).1 stamp
 
 -- every run of calls does
 pub run_keeps : (opening : State) (first : ℕ) (calls : List Call) → IsSound opening → IsBelow first opening

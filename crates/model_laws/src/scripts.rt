@@ -13,6 +13,7 @@ ghost use Rattle.model_laws.specs.SubreaperScripts.{SubreaperTakesChildren, Mark
 ghost use Rattle.model_laws.specs.SubreaperScripts.{MarkOfJoined};
 
 /// Worked scripts of fork and the queries of numbers.
+#[tactic(auto, unfolding(crate::proofs::Computed::computed))]
 pub fn fork_scripts()
     ensures fork_and_get_pid { ForkAndGetPid }
     ensures three_forks { ThreeForks }
@@ -64,6 +65,7 @@ pub fn depth_scripts()
 {}
 
 /// Worked scripts of join.
+#[tactic(auto, unfolding(crate::proofs::Computed::computed))]
 pub fn join_scripts()
     ensures join_and_fall { JoinAndFall }
     ensures join_and_fall_end { JoinAndFallEnd }
