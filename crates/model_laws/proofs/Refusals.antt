@@ -120,11 +120,8 @@ task_found state caller n = finds (IsTaskTo state caller n) (λ row. is_numbered
 -- the one thing where a reason holds, and else what a search finds
 found_or : {A : Type 0} (reason : Type 0) (b : Bool) (x : A) (o : Option A) (fits : A → Type 0) → Decides b reason → IsFound fits o
     → IsFound (λ y. (reason × (y ≡ x)) ⊎ ((reason → ⊥) × fits y)) (if b then Some x else o)
-found_or reason true x o fits d f = record { some = λ y e. inl (d.0 refl, (let same : y ≡ x = cc in same)); none = λ e y t. cc }
-found_or reason false x o fits d f = record {
-  some = λ y e. inr (not_from_Decides false d refl, f.some y e);
-  none = λ e y t. elim t [ inl s ↦ not_from_Decides false d refl s.0 | inr s ↦ f.none e y s.1 ];
-}
+found_or reason true x o fits d f = record { some = λ y e. grind (arith, d.0); none = λ e y t. cc }
+found_or reason false x o fits d f = record { some = λ y e. grind (arith, f.some y, d.1); none = λ e y t. grind (arith, f.none e y, d.1) }
 
 -- where 0 is the caller
 self_found : (state : State) (caller : Row) (n : ℕ) → IsFound (IsSelfOrTask state caller n) (self_or_task state caller n)
@@ -153,10 +150,7 @@ session_found state caller n = go (find p state.rows) (finds fits p state.rows
     go : (o : Option Row) → IsFound fits o → IsFound (IsSessionGroup state caller n) (option_map (λ (row : Row). row.group) o)
     go None f = record { some = λ group e. absurd (cc); none = λ e group t. f.none refl t.0 (t.1, t.2, ap (λ (a : Name). number state.spaces a caller.name.space) t.3 ∙ t.4) }
     go (Some row) f = record {
-      some = λ group e.
-          let t = f.some row refl in
-          let same : row.group ≡ group = cc in
-          (row, t.0, t.1, same, ap (λ (a : Name). number state.spaces a caller.name.space) (sym same) ∙ t.2);
+      some = λ group e. let t = f.some row refl in let same : row.group ≡ group = cc in (row, t.0, t.1, same, rw same at t.2);
       none = λ e group t. cc;
     }
 
