@@ -3,7 +3,7 @@ use Rattle.std.proofs.Common.{◌≡◌, ℕ, zero, suc, ◌+◌, ◌-◌, ◌<�
 use Rattle.std.proofs.lemmas.Bool.{eq-eqb, ne_eqb, not_from_false, not_from_true}
 use Rattle.std.proofs.lemmas.List.{length-map, reverse-append, length-reverse}
 use Rattle.model_laws.proofs.Words.{Name, Row, Space, climb, State, parent_space, path_up, beside, number, root_number, is_live, row_at, parent_number, IsIn, IsRising, IsWellNumbered, IsTreeOfSpaces, IsCoherent}
-use Rattle.model_laws.proofs.Lists.{IsIn-map, IsIn-filter}
+use Rattle.model_laws.proofs.Lists.{IsIn-map, IsIn-filter, length-IsIn}
 use Rattle.model_laws.proofs.Chains.{Stops-at_root, climb-None, climb_cases, climb_suffix, IsIn-climb_first, IsIn-climb_parent, IsIn-climb_more}
 use Rattle.model_laws.proofs.Names.{own_name_in_use}
 use Rattle.model_laws.proofs.Rising.{unique_key}
@@ -75,11 +75,7 @@ length-filter_out p (y ∷ xs) x i e = grind (arith, length-filter_less p xs, le
 -- the numbers from which number 1 is reached are at least as many as the steps
 steps_below_length : (f : ℕ → Option ℕ) → f 1 ≡ None → (k n : ℕ) (ns : List ℕ) → Far f k n → ((j x : ℕ) → j ≤ k → Far f j x → IsIn x ns)
     → k < length ns
-steps_below_length f top zero n ns far all = go ns (all 0 1 (omega arith) refl)
-  where
-    go : (ms : List ℕ) → IsIn 1 ms → 0 < length ms
-    go [] i = elim i [ ]
-    go (m ∷ ms) i = omega arith
+steps_below_length f top zero n ns far all = length-IsIn 1 ns (all 0 1 (omega arith) refl)
 steps_below_length f top (suc k) n ns far all =
     let out : length (filter (λ m. not (m == n)) ns) < length ns = length-filter_out (λ m. not (m == n)) ns n (all (suc k) n (omega arith) far) (not_from_true (n == n) (eq-eqb n n refl)) in
     let rest : k < length (filter (λ m. not (m == n)) ns) = steps_below_length f top k far.0 (filter (λ m. not (m == n)) ns) far.2 (λ j x l g.

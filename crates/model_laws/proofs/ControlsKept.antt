@@ -4,13 +4,14 @@ use Rattle.std.specs.Option.{option_map_or}
 use Rattle.std.proofs.lemmas.Bool.{cond_both, eqb-true, ne_eqb, eqb-false, ltb-false, not_from_false, not-true}
 use Rattle.model_laws.proofs.Words.{Row, Control, greatest_limit, climb, State, control_at, parent_control, control_path, with_control, is_busy, rehome, without_control, limited, with_limit, IsIn, IsTreeOfControls, HasGoodLimit, IsCoherent, IsBelow}
 use Rattle.std.proofs.lemmas.Bool.Decides.{not_from_Decides}
-use Rattle.model_laws.proofs.Refusals.{Decides-busy}
+use Rattle.model_laws.proofs.Refusals.{Decides-busy, Decides-limit}
 use Rattle.model_laws.proofs.Lists.{each_of_map, IsIn-from_filter, find-filter, each_pushed}
 use Rattle.model_laws.proofs.Chains.{Stops, Stops-at_root, climb_trans, climb_cases, IsIn-climb_first, IsIn-climb_parent, IsIn-climb_more, climb-same, climb_child}
 use Rattle.model_laws.proofs.Rising.{IsRising-filter}
 use Rattle.model_laws.proofs.Trees.{control_to_root, control_at-Some, root_control_parent, control_path_listed}
 use Rattle.model_laws.proofs.Forests.{at-map, chain-map, IsTree-map, at-push_old, chain-push, IsIn-chain_new, IsTree-push}
 use Rattle.model_laws.proofs.Survivors.{settled, Leaves, own_leaves}
+use Rattle.std.proofs.lemmas.Option.{option_and_then_some}
 
 -- a coherent state with other control groups, where each home is
 IsCoherent-controls : (state : State) (controls : List Control) → IsCoherent state → IsTreeOfControls controls
@@ -107,12 +108,8 @@ module _ (controls : List Control) (tree : IsTreeOfControls controls) (id : ℕ)
   unfolding control_path
   not_below x differs i = elim (climb_child (parent_control controls) 65 x id i) [
     | inl e ↦ differs (sym e)
-    | inr r ↦ go r.0 (control_at controls r.0) refl r.2
+    | inr r ↦ option_and_then_some _ (control_at controls r.0) id r.2 (λ c e up. childless c (control_at-Some controls r.0 c e).0 up)
   ]
-    where
-      go : (y : ℕ) (o : Option Control) → control_at controls y ≡ o → option_and_then (λ c. c.parent) o ≡ Some id → ⊥
-      go y None e f = cc
-      go y (Some c) e f = childless c (control_at-Some controls y c e).0 f
 
   -- their paths stay
   pub other_path : (x : ℕ) → (x ≡ id → ⊥) → control_path others x ≡ control_path controls x
@@ -241,12 +238,8 @@ HasGoodLimit-limited controls tree id parent limit g found under good c old =
     cond_both (c.id == id) limit c.limit (λ l. HasGoodLimit (record c { limit = l }))
     (λ e. record {
       root = λ zero. absurd (not_root controls tree id parent g found under (sym (eqb-true c.id id e) ∙ zero));
-      bounded = bounded limit good;
+      bounded = λ l some. let no : greatest_limit < l → ⊥ = λ m. not_from_Decides _ (Decides-limit limit) good (l, some, m) in omega arith;
     }) (λ e. old)
-  where
-    bounded : (o : Option ℕ) → option_map_or (nat_lt greatest_limit) o false ≡ false → (l : ℕ) → o ≡ Some l → l ≤ greatest_limit
-    bounded None e l some = absurd (cc)
-    bounded (Some m) e l some = grind (arith, ltb-false greatest_limit m)
 
 -- a limit leaves a coherent state
 pub set_limit_leaves : (state : State) (id parent : ℕ) (limit : Option ℕ) (g : Control) → IsCoherent state

@@ -1,11 +1,11 @@
 -- What a fall does to each task.
-use Rattle.std.proofs.Common.{◌≡◌, ℕ, Bool, true, false, not, Option, Some, None, refl, sym, ap, ◌∙◌, subst, filter, is_some, arith}
+use Rattle.std.proofs.Common.{◌≡◌, ℕ, Bool, true, false, not, Some, refl, sym, ap, ◌∙◌, subst, filter, is_some, arith}
 use Rattle.std.specs.Option.{option_map_or}
 use Rattle.std.proofs.lemmas.Bool.{and_left, or_from, or_right, not_from_false, not-true, false_from_ne_true}
 use Rattle.model_laws.proofs.Words.{Name, Row, Space, Life, Zombie, Exited, Killed, Done, IsIn, State, path_up, number, is_within, is_member, same_name, Outcome, sweep, is_init, has_parent_within, goes_in_fall, row_after_fall, rows_after_fall, fallen_below, fall, IsSound, Exit}
 use Rattle.model_laws.specs.FallLaws.{IsMember, HasMemberParent, IsOtherMember, HasFallen, ExitOfInitFalls}
 use Rattle.model_laws.proofs.Refusals.{step_comes}
-use Rattle.model_laws.proofs.Lists.{IsIn-map, IsIn-from_map, IsIn-filter, IsIn-from_filter, IsIn-from_contains, contains-from_IsIn}
+use Rattle.model_laws.proofs.Lists.{IsIn-map, IsIn-from_map, IsIn-filter, IsIn-from_filter, IsIn-from_contains, contains-from_IsIn, option_both}
 use Rattle.model_laws.proofs.Names.{same_name-true, same_name-refl, own_name_in_use, number-on_path, number-within}
 use Rattle.model_laws.proofs.Rising.{unique_key}
 use Rattle.model_laws.proofs.Trees.{path_first, same_row, live_row-Some}
@@ -41,15 +41,12 @@ module _ (state : State) (sound : IsSound state) (init : Row) (status : ℕ) (th
 
   -- and one that is not is outside
   parent-false : (r : Row) → IsIn r state.rows → (HasMemberParent state space r → ⊥) → has_parent_within state space r ≡ false
-  parent-false r i none = go r.parent refl
-    where
-      go : (o : Option Name) → r.parent ≡ o → option_map_or (λ (parent : Name). is_within state.spaces parent.space space) o false ≡ false
-      go None e = refl
-      go (Some a) e = false_from_ne_true (is_within state.spaces a.space space) (λ w.
-          let g = ((sound.coherent.parents r i).good a e).lives in
-          let own = own_name_in_use state.rows g.0 g.1 in
-          let on : IsIn space (path_up state.spaces g.0.name.space) = subst (λ (b : Name). IsIn space (path_up state.spaces b.space)) (sym g.2) (IsIn-from_contains (path_up state.spaces a.space) space w) in
-          none (g.0, g.1, e ∙ ap Some (sym g.2), number-on_path state.spaces g.0.name space (sound.coherent.numbered g.0.name own).one_each on))
+  parent-false r i none =
+      option_both r.parent (λ o. option_map_or (λ (parent : Name). is_within state.spaces parent.space space) o false ≡ false) (λ e. refl) (λ a e.
+      false_from_ne_true (is_within state.spaces a.space space) (λ w.
+      let g = ((sound.coherent.parents r i).good a e).lives in
+      let well = sound.coherent.numbered g.0.name (own_name_in_use state.rows g.0 g.1) in
+      none (g.0, g.1, e ∙ ap Some (sym g.2), number-on_path state.spaces g.0.name space well.one_each (rw g.2 (IsIn-from_contains (path_up state.spaces a.space) space w)))))
 
   -- two names that differ
   differs : (r : Row) → (r.name ≡ init.name → ⊥) → same_name r.name init.name ≡ false

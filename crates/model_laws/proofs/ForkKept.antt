@@ -1,11 +1,11 @@
 -- Fork leaves a sound state.
-use Rattle.std.proofs.Common.{option_map, nat_le, unwrap_or, ◌≡◌, ℕ, suc, ◌+◌, ◌<◌, ◌≤◌, true, false, List, [], ◌∷◌, ◌++◌, map, length, Option, Some, None, refl, sym, ap, ◌∙◌, subst, ◌⊎◌, inl, inr, arith, ◌==◌}
+use Rattle.std.proofs.Common.{option_map, nat_le, unwrap_or, ◌≡◌, ℕ, suc, ◌+◌, ◌<◌, ◌≤◌, true, false, List, [], ◌∷◌, ◌++◌, map, length, Some, None, refl, sym, ap, ◌∙◌, subst, ◌⊎◌, inl, inr, arith, ◌==◌}
 use Rattle.std.proofs.lemmas.List.{length-map, length-reverse}
 use Rattle.std.proofs.lemmas.Bool.{eqb-true, leb-false}
 use Rattle.model_laws.proofs.Words.{Name, Row, Space, Control, climb, contains, State, space_at, parent_space, path_up, level, number, root_number, is_live, names_in_use, taken, cyclic_draw, cursor_of, draw, control_at, parent_number, insert_row, with_space, drawn, moved_cursor, with_cursors, child_of, is_gone, with_child, IsIn, IsRising, IsWellNumbered, IsGoodParent, HasGoodParents, HasGoodChildrenSpace, HasLiveInit, IsEmptied, IsTreeOfSpaces, RootStands, IsCoherent, IsBelow}
 use Rattle.model_laws.proofs.SpaceMaps.{IsWellNumbered-kept, HasGoodParents-kept}
-use Rattle.model_laws.specs.Draws.{IsCyclicDraw, IsLeastFree}
-use Rattle.model_laws.proofs.Lists.{IsIn-append_right, IsIn-from_map, IsIn-reverse, contains-from_IsIn, each_pushed, no_element}
+use Rattle.model_laws.specs.Draws.{IsCyclicDraw}
+use Rattle.model_laws.proofs.Lists.{IsIn-append_right, IsIn-from_map, IsIn-reverse, contains-from_IsIn, each_pushed, no_element, option_both}
 use Rattle.model_laws.proofs.Names.{user_of_name, IsIn-names_in_use, own_name_in_use, group_in_use, number-within, number-off_path, number-same_path, IsIn-taken, user_of_number}
 use Rattle.model_laws.proofs.Draws.{draw_is_least}
 use Rattle.model_laws.proofs.Trees.{IsOnTree, IsOnTree-listed, IsOnTree-name, space_at-Some, path_first, path_listed, row_at-listed}
@@ -305,13 +305,11 @@ module _ (state : State) (sound : IsCoherent state) (stamp : ℕ) (below : IsBel
 
   -- the children's namespaces stay good
   children_new : (r : Row) → IsIn r state.rows → HasGoodChildrenSpace with_new r
-  children_new r i = go (space_at state.spaces r.children_space) refl (sound.children r i)
-    where
-      go : (o : Option Space) → space_at state.spaces r.children_space ≡ o → HasGoodChildrenSpace state.spaces r → HasGoodChildrenSpace with_new r
-      go None e g = inl (at-push_none Space (λ t. t.id) (λ t. t.parent) state.spaces new below.spaces r.children_space (below.children r i) e)
-      go (Some s) e (inl none) = absurd (cc)
-      go (Some s) e (inr j) =
-          inr (subst (IsIn r.name.space) (sym (path_old r.children_space (IsOnTree-listed state.spaces sound.spaces r.children_space s e))) j)
+  children_new r i = option_both (space_at state.spaces r.children_space) (λ _. HasGoodChildrenSpace with_new r)
+      (λ e. inl (at-push_none Space (λ t. t.id) (λ t. t.parent) state.spaces new below.spaces r.children_space (below.children r i) e)) (λ s e. elim (sound.children r i) [
+        | inl none ↦ absurd (let n : space_at state.spaces r.children_space ≡ None = none in cc)
+        | inr j ↦ inr (subst (IsIn r.name.space) (sym (path_old r.children_space (IsOnTree-listed state.spaces sound.spaces r.children_space s e))) j)
+      ])
 
   -- nothing has a number in the new namespace yet
   pub nothing_taken : taken (with_space state p stamp) stamp ≡ []
@@ -337,12 +335,9 @@ module _ (state : State) (sound : IsCoherent state) (stamp : ℕ) (below : IsBel
       let d : cyclic_draw state.pid_max 0 [] ≡ Some n = ap (λ k. cyclic_draw state.pid_max k []) (sym new_cursor) ∙ ap (cyclic_draw state.pid_max (cursor_of (with_space state p stamp) stamp)) (sym nothing_taken) ∙ f.3 in
       least n (subst (IsCyclicDraw state.pid_max 0 []) d c)
     where
-      one : (low n : ℕ) → low ≡ 1 → IsLeastFree [] low state.pid_max n → n ≡ 1
-      one low n is_one is = grind (arith, is.least low)
-
       least : (n : ℕ) → IsCyclicDraw state.pid_max 0 [] (Some n) → n ≡ 1
-      least n (inl is) = one 1 n refl is
-      least n (inr r) = one 1 n refl r.1
+      least n (inl is) = grind (arith, is.least 1, is.from)
+      least n (inr r) = grind (arith, r.1.least 1, r.1.from)
 
   -- the new namespace is ready for its init
   pub IsReady-new : (caller : Row) → IsIn caller state.rows → (p ≡ caller.name.space) → MayFork (with_space state p stamp) caller stamp

@@ -8,8 +8,8 @@ use Rattle.model_laws.proofs.Words.{Name, Row, Kind, Reply, Number, LevelList, E
 use Rattle.pid_types.specs.declared.call.Kind.TheVariants.{Task, Group, Session}
 use Rattle.model_laws.specs.SightLaws.{Query, IsQuery, own_number, parent_number, group_of, session_of, numbers_of, next_from, SeesSame, QueriesAnswerSeen, SameSightSameAnswers}
 use Rattle.model_laws.proofs.Lists.{IsIn-map, IsIn-from_map, IsIn-filter, IsIn-from_filter, find-Some, find-None, find-none, find-only}
-use Rattle.model_laws.proofs.Names.{number-within, is_numbered-true, is_numbered-from, own_name_in_use, group_in_use, session_in_use}
-use Rattle.model_laws.proofs.Trees.{same_row, live_row-Some}
+use Rattle.model_laws.proofs.Names.{number-within, is_numbered-true, own_name_in_use, group_in_use, session_in_use}
+use Rattle.model_laws.proofs.Trees.{same_row, live_row-Some, task_at-own}
 
 -- ---- the glimpse of a number
 
@@ -69,11 +69,7 @@ module _ (state : State) (sound : IsCoherent state) (root : ℕ) (caller : Row) 
 
   -- the caller's own number names the caller
   own_task : task_at state caller.name.space n ≡ Some caller
-  unfolding task_at
-  own_task =
-      find-only (λ row. is_numbered state.spaces row.name caller.name.space n) state.rows caller there (is_numbered-from state.spaces caller.name caller.name.space n own) (λ row j e.
-      same_row state.rows sound.rows_rise row caller j there (sound.distinct row.name caller.name (own_name_in_use state.rows row j) (own_name_in_use state.rows caller there) caller.name.space n
-      (is_numbered-true state.spaces row.name caller.name.space n e) own))
+  own_task = task_at-own state sound caller there caller.name.space n own
 
   -- no task has number 0
   no_task : task_at state caller.name.space 0 ≡ None

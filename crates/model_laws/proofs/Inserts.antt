@@ -1,9 +1,9 @@
 -- Rows with one more, and the numbers that a new name is made of.
-use Rattle.std.proofs.Common.{◌≡◌, ℕ, ◌<◌, false, List, [], ◌∷◌, ◌++◌, map, reverse, Option, Some, None, refl, sym, ap, ◌∙◌, subst, ◌⊎◌, inl, inr, arith, nat_lt, is_none, unwrap_or, find}
+use Rattle.std.proofs.Common.{◌≡◌, ℕ, ◌<◌, false, List, [], ◌∷◌, ◌++◌, map, reverse, Some, None, refl, sym, ap, ◌∙◌, ◌⊎◌, inl, inr, arith, nat_lt, is_none, unwrap_or, find}
 use Rattle.std.proofs.lemmas.List.{reverse-append, map-append}
 use Rattle.std.proofs.lemmas.Bool.{eqb-true, eq-eqb, ltb-true, ltb-false, cond_both}
 use Rattle.model_laws.proofs.Words.{Row, contains, State, path_up, beside, number, root_number, taken, cursor_of, draw, insert_row, drawn, child_of, IsIn, IsRising}
-use Rattle.model_laws.proofs.Lists.{each_of_map, IsIn-map, IsIn-reverse, IsIn-to_reverse, find-None}
+use Rattle.model_laws.proofs.Lists.{each_of_map, IsIn-map, IsIn-reverse, IsIn-to_reverse, find-None, option_both}
 use Rattle.model_laws.proofs.Draws.{draw-Some}
 
 -- ---- one row more
@@ -79,12 +79,7 @@ number-child_of_at state caller t s i =
 pub drawn-free : (state : State) (path : List ℕ) → find (λ s. is_none (draw state s)) path ≡ None → (s : ℕ) → IsIn s path
     → (contains (taken state s) (drawn state s) ≡ false) × (0 < drawn state s) × (drawn state s < state.pid_max) × (draw state s ≡ Some (drawn state s))
 unfolding drawn draw
-drawn-free state path none s i = go (draw state s) refl (find-None (λ u. is_none (draw state u)) path none s i)
-  where
-    go : (o : Option ℕ) → draw state s ≡ o → is_none o ≡ false
-        → (contains (taken state s) (unwrap_or (draw state s) 0) ≡ false) × (0 < unwrap_or (draw state s) 0) × (unwrap_or (draw state s) 0 < state.pid_max) × (draw state s ≡ Some (unwrap_or (draw state s) 0))
-    go None e f = absurd (cc)
-    go (Some m) e f =
-        let d = draw-Some state.pid_max (cursor_of state s) (taken state s) m e in
-        let same : unwrap_or (draw state s) 0 ≡ m = ap (λ o. unwrap_or o 0) e in
-        (subst (λ x. contains (taken state s) x ≡ false) (sym same) d.0, subst (λ x. 0 < x) (sym same) d.1, subst (λ x. x < state.pid_max) (sym same) d.2, e ∙ ap Some (sym same))
+drawn-free state path none s i = option_both (draw state s) (λ o. is_none o ≡ false
+    → (contains (taken state s) (unwrap_or o 0) ≡ false) × (0 < unwrap_or o 0) × (unwrap_or o 0 < state.pid_max) × (o ≡ Some (unwrap_or o 0)))
+    (λ e f. absurd (cc)) (λ m e f. let d = draw-Some state.pid_max (cursor_of state s) (taken state s) m e in (d.0, d.1, d.2, refl))
+    (find-None (λ u. is_none (draw state u)) path none s i)

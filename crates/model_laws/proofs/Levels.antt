@@ -1,7 +1,7 @@
 -- A name's number in a namespace is the entry at the namespace's level.
-use Rattle.std.proofs.Common.{◌≡◌, ◌≤◌, ◌↔◌, ℕ, zero, suc, ◌+◌, Bool, true, false, not, ◌==◌, List, [], ◌∷◌, ◌++◌, reverse, length, drop, Option, Some, None, refl, sym, ap, ◌∙◌, inl, inr, arith, length-append, slice_get, is_some}
+use Rattle.std.proofs.Common.{◌≡◌, ◌≤◌, ◌↔◌, ℕ, zero, suc, ◌+◌, true, not, ◌==◌, List, [], ◌∷◌, ◌++◌, reverse, length, drop, Option, Some, None, refl, sym, ap, ◌∙◌, inl, inr, arith, length-append, slice_get, is_some}
 use Rattle.std.proofs.lemmas.List.{reverse-append, length-reverse, append_assoc}
-use Rattle.std.proofs.lemmas.Bool.{eq-eqb, ne_eqb, and_left, not_from_false}
+use Rattle.std.proofs.lemmas.Bool.{eq-eqb, ne_eqb, and_left, not_from_false, cases_Bool}
 use Rattle.model_laws.proofs.Words.{Name, Space, Control, State, climb, parent_space, path_up, level, beside, beside_from, number, numbers_from, names_in_use, taken, parent_control, control_path, is_dead, sweep, IsIn, IsSound}
 use Rattle.model_laws.proofs.Lists.{IsIn-reverse, filter-all}
 use Rattle.model_laws.proofs.Names.{number-within, number-on_path}
@@ -98,11 +98,11 @@ names_have_numbers state name s sound used =
 pub sound_needs_no_sweep : (state : State) → IsSound state → sweep state ≡ state
 unfolding sweep
 sound_needs_no_sweep state sound =
-    ap (λ spaces. record state { spaces = spaces }) (filter-all (λ s. not (is_dead state s)) state.spaces (λ s i. not_from_false (is_dead state s) (alive s i s.fallen refl)))
-  where
-    alive : (s : Space) → IsIn s state.spaces → (b : Bool) → s.fallen ≡ b → is_dead state s ≡ false
-    alive s i false e = and_left s.fallen (length (taken state s.id) == 0) e
-    alive s i true e = let u = sound.named s i e in kept-by_name state u.0 s.id u.1 u.2 u.3 s i refl
+    ap (λ spaces. record state { spaces = spaces }) (filter-all (λ s. not (is_dead state s)) state.spaces (λ s i. not_from_false (is_dead state s)
+    (elim (cases_Bool s.fallen) [
+      | inl e ↦ let u = sound.named s i e in kept-by_name state u.0 s.id u.1 u.2 u.3 s i refl
+      | inr e ↦ and_left s.fallen (length (taken state s.id) == 0) e
+    ])))
 
 -- the root is at most so many levels above each namespace and each control group
 pub levels_bounded : (state : State) → IsSound state

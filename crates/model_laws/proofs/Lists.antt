@@ -1,5 +1,5 @@
 -- Elements of lists.
-use Rattle.std.proofs.Common.{arith, ◌≡◌, ℕ, Bool, true, false, List, [], ◌∷◌, ◌++◌, map, reverse, Option, Some, None, refl, sym, ap, ◌∙◌, subst, ◌⊎◌, inl, inr, ◌==◌, find, filter, filter_map, flat_map, option_map}
+use Rattle.std.proofs.Common.{◌<◌, length, arith, ◌≡◌, ℕ, Bool, true, false, List, [], ◌∷◌, ◌++◌, map, reverse, Option, Some, None, refl, sym, ap, ◌∙◌, subst, ◌⊎◌, inl, inr, ◌==◌, find, filter, filter_map, flat_map, option_map}
 use Rattle.std.specs.List.{list_any}
 use Rattle.std.proofs.lemmas.List.{reverse-append}
 use Rattle.std.proofs.lemmas.Bool.{eqb-true, eq-eqb}
@@ -48,6 +48,16 @@ IsIn-to_reverse x [] h = h
 IsIn-to_reverse x (y ∷ xs) (inl e) = subst (λ l. IsIn x l) (sym (reverse-append (y ∷ []) xs)) (IsIn-append_right x (reverse xs) (y ∷ []) (inl e))
 IsIn-to_reverse x (y ∷ xs) (inr h) =
     subst (λ l. IsIn x l) (sym (reverse-append (y ∷ []) xs)) (IsIn-append_left x (reverse xs) (y ∷ []) (IsIn-to_reverse x xs h))
+
+-- a list with an element is not empty
+pub length-IsIn : {X : Type 0} (x : X) (xs : List X) → IsIn x xs → 0 < length xs
+length-IsIn x [] i = elim i [ ]
+length-IsIn x (y ∷ xs) i = omega arith
+
+-- what holds of nothing, and of each thing, holds of what a search finds
+pub option_both : {A : Type 0} (o : Option A) (P : Option A → Type 0) → (o ≡ None → P None) → ((a : A) → o ≡ Some a → P (Some a)) → P o
+option_both None P none some = none refl
+option_both (Some a) P none some = some a refl
 
 -- ---- mapped and filtered lists
 

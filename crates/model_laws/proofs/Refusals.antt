@@ -5,7 +5,7 @@ use Rattle.std.specs.List.{list_any}
 use Rattle.std.proofs.lemmas.Bool.{eqb-true, eq-eqb, ne_eqb, and_parts, and_from, not-true, not_from_false, ltb-true, lt-ltb, leb-true, le-leb}
 use Rattle.std.proofs.lemmas.Bool.Decides.{Decides-eqb, Decides-ltb, Decides-and, Decides-or, Decides-not, Decides-like, not_from_Decides}
 use Rattle.std.proofs.lemmas.Bool.{not-false, cond_both}
-use Rattle.model_laws.proofs.Words.{Call, Fork, GetPid, NsPid, Exec, Exit, Wait, GetPpid, SetPgid, SetSid, MakeControl, RemoveControl, SetLimit, Move, Count, GetPgid, GetSid, Next, Join, SetSubreaper, Which, Name, Row, Space, Reply, Number, Reaped, NoneYet, End, Refused, Control, Refusal, NoCaller, NoTask, NoChild, NoNumber, PidsLimit, SpaceFallen, TooDeep, Elsewhere, BadGroup, OtherSession, IsLeader, NoGroup, Executed, RootInit, NoControl, ControlBusy, RootControl, BadLimit, ControlDepth, deepest_space, deepest_control, greatest_limit, IsIn, contains, least_of, State, space_at, path_up, level, number, root_number, number_or_zero, is_numbered, same_name, is_parent, is_live, live_row, task_at, taken, restart, cyclic_draw, cursor_of, draw, control_at, control_path, count, is_limited_below, passed_limit, Outcome, answered, changed, for_found, unless_found, refuse_if, fork, forked, no_room, with_space, is_gone, is_init, ended_children, exit, is_selected, matching, least_row, end_of, without_row, wait, is_negative, target_of, session_group, group_for, has_members, set_group_of, set_pgid, set_sid, self_or_task, numbers_by, get_pid, get_ppid, get_pgid, get_sid, ns_pid, next, is_busy, exec, make_control, remove_control, set_limit, move_task, count_tasks, join, set_subreaper, step}
+use Rattle.model_laws.proofs.Words.{Call, Fork, GetPid, NsPid, Exec, Exit, Wait, GetPpid, SetPgid, SetSid, MakeControl, RemoveControl, SetLimit, Move, Count, GetPgid, GetSid, Next, Join, SetSubreaper, Which, Name, Row, Space, Reply, Number, Reaped, NoneYet, End, Refused, Control, Refusal, NoCaller, NoTask, NoChild, NoNumber, PidsLimit, SpaceFallen, TooDeep, Elsewhere, BadGroup, OtherSession, IsLeader, NoGroup, Executed, RootInit, NoControl, ControlBusy, RootControl, BadLimit, ControlDepth, deepest_space, deepest_control, greatest_limit, IsIn, least_of, State, space_at, path_up, level, number, root_number, number_or_zero, is_numbered, same_name, is_parent, is_live, live_row, task_at, taken, restart, cyclic_draw, cursor_of, draw, control_at, control_path, count, is_limited_below, passed_limit, Outcome, answered, changed, for_found, unless_found, refuse_if, fork, forked, no_room, with_space, is_gone, is_init, ended_children, exit, is_selected, matching, least_row, end_of, without_row, wait, is_negative, target_of, session_group, group_for, has_members, set_group_of, set_pgid, set_sid, self_or_task, numbers_by, get_pid, get_ppid, get_pgid, get_sid, ns_pid, next, is_busy, exec, make_control, remove_control, set_limit, move_task, count_tasks, join, set_subreaper, step}
 use Rattle.pid_types.specs.declared.call.Which.TheVariants.{Any, Pid, OwnGroup, Group}
 use Rattle.model_laws.specs.Draws.{IsCyclicDraw, IsLeastFree}
 use Rattle.model_laws.specs.Refusals.{goes_on, refuse, find_one, refuse_first, IsLiveTask, IsTaskTo, IsSelfOrTask, IsTarget, IsChild, IsSelected, NamesTarget, IsSessionGroup, IsGroupFor, IsSpace, IsControl, IsBusy, HasNoNumber, wants_room, wants_number, verdict, refusal_in, is_query, RefusalChangesNothing, NoneYetChangesNothing, QueryChangesNothing}
@@ -219,7 +219,7 @@ Decides-busy state id =
     (Decides-any (λ (c : Control). option_eq ◌==◌ c.parent (Some id)) state.controls))
 
 -- a limit that is too great
-Decides-limit : (limit : Option ℕ) → Decides (option_map_or (nat_lt greatest_limit) limit false) ((n : ℕ) × (limit ≡ Some n) × (greatest_limit < n))
+pub Decides-limit : (limit : Option ℕ) → Decides (option_map_or (nat_lt greatest_limit) limit false) ((n : ℕ) × (limit ≡ Some n) × (greatest_limit < n))
 Decides-limit None = (λ e. absurd (cc), λ f. let g : None ≡ Some f.0 = f.1 in cc)
 Decides-limit (Some m) = (
   λ e. (m, refl, ltb-true greatest_limit m e),
@@ -236,11 +236,7 @@ Decides-no_number state s =
     low = restart (cursor_of state s)
 
     from : (n least : ℕ) → low ≤ least → IsLeastFree (taken state s) least state.pid_max n → HasNoNumber state s → ⊥
-    from n least l is full =
-        let start : least ≤ n = is.from in
-        let there : contains (taken state s) n ≡ true = full n (omega arith) is.below in
-        let never : contains (taken state s) n ≡ false = is.free in
-        cc
+    from n least l is full = grind (arith, full n, is.from, is.below, is.free)
 
     go : (o : Option ℕ) → IsCyclicDraw state.pid_max (cursor_of state s) (taken state s) o → Decides (is_none o) (HasNoNumber state s)
     go None d = (λ e. d, λ h. refl)

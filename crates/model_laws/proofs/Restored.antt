@@ -1,7 +1,7 @@
 -- What makes a saved table again leaves a sound state.
-use Rattle.std.proofs.Common.{◌≡◌, ℕ, Bool, true, false, not, map, Option, Some, None, refl, ap, ◌∙◌, inl, inr, if◌then◌else◌}
+use Rattle.std.proofs.Common.{◌≡◌, ℕ, true, not, map, Option, Some, None, refl, ap, ◌∙◌, inl, inr}
 use Rattle.std.specs.Option.{option_map_or}
-use Rattle.std.proofs.lemmas.Bool.{or_cases, not-true}
+use Rattle.std.proofs.lemmas.Bool.{or_cases, not-true, cond_both}
 use Rattle.std.proofs.lemmas.Bool.Decides.{not_from_Decides}
 use Rattle.model_laws.proofs.Refusals.{Decides-members}
 use Rattle.model_laws.proofs.Words.{Name, names_in_use, Row, Space, State, number, same_name, live_row, with_row, sweep, has_members, enlist, may_enlist, enlisted, put_cursor, with_cursor, IsIn, IsSound}
@@ -40,13 +40,10 @@ pub enlisted_keeps : (state : State) (n m : ℕ) → IsSound state → StaysSoun
 unfolding enlisted
 enlisted_keeps state n m sound =
     stays_or state (live_row state.rows n) _ sound (λ t e. stays_or state (live_row state.rows m) _ sound (λ l f.
-    goes t l (live_row-Some state.rows n t e).0 (live_row-Some state.rows m l f).0 (may_enlist state t l) refl))
-  where
-    goes : (t l : Row) → IsIn t state.rows → IsIn l state.rows → (b : Bool) → may_enlist state t l ≡ b
-        → StaysSound state (if b then sweep (with_row state t.name (enlist l)) else state)
-    goes t l i j false e = (sound, λ stamp below. below)
-    goes t l i j true e =
-        swept state _ (placed_leaves state sound.coherent t i (enlist l) (λ r. refl) (IsOpen-leader state sound t l i j e))
+    cond_both (may_enlist state t l) (sweep (with_row state t.name (enlist l))) state (StaysSound state) (λ may.
+    let i = (live_row-Some state.rows n t e).0 in
+    swept state _ (placed_leaves state sound.coherent t i (enlist l) (λ r. refl) (IsOpen-leader state sound t l i (live_row-Some state.rows m l f).0 may)))
+    (λ _. (sound, λ stamp below. below))))
 
 -- ---- the cursors
 
