@@ -1,14 +1,7 @@
 -- Chains of parents among the rows.
-use Rattle.std.proofs.Common.{◌≡◌, ℕ, zero, suc, ◌+◌, ◌-◌, ◌<◌, ◌≤◌, Bool, true, false, not, ◌==◌, List, [], ◌∷◌, ◌++◌, map, reverse, length, Option, Some, None, refl, sym, ap, ◌∙◌, subst, inl, inr, arith, filter, option_map, option_and_then, slice_index}
-use Rattle.std.proofs.lemmas.Bool.{eq-eqb, ne_eqb, not_from_false, not_from_true}
-use Rattle.std.proofs.lemmas.List.{length-map, reverse-append, length-reverse}
-use Rattle.model_laws.proofs.Words.{Name, Row, Space, climb, State, parent_space, path_up, beside, number, root_number, is_live, row_at, parent_number, IsIn, IsRising, IsWellNumbered, IsTreeOfSpaces, IsCoherent}
-use Rattle.model_laws.proofs.Lists.{IsIn-map, IsIn-filter, length-IsIn}
-use Rattle.model_laws.proofs.Chains.{Stops-at_root, climb-None, climb_cases, climb_suffix, IsIn-climb_first, IsIn-climb_parent, IsIn-climb_more}
-use Rattle.model_laws.proofs.Names.{own_name_in_use}
-use Rattle.model_laws.proofs.Rising.{unique_key}
+use Rattle.model_laws.proofs.Words.{◌≡◌, ℕ, zero, suc, ◌+◌, ◌-◌, ◌<◌, ◌≤◌, Bool, true, false, not, ◌==◌, List, [], ◌∷◌, ◌++◌, map, reverse, length, Option, Some, None, refl, sym, ap, ◌∙◌, subst, inl, inr, arith, filter, option_map, option_and_then, slice_index, eq-eqb, ne_eqb, not_from_false, not_from_true, length-map, reverse-append, length-reverse, Name, Row, Space, climb, State, parent_space, path_up, beside, number, root_number, is_live, row_at, parent_number, IsIn, IsRising, IsWellNumbered, IsTreeOfSpaces, IsCoherent}
+use Rattle.model_laws.proofs.Ground.{IsIn-map, IsIn-filter, length-IsIn, Stops-at_root, climb-None, climb_cases, climb_suffix, IsIn-climb_first, IsIn-climb_parent, IsIn-climb_more, own_name_in_use, unique_key, IsOnTree, IsOnTree-name, root_space_parent, space_at-Some, row_at-listed, row_at-Some}
 use Rattle.model_laws.specs.StepLaws.{IsRootInit}
-use Rattle.model_laws.proofs.Trees.{IsOnTree, IsOnTree-name, root_space_parent, space_at-Some, row_at-listed, row_at-Some}
 
 -- ---- how far number 1 is
 

@@ -1,7 +1,5 @@
 -- What a call comes to: an answer that changes nothing, or one of the changes that a call can make.
-use Rattle.std.proofs.Common.{◌≡◌, ℕ, ℤ, Bool, true, false, not, ◌&&◌, ◌||◌, ◌==◌, Option, Some, None, ap, find, length, is_none, nat_lt, nat_le}
-use Rattle.std.specs.Option.{option_map_or}
-use Rattle.model_laws.proofs.Words.{greatest_limit, Call, Fork, Exec, Exit, Wait, SetPgid, SetSid, MakeControl, RemoveControl, SetLimit, Move, Join, SetSubreaper, Which, Name, Row, Control, Reply, Forked, Done, Number, Reaped, NoneYet, ControlMade, State, path_up, level, root_number, number_or_zero, same_name, is_parent, is_live, live_row, task_at, with_row, draw, control_at, control_path, passed_limit, Outcome, answered, changed, forked, with_space, is_gone, is_init, rows_after_exit, fall, least_row, end_of, without_row, ended_children, target_of, group_for, set_group, has_members, start_session, set_executed, with_control, is_busy, without_control, with_limit, set_home, set_children_space, set_mark}
+use Rattle.model_laws.proofs.Words.{◌≡◌, ℕ, ℤ, Bool, true, false, not, ◌&&◌, ◌||◌, ◌==◌, Option, Some, None, ap, find, length, is_none, nat_lt, nat_le, option_map_or, greatest_limit, Call, Fork, Exec, Exit, Wait, SetPgid, SetSid, MakeControl, RemoveControl, SetLimit, Move, Join, SetSubreaper, Which, Name, Row, Control, Reply, Forked, Done, Number, Reaped, NoneYet, ControlMade, State, path_up, level, root_number, number_or_zero, same_name, is_parent, is_live, live_row, task_at, with_row, draw, control_at, control_path, passed_limit, Outcome, answered, changed, forked, with_space, is_gone, is_init, rows_after_exit, fall, least_row, end_of, without_row, ended_children, target_of, group_for, set_group, has_members, start_session, set_executed, with_control, is_busy, without_control, with_limit, set_home, set_children_space, set_mark}
 
 -- each namespace from t to the root has a number to give, and no control group from the caller's home up is at its limit
 pub record MayFork (state : State) (caller : Row) (t : ℕ) : Type 0 where

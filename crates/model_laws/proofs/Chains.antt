@@ -1,6 +1,5 @@
 -- Chains of parents.
-use Rattle.std.proofs.Common.{◌≡◌, ℕ, zero, suc, List, [], ◌∷◌, ◌++◌, length, Option, Some, None, refl, sym, ap, ◌∙◌, subst, ◌⊎◌, inl, inr, ◌+◌, ◌≤◌, arith, length-append}
-use Rattle.model_laws.proofs.Words.{climb, IsIn}
+use Rattle.model_laws.proofs.Words.{◌≡◌, ℕ, zero, suc, List, [], ◌∷◌, ◌++◌, length, Option, Some, None, refl, sym, ap, ◌∙◌, subst, ◌⊎◌, inl, inr, ◌+◌, ◌≤◌, arith, length-append, climb, IsIn}
 use Rattle.model_laws.proofs.Lists.{IsIn-append_right}
 
 -- the chain ends before it is cut off

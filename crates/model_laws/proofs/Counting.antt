@@ -1,14 +1,8 @@
 -- What changes a control group's count.
-use Rattle.std.proofs.Common.{◌≡◌, ℕ, ◌+◌, ◌<◌, Bool, true, false, not, ◌&&◌, ◌==◌, List, [], ◌∷◌, map, length, Some, refl, sym, ap, ◌∙◌, inl, inr, arith, filter, if◌then◌else◌}
-use Rattle.std.specs.Option.{option_map_or}
-use Rattle.std.proofs.lemmas.Bool.{not-true, eqb-true, eqb-false, not_from_false, false_from_ne_true, cond_both}
-use Rattle.std.proofs.lemmas.Bool.Decides.{same_from_decides}
-use Rattle.model_laws.proofs.Words.{Call, Fork, Exit, Wait, Move, Name, Row, Exited, Control, Forked, Done, Reaped, contains, State, root_number, same_name, is_live, live_row, number_or_zero, on_row, with_row, control_at, control_path, count, is_below, Outcome, sweep, with_space, is_init, goes_in_fall, row_after_exit, rows_after_exit, row_after_fall, rows_after_fall, new_parent, fall, without_row, set_group, start_session, set_executed, with_control, is_busy, rehome, without_control, limited, with_limit, set_home, set_children_space, set_mark, IsIn, IsRising, IsTreeOfControls, IsSound}
+use Rattle.model_laws.proofs.Words.{◌≡◌, ℕ, ◌+◌, ◌<◌, Bool, true, false, not, ◌&&◌, ◌==◌, List, [], ◌∷◌, map, length, Some, refl, sym, ap, ◌∙◌, inl, inr, arith, filter, if◌then◌else◌, option_map_or, not-true, eqb-true, eqb-false, not_from_false, false_from_ne_true, cond_both, same_from_decides, Call, Fork, Exit, Wait, Move, Name, Row, Exited, Control, Forked, Done, Reaped, contains, State, root_number, same_name, is_live, live_row, number_or_zero, on_row, with_row, control_at, control_path, count, is_below, Outcome, sweep, with_space, is_init, goes_in_fall, row_after_exit, rows_after_exit, row_after_fall, rows_after_fall, new_parent, fall, without_row, set_group, start_session, set_executed, with_control, is_busy, rehome, without_control, limited, with_limit, set_home, set_children_space, set_mark, IsIn, IsRising, IsTreeOfControls, IsSound}
+use Rattle.model_laws.proofs.Ground.{IsIn-map, IsIn-from_filter, IsIn-from_contains, contains-from_IsIn, filter-same, filter-all, on_row-keeps, same_name-true, same_name-refl, control_to_root, control_at-Some, live_row-Some}
 use Rattle.model_laws.specs.CountLaws.{one_if, may_change_counts, ForkCountsOne, ReapingCountsOneLess, FallCountsTaken, MoveCountsBoth, NothingElseCounts}
 use Rattle.model_laws.proofs.Refusals.{step_comes}
-use Rattle.model_laws.proofs.Lists.{IsIn-map, IsIn-from_filter, IsIn-from_contains, contains-from_IsIn, filter-same, filter-all}
-use Rattle.model_laws.proofs.Names.{on_row-keeps, same_name-true, same_name-refl}
-use Rattle.model_laws.proofs.Trees.{control_to_root, control_at-Some, live_row-Some}
 use Rattle.model_laws.proofs.Calls.{Comes, still, born, born_first, fell, handed_on, waits, reaped, grouped, led, executed, control_made, control_removed, limit_set, moved, joined, marked, no_answer}
 use Rattle.model_laws.proofs.EndsKept.{reaped_row}
 use Rattle.model_laws.proofs.ControlsKept.{path_old, others, other_path, no_child, control_path-map, path_of_parent, path_of_child}

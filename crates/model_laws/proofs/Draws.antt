@@ -1,7 +1,5 @@
 -- The draw is the cyclic one.
-use Rattle.std.proofs.Common.{◌≡◌, ℕ, ◌<◌, ◌≤◌, max, false, cond, List, Some, None, arith, inl, inr, nat_lt}
-use Rattle.std.proofs.lemmas.Bool.{ltb-true, ltb-false, cond_both}
-use Rattle.model_laws.proofs.Words.{contains, least_free, restart, cyclic_draw}
+use Rattle.model_laws.proofs.Words.{◌≡◌, ℕ, ◌<◌, ◌≤◌, max, false, cond, List, Some, None, arith, inl, inr, nat_lt, ltb-true, ltb-false, cond_both, contains, least_free, restart, cyclic_draw}
 use Rattle.pid_types.proofs.LeastFree as LeastFree
 use Rattle.model_laws.specs.Draws.{IsLeastFree, IsFull, IsCyclicDraw}
 

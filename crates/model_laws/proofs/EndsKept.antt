@@ -1,11 +1,6 @@
 -- Wait and the fall of a namespace leave a sound state.
-use Rattle.std.proofs.Common.{◌≡◌, ℕ, Bool, true, false, not, ◌==◌, List, [], ◌∷◌, Some, refl, sym, ap, ◌∙◌, subst, inl, inr, arith, filter}
-use Rattle.std.proofs.lemmas.List.{map-id}
-use Rattle.std.proofs.lemmas.Bool.{eqb-false, or_cases, or_from, or_parts, or_left, or_right, not-true, not_from_false, false_from_ne_true}
-use Rattle.model_laws.proofs.Words.{Which, Name, Row, Space, State, path_up, is_within, number, root_number, same_name, is_live, is_member, matching, least_row, without_row, ended_children, has_parent_within, goes_in_fall, row_after_fall, rows_after_fall, fallen_below, fall, IsIn, IsCoherent}
-use Rattle.model_laws.proofs.Lists.{IsIn-from_filter, IsIn-from_contains, contains-from_IsIn}
-use Rattle.model_laws.proofs.Names.{same_name-true, own_name_in_use, number-on_path, number-off_path}
-use Rattle.model_laws.proofs.Trees.{same_row, path_first, path_trans, path_antisym}
+use Rattle.model_laws.proofs.Words.{◌≡◌, ℕ, Bool, true, false, not, ◌==◌, List, [], ◌∷◌, Some, refl, sym, ap, ◌∙◌, subst, inl, inr, arith, filter, map-id, eqb-false, or_cases, or_from, or_parts, or_left, or_right, not-true, not_from_false, false_from_ne_true, Which, Name, Row, Space, State, path_up, is_within, number, root_number, same_name, is_live, is_member, matching, least_row, without_row, ended_children, has_parent_within, goes_in_fall, row_after_fall, rows_after_fall, fallen_below, fall, IsIn, IsCoherent}
+use Rattle.model_laws.proofs.Ground.{IsIn-from_filter, IsIn-from_contains, contains-from_IsIn, same_name-true, own_name_in_use, number-on_path, number-off_path, same_row, path_first, path_trans, path_antisym}
 use Rattle.model_laws.proofs.Survivors.{KeepsRest, Leaves, leaves, parents_stay, settled, pairs}
 use Rattle.model_laws.proofs.Ancestry.{number-root_of_row, root_path, row_on_tree}
 use Rattle.model_laws.proofs.Refusals.{may-match}

@@ -1,14 +1,8 @@
 -- What a fall does to each task.
-use Rattle.std.proofs.Common.{◌≡◌, ℕ, Bool, true, false, not, Some, refl, sym, ap, ◌∙◌, subst, filter, is_some, arith}
-use Rattle.std.specs.Option.{option_map_or}
-use Rattle.std.proofs.lemmas.Bool.{and_left, or_from, or_right, not_from_false, not-true, false_from_ne_true}
-use Rattle.model_laws.proofs.Words.{Name, Row, Space, Life, Zombie, Exited, Killed, Done, IsIn, State, path_up, number, is_within, is_member, same_name, Outcome, sweep, is_init, has_parent_within, goes_in_fall, row_after_fall, rows_after_fall, fallen_below, fall, IsSound, Exit}
+use Rattle.model_laws.proofs.Words.{◌≡◌, ℕ, Bool, true, false, not, Some, refl, sym, ap, ◌∙◌, subst, filter, is_some, arith, option_map_or, and_left, or_from, or_right, not_from_false, not-true, false_from_ne_true, Name, Row, Space, Life, Zombie, Exited, Killed, Done, IsIn, State, path_up, number, is_within, is_member, same_name, Outcome, sweep, is_init, has_parent_within, goes_in_fall, row_after_fall, rows_after_fall, fallen_below, fall, IsSound, Exit}
+use Rattle.model_laws.proofs.Ground.{IsIn-map, IsIn-from_map, IsIn-filter, IsIn-from_filter, IsIn-from_contains, contains-from_IsIn, option_both, same_name-true, same_name-refl, own_name_in_use, number-on_path, number-within, unique_key, path_first, same_row, live_row-Some}
 use Rattle.model_laws.specs.FallLaws.{IsMember, HasMemberParent, IsOtherMember, HasFallen, ExitOfInitFalls}
 use Rattle.model_laws.proofs.Refusals.{step_comes}
-use Rattle.model_laws.proofs.Lists.{IsIn-map, IsIn-from_map, IsIn-filter, IsIn-from_filter, IsIn-from_contains, contains-from_IsIn, option_both}
-use Rattle.model_laws.proofs.Names.{same_name-true, same_name-refl, own_name_in_use, number-on_path, number-within}
-use Rattle.model_laws.proofs.Rising.{unique_key}
-use Rattle.model_laws.proofs.Trees.{path_first, same_row, live_row-Some}
 use Rattle.model_laws.proofs.Sweeps.{from_kept, to_kept}
 use Rattle.model_laws.proofs.Calls.{Comes, still, fell, handed_on, no_answer}
 

@@ -1,8 +1,5 @@
 -- Trees of things that have ids, and parents among them: namespaces, and control groups.
-use Rattle.std.proofs.Common.{◌≡◌, ℕ, zero, suc, ◌<◌, ◌≤◌, ◌==◌, List, [], ◌∷◌, ◌++◌, map, length, Option, Some, None, refl, sym, ap, ◌∙◌, subst, ◌⊎◌, inl, inr, arith, find, option_map, option_and_then, IfSome}
-use Rattle.std.proofs.Math.Path.{fun_ext}
-use Rattle.std.proofs.lemmas.Bool.{eq-eqb, ne_eqb}
-use Rattle.model_laws.proofs.Words.{climb, IsIn, IsRising, IsTree}
+use Rattle.model_laws.proofs.Words.{◌≡◌, ℕ, zero, suc, ◌<◌, ◌≤◌, ◌==◌, List, [], ◌∷◌, ◌++◌, map, length, Option, Some, None, refl, sym, ap, ◌∙◌, subst, ◌⊎◌, inl, inr, arith, find, option_map, option_and_then, IfSome, fun_ext, eq-eqb, ne_eqb, climb, IsIn, IsRising, IsTree}
 use Rattle.model_laws.proofs.Lists.{IsIn-from_map, find-map, find-none, find-append_found, find-append_last, each_pushed, option_both}
 use Rattle.model_laws.proofs.Chains.{climb-same, climb_parent, climb_cases, climb_short, IsIn-climb_parent, IsIn-climb_more}
 use Rattle.model_laws.proofs.Rising.{IsRising-push, find-key, find-key_at}

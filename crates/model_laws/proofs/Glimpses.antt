@@ -1,15 +1,8 @@
 -- Queries are answered from what the caller's namespace sees.
-use Rattle.std.proofs.Common.{◌≡◌, ℕ, zero, suc, Bool, true, false, ◌||◌, ◌&&◌, ◌==◌, ◌<◌, ◌≤◌, List, [], ◌∷◌, map, reverse, Option, Some, None, refl, sym, ap, ◌∙◌, subst, arith, inl, inr, nat_lt, nat_le, find, filter, filter_map, is_some, unwrap_or, option_map, slice_index, if◌then◌else◌}
-use Rattle.std.specs.Option.{option_eq, option_map_or}
-use Rattle.std.proofs.Math.Path.{fun_ext}
-use Rattle.std.proofs.lemmas.Bool.{false_from_ne_true, lt-ltb, ltb-true, eqb-true, ne_eqb, eqb-false, and_parts}
-use Rattle.std.proofs.lemmas.Bool.Decides.{nat_tests}
-use Rattle.model_laws.proofs.Words.{Name, Row, Kind, Reply, Number, LevelList, End, least_of, State, number, number_or_zero, numbers_from, beside, beside_from, is_numbered, live_row, task_at, path_up, names_in_use, of_task, self_or_task, name_by, get_pid, get_ppid, get_pgid, get_sid, ns_pid, next, Glimpse, sight, seen, is_seen, glimpse_of, glimpse_at, self_or_glimpse, number_by, of_glimpse, step, IsIn, IsCoherent}
+use Rattle.model_laws.proofs.Words.{◌≡◌, ℕ, zero, suc, Bool, true, false, ◌||◌, ◌&&◌, ◌==◌, ◌<◌, ◌≤◌, List, [], ◌∷◌, map, reverse, Option, Some, None, refl, sym, ap, ◌∙◌, subst, arith, inl, inr, nat_lt, nat_le, find, filter, filter_map, is_some, unwrap_or, option_map, slice_index, if◌then◌else◌, option_eq, option_map_or, fun_ext, false_from_ne_true, lt-ltb, ltb-true, eqb-true, ne_eqb, eqb-false, and_parts, nat_tests, Name, Row, Kind, Reply, Number, LevelList, End, least_of, State, number, number_or_zero, numbers_from, beside, beside_from, is_numbered, live_row, task_at, path_up, names_in_use, of_task, self_or_task, name_by, get_pid, get_ppid, get_pgid, get_sid, ns_pid, next, Glimpse, sight, seen, is_seen, glimpse_of, glimpse_at, self_or_glimpse, number_by, of_glimpse, step, IsIn, IsCoherent}
+use Rattle.model_laws.proofs.Ground.{IsIn-map, IsIn-from_map, IsIn-filter, IsIn-from_filter, find-Some, find-None, find-none, find-only, number-within, is_numbered-true, own_name_in_use, group_in_use, session_in_use, same_row, live_row-Some, task_at-own}
 use Rattle.pid_types.specs.declared.call.Kind.TheVariants.{Task, Group, Session}
 use Rattle.model_laws.specs.SightLaws.{Query, IsQuery, own_number, parent_number, group_of, session_of, numbers_of, next_from, SeesSame, QueriesAnswerSeen, SameSightSameAnswers}
-use Rattle.model_laws.proofs.Lists.{IsIn-map, IsIn-from_map, IsIn-filter, IsIn-from_filter, find-Some, find-None, find-none, find-only}
-use Rattle.model_laws.proofs.Names.{number-within, is_numbered-true, own_name_in_use, group_in_use, session_in_use}
-use Rattle.model_laws.proofs.Trees.{same_row, live_row-Some, task_at-own}
 
 -- ---- the glimpse of a number
 

@@ -1,9 +1,6 @@
 -- Rows with one more, and the numbers that a new name is made of.
-use Rattle.std.proofs.Common.{◌≡◌, ℕ, ◌<◌, false, List, [], ◌∷◌, ◌++◌, map, reverse, Some, None, refl, sym, ap, ◌∙◌, ◌⊎◌, inl, inr, arith, nat_lt, is_none, unwrap_or, find}
-use Rattle.std.proofs.lemmas.List.{reverse-append, map-append}
-use Rattle.std.proofs.lemmas.Bool.{eqb-true, eq-eqb, ltb-true, ltb-false, cond_both}
-use Rattle.model_laws.proofs.Words.{Row, contains, State, path_up, beside, number, root_number, taken, cursor_of, draw, insert_row, drawn, child_of, IsIn, IsRising}
-use Rattle.model_laws.proofs.Lists.{each_of_map, IsIn-map, IsIn-reverse, IsIn-to_reverse, find-None, option_both}
+use Rattle.model_laws.proofs.Words.{◌≡◌, ℕ, ◌<◌, false, List, [], ◌∷◌, ◌++◌, map, reverse, Some, None, refl, sym, ap, ◌∙◌, ◌⊎◌, inl, inr, arith, nat_lt, is_none, unwrap_or, find, reverse-append, map-append, eqb-true, eq-eqb, ltb-true, ltb-false, cond_both, Row, contains, State, path_up, beside, number, root_number, taken, cursor_of, draw, insert_row, drawn, child_of, IsIn, IsRising}
+use Rattle.model_laws.proofs.Ground.{each_of_map, IsIn-map, IsIn-reverse, IsIn-to_reverse, find-None, option_both}
 use Rattle.model_laws.proofs.Draws.{draw-Some}
 
 -- ---- one row more

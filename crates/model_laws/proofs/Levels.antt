@@ -1,11 +1,6 @@
 -- A name's number in a namespace is the entry at the namespace's level.
-use Rattle.std.proofs.Common.{◌≡◌, ◌≤◌, ◌↔◌, ℕ, zero, suc, ◌+◌, true, not, ◌==◌, List, [], ◌∷◌, ◌++◌, reverse, length, drop, Option, Some, None, refl, sym, ap, ◌∙◌, inl, inr, arith, length-append, slice_get, is_some}
-use Rattle.std.proofs.lemmas.List.{reverse-append, length-reverse, append_assoc}
-use Rattle.std.proofs.lemmas.Bool.{eq-eqb, ne_eqb, and_left, not_from_false, cases_Bool}
-use Rattle.model_laws.proofs.Words.{Name, Space, Control, State, climb, parent_space, path_up, level, beside, beside_from, number, numbers_from, names_in_use, taken, parent_control, control_path, is_dead, sweep, IsIn, IsSound}
-use Rattle.model_laws.proofs.Lists.{IsIn-reverse, filter-all}
-use Rattle.model_laws.proofs.Names.{number-within, number-on_path}
-use Rattle.model_laws.proofs.Chains.{Stops, Stops-at_root, climb-None, climb-Some, climb-stopped, climb_suffix, length-climb}
+use Rattle.model_laws.proofs.Words.{◌≡◌, ◌≤◌, ◌↔◌, ℕ, zero, suc, ◌+◌, true, not, ◌==◌, List, [], ◌∷◌, ◌++◌, reverse, length, drop, Option, Some, None, refl, sym, ap, ◌∙◌, inl, inr, arith, length-append, slice_get, is_some, reverse-append, length-reverse, append_assoc, eq-eqb, ne_eqb, and_left, not_from_false, cases_Bool, Name, Space, Control, State, climb, parent_space, path_up, level, beside, beside_from, number, numbers_from, names_in_use, taken, parent_control, control_path, is_dead, sweep, IsIn, IsSound}
+use Rattle.model_laws.proofs.Ground.{IsIn-reverse, filter-all, number-within, number-on_path, Stops, Stops-at_root, climb-None, climb-Some, climb-stopped, climb_suffix, length-climb}
 use Rattle.model_laws.proofs.Sweeps.{kept-by_name, to_kept}
 
 -- beside an id stands the number that has as many before it

@@ -7,6 +7,7 @@ pub mod Chains
 pub mod Names
 pub mod Rising
 pub mod Trees
+pub mod Ground
 pub mod Forests
 pub mod Sweeps
 pub mod Kept

@@ -1,11 +1,6 @@
 -- No fork raises a count above its limit.
-use Rattle.std.proofs.Common.{◌≡◌, ℕ, ◌+◌, ◌≤◌, Bool, false, List, [], ◌∷◌, length, Option, Some, None, cond, refl, sym, ap, ◌∙◌, arith, filter, nat_lt, option_and_then}
-use Rattle.std.specs.Option.{option_map_or}
-use Rattle.std.proofs.lemmas.Bool.{ltb-false, le-ltb}
-use Rattle.model_laws.proofs.Words.{Call, Fork, Row, Control, Entry, Forked, State, control_at, control_path, count, is_below, is_limited_below, passed_limit, Outcome, sweep, insert_row, with_space, child_of, step, ForkedWithinLimits, ForksStayWithinLimits, IsIn, IsSound, IsBelow, forked}
-use Rattle.model_laws.proofs.Lists.{find-None}
-use Rattle.model_laws.proofs.Rising.{find-key}
-use Rattle.model_laws.proofs.Trees.{row_at-listed}
+use Rattle.model_laws.proofs.Words.{◌≡◌, ℕ, ◌+◌, ◌≤◌, Bool, false, List, [], ◌∷◌, length, Option, Some, None, cond, refl, sym, ap, ◌∙◌, arith, filter, nat_lt, option_and_then, option_map_or, ltb-false, le-ltb, Call, Fork, Row, Control, Entry, Forked, State, control_at, control_path, count, is_below, is_limited_below, passed_limit, Outcome, sweep, insert_row, with_space, child_of, step, ForkedWithinLimits, ForksStayWithinLimits, IsIn, IsSound, IsBelow, forked}
+use Rattle.model_laws.proofs.Ground.{find-None, find-key, row_at-listed}
 use Rattle.model_laws.proofs.Inserts.{IsIn-insert_new}
 use Rattle.model_laws.proofs.Calls.{MayFork, Comes, still, born, born_first, no_answer}
 use Rattle.model_laws.proofs.Refusals.{step_comes}

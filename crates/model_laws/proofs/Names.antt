@@ -1,11 +1,5 @@
 -- Names and their numbers.
-use Rattle.std.proofs.Common.{◌≡◌, ℕ, Bool, true, ◌==◌, ◌≤◌, List, [], ◌∷◌, reverse, length, Option, Some, None, refl, ap, inl, inr, arith}
-use Rattle.std.specs.Option.{option_eq}
-use Rattle.std.specs.Cmp.Lexicographic.{pointwise}
-use Rattle.std.proofs.lemmas.Slice.Eq.{bytes_eq-Decides}
-use Rattle.std.proofs.lemmas.List.{length-reverse}
-use Rattle.std.proofs.lemmas.Bool.{eqb-true, eq-eqb, and_parts, and_from, cond_both}
-use Rattle.model_laws.proofs.Words.{Name, Row, Space, State, beside, path_up, number, is_numbered, same_name, is_parent, names_in_use, taken, on_row, IsIn}
+use Rattle.model_laws.proofs.Words.{◌≡◌, ℕ, Bool, true, ◌==◌, ◌≤◌, List, [], ◌∷◌, reverse, length, Option, Some, None, refl, ap, inl, inr, arith, option_eq, pointwise, bytes_eq-Decides, length-reverse, eqb-true, eq-eqb, and_parts, and_from, cond_both, Name, Row, Space, State, beside, path_up, number, is_numbered, same_name, is_parent, names_in_use, taken, on_row, IsIn}
 use Rattle.model_laws.proofs.Lists.{IsIn-reverse, IsIn-to_reverse, IsIn-flat_map, IsIn-from_flat_map, IsIn-filter_map, IsIn-from_filter_map}
 
 -- ---- when two names are one

@@ -1,12 +1,7 @@
 -- Who takes the children of a task that ends: the nearest subreaper, or else the init.
-use Rattle.std.proofs.Common.{◌≡◌, ℕ, zero, suc, ◌+◌, ◌<◌, ◌≤◌, Bool, true, false, ◌&&◌, ◌==◌, [], length, Option, Some, None, refl, sym, ap, ◌∙◌, subst, inl, inr, arith, find, option_map, drop}
-use Rattle.std.specs.Option.{option_map_or}
-use Rattle.std.proofs.lemmas.Bool.{eqb-true, eq-eqb, and_parts, and_from, cases_Bool, false_from_ne_true}
-use Rattle.model_laws.proofs.Words.{Row, IsIn, climb, State, root_number, is_live, row_at, task_at, parent_number, ancestors, is_subreaper_in, nearest_subreaper, new_parent, IsCoherent, number, path_up}
-use Rattle.model_laws.proofs.Names.{own_name_in_use, number-on_path}
-use Rattle.model_laws.proofs.Lists.{option_both}
+use Rattle.model_laws.proofs.Words.{◌≡◌, ℕ, zero, suc, ◌+◌, ◌<◌, ◌≤◌, Bool, true, false, ◌&&◌, ◌==◌, [], length, Option, Some, None, refl, sym, ap, ◌∙◌, subst, inl, inr, arith, find, option_map, drop, option_map_or, eqb-true, eq-eqb, and_parts, and_from, cases_Bool, false_from_ne_true, Row, IsIn, climb, State, root_number, is_live, row_at, task_at, parent_number, ancestors, is_subreaper_in, nearest_subreaper, new_parent, IsCoherent, number, path_up}
+use Rattle.model_laws.proofs.Ground.{own_name_in_use, number-on_path, option_both, row_at-listed, path_first, space_at-Some, task_at-own}
 use Rattle.model_laws.specs.ParentLaws.{IsAbove, HasNoSubreaper, TakesOrphans}
-use Rattle.model_laws.proofs.Trees.{row_at-listed, path_first, space_at-Some, task_at-own}
 use Rattle.model_laws.proofs.Ancestry.{parent_number-at, top_row, row_parent, Climbs, one_step, way_to_one, no_further}
 
 -- what is found along a chain is so many parents above its beginning, and nothing nearer passes

@@ -1,10 +1,7 @@
 -- What a wait reaps is the least of the selected children that have ended.
-use Rattle.std.proofs.Common.{◌↔◌, ◌≡◌, ℕ, ◌≤◌, true, false, not, List, [], ◌∷◌, Some, None, refl, ap, ◌∙◌, subst, inl, inr, arith}
-use Rattle.std.proofs.lemmas.Bool.{not-true, not_from_false, cases_Bool}
-use Rattle.std.proofs.lemmas.Bool.Decides.{nat_tests}
-use Rattle.model_laws.proofs.Words.{Which, Row, Zombie, Reaped, NoneYet, IsIn, State, number_or_zero, is_live, Outcome, matching, least_row, end_of, ended_children, Wait}
+use Rattle.model_laws.proofs.Words.{◌↔◌, ◌≡◌, ℕ, ◌≤◌, true, false, not, List, [], ◌∷◌, Some, None, refl, ap, ◌∙◌, subst, inl, inr, arith, not-true, not_from_false, cases_Bool, nat_tests, Which, Row, Zombie, Reaped, NoneYet, IsIn, State, number_or_zero, is_live, Outcome, matching, least_row, end_of, ended_children, Wait}
+use Rattle.model_laws.proofs.Ground.{IsIn-filter, IsIn-from_filter}
 use Rattle.model_laws.specs.WaitLaws.{MayBeReaped, IsReaped, WaitReapsLeast, NoneYetHasEnded}
-use Rattle.model_laws.proofs.Lists.{IsIn-filter, IsIn-from_filter}
 use Rattle.model_laws.proofs.Calls.{Comes, still, waits, reaped, no_answer}
 use Rattle.model_laws.proofs.EndsKept.{least_row-IsIn}
 use Rattle.model_laws.proofs.Refusals.{may-match, step_comes}

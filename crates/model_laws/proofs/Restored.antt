@@ -1,14 +1,8 @@
 -- What makes a saved table again leaves a sound state.
-use Rattle.std.proofs.Common.{◌≡◌, ℕ, true, not, map, Option, Some, None, refl, ap, ◌∙◌, inl, inr}
-use Rattle.std.specs.Option.{option_map_or}
-use Rattle.std.proofs.lemmas.Bool.{or_cases, not-true, cond_both}
-use Rattle.std.proofs.lemmas.Bool.Decides.{not_from_Decides}
+use Rattle.model_laws.proofs.Words.{◌≡◌, ℕ, true, not, map, Option, Some, None, refl, ap, ◌∙◌, inl, inr, option_map_or, or_cases, not-true, cond_both, not_from_Decides, Name, names_in_use, Row, Space, State, number, same_name, live_row, with_row, sweep, has_members, enlist, may_enlist, enlisted, put_cursor, with_cursor, IsIn, IsSound}
+use Rattle.model_laws.proofs.Ground.{each_of_map, same_name-true, own_name_in_use, session_in_use, same_row, live_row-Some}
 use Rattle.model_laws.proofs.Refusals.{Decides-members}
-use Rattle.model_laws.proofs.Words.{Name, names_in_use, Row, Space, State, number, same_name, live_row, with_row, sweep, has_members, enlist, may_enlist, enlisted, put_cursor, with_cursor, IsIn, IsSound}
 use Rattle.model_laws.specs.RestoreLaws.{StaysSound}
-use Rattle.model_laws.proofs.Lists.{each_of_map}
-use Rattle.model_laws.proofs.Names.{same_name-true, own_name_in_use, session_in_use}
-use Rattle.model_laws.proofs.Trees.{same_row, live_row-Some}
 use Rattle.model_laws.proofs.SpaceMaps.{number-map_spaces}
 use Rattle.model_laws.proofs.Survivors.{Leaves, spaces_leave}
 use Rattle.model_laws.proofs.Kept.{IsOpen, placed_leaves, swept}

@@ -1,12 +1,7 @@
 -- No number is handed out twice.
-use Rattle.std.proofs.Common.{◌≡◌, ℕ, zero, suc, ◌+◌, ◌<◌, true, List, [], ◌∷◌, length, take, Some, refl, sym, ap, ◌∙◌, subst, inl, arith, add-one, slice_get}
-use Rattle.std.proofs.lemmas.Bool.{eqb-true}
-use Rattle.std.proofs.lemmas.List.{length-map, length-take-le}
-use Rattle.std.proofs.lemmas.Option.{slice_get_within}
-use Rattle.model_laws.proofs.Words.{Call, Name, Row, Space, Forked, Entry, State, path_up, number, root_number, is_live, row_at, names_in_use, Outcome, sweep, child_of, with_child, with_cursors, step, calls_of, Along, RepliesAsOne, IsIn, IsCoherent, IsSound, IsBelow, forked, moved_cursor}
+use Rattle.model_laws.proofs.Words.{◌≡◌, ℕ, zero, suc, ◌+◌, ◌<◌, true, List, [], ◌∷◌, length, take, Some, refl, sym, ap, ◌∙◌, subst, inl, arith, add-one, slice_get, eqb-true, length-map, length-take-le, slice_get_within, Call, Name, Row, Space, Forked, Entry, State, path_up, number, root_number, is_live, row_at, names_in_use, Outcome, sweep, child_of, with_child, with_cursors, step, calls_of, Along, RepliesAsOne, IsIn, IsCoherent, IsSound, IsBelow, forked, moved_cursor}
+use Rattle.model_laws.proofs.Ground.{user_of_name, IsIn-names_in_use, row_at-listed, live_row-Some}
 use Rattle.model_laws.specs.ReuseLaws.{NoReuse, state_at, IsInUse, ShareNumber}
-use Rattle.model_laws.proofs.Names.{user_of_name, IsIn-names_in_use}
-use Rattle.model_laws.proofs.Trees.{row_at-listed, live_row-Some}
 use Rattle.model_laws.proofs.Inserts.{IsIn-insert_new, IsIn-insert_old}
 use Rattle.model_laws.proofs.Sweeps.{name_number}
 use Rattle.model_laws.proofs.Calls.{MayFork, Comes, still, born, born_first, no_answer}

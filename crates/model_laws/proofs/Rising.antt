@@ -1,7 +1,5 @@
 -- Lists that rise by a key.
-use Rattle.std.proofs.Common.{◌≡◌, ℕ, ◌<◌, Bool, ◌==◌, List, [], ◌∷◌, ◌++◌, map, Some, refl, sym, subst, inl, inr, arith, filter, find, option_map, ap, ◌∙◌}
-use Rattle.std.proofs.lemmas.Bool.{eqb-true, eq-eqb}
-use Rattle.model_laws.proofs.Words.{Row, root_number, row_at, IsIn, IsRising}
+use Rattle.model_laws.proofs.Words.{◌≡◌, ℕ, ◌<◌, Bool, ◌==◌, List, [], ◌∷◌, ◌++◌, map, Some, refl, sym, subst, inl, inr, arith, filter, find, option_map, ap, ◌∙◌, eqb-true, eq-eqb, Row, root_number, row_at, IsIn, IsRising}
 use Rattle.model_laws.proofs.Lists.{IsIn-map, IsIn-from_map, IsIn-from_filter, find-Some, find-only, find-map, find-same, each_pushed}
 
 -- what is left out of a rising list leaves it rising

@@ -1,11 +1,7 @@
 -- Every call leaves a sound state, and the root namespace stands.
-use Rattle.std.proofs.Common.{◌≡◌, ℕ, suc, ◌+◌, ◌<◌, true, false, List, [], ◌∷◌, length, Some, refl, sym, ap, ◌∙◌, subst, inl, inr, arith, IfSome}
-use Rattle.std.specs.Option.{option_map_or}
-use Rattle.model_laws.proofs.Words.{Call, Row, Space, Control, HasGoodPidMax, climb, State, root_state, root_init, root_name, IsIn, Name, path_up, number, names_in_use, control_at, control_path, is_gone, step, makes_id, state_after, IsSound, IsBelow, IsWellNumbered, HasGoodParents, space_at, Outcome, set_group, start_session, set_executed, set_home, set_mark, HasGoodChildrenSpace, HasLiveInit, IsEmptied, HasGoodLimit}
-use Rattle.model_laws.proofs.Lists.{only}
+use Rattle.model_laws.proofs.Words.{◌≡◌, ℕ, suc, ◌+◌, ◌<◌, true, false, List, [], ◌∷◌, length, Some, refl, sym, ap, ◌∙◌, subst, inl, inr, arith, IfSome, option_map_or, Call, Row, Space, Control, HasGoodPidMax, climb, State, root_state, root_init, root_name, IsIn, Name, path_up, number, names_in_use, control_at, control_path, is_gone, step, makes_id, state_after, IsSound, IsBelow, IsWellNumbered, HasGoodParents, space_at, Outcome, set_group, start_session, set_executed, set_home, set_mark, HasGoodChildrenSpace, HasLiveInit, IsEmptied, HasGoodLimit}
+use Rattle.model_laws.proofs.Ground.{only, space_at-Some, live_row-Some, is_numbered-true}
 use Rattle.model_laws.specs.Script.{EndsSound}
-use Rattle.model_laws.proofs.Trees.{space_at-Some, live_row-Some}
-use Rattle.model_laws.proofs.Names.{is_numbered-true}
 use Rattle.model_laws.proofs.Kept.{IsBelow-next, swept, swept_below, row_leaves, placed_leaves, join_leaves, group_for-IsOpen, target_of-IsIn, target_session, IsOpen-new}
 use Rattle.model_laws.proofs.Survivors.{settled}
 use Rattle.model_laws.specs.RestoreLaws.{StaysSound}

@@ -1,10 +1,6 @@
 -- Changes by which rows go and change, and namespaces fall.
-use Rattle.std.proofs.Common.{◌≡◌, ℕ, ◌<◌, Bool, true, false, List, map, Some, None, refl, sym, ap, ◌∙◌, subst, inl, inr, filter}
-use Rattle.std.proofs.lemmas.List.{map-id}
-use Rattle.model_laws.proofs.Words.{Name, Row, Space, Control, State, path_up, number, root_number, is_live, names_in_use, control_at, IsIn, IsRising, HasGoodParents, HasGoodChildrenSpace, HasGoodGroups, HasLiveInit, IsEmptied, IsCoherent, IsBelow}
-use Rattle.model_laws.proofs.Lists.{IsIn-map, IsIn-filter, IsIn-from_filter, filter-all, each_of_map}
-use Rattle.model_laws.proofs.Names.{Uses, user_of_name, IsIn-names_in_use, group_in_use, session_in_use}
-use Rattle.model_laws.proofs.Rising.{IsRising-filter, roots-map}
+use Rattle.model_laws.proofs.Words.{◌≡◌, ℕ, ◌<◌, Bool, true, false, List, map, Some, None, refl, sym, ap, ◌∙◌, subst, inl, inr, filter, map-id, Name, Row, Space, Control, State, path_up, number, root_number, is_live, names_in_use, control_at, IsIn, IsRising, HasGoodParents, HasGoodChildrenSpace, HasGoodGroups, HasLiveInit, IsEmptied, IsCoherent, IsBelow}
+use Rattle.model_laws.proofs.Ground.{IsIn-map, IsIn-filter, IsIn-from_filter, filter-all, each_of_map, Uses, user_of_name, IsIn-names_in_use, group_in_use, session_in_use, IsRising-filter, roots-map}
 use Rattle.model_laws.proofs.SpaceMaps.{HasGoodParents-map, HasGoodChildrenSpace-map, path_up-map, number-map_spaces, IsTreeOfSpaces-map, IsWellNumbered-map, HasGoodParents-kept}
 use Rattle.model_laws.proofs.Ancestry.{chain_kept}
 

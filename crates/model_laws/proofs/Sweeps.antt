@@ -1,13 +1,7 @@
 -- The sweep takes away no namespace in which a name in use has a number, and leaves a sound state.
-use Rattle.std.proofs.Common.{◌≡◌, ℕ, false, not, ◌==◌, List, [], ◌∷◌, length, Some, None, refl, sym, ap, ◌∙◌, subst, inl, inr, arith, option_and_then}
-use Rattle.std.proofs.lemmas.Bool.{eqb-true, ne_eqb, and_left, and_right, not_from_false, not-true, cases_Bool}
-use Rattle.model_laws.proofs.Words.{Name, Row, Space, State, space_at, parent_space, path_up, number, names_in_use, taken, is_dead, sweep, IsIn, HasGoodChildrenSpace, IsTreeOfSpaces, IsCoherent, IsSound}
+use Rattle.model_laws.proofs.Words.{◌≡◌, ℕ, false, not, ◌==◌, List, [], ◌∷◌, length, Some, None, refl, sym, ap, ◌∙◌, subst, inl, inr, arith, option_and_then, eqb-true, ne_eqb, and_left, and_right, not_from_false, not-true, cases_Bool, Name, Row, Space, State, space_at, parent_space, path_up, number, names_in_use, taken, is_dead, sweep, IsIn, HasGoodChildrenSpace, IsTreeOfSpaces, IsCoherent, IsSound}
+use Rattle.model_laws.proofs.Ground.{IsIn-filter, IsIn-from_filter, find-filter, option_both, length-IsIn, climb-same, number-on_path, number-within, number-same_path, own_name_in_use, IsIn-taken, user_of_number, IsRising-filter, space_at-Some, space_at-listed, IsOnTree, IsOnTree-name, path_trans}
 use Rattle.model_laws.proofs.SpaceMaps.{IsWellNumbered-kept, HasGoodParents-kept}
-use Rattle.model_laws.proofs.Lists.{IsIn-filter, IsIn-from_filter, find-filter, option_both, length-IsIn}
-use Rattle.model_laws.proofs.Chains.{climb-same}
-use Rattle.model_laws.proofs.Names.{number-on_path, number-within, number-same_path, own_name_in_use, IsIn-taken, user_of_number}
-use Rattle.model_laws.proofs.Rising.{IsRising-filter}
-use Rattle.model_laws.proofs.Trees.{space_at-Some, space_at-listed, IsOnTree, IsOnTree-name, path_trans}
 
 -- no namespace with the id is dead
 abbrev pub IsKept : State → ℕ → Type 0

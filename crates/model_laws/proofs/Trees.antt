@@ -1,7 +1,5 @@
 -- The trees of namespaces and control groups, and rows by their root numbers.
-use Rattle.std.proofs.Common.{◌≡◌, ℕ, true, ◌&&◌, ◌==◌, List, map, Some, None, ap}
-use Rattle.std.proofs.lemmas.Bool.{eqb-true, and_parts}
-use Rattle.model_laws.proofs.Words.{Name, Row, Space, Control, space_at, parent_space, path_up, root_number, row_at, is_live, live_row, control_at, parent_control, control_path, IsIn, IsRising, IsWellNumbered, IsTreeOfSpaces, IsTreeOfControls, State, IsCoherent, number, task_at, is_numbered}
+use Rattle.model_laws.proofs.Words.{◌≡◌, ℕ, true, ◌&&◌, ◌==◌, List, map, Some, None, ap, eqb-true, and_parts, Name, Row, Space, Control, space_at, parent_space, path_up, root_number, row_at, is_live, live_row, control_at, parent_control, control_path, IsIn, IsRising, IsWellNumbered, IsTreeOfSpaces, IsTreeOfControls, State, IsCoherent, number, task_at, is_numbered}
 use Rattle.model_laws.proofs.Lists.{find-Some, find-only}
 use Rattle.model_laws.proofs.Chains.{Stops-at_root, IsIn-climb_first, climb_trans, climb_antisym}
 use Rattle.model_laws.proofs.Rising.{unique_key, find-key, find-key_at}
