@@ -1,38 +1,17 @@
 -- Chains of parents among the rows.
-use Rattle.model_laws.proofs.Words.{◌≡◌, ℕ, zero, suc, ◌+◌, ◌-◌, ◌<◌, ◌≤◌, Bool, true, false, not, ◌==◌, List, [], ◌∷◌, ◌++◌, map, reverse, length, Option, Some, None, refl, sym, ap, ◌∙◌, subst, inl, inr, arith, filter, option_map, option_and_then, slice_index, eq-eqb, ne_eqb, not_from_false, not_from_true, length-map, reverse-append, length-reverse, Name, Row, Space, climb, State, parent_space, path_up, beside, number, root_number, is_live, row_at, parent_number, IsIn, IsRising, IsWellNumbered, IsTreeOfSpaces, IsCoherent}
-use Rattle.model_laws.proofs.Ground.{IsIn-map, IsIn-filter, length-IsIn, Stops-at_root, climb-None, climb_cases, climb_suffix, IsIn-climb_first, IsIn-climb_parent, IsIn-climb_more, own_name_in_use, unique_key, IsOnTree, IsOnTree-name, root_space_parent, space_at-Some, row_at-listed, row_at-Some}
+use Rattle.model_laws.proofs.Words.{◌≡◌, ℕ, zero, suc, ◌+◌, ◌<◌, ◌≤◌, Bool, true, false, not, ◌==◌, List, [], ◌∷◌, ◌++◌, map, reverse, length, Option, Some, None, refl, sym, ap, ◌∙◌, subst, inl, inr, arith, filter, option_map, option_and_then, slice_index, eq-eqb, ne_eqb, not_from_false, not_from_true, length-map, reverse-append, length-reverse, Name, Row, Space, climb, State, parent_space, path_up, beside, number, root_number, is_live, row_at, parent_number, IsIn, IsRising, IsWellNumbered, IsTreeOfSpaces, IsCoherent}
+use Rattle.model_laws.proofs.Ground.{IsIn-map, IsIn-filter, length-IsIn, Stops-at_root, climb-None, climb_suffix, Climbs, in_climb, climb_in, own_name_in_use, unique_key, IsOnTree, IsOnTree-name, root_space_parent, space_at-Some, row_at-listed, row_at-Some}
 use Rattle.model_laws.specs.StepLaws.{IsRootInit}
 
 -- ---- how far number 1 is
 
--- m is so many parents above n
-abbrev pub Climbs : (ℕ → Option ℕ) → ℕ → ℕ → ℕ → Type 0
-Climbs f zero n m = n ≡ m
-Climbs f (suc k) n m = (p : ℕ) × (f n ≡ Some p) × Climbs f k p m
-
--- number 1 is
+-- number 1 is so many parents above
 abbrev pub Far : (ℕ → Option ℕ) → ℕ → ℕ → Type 0
 Far f k n = Climbs f k n 1
 
 -- one step from a number leads to one number
 pub one_step : (f : ℕ → Option ℕ) (n p q : ℕ) → f n ≡ Some p → f n ≡ Some q → p ≡ q
 one_step f n p q a b = cc
-
--- a chain that meets number 1 is longer than the way to it
-pub way_to_one : (f : ℕ → Option ℕ) (k n : ℕ) → IsIn 1 (climb f k n) → (j : ℕ) × Far f j n × (j < k)
-unfolding climb
-way_to_one f zero n i = elim i [ ]
-way_to_one f (suc k) n i = elim (climb_cases f k n 1 i) [
-  | inl e ↦ (0, sym e, omega arith)
-  | inr r ↦ let w = way_to_one f k r.0 r.2 in (suc w.0, (r.0, r.1, w.1), omega (arith, w.2))
-]
-
--- nothing is further above than number 1, which has no parent
-pub no_further : (f : ℕ → Option ℕ) → f 1 ≡ None → (i j n x : ℕ) → Far f j n → Climbs f i n x → i ≤ j
-no_further f top zero j n x a b = omega arith
-no_further f top (suc i) zero n x a b = let none : f n ≡ None = subst (λ z. f z ≡ None) (sym a) top in let some : f n ≡ Some b.0 = b.1 in absurd (cc)
-no_further f top (suc i) (suc j) n x a b =
-    let l = no_further f top i j a.0 x a.2 (subst (λ z. Climbs f i z x) (one_step f n b.0 a.0 b.1 a.1) b.2) in omega (arith, l)
 
 -- what is so many parents above is so much nearer to number 1
 pub nearer : (f : ℕ → Option ℕ) → f 1 ≡ None → (i k n m : ℕ) → Climbs f i n m → Far f k n → (j : ℕ) × Far f j m × (j + i ≡ k)
@@ -41,19 +20,9 @@ nearer f top (suc i) zero n m c far = absurd (let none : f n ≡ None = subst (�
 nearer f top (suc i) (suc k) n m c far =
     let r = nearer f top i k c.0 m c.2 (subst (Far f k) (one_step f n far.0 c.0 far.1 c.1) far.2) in (r.0, r.1, omega (arith, r.2))
 
--- and a number that is so far has a chain that meets it
-chain-from_Far : (f : ℕ → Option ℕ) (k n : ℕ) → Far f k n → IsIn 1 (climb f (suc k) n)
-chain-from_Far f zero n e = subst (λ x. IsIn 1 (climb f 1 x)) (sym e) (IsIn-climb_first f 0 1)
-chain-from_Far f (suc k) n r = IsIn-climb_parent f (suc k) n r.0 1 r.1 (chain-from_Far f k r.0 r.2)
-
--- a chain that is cut off later has what it had
-chain_longer : (f : ℕ → Option ℕ) (k more n x : ℕ) → IsIn x (climb f k n) → IsIn x (climb f (more + k) n)
-chain_longer f k zero n x i = subst (λ m. IsIn x (climb f m n)) (omega arith) i
-chain_longer f k (suc more) n x i = subst (λ m. IsIn x (climb f m n)) (omega arith) (IsIn-climb_more f (more + k) n x (chain_longer f k more n x i))
-
 -- number 1, which has no parent, is as far as it is
 pub Far-unique : (f : ℕ → Option ℕ) → f 1 ≡ None → (j k n : ℕ) → Far f j n → Far f k n → j ≡ k
-Far-unique f top j k n a b = omega (arith, no_further f top j k n 1 b a, no_further f top k j n 1 a b)
+Far-unique f top j k n a b = omega (arith, (nearer f top j k n 1 a b).2, (nearer f top k j n 1 b a).2)
 
 -- a filter that leaves an element out is shorter
 length-filter_less : {X : Type 0} (p : X → Bool) (xs : List X) → length (filter p xs) ≤ length xs
@@ -101,8 +70,7 @@ pub chain-in_rows : (rows : List Row) → parent_number rows 1 ≡ None → IsIn
 chain-in_rows rows top one k n far =
     let l : k < length (roots rows) = steps_below_length (parent_number rows) top k n (roots rows) far (λ j x h g. there j x g) in
     let m : length (roots rows) ≡ length rows = length-map rows (λ (r : Row). root_number r.name) in
-    let d : (length rows - suc k) + suc k ≡ length rows = omega arith in
-    subst (λ x. IsIn 1 (climb (parent_number rows) x n)) d (chain_longer (parent_number rows) (suc k) (length rows - suc k) n 1 (chain-from_Far (parent_number rows) k n far))
+    climb_in (parent_number rows) (length rows) k n 1 far (omega arith)
   where
     there : (j x : ℕ) → Far (parent_number rows) j x → IsIn x (roots rows)
     there zero x e = subst (λ y. IsIn y (roots rows)) (sym e) one
@@ -177,7 +145,7 @@ module _ (state : State) (sound : IsCoherent state) where
 
   -- each row is so far from number 1
   pub row_far : (r : Row) → IsIn r state.rows → (k : ℕ) × Far (parent_number state.rows) k (root_number r.name)
-  row_far r i = let w = way_to_one (parent_number state.rows) (length state.rows) (root_number r.name) (sound.parents r i).chain in (w.0, w.1)
+  row_far r i = let w = in_climb (parent_number state.rows) (length state.rows) (root_number r.name) 1 (sound.parents r i).chain in (w.0, w.1)
 
   -- the parent of the row at a number is a live row
   pub parent_row : (n p : ℕ) → parent_number state.rows n ≡ Some p

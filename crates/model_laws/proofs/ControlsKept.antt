@@ -1,6 +1,6 @@
 -- Calls on control groups leave a sound state.
 use Rattle.model_laws.proofs.Words.{◌≡◌, ℕ, ◌+◌, ◌<◌, ◌≤◌, false, not, ◌==◌, List, [], ◌∷◌, ◌++◌, map, length, Option, Some, None, refl, sym, ap, ◌∙◌, subst, inl, inr, arith, filter, nat_lt, option_map, option_and_then, option_map_or, cond_both, eqb-true, ne_eqb, eqb-false, ltb-false, not_from_false, not-true, Row, Control, greatest_limit, climb, State, control_at, parent_control, control_path, with_control, is_busy, rehome, without_control, limited, with_limit, IsIn, IsTreeOfControls, HasGoodLimit, IsCoherent, IsBelow, not_from_Decides, option_and_then_some}
-use Rattle.model_laws.proofs.Ground.{each_of_map, IsIn-from_filter, find-filter, each_pushed, Stops, Stops-at_root, climb_trans, climb_cases, IsIn-climb_first, IsIn-climb_parent, IsIn-climb_more, climb-same, climb_child, IsRising-filter, control_to_root, control_at-Some, root_control_parent, control_path_listed, at-map, chain-map, IsTree-map, at-push_old, chain-push, IsIn-chain_new, IsTree-push}
+use Rattle.model_laws.proofs.Ground.{climb_in, each_of_map, IsIn-from_filter, find-filter, each_pushed, Stops-at_root, climb_trans, climb_cases, IsIn-climb_more, climb-same, climb_child, IsRising-filter, control_to_root, control_at-Some, root_control_parent, control_path_listed, at-map, chain-map, IsTree-map, at-push_old, chain-push, IsIn-chain_new, IsTree-push}
 use Rattle.model_laws.proofs.Refusals.{Decides-busy, Decides-limit}
 use Rattle.model_laws.proofs.Survivors.{settled, Leaves, own_leaves}
 
@@ -119,49 +119,48 @@ module _ (controls : List Control) (tree : IsTreeOfControls controls) (id : ℕ)
         subst (IsIn 0) (sym (other_path c.id differs)) (tree.chains c r.0);
   }
 
--- a control group with a parent is not the root
-not_root : (controls : List Control) → IsTreeOfControls controls → (id parent : ℕ) (c : Control) → control_at controls id ≡ Some c
-    → c.parent ≡ Some parent → id ≡ 0 → ⊥
-not_root controls tree id parent c found under e =
-    let none : parent_control controls id ≡ None = subst (λ x. parent_control controls x ≡ None) (sym e) (root_control_parent controls tree) in
-    let some : parent_control controls id ≡ Some parent = ap (option_and_then (λ (d : Control). d.parent)) found ∙ under in cc
+module _ (controls : List Control) (tree : IsTreeOfControls controls) (id parent : ℕ) (g : Control) (found : control_at controls id ≡ Some g)
+    (under : g.parent ≡ Some parent) where
+  -- the control group's parent, by its id
+  up : parent_control controls id ≡ Some parent
+  up = ap (option_and_then (λ (d : Control). d.parent)) found ∙ under
 
--- the parent of a control group is there
-pub parent_listed : (controls : List Control) → IsTreeOfControls controls → (id parent : ℕ) (c : Control) → control_at controls id ≡ Some c
-    → c.parent ≡ Some parent
-    → (d : Control) × (control_at controls parent ≡ Some d)
-unfolding control_path
-parent_listed controls tree id parent c found below =
-    control_path_listed controls tree id parent (control_to_root controls tree id c found)
-    (IsIn-climb_parent (parent_control controls) 64 id parent parent (ap (option_and_then (λ (c : Control). c.parent)) found ∙ below) (IsIn-climb_first (parent_control controls) 63 parent))
+  -- who has one is not the root
+  not_root : id ≡ 0 → ⊥
+  not_root e =
+      let none : parent_control controls id ≡ None = subst (λ x. parent_control controls x ≡ None) (sym e) (root_control_parent controls tree) in
+      let some : parent_control controls id ≡ Some parent = up in cc
+
+  -- the parent is above it
+  in_path : IsIn parent (control_path controls id)
+  unfolding control_path
+  in_path = climb_in (parent_control controls) 65 1 id parent (parent, up, refl) (omega arith)
+
+  -- and is there
+  pub parent_listed : (d : Control) × (control_at controls parent ≡ Some d)
+  parent_listed = control_path_listed controls tree id parent (control_to_root controls tree id g found) in_path
+
+  -- what is above the parent is above the child
+  pub path_of_parent : (c : ℕ) → IsIn c (control_path controls parent) → IsIn c (control_path controls id)
+  unfolding control_path
+  path_of_parent c i =
+      climb_trans (parent_control controls) 65 id parent c (Stops-at_root (parent_control controls) 65 id (root_control_parent controls tree)
+      (control_to_root controls tree id g found)) in_path i
+
+  -- and what is above the child, but for itself, is above the parent
+  pub path_of_child : (c : ℕ) → (c ≡ id → ⊥) → IsIn c (control_path controls id) → IsIn c (control_path controls parent)
+  unfolding control_path
+  path_of_child c differs i = elim (climb_cases (parent_control controls) 64 id c i) [
+    | inl e ↦ absurd (differs e)
+    | inr r ↦
+        let same : r.0 ≡ parent = (let a : parent_control controls id ≡ Some r.0 = r.1 in let b : parent_control controls id ≡ Some parent = up in cc) in
+        IsIn-climb_more (parent_control controls) 64 parent c (subst (λ x. IsIn c (climb (parent_control controls) 64 x)) same r.2)
+  ]
 
 -- a control group that is not busy is no parent
 pub no_child : (state : State) (id : ℕ) → is_busy state id ≡ false → (d : Control) → IsIn d state.controls → d.parent ≡ Some id → ⊥
 unfolding is_busy
 no_child state id idle d i e = not_from_Decides (is_busy state id) (Decides-busy state id) idle (inr (d, i, e))
-
--- what is above the parent is above the child
-pub path_of_parent : (controls : List Control) → IsTreeOfControls controls → (id parent : ℕ) (g : Control) → control_at controls id ≡ Some g
-    → g.parent ≡ Some parent
-    → (c : ℕ) → IsIn c (control_path controls parent) → IsIn c (control_path controls id)
-unfolding control_path
-path_of_parent controls tree id parent g found under c i =
-    let f : ℕ → Option ℕ = parent_control controls in
-    let stops : Stops f 65 id = Stops-at_root f 65 id (root_control_parent controls tree) (control_to_root controls tree id g found) in
-    climb_trans f 65 id parent c stops (IsIn-climb_parent f 64 id parent parent (ap (option_and_then (λ (x : Control). x.parent)) found ∙ under) (IsIn-climb_first f 63 parent)) i
-
--- and what is above the child, but for itself, is above the parent
-pub path_of_child : (controls : List Control) (id parent : ℕ) (g : Control) → control_at controls id ≡ Some g → g.parent ≡ Some parent
-    → (c : ℕ) → (c ≡ id → ⊥) → IsIn c (control_path controls id) → IsIn c (control_path controls parent)
-unfolding control_path
-path_of_child controls id parent g found under c differs i = elim (climb_cases (parent_control controls) 64 id c i) [
-  | inl e ↦ absurd (differs e)
-  | inr r ↦
-      let a : parent_control controls id ≡ Some r.0 = r.1 in
-      let b : parent_control controls id ≡ Some parent = ap (option_and_then (λ (x : Control). x.parent)) found ∙ under in
-      let same : r.0 ≡ parent = cc in
-      IsIn-climb_more (parent_control controls) 64 parent c (subst (λ x. IsIn c (climb (parent_control controls) 64 x)) same r.2)
-]
 
 -- the end of a control group leaves a coherent state
 pub remove_control_leaves : (state : State) (id parent : ℕ) (c : Control) → IsCoherent state

@@ -193,7 +193,7 @@ CountsSame-removed state sound id parent c g found under idle x h d e =
     -- the parent's chain is the rest of the one that goes
     up : is_below state.controls parent c ≡ is_below state.controls id c
     up = same_contains c (control_path state.controls parent) (control_path state.controls id)
-        (λ i. path_of_parent state.controls tree id parent g found under c i) (λ i. path_of_child state.controls id parent g found under c differs i)
+        (λ i. path_of_parent state.controls tree id parent g found under c i) (λ i. path_of_child state.controls tree id parent g found under c differs i)
 
     home : (x : ℕ) → is_below (others state.controls tree id childless) (if x == id then parent else x) c ≡ is_below state.controls x c
     home x = cond_both (x == id) parent x (λ y. is_below (others state.controls tree id childless) y c ≡ is_below state.controls x c)

@@ -1,10 +1,10 @@
 -- Exit leaves a sound state.
 use Rattle.model_laws.proofs.Words.{◌≡◌, ℕ, zero, suc, Bool, true, false, List, map, length, Option, Some, None, refl, sym, ap, ◌∙◌, subst, inl, inr, arith, option_map, option_and_then, if◌then◌else◌, cases_eq, Name, Row, Ended, Exited, climb, State, path_up, number, root_number, is_parent, is_live, row_at, is_init, parent_number, row_after_exit, rows_after_exit, IsIn, HasGoodParents, IsCoherent, map-id}
-use Rattle.model_laws.proofs.Ground.{IsIn-map, is_parent-true, is_parent-from, same_name-true, is_numbered-from, unique_key, row_at-map, row_at-listed, path_trans, path_antisym}
+use Rattle.model_laws.proofs.Ground.{Climbs, IsIn-map, is_parent-true, is_parent-from, same_name-true, is_numbered-from, unique_key, row_at-map, row_at-listed, path_trans, path_antisym}
 use Rattle.model_laws.specs.ParentLaws.{TakesOrphans}
 use Rattle.model_laws.proofs.NearestSubreaper.{climbs, takes_orphans}
 use Rattle.model_laws.proofs.SpaceMaps.{HasGoodParents-kept}
-use Rattle.model_laws.proofs.Ancestry.{Far, Far-unique, Far-same, IsIn-roots, chain-in_rows, row_on_tree, root_init_row, top_row, row_far, parent_row, row_parent, nearer, Climbs, one_step}
+use Rattle.model_laws.proofs.Ancestry.{Far, Far-unique, Far-same, IsIn-roots, chain-in_rows, row_on_tree, root_init_row, top_row, row_far, parent_row, row_parent, nearer, one_step}
 use Rattle.model_laws.proofs.Survivors.{Leaves, leaves, all_stay, all_there, settled, pairs}
 
 -- ---- the rows after a task ended

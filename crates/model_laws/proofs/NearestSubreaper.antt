@@ -1,8 +1,8 @@
 -- Who takes the children of a task that ends: the nearest subreaper, or else the init.
-use Rattle.model_laws.proofs.Words.{◌≡◌, ℕ, zero, suc, ◌+◌, ◌<◌, ◌≤◌, Bool, true, false, ◌&&◌, ◌==◌, [], length, Option, Some, None, refl, sym, ap, ◌∙◌, subst, inl, inr, arith, find, option_map, drop, option_map_or, eqb-true, eq-eqb, and_parts, and_from, cases_Bool, false_from_ne_true, Row, IsIn, climb, State, root_number, is_live, row_at, task_at, parent_number, ancestors, is_subreaper_in, nearest_subreaper, new_parent, IsCoherent, number, path_up}
-use Rattle.model_laws.proofs.Ground.{own_name_in_use, number-on_path, option_both, row_at-listed, path_first, space_at-Some, task_at-own}
+use Rattle.model_laws.proofs.Words.{◌≡◌, ℕ, zero, suc, ◌+◌, ◌<◌, Bool, true, false, ◌&&◌, ◌==◌, [], length, Option, Some, None, refl, sym, ap, ◌∙◌, subst, inl, inr, arith, find, option_map, drop, option_map_or, eqb-true, eq-eqb, and_parts, and_from, cases_Bool, false_from_ne_true, Row, IsIn, climb, State, root_number, is_live, row_at, task_at, parent_number, ancestors, is_subreaper_in, nearest_subreaper, new_parent, IsCoherent, number, path_up}
+use Rattle.model_laws.proofs.Ground.{Climbs, in_climb, climb_in, find-None, own_name_in_use, number-on_path, option_both, row_at-listed, path_first, space_at-Some, task_at-own}
 use Rattle.model_laws.specs.ParentLaws.{IsAbove, HasNoSubreaper, TakesOrphans}
-use Rattle.model_laws.proofs.Ancestry.{parent_number-at, top_row, row_parent, Climbs, one_step, way_to_one, no_further}
+use Rattle.model_laws.proofs.Ancestry.{parent_number-at, top_row, row_parent, one_step, nearer}
 
 -- what is found along a chain is so many parents above its beginning, and nothing nearer passes
 find-climb : (f : ℕ → Option ℕ) (p : ℕ → Bool) (k n m : ℕ) → find p (climb f k n) ≡ Some m
@@ -21,13 +21,6 @@ find-climb f p (suc k) n m h = elim (cases_Bool (p n)) [
         → Climbs f i n x → p x ≡ false
     nearer q e miss j all zero x l c = ap p (sym c) ∙ miss
     nearer q e miss j all (suc i) x l c = all i x (omega arith) (subst (λ z. Climbs f i z x) (one_step f n c.0 q c.1 e) c.2)
-
--- where nothing is found, nothing passes that is less far above than the chain is long
-find-climb_none : (f : ℕ → Option ℕ) (p : ℕ → Bool) (k n : ℕ) → find p (climb f k n) ≡ None → (i x : ℕ) → i < k → Climbs f i n x → p x ≡ false
-unfolding climb
-find-climb_none f p zero n h i x l c = absurd (omega arith)
-find-climb_none f p (suc k) n h zero x l c = grind arith
-find-climb_none f p (suc k) n h (suc i) x l c = grind (arith, find-climb_none f p k c.0)
 
 module _ (state : State) (sound : IsCoherent state) where
   -- the parent of the task with the root number, by its own
@@ -112,12 +105,12 @@ module _ (state : State) (sound : IsCoherent state) where
     nearest-none h k b s =
         let c = climbs (suc k) b task i s.above in
         let there : IsIn b state.rows = there_above (suc k) b task i s.above in
-        let way = way_to_one parent_of (length state.rows) (root_number task.name) (sound.parents task i).chain in
-        let near : suc k ≤ way.0 = no_further parent_of (top_row state sound) (suc k) way.0 (root_number task.name) (root_number b.name) way.1 c in
+        let way = in_climb parent_of (length state.rows) (root_number task.name) 1 (sound.parents task i).chain in
+        let near = nearer parent_of (top_row state sound) (suc k) way.0 (root_number task.name) (root_number b.name) c way.1 in
         let p : ℕ → Bool = is_subreaper_in state.rows task.name.space in
         let none : find p (climb parent_of (length state.rows) c.0) ≡ None =
         ap (λ o. find p (option_map_or (climb parent_of (length state.rows)) o [])) (sym c.1) ∙ ap (find p) (sym ancestors-are) ∙ h in
-        let never = find-climb_none parent_of p (length state.rows) c.0 none k (root_number b.name) (omega (arith, near, way.2)) c.2 in
+        let never = find-None p _ none (root_number b.name) (climb_in parent_of (length state.rows) k c.0 (root_number b.name) c.2 (omega (arith, near.2, way.2))) in
         let yes : is_subreaper_in state.rows task.name.space (root_number b.name) ≡ true = marked-from task.name.space b there s.marked s.beside in
         cc
 
