@@ -1,5 +1,5 @@
 -- Calls that change fields of rows leave a sound state.
-use Rattle.model_laws.proofs.Words.{◌≡◌, ℕ, ℤ, pos, negsuc, ◌+◌, ◌<◌, true, false, ◌&&◌, ◌||◌, not, Some, refl, sym, ap, ◌∙◌, subst, ◌⊎◌, inl, inr, arith, if◌then◌else◌, cases_Bool, Name, Row, State, is_live, path_up, same_name, is_parent, task_at, names_in_use, on_row, with_row, sweep, target_of, session_group, group_for, has_members, set_children_space, IsIn, IsCoherent, IsSound, IsBelow, not_from_Decides}
+use Rattle.model_laws.proofs.Words.{◌≡◌, ℕ, ℤ, pos, negsuc, ◌+◌, ◌<◌, true, false, ◌&&◌, ◌||◌, not, Some, refl, sym, ap, ◌∙◌, subst, ◌⊎◌, inl, inr, arith, if◌then◌else◌, cases_Bool, Name, Row, State, is_live, path_up, same_name, is_parent, task_at, names_in_use, on_row, with_row, sweep, target_of, set_group, group_for, has_members, set_children_space, IsIn, IsCoherent, IsSound, IsBelow, not_from_Decides}
 use Rattle.model_laws.proofs.Ground.{on_row-keeps, on_row-both, same_name-true, same_name-refl, own_name_in_use, group_in_use, session_in_use, number-within, space_at-Some, same_row, path_first}
 use Rattle.model_laws.specs.Refusals.{IsGroupFor}
 use Rattle.model_laws.specs.RestoreLaws.{StaysSound}
@@ -109,56 +109,41 @@ module _ (state : State) (sound : IsCoherent state) (target : Row) (i : IsIn tar
       goes : IsSettled state (change target)
       goes = let s = settled state sound target i in subst (IsSettled state) (sym (same target)) (free.group_used, free.session_used, s.2, s.3, s.4)
 
--- the task's own group is open to it
-IsOpen-own : (state : State) → IsCoherent state → (target : Row) → IsIn target state.rows → IsOpen state target target.name target.session
-IsOpen-own state sound target i = record {
-  group_used = own_name_in_use state.rows target i;
-  session_used = session_in_use state.rows target i;
-  members = λ b j e. sound.groups.leader b target j i e;
-  leader = λ b j e. inl e;
-  own = λ b j e. sound.groups.leader b target j i e;
-}
-
--- the group of a task of the same session is open to it
-IsOpen-session : (state : State) → IsCoherent state → (target row : Row) → IsIn target state.rows → IsIn row state.rows → row.session ≡ target.session
-    → IsOpen state target row.group target.session
-IsOpen-session state sound target row i j same = record {
-  group_used = group_in_use state.rows row j;
-  session_used = session_in_use state.rows target i;
-  members = λ b k e. sound.groups.together b row k j e ∙ same;
-  leader = λ b k e. inr (sym (sound.groups.leader row b j k (sym e)) ∙ same);
-  own = λ b k e. sound.groups.leader b target k i e;
-}
-
--- the group that setpgid finds is open to the target
-pub group_for-IsOpen : (state : State) → IsCoherent state → (caller target : Row) (pgid : ℤ) (group : Name) → IsIn target state.rows
-    → target.session ≡ caller.session
-    → group_for state caller target pgid ≡ Some group → IsOpen state target group target.session
-unfolding session_group
-group_for-IsOpen state sound caller target pgid group i same h = open_at pgid ((group_found state caller target pgid).some group h)
+-- the group that setpgid finds is open to its target
+pub grouped_leaves : (state : State) (caller target : Row) (pid pgid : ℤ) (group : Name) → IsCoherent state → IsIn caller state.rows
+    → target_of state caller pid ≡ Some target → (is_parent caller.name target && not (same_name target.session caller.session)) ≡ false
+    → not (is_parent caller.name target || same_name target.name caller.name) ≡ false → group_for state caller target pgid ≡ Some group
+    → Leaves state (with_row state target.name (set_group group))
+grouped_leaves state caller target pid pgid group sound i aimed same own there =
+    placed_leaves state sound target (is_row pid aimed) (set_group group) (λ r. refl) (open_at pgid ((group_found state caller target pgid).some group there))
   where
+    is_row : (n : ℤ) → target_of state caller n ≡ Some target → IsIn target state.rows
+    is_row (negsuc n) h = absurd (cc)
+    is_row (pos n) h = elim ((target_found state caller (pos n)).some target h) [ inl s ↦ subst (λ r. IsIn r state.rows) (sym s.1) i | inr s ↦ s.1.0 ]
+
+    session : target.session ≡ caller.session
+    session =
+        let self : target.name ≡ caller.name → target.session ≡ caller.session = λ e. ap (λ (r : Row). r.session)
+        (same_row state.rows sound.rows_rise target caller (is_row pid aimed) i e) in
+        grind (arith, self, same_name-true target.session caller.session, same_name-true target.name caller.name)
+
+    -- it is the target's own, or that of a task of the same session
     open_at : (n : ℤ) → IsGroupFor state caller target n group → IsOpen state target group target.session
     open_at (negsuc n) g = elim g [ ]
-    open_at (pos n) (inl g) = subst (λ a. IsOpen state target a target.session) (sym g.1) (IsOpen-own state sound target i)
-    open_at (pos n) (inr g) =
-        let s = g.1 in subst (λ a. IsOpen state target a target.session) s.3 (IsOpen-session state sound target s.0 i s.1 (s.2 ∙ sym same))
-
--- whom setpgid names is one of the rows
-pub target_of-IsIn : (state : State) (caller target : Row) (pid : ℤ) → IsIn caller state.rows → target_of state caller pid ≡ Some target
-    → IsIn target state.rows
-target_of-IsIn state caller target (negsuc n) i h = absurd (cc)
-target_of-IsIn state caller target (pos n) i h =
-    elim ((target_found state caller (pos n)).some target h) [ inl s ↦ subst (λ r. IsIn r state.rows) (sym s.1) i | inr s ↦ s.1.0 ]
-
--- the target is in the caller's session
-pub target_session : (state : State) → IsCoherent state → (caller target : Row) → IsIn caller state.rows → IsIn target state.rows
-    → (is_parent caller.name target && not (same_name target.session caller.session)) ≡ false
-    → not (is_parent caller.name target || same_name target.name caller.name) ≡ false
-    → target.session ≡ caller.session
-target_session state sound caller target i j same own =
-    let self : target.name ≡ caller.name → target.session ≡ caller.session = λ e. ap (λ (r : Row). r.session)
-    (same_row state.rows sound.rows_rise target caller j i e) in
-    grind (arith, self, same_name-true target.session caller.session, same_name-true target.name caller.name)
+    open_at (pos n) (inl g) = subst (λ a. IsOpen state target a target.session) (sym g.1) (record {
+      group_used = own_name_in_use state.rows target (is_row pid aimed);
+      session_used = session_in_use state.rows target (is_row pid aimed);
+      members = λ b j e. sound.groups.leader b target j (is_row pid aimed) e;
+      leader = λ b j e. inl e;
+      own = λ b j e. sound.groups.leader b target j (is_row pid aimed) e;
+    })
+    open_at (pos n) (inr g) = let s = g.1 in subst (λ a. IsOpen state target a target.session) s.3 (record {
+      group_used = group_in_use state.rows s.0 s.1;
+      session_used = session_in_use state.rows target (is_row pid aimed);
+      members = λ b k e. sound.groups.together b s.0 k s.1 e ∙ s.2 ∙ sym session;
+      leader = λ b k e. inr (sym (sound.groups.leader s.0 b s.1 k (sym e)) ∙ s.2 ∙ sym session);
+      own = λ b k e. sound.groups.leader b target k (is_row pid aimed) e;
+    })
 
 -- where nobody is in a group of the task's name, that group and that session are open to it
 pub IsOpen-new : (state : State) (caller : Row) → IsIn caller state.rows → has_members state caller.name ≡ false

@@ -1,8 +1,8 @@
 -- Every call leaves a sound state, and the root namespace stands.
-use Rattle.model_laws.proofs.Words.{◌≡◌, ℕ, suc, ◌+◌, ◌<◌, true, false, List, [], ◌∷◌, length, Some, refl, sym, ap, ◌∙◌, subst, inl, inr, arith, IfSome, option_map_or, Call, Row, Space, Control, HasGoodPidMax, climb, State, root_state, root_init, root_name, IsIn, Name, path_up, number, names_in_use, control_at, control_path, is_gone, step, makes_id, state_after, IsSound, IsBelow, IsWellNumbered, HasGoodParents, space_at, Outcome, set_group, start_session, set_executed, set_home, set_mark, HasGoodChildrenSpace, HasLiveInit, IsEmptied, HasGoodLimit}
+use Rattle.model_laws.proofs.Words.{◌≡◌, ℕ, suc, ◌+◌, ◌<◌, true, false, List, [], ◌∷◌, length, Some, refl, sym, ap, ◌∙◌, subst, inl, inr, arith, IfSome, option_map_or, Call, Row, Space, Control, HasGoodPidMax, climb, State, root_state, root_init, root_name, IsIn, Name, path_up, number, names_in_use, control_at, control_path, is_gone, step, makes_id, state_after, IsSound, IsBelow, IsWellNumbered, HasGoodParents, space_at, Outcome, start_session, set_executed, set_home, set_mark, HasGoodChildrenSpace, HasLiveInit, IsEmptied, HasGoodLimit}
 use Rattle.model_laws.proofs.Ground.{only, space_at-Some, live_row-Some, is_numbered-true}
 use Rattle.model_laws.specs.Script.{EndsSound}
-use Rattle.model_laws.proofs.Kept.{IsBelow-next, swept, swept_below, row_leaves, placed_leaves, join_leaves, group_for-IsOpen, target_of-IsIn, target_session, IsOpen-new}
+use Rattle.model_laws.proofs.Kept.{IsBelow-next, swept, swept_below, row_leaves, placed_leaves, join_leaves, grouped_leaves, IsOpen-new}
 use Rattle.model_laws.proofs.Survivors.{settled}
 use Rattle.model_laws.specs.RestoreLaws.{StaysSound}
 use Rattle.model_laws.specs.StepLaws.{PlainCallsMakeNoId}
@@ -30,10 +30,7 @@ plain_keeps state stamp call o (handed_on n status caller found none) plain soun
 plain_keeps state stamp call o (reaped n which caller row found least) plain sound =
     let r = reaped_row state caller row which least in swept state _ (wait_leaves state sound.coherent row r.0 r.1)
 plain_keeps state stamp call o (grouped n pid pgid caller target group found aimed same own there) plain sound =
-    let i : IsIn caller state.rows = (live_row-Some state.rows n caller found).0 in
-    let j : IsIn target state.rows = target_of-IsIn state caller target pid i aimed in
-    swept state _ (placed_leaves state sound.coherent target j (set_group group) (λ r. refl)
-    (group_for-IsOpen state sound.coherent caller target pgid group j (target_session state sound.coherent caller target i j same own) there))
+    swept state _ (grouped_leaves state caller target pid pgid group sound.coherent (live_row-Some state.rows n caller found).0 aimed same own there)
 plain_keeps state stamp call o (led n caller found none) plain sound =
     let i : IsIn caller state.rows = (live_row-Some state.rows n caller found).0 in
     swept state _ (placed_leaves state sound.coherent caller i start_session (λ r. refl) (IsOpen-new state caller i none))
