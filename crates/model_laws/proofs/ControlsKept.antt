@@ -1,6 +1,6 @@
 -- Calls on control groups leave a sound state.
 use Rattle.model_laws.proofs.Words.{◌≡◌, ℕ, ◌+◌, ◌<◌, ◌≤◌, false, not, ◌==◌, List, [], ◌∷◌, ◌++◌, map, length, Option, Some, None, refl, sym, ap, ◌∙◌, subst, inl, inr, arith, filter, nat_lt, option_map, option_and_then, option_map_or, cond_both, eqb-true, ne_eqb, eqb-false, ltb-false, not_from_false, not-true, Row, Control, greatest_limit, climb, State, control_at, parent_control, control_path, with_control, is_busy, rehome, without_control, limited, with_limit, IsIn, IsTreeOfControls, HasGoodLimit, IsCoherent, IsBelow, not_from_Decides, option_and_then_some}
-use Rattle.model_laws.proofs.Ground.{climb_in, each_of_map, IsIn-from_filter, find-filter, each_pushed, Stops-at_root, climb_trans, climb_cases, IsIn-climb_more, climb-same, climb_child, IsRising-filter, control_to_root, control_at-Some, root_control_parent, control_path_listed, at-map, chain-map, IsTree-map, at-push_old, chain-push, IsIn-chain_new, IsTree-push}
+use Rattle.model_laws.proofs.Ground.{climb_in, each_of_map, IsIn-from_filter, find-filter, each_pushed, Stops-at_root, climb_trans, climb_cases, IsIn-climb_more, climb-same, climb_child, IsRising-filter, control_to_root, control_at-Some, root_control_parent, at-map, chain-map, IsTree-map, at-push_old, chain-push, IsIn-chain_new, IsTree-push, chain_listed}
 use Rattle.model_laws.proofs.Refusals.{Decides-busy, Decides-limit}
 use Rattle.model_laws.proofs.Survivors.{settled, Leaves, own_leaves}
 
@@ -24,14 +24,6 @@ IsCoherent-controls state controls sound tree limits homes = record {
   homes = homes;
 }
 
--- a control group's path is the same where each control group on it is
-control_path-same : (controls others : List Control) (id : ℕ)
-    → ((x : ℕ) → IsIn x (control_path controls id) → control_at others x ≡ control_at controls x)
-    → control_path others id ≡ control_path controls id
-unfolding control_path
-control_path-same controls others id same =
-    climb-same (parent_control controls) (parent_control others) 65 id (λ x i. ap (option_and_then (λ c. c.parent)) (same x i))
-
 -- ---- a new control group
 
 module _ (controls : List Control) (tree : IsTreeOfControls controls) (stamp parent : ℕ) (above : (c : Control) → IsIn c controls → c.id < stamp) where
@@ -52,16 +44,12 @@ module _ (controls : List Control) (tree : IsTreeOfControls controls) (stamp par
   unfolding control_path
   path_old id on = chain-push Control (λ d. d.id) (λ d. d.parent) controls made above (control_path controls) tree 65 id on
 
-  -- the new one's path meets the root
-  path_new : IsIn 0 (control_path controls parent) → length (control_path controls parent) ≤ 64 → IsIn 0 (control_path with_made stamp)
-  unfolding control_path
-  path_new on short = IsIn-chain_new Control (λ d. d.id) (λ d. d.parent) controls made above (control_path controls) tree 64 parent 0 refl on short on
-
   -- the control groups with the new one are a tree
   IsTreeOfControls-made : IsIn 0 (control_path controls parent) → length (control_path controls parent) ≤ 64 → parent < stamp → IsTreeOfControls with_made
+  unfolding control_path
   IsTreeOfControls-made on short elder =
-      IsTree-push Control (λ d. d.id) (λ d. d.parent) controls made above (control_path controls) (control_path with_made)
-      (λ c i. path_old c.id (tree.chains c i)) (path_new on short) elder tree
+      IsTree-push Control (λ d. d.id) (λ d. d.parent) controls made above (control_path controls) (control_path with_made) (λ c i. path_old c.id (tree.chains c i))
+      (IsIn-chain_new Control (λ d. d.id) (λ d. d.parent) controls made above (control_path controls) tree 64 parent 0 refl on short on) elder tree
 
 -- a new control group leaves a sound state
 pub make_control_keeps : (state : State) (stamp parent : ℕ) (c : Control) → IsCoherent state → IsBelow stamp state
@@ -104,8 +92,9 @@ module _ (controls : List Control) (tree : IsTreeOfControls controls) (id : ℕ)
 
   -- their paths stay
   pub other_path : (x : ℕ) → (x ≡ id → ⊥) → control_path others x ≡ control_path controls x
-  other_path x differs =
-      control_path-same controls others x (λ y i. other_at y (λ same. not_below x differs (subst (λ z. IsIn z (control_path controls x)) same i)))
+  unfolding control_path
+  other_path x differs = climb-same (parent_control controls) (parent_control others) 65 x (λ y i. ap (option_and_then (λ c. c.parent))
+      (other_at y (λ same. not_below x differs (subst (λ z. IsIn z (control_path controls x)) same i))))
 
   -- they are a tree
   IsTreeOfControls-others : (id ≡ 0 → ⊥) → IsTreeOfControls others
@@ -138,7 +127,8 @@ module _ (controls : List Control) (tree : IsTreeOfControls controls) (id parent
 
   -- and is there
   pub parent_listed : (d : Control) × (control_at controls parent ≡ Some d)
-  parent_listed = control_path_listed controls tree id parent (control_to_root controls tree id g found) in_path
+  unfolding control_path
+  parent_listed = chain_listed Control (λ d. d.id) (λ d. d.parent) (control_path controls) controls tree 65 id parent (control_to_root controls tree id g found) in_path
 
   -- what is above the parent is above the child
   pub path_of_parent : (c : ℕ) → IsIn c (control_path controls parent) → IsIn c (control_path controls id)
@@ -205,20 +195,11 @@ remove_control_leaves state id parent c sound found under idle = (
 
 -- ---- a limit
 
-module _ (controls : List Control) (f : Control → Control) (ids : (c : Control) → (f c).id ≡ c.id) (parents : (c : Control) → (f c).parent ≡ c.parent) where
-  -- what is found is changed
-  control_at-map : (x : ℕ) → control_at (map f controls) x ≡ option_map f (control_at controls x)
-  control_at-map x = at-map Control (λ d. d.id) (λ d. d.parent) controls f ids parents x
-
-  -- paths stay
-  pub control_path-map : (x : ℕ) → control_path (map f controls) x ≡ control_path controls x
-  unfolding control_path
-  control_path-map x = chain-map Control (λ d. d.id) (λ d. d.parent) controls f ids parents 65 x
-
-  -- the tree stays
-  IsTreeOfControls-map : IsTreeOfControls controls → IsTreeOfControls (map f controls)
-  IsTreeOfControls-map tree =
-      IsTree-map Control (λ d. d.id) (λ d. d.parent) controls f ids parents (control_path controls) (control_path (map f controls)) control_path-map tree
+-- paths stay where control groups keep their ids and parents
+pub control_path-map : (controls : List Control) (f : Control → Control) → ((c : Control) → (f c).id ≡ c.id) → ((c : Control) → (f c).parent ≡ c.parent)
+    → (x : ℕ) → control_path (map f controls) x ≡ control_path controls x
+unfolding control_path
+control_path-map controls f ids parents x = chain-map Control (λ d. d.id) (λ d. d.parent) controls f ids parents 65 x
 
 -- a limit that is not too great is a good one where the control group is not the root
 HasGoodLimit-limited : (controls : List Control) → IsTreeOfControls controls → (id parent : ℕ) (limit : Option ℕ) (g : Control)
@@ -237,14 +218,20 @@ pub set_limit_leaves : (state : State) (id parent : ℕ) (limit : Option ℕ) (g
     → Leaves state (with_limit state id limit)
 unfolding with_limit
 set_limit_leaves state id parent limit g sound found under good = (
-  IsCoherent-controls state (map (limited id limit) state.controls) sound
-      (IsTreeOfControls-map state.controls (limited id limit) (λ c. refl) (λ c. refl) sound.controls)
-      (each_of_map HasGoodLimit (limited id limit) state.controls (λ c i.
+  IsCoherent-controls state (map f state.controls) sound
+      (IsTree-map Control (λ d. d.id) (λ d. d.parent) state.controls f (λ c. refl) (λ c. refl) (control_path state.controls) _
+      (control_path-map state.controls f (λ c. refl) (λ c. refl)) sound.controls)
+      (each_of_map HasGoodLimit f state.controls (λ c i.
       HasGoodLimit-limited state.controls sound.controls id parent limit g found under good c (sound.limits c i)))
-      (λ r i. let h = sound.homes r i in (limited id limit h.0, control_at-map state.controls (limited id limit) (λ c. refl) (λ c. refl) r.home ∙ ap (option_map (limited id limit)) h.1)),
+      (λ r i.
+      let h = sound.homes r i in
+      (f h.0, at-map Control (λ d. d.id) (λ d. d.parent) state.controls f (λ c. refl) (λ c. refl) r.home ∙ ap (option_map f) h.1)),
   λ stamp below. record {
     spaces = below.spaces;
-    controls = each_of_map (λ c. c.id < stamp) (limited id limit) state.controls below.controls;
+    controls = each_of_map (λ c. c.id < stamp) f state.controls below.controls;
     children = below.children;
   },
 )
+  where
+    f : Control → Control
+    f = limited id limit

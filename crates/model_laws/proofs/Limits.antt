@@ -1,5 +1,5 @@
 -- No fork raises a count above its limit.
-use Rattle.model_laws.proofs.Words.{◌≡◌, ℕ, ◌+◌, ◌≤◌, Bool, false, List, [], ◌∷◌, length, Option, Some, None, cond, refl, sym, ap, ◌∙◌, arith, filter, nat_lt, option_and_then, option_map_or, ltb-false, le-ltb, Call, Fork, Row, Control, Entry, Forked, State, control_at, control_path, count, is_below, is_limited_below, passed_limit, Outcome, sweep, insert_row, with_space, child_of, step, ForkedWithinLimits, ForksStayWithinLimits, IsIn, IsSound, IsBelow, forked}
+use Rattle.model_laws.proofs.Words.{◌≡◌, ℕ, ◌+◌, ◌≤◌, Bool, false, List, [], ◌∷◌, length, Option, Some, None, refl, sym, ap, ◌∙◌, arith, filter, nat_lt, option_and_then, option_map_or, ltb-false, le-ltb, Call, Fork, Row, Control, Entry, Forked, State, control_at, control_path, count, is_below, is_limited_below, passed_limit, Outcome, sweep, insert_row, with_space, child_of, step, ForkedWithinLimits, ForksStayWithinLimits, IsIn, IsSound, IsBelow, forked}
 use Rattle.model_laws.proofs.Ground.{find-None, find-key, row_at-listed}
 use Rattle.model_laws.proofs.Inserts.{IsIn-insert_new}
 use Rattle.model_laws.proofs.Calls.{MayFork, Comes, still, born, born_first, no_answer}
@@ -10,14 +10,10 @@ use Rattle.model_laws.proofs.StepKept.{step_keeps}
 
 -- ---- counts after a fork
 
--- as many pass a test after the insertion as if the row stood first
-length-filter-insert : (p : Row → Bool) (new : Row) (rows : List Row) → length (filter p (insert_row new rows)) ≡ length (filter p (new ∷ rows))
-length-filter-insert p new [] = refl
+-- one more passes a test after the insertion, if the new row does
+length-filter-insert : (p : Row → Bool) (new : Row) (rows : List Row) → length (filter p (insert_row new rows)) ≡ length (filter p rows) + one_if (p new)
+length-filter-insert p new [] = grind arith
 length-filter-insert p new (row ∷ rows) = grind (arith, length-filter-insert p new rows)
-
--- one row more, if the test holds
-pub length-cond : (b : Bool) (row : Row) (rows : List Row) → length (cond b (row ∷ rows) rows) ≡ length rows + one_if b
-length-cond b row rows = grind arith
 
 -- a fork that is made counts one more up from the caller's home
 pub count-forked : (state : State) (caller : Row) (t c : ℕ)
@@ -25,7 +21,6 @@ pub count-forked : (state : State) (caller : Row) (t c : ℕ)
 unfolding count sweep
 count-forked state caller t c =
     length-filter-insert (λ row. is_below state.controls row.home c) (child_of state caller t) state.rows
-    ∙ length-cond (is_below state.controls caller.home c) (child_of state caller t) (filter (λ row. is_below state.controls row.home c) state.rows)
 
 -- which is no more than one
 one_at_most : (b : Bool) → one_if b ≤ 1

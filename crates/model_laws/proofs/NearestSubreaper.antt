@@ -1,5 +1,5 @@
 -- Who takes the children of a task that ends: the nearest subreaper, or else the init.
-use Rattle.model_laws.proofs.Words.{◌≡◌, ℕ, zero, suc, ◌+◌, ◌<◌, Bool, true, false, ◌&&◌, ◌==◌, [], length, Option, Some, None, refl, sym, ap, ◌∙◌, subst, inl, inr, arith, find, option_map, drop, option_map_or, eqb-true, eq-eqb, and_parts, and_from, cases_Bool, false_from_ne_true, Row, IsIn, climb, State, root_number, is_live, row_at, task_at, parent_number, ancestors, is_subreaper_in, nearest_subreaper, new_parent, IsCoherent, number, path_up}
+use Rattle.model_laws.proofs.Words.{◌≡◌, ℕ, zero, suc, ◌+◌, ◌<◌, Bool, true, false, ◌&&◌, ◌==◌, [], length, Option, Some, None, refl, sym, ap, ◌∙◌, subst, inl, inr, arith, find, option_map, drop, option_map_or, cases_Bool, false_from_ne_true, Row, IsIn, climb, State, root_number, is_live, row_at, task_at, parent_number, ancestors, is_subreaper_in, nearest_subreaper, new_parent, IsCoherent, number, path_up, Decides, Decides-at, Decides-and, Decides-eqb}
 use Rattle.model_laws.proofs.Ground.{Climbs, in_climb, climb_in, find-None, own_name_in_use, number-on_path, option_both, row_at-listed, path_first, space_at-Some, task_at-own}
 use Rattle.model_laws.specs.ParentLaws.{IsAbove, HasNoSubreaper, TakesOrphans}
 use Rattle.model_laws.proofs.Ancestry.{parent_number-at, top_row, row_parent, one_step, nearer}
@@ -49,16 +49,11 @@ module _ (state : State) (sound : IsCoherent state) where
   -- ---- the nearest
 
   -- the test of a subreaper, by its number
-  marked-true : (space : ℕ) (a : Row) → IsIn a state.rows → is_subreaper_in state.rows space (root_number a.name) ≡ true → (a.subreaper ≡ true) × (a.name.space ≡ space)
-  marked-true space a i h =
-      let at : (a.subreaper && (a.name.space == space)) ≡ true = ap (λ o. option_map_or (λ (r : Row). r.subreaper && (r.name.space == space)) o false) (sym (row_at-listed state.rows sound.rows_rise a i)) ∙ h in
-      let t = and_parts a.subreaper (a.name.space == space) at in (t.0, eqb-true a.name.space space t.1)
-
-  -- and back
-  marked-from : (space : ℕ) (a : Row) → IsIn a state.rows → a.subreaper ≡ true → a.name.space ≡ space → is_subreaper_in state.rows space (root_number a.name) ≡ true
-  marked-from space a i on here =
-      ap (λ o. option_map_or (λ (r : Row). r.subreaper && (r.name.space == space)) o false) (row_at-listed state.rows sound.rows_rise a i)
-      ∙ and_from a.subreaper (a.name.space == space) on (eq-eqb a.name.space space here)
+  marked : (space : ℕ) (a : Row) → IsIn a state.rows
+      → Decides (is_subreaper_in state.rows space (root_number a.name)) ((a.subreaper ≡ true) × (a.name.space ≡ space))
+  marked space a i =
+      Decides-at _ _ (ap (λ o. option_map_or (λ (r : Row). r.subreaper && (r.name.space == space)) o false) (row_at-listed state.rows sound.rows_rise a i))
+      (Decides-and a.subreaper (a.name.space == space) (λ e. e, λ e. e) (Decides-eqb a.name.space space))
 
   -- a task above another is there
   there_above : (k : ℕ) (a task : Row) → IsIn task state.rows → IsAbove state.rows k a task → IsIn a state.rows
@@ -80,7 +75,7 @@ module _ (state : State) (sound : IsCoherent state) where
         → (a : Row) × (root_number a.name ≡ m) × TakesOrphans state task a) (λ e none. absurd (cc)) (λ q e some.
         let f = find-climb parent_of (is_subreaper_in state.rows task.name.space) (length state.rows) q m some in
         let a = above (suc f.0) m task i live (q, e, f.1) in
-        let t = marked-true task.name.space a.0 a.1 (rw a.3 f.2) in (
+        let t = (marked task.name.space a.0 a.1).0 (rw a.3 f.2) in (
           a.0,
           a.3,
           record {
@@ -93,7 +88,7 @@ module _ (state : State) (sound : IsCoherent state) where
               nearest = λ k b l s.
                   let c = climbs (suc k) b task i s.above in
                   let never = f.3 k (root_number b.name) l (subst (λ z. Climbs parent_of k z (root_number b.name)) (one_step parent_of (root_number task.name) c.0 q c.1 e) c.2) in
-                  let yes = marked-from task.name.space b (there_above (suc k) b task i s.above) s.marked s.beside in
+                  let yes = (marked task.name.space b (there_above (suc k) b task i s.above)).1 (s.marked, s.beside) in
                   cc;
             });
           },
@@ -111,7 +106,7 @@ module _ (state : State) (sound : IsCoherent state) where
         let none : find p (climb parent_of (length state.rows) c.0) ≡ None =
         ap (λ o. find p (option_map_or (climb parent_of (length state.rows)) o [])) (sym c.1) ∙ ap (find p) (sym ancestors-are) ∙ h in
         let never = find-None p _ none (root_number b.name) (climb_in parent_of (length state.rows) k c.0 (root_number b.name) c.2 (omega (arith, near.2, way.2))) in
-        let yes : is_subreaper_in state.rows task.name.space (root_number b.name) ≡ true = marked-from task.name.space b there s.marked s.beside in
+        let yes : is_subreaper_in state.rows task.name.space (root_number b.name) ≡ true = (marked task.name.space b there).1 (s.marked, s.beside) in
         cc
 
 -- the init of a live task's namespace lives there, and is number 1 there

@@ -72,12 +72,6 @@ root_control_parent controls tree = root_parent Control (λ d. d.id) (λ d. d.pa
 pub control_to_root : (controls : List Control) → IsTreeOfControls controls → (id : ℕ) (c : Control) → control_at controls id ≡ Some c → IsIn 0 (control_path controls id)
 control_to_root controls tree id c h = path_to_root Control (λ d. d.id) (λ d. d.parent) (control_path controls) controls tree id c h
 
--- all control groups on a path to the root are there
-pub control_path_listed : (controls : List Control) → IsTreeOfControls controls → (id x : ℕ) → IsIn 0 (control_path controls id)
-    → IsIn x (control_path controls id) → (c : Control) × (control_at controls x ≡ Some c)
-unfolding control_path
-control_path_listed controls tree id x on i = chain_listed Control (λ d. d.id) (λ d. d.parent) (control_path controls) controls tree 65 id x on i
-
 -- ---- rows by their root numbers
 
 -- a row is found by its root number
