@@ -48,7 +48,7 @@ module _ (controls : List Control) (tree : IsTreeOfControls controls) (stamp par
   IsTreeOfControls-made : IsIn 0 (control_path controls parent) → length (control_path controls parent) ≤ 64 → parent < stamp → IsTreeOfControls with_made
   unfolding control_path
   IsTreeOfControls-made on short elder =
-      IsTree-push Control (λ d. d.id) (λ d. d.parent) controls made above (control_path controls) (control_path with_made) (λ c i. path_old c.id (tree.chains c i))
+      IsTree-push Control (λ d. d.id) (λ d. d.parent) controls made above _ _ (λ c i. path_old c.id (tree.chains c i))
       (IsIn-chain_new Control (λ d. d.id) (λ d. d.parent) controls made above (control_path controls) tree 64 parent 0 refl on short on) elder tree
 
 -- a new control group leaves a sound state
@@ -60,7 +60,8 @@ make_control_keeps state stamp parent c sound below found shallow =
     let on : IsIn 0 (control_path state.controls parent) = control_to_root state.controls sound.controls parent c found in
     let at = control_at-Some state.controls parent c found in (
       IsCoherent-controls state (with_made state.controls sound.controls stamp parent below.controls) sound
-          (IsTreeOfControls-made state.controls sound.controls stamp parent below.controls on (ltb-false 64 _ shallow) (subst (λ x. x < stamp) at.1 (below.controls c at.0)))
+          (IsTreeOfControls-made state.controls sound.controls stamp parent below.controls on (ltb-false 64 _ shallow)
+          (subst (λ x. x < stamp) at.1 (below.controls c at.0)))
           (each_pushed HasGoodLimit state.controls _ sound.limits (record { root = λ _. refl; bounded = λ limit some. absurd (cc) }))
           (λ r i. let h = sound.homes r i in (h.0, at_old state.controls sound.controls stamp parent below.controls r.home h.0 h.1)),
       record {
@@ -128,7 +129,7 @@ module _ (controls : List Control) (tree : IsTreeOfControls controls) (id parent
   -- and is there
   pub parent_listed : (d : Control) × (control_at controls parent ≡ Some d)
   unfolding control_path
-  parent_listed = chain_listed Control (λ d. d.id) (λ d. d.parent) (control_path controls) controls tree 65 id parent (control_to_root controls tree id g found) in_path
+  parent_listed = chain_listed Control (λ d. d.id) (λ d. d.parent) _ controls tree 65 id parent (control_to_root controls tree id g found) in_path
 
   -- what is above the parent is above the child
   pub path_of_parent : (c : ℕ) → IsIn c (control_path controls parent) → IsIn c (control_path controls id)

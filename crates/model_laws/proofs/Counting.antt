@@ -60,7 +60,7 @@ fork_counts_one state stamp n new_space caller child root found told c = go new_
         → count o.state c ≡ count state c + one_if (is_below state.controls caller.home c)
     go b o (still _ reply answer) told = absurd (no_answer reply (Forked child root) answer refl told)
     go b o (born _ _ other plain there stands may) told = born_of other there _ (count-forked state other other.children_space c)
-    go b o (born_first _ other there stands shallow here may) told = born_of other there _ (count-forked (with_space state other.children_space stamp) other stamp c)
+    go b o (born_first _ other there _ _ _ _) told = born_of other there _ (count-forked (with_space state other.children_space stamp) other stamp c)
 
 -- ---- reaping
 

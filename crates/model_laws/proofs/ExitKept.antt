@@ -68,13 +68,13 @@ module _ (state : State) (sound : IsCoherent state) (task heir : Row) (ended : E
   -- what is strictly around the task's namespace is no descendant of it
   around : (j : ℕ) (x : Row) → IsIn x state.rows → IsIn x.name.space (path_up state.spaces task.name.space) → (x.name.space ≡ task.name.space → ⊥)
       → Climbs old_parent j (root_number x.name) root_of_task → ⊥
-  around zero x i up outside c = outside (ap (λ (r : Row). r.name.space) (unique_key (λ (r : Row). root_number r.name) state.rows sound.rows_rise x task i there c))
+  around zero x i up outside c = outside (ap (λ (r : Row). r.name.space) (unique_key (λ (r : Row). root_number r.name) _ sound.rows_rise x task i there c))
   around (suc j) x i up outside c =
       let u = row_parent state sound x i c.0 c.1 in
       let g = (sound.parents x i).good u.0.name u.4 in
       let on = row_on_tree state sound task there in
       around j u.0 u.1 (path_trans state.spaces sound.spaces task.name.space x.name.space u.0.name.space on up g.around)
-      (λ here. outside (path_antisym state.spaces sound.spaces task.name.space x.name.space on up (subst (λ s. IsIn s (path_up state.spaces x.name.space)) here g.around)))
+      (λ here. outside (path_antisym state.spaces sound.spaces _ _ on up (subst (λ s. IsIn s (path_up state.spaces x.name.space)) here g.around)))
       (subst (λ z. Climbs old_parent j z root_of_task) (sym u.2) c.2)
 
   -- nor is the init of its namespace

@@ -40,7 +40,7 @@ module _ (state : State) (sound : IsSound state) (init : Row) (status : ℕ) (th
       false_from_ne_true (is_within state.spaces a.space space) (λ w.
       let g = ((sound.coherent.parents r i).good a e).lives in
       let well = sound.coherent.numbered g.0.name (own_name_in_use state.rows g.0 g.1) in
-      none (g.0, g.1, e ∙ ap Some (sym g.2), number-on_path state.spaces g.0.name space well.one_each (rw g.2 (IsIn-from_contains (path_up state.spaces a.space) space w)))))
+      none (g.0, g.1, e ∙ ap Some (sym g.2), number-on_path state.spaces g.0.name space well.one_each (rw g.2 (IsIn-from_contains _ space w)))))
 
   -- two names that differ
   differs : (r : Row) → (r.name ≡ init.name → ⊥) → same_name r.name init.name ≡ false
@@ -55,7 +55,7 @@ module _ (state : State) (sound : IsSound state) (init : Row) (status : ℕ) (th
   unfolding sweep fall rows_after_fall
   kept_as r l i e same =
       let build : Life → Row = λ x. record r { life = x } in
-      subst (λ x. IsIn x next.rows) (ap build same) (IsIn-map after r (filter stays state.rows) (IsIn-filter stays r state.rows i (not_from_false (goes_in_fall state init r) e)))
+      subst (λ x. IsIn x next.rows) (ap build same) (IsIn-map after r (filter stays state.rows) (IsIn-filter stays r state.rows i (not_from_false _ e)))
 
   -- and nobody else is there
   from_after : (x : Row) → IsIn x next.rows → (r : Row) × IsIn r state.rows × (goes_in_fall state init r ≡ false) × (x ≡ after r)
@@ -85,8 +85,9 @@ module _ (state : State) (sound : IsSound state) (init : Row) (status : ℕ) (th
     ended = λ r o none dead. kept_as r r.life o.0 (grind (arith, parent-false r o.0 none)) (grind (arith, differs r o.1));
     nobody_new = λ x i. let q = from_after x i in (q.0, q.1, ap (λ (r : Row). r.name) (sym q.3));
     below = λ s t i up j.
-        each_of_map (λ x. x.id ≡ s.id → x.fallen ≡ true) (fallen_below state.spaces space) state.spaces (λ x k e. or_right x.fallen _ (contains-from_IsIn _ space
-        (subst (λ (y : Space). IsIn space (path_up state.spaces y.id)) (sym (unique_key (λ (y : Space). y.id) state.spaces sound.coherent.spaces.rising x s k i e)) up)))
+        each_of_map (λ x. x.id ≡ s.id → x.fallen ≡ true) (fallen_below state.spaces space) state.spaces (λ x k e.
+        let same = unique_key (λ (y : Space). y.id) state.spaces sound.coherent.spaces.rising x s k i e in
+        or_right x.fallen _ (contains-from_IsIn _ space (subst (λ (y : Space). IsIn space (path_up state.spaces y.id)) (sym same) up)))
         t (from_kept (fall state init status) t j).0;
     standing = λ s i off e.
         let out = false_from_ne_true (is_within state.spaces s.id space) (λ w. off (IsIn-from_contains (path_up state.spaces s.id) space w)) in
@@ -107,4 +108,4 @@ exit_of_init_falls state stamp n status init sound found one told = go _ (step_c
     go o (still _ reply answer) told = absurd (no_answer reply Done answer refl told)
     go o (handed_on _ _ caller there none) told =
         absurd (let same : caller ≡ init = cc in let no : is_init state init ≡ false = rw same at none in cc)
-    go o (fell _ _ caller there deep is) told = let same : caller ≡ init = cc in rw same (falls state sound init status (live_row-Some state.rows n init found).0)
+    go o (fell _ _ caller there _ _) told = let same : caller ≡ init = cc in rw same (falls state sound init status (live_row-Some state.rows n init found).0)

@@ -110,20 +110,21 @@ module _ (old : State) (sound : IsCoherent old) (spaces : List Space) (caller : 
   -- each row from before reaches number 1, which is there without a parent
   far_old : (r : Row) → IsIn r old.rows
       → (k : ℕ) × Far (parent_number rows_after) k (root_number r.name) × (parent_number rows_after 1 ≡ None) × IsIn 1 (roots rows_after)
-  far_old r i = far_kept old sound rows_after rise_after (λ x. x) (λ x. Unit {0}) (λ x j _. (IsIn-insert_old child old.rows x j, refl, refl)) (λ x q j k _ up live. tt) r i tt
+  far_old r i = far_kept old sound rows_after rise_after (λ x. x) (λ x. Unit {0}) (λ x j _. (IsIn-insert_old child old.rows x j, refl, refl))
+      (λ x q j k _ up live. tt) r i tt
 
   -- the rows from before have good parents
   parents_old : (r : Row) → IsIn r old.rows → HasGoodParents rows_after spaces r
   parents_old r i =
       let far = far_old r i in
       HasGoodParents-kept old.rows rows_after old.spaces spaces r r refl refl (ready.paths r.name (own_name_in_use old.rows r i))
-      (λ q j up live. (q, IsIn-insert_old child old.rows q j, refl, live)) (chain-in_rows rows_after far.2 far.3 far.0 (root_number r.name) far.1) (sound.parents r i)
+      (λ q j up live. (q, IsIn-insert_old child old.rows q j, refl, live)) (chain-in_rows _ far.2 far.3 far.0 _ far.1) (sound.parents r i)
 
   -- and so has the child
   parents_child : HasGoodParents rows_after spaces child
   parents_child =
       let far = far_old caller there in
-      let up : parent_number rows_after (root_number child.name) ≡ Some (root_number caller.name) = parent_number-at rows_after (root_number child.name) child (row_at-listed rows_after rise_after child (IsIn-insert_new child old.rows)) in
+      let up = parent_number-at rows_after (root_number child.name) child (row_at-listed rows_after rise_after child (IsIn-insert_new child old.rows)) in
       record {
         first = λ none. absurd (cc);
         good = λ parent e. let same : caller.name ≡ parent = cc in
@@ -199,7 +200,7 @@ module _ (old : State) (sound : IsCoherent old) (spaces : List Space) (caller : 
         λ stamp below. k.1 stamp (record {
           spaces = below.spaces;
           controls = below.controls;
-          children = each_after (λ r. r.children_space < stamp) (subst (λ x. x < stamp) ready.target.2 (below.spaces ready.target.0 ready.target.1)) below.children;
+          children = each_after (λ r. r.children_space < stamp) (rw ready.target.2 at (below.spaces ready.target.0 ready.target.1)) below.children;
         }),
       )
 
@@ -300,7 +301,8 @@ module _ (state : State) (sound : IsCoherent state) (stamp : ℕ) (below : IsBel
   -- the children's namespaces stay good
   children_new : (r : Row) → IsIn r state.rows → HasGoodChildrenSpace with_new r
   children_new r i = option_both (space_at state.spaces r.children_space) (λ _. HasGoodChildrenSpace with_new r)
-      (λ e. inl (at-push_none Space (λ t. t.id) (λ t. t.parent) state.spaces new below.spaces r.children_space (below.children r i) e)) (λ s e. elim (sound.children r i) [
+      (λ e. inl (at-push_none Space (λ t. t.id) (λ t. t.parent) state.spaces new below.spaces r.children_space (below.children r i) e))
+      (λ s e. elim (sound.children r i) [
         | inl none ↦ absurd (let n : space_at state.spaces r.children_space ≡ None = none in cc)
         | inr j ↦ inr (subst (IsIn r.name.space) (sym (path_old r.children_space (IsOnTree-listed state.spaces sound.spaces r.children_space s e))) j)
       ])
@@ -386,11 +388,18 @@ pub forked_first_keeps : (state : State) (stamp : ℕ) (caller : Row) → IsCohe
     → is_live caller ≡ true
     → is_gone state caller.children_space ≡ false → nat_le 32 (level state.spaces caller.children_space) ≡ false
     → (caller.children_space == caller.name.space) ≡ true → (may : MayFork (with_space state caller.children_space stamp) caller stamp)
-    → (let planned = with_space state caller.children_space stamp in let next = with_child planned (child_of planned caller stamp) (path_up planned.spaces stamp) in
+    → (let planned = with_space state caller.children_space stamp in
+    let next = with_child planned (child_of planned caller stamp) (path_up planned.spaces stamp) in
     IsCoherent next × IsBelow (stamp + 1) next)
 forked_first_keeps state stamp caller sound below there live stands shallow here may =
     let p : ℕ = caller.children_space in
     let ready = IsReady-new state sound stamp below p stands shallow caller there (eqb-true p caller.name.space here) may in
     let k = forked_coherent state sound (with_new state sound stamp below p stands shallow) caller stamp ready there live may in
-    let more = IsBelow-next stamp state below in
-    (k.0, k.1 (stamp + 1) (record { spaces = each_pushed (λ (s : Space). s.id < stamp + 1) state.spaces _ more.spaces (omega arith); controls = more.controls; children = more.children }))
+    let more = IsBelow-next stamp state below in (
+      k.0,
+      k.1 (stamp + 1) (record {
+        spaces = each_pushed (λ (s : Space). s.id < stamp + 1) state.spaces _ more.spaces (omega arith);
+        controls = more.controls;
+        children = more.children;
+      }),
+    )

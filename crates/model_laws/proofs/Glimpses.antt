@@ -132,7 +132,8 @@ module _ (state : State) (sound : IsCoherent state) (root : ℕ) (caller : Row) 
   unfolding step seen sight get_pid get_ppid get_pgid get_sid ns_pid next
   query_seen stamp query own_number = rw live (ap (λ o. Number (unwrap_or o 0)) own)
   query_seen stamp query parent_number =
-      rw live (about (λ g. Number g.parent) (Some caller) _ (glimpse_at-sight state caller.name.space n own_above_zero ∙ ap (option_map (glimpse_of state caller.name.space)) own_task))
+      rw live (about (λ g. Number g.parent) (Some caller) _
+      (glimpse_at-sight state caller.name.space n own_above_zero ∙ ap (option_map (glimpse_of state caller.name.space)) own_task))
   query_seen stamp query (group_of pid) = rw live (about (λ g. Number g.group) (self_or_task state caller pid) _ (self_seen pid))
   query_seen stamp query (session_of pid) = rw live (about (λ g. Number g.session) (self_or_task state caller pid) _ (self_seen pid))
   query_seen stamp query (numbers_of target) =

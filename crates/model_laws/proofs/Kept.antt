@@ -102,8 +102,13 @@ module _ (state : State) (sound : IsCoherent state) (target : Row) (i : IsIn tar
   pub placed_leaves : Leaves state (with_row state target.name change)
   unfolding with_row
   placed_leaves =
-      map_leaves state after sound (λ r. (name r, on_row-keeps target.name change (λ x. x.parent) (λ x. ap (λ (y : Row). y.parent) (same x)) r, on_row-keeps target.name change is_live (λ x. ap is_live (same x)) r))
-      (λ r j. on_row-both (IsSettled state) target.name change r (λ e. subst (λ x. IsSettled state (change x)) (sym (target_is r j e)) goes) (settled state sound r j))
+      map_leaves state after sound (λ r. (
+        name r,
+        on_row-keeps target.name change (λ x. x.parent) (λ x. ap (λ (y : Row). y.parent) (same x)) r,
+        on_row-keeps target.name change is_live (λ x. ap is_live (same x)) r,
+      ))
+      (λ r j. on_row-both (IsSettled state) target.name change r (λ e. subst (λ x. IsSettled state (change x)) (sym (target_is r j e)) goes)
+      (settled state sound r j))
       (λ a b j k. (together a b j k, λ e. leader a b j k (e ∙ name b)))
     where
       goes : IsSettled state (change target)

@@ -87,7 +87,7 @@ module _ (state : State) (sound : IsCoherent state) where
               is = record { above = a.4; beside = t.1; marked = t.0 };
               nearest = λ k b l s.
                   let c = climbs (suc k) b task i s.above in
-                  let never = f.3 k (root_number b.name) l (subst (λ z. Climbs parent_of k z (root_number b.name)) (one_step parent_of (root_number task.name) c.0 q c.1 e) c.2) in
+                  let never = f.3 k (root_number b.name) l (subst (λ z. Climbs parent_of k z (root_number b.name)) (one_step parent_of _ c.0 q c.1 e) c.2) in
                   let yes = (marked task.name.space b (there_above (suc k) b task i s.above)).1 (s.marked, s.beside) in
                   cc;
             });
@@ -105,13 +105,14 @@ module _ (state : State) (sound : IsCoherent state) where
         let p : ℕ → Bool = is_subreaper_in state.rows task.name.space in
         let none : find p (climb parent_of (length state.rows) c.0) ≡ None =
         ap (λ o. find p (option_map_or (climb parent_of (length state.rows)) o [])) (sym c.1) ∙ ap (find p) (sym ancestors-are) ∙ h in
-        let never = find-None p _ none (root_number b.name) (climb_in parent_of (length state.rows) k c.0 (root_number b.name) c.2 (omega (arith, near.2, way.2))) in
+        let never = find-None p _ none (root_number b.name) (climb_in parent_of _ k c.0 _ c.2 (omega (arith, near.2, way.2))) in
         let yes : is_subreaper_in state.rows task.name.space (root_number b.name) ≡ true = (marked task.name.space b there).1 (s.marked, s.beside) in
         cc
 
 -- the init of a live task's namespace lives there, and is number 1 there
 init_beside : (state : State) → IsCoherent state → (task : Row) → IsIn task state.rows → is_live task ≡ true
-    → (init : Row) × IsIn init state.rows × (is_live init ≡ true) × (init.name.space ≡ task.name.space) × (number state.spaces init.name task.name.space ≡ Some 1)
+    → (init : Row) × IsIn init state.rows × (is_live init ≡ true) × (init.name.space ≡ task.name.space)
+    × (number state.spaces init.name task.name.space ≡ Some 1)
 init_beside state sound task there lives =
     let well = sound.numbered task.name (own_name_in_use state.rows task there) in
     let on = path_first state.spaces task.name.space in
@@ -130,11 +131,13 @@ pub takes_orphans : (state : State) (task : Row) → IsCoherent state → IsIn t
 unfolding new_parent
 takes_orphans state task sound i lives =
     option_both (nearest_subreaper state.rows task) (λ o. (heir : Row)
-    × (option_map (λ (r : Row). r.name) (option_map_or (row_at state.rows) o (task_at state task.name.space 1)) ≡ Some heir.name) × TakesOrphans state task heir)
+    × (option_map (λ (r : Row). r.name) (option_map_or (row_at state.rows) o (task_at state task.name.space 1)) ≡ Some heir.name)
+    × TakesOrphans state task heir)
     (λ e.
     let b = init_beside state sound task i lives in
+    let none = nearest-none state sound task i lives e in
     let at = task_at-own state sound b.0 b.1 task.name.space 1 b.4 in
-    (b.0, ap (option_map (λ (r : Row). r.name)) at, record { there = b.1; lives = b.2; beside = b.3; who = inr (nearest-none state sound task i lives e, b.4) }))
+    (b.0, ap (option_map (λ (r : Row). r.name)) at, record { there = b.1; lives = b.2; beside = b.3; who = inr (none, b.4) }))
     (λ m e.
     let a = nearest-found state sound task i lives m e in
     let at : row_at state.rows m ≡ Some a.0 = subst (λ x. row_at state.rows x ≡ Some a.0) a.1 (row_at-listed state.rows sound.rows_rise a.0 a.2.there) in

@@ -72,7 +72,7 @@ module _ {state : State} {stamp : ℕ} {call : Call} where
       go : ((find p xs ≡ None → IsJudged state stamp call later (o None)) → IsJudged state stamp call (refuse_first reason r xs later) (o (find p xs)))
           → (b : Bool) → Decides b (reason x) → (cond b (Some x) (find p xs) ≡ None → IsJudged state stamp call later (o None))
           → IsJudged state stamp call (refuse (reason x) (r x) (refuse_first reason r xs later)) (o (cond b (Some x) (find p xs)))
-      go rest true d lost = subst (IsJudged state stamp call (refuse (reason x) (r x) (refuse_first reason r xs later))) (some x) (refuses (r x) _ (inl (d.0 refl, refl)))
+      go rest true d lost = subst (IsJudged state stamp call _) (some x) (refuses (r x) _ (inl (d.0 refl, refl)))
       go rest false d lost = let j = rest lost in record { comes = j.comes; said = inr (not_from_Decides false d refl, j.said) }
 
 -- ---- what the tests tell, and what the look-ups find
@@ -245,7 +245,8 @@ module _ {stamp : ℕ} {call : Call} where
   unfolding no_room passed_limit
   first_room old state caller t made =
       first_by (λ s. is_none (draw state s)) NoNumber (path_up state.spaces t)
-      (λ o. unless_found old (option_map_or (λ s. Some (NoNumber s)) o (option_map PidsLimit (passed_limit state caller.home))) (λ r. r) (forked state caller t))
+      (λ o. unless_found old (option_map_or (λ s. Some (NoNumber s)) o (option_map PidsLimit (passed_limit state caller.home))) (λ r. r)
+      (forked state caller t))
       (Decides-no_number state) (λ s. refl) (λ numbers.
       first_by (λ c. is_limited_below state (count state c + 1) c) PidsLimit (control_path state.controls caller.home)
       (λ o. unless_found old (option_map PidsLimit o) (λ r. r) (forked state caller t)) (λ c. Decides-it _) (λ c. refl) (λ limits.
@@ -253,7 +254,8 @@ module _ {stamp : ℕ} {call : Call} where
 
   -- the namespace that a fork goes into is there, and stands
   first_space : (state : State) (p : ℕ) (o : Outcome) (later : Option Refusal → Type 0) → (is_gone state p ≡ false → IsJudged state stamp call later o)
-      → IsJudged state stamp call (find_one (IsSpace state p) SpaceFallen (λ s. refuse (s.fallen ≡ true) SpaceFallen later)) (refuse_if state (is_gone state p) SpaceFallen o)
+      → IsJudged state stamp call (find_one (IsSpace state p) SpaceFallen (λ s. refuse (s.fallen ≡ true) SpaceFallen later))
+      (refuse_if state (is_gone state p) SpaceFallen o)
   first_space state p o later =
       go (space_at state.spaces p) (finds (IsSpace state p) (λ s. s.id == p) state.spaces (λ s i e. (i, eqb-true s.id p e)) (λ s t. (t.0, eq-eqb s.id p t.1)))
     where
@@ -292,13 +294,15 @@ judged state stamp (Wait n which) = found_by _ NoCaller (live_found state n) (λ
   where
     reaps : (caller : Row) → live_row state.rows n ≡ Some caller → (o : Option Row) → least_row state caller.name.space (ended_children state caller which) ≡ o
         → IsJudged state stamp (Wait n which) goes_on
-        (option_map_or (λ row. changed (without_row state row) (Reaped (number_or_zero state.spaces row.name caller.name.space) (end_of row))) o (answered state NoneYet))
+        (option_map_or (λ row. changed (without_row state row) (Reaped (number_or_zero state.spaces row.name caller.name.space) (end_of row))) o
+        (answered state NoneYet))
     reaps caller found None e = goes refl (waits n which caller found e)
     reaps caller found (Some row) e = goes refl (reaped n which caller row found e)
 
     go : (caller : Row) → live_row state.rows n ≡ Some caller → (kept : List Row) → matching state caller which ≡ kept
         → IsJudged state stamp (Wait n which) (find_one (MayBeReaped state caller which) NoChild (λ child. goes_on))
-        (refuse_if state (length kept == 0) NoChild (option_map_or (λ row. changed (without_row state row) (Reaped (number_or_zero state.spaces row.name caller.name.space) (end_of row)))
+        (refuse_if state (length kept == 0) NoChild
+        (option_map_or (λ row. changed (without_row state row) (Reaped (number_or_zero state.spaces row.name caller.name.space) (end_of row)))
         (least_row state caller.name.space (ended_children state caller which)) (answered state NoneYet)))
     go caller found [] e = refuses NoChild _ (inr (λ child may. elim (subst (IsIn child) e ((may-match state caller which child).1 may)) [ ], refl))
     go caller found (child ∷ kept) e =
@@ -318,7 +322,7 @@ judged state stamp (SetPgid n pid pgid) = found_by _ NoCaller (live_found state 
 judged state stamp (SetSid n) = found_by _ NoCaller (live_found state n) (λ row found.
     refused_by _ IsLeader (Decides-members state row.name) (λ none. goes refl (led n row found none)))
 judged state stamp (MakeControl parent) = found_by _ NoControl (control_found state parent) (λ c found.
-    refused_by _ ControlDepth (Decides-ltb deepest_control (length (control_path state.controls parent))) (λ shallow. goes refl (control_made parent c found shallow)))
+    refused_by _ ControlDepth (Decides-ltb deepest_control _) (λ shallow. goes refl (control_made parent c found shallow)))
 judged state stamp (RemoveControl id) = found_by _ NoControl (control_found state id) (λ c found. found_by _ RootControl (parent_found c) (λ parent under.
     refused_by _ ControlBusy (Decides-busy state id) (λ idle. goes refl (control_removed id parent c found under idle))))
 judged state stamp (SetLimit id limit) = found_by _ NoControl (control_found state id) (λ c found. found_by _ RootControl (parent_found c) (λ parent under.
@@ -337,7 +341,7 @@ judged state stamp (Next n kind from) =
     ends None = says _ refl refl
     ends (Some m) = says _ refl refl
 judged state stamp (Join n target) = found_by _ NoCaller (live_found state n) (λ row found. found_by _ NoTask (task_found state row target) (λ task there.
-    refused_by _ NoTask (not-true (is_live task), not_from_false (is_live task)) (λ lives. goes refl (joined n target row task found there (not-false _ lives)))))
+    refused_by _ NoTask (not-true _, not_from_false _) (λ lives. goes refl (joined n target row task found there (not-false _ lives)))))
 judged state stamp (SetSubreaper n on) = found_by _ NoCaller (live_found state n) (λ row found. goes refl (marked n on row found))
 
 -- each call comes to one of the outcomes

@@ -47,7 +47,8 @@ unfolding with_cursor
 with_cursor_keeps state id n sound = (
   record {
     coherent = k.0;
-    named = each_of_map (λ s. s.fallen ≡ true → (a : Name) × (m : ℕ) × IsIn a (names_in_use state.rows) × (number (map put state.spaces) a s.id ≡ Some m)) put state.spaces (λ s i down.
+    named = each_of_map (λ s. s.fallen ≡ true → (a : Name) × (m : ℕ) × IsIn a (names_in_use state.rows) × (number (map put state.spaces) a s.id ≡ Some m)) put
+        state.spaces (λ s i down.
         let u = sound.named s i down in (u.0, u.1, u.2, number-map_spaces state.spaces put (λ t. refl) (λ t. refl) u.0 s.id ∙ u.3));
   },
   k.1,

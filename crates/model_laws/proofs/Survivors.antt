@@ -117,8 +117,13 @@ module _ (state : State) (p : Row → Bool) (g : Row → Row) (h : Space → Spa
       let k = keeps.standing s i e in
       let r = sound.standing s i k.0 in
       let stays = k.1 r.0 r.1 r.2 r.3 r.4 in
-      subst (HasLiveInit after spaces_after) (sym (ids s))
-      (g r.0, survives state sound p g keeps.names r.0 r.1 stays.0, stays.1, ap (λ (a : Name). a.space) (keeps.names r.0) ∙ r.3, ap (λ a. number spaces_after a s.id) (keeps.names r.0) ∙ number_after r.0.name s.id ∙ r.4)
+      subst (HasLiveInit after spaces_after) (sym (ids s)) (
+        g r.0,
+        survives state sound p g keeps.names r.0 r.1 stays.0,
+        stays.1,
+        ap (λ (a : Name). a.space) (keeps.names r.0) ∙ r.3,
+        ap (λ a. number spaces_after a s.id) (keeps.names r.0) ∙ number_after r.0.name s.id ∙ r.4,
+      )
 
   -- a fallen one has no live task
   fallen_after : (s : Space) → IsIn s state.spaces → (h s).fallen ≡ true → IsEmptied after spaces_after (h s).id
