@@ -1,23 +1,11 @@
 -- Chains of parents among the rows.
-use Rattle.std.proofs.Common.{◌≡◌, ℕ, zero, suc, ◌+◌, ◌-◌, ◌<◌, ◌≤◌, Bool, true, false, not, ◌==◌, List, [], ◌∷◌, ◌++◌, map, reverse, length, Option, Some, None, refl, sym, ap, ◌∙◌, subst, inl, inr, arith, filter, option_map, option_and_then, slice_index}
-use Rattle.std.proofs.lemmas.Bool.{eq-eqb, ne_eqb, not_from_false, not_from_true}
-use Rattle.std.proofs.lemmas.List.{length-map, reverse-append, length-reverse}
-use Rattle.model_laws.proofs.Words.{Name, Row, Space, climb, State, parent_space, path_up, beside, number, root_number, is_live, row_at, parent_number, IsIn, IsWellNumbered, IsTreeOfSpaces, IsCoherent}
-use Rattle.model_laws.proofs.Lists.{IsIn-map, IsIn-filter}
-use Rattle.model_laws.proofs.Chains.{Stops-at_root, climb-None, climb_cases, climb_suffix, IsIn-climb_first, IsIn-climb_parent, IsIn-climb_more}
-use Rattle.model_laws.proofs.Names.{own_name_in_use}
-use Rattle.model_laws.proofs.Rising.{unique_key}
+use Rattle.model_laws.proofs.Words.{◌≡◌, ℕ, zero, suc, ◌+◌, ◌<◌, ◌≤◌, Bool, true, false, not, ◌==◌, List, [], ◌∷◌, ◌++◌, map, reverse, length, Option, Some, None, refl, sym, ap, ◌∙◌, subst, inl, inr, arith, filter, option_map, option_and_then, slice_index, eq-eqb, ne_eqb, not_from_false, not_from_true, length-map, reverse-append, length-reverse, Name, Row, Space, climb, State, parent_space, path_up, beside, number, root_number, is_live, row_at, parent_number, IsIn, IsRising, IsWellNumbered, IsTreeOfSpaces, IsCoherent}
+use Rattle.model_laws.proofs.Ground.{IsIn-map, IsIn-filter, length-IsIn, Stops-at_root, climb-None, climb_suffix, Climbs, in_climb, climb_in, own_name_in_use, unique_key, IsOnTree, IsOnTree-name, root_space_parent, space_at-Some, row_at-listed, row_at-Some}
 use Rattle.model_laws.specs.StepLaws.{IsRootInit}
-use Rattle.model_laws.proofs.Trees.{IsOnTree, IsOnTree-name, root_space_parent, space_at-Some, row_at-listed, row_at-Some}
 
 -- ---- how far number 1 is
 
--- m is so many parents above n
-abbrev pub Climbs : (ℕ → Option ℕ) → ℕ → ℕ → ℕ → Type 0
-Climbs f zero n m = n ≡ m
-Climbs f (suc k) n m = (p : ℕ) × (f n ≡ Some p) × Climbs f k p m
-
--- number 1 is
+-- number 1 is so many parents above
 abbrev pub Far : (ℕ → Option ℕ) → ℕ → ℕ → Type 0
 Far f k n = Climbs f k n 1
 
@@ -25,35 +13,16 @@ Far f k n = Climbs f k n 1
 pub one_step : (f : ℕ → Option ℕ) (n p q : ℕ) → f n ≡ Some p → f n ≡ Some q → p ≡ q
 one_step f n p q a b = cc
 
--- a chain that meets number 1 is longer than the way to it
-pub way_to_one : (f : ℕ → Option ℕ) (k n : ℕ) → IsIn 1 (climb f k n) → (j : ℕ) × Far f j n × (j < k)
-unfolding climb
-way_to_one f zero n i = elim i [ ]
-way_to_one f (suc k) n i = elim (climb_cases f k n 1 i) [
-  | inl e ↦ (0, sym e, omega arith)
-  | inr r ↦ let w = way_to_one f k r.0 r.2 in (suc w.0, (r.0, r.1, w.1), omega (arith, w.2))
-]
-
--- nothing is further above than number 1, which has no parent
-pub no_further : (f : ℕ → Option ℕ) → f 1 ≡ None → (i j n x : ℕ) → Far f j n → Climbs f i n x → i ≤ j
-no_further f top zero j n x a b = omega arith
-no_further f top (suc i) zero n x a b = let none : f n ≡ None = subst (λ z. f z ≡ None) (sym a) top in let some : f n ≡ Some b.0 = b.1 in absurd (cc)
-no_further f top (suc i) (suc j) n x a b =
-    let l = no_further f top i j a.0 x a.2 (subst (λ z. Climbs f i z x) (one_step f n b.0 a.0 b.1 a.1) b.2) in omega (arith, l)
-
--- and a number that is so far has a chain that meets it
-chain-from_Far : (f : ℕ → Option ℕ) (k n : ℕ) → Far f k n → IsIn 1 (climb f (suc k) n)
-chain-from_Far f zero n e = subst (λ x. IsIn 1 (climb f 1 x)) (sym e) (IsIn-climb_first f 0 1)
-chain-from_Far f (suc k) n r = IsIn-climb_parent f (suc k) n r.0 1 r.1 (chain-from_Far f k r.0 r.2)
-
--- a chain that is cut off later has what it had
-chain_longer : (f : ℕ → Option ℕ) (k more n x : ℕ) → IsIn x (climb f k n) → IsIn x (climb f (more + k) n)
-chain_longer f k zero n x i = subst (λ m. IsIn x (climb f m n)) (omega arith) i
-chain_longer f k (suc more) n x i = subst (λ m. IsIn x (climb f m n)) (omega arith) (IsIn-climb_more f (more + k) n x (chain_longer f k more n x i))
+-- what is so many parents above is so much nearer to number 1
+pub nearer : (f : ℕ → Option ℕ) → f 1 ≡ None → (i k n m : ℕ) → Climbs f i n m → Far f k n → (j : ℕ) × Far f j m × (j + i ≡ k)
+nearer f top zero k n m c far = (k, subst (Far f k) c far, omega arith)
+nearer f top (suc i) zero n m c far = absurd (let none : f n ≡ None = subst (λ x. f x ≡ None) (sym far) top in let some : f n ≡ Some c.0 = c.1 in cc)
+nearer f top (suc i) (suc k) n m c far =
+    let r = nearer f top i k c.0 m c.2 (subst (Far f k) (one_step f n far.0 c.0 far.1 c.1) far.2) in (r.0, r.1, omega (arith, r.2))
 
 -- number 1, which has no parent, is as far as it is
 pub Far-unique : (f : ℕ → Option ℕ) → f 1 ≡ None → (j k n : ℕ) → Far f j n → Far f k n → j ≡ k
-Far-unique f top j k n a b = omega (arith, no_further f top j k n 1 b a, no_further f top k j n 1 a b)
+Far-unique f top j k n a b = omega (arith, (nearer f top j k n 1 a b).2, (nearer f top k j n 1 b a).2)
 
 -- a filter that leaves an element out is shorter
 length-filter_less : {X : Type 0} (p : X → Bool) (xs : List X) → length (filter p xs) ≤ length xs
@@ -68,11 +37,7 @@ length-filter_out p (y ∷ xs) x i e = grind (arith, length-filter_less p xs, le
 -- the numbers from which number 1 is reached are at least as many as the steps
 steps_below_length : (f : ℕ → Option ℕ) → f 1 ≡ None → (k n : ℕ) (ns : List ℕ) → Far f k n → ((j x : ℕ) → j ≤ k → Far f j x → IsIn x ns)
     → k < length ns
-steps_below_length f top zero n ns far all = go ns (all 0 1 (omega arith) refl)
-  where
-    go : (ms : List ℕ) → IsIn 1 ms → 0 < length ms
-    go [] i = elim i [ ]
-    go (m ∷ ms) i = omega arith
+steps_below_length f top zero n ns far all = length-IsIn 1 ns (all 0 1 (omega arith) refl)
 steps_below_length f top (suc k) n ns far all =
     let out : length (filter (λ m. not (m == n)) ns) < length ns = length-filter_out (λ m. not (m == n)) ns n (all (suc k) n (omega arith) far) (not_from_true (n == n) (eq-eqb n n refl)) in
     let rest : k < length (filter (λ m. not (m == n)) ns) = steps_below_length f top k far.0 (filter (λ m. not (m == n)) ns) far.2 (λ j x l g.
@@ -105,8 +70,7 @@ pub chain-in_rows : (rows : List Row) → parent_number rows 1 ≡ None → IsIn
 chain-in_rows rows top one k n far =
     let l : k < length (roots rows) = steps_below_length (parent_number rows) top k n (roots rows) far (λ j x h g. there j x g) in
     let m : length (roots rows) ≡ length rows = length-map rows (λ (r : Row). root_number r.name) in
-    let d : (length rows - suc k) + suc k ≡ length rows = omega arith in
-    subst (λ x. IsIn 1 (climb (parent_number rows) x n)) d (chain_longer (parent_number rows) (suc k) (length rows - suc k) n 1 (chain-from_Far (parent_number rows) k n far))
+    climb_in (parent_number rows) (length rows) k n 1 far (omega arith)
   where
     there : (j x : ℕ) → Far (parent_number rows) j x → IsIn x (roots rows)
     there zero x e = subst (λ y. IsIn y (roots rows)) (sym e) one
@@ -181,7 +145,7 @@ module _ (state : State) (sound : IsCoherent state) where
 
   -- each row is so far from number 1
   pub row_far : (r : Row) → IsIn r state.rows → (k : ℕ) × Far (parent_number state.rows) k (root_number r.name)
-  row_far r i = let w = way_to_one (parent_number state.rows) (length state.rows) (root_number r.name) (sound.parents r i).chain in (w.0, w.1)
+  row_far r i = let w = in_climb (parent_number state.rows) (length state.rows) (root_number r.name) 1 (sound.parents r i).chain in (w.0, w.1)
 
   -- the parent of the row at a number is a live row
   pub parent_row : (n p : ℕ) → parent_number state.rows n ≡ Some p
@@ -191,6 +155,50 @@ module _ (state : State) (sound : IsCoherent state) where
       let at = row_at-Some state.rows n u.0 u.2 in
       let g = (sound.parents u.0 at.0).good u.1 u.3 in
       (u.0, g.lives.0, at.0, at.1, g.lives.1, ap root_number g.lives.2 ∙ u.4, g.lives.3, u.3 ∙ ap Some (sym g.lives.2))
+
+  -- the parent of a row, by its number
+  pub row_parent : (x : Row) → IsIn x state.rows → (m : ℕ) → parent_number state.rows (root_number x.name) ≡ Some m
+      → (q : Row) × IsIn q state.rows × (root_number q.name ≡ m) × (is_live q ≡ true) × (x.parent ≡ Some q.name)
+  row_parent x i m e =
+      let u = parent_row (root_number x.name) m e in
+      let same : u.0 ≡ x = unique_key (λ (r : Row). root_number r.name) state.rows sound.rows_rise u.0 x u.2 i u.3 in
+      (u.1, u.4, u.5, u.6, ap (λ (r : Row). r.parent) (sym same) ∙ u.7)
+
+  -- rows whose parents are among them keep their parents, under the names that they had
+  module _ (after : List Row) (rise : IsRising (roots after)) (g : Row → Row) (Stays : Row → Type 0)
+      (there : (x : Row) → IsIn x state.rows → Stays x → IsIn (g x) after × ((g x).name ≡ x.name) × ((g x).parent ≡ x.parent))
+      (up : (x q : Row) → IsIn x state.rows → IsIn q state.rows → Stays x → x.parent ≡ Some q.name → is_live q ≡ true → Stays q) where
+    -- the number is that of such a row
+    abbrev IsAt : ℕ → Type 0
+    IsAt n = (x : Row) × IsIn x state.rows × (root_number x.name ≡ n) × Stays x
+
+    -- it is found by its root number
+    found : (n : ℕ) (s : IsAt n) → row_at after n ≡ Some (g s.0)
+    found n s = let k = there s.0 s.1 s.3 in subst (λ m. row_at after m ≡ Some (g s.0)) (ap root_number k.1 ∙ s.2) (row_at-listed after rise (g s.0) k.0)
+
+    -- and has the parent that it had
+    same_parent : (n : ℕ) → IsAt n → parent_number after n ≡ parent_number state.rows n
+    same_parent n s =
+        parent_number-at after n (g s.0) (found n s) ∙ ap (option_map root_number) (there s.0 s.1 s.3).2
+        ∙ sym (parent_number-at state.rows n s.0 (subst (λ m. row_at state.rows m ≡ Some s.0) s.2 (row_at-listed state.rows sound.rows_rise s.0 s.1)))
+
+    -- which is such a row
+    next : (n m : ℕ) → IsAt n → parent_number state.rows n ≡ Some m → IsAt m
+    next n m s e =
+        let u = row_parent s.0 s.1 m (subst (λ k. parent_number state.rows k ≡ Some m) (sym s.2) e) in
+        (u.0, u.1, u.2, up s.0 u.0 s.1 u.1 s.3 u.4 u.3)
+
+    -- so it is as far from number 1 as it was, which is there without a parent
+    pub far_kept : (x : Row) → IsIn x state.rows → Stays x
+        → (k : ℕ) × Far (parent_number after) k (root_number x.name) × (parent_number after 1 ≡ None) × IsIn 1 (roots after)
+    far_kept x i s =
+        let far = row_far x i in
+        let f = Far-same (parent_number state.rows) (parent_number after) IsAt same_parent next far.0 (root_number x.name) far.1 (x, i, refl, s) in
+        (far.0, f.0, same_parent 1 f.1 ∙ top_row, IsIn-roots after 1 (g f.1.0) (found 1 f.1))
+
+    -- and its chain is long enough
+    pub chain_kept : (x : Row) → IsIn x state.rows → Stays x → IsIn 1 (climb (parent_number after) (length after) (root_number x.name))
+    chain_kept x i s = let f = far_kept x i s in chain-in_rows after f.2 f.3 f.0 (root_number x.name) f.1
 
   -- the root init lives in the root namespace, and has no parent
   pub root_init_lives : (init : Row) × IsRootInit state init

@@ -1,7 +1,7 @@
 -- No call changes the bound of all numbers.
-use Rattle.std.proofs.Common.{◌≡◌, ℕ, ◌+◌, List, [], ◌∷◌, refl, ◌∙◌}
-use Rattle.model_laws.proofs.Words.{Call, State, Outcome, sweep, with_cursors, fall, without_row, with_row, with_control, without_control, with_limit, step, state_after}
-use Rattle.model_laws.proofs.Calls.{Comes, still, step_comes}
+use Rattle.model_laws.proofs.Words.{◌≡◌, ℕ, ◌+◌, List, [], ◌∷◌, refl, ◌∙◌, Call, State, Outcome, sweep, with_cursors, fall, without_row, with_row, with_control, without_control, with_limit, step, state_after}
+use Rattle.model_laws.proofs.Calls.{Comes, still}
+use Rattle.model_laws.proofs.Refusals.{step_comes}
 
 -- whatever a call comes to
 comes_bound : (state : State) (stamp : ℕ) (call : Call) (o : Outcome) → Comes state stamp call o → o.state.pid_max ≡ state.pid_max

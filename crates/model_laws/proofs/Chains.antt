@@ -1,6 +1,5 @@
 -- Chains of parents.
-use Rattle.std.proofs.Common.{◌≡◌, ℕ, zero, suc, List, [], ◌∷◌, ◌++◌, length, Option, Some, None, refl, sym, ap, ◌∙◌, subst, ◌⊎◌, inl, inr, ◌+◌, ◌≤◌, arith, length-append}
-use Rattle.model_laws.proofs.Words.{climb, IsIn}
+use Rattle.model_laws.proofs.Words.{◌<◌, ◌≡◌, ℕ, zero, suc, List, [], ◌∷◌, ◌++◌, length, Option, Some, None, refl, sym, ap, ◌∙◌, subst, ◌⊎◌, inl, inr, ◌+◌, ◌≤◌, arith, length-append, climb, IsIn}
 use Rattle.model_laws.proofs.Lists.{IsIn-append_right}
 
 -- the chain ends before it is cut off
@@ -32,14 +31,29 @@ IsIn-climb_first f k id = inl refl
 pub IsIn-climb_parent : (f : ℕ → Option ℕ) (k id p x : ℕ) → f id ≡ Some p → IsIn x (climb f k p) → IsIn x (climb f (suc k) id)
 IsIn-climb_parent f k id p x e i = rw (climb-Some f k id p e) (inr i)
 
+-- m is so many parents above n
+abbrev pub Climbs : (ℕ → Option ℕ) → ℕ → ℕ → ℕ → Type 0
+Climbs f zero n m = n ≡ m
+Climbs f (suc k) n m = (p : ℕ) × (f n ≡ Some p) × Climbs f k p m
+
+-- what is on a chain is so many parents above its beginning, and fewer than the chain is long
+pub in_climb : (f : ℕ → Option ℕ) (k n x : ℕ) → IsIn x (climb f k n) → (j : ℕ) × Climbs f j n x × (j < k)
+unfolding climb
+in_climb f zero n x i = elim i [ ]
+in_climb f (suc k) n x i = elim (climb_cases f k n x i) [
+  | inl e ↦ (0, sym e, omega arith)
+  | inr r ↦ let w = in_climb f k r.0 x r.2 in (suc w.0, (r.0, r.1, w.1), omega (arith, w.2))
+]
+
+-- and back
+pub climb_in : (f : ℕ → Option ℕ) (k j n x : ℕ) → Climbs f j n x → j < k → IsIn x (climb f k n)
+climb_in f zero j n x c l = absurd (omega arith)
+climb_in f (suc k) zero n x c l = subst (λ y. IsIn y (climb f (suc k) n)) c (IsIn-climb_first f k n)
+climb_in f (suc k) (suc j) n x c l = IsIn-climb_parent f k n c.0 x c.1 (climb_in f k j c.0 x c.2 (omega arith))
+
 -- a chain that is cut off later has what it had
 pub IsIn-climb_more : (f : ℕ → Option ℕ) (k id x : ℕ) → IsIn x (climb f k id) → IsIn x (climb f (suc k) id)
-unfolding climb
-IsIn-climb_more f zero id x i = elim i [ ]
-IsIn-climb_more f (suc k) id x i = elim (climb_cases f k id x i) [
-  | inl e ↦ inl e
-  | inr r ↦ IsIn-climb_parent f (suc k) id r.0 x r.1 (IsIn-climb_more f k r.0 x r.2)
-]
+IsIn-climb_more f k id x i = let w = in_climb f k id x i in climb_in f (suc k) w.0 id x w.1 (omega (arith, w.2))
 
 -- a chain that meets the root, which has no parent, stops
 pub Stops-at_root : (f : ℕ → Option ℕ) (k id : ℕ) → f 0 ≡ None → IsIn 0 (climb f k id) → Stops f k id

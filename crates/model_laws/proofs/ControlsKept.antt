@@ -1,19 +1,8 @@
 -- Calls on control groups leave a sound state.
-use Rattle.std.proofs.Common.{◌≡◌, ℕ, ◌+◌, ◌<◌, ◌≤◌, false, not, ◌==◌, List, [], ◌∷◌, ◌++◌, map, length, Option, Some, None, refl, sym, ap, ◌∙◌, subst, inl, inr, arith, filter, nat_lt, option_map, option_and_then}
-use Rattle.std.specs.Option.{option_map_or}
-use Rattle.std.proofs.lemmas.Bool.{cond_both, eqb-true, ne_eqb, eqb-false, ltb-false, not_from_false, not-true}
-use Rattle.model_laws.proofs.Words.{Row, Control, greatest_limit, climb, State, control_at, parent_control, control_path, with_control, is_busy, rehome, without_control, limited, with_limit, IsIn, IsTreeOfControls, HasGoodLimit, IsCoherent, IsSound, IsBelow, Reply, changed}
-use Rattle.std.proofs.lemmas.Bool.Decides.{not_from_Decides}
-use Rattle.model_laws.proofs.Refusals.{Decides-busy}
-use Rattle.model_laws.proofs.Lists.{IsIn-from_filter, IsIn-from_map, find-filter, each_pushed}
-use Rattle.model_laws.proofs.Chains.{Stops, Stops-at_root, climb_trans, climb_cases, IsIn-climb_first, IsIn-climb_parent, IsIn-climb_more, climb-same, climb_child}
-use Rattle.model_laws.proofs.Names.{group_in_use, session_in_use}
-use Rattle.model_laws.proofs.Rising.{IsRising-filter}
-use Rattle.model_laws.proofs.Trees.{control_to_root, control_at-Some, root_control_parent, control_path_listed}
-use Rattle.model_laws.proofs.Forests.{at-map, chain-map, IsTree-map, at-push_old, chain-push, IsIn-chain_new, IsTree-push}
-use Rattle.model_laws.proofs.Survivors.{IsCoherent-map_rows}
-use Rattle.model_laws.proofs.RowMaps.{HasGoodGroups-map, each_of_map}
-use Rattle.model_laws.proofs.Kept.{Keeps, Keeps-changed}
+use Rattle.model_laws.proofs.Words.{◌≡◌, ℕ, ◌+◌, ◌<◌, ◌≤◌, false, not, ◌==◌, List, [], ◌∷◌, ◌++◌, map, length, Option, Some, None, refl, sym, ap, ◌∙◌, subst, inl, inr, arith, filter, nat_lt, option_map, option_and_then, option_map_or, cond_both, eqb-true, ne_eqb, eqb-false, ltb-false, not_from_false, not-true, Row, Control, greatest_limit, climb, State, control_at, parent_control, control_path, with_control, is_busy, rehome, without_control, limited, with_limit, IsIn, IsTreeOfControls, HasGoodLimit, IsCoherent, IsBelow, not_from_Decides, option_and_then_some}
+use Rattle.model_laws.proofs.Ground.{climb_in, each_of_map, IsIn-from_filter, find-filter, each_pushed, Stops-at_root, climb_trans, climb_cases, IsIn-climb_more, climb-same, climb_child, IsRising-filter, control_to_root, control_at-Some, root_control_parent, at-map, chain-map, IsTree-map, at-push_old, chain-push, IsIn-chain_new, IsTree-push, chain_listed}
+use Rattle.model_laws.proofs.Refusals.{Decides-busy, Decides-limit}
+use Rattle.model_laws.proofs.Survivors.{settled, Leaves, own_leaves}
 
 -- a coherent state with other control groups, where each home is
 IsCoherent-controls : (state : State) (controls : List Control) → IsCoherent state → IsTreeOfControls controls
@@ -35,14 +24,6 @@ IsCoherent-controls state controls sound tree limits homes = record {
   homes = homes;
 }
 
--- a control group's path is the same where each control group on it is
-control_path-same : (controls others : List Control) (id : ℕ)
-    → ((x : ℕ) → IsIn x (control_path controls id) → control_at others x ≡ control_at controls x)
-    → control_path others id ≡ control_path controls id
-unfolding control_path
-control_path-same controls others id same =
-    climb-same (parent_control controls) (parent_control others) 65 id (λ x i. ap (option_and_then (λ c. c.parent)) (same x i))
-
 -- ---- a new control group
 
 module _ (controls : List Control) (tree : IsTreeOfControls controls) (stamp parent : ℕ) (above : (c : Control) → IsIn c controls → c.id < stamp) where
@@ -63,38 +44,32 @@ module _ (controls : List Control) (tree : IsTreeOfControls controls) (stamp par
   unfolding control_path
   path_old id on = chain-push Control (λ d. d.id) (λ d. d.parent) controls made above (control_path controls) tree 65 id on
 
-  -- the new one's path meets the root
-  path_new : IsIn 0 (control_path controls parent) → length (control_path controls parent) ≤ 64 → IsIn 0 (control_path with_made stamp)
-  unfolding control_path
-  path_new on short = IsIn-chain_new Control (λ d. d.id) (λ d. d.parent) controls made above (control_path controls) tree 64 parent 0 refl on short on
-
   -- the control groups with the new one are a tree
   IsTreeOfControls-made : IsIn 0 (control_path controls parent) → length (control_path controls parent) ≤ 64 → parent < stamp → IsTreeOfControls with_made
+  unfolding control_path
   IsTreeOfControls-made on short elder =
-      IsTree-push Control (λ d. d.id) (λ d. d.parent) controls made above (control_path controls) (control_path with_made)
-      (λ c i. path_old c.id (tree.chains c i)) (path_new on short) elder tree
+      IsTree-push Control (λ d. d.id) (λ d. d.parent) controls made above _ _ (λ c i. path_old c.id (tree.chains c i))
+      (IsIn-chain_new Control (λ d. d.id) (λ d. d.parent) controls made above (control_path controls) tree 64 parent 0 refl on short on) elder tree
 
 -- a new control group leaves a sound state
-pub make_control_keeps : (state : State) (stamp parent : ℕ) (c : Control) (reply : Reply) → IsSound state → IsBelow stamp state
+pub make_control_keeps : (state : State) (stamp parent : ℕ) (c : Control) → IsCoherent state → IsBelow stamp state
     → control_at state.controls parent ≡ Some c → nat_lt 64 (length (control_path state.controls parent)) ≡ false
-    → Keeps (stamp + 1) (changed (with_control state parent stamp) reply)
+    → IsCoherent (with_control state parent stamp) × IsBelow (stamp + 1) (with_control state parent stamp)
 unfolding with_control
-make_control_keeps state stamp parent c reply sound below found shallow =
-    let tree : IsTreeOfControls state.controls = sound.coherent.controls in
-    let on : IsIn 0 (control_path state.controls parent) = control_to_root state.controls tree parent c found in
-    Keeps-changed (stamp + 1) (with_control state parent stamp) _
-    (IsCoherent-controls state (with_made state.controls tree stamp parent below.controls) sound.coherent
-    (IsTreeOfControls-made state.controls tree stamp parent below.controls on (ltb-false 64 (length (control_path state.controls parent)) shallow)
-    (let at = control_at-Some state.controls parent c found in subst (λ x. x < stamp) at.1 (below.controls c at.0)))
-    (each_pushed HasGoodLimit state.controls (made state.controls tree stamp parent below.controls) sound.coherent.limits
-    (record { root = λ _. refl; bounded = λ limit some. absurd (cc) }))
-    (λ r i. let h = sound.coherent.homes r i in (h.0, at_old state.controls tree stamp parent below.controls r.home h.0 h.1)))
-    (record {
-      spaces = λ s i. omega (arith, below.spaces s i);
-      controls = each_pushed (λ (d : Control). d.id < stamp + 1) state.controls (made state.controls tree stamp parent below.controls)
-          (λ d j. omega (arith, below.controls d j)) (omega arith);
-      children = λ r i. omega (arith, below.children r i);
-    })
+make_control_keeps state stamp parent c sound below found shallow =
+    let on : IsIn 0 (control_path state.controls parent) = control_to_root state.controls sound.controls parent c found in
+    let at = control_at-Some state.controls parent c found in (
+      IsCoherent-controls state (with_made state.controls sound.controls stamp parent below.controls) sound
+          (IsTreeOfControls-made state.controls sound.controls stamp parent below.controls on (ltb-false 64 _ shallow)
+          (subst (λ x. x < stamp) at.1 (below.controls c at.0)))
+          (each_pushed HasGoodLimit state.controls _ sound.limits (record { root = λ _. refl; bounded = λ limit some. absurd (cc) }))
+          (λ r i. let h = sound.homes r i in (h.0, at_old state.controls sound.controls stamp parent below.controls r.home h.0 h.1)),
+      record {
+        spaces = λ s i. omega (arith, below.spaces s i);
+        controls = each_pushed (λ (d : Control). d.id < stamp + 1) state.controls _ (λ d j. omega (arith, below.controls d j)) (omega arith);
+        children = λ r i. omega (arith, below.children r i);
+      },
+    )
 
 -- ---- the end of a control group
 
@@ -113,17 +88,14 @@ module _ (controls : List Control) (tree : IsTreeOfControls controls) (id : ℕ)
   unfolding control_path
   not_below x differs i = elim (climb_child (parent_control controls) 65 x id i) [
     | inl e ↦ differs (sym e)
-    | inr r ↦ go r.0 (control_at controls r.0) refl r.2
+    | inr r ↦ option_and_then_some _ (control_at controls r.0) id r.2 (λ c e up. childless c (control_at-Some controls r.0 c e).0 up)
   ]
-    where
-      go : (y : ℕ) (o : Option Control) → control_at controls y ≡ o → option_and_then (λ c. c.parent) o ≡ Some id → ⊥
-      go y None e f = cc
-      go y (Some c) e f = childless c (control_at-Some controls y c e).0 f
 
   -- their paths stay
   pub other_path : (x : ℕ) → (x ≡ id → ⊥) → control_path others x ≡ control_path controls x
-  other_path x differs =
-      control_path-same controls others x (λ y i. other_at y (λ same. not_below x differs (subst (λ z. IsIn z (control_path controls x)) same i)))
+  unfolding control_path
+  other_path x differs = climb-same (parent_control controls) (parent_control others) 65 x (λ y i. ap (option_and_then (λ c. c.parent))
+      (other_at y (λ same. not_below x differs (subst (λ z. IsIn z (control_path controls x)) same i))))
 
   -- they are a tree
   IsTreeOfControls-others : (id ≡ 0 → ⊥) → IsTreeOfControls others
@@ -137,102 +109,98 @@ module _ (controls : List Control) (tree : IsTreeOfControls controls) (id : ℕ)
         subst (IsIn 0) (sym (other_path c.id differs)) (tree.chains c r.0);
   }
 
--- a control group with a parent is not the root
-not_root : (controls : List Control) → IsTreeOfControls controls → (id parent : ℕ) (c : Control) → control_at controls id ≡ Some c
-    → c.parent ≡ Some parent → id ≡ 0 → ⊥
-not_root controls tree id parent c found under e =
-    let none : parent_control controls id ≡ None = subst (λ x. parent_control controls x ≡ None) (sym e) (root_control_parent controls tree) in
-    let some : parent_control controls id ≡ Some parent = ap (option_and_then (λ (d : Control). d.parent)) found ∙ under in cc
+module _ (controls : List Control) (tree : IsTreeOfControls controls) (id parent : ℕ) (g : Control) (found : control_at controls id ≡ Some g)
+    (under : g.parent ≡ Some parent) where
+  -- the control group's parent, by its id
+  up : parent_control controls id ≡ Some parent
+  up = ap (option_and_then (λ (d : Control). d.parent)) found ∙ under
 
--- the parent of a control group is there
-pub parent_listed : (controls : List Control) → IsTreeOfControls controls → (id parent : ℕ) (c : Control) → control_at controls id ≡ Some c
-    → c.parent ≡ Some parent
-    → (d : Control) × (control_at controls parent ≡ Some d)
-unfolding control_path
-parent_listed controls tree id parent c found below =
-    control_path_listed controls tree id parent (control_to_root controls tree id c found)
-    (IsIn-climb_parent (parent_control controls) 64 id parent parent (ap (option_and_then (λ (c : Control). c.parent)) found ∙ below) (IsIn-climb_first (parent_control controls) 63 parent))
+  -- who has one is not the root
+  not_root : id ≡ 0 → ⊥
+  not_root e =
+      let none : parent_control controls id ≡ None = subst (λ x. parent_control controls x ≡ None) (sym e) (root_control_parent controls tree) in
+      let some : parent_control controls id ≡ Some parent = up in cc
+
+  -- the parent is above it
+  in_path : IsIn parent (control_path controls id)
+  unfolding control_path
+  in_path = climb_in (parent_control controls) 65 1 id parent (parent, up, refl) (omega arith)
+
+  -- and is there
+  pub parent_listed : (d : Control) × (control_at controls parent ≡ Some d)
+  unfolding control_path
+  parent_listed = chain_listed Control (λ d. d.id) (λ d. d.parent) _ controls tree 65 id parent (control_to_root controls tree id g found) in_path
+
+  -- what is above the parent is above the child
+  pub path_of_parent : (c : ℕ) → IsIn c (control_path controls parent) → IsIn c (control_path controls id)
+  unfolding control_path
+  path_of_parent c i =
+      climb_trans (parent_control controls) 65 id parent c (Stops-at_root (parent_control controls) 65 id (root_control_parent controls tree)
+      (control_to_root controls tree id g found)) in_path i
+
+  -- and what is above the child, but for itself, is above the parent
+  pub path_of_child : (c : ℕ) → (c ≡ id → ⊥) → IsIn c (control_path controls id) → IsIn c (control_path controls parent)
+  unfolding control_path
+  path_of_child c differs i = elim (climb_cases (parent_control controls) 64 id c i) [
+    | inl e ↦ absurd (differs e)
+    | inr r ↦
+        let same : r.0 ≡ parent = (let a : parent_control controls id ≡ Some r.0 = r.1 in let b : parent_control controls id ≡ Some parent = up in cc) in
+        IsIn-climb_more (parent_control controls) 64 parent c (subst (λ x. IsIn c (climb (parent_control controls) 64 x)) same r.2)
+  ]
 
 -- a control group that is not busy is no parent
 pub no_child : (state : State) (id : ℕ) → is_busy state id ≡ false → (d : Control) → IsIn d state.controls → d.parent ≡ Some id → ⊥
 unfolding is_busy
 no_child state id idle d i e = not_from_Decides (is_busy state id) (Decides-busy state id) idle (inr (d, i, e))
 
--- what is above the parent is above the child
-pub path_of_parent : (controls : List Control) → IsTreeOfControls controls → (id parent : ℕ) (g : Control) → control_at controls id ≡ Some g
-    → g.parent ≡ Some parent
-    → (c : ℕ) → IsIn c (control_path controls parent) → IsIn c (control_path controls id)
-unfolding control_path
-path_of_parent controls tree id parent g found under c i =
-    let f : ℕ → Option ℕ = parent_control controls in
-    let stops : Stops f 65 id = Stops-at_root f 65 id (root_control_parent controls tree) (control_to_root controls tree id g found) in
-    climb_trans f 65 id parent c stops (IsIn-climb_parent f 64 id parent parent (ap (option_and_then (λ (x : Control). x.parent)) found ∙ under) (IsIn-climb_first f 63 parent)) i
+-- the end of a control group leaves a coherent state
+pub remove_control_leaves : (state : State) (id parent : ℕ) (c : Control) → IsCoherent state
+    → control_at state.controls id ≡ Some c → c.parent ≡ Some parent → is_busy state id ≡ false → Leaves state (without_control state id parent)
+unfolding without_control
+remove_control_leaves state id parent c sound found under idle = (
+  IsCoherent-controls (record state { rows = map (rehome id parent) state.rows }) left rows.0 (IsTreeOfControls-others state.controls tree id childless root)
+      (λ d i. sound.limits d (IsIn-from_filter _ d state.controls i).0)
+      (each_of_map (λ r. (d : Control) × (control_at left r.home ≡ Some d)) (rehome id parent) state.rows (λ r i.
+      cond_both (r.home == id) parent r.home (λ x. (d : Control) × (control_at left x ≡ Some d))
+      (λ e. (up.0, other_at state.controls tree id childless parent differs ∙ up.1))
+      (λ e. let h = sound.homes r i in (h.0, other_at state.controls tree id childless r.home (eqb-false r.home id e) ∙ h.1)))),
+  λ stamp below. record {
+    spaces = below.spaces;
+    controls = λ d i. below.controls d (IsIn-from_filter _ d state.controls i).0;
+    children = (rows.1 stamp below).children;
+  },
+)
+  where
+    tree : IsTreeOfControls state.controls
+    tree = sound.controls
 
--- and what is above the child, but for itself, is above the parent
-pub path_of_child : (controls : List Control) (id parent : ℕ) (g : Control) → control_at controls id ≡ Some g → g.parent ≡ Some parent
-    → (c : ℕ) → (c ≡ id → ⊥) → IsIn c (control_path controls id) → IsIn c (control_path controls parent)
-unfolding control_path
-path_of_child controls id parent g found under c differs i = elim (climb_cases (parent_control controls) 64 id c i) [
-  | inl e ↦ absurd (differs e)
-  | inr r ↦
-      let a : parent_control controls id ≡ Some r.0 = r.1 in
-      let b : parent_control controls id ≡ Some parent = ap (option_and_then (λ (x : Control). x.parent)) found ∙ under in
-      let same : r.0 ≡ parent = cc in
-      IsIn-climb_more (parent_control controls) 64 parent c (subst (λ x. IsIn c (climb (parent_control controls) 64 x)) same r.2)
-]
+    childless : (d : Control) → IsIn d state.controls → d.parent ≡ Some id → ⊥
+    childless = no_child state id idle
 
--- the end of a control group leaves a sound state
-pub remove_control_keeps : (state : State) (stamp id parent : ℕ) (c : Control) (reply : Reply) → IsSound state → IsBelow stamp state
-    → control_at state.controls id ≡ Some c → c.parent ≡ Some parent → is_busy state id ≡ false
-    → Keeps stamp (changed (without_control state id parent) reply)
-unfolding without_control is_busy
-remove_control_keeps state stamp id parent c reply sound below found under idle =
-    let tree : IsTreeOfControls state.controls = sound.coherent.controls in
-    let childless : (d : Control) → IsIn d state.controls → d.parent ≡ Some id → ⊥ = no_child state id idle in
-    let root : id ≡ 0 → ⊥ = not_root state.controls tree id parent c found under in
-    let up = parent_listed state.controls tree id parent c found under in
-    let differs : parent ≡ id → ⊥ = λ e. childless c (control_at-Some state.controls id c found).0 (under ∙ ap Some e) in
-    Keeps-changed stamp (without_control state id parent) _
-    (IsCoherent-controls (record state { rows = map (rehome id parent) state.rows }) (others state.controls tree id childless)
-    (IsCoherent-map_rows state (rehome id parent) sound.coherent (record {
-      names = λ r. refl;
-      parents = λ r. refl;
-      lives = λ r. refl;
-      group = λ r i. group_in_use state.rows r i;
-      session = λ r i. session_in_use state.rows r i;
-      children = sound.coherent.children;
-      groups = HasGoodGroups-map state.rows (rehome id parent) (λ r. refl) (λ r. refl) (λ r. refl) sound.coherent.groups;
-      homes =
-          λ r i. cond_both (r.home == id) parent r.home (λ x. (d : Control) × (control_at state.controls x ≡ Some d)) (λ e. up) (λ e. sound.coherent.homes r i);
-    }))
-    (IsTreeOfControls-others state.controls tree id childless root)
-    (λ d i. sound.coherent.limits d (IsIn-from_filter (λ c. not (c.id == id)) d state.controls i).0)
-    (each_of_map (λ r. (d : Control) × (control_at (others state.controls tree id childless) r.home ≡ Some d)) (rehome id parent) state.rows (λ r i.
-    cond_both (r.home == id) parent r.home (λ x. (d : Control) × (control_at (others state.controls tree id childless) x ≡ Some d))
-    (λ e. (up.0, other_at state.controls tree id childless parent differs ∙ up.1))
-    (λ e. let h = sound.coherent.homes r i in (h.0, other_at state.controls tree id childless r.home (eqb-false r.home id e) ∙ h.1)))))
-    (record {
-      spaces = λ s i. omega (arith, below.spaces s i);
-      controls = λ d i. omega (arith, below.controls d (IsIn-from_filter (λ c. not (c.id == id)) d state.controls i).0);
-      children = each_of_map (λ r. r.children_space < stamp) (rehome id parent) state.rows (λ r i. omega (arith, below.children r i));
-    })
+    root : id ≡ 0 → ⊥
+    root = not_root state.controls tree id parent c found under
+
+    up : (d : Control) × (control_at state.controls parent ≡ Some d)
+    up = parent_listed state.controls tree id parent c found under
+
+    differs : parent ≡ id → ⊥
+    differs e = childless c (control_at-Some state.controls id c found).0 (under ∙ ap Some e)
+
+    left : List Control
+    left = others state.controls tree id childless
+
+    rows : Leaves state (record state { rows = map (rehome id parent) state.rows })
+    rows = own_leaves state (rehome id parent) sound (λ r. refl) (λ r i.
+        let s = settled state sound r i in
+        (s.0, s.1, s.2, cond_both (r.home == id) parent r.home (λ x. (d : Control) × (control_at state.controls x ≡ Some d)) (λ e. up) (λ e. s.3), s.4))
 
 -- ---- a limit
 
-module _ (controls : List Control) (f : Control → Control) (ids : (c : Control) → (f c).id ≡ c.id) (parents : (c : Control) → (f c).parent ≡ c.parent) where
-  -- what is found is changed
-  control_at-map : (x : ℕ) → control_at (map f controls) x ≡ option_map f (control_at controls x)
-  control_at-map x = at-map Control (λ d. d.id) (λ d. d.parent) controls f ids parents x
-
-  -- paths stay
-  pub control_path-map : (x : ℕ) → control_path (map f controls) x ≡ control_path controls x
-  unfolding control_path
-  control_path-map x = chain-map Control (λ d. d.id) (λ d. d.parent) controls f ids parents 65 x
-
-  -- the tree stays
-  IsTreeOfControls-map : IsTreeOfControls controls → IsTreeOfControls (map f controls)
-  IsTreeOfControls-map tree =
-      IsTree-map Control (λ d. d.id) (λ d. d.parent) controls f ids parents (control_path controls) (control_path (map f controls)) control_path-map tree
+-- paths stay where control groups keep their ids and parents
+pub control_path-map : (controls : List Control) (f : Control → Control) → ((c : Control) → (f c).id ≡ c.id) → ((c : Control) → (f c).parent ≡ c.parent)
+    → (x : ℕ) → control_path (map f controls) x ≡ control_path controls x
+unfolding control_path
+control_path-map controls f ids parents x = chain-map Control (λ d. d.id) (λ d. d.parent) controls f ids parents 65 x
 
 -- a limit that is not too great is a good one where the control group is not the root
 HasGoodLimit-limited : (controls : List Control) → IsTreeOfControls controls → (id parent : ℕ) (limit : Option ℕ) (g : Control)
@@ -242,29 +210,29 @@ HasGoodLimit-limited controls tree id parent limit g found under good c old =
     cond_both (c.id == id) limit c.limit (λ l. HasGoodLimit (record c { limit = l }))
     (λ e. record {
       root = λ zero. absurd (not_root controls tree id parent g found under (sym (eqb-true c.id id e) ∙ zero));
-      bounded = bounded limit good;
+      bounded = λ l some. let no : greatest_limit < l → ⊥ = λ m. not_from_Decides _ (Decides-limit limit) good (l, some, m) in omega arith;
     }) (λ e. old)
-  where
-    bounded : (o : Option ℕ) → option_map_or (nat_lt greatest_limit) o false ≡ false → (l : ℕ) → o ≡ Some l → l ≤ greatest_limit
-    bounded None e l some = absurd (cc)
-    bounded (Some m) e l some = grind (arith, ltb-false greatest_limit m)
 
--- a limit leaves a sound state
-pub set_limit_keeps : (state : State) (stamp id parent : ℕ) (limit : Option ℕ) (g : Control) (reply : Reply) → IsSound state → IsBelow stamp state
+-- a limit leaves a coherent state
+pub set_limit_leaves : (state : State) (id parent : ℕ) (limit : Option ℕ) (g : Control) → IsCoherent state
     → control_at state.controls id ≡ Some g → g.parent ≡ Some parent → option_map_or (nat_lt greatest_limit) limit false ≡ false
-    → Keeps stamp (changed (with_limit state id limit) reply)
+    → Leaves state (with_limit state id limit)
 unfolding with_limit
-set_limit_keeps state stamp id parent limit g reply sound below found under good =
-    Keeps-changed stamp (with_limit state id limit) _
-    (IsCoherent-controls state (map (limited id limit) state.controls) sound.coherent
-    (IsTreeOfControls-map state.controls (limited id limit) (λ c. refl) (λ c. refl) sound.coherent.controls)
-    (λ d i. let q = IsIn-from_map (limited id limit) d state.controls i in
-    subst HasGoodLimit (sym q.2) (HasGoodLimit-limited state.controls sound.coherent.controls id parent limit g found under good q.0 (sound.coherent.limits q.0 q.1)))
-    (λ r i.
-    let h = sound.coherent.homes r i in
-    (limited id limit h.0, control_at-map state.controls (limited id limit) (λ c. refl) (λ c. refl) r.home ∙ ap (option_map (limited id limit)) h.1)))
-    (record {
-      spaces = λ s i. omega (arith, below.spaces s i);
-      controls = λ c i. let r = IsIn-from_map (limited id limit) c state.controls i in omega (arith, below.controls r.0 r.1, ap (λ (d : Control). d.id) r.2);
-      children = λ r i. omega (arith, below.children r i);
-    })
+set_limit_leaves state id parent limit g sound found under good = (
+  IsCoherent-controls state (map f state.controls) sound
+      (IsTree-map Control (λ d. d.id) (λ d. d.parent) state.controls f (λ c. refl) (λ c. refl) (control_path state.controls) _
+      (control_path-map state.controls f (λ c. refl) (λ c. refl)) sound.controls)
+      (each_of_map HasGoodLimit f state.controls (λ c i.
+      HasGoodLimit-limited state.controls sound.controls id parent limit g found under good c (sound.limits c i)))
+      (λ r i.
+      let h = sound.homes r i in
+      (f h.0, at-map Control (λ d. d.id) (λ d. d.parent) state.controls f (λ c. refl) (λ c. refl) r.home ∙ ap (option_map f) h.1)),
+  λ stamp below. record {
+    spaces = below.spaces;
+    controls = each_of_map (λ c. c.id < stamp) f state.controls below.controls;
+    children = below.children;
+  },
+)
+  where
+    f : Control → Control
+    f = limited id limit

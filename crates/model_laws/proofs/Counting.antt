@@ -1,13 +1,8 @@
 -- What changes a control group's count.
-use Rattle.std.proofs.Common.{◌≡◌, ℕ, ◌+◌, ◌<◌, Bool, true, false, not, ◌&&◌, ◌==◌, List, [], ◌∷◌, map, length, Some, refl, sym, ap, ◌∙◌, subst, inl, inr, arith, filter, if◌then◌else◌}
-use Rattle.std.specs.Option.{option_map_or}
-use Rattle.std.proofs.lemmas.Bool.{not-true, eqb-true, eqb-false, not_from_false, false_from_ne_true, cond_both}
-use Rattle.std.proofs.lemmas.Bool.Decides.{same_from_decides}
-use Rattle.model_laws.proofs.Words.{Call, Fork, Exit, Wait, Move, Which, Name, Row, Ended, Exited, Control, Forked, Done, Reaped, contains, State, root_number, same_name, is_live, live_row, number_or_zero, on_row, with_row, control_at, control_path, count, is_below, Outcome, sweep, changed, with_space, is_init, goes_in_fall, row_after_exit, rows_after_exit, row_after_fall, rows_after_fall, new_parent, fall, without_row, set_group, start_session, set_executed, with_control, is_busy, rehome, without_control, limited, with_limit, set_home, set_children_space, set_mark, IsIn, IsRising, IsTreeOfControls, IsSound, IsBelow}
-use Rattle.model_laws.specs.CountLaws.{one_if, may_change_counts}
-use Rattle.model_laws.proofs.Lists.{IsIn-map, IsIn-from_filter, IsIn-from_contains, contains-from_IsIn, filter-same, filter-all}
-use Rattle.model_laws.proofs.Names.{on_row-keeps, same_name-true, same_name-refl}
-use Rattle.model_laws.proofs.Trees.{control_to_root, control_at-Some, live_row-Some}
+use Rattle.model_laws.proofs.Words.{◌≡◌, ℕ, ◌+◌, ◌<◌, Bool, true, false, not, ◌&&◌, ◌==◌, List, [], ◌∷◌, map, length, Some, refl, sym, ap, ◌∙◌, inl, inr, arith, filter, if◌then◌else◌, option_map_or, not-true, eqb-true, eqb-false, not_from_false, false_from_ne_true, cond_both, same_from_decides, Call, Fork, Exit, Wait, Move, Name, Row, Exited, Control, Forked, Done, Reaped, contains, State, root_number, same_name, is_live, live_row, number_or_zero, on_row, with_row, control_at, control_path, count, is_below, Outcome, sweep, with_space, is_init, goes_in_fall, row_after_exit, rows_after_exit, row_after_fall, rows_after_fall, new_parent, fall, without_row, set_group, start_session, set_executed, with_control, is_busy, rehome, without_control, limited, with_limit, set_home, set_children_space, set_mark, IsIn, IsRising, IsTreeOfControls, IsSound}
+use Rattle.model_laws.proofs.Ground.{IsIn-map, IsIn-from_filter, IsIn-from_contains, contains-from_IsIn, filter-same, filter-all, on_row-keeps, same_name-true, same_name-refl, control_to_root, control_at-Some, live_row-Some}
+use Rattle.model_laws.specs.CountLaws.{one_if, may_change_counts, ForkCountsOne, ReapingCountsOneLess, FallCountsTaken, MoveCountsBoth, NothingElseCounts}
+use Rattle.model_laws.proofs.Refusals.{step_comes}
 use Rattle.model_laws.proofs.Calls.{Comes, still, born, born_first, fell, handed_on, waits, reaped, grouped, led, executed, control_made, control_removed, limit_set, moved, joined, marked, no_answer}
 use Rattle.model_laws.proofs.EndsKept.{reaped_row}
 use Rattle.model_laws.proofs.ControlsKept.{path_old, others, other_path, no_child, control_path-map, path_of_parent, path_of_child}
@@ -52,63 +47,56 @@ count-swept state c = refl
 
 -- ---- fork
 
--- a fork that is answered counts one more up from the caller's home
-pub comes_fork : (state : State) (stamp n : ℕ) (new_space : Bool) (o : Outcome) → Comes state stamp (Fork n new_space) o
-    → (caller : Row) (child root : ℕ)
-    → live_row state.rows n ≡ Some caller → o.reply ≡ Forked child root → (c : ℕ)
-    → count o.state c ≡ count state c + one_if (is_below state.controls caller.home c)
+-- a fork counts one more up from the caller's home
+pub fork_counts_one : ForkCountsOne
 unfolding count
-comes_fork state stamp n new_space o (still _ reply answer) caller child root found told c =
-    absurd (no_answer reply (Forked child root) answer refl told)
-comes_fork state stamp n new_space o (born _ _ other plain there stands may) caller child root found told c =
-    count-forked state other other.children_space c ∙ ap (λ (z : Row). count state c + one_if (is_below state.controls z.home c))
-    (let same : other ≡ caller = cc in same)
-comes_fork state stamp n new_space o (born_first _ other there stands shallow here may) caller child root found told c =
-    count-forked (with_space state other.children_space stamp) other stamp c
-    ∙ ap (λ (z : Row). count state c + one_if (is_below state.controls z.home c)) (let same : other ≡ caller = cc in same)
+fork_counts_one state stamp n new_space caller child root found told c = go new_space _ (step_comes state stamp (Fork n new_space)) told
+  where
+    born_of : (other : Row) → live_row state.rows n ≡ Some other → (k : ℕ) → k ≡ count state c + one_if (is_below state.controls other.home c)
+        → k ≡ count state c + one_if (is_below state.controls caller.home c)
+    born_of other there k e = let same : other ≡ caller = cc in rw same at e
+
+    go : (b : Bool) (o : Outcome) → Comes state stamp (Fork n b) o → o.reply ≡ Forked child root
+        → count o.state c ≡ count state c + one_if (is_below state.controls caller.home c)
+    go b o (still _ reply answer) told = absurd (no_answer reply (Forked child root) answer refl told)
+    go b o (born _ _ other plain there stands may) told = born_of other there _ (count-forked state other other.children_space c)
+    go b o (born_first _ other there _ _ _ _) told = born_of other there _ (count-forked (with_space state other.children_space stamp) other stamp c)
 
 -- ---- reaping
 
 -- a reaping counts one less up from the home of the task that it takes
-pub comes_reaping : (state : State) (stamp n : ℕ) (which : Which) (o : Outcome) → Comes state stamp (Wait n which) o
-    → (caller : Row) (child : ℕ) (ended : Ended)
-    → IsSound state → live_row state.rows n ≡ Some caller → o.reply ≡ Reaped child ended
-    → (row : Row) × IsIn row state.rows × (is_live row ≡ false) × (number_or_zero state.spaces row.name caller.name.space ≡ child)
-    × ((c : ℕ) → count state c ≡ count o.state c + one_if (is_below state.controls row.home c))
+pub reaping_counts_one_less : ReapingCountsOneLess
 unfolding count sweep without_row
-comes_reaping state stamp n which o (still _ reply answer) caller child ended sound found told =
-    absurd (no_answer reply (Reaped child ended) answer refl told)
-comes_reaping state stamp n which o (waits _ _ other there none) caller child ended sound found told = absurd (cc)
-comes_reaping state stamp n which o (reaped _ _ other row there least) caller child ended sound found told =
-    let same : other ≡ caller = cc in
-    let r = reaped_row state other row which least in (
-      row,
-      r.0,
-      r.1,
-      ap (λ (z : Row). number_or_zero state.spaces row.name z.name.space) (sym same) ∙
-          (let e : number_or_zero state.spaces row.name other.name.space ≡ child = cc in e),
-      λ c. length-filter-without (λ z. is_below state.controls z.home c) state.rows sound.coherent.rows_rise row r.0,
-    )
+reaping_counts_one_less state stamp n which caller child ended sound found told = go _ (step_comes state stamp (Wait n which)) told
+  where
+    go : (o : Outcome) → Comes state stamp (Wait n which) o → o.reply ≡ Reaped child ended
+        → (row : Row) × IsIn row state.rows × (is_live row ≡ false) × (number_or_zero state.spaces row.name caller.name.space ≡ child)
+        × ((c : ℕ) → count state c ≡ count o.state c + one_if (is_below state.controls row.home c))
+    go o (still _ reply answer) told = absurd (no_answer reply (Reaped child ended) answer refl told)
+    go o (waits _ _ other there none) told = absurd (cc)
+    go o (reaped _ _ other row there least) told =
+        let same : other ≡ caller = cc in
+        let number : number_or_zero state.spaces row.name other.name.space ≡ child = cc in
+        let r = reaped_row state other row which least in
+        (row, r.0, r.1, rw same at number, λ c. length-filter-without (λ z. is_below state.controls z.home c) state.rows sound.coherent.rows_rise row r.0)
 
 -- ---- fall
 
 -- a fall counts as many less as it takes
-pub comes_fall : (state : State) (stamp n status : ℕ) (o : Outcome) → Comes state stamp (Exit n status) o → (init : Row)
-    → live_row state.rows n ≡ Some init
-    → is_init state init ≡ true → o.reply ≡ Done
-    → (c : ℕ)
-    → count state c ≡ count o.state c + length (filter (λ row. goes_in_fall state init row && is_below state.controls row.home c) state.rows)
+pub fall_counts_taken : FallCountsTaken
 unfolding count sweep fall rows_after_fall
-comes_fall state stamp n status o (still _ reply answer) init found first told c = absurd (no_answer reply Done answer refl told)
-comes_fall state stamp n status o (handed_on _ _ other there none) init found first told c =
-    absurd (let same : other ≡ init = cc in let no : is_init state init ≡ false = ap (is_init state) (sym same) ∙ none in cc)
-comes_fall state stamp n status o (fell _ _ other there deep one) init found first told c =
-    length-filter-split (λ row. is_below state.controls row.home c) (goes_in_fall state other) state.rows
-    ∙ ap (λ k. k + length (filter (λ row. goes_in_fall state other row && is_below state.controls row.home c) state.rows))
-    (sym (length-filter-map (λ row. is_below state.controls row.home c) (row_after_fall state other status)
-    (filter (λ row. not (goes_in_fall state other row)) state.rows)))
-    ∙ ap (λ (z : Row). count (changed (fall state other status) Done).state c + length
-    (filter (λ row. goes_in_fall state z row && is_below state.controls row.home c) state.rows)) (let same : other ≡ init = cc in same)
+fall_counts_taken state stamp n status init found first told c = go _ (step_comes state stamp (Exit n status)) told
+  where
+    go : (o : Outcome) → Comes state stamp (Exit n status) o → o.reply ≡ Done
+        → count state c ≡ count o.state c + length (filter (λ row. goes_in_fall state init row && is_below state.controls row.home c) state.rows)
+    go o (still _ reply answer) told = absurd (no_answer reply Done answer refl told)
+    go o (handed_on _ _ other there none) told = absurd (let same : other ≡ init = cc in let no : is_init state init ≡ false = rw same at none in cc)
+    go o (fell _ _ other there deep one) told =
+        let same : init ≡ other = cc in
+        rw same (length-filter-split (λ row. is_below state.controls row.home c) (goes_in_fall state other) state.rows
+        ∙ ap (λ k. k + length (filter (λ row. goes_in_fall state other row && is_below state.controls row.home c) state.rows))
+        (sym (length-filter-map (λ row. is_below state.controls row.home c) (row_after_fall state other status)
+        (filter (λ row. not (goes_in_fall state other row)) state.rows))))
 
 -- ---- move
 
@@ -132,17 +120,15 @@ count-moved state sound task id c i =
     omega arith
 
 -- so does every move that is answered
-pub comes_move : (state : State) (stamp n id : ℕ) (o : Outcome) → Comes state stamp (Move n id) o → (task : Row) → IsSound state
-    → live_row state.rows n ≡ Some task
-    → o.reply ≡ Done → (c : ℕ)
-    → count o.state c + one_if (is_below state.controls task.home c) ≡ count state c + one_if (is_below state.controls id c)
-comes_move state stamp n id o (still _ reply answer) task sound found told c = absurd (no_answer reply Done answer refl told)
-comes_move state stamp n id o (moved _ _ other g there at) task sound found told c =
-    let same : other ≡ task = cc in
-    subst (λ (z : Row). count (sweep (with_row state z.name (set_home id))) c + one_if (is_below state.controls task.home c) ≡ count state c
-    + one_if (is_below state.controls id c)) (sym same)
-    (ap (λ k. k + one_if (is_below state.controls task.home c)) (count-swept (with_row state task.name (set_home id)) c) ∙ count-moved state
-    sound task id c (live_row-Some state.rows n task found).0)
+pub move_counts_both : MoveCountsBoth
+move_counts_both state stamp n id task sound found told c = go _ (step_comes state stamp (Move n id)) told
+  where
+    go : (o : Outcome) → Comes state stamp (Move n id) o → o.reply ≡ Done
+        → count o.state c + one_if (is_below state.controls task.home c) ≡ count state c + one_if (is_below state.controls id c)
+    go o (still _ reply answer) told = absurd (no_answer reply Done answer refl told)
+    go o (moved _ _ other g there at) told =
+        let same : other ≡ task = cc in
+        rw (same, count-swept (with_row state task.name (set_home id)) c) (count-moved state sound task id c (live_row-Some state.rows n task found).0)
 
 -- ---- nothing else
 
@@ -207,7 +193,7 @@ CountsSame-removed state sound id parent c g found under idle x h d e =
     -- the parent's chain is the rest of the one that goes
     up : is_below state.controls parent c ≡ is_below state.controls id c
     up = same_contains c (control_path state.controls parent) (control_path state.controls id)
-        (λ i. path_of_parent state.controls tree id parent g found under c i) (λ i. path_of_child state.controls id parent g found under c differs i)
+        (λ i. path_of_parent state.controls tree id parent g found under c i) (λ i. path_of_child state.controls tree id parent g found under c differs i)
 
     home : (x : ℕ) → is_below (others state.controls tree id childless) (if x == id then parent else x) c ≡ is_below state.controls x c
     home x = cond_both (x == id) parent x (λ y. is_below (others state.controls tree id childless) y c ≡ is_below state.controls x c)
@@ -216,28 +202,29 @@ CountsSame-removed state sound id parent c g found under idle x h d e =
         (λ e. ap (λ p. contains p c) (other_path state.controls tree id childless x (eqb-false x id e)))
 
 -- no other call changes a count
-pub nothing_else : (state : State) (stamp : ℕ) (call : Call) (o : Outcome) → Comes state stamp call o → IsSound state → IsBelow stamp state
-    → may_change_counts state call ≡ false
-    → (c : ℕ) → CountsSame state c o.state
+pub nothing_else_counts : NothingElseCounts
 unfolding rows_after_exit with_control with_limit
-nothing_else state stamp call o (still _ reply answer) sound below quiet c = λ g h d e. refl
-nothing_else state stamp call o (executed n caller found) sound below quiet c = CountsSame-on_row state c caller.name set_executed (λ r. refl)
-nothing_else state stamp call o (fell n status caller found deep one) sound below quiet c =
-    let yes : may_change_counts state (Exit n status) ≡ true = ap (λ o. option_map_or (is_init state) o false) found ∙ one in absurd (cc)
-nothing_else state stamp call o (handed_on n status caller found none) sound below quiet c =
-    CountsSame-map state c (row_after_exit caller (new_parent state caller) (Exited status)) (λ r. refl)
-nothing_else state stamp call o (grouped n pid pgid caller target group found aimed same own there) sound below quiet c =
-    CountsSame-on_row state c target.name (set_group group) (λ r. refl)
-nothing_else state stamp call o (led n caller found none) sound below quiet c = CountsSame-on_row state c caller.name start_session (λ r. refl)
-nothing_else state stamp call o (control_made parent g found shallow) sound below quiet c = CountsSame-paths state _ c (λ r i.
-    let home = sound.coherent.homes r i in
-    path_old state.controls sound.coherent.controls stamp parent below.controls r.home
-    (control_to_root state.controls sound.coherent.controls r.home home.0 home.1))
-nothing_else state stamp call o (control_removed id parent g found under idle) sound below quiet c =
-    CountsSame-removed state sound id parent c g found under idle
-nothing_else state stamp call o (limit_set id parent limit g found under good) sound below quiet c =
-    CountsSame-paths state _ c (λ r i. control_path-map state.controls (limited id limit) (λ x. refl) (λ x. refl) r.home)
-nothing_else state stamp call o (joined n target caller row found there live) sound below quiet c =
-    CountsSame-on_row state c caller.name (set_children_space row.name.space) (λ r. refl)
-nothing_else state stamp call o (marked n on caller found) sound below quiet c = CountsSame-on_row state c caller.name (set_mark on) (λ r. refl)
-nothing_else state stamp call o _ sound below quiet c = absurd (cc)
+nothing_else_counts state stamp call sound below quiet c = go call _ (step_comes state stamp call) quiet
+  where
+    go : (call : Call) (o : Outcome) → Comes state stamp call o → may_change_counts state call ≡ false → CountsSame state c o.state
+    go call o (still _ reply answer) quiet = λ g h d e. refl
+    go call o (executed n caller found) quiet = CountsSame-on_row state c caller.name set_executed (λ r. refl)
+    go call o (fell n status caller found deep one) quiet =
+        let yes : may_change_counts state (Exit n status) ≡ true = ap (λ o. option_map_or (is_init state) o false) found ∙ one in absurd (cc)
+    go call o (handed_on n status caller found none) quiet =
+        CountsSame-map state c (row_after_exit caller (new_parent state caller) (Exited status)) (λ r. refl)
+    go call o (grouped n pid pgid caller target group found aimed same own there) quiet =
+        CountsSame-on_row state c target.name (set_group group) (λ r. refl)
+    go call o (led n caller found none) quiet = CountsSame-on_row state c caller.name start_session (λ r. refl)
+    go call o (control_made parent g found shallow) quiet = CountsSame-paths state _ c (λ r i.
+        let home = sound.coherent.homes r i in
+        path_old state.controls sound.coherent.controls stamp parent below.controls r.home
+        (control_to_root state.controls sound.coherent.controls r.home home.0 home.1))
+    go call o (control_removed id parent g found under idle) quiet =
+        CountsSame-removed state sound id parent c g found under idle
+    go call o (limit_set id parent limit g found under good) quiet =
+        CountsSame-paths state _ c (λ r i. control_path-map state.controls (limited id limit) (λ x. refl) (λ x. refl) r.home)
+    go call o (joined n target caller row found there live) quiet =
+        CountsSame-on_row state c caller.name (set_children_space row.name.space) (λ r. refl)
+    go call o (marked n on caller found) quiet = CountsSame-on_row state c caller.name (set_mark on) (λ r. refl)
+    go call o _ quiet = absurd (cc)

@@ -1,7 +1,5 @@
 -- The draw is the cyclic one.
-use Rattle.std.proofs.Common.{◌≡◌, ℕ, ◌<◌, ◌≤◌, max, false, cond, List, Some, None, arith, inl, inr, nat_lt}
-use Rattle.std.proofs.lemmas.Bool.{ltb-true, ltb-false, cond_both}
-use Rattle.model_laws.proofs.Words.{contains, least_free, restart, cyclic_draw}
+use Rattle.model_laws.proofs.Words.{◌≡◌, ℕ, ◌<◌, ◌≤◌, max, false, cond, List, Some, None, arith, inl, inr, nat_lt, ltb-true, ltb-false, cond_both, contains, least_free, restart, cyclic_draw}
 use Rattle.pid_types.proofs.LeastFree as LeastFree
 use Rattle.model_laws.specs.Draws.{IsLeastFree, IsFull, IsCyclicDraw}
 
@@ -16,9 +14,9 @@ IsFull-above : (ns : List ℕ) (low high : ℕ) → high ≤ least_free ns low �
 IsFull-above ns low high h n from below = (LeastFree.least_free-IsLeastFree ns low).least n from (omega arith)
 
 -- the draw is the cyclic one
-pub cyclic_draw-IsCyclicDraw : (pid_max cursor : ℕ) (ns : List ℕ) → IsCyclicDraw pid_max cursor ns (cyclic_draw pid_max cursor ns)
+pub draw_is_least : (pid_max cursor : ℕ) (ns : List ℕ) → IsCyclicDraw pid_max cursor ns (cyclic_draw pid_max cursor ns)
 unfolding cyclic_draw
-cyclic_draw-IsCyclicDraw pid_max cursor ns =
+draw_is_least pid_max cursor ns =
     cond_both (nat_lt upper pid_max) (Some upper) (cond (nat_lt lower pid_max) (Some lower) None) (IsCyclicDraw pid_max cursor ns)
     (λ e. inl (IsLeastFree-below ns (max cursor low) pid_max (ltb-true _ _ e)))
     (λ e. cond_both (nat_lt lower pid_max) (Some lower) None (IsCyclicDraw pid_max cursor ns)

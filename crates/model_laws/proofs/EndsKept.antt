@@ -1,15 +1,9 @@
 -- Wait and the fall of a namespace leave a sound state.
-use Rattle.std.proofs.Common.{◌≡◌, ℕ, ◌<◌, Bool, true, false, ◌&&◌, not, ◌==◌, List, [], ◌∷◌, map, Some, refl, sym, ap, ◌∙◌, subst, inl, inr, arith, filter}
-use Rattle.std.proofs.lemmas.List.{map-id}
-use Rattle.std.proofs.lemmas.Bool.{eqb-false, or_cases, or_from, or_parts, or_left, or_right, not-true, not_from_false, false_from_ne_true}
-use Rattle.model_laws.proofs.Words.{Which, Name, Row, Space, State, path_up, is_within, number, root_number, same_name, is_parent, is_live, is_member, is_selected, matching, least_row, without_row, ended_children, has_parent_within, goes_in_fall, row_after_fall, rows_after_fall, fallen_below, fall, IsIn, IsCoherent, IsSound, IsBelow, Reply, changed}
-use Rattle.model_laws.proofs.Lists.{IsIn-from_filter, IsIn-from_map, IsIn-from_contains, contains-from_IsIn}
-use Rattle.model_laws.proofs.Names.{same_name-true, own_name_in_use, group_in_use, session_in_use, number-on_path, number-off_path}
-use Rattle.model_laws.proofs.Trees.{same_row, path_first, path_trans, path_antisym}
-use Rattle.model_laws.proofs.RowMaps.{each_of_map, HasGoodGroups-map}
-use Rattle.model_laws.proofs.Survivors.{KeepsRest, IsCoherent-survivors, parents_stay}
+use Rattle.model_laws.proofs.Words.{◌≡◌, ℕ, Bool, true, false, not, ◌==◌, List, [], ◌∷◌, Some, refl, sym, ap, ◌∙◌, subst, inl, inr, arith, filter, map-id, eqb-false, or_cases, or_from, or_parts, or_left, or_right, not-true, not_from_false, false_from_ne_true, Which, Name, Row, Space, State, path_up, is_within, number, root_number, same_name, is_live, is_member, matching, least_row, without_row, ended_children, has_parent_within, goes_in_fall, row_after_fall, rows_after_fall, fallen_below, fall, IsIn, IsCoherent}
+use Rattle.model_laws.proofs.Ground.{IsIn-from_filter, IsIn-from_contains, contains-from_IsIn, same_name-true, own_name_in_use, number-on_path, number-off_path, same_row, path_first, path_trans, path_antisym}
+use Rattle.model_laws.proofs.Survivors.{KeepsRest, Leaves, leaves, parents_stay, settled, pairs}
 use Rattle.model_laws.proofs.Ancestry.{number-root_of_row, root_path, row_on_tree}
-use Rattle.model_laws.proofs.Kept.{Keeps, Keeps-changed, IsBelow-rows}
+use Rattle.model_laws.proofs.Refusals.{may-match}
 
 -- ---- wait
 
@@ -21,51 +15,31 @@ least_row-IsIn state s (r ∷ rows) row h = grind (arith, least_row-IsIn state s
 -- what a wait reaps is a row that has ended
 pub reaped_row : (state : State) (caller row : Row) (which : Which) → least_row state caller.name.space (ended_children state caller which) ≡ Some row
     → IsIn row state.rows × (is_live row ≡ false)
-unfolding matching
 reaped_row state caller row which h =
     let f = IsIn-from_filter (λ r. not (is_live r)) row (matching state caller which) (least_row-IsIn state caller.name.space (ended_children state caller which) row h) in
-    ((IsIn-from_filter (λ r. is_parent caller.name r && is_selected state caller which r) row state.rows f.0).0, not-true (is_live row) f.1)
+    (((may-match state caller which row).0 f.0).0, not-true (is_live row) f.1)
 
--- the rows without one that has ended
-IsCoherent-without_row : (state : State) → IsCoherent state → (gone caller : Row) → IsIn gone state.rows → is_live gone ≡ false
-    → IsIn caller state.rows → is_live caller ≡ true
-    → IsCoherent (without_row state gone)
+-- a wait leaves a coherent state
+pub wait_leaves : (state : State) → IsCoherent state → (gone : Row) → IsIn gone state.rows → is_live gone ≡ false → Leaves state (without_row state gone)
 unfolding without_row
-IsCoherent-without_row state sound gone caller i ended j lives =
-    subst IsCoherent same (IsCoherent-survivors state p (λ r. r) (λ s. s) sound (λ r. refl) (record {
-      group = group_in_use state.rows;
-      session = session_in_use state.rows;
-      parents = parents_stay state sound p (λ r. r) (λ r. refl) (λ r. refl) (λ r q k l e there live. (stays q l live, live));
-      children = sound.children;
-      groups = HasGoodGroups-map state.rows (λ r. r) (λ r. refl) (λ r. refl) (λ r. refl) sound.groups;
-      homes = sound.homes;
-      spaces = λ s. (refl, refl);
-      standing = λ s k e. (e, λ r l live here one. (stays r l live, live));
-      fallen = λ s k e. let em = sound.fallen s k e in (λ r l stay live. em.ended r l live, em.below);
-      root = sound.root;
-    }))
+wait_leaves state sound gone i ended = leaves state p (λ r. r) (λ s. s) sound (record {
+  names = λ r. refl;
+  rows = settled state sound;
+  groups = pairs state.rows sound.groups;
+  parents = parents_stay state sound p (λ r. r) (λ r. refl) (λ r. refl) (λ r q k l e there live. (stays q l live, live));
+  spaces = λ s. (refl, refl);
+  standing = λ s k e. (e, λ r l live here one. (stays r l live, live));
+  fallen = λ s k e. let em = sound.fallen s k e in (λ r l stay live. em.ended r l live, em.below);
+  root = sound.root;
+}) _ _ (map-id (filter p state.rows)) (map-id state.spaces)
   where
     p : Row → Bool
     p r = not (same_name r.name gone.name)
-
-    same : ◌≡◌ {A = State} (record state { rows = map (λ (r : Row). r) (filter p state.rows); spaces = map (λ (s : Space). s) state.spaces }) (record state { rows = filter p state.rows })
-    same = λ i. record state { rows = map-id (filter p state.rows) i; spaces = map-id state.spaces i }
 
     stays : (r : Row) → IsIn r state.rows → is_live r ≡ true → p r ≡ true
     stays r k live = not_from_false (same_name r.name gone.name) (false_from_ne_true (same_name r.name gone.name) (λ e.
         let one : r ≡ gone = same_row state.rows sound.rows_rise r gone k i (same_name-true r.name gone.name e) in
         let dead : is_live r ≡ false = ap (λ (x : Row). is_live x) one ∙ ended in cc))
-
--- a wait leaves a sound state
-pub wait_keeps : (state : State) (stamp : ℕ) (which : Which) (caller row : Row) (reply : Reply) → IsSound state → IsBelow stamp state
-    → IsIn caller state.rows → is_live caller ≡ true → least_row state caller.name.space (ended_children state caller which) ≡ Some row
-    → Keeps stamp (changed (without_row state row) reply)
-unfolding without_row
-wait_keeps state stamp which caller row reply sound below i live least =
-    let r = reaped_row state caller row which least in
-    Keeps-changed stamp (without_row state row) _ (IsCoherent-without_row state sound.coherent row caller r.0 r.1 i live)
-    (IsBelow-rows stamp state _ below (λ x i.
-    below.children x (IsIn-from_filter (λ r. not (same_name r.name row.name)) x state.rows i).0))
 
 -- ---- the fall
 
@@ -129,13 +103,11 @@ module _ (state : State) (sound : IsCoherent state) (init : Row) (status : ℕ) 
   -- what the fall keeps
   KeepsRest-fall : KeepsRest state stays_in_fall after_fall after_fall_space
   KeepsRest-fall = record {
-    group = group_in_use state.rows;
-    session = session_in_use state.rows;
+    names = λ r. refl;
+    rows = settled state sound;
+    groups = pairs state.rows sound.groups;
     parents = parents_stay state sound stays_in_fall after_fall (λ r. refl) (λ r. refl)
         (λ r q i j stays up live. outsider_stays q (parent_outside r q i j stays up) live);
-    children = sound.children;
-    groups = HasGoodGroups-map state.rows after_fall (λ r. refl) (λ r. refl) (λ r. refl) sound.groups;
-    homes = sound.homes;
     spaces = λ s. (refl, refl);
     standing = λ s i e.
         let o = or_parts s.fallen (is_within state.spaces s.id space) e in (
@@ -168,19 +140,6 @@ module _ (state : State) (sound : IsCoherent state) (init : Row) (status : ℕ) 
           eqb-false (root_number init.name) 1 deep (let same : root_number init.name ≡ 1 = cc in same)
 
   -- a fall leaves a coherent state
-  pub IsCoherent-fall : IsCoherent (fall state init status)
+  pub fall_leaves : Leaves state (fall state init status)
   unfolding fall rows_after_fall
-  IsCoherent-fall = IsCoherent-survivors state stays_in_fall after_fall after_fall_space sound (λ r. refl) KeepsRest-fall
-
-  -- and its ids below the stamp
-  pub IsBelow-fall : (stamp : ℕ) → IsBelow stamp state → IsBelow stamp (fall state init status)
-  unfolding fall rows_after_fall
-  IsBelow-fall stamp below = record {
-    spaces = each_of_map_space;
-    controls = λ c i. omega (arith, below.controls c i);
-    children =
-        each_of_map (λ r. r.children_space < stamp) after_fall (filter stays_in_fall state.rows) (λ r i. omega (arith, below.children r (IsIn-from_filter stays_in_fall r state.rows i).0));
-  }
-    where
-      each_of_map_space : (s : Space) → IsIn s (map after_fall_space state.spaces) → s.id < stamp
-      each_of_map_space s i = let q = IsIn-from_map after_fall_space s state.spaces i in omega (arith, below.spaces q.0 q.1, ap (λ (t : Space). t.id) q.2)
+  fall_leaves = leaves state stays_in_fall after_fall after_fall_space sound KeepsRest-fall _ _ refl refl

@@ -1,13 +1,8 @@
 -- What a fall does to each task.
-use Rattle.std.proofs.Common.{◌≡◌, ℕ, Bool, true, false, not, Option, Some, None, refl, sym, ap, ◌∙◌, subst, filter, is_some, arith}
-use Rattle.std.specs.Option.{option_map_or}
-use Rattle.std.proofs.lemmas.Bool.{and_left, or_from, or_right, not_from_false, not-true, false_from_ne_true}
-use Rattle.model_laws.proofs.Words.{Name, Row, Space, Life, Zombie, Exited, Killed, Done, IsIn, State, path_up, number, is_within, is_member, same_name, Outcome, sweep, is_init, has_parent_within, goes_in_fall, row_after_fall, rows_after_fall, fallen_below, fall, IsSound, Exit, live_row}
-use Rattle.model_laws.specs.FallLaws.{IsMember, HasMemberParent, IsOtherMember, HasFallen}
-use Rattle.model_laws.proofs.Lists.{IsIn-map, IsIn-from_map, IsIn-filter, IsIn-from_filter, IsIn-from_contains, contains-from_IsIn}
-use Rattle.model_laws.proofs.Names.{same_name-true, same_name-refl, own_name_in_use, number-on_path, number-within}
-use Rattle.model_laws.proofs.Rising.{unique_key}
-use Rattle.model_laws.proofs.Trees.{path_first, same_row, live_row-Some}
+use Rattle.model_laws.proofs.Words.{◌≡◌, ℕ, Bool, true, false, not, Some, refl, sym, ap, ◌∙◌, subst, filter, is_some, arith, option_map_or, and_left, or_from, or_right, not_from_false, not-true, false_from_ne_true, Name, Row, Space, Life, Zombie, Exited, Killed, Done, IsIn, State, path_up, number, is_within, is_member, same_name, Outcome, sweep, is_init, has_parent_within, goes_in_fall, row_after_fall, rows_after_fall, fallen_below, fall, IsSound, Exit}
+use Rattle.model_laws.proofs.Ground.{each_of_map, IsIn-map, IsIn-from_map, IsIn-filter, IsIn-from_filter, IsIn-from_contains, contains-from_IsIn, option_both, same_name-true, same_name-refl, own_name_in_use, number-on_path, number-within, unique_key, path_first, same_row, live_row-Some}
+use Rattle.model_laws.specs.FallLaws.{IsMember, HasMemberParent, HasFallen, ExitOfInitFalls}
+use Rattle.model_laws.proofs.Refusals.{step_comes}
 use Rattle.model_laws.proofs.Sweeps.{from_kept, to_kept}
 use Rattle.model_laws.proofs.Calls.{Comes, still, fell, handed_on, no_answer}
 
@@ -40,96 +35,77 @@ module _ (state : State) (sound : IsSound state) (init : Row) (status : ℕ) (th
 
   -- and one that is not is outside
   parent-false : (r : Row) → IsIn r state.rows → (HasMemberParent state space r → ⊥) → has_parent_within state space r ≡ false
-  parent-false r i none = go r.parent refl
-    where
-      go : (o : Option Name) → r.parent ≡ o → option_map_or (λ (parent : Name). is_within state.spaces parent.space space) o false ≡ false
-      go None e = refl
-      go (Some a) e = false_from_ne_true (is_within state.spaces a.space space) (λ w.
-          let g = ((sound.coherent.parents r i).good a e).lives in
-          let own = own_name_in_use state.rows g.0 g.1 in
-          let on : IsIn space (path_up state.spaces g.0.name.space) = subst (λ (b : Name). IsIn space (path_up state.spaces b.space)) (sym g.2) (IsIn-from_contains (path_up state.spaces a.space) space w) in
-          none (g.0, g.1, e ∙ ap Some (sym g.2), number-on_path state.spaces g.0.name space (sound.coherent.numbered g.0.name own).one_each on))
+  parent-false r i none =
+      option_both r.parent (λ o. option_map_or (λ (parent : Name). is_within state.spaces parent.space space) o false ≡ false) (λ e. refl) (λ a e.
+      false_from_ne_true (is_within state.spaces a.space space) (λ w.
+      let g = ((sound.coherent.parents r i).good a e).lives in
+      let well = sound.coherent.numbered g.0.name (own_name_in_use state.rows g.0 g.1) in
+      none (g.0, g.1, e ∙ ap Some (sym g.2), number-on_path state.spaces g.0.name space well.one_each (rw g.2 (IsIn-from_contains _ space w)))))
 
   -- two names that differ
   differs : (r : Row) → (r.name ≡ init.name → ⊥) → same_name r.name init.name ≡ false
   differs r other = false_from_ne_true (same_name r.name init.name) (λ e. other (same_name-true r.name init.name e))
 
-  -- a row that stays is there after the fall
-  kept : (r : Row) → IsIn r state.rows → goes_in_fall state init r ≡ false → IsIn (after r) (rows_after_fall state init status)
-  unfolding rows_after_fall
-  kept r i e = IsIn-map after (r) (filter stays state.rows) (IsIn-filter stays r state.rows i (not_from_false (goes_in_fall state init r) e))
+  -- the state after the fall
+  abbrev next : State
+  next = sweep (fall state init status)
 
-  -- with the life that it has then
-  kept_as : (r : Row) (life : Life) → IsIn r state.rows → goes_in_fall state init r ≡ false → (after r).life ≡ life
-      → IsIn (record r { life = life }) (rows_after_fall state init status)
-  kept_as r life i e same =
-      let build : Life → Row = λ l. record r { life = l } in subst (λ x. IsIn x (rows_after_fall state init status)) (ap build same) (kept r i e)
+  -- a row that stays is there with the life that it has then
+  kept_as : (r : Row) (l : Life) → IsIn r state.rows → goes_in_fall state init r ≡ false → (after r).life ≡ l → IsIn (record r { life = l }) next.rows
+  unfolding sweep fall rows_after_fall
+  kept_as r l i e same =
+      let build : Life → Row = λ x. record r { life = x } in
+      subst (λ x. IsIn x next.rows) (ap build same) (IsIn-map after r (filter stays state.rows) (IsIn-filter stays r state.rows i (not_from_false _ e)))
 
-  -- every part of the fall but for the sweep
-  fallen_rows : (next : State) → next.rows ≡ rows_after_fall state init status
-      → ((s t : Space) → IsIn s state.spaces → IsIn space (path_up state.spaces s.id) → IsIn t next.spaces → t.id ≡ s.id → t.fallen ≡ true)
-      → ((s : Space) → IsIn s state.spaces → (IsIn space (path_up state.spaces s.id) → ⊥) → s.fallen ≡ false → IsIn s next.spaces)
-      → next.controls ≡ state.controls
-      → HasFallen state next init status
-  unfolding rows_after_fall
-  fallen_rows next rows below standing controls = record {
-    controls = controls;
-    itself = (let own = same_name-refl init.name init.name refl in moved (record init { life = Zombie (Exited status) })
-        (kept_as init (Zombie (Exited status)) there (grind arith) (grind arith)));
+  -- and nobody else is there
+  from_after : (x : Row) → IsIn x next.rows → (r : Row) × IsIn r state.rows × (goes_in_fall state init r ≡ false) × (x ≡ after r)
+  unfolding sweep fall rows_after_fall
+  from_after x i =
+      let q = IsIn-from_map after x (filter stays state.rows) i in
+      let f = IsIn-from_filter stays q.0 state.rows q.1 in (q.0, f.0, not-true (goes_in_fall state init q.0) f.1, q.2)
+
+  -- what becomes of each task and each namespace
+  falls : HasFallen state next init status
+  unfolding sweep fall
+  falls = record {
+    controls = refl;
+    itself = let own = same_name-refl init.name init.name refl in kept_as init (Zombie (Exited status)) there (grind arith) (grind arith);
     outside = λ r i none.
         let off = member-false r none in
         let other = differs r (λ e. none (subst (λ (a : Name). (n : ℕ) × (number state.spaces a space ≡ Some n)) (sym e) own_member)) in
-        moved r (kept_as r r.life i (grind (arith, off)) (grind (arith, off, other)));
-    gone = λ r o up x i e. taken r o up x (subst (IsIn x) rows i) e;
-    killed = λ r o none live. moved (record r { life = Zombie Killed })
-        (kept_as r (Zombie Killed) o.0 (grind (arith, parent-false r o.0 none)) (grind (arith, differs r o.1, member-true r o.2)));
-    ended = λ r o none dead. moved r (kept_as r r.life o.0 (grind (arith, parent-false r o.0 none)) (grind (arith, differs r o.1)));
-    nobody_new = λ x i. let q = IsIn-from_map after x (filter stays state.rows) (subst (IsIn x) rows i) in
-        let f = IsIn-from_filter stays q.0 state.rows q.1 in (q.0, f.0, ap (λ (r : Row). r.name) (sym q.2));
-    below = below;
-    standing = standing;
+        kept_as r r.life i (grind (arith, off)) (grind (arith, off, other));
+    gone = λ r o up x i e.
+        let q = from_after x i in
+        let same : q.0 ≡ r = same_row state.rows sound.coherent.rows_rise q.0 r q.1 o.0 (ap (λ (y : Row). y.name) (sym q.3) ∙ e) in
+        let goes : goes_in_fall state init r ≡ true = grind (arith, differs r o.1, member-true r o.2, parent-true r up) in
+        let stay : goes_in_fall state init r ≡ false = subst (λ y. goes_in_fall state init y ≡ false) same q.2 in
+        cc;
+    killed = λ r o none live.
+        kept_as r (Zombie Killed) o.0 (grind (arith, parent-false r o.0 none)) (grind (arith, differs r o.1, member-true r o.2));
+    ended = λ r o none dead. kept_as r r.life o.0 (grind (arith, parent-false r o.0 none)) (grind (arith, differs r o.1));
+    nobody_new = λ x i. let q = from_after x i in (q.0, q.1, ap (λ (r : Row). r.name) (sym q.3));
+    below = λ s t i up j.
+        each_of_map (λ x. x.id ≡ s.id → x.fallen ≡ true) (fallen_below state.spaces space) state.spaces (λ x k e.
+        let same = unique_key (λ (y : Space). y.id) state.spaces sound.coherent.spaces.rising x s k i e in
+        or_right x.fallen _ (contains-from_IsIn _ space (subst (λ (y : Space). IsIn space (path_up state.spaces y.id)) (sym same) up)))
+        t (from_kept (fall state init status) t j).0;
+    standing = λ s i off e.
+        let out = false_from_ne_true (is_within state.spaces s.id space) (λ w. off (IsIn-from_contains (path_up state.spaces s.id) space w)) in
+        let stands : (fallen_below state.spaces space s).fallen ≡ false = or_from s.fallen (is_within state.spaces s.id space) e out in
+        let build : Bool → Space = λ b. record s { fallen = b } in
+        subst (λ x. IsIn x next.spaces) (ap build (stands ∙ sym e)) (to_kept (fall state init status) (fallen_below state.spaces space s)
+        (IsIn-map (fallen_below state.spaces space) s state.spaces i) (and_left (fallen_below state.spaces space s).fallen _ stands));
   }
     where
-      moved : (r : Row) → IsIn r (rows_after_fall state init status) → IsIn r next.rows
-      moved r i = subst (IsIn r) (sym rows) i
-
       own_member : IsMember state space init
       own_member = number-on_path state.spaces init.name space (sound.coherent.numbered init.name (own_name_in_use state.rows init there)).one_each (path_first state.spaces space)
 
-      taken : (r : Row) → IsOtherMember state init r → HasMemberParent state space r → (x : Row) → IsIn x (rows_after_fall state init status) → x.name ≡ r.name → ⊥
-      taken r o up x i e =
-          let q = IsIn-from_map after x (filter stays state.rows) i in
-          let f = IsIn-from_filter stays q.0 state.rows q.1 in
-          let same : q.0 ≡ r = same_row state.rows sound.coherent.rows_rise q.0 r f.0 o.0 (ap (λ (y : Row). y.name) (sym q.2) ∙ e) in
-          let goes : goes_in_fall state init r ≡ true = grind (arith, differs r o.1, member-true r o.2, parent-true r up) in
-          let stay : goes_in_fall state init r ≡ false = subst (λ y. goes_in_fall state init y ≡ false) same (not-true (goes_in_fall state init q.0) f.1) in
-          cc
-
 -- the exit of a namespace's init lets the namespace fall
-pub comes_fallen : (state : State) (stamp n status : ℕ) (o : Outcome) → Comes state stamp (Exit n status) o → (init : Row) → IsSound state
-    → live_row state.rows n ≡ Some init → is_init state init ≡ true → o.reply ≡ Done → HasFallen state o.state init status
-unfolding sweep fall
-comes_fallen state stamp n status o (still _ reply answer) init sound found one told = absurd (no_answer reply Done answer refl told)
-comes_fallen state stamp n status o (handed_on _ _ caller there none) init sound found one told =
-    absurd (let same : init ≡ caller = cc in let yes : is_init state caller ≡ true = subst (λ (x : Row). is_init state x ≡ true) same one in cc)
-comes_fallen state stamp n status o (fell _ _ caller there deep is) init sound found one told =
-    let same : init ≡ caller = cc in
-    subst (λ (x : Row). HasFallen state (sweep (fall state x status)) init status) same (falls (live_row-Some state.rows n init found).0)
+pub exit_of_init_falls : ExitOfInitFalls
+exit_of_init_falls state stamp n status init sound found one told = go _ (step_comes state stamp (Exit n status)) told
   where
-    falls : IsIn init state.rows → HasFallen state (sweep (fall state init status)) init status
-    falls there = fallen_rows state sound init status there (sweep (fall state init status)) refl
-        (λ s t i up j e.
-        let f = from_kept (fall state init status) t j in
-        let q = IsIn-from_map (fallen_below state.spaces init.name.space) t state.spaces f.0 in
-        let id : q.0.id ≡ s.id = sym (ap (λ (x : Space). x.id) q.2) ∙ e in
-        let same : q.0 ≡ s = unique_key (λ (x : Space). x.id) state.spaces sound.coherent.spaces.rising q.0 s q.1 i id in
-        ap (λ (x : Space). x.fallen) q.2 ∙ or_right q.0.fallen (is_within state.spaces q.0.id init.name.space)
-        (contains-from_IsIn (path_up state.spaces q.0.id) init.name.space (subst (λ (x : Space). IsIn init.name.space (path_up state.spaces x.id)) (sym same) up)))
-        (λ s i off e.
-        let out : is_within state.spaces s.id init.name.space ≡ false = false_from_ne_true (is_within state.spaces s.id init.name.space) (λ w. off (IsIn-from_contains (path_up state.spaces s.id) init.name.space w)) in
-        let stands : (fallen_below state.spaces init.name.space s).fallen ≡ false = or_from s.fallen (is_within state.spaces s.id init.name.space) e out in
-        let same : fallen_below state.spaces init.name.space s ≡ s = (let build : Bool → Space = λ b. record s { fallen = b } in ap build (stands ∙ sym e)) in
-        subst (λ x. IsIn x (sweep (fall state init status)).spaces) same
-        (to_kept (fall state init status) (fallen_below state.spaces init.name.space s) (IsIn-map (fallen_below state.spaces init.name.space) s state.spaces i)
-        (and_left (fallen_below state.spaces init.name.space s).fallen _ stands)))
-        refl
+    go : (o : Outcome) → Comes state stamp (Exit n status) o → o.reply ≡ Done → HasFallen state o.state init status
+    go o (still _ reply answer) told = absurd (no_answer reply Done answer refl told)
+    go o (handed_on _ _ caller there none) told =
+        absurd (let same : caller ≡ init = cc in let no : is_init state init ≡ false = rw same at none in cc)
+    go o (fell _ _ caller there _ _) told = let same : caller ≡ init = cc in rw same (falls state sound init status (live_row-Some state.rows n init found).0)

@@ -1,9 +1,6 @@
 -- Trees of things that have ids, and parents among them: namespaces, and control groups.
-use Rattle.std.proofs.Common.{◌≡◌, ℕ, zero, suc, ◌<◌, ◌≤◌, ◌==◌, List, [], ◌∷◌, ◌++◌, map, length, Option, Some, None, refl, sym, ap, ◌∙◌, subst, ◌⊎◌, inl, inr, arith, find, option_map, option_and_then, IfSome}
-use Rattle.std.proofs.Math.Path.{fun_ext}
-use Rattle.std.proofs.lemmas.Bool.{eq-eqb, ne_eqb}
-use Rattle.model_laws.proofs.Words.{climb, IsIn, IsRising, IsTree}
-use Rattle.model_laws.proofs.Lists.{IsIn-from_map, find-map, find-none, find-append_found, find-append_last, each_pushed}
+use Rattle.model_laws.proofs.Words.{◌≡◌, ℕ, zero, suc, ◌<◌, ◌≤◌, ◌==◌, List, [], ◌∷◌, ◌++◌, map, length, Option, Some, None, refl, sym, ap, ◌∙◌, subst, ◌⊎◌, inl, inr, arith, find, option_map, option_and_then, IfSome, fun_ext, eq-eqb, ne_eqb, climb, IsIn, IsRising, IsTree}
+use Rattle.model_laws.proofs.Lists.{IsIn-from_map, find-map, find-none, find-append_found, find-append_last, each_pushed, option_both}
 use Rattle.model_laws.proofs.Chains.{climb-same, climb_parent, climb_cases, climb_short, IsIn-climb_parent, IsIn-climb_more}
 use Rattle.model_laws.proofs.Rising.{IsRising-push, find-key, find-key_at}
 
@@ -45,11 +42,8 @@ module _ (X : Type 0) (id : X → ℕ) (parent : X → Option ℕ) where
 
     -- chains stay
     pub chain-map : (k n : ℕ) → climb (parent_at (map f xs)) k n ≡ climb (parent_at xs) k n
-    chain-map k n = ap (λ g. climb g k n) (fun_ext (λ m. ap (option_and_then parent) (at-map m) ∙ go (at xs m)))
-      where
-        go : (o : Option X) → option_and_then parent (option_map f o) ≡ option_and_then parent o
-        go None = refl
-        go (Some x) = parents x
+    chain-map k n = ap (λ g. climb g k n) (fun_ext (λ m. ap (option_and_then parent) (at-map m)
+        ∙ option_both (at xs m) (λ o. option_and_then parent (option_map f o) ≡ option_and_then parent o) (λ e. refl) (λ x e. parents x)))
 
     ids-map : (ys : List X) → map id (map f ys) ≡ map id ys
     ids-map [] = refl

@@ -1,19 +1,13 @@
 -- Fork leaves a sound state.
-use Rattle.std.proofs.Common.{option_map, nat_le, unwrap_or, ◌≡◌, ℕ, suc, ◌+◌, ◌<◌, ◌≤◌, true, false, List, [], ◌∷◌, ◌++◌, map, length, Option, Some, None, refl, sym, ap, ◌∙◌, subst, ◌⊎◌, inl, inr, arith, ◌==◌}
-use Rattle.std.proofs.lemmas.List.{length-map, length-reverse}
-use Rattle.std.proofs.lemmas.Bool.{eqb-true, leb-false}
-use Rattle.model_laws.proofs.Words.{Name, Row, Space, Control, climb, contains, State, space_at, parent_space, path_up, level, number, root_number, is_live, row_at, names_in_use, taken, cyclic_draw, cursor_of, draw, control_at, parent_number, forked, insert_row, with_space, drawn, moved_cursor, with_cursors, child_of, is_gone, with_child, IsIn, IsRising, IsWellNumbered, IsGoodParent, HasGoodParents, HasGoodChildrenSpace, HasLiveInit, IsEmptied, IsTreeOfSpaces, RootStands, IsCoherent, IsSound, IsBelow}
+use Rattle.model_laws.proofs.Words.{option_map, nat_le, unwrap_or, ◌≡◌, ℕ, suc, ◌+◌, ◌<◌, ◌≤◌, true, false, List, [], ◌∷◌, ◌++◌, map, length, Some, None, refl, sym, ap, ◌∙◌, subst, ◌⊎◌, inl, inr, arith, ◌==◌, length-map, length-reverse, eqb-true, leb-false, Name, Row, Space, Control, climb, contains, State, space_at, parent_space, path_up, level, number, root_number, is_live, names_in_use, taken, cyclic_draw, cursor_of, draw, control_at, parent_number, insert_row, with_space, drawn, moved_cursor, with_cursors, child_of, is_gone, with_child, IsIn, IsRising, IsWellNumbered, IsGoodParent, HasGoodParents, HasGoodChildrenSpace, HasLiveInit, IsEmptied, IsTreeOfSpaces, RootStands, IsCoherent, IsBelow}
+use Rattle.model_laws.proofs.Ground.{IsIn-append_right, IsIn-from_map, IsIn-reverse, contains-from_IsIn, each_pushed, no_element, option_both, user_of_name, IsIn-names_in_use, own_name_in_use, group_in_use, number-within, number-off_path, number-same_path, IsIn-taken, user_of_number, IsOnTree, IsOnTree-listed, IsOnTree-name, space_at-Some, path_first, path_listed, row_at-listed, at-push_old, at-push_none, at-push_new, not_there, chain-push, chain-new_cases, IsIn-chain_new, IsTree-push}
 use Rattle.model_laws.proofs.SpaceMaps.{IsWellNumbered-kept, HasGoodParents-kept}
-use Rattle.model_laws.specs.Draws.{IsCyclicDraw, IsLeastFree}
-use Rattle.model_laws.proofs.Lists.{IsIn-append_right, IsIn-from_map, IsIn-reverse, contains-from_IsIn, each_pushed, no_element}
-use Rattle.model_laws.proofs.Names.{user_of_name, IsIn-names_in_use, own_name_in_use, group_in_use, number-within, number-off_path, number-same_path, IsIn-taken, user_of_number}
-use Rattle.model_laws.proofs.Draws.{cyclic_draw-IsCyclicDraw}
-use Rattle.model_laws.proofs.Trees.{IsOnTree, IsOnTree-listed, IsOnTree-name, space_at-Some, path_first, path_listed, row_at-listed}
-use Rattle.model_laws.proofs.Forests.{at-push_old, at-push_none, at-push_new, not_there, chain-push, chain-new_cases, IsIn-chain_new, IsTree-push}
-use Rattle.model_laws.proofs.Survivors.{IsCoherent-map_spaces}
-use Rattle.model_laws.proofs.Ancestry.{Far, Far-same, roots, IsIn-roots, parent_number-at, chain-in_rows, number-root, top_row, row_far, parent_row}
+use Rattle.model_laws.specs.Draws.{IsCyclicDraw}
+use Rattle.model_laws.proofs.Draws.{draw_is_least}
+use Rattle.model_laws.proofs.Survivors.{Leaves, spaces_leave}
+use Rattle.model_laws.proofs.Ancestry.{Far, roots, parent_number-at, chain-in_rows, number-root, far_kept}
 use Rattle.model_laws.proofs.Inserts.{IsIn-from_insert, IsIn-insert_new, IsIn-insert_old, IsRising-insert, number-child_of, number-child_of_at, drawn-free}
-use Rattle.model_laws.proofs.Kept.{Keeps, Keeps-changed, IsBelow-next}
+use Rattle.model_laws.proofs.Kept.{IsBelow-next}
 use Rattle.model_laws.proofs.Calls.{MayFork}
 
 -- the namespaces are ready for a child of the caller in t: those of a coherent state, perhaps with t new among them
@@ -113,54 +107,24 @@ module _ (old : State) (sound : IsCoherent old) (spaces : List Space) (caller : 
   rise_after : IsRising (roots rows_after)
   rise_after = IsRising-insert child old.rows sound.rows_rise new_root
 
-  -- each row is found by its root number
-  row_after : (r : Row) → IsIn r rows_after → row_at rows_after (root_number r.name) ≡ Some r
-  row_after r i = row_at-listed rows_after rise_after r i
-
-  -- the number is that of a row from before
-  IsOld : ℕ → Type 0
-  IsOld n = (r : Row) × IsIn r old.rows × (root_number r.name ≡ n)
-
-  -- a row from before keeps its parent
-  parent_kept : (n : ℕ) → IsOld n → parent_number rows_after n ≡ parent_number old.rows n
-  unfolding IsOld
-  parent_kept n o =
-      parent_number-at rows_after n o.0 (subst (λ m. row_at rows_after m ≡ Some o.0) o.2 (row_after o.0 (IsIn-insert_old child old.rows o.0 o.1)))
-      ∙ sym (parent_number-at old.rows n o.0 (subst (λ m. row_at old.rows m ≡ Some o.0) o.2 (row_at-listed old.rows sound.rows_rise o.0 o.1)))
-
-  -- which is a row from before
-  old_parent : (n p : ℕ) → IsOld n → parent_number old.rows n ≡ Some p → IsOld p
-  unfolding IsOld
-  old_parent n p o e = let u = parent_row old sound n p e in (u.1, u.4, u.5)
-
-  -- each row from before reaches number 1 as before
-  old_far : (r : Row) → IsIn r old.rows → ((k : ℕ) × Far (parent_number rows_after) k (root_number r.name)) × IsOld 1
-  unfolding IsOld
-  old_far r i =
-      let far = row_far old sound r i in
-      let f = Far-same (parent_number old.rows) (parent_number rows_after) IsOld parent_kept old_parent far.0 (root_number r.name) far.1 (r, i, refl) in
-      ((far.0, f.0), f.1)
-
-  -- chains are long enough
-  chain_after : (n k : ℕ) → Far (parent_number rows_after) k n → IsIn 1 (climb (parent_number rows_after) (length rows_after) n)
-  unfolding IsOld
-  chain_after n k far =
-      let one = (old_far caller there).1 in
-      chain-in_rows rows_after (parent_kept 1 one ∙ top_row old sound)
-      (IsIn-roots rows_after 1 one.0 (subst (λ m. row_at rows_after m ≡ Some one.0) one.2 (row_after one.0 (IsIn-insert_old child old.rows one.0 one.1)))) k n far
+  -- each row from before reaches number 1, which is there without a parent
+  far_old : (r : Row) → IsIn r old.rows
+      → (k : ℕ) × Far (parent_number rows_after) k (root_number r.name) × (parent_number rows_after 1 ≡ None) × IsIn 1 (roots rows_after)
+  far_old r i = far_kept old sound rows_after rise_after (λ x. x) (λ x. Unit {0}) (λ x j _. (IsIn-insert_old child old.rows x j, refl, refl))
+      (λ x q j k _ up live. tt) r i tt
 
   -- the rows from before have good parents
   parents_old : (r : Row) → IsIn r old.rows → HasGoodParents rows_after spaces r
   parents_old r i =
-      let far = (old_far r i).0 in
+      let far = far_old r i in
       HasGoodParents-kept old.rows rows_after old.spaces spaces r r refl refl (ready.paths r.name (own_name_in_use old.rows r i))
-      (λ q j up live. (q, IsIn-insert_old child old.rows q j, refl, live)) (chain_after (root_number r.name) far.0 far.1) (sound.parents r i)
+      (λ q j up live. (q, IsIn-insert_old child old.rows q j, refl, live)) (chain-in_rows _ far.2 far.3 far.0 _ far.1) (sound.parents r i)
 
   -- and so has the child
   parents_child : HasGoodParents rows_after spaces child
   parents_child =
-      let far = (old_far caller there).0 in
-      let up : parent_number rows_after (root_number child.name) ≡ Some (root_number caller.name) = parent_number-at rows_after (root_number child.name) child (row_after child (IsIn-insert_new child old.rows)) in
+      let far = far_old caller there in
+      let up = parent_number-at rows_after (root_number child.name) child (row_at-listed rows_after rise_after child (IsIn-insert_new child old.rows)) in
       record {
         first = λ none. absurd (cc);
         good = λ parent e. let same : caller.name ≡ parent = cc in
@@ -169,7 +133,7 @@ module _ (old : State) (sound : IsCoherent old) (spaces : List Space) (caller : 
               around = ready.around;
               outside = λ one here. ready.outside (number-child_of state caller t t 1 one).0 here;
             });
-        chain = chain_after (root_number child.name) (suc far.0) (root_number caller.name, up, far.1);
+        chain = chain-in_rows rows_after far.2 far.3 (suc far.0) (root_number child.name) (root_number caller.name, up, far.1);
       }
 
   -- what holds of the child and of each row from before holds of each
@@ -210,11 +174,11 @@ module _ (old : State) (sound : IsCoherent old) (spaces : List Space) (caller : 
   leader_after : (a b : Row) → (a ≡ child) ⊎ IsIn a old.rows → (b ≡ child) ⊎ IsIn b old.rows → a.group ≡ b.name → a.session ≡ b.session
   leader_after a b i j e = grind (arith, sound.groups.leader a b, sound.groups.leader caller b there, group_in_use old.rows a, new_name)
 
-  -- a fork that is made leaves a coherent state
-  pub IsCoherent-forked : IsCoherent (with_child state child path)
+  -- a fork that is made leaves a coherent state, with ids below each stamp that those of the namespaces are below
+  pub forked_coherent : IsCoherent (with_child state child path) × ((stamp : ℕ) → IsBelow stamp state → IsBelow stamp (with_child state child path))
   unfolding with_cursors
-  IsCoherent-forked =
-      IsCoherent-map_spaces (record state { rows = rows_after }) (moved_cursor state path) (λ s. refl) (λ s. refl) (λ s. refl) (record {
+  forked_coherent =
+      let k = spaces_leave (record state { rows = rows_after }) (moved_cursor state path) (λ s. (refl, refl, refl)) (record {
         distinct = distinct_after;
         numbered = well_after;
         parents = each_after (HasGoodParents rows_after spaces) parents_child parents_old;
@@ -231,19 +195,14 @@ module _ (old : State) (sound : IsCoherent old) (spaces : List Space) (caller : 
         controls = sound.controls;
         limits = sound.limits;
         homes = each_after (λ r. (c : Control) × (control_at old.controls r.home ≡ Some c)) (sound.homes caller there) sound.homes;
-      })
-
-  -- and its ids below the stamp
-  pub IsBelow-forked : (stamp : ℕ) → IsBelow stamp old → ((s : Space) → IsIn s spaces → s.id < stamp)
-      → IsBelow stamp (with_child state child path)
-  unfolding with_cursors
-  IsBelow-forked stamp below ids = record {
-    spaces = λ s i. let q = IsIn-from_map (moved_cursor state path) s spaces i in let l = ids q.0 q.1 in omega
-        (arith, l, ap (λ (x : Space). x.id) q.2);
-    controls = λ c i. omega (arith, below.controls c i);
-    children =
-        each_after (λ r. r.children_space < stamp) (let l = ids ready.target.0 ready.target.1 in omega (arith, l, ready.target.2)) (λ r i. omega (arith, below.children r i));
-  }
+      }) in (
+        k.0,
+        λ stamp below. k.1 stamp (record {
+          spaces = below.spaces;
+          controls = below.controls;
+          children = each_after (λ r. r.children_space < stamp) (rw ready.target.2 at (below.spaces ready.target.0 ready.target.1)) below.children;
+        }),
+      )
 
 -- ---- a child in the children's namespace
 
@@ -341,13 +300,12 @@ module _ (state : State) (sound : IsCoherent state) (stamp : ℕ) (below : IsBel
 
   -- the children's namespaces stay good
   children_new : (r : Row) → IsIn r state.rows → HasGoodChildrenSpace with_new r
-  children_new r i = go (space_at state.spaces r.children_space) refl (sound.children r i)
-    where
-      go : (o : Option Space) → space_at state.spaces r.children_space ≡ o → HasGoodChildrenSpace state.spaces r → HasGoodChildrenSpace with_new r
-      go None e g = inl (at-push_none Space (λ t. t.id) (λ t. t.parent) state.spaces new below.spaces r.children_space (below.children r i) e)
-      go (Some s) e (inl none) = absurd (cc)
-      go (Some s) e (inr j) =
-          inr (subst (IsIn r.name.space) (sym (path_old r.children_space (IsOnTree-listed state.spaces sound.spaces r.children_space s e))) j)
+  children_new r i = option_both (space_at state.spaces r.children_space) (λ _. HasGoodChildrenSpace with_new r)
+      (λ e. inl (at-push_none Space (λ t. t.id) (λ t. t.parent) state.spaces new below.spaces r.children_space (below.children r i) e))
+      (λ s e. elim (sound.children r i) [
+        | inl none ↦ absurd (let n : space_at state.spaces r.children_space ≡ None = none in cc)
+        | inr j ↦ inr (subst (IsIn r.name.space) (sym (path_old r.children_space (IsOnTree-listed state.spaces sound.spaces r.children_space s e))) j)
+      ])
 
   -- nothing has a number in the new namespace yet
   pub nothing_taken : taken (with_space state p stamp) stamp ≡ []
@@ -369,16 +327,13 @@ module _ (state : State) (sound : IsCoherent state) (stamp : ℕ) (below : IsBel
   first_drawn caller may =
       let n : ℕ = drawn (with_space state p stamp) stamp in
       let f = drawn-free (with_space state p stamp) (path_up with_new stamp) may.numbers stamp (path_first with_new stamp) in
-      let c : IsCyclicDraw state.pid_max 0 [] (cyclic_draw state.pid_max 0 []) = cyclic_draw-IsCyclicDraw state.pid_max 0 [] in
+      let c : IsCyclicDraw state.pid_max 0 [] (cyclic_draw state.pid_max 0 []) = draw_is_least state.pid_max 0 [] in
       let d : cyclic_draw state.pid_max 0 [] ≡ Some n = ap (λ k. cyclic_draw state.pid_max k []) (sym new_cursor) ∙ ap (cyclic_draw state.pid_max (cursor_of (with_space state p stamp) stamp)) (sym nothing_taken) ∙ f.3 in
       least n (subst (IsCyclicDraw state.pid_max 0 []) d c)
     where
-      one : (low n : ℕ) → low ≡ 1 → IsLeastFree [] low state.pid_max n → n ≡ 1
-      one low n is_one is = grind (arith, is.least low)
-
       least : (n : ℕ) → IsCyclicDraw state.pid_max 0 [] (Some n) → n ≡ 1
-      least n (inl is) = one 1 n refl is
-      least n (inr r) = one 1 n refl r.1
+      least n (inl is) = grind (arith, is.least 1, is.from)
+      least n (inr r) = grind (arith, r.1.least 1, r.1.from)
 
   -- the new namespace is ready for its init
   pub IsReady-new : (caller : Row) → IsIn caller state.rows → (p ≡ caller.name.space) → MayFork (with_space state p stamp) caller stamp
@@ -421,28 +376,30 @@ module _ (state : State) (sound : IsCoherent state) (stamp : ℕ) (below : IsBel
 
 -- ---- the call
 
--- a child in the children's namespace leaves a sound state
-pub forked_keeps : (state : State) (stamp : ℕ) (caller : Row) → IsSound state → IsBelow stamp state → IsIn caller state.rows → is_live caller ≡ true
-    → is_gone state caller.children_space ≡ false → MayFork state caller caller.children_space → Keeps stamp (forked state caller caller.children_space)
-forked_keeps state stamp caller sound below there live stands may =
-    let ready : IsReady state state.spaces caller caller.children_space = IsReady-old state sound.coherent caller there stands may in
-    Keeps-changed stamp (with_child state (child_of state caller caller.children_space) (path_up state.spaces caller.children_space)) _
-    (IsCoherent-forked state sound.coherent state.spaces caller caller.children_space ready there live may)
-    (IsBelow-forked state sound.coherent state.spaces caller caller.children_space ready there live may stamp below below.spaces)
+-- a child in the children's namespace leaves a coherent state
+pub forked_leaves : (state : State) (caller : Row) → IsCoherent state → IsIn caller state.rows → is_live caller ≡ true
+    → is_gone state caller.children_space ≡ false → MayFork state caller caller.children_space
+    → Leaves state (with_child state (child_of state caller caller.children_space) (path_up state.spaces caller.children_space))
+forked_leaves state caller sound there live stands may =
+    forked_coherent state sound state.spaces caller caller.children_space (IsReady-old state sound caller there stands may) there live may
 
 -- and so does one in a new namespace
-pub forked_first_keeps : (state : State) (stamp : ℕ) (caller : Row) → IsSound state → IsBelow stamp state → IsIn caller state.rows
+pub forked_first_keeps : (state : State) (stamp : ℕ) (caller : Row) → IsCoherent state → IsBelow stamp state → IsIn caller state.rows
     → is_live caller ≡ true
     → is_gone state caller.children_space ≡ false → nat_le 32 (level state.spaces caller.children_space) ≡ false
-    → (caller.children_space == caller.name.space) ≡ true → MayFork (with_space state caller.children_space stamp) caller stamp
-    → Keeps (stamp + 1) (forked (with_space state caller.children_space stamp) caller stamp)
+    → (caller.children_space == caller.name.space) ≡ true → (may : MayFork (with_space state caller.children_space stamp) caller stamp)
+    → (let planned = with_space state caller.children_space stamp in
+    let next = with_child planned (child_of planned caller stamp) (path_up planned.spaces stamp) in
+    IsCoherent next × IsBelow (stamp + 1) next)
 forked_first_keeps state stamp caller sound below there live stands shallow here may =
     let p : ℕ = caller.children_space in
-    let spaces : List Space = with_new state sound.coherent stamp below p stands shallow in
-    let ready : IsReady state spaces caller stamp = IsReady-new state sound.coherent stamp below p stands shallow caller there
-    (eqb-true p caller.name.space here) may in
-    Keeps-changed (stamp + 1) (with_child (with_space state p stamp) (child_of (with_space state p stamp) caller stamp) (path_up spaces stamp)) _
-    (IsCoherent-forked state sound.coherent spaces caller stamp ready there live may)
-    (IsBelow-forked state sound.coherent spaces caller stamp ready there live may (stamp + 1) (IsBelow-next stamp state below)
-    (each_pushed (λ (s : Space). s.id < stamp + 1) state.spaces
-    (new state sound.coherent stamp below p stands shallow) (λ s j. omega (arith, below.spaces s j)) (omega arith)))
+    let ready = IsReady-new state sound stamp below p stands shallow caller there (eqb-true p caller.name.space here) may in
+    let k = forked_coherent state sound (with_new state sound stamp below p stands shallow) caller stamp ready there live may in
+    let more = IsBelow-next stamp state below in (
+      k.0,
+      k.1 (stamp + 1) (record {
+        spaces = each_pushed (λ (s : Space). s.id < stamp + 1) state.spaces _ more.spaces (omega arith);
+        controls = more.controls;
+        children = more.children;
+      }),
+    )

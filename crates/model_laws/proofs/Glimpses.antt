@@ -1,15 +1,8 @@
 -- Queries are answered from what the caller's namespace sees.
-use Rattle.std.proofs.Common.{◌≡◌, ℕ, zero, suc, Bool, true, false, ◌||◌, ◌&&◌, ◌==◌, ◌<◌, ◌≤◌, List, [], ◌∷◌, map, reverse, Option, Some, None, refl, sym, ap, ◌∙◌, subst, arith, inl, inr, nat_lt, nat_le, find, filter, filter_map, is_some, unwrap_or, option_map, slice_index, if◌then◌else◌}
-use Rattle.std.specs.Option.{option_eq, option_map_or}
-use Rattle.std.proofs.Math.Path.{fun_ext}
-use Rattle.std.proofs.lemmas.Bool.{false_from_ne_true, lt-ltb, ltb-true, eqb-true, ne_eqb, eqb-false, and_parts}
-use Rattle.std.proofs.lemmas.Bool.Decides.{nat_tests}
-use Rattle.model_laws.proofs.Words.{Name, Row, Kind, Reply, Number, LevelList, End, least_of, State, number, number_or_zero, numbers_from, beside, beside_from, is_numbered, live_row, task_at, path_up, names_in_use, of_task, self_or_task, name_by, numbers_by, get_pid, get_ppid, get_pgid, get_sid, ns_pid, next, Glimpse, sight, seen, is_seen, glimpse_of, glimpse_at, self_or_glimpse, number_by, of_glimpse, step, IsIn, IsCoherent}
+use Rattle.model_laws.proofs.Words.{◌≡◌, ℕ, zero, suc, Bool, true, false, ◌||◌, ◌&&◌, ◌==◌, ◌<◌, ◌≤◌, List, [], ◌∷◌, map, reverse, Option, Some, None, refl, sym, ap, ◌∙◌, subst, arith, inl, inr, nat_lt, nat_le, find, filter, filter_map, is_some, unwrap_or, option_map, slice_index, if◌then◌else◌, option_eq, option_map_or, fun_ext, false_from_ne_true, lt-ltb, ltb-true, eqb-true, ne_eqb, eqb-false, and_parts, nat_tests, Name, Row, Kind, Reply, Number, LevelList, End, least_of, State, number, number_or_zero, numbers_from, beside, beside_from, is_numbered, live_row, task_at, path_up, names_in_use, of_task, self_or_task, name_by, get_pid, get_ppid, get_pgid, get_sid, ns_pid, next, Glimpse, sight, seen, is_seen, glimpse_of, glimpse_at, self_or_glimpse, number_by, of_glimpse, step, IsIn, IsCoherent}
+use Rattle.model_laws.proofs.Ground.{IsIn-map, IsIn-from_map, IsIn-filter, IsIn-from_filter, find-Some, find-None, find-none, find-only, number-within, is_numbered-true, own_name_in_use, group_in_use, session_in_use, same_row, live_row-Some, task_at-own}
 use Rattle.pid_types.specs.declared.call.Kind.TheVariants.{Task, Group, Session}
-use Rattle.model_laws.specs.SightLaws.{Query, IsQuery, own_number, parent_number, group_of, session_of, numbers_of, next_from, IsCaller, SeesSame}
-use Rattle.model_laws.proofs.Lists.{IsIn-map, IsIn-from_map, IsIn-filter, IsIn-from_filter, find-Some, find-None, find-none, find-only}
-use Rattle.model_laws.proofs.Names.{number-within, is_numbered-true, is_numbered-from, own_name_in_use, group_in_use, session_in_use}
-use Rattle.model_laws.proofs.Trees.{same_row, live_row-Some}
+use Rattle.model_laws.specs.SightLaws.{Query, IsQuery, own_number, parent_number, group_of, session_of, numbers_of, next_from, SeesSame, QueriesAnswerSeen, SameSightSameAnswers}
 
 -- ---- the glimpse of a number
 
@@ -53,12 +46,6 @@ glimpse_at-sight state s n h =
 glimpse_at-zero : (gs : List Glimpse) → glimpse_at gs 0 ≡ None
 glimpse_at-zero gs = find-none (λ g. nat_lt 0 0 && (slice_index g.numbers 0 == 0)) gs (λ g i. refl)
 
--- an answer about a row is one about its glimpse
-of_glimpse-map : (f : Glimpse → Reply) (h : Row → Reply) (g : Row → Glimpse) → ((row : Row) → h row ≡ f (g row)) → (o : Option Row)
-    → of_task o h ≡ of_glimpse (option_map g o) f
-of_glimpse-map f h g same None = refl
-of_glimpse-map f h g same (Some row) = same row
-
 module _ (state : State) (sound : IsCoherent state) (root : ℕ) (caller : Row) (n : ℕ) (live : live_row state.rows root ≡ Some caller)
     (own : number state.spaces caller.name caller.name.space ≡ Some n) where
   -- the caller is one of the rows
@@ -75,11 +62,7 @@ module _ (state : State) (sound : IsCoherent state) (root : ℕ) (caller : Row) 
 
   -- the caller's own number names the caller
   own_task : task_at state caller.name.space n ≡ Some caller
-  unfolding task_at
-  own_task =
-      find-only (λ row. is_numbered state.spaces row.name caller.name.space n) state.rows caller there (is_numbered-from state.spaces caller.name caller.name.space n own) (λ row j e.
-      same_row state.rows sound.rows_rise row caller j there (sound.distinct row.name caller.name (own_name_in_use state.rows row j) (own_name_in_use state.rows caller there) caller.name.space n
-      (is_numbered-true state.spaces row.name caller.name.space n e) own))
+  own_task = task_at-own state sound caller there caller.name.space n own
 
   -- no task has number 0
   no_task : task_at state caller.name.space 0 ≡ None
@@ -137,12 +120,11 @@ module _ (state : State) (sound : IsCoherent state) (root : ℕ) (caller : Row) 
 
   -- ---- the six queries
 
-  -- the answer about the parent
-  parent_reply : (g : Row → Reply)
-      → ((row : Row) → g row ≡ Number (option_map_or (λ parent. number_or_zero state.spaces parent caller.name.space) row.parent 0))
-      → g caller ≡ of_glimpse (glimpse_at (sight state caller.name.space) n) (λ x. Number x.parent)
-  parent_reply g same =
-      same caller ∙ sym (ap (λ o. of_glimpse o (λ x. Number x.parent)) (glimpse_at-sight state caller.name.space n own_above_zero ∙ ap (option_map (glimpse_of state caller.name.space)) own_task))
+  -- an answer about a task is one about its glimpse
+  about : (f : Glimpse → Reply) (o : Option Row) (x : Option Glimpse) → x ≡ option_map (glimpse_of state caller.name.space) o
+      → of_task o (λ row. f (glimpse_of state caller.name.space row)) ≡ of_glimpse x f
+  about f None x e = ap (λ y. of_glimpse y f) (sym e)
+  about f (Some row) x e = ap (λ y. of_glimpse y f) (sym e)
 
   -- each query is answered from what is seen
   pub query_seen : (stamp : ℕ) (query : Query) → IsQuery query
@@ -150,38 +132,32 @@ module _ (state : State) (sound : IsCoherent state) (root : ℕ) (caller : Row) 
   unfolding step seen sight get_pid get_ppid get_pgid get_sid ns_pid next
   query_seen stamp query own_number = rw live (ap (λ o. Number (unwrap_or o 0)) own)
   query_seen stamp query parent_number =
-      rw live (parent_reply (λ row. Number (option_map_or (λ parent. number_or_zero state.spaces parent caller.name.space) row.parent 0)) (λ row. refl))
-  query_seen stamp query (group_of pid) = rw live
-      (of_glimpse-map (λ g. Number g.group) (λ row. Number (number_or_zero state.spaces row.group caller.name.space)) (glimpse_of state caller.name.space) (λ row. refl) (self_or_task state caller pid)
-      ∙ ap (λ o. of_glimpse o (λ g. Number g.group)) (sym (self_seen pid)))
-  query_seen stamp query (session_of pid) = rw live
-      (of_glimpse-map (λ g. Number g.session) (λ row. Number (number_or_zero state.spaces row.session caller.name.space)) (glimpse_of state caller.name.space) (λ row. refl) (self_or_task state caller pid)
-      ∙ ap (λ o. of_glimpse o (λ g. Number g.session)) (sym (self_seen pid)))
-  query_seen stamp query (numbers_of target) = rw live
-      (of_glimpse-map (λ g. LevelList (record { items = g.numbers })) (λ row. LevelList (record { items = numbers_from state.spaces row.name caller.name.space })) (glimpse_of state caller.name.space) (λ row. refl) (task_at state caller.name.space target)
-      ∙ ap (λ o. of_glimpse o (λ g. LevelList (record { items = g.numbers }))) (sym (target_seen target)))
-  query_seen stamp query (next_from kind from) = rw live (next_reply kind from)
-    where
-      next_reply : (kind : Kind) (from : ℕ) → option_map_or Number (least_of (filter (nat_le from) (numbers_by state kind caller.name.space))) End
-          ≡ option_map_or Number (least_of (filter (λ m. nat_lt 0 m && nat_le from m) (map (number_by kind) (sight state caller.name.space)))) End
-      next_reply kind from = ap (λ ns. option_map_or Number (least_of ns) End) (next_seen kind from state.rows (λ row i. i))
+      rw live (about (λ g. Number g.parent) (Some caller) _
+      (glimpse_at-sight state caller.name.space n own_above_zero ∙ ap (option_map (glimpse_of state caller.name.space)) own_task))
+  query_seen stamp query (group_of pid) = rw live (about (λ g. Number g.group) (self_or_task state caller pid) _ (self_seen pid))
+  query_seen stamp query (session_of pid) = rw live (about (λ g. Number g.session) (self_or_task state caller pid) _ (self_seen pid))
+  query_seen stamp query (numbers_of target) =
+      rw live (about (λ g. LevelList (record { items = g.numbers })) (task_at state caller.name.space target) _ (target_seen target))
+  query_seen stamp query (next_from kind from) = rw live (ap (λ ns. option_map_or Number (least_of ns) End) (next_seen kind from state.rows (λ row i. i)))
 
-  -- a number above 0 is seen of one glimpse alone
+  -- of whom a number above 0 is seen
+  seen_of : (g : Glimpse) (m : ℕ) → IsIn g (sight state caller.name.space) → 0 < m → slice_index g.numbers 0 ≡ m
+      → (row : Row) × IsIn row state.rows × (number state.spaces row.name caller.name.space ≡ Some m) × (g ≡ glimpse_of state caller.name.space row)
+  unfolding sight
+  seen_of g m i l e =
+      let q = IsIn-from_map (glimpse_of state caller.name.space) g (filter (is_seen state caller.name.space) state.rows) i in
+      let own = sym (first-numbers_from state caller.name.space q.0) ∙ ap (λ (k : Glimpse). slice_index k.numbers 0) (sym q.2) ∙ e in
+      let has : number state.spaces q.0.name caller.name.space ≡ Some m = grind arith in
+      (q.0, (IsIn-from_filter (is_seen state caller.name.space) q.0 state.rows q.1).0, has, q.2)
+
+  -- it is seen of one task alone
   pub glimpse_once : (g h : Glimpse) (m : ℕ) → IsIn g (sight state caller.name.space) → IsIn h (sight state caller.name.space) → 0 < m
       → slice_index g.numbers 0 ≡ m → slice_index h.numbers 0 ≡ m → g ≡ h
-  unfolding sight
   glimpse_once g h m i j l e f =
-      let p = IsIn-from_map (glimpse_of state caller.name.space) g (filter (is_seen state caller.name.space) state.rows) i in
-      let q = IsIn-from_map (glimpse_of state caller.name.space) h (filter (is_seen state caller.name.space) state.rows) j in
-      let a = IsIn-from_filter (is_seen state caller.name.space) p.0 state.rows p.1 in
-      let b = IsIn-from_filter (is_seen state caller.name.space) q.0 state.rows q.1 in
-      let x : number state.spaces p.0.name caller.name.space ≡ Some m = has p.0 (sym (first-numbers_from state caller.name.space p.0) ∙ ap (λ (k : Glimpse). slice_index k.numbers 0) (sym p.2) ∙ e) in
-      let y : number state.spaces q.0.name caller.name.space ≡ Some m = has q.0 (sym (first-numbers_from state caller.name.space q.0) ∙ ap (λ (k : Glimpse). slice_index k.numbers 0) (sym q.2) ∙ f) in
-      let same : p.0 ≡ q.0 = same_row state.rows sound.rows_rise p.0 q.0 a.0 b.0 (sound.distinct p.0.name q.0.name (own_name_in_use state.rows p.0 a.0) (own_name_in_use state.rows q.0 b.0) caller.name.space m x y) in
-      p.2 ∙ ap (glimpse_of state caller.name.space) same ∙ sym q.2
-    where
-      has : (row : Row) → number_or_zero state.spaces row.name caller.name.space ≡ m → number state.spaces row.name caller.name.space ≡ Some m
-      has row k = grind arith
+      let p = seen_of g m i l e in
+      let q = seen_of h m j l f in
+      let one = sound.distinct p.0.name q.0.name (own_name_in_use state.rows p.0 p.1) (own_name_in_use state.rows q.0 q.1) caller.name.space m p.2 q.2 in
+      p.3 ∙ ap (glimpse_of state caller.name.space) (same_row state.rows sound.rows_rise p.0 q.0 p.1 q.1 one) ∙ sym q.3
 
 -- ---- what is seen as a set
 
@@ -253,16 +229,12 @@ seen-same a b same once n root elsewhere query (next_from kind from) =
 -- ---- the laws
 
 -- the same, from the test of soundness
-pub caller_seen : (state : State) (stamp root : ℕ) (caller : Row) (n : ℕ) (query : Query) → IsCaller state root caller n → IsQuery query
-    → (step state stamp (query root)).reply ≡ seen (sight state caller.name.space) n (query root)
-caller_seen state stamp root caller n query c q = query_seen state c.sound.coherent root caller n c.live c.own stamp query q
+pub queries_answer_seen : QueriesAnswerSeen
+queries_answer_seen state stamp root caller n query c q = query_seen state c.sound.coherent root caller n c.live c.own stamp query q
 
 -- so callers that see the same get the same answers
-pub same_sight : (one other : State) (stamp later root elsewhere n : ℕ) (caller like : Row) (query : Query) → IsCaller one root caller n
-    → IsCaller other elsewhere like n
-    → SeesSame (sight one caller.name.space) (sight other like.name.space) → IsQuery query
-    → (step one stamp (query root)).reply ≡ (step other later (query elsewhere)).reply
-same_sight one other stamp later root elsewhere n caller like query c d same q =
-    caller_seen one stamp root caller n query c q
+pub same_sight_same_answers : SameSightSameAnswers
+same_sight_same_answers one other stamp later root elsewhere n caller like query c d same q =
+    queries_answer_seen one stamp root caller n query c q
     ∙ seen-same (sight one caller.name.space) (sight other like.name.space) same (glimpse_once other d.sound.coherent elsewhere like n d.live d.own) n root elsewhere query q
-    ∙ sym (caller_seen other later elsewhere like n query d q)
+    ∙ sym (queries_answer_seen other later elsewhere like n query d q)

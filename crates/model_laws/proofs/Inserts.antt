@@ -1,9 +1,6 @@
 -- Rows with one more, and the numbers that a new name is made of.
-use Rattle.std.proofs.Common.{◌≡◌, ℕ, ◌<◌, Bool, true, false, List, [], ◌∷◌, ◌++◌, map, reverse, Option, Some, None, cond, refl, sym, ap, ◌∙◌, subst, ◌⊎◌, inl, inr, arith, nat_lt, is_none, unwrap_or, find}
-use Rattle.std.proofs.lemmas.List.{reverse-append, map-append}
-use Rattle.std.proofs.lemmas.Bool.{eqb-true, eq-eqb, ltb-true, ltb-false}
-use Rattle.model_laws.proofs.Words.{Row, contains, State, path_up, beside, number, root_number, taken, cursor_of, draw, insert_row, drawn, child_of, IsIn, IsRising}
-use Rattle.model_laws.proofs.Lists.{IsIn-map, IsIn-from_map, IsIn-reverse, IsIn-to_reverse, find-None}
+use Rattle.model_laws.proofs.Words.{◌≡◌, ℕ, ◌<◌, false, List, [], ◌∷◌, ◌++◌, map, reverse, Some, None, refl, sym, ap, ◌∙◌, ◌⊎◌, inl, inr, arith, nat_lt, is_none, unwrap_or, find, reverse-append, map-append, eqb-true, eq-eqb, ltb-true, ltb-false, cond_both, Row, contains, State, path_up, beside, number, root_number, taken, cursor_of, draw, insert_row, drawn, child_of, IsIn, IsRising}
+use Rattle.model_laws.proofs.Ground.{each_of_map, IsIn-map, IsIn-reverse, IsIn-to_reverse, find-None, option_both}
 use Rattle.model_laws.proofs.Draws.{draw-Some}
 
 -- ---- one row more
@@ -29,28 +26,17 @@ pub IsRising-insert : (new : Row) (rows : List Row) → IsRising (map (λ r. roo
     → IsRising (map (λ r. root_number r.name) (insert_row new rows))
 IsRising-insert new [] rise differs = (λ m i. elim i [ ], tt)
 IsRising-insert new (row ∷ rows) rise differs =
-    go (IsRising-insert new rows rise.1 (λ r i. differs r (inr i))) (nat_lt (root_number new.name) (root_number row.name)) refl
+    cond_both (nat_lt (root_number new.name) (root_number row.name)) (new ∷ row ∷ rows) (row ∷ insert_row new rows)
+    (λ all. IsRising (map (λ r. root_number r.name) all)) (λ e. (above (ltb-true _ _ e), rise))
+    (λ e. (below (grind (arith, ltb-false _ _ e, differs row (inl refl))), IsRising-insert new rows rise.1 (λ r i. differs r (inr i))))
   where
     above : root_number new.name < root_number row.name → (m : ℕ) → IsIn m (map (λ r. root_number r.name) (row ∷ rows)) → root_number new.name < m
-    above l m (inl e) = omega arith
-    above l m (inr i) = let k : root_number row.name < m = rise.0 m i in omega arith
+    above l m i = grind (arith, rise.0 m)
 
     below : root_number row.name < root_number new.name → (m : ℕ) → IsIn m (map (λ r. root_number r.name) (insert_row new rows))
         → root_number row.name < m
-    below l m i =
-        let q = IsIn-from_map (λ (r : Row). root_number r.name) m (insert_row new rows) i in
-        elim (IsIn-from_insert new rows q.0 q.1) [
-          | inl e ↦ let k : m ≡ root_number new.name = q.2 ∙ ap (λ (r : Row). root_number r.name) e in omega arith
-          | inr j ↦ subst (λ n. root_number row.name < n) (sym q.2) (rise.0 (root_number q.0.name) (IsIn-map (λ (r : Row). root_number r.name) q.0 rows j))
-        ]
-
-    go : IsRising (map (λ r. root_number r.name) (insert_row new rows)) → (b : Bool) → nat_lt (root_number new.name) (root_number row.name) ≡ b
-        → IsRising (map (λ r. root_number r.name) (cond b (new ∷ row ∷ rows) (row ∷ insert_row new rows)))
-    go rest true e = (above (ltb-true _ _ e), rise)
-    go rest false e =
-        let apart : root_number row.name ≡ root_number new.name → ⊥ = differs row (inl refl) in
-        let l = ltb-false (root_number new.name) (root_number row.name) e in
-        (below (omega arith), rest)
+    below l = each_of_map (λ m. root_number row.name < m) (λ (r : Row). root_number r.name) (insert_row new rows) (λ r i.
+        grind (arith, IsIn-from_insert new rows r i, rise.0 (root_number r.name), IsIn-map (λ (r : Row). root_number r.name) r rows))
 
 -- ---- the new name
 
@@ -90,12 +76,7 @@ number-child_of_at state caller t s i =
 pub drawn-free : (state : State) (path : List ℕ) → find (λ s. is_none (draw state s)) path ≡ None → (s : ℕ) → IsIn s path
     → (contains (taken state s) (drawn state s) ≡ false) × (0 < drawn state s) × (drawn state s < state.pid_max) × (draw state s ≡ Some (drawn state s))
 unfolding drawn draw
-drawn-free state path none s i = go (draw state s) refl (find-None (λ u. is_none (draw state u)) path none s i)
-  where
-    go : (o : Option ℕ) → draw state s ≡ o → is_none o ≡ false
-        → (contains (taken state s) (unwrap_or (draw state s) 0) ≡ false) × (0 < unwrap_or (draw state s) 0) × (unwrap_or (draw state s) 0 < state.pid_max) × (draw state s ≡ Some (unwrap_or (draw state s) 0))
-    go None e f = absurd (cc)
-    go (Some m) e f =
-        let d = draw-Some state.pid_max (cursor_of state s) (taken state s) m e in
-        let same : unwrap_or (draw state s) 0 ≡ m = ap (λ o. unwrap_or o 0) e in
-        (subst (λ x. contains (taken state s) x ≡ false) (sym same) d.0, subst (λ x. 0 < x) (sym same) d.1, subst (λ x. x < state.pid_max) (sym same) d.2, e ∙ ap Some (sym same))
+drawn-free state path none s i = option_both (draw state s) (λ o. is_none o ≡ false
+    → (contains (taken state s) (unwrap_or o 0) ≡ false) × (0 < unwrap_or o 0) × (unwrap_or o 0 < state.pid_max) × (o ≡ Some (unwrap_or o 0)))
+    (λ e f. absurd (cc)) (λ m e f. let d = draw-Some state.pid_max (cursor_of state s) (taken state s) m e in (d.0, d.1, d.2, refl))
+    (find-None (λ u. is_none (draw state u)) path none s i)

@@ -7,10 +7,9 @@ pub mod Chains
 pub mod Names
 pub mod Rising
 pub mod Trees
+pub mod Ground
 pub mod Forests
 pub mod Sweeps
-pub mod RowMaps
-pub mod Placed
 pub mod Kept
 pub mod ControlsKept
 pub mod Ancestry

@@ -1,26 +1,19 @@
 -- No fork raises a count above its limit.
-use Rattle.std.proofs.Common.{◌≡◌, ℕ, ◌+◌, ◌≤◌, Bool, false, List, [], ◌∷◌, length, Option, Some, None, cond, refl, sym, ap, ◌∙◌, subst, arith, filter, nat_lt, option_and_then}
-use Rattle.std.specs.Option.{option_map_or}
-use Rattle.std.proofs.lemmas.Bool.{ltb-false, le-ltb}
-use Rattle.model_laws.proofs.Words.{Call, Fork, Row, Control, Entry, Forked, State, live_row, control_at, control_path, count, is_below, is_limited_below, passed_limit, Outcome, sweep, insert_row, with_space, child_of, step, ForkedWithinLimits, ForksStayWithinLimits, IsIn, IsSound, IsBelow, forked}
-use Rattle.model_laws.proofs.Lists.{find-None}
-use Rattle.model_laws.proofs.Rising.{find-key}
-use Rattle.model_laws.proofs.Trees.{row_at-listed}
+use Rattle.model_laws.proofs.Words.{◌≡◌, ℕ, ◌+◌, ◌≤◌, Bool, false, List, [], ◌∷◌, length, Option, Some, None, refl, sym, ap, ◌∙◌, arith, filter, nat_lt, option_and_then, option_map_or, ltb-false, le-ltb, Call, Fork, Row, Control, Entry, Forked, State, control_at, control_path, count, is_below, is_limited_below, passed_limit, Outcome, sweep, insert_row, with_space, child_of, step, ForkedWithinLimits, ForksStayWithinLimits, IsIn, IsSound, IsBelow, forked}
+use Rattle.model_laws.proofs.Ground.{find-None, find-key, row_at-listed}
 use Rattle.model_laws.proofs.Inserts.{IsIn-insert_new}
-use Rattle.model_laws.proofs.Calls.{MayFork, Comes, still, born, born_first, no_answer, step_comes}
+use Rattle.model_laws.proofs.Calls.{MayFork, Comes, still, born, born_first, no_answer}
+use Rattle.model_laws.proofs.Refusals.{step_comes}
 use Rattle.model_laws.specs.CountLaws.{one_if}
+use Rattle.model_laws.specs.LimitLaws.{ForkKeepsLimits}
 use Rattle.model_laws.proofs.StepKept.{step_keeps}
 
 -- ---- counts after a fork
 
--- as many pass a test after the insertion as if the row stood first
-length-filter-insert : (p : Row → Bool) (new : Row) (rows : List Row) → length (filter p (insert_row new rows)) ≡ length (filter p (new ∷ rows))
-length-filter-insert p new [] = refl
+-- one more passes a test after the insertion, if the new row does
+length-filter-insert : (p : Row → Bool) (new : Row) (rows : List Row) → length (filter p (insert_row new rows)) ≡ length (filter p rows) + one_if (p new)
+length-filter-insert p new [] = grind arith
 length-filter-insert p new (row ∷ rows) = grind (arith, length-filter-insert p new rows)
-
--- one row more, if the test holds
-pub length-cond : (b : Bool) (row : Row) (rows : List Row) → length (cond b (row ∷ rows) rows) ≡ length rows + one_if b
-length-cond b row rows = grind arith
 
 -- a fork that is made counts one more up from the caller's home
 pub count-forked : (state : State) (caller : Row) (t c : ℕ)
@@ -28,7 +21,6 @@ pub count-forked : (state : State) (caller : Row) (t c : ℕ)
 unfolding count sweep
 count-forked state caller t c =
     length-filter-insert (λ row. is_below state.controls row.home c) (child_of state caller t) state.rows
-    ∙ length-cond (is_below state.controls caller.home c) (child_of state caller t) (filter (λ row. is_below state.controls row.home c) state.rows)
 
 -- which is no more than one
 one_at_most : (b : Bool) → one_if b ≤ 1
@@ -50,19 +42,17 @@ fork_within state caller t may c i =
     (find-None (λ d. is_limited_below state (count state d + 1) d) (control_path state.controls caller.home) may.limits c i)
 
 -- so does every fork that is answered
-pub comes_within : (state : State) (stamp n : ℕ) (new_space : Bool) (o : Outcome) → Comes state stamp (Fork n new_space) o
-    → (caller : Row) (child root : ℕ)
-    → live_row state.rows n ≡ Some caller → o.reply ≡ Forked child root → (c : ℕ) → IsIn c (control_path o.state.controls caller.home)
-    → is_limited_below o.state (count o.state c) c ≡ false
+pub fork_keeps_limits : ForkKeepsLimits
 unfolding sweep
-comes_within state stamp n new_space o (still _ reply answer) caller child root found told c i =
-    absurd (no_answer reply (Forked child root) answer refl told)
-comes_within state stamp n new_space o (born _ _ other plain there stands may) caller child root found told c i =
-    fork_within state other other.children_space may c (subst (λ (z : Row). IsIn c (control_path state.controls z.home))
-    (let same : caller ≡ other = cc in same) i)
-comes_within state stamp n new_space o (born_first _ other there stands shallow here may) caller child root found told c i =
-    fork_within (with_space state other.children_space stamp) other stamp may c
-    (subst (λ (z : Row). IsIn c (control_path state.controls z.home)) (let same : caller ≡ other = cc in same) i)
+fork_keeps_limits state stamp n new_space caller child root found told = go new_space _ (step_comes state stamp (Fork n new_space)) told
+  where
+    go : (b : Bool) (o : Outcome) → Comes state stamp (Fork n b) o → o.reply ≡ Forked child root → (c : ℕ) → IsIn c (control_path o.state.controls caller.home)
+        → is_limited_below o.state (count o.state c) c ≡ false
+    go b o (still _ reply answer) told c i = absurd (no_answer reply (Forked child root) answer refl told)
+    go b o (born _ _ other plain there stands may) told c i =
+        let same : caller ≡ other = cc in fork_within state other other.children_space may c (rw same at i)
+    go b o (born_first _ other there stands shallow here may) told c i =
+        let same : caller ≡ other = cc in fork_within (with_space state other.children_space stamp) other stamp may c (rw same at i)
 
 -- ---- runs
 
@@ -102,4 +92,4 @@ pub run_within : (opening : State) (first : ℕ) (entries : List Entry) → IsSo
 run_within opening first [] sound below = tt
 run_within opening first (e ∷ entries) sound below =
     let k = step_keeps opening first e.call sound below in
-    (step_within opening first e.call _ (step_comes opening first e.call) k.sound, run_within (step opening first e.call).state (first + 1) entries k.sound k.below)
+    (step_within opening first e.call _ (step_comes opening first e.call) k.0, run_within (step opening first e.call).state (first + 1) entries k.0 k.1)

@@ -1,9 +1,5 @@
 -- Elements of lists.
-use Rattle.std.proofs.Common.{arith, ◌≡◌, ℕ, Bool, true, false, List, [], ◌∷◌, ◌++◌, map, reverse, Option, Some, None, refl, sym, ap, ◌∙◌, subst, ◌⊎◌, inl, inr, ◌==◌, find, filter, filter_map, flat_map, option_map}
-use Rattle.std.specs.List.{list_any}
-use Rattle.std.proofs.lemmas.List.{reverse-append}
-use Rattle.std.proofs.lemmas.Bool.{eqb-true, eq-eqb}
-use Rattle.model_laws.proofs.Words.{contains, IsIn}
+use Rattle.model_laws.proofs.Words.{◌<◌, length, arith, ◌≡◌, ℕ, Bool, true, false, List, [], ◌∷◌, ◌++◌, map, reverse, Option, Some, None, refl, sym, ap, ◌∙◌, subst, ◌⊎◌, inl, inr, ◌==◌, find, filter, filter_map, flat_map, option_map, list_any, reverse-append, eqb-true, eq-eqb, contains, IsIn}
 
 -- ---- joined and turned lists
 
@@ -49,6 +45,16 @@ IsIn-to_reverse x (y ∷ xs) (inl e) = subst (λ l. IsIn x l) (sym (reverse-appe
 IsIn-to_reverse x (y ∷ xs) (inr h) =
     subst (λ l. IsIn x l) (sym (reverse-append (y ∷ []) xs)) (IsIn-append_left x (reverse xs) (y ∷ []) (IsIn-to_reverse x xs h))
 
+-- a list with an element is not empty
+pub length-IsIn : {X : Type 0} (x : X) (xs : List X) → IsIn x xs → 0 < length xs
+length-IsIn x [] i = elim i [ ]
+length-IsIn x (y ∷ xs) i = omega arith
+
+-- what holds of nothing, and of each thing, holds of what a search finds
+pub option_both : {A : Type 0} (o : Option A) (P : Option A → Type 0) → (o ≡ None → P None) → ((a : A) → o ≡ Some a → P (Some a)) → P o
+option_both None P none some = none refl
+option_both (Some a) P none some = some a refl
+
 -- ---- mapped and filtered lists
 
 -- the image of an element is one of the image
@@ -60,6 +66,10 @@ IsIn-map f x (y ∷ xs) h = grind (arith, IsIn-map f x xs)
 pub IsIn-from_map : {X Y : Type 0} (f : X → Y) (y : Y) (xs : List X) → IsIn y (map f xs) → (x : X) × IsIn x xs × (y ≡ f x)
 IsIn-from_map f y [] h = elim h [ ]
 IsIn-from_map f y (x ∷ xs) h = grind (arith, IsIn-from_map f y xs)
+
+-- what holds of the image of each element holds of each element of the image
+pub each_of_map : {X Y : Type 0} (P : Y → Type 0) (f : X → Y) (xs : List X) → ((x : X) → IsIn x xs → P (f x)) → (y : Y) → IsIn y (map f xs) → P y
+each_of_map P f xs h y i = let q = IsIn-from_map f y xs i in subst P (sym q.2) (h q.0 q.1)
 
 -- what a filter keeps is in the list and passes
 pub IsIn-from_filter : {X : Type 0} (p : X → Bool) (x : X) (xs : List X) → IsIn x (filter p xs) → IsIn x xs × (p x ≡ true)

@@ -1,11 +1,5 @@
 -- Names and their numbers.
-use Rattle.std.proofs.Common.{◌≡◌, ℕ, Bool, true, false, ◌==◌, ◌≤◌, List, [], ◌∷◌, reverse, length, Option, Some, None, cond, refl, ap, inl, inr, arith}
-use Rattle.std.specs.Option.{option_eq}
-use Rattle.std.specs.Cmp.Lexicographic.{pointwise}
-use Rattle.std.proofs.lemmas.Slice.Eq.{bytes_eq-Decides}
-use Rattle.std.proofs.lemmas.List.{length-reverse}
-use Rattle.std.proofs.lemmas.Bool.{eqb-true, eq-eqb, and_parts, and_from, cond_both}
-use Rattle.model_laws.proofs.Words.{Name, Row, Space, State, beside, path_up, number, is_numbered, same_name, is_parent, names_in_use, taken, on_row, IsIn}
+use Rattle.model_laws.proofs.Words.{◌≡◌, ℕ, Bool, true, ◌==◌, ◌≤◌, List, [], ◌∷◌, reverse, length, Option, Some, None, refl, ap, inl, inr, arith, option_eq, pointwise, bytes_eq-Decides, length-reverse, eqb-true, eq-eqb, and_parts, and_from, cond_both, Name, Row, Space, State, beside, path_up, number, is_numbered, same_name, is_parent, names_in_use, taken, on_row, IsIn}
 use Rattle.model_laws.proofs.Lists.{IsIn-reverse, IsIn-to_reverse, IsIn-flat_map, IsIn-from_flat_map, IsIn-filter_map, IsIn-from_filter_map}
 
 -- ---- when two names are one
@@ -36,12 +30,8 @@ beside-IsIn s (t ∷ ts) (m ∷ ns) n h = grind (arith, beside-IsIn s ts ns n, e
 pub beside-Some : (s : ℕ) (ts ns : List ℕ) → length ts ≤ length ns → IsIn s ts → (n : ℕ) × (beside s ts ns ≡ Some n)
 beside-Some s [] ns h i = elim i [ ]
 beside-Some s (t ∷ ts) [] h i = absurd (omega arith)
-beside-Some s (t ∷ ts) (m ∷ ns) h i = go (λ j. beside-Some s ts ns (omega arith) j) (t == s) refl i
-  where
-    go : (IsIn s ts → (n : ℕ) × (beside s ts ns ≡ Some n)) → (b : Bool) → (t == s) ≡ b → IsIn s (t ∷ ts)
-        → (n : ℕ) × (cond b (Some m) (beside s ts ns) ≡ Some n)
-    go rest true e j = (m, refl)
-    go rest false e j = grind (arith, rest, eq-eqb t s)
+beside-Some s (t ∷ ts) (m ∷ ns) h i = cond_both (t == s) (Some m) (beside s ts ns) (λ o. (n : ℕ) × (o ≡ Some n)) (λ e. (m, refl))
+    (λ e. beside-Some s ts ns (omega arith) (grind (arith, eq-eqb t s)))
 
 -- ---- the number of a name in a namespace
 

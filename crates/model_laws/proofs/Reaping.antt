@@ -1,14 +1,10 @@
 -- What a wait reaps is the least of the selected children that have ended.
-use Rattle.std.proofs.Common.{◌≡◌, ℕ, ◌≤◌, true, false, not, ◌&&◌, List, [], ◌∷◌, Some, None, refl, ap, ◌∙◌, subst, inl, inr, arith}
-use Rattle.std.proofs.lemmas.Bool.{and_parts, and_from, not-true, not_from_false, cases_Bool}
-use Rattle.std.proofs.lemmas.Bool.Decides.{nat_tests}
-use Rattle.model_laws.proofs.Words.{Which, Row, Ended, Zombie, Reaped, NoneYet, IsIn, State, number_or_zero, is_parent, is_live, live_row, Outcome, is_selected, matching, least_row, end_of, ended_children, Wait}
-use Rattle.model_laws.specs.WaitLaws.{MayBeReaped, IsReaped}
-use Rattle.model_laws.proofs.Lists.{IsIn-filter, IsIn-from_filter}
-use Rattle.model_laws.proofs.Names.{is_parent-true, is_parent-from}
+use Rattle.model_laws.proofs.Words.{◌↔◌, ◌≡◌, ℕ, ◌≤◌, true, false, not, List, [], ◌∷◌, Some, None, refl, ap, ◌∙◌, subst, inl, inr, arith, not-true, not_from_false, cases_Bool, nat_tests, Which, Row, Zombie, Reaped, NoneYet, IsIn, State, number_or_zero, is_live, Outcome, matching, least_row, end_of, ended_children, Wait}
+use Rattle.model_laws.proofs.Ground.{IsIn-filter, IsIn-from_filter}
+use Rattle.model_laws.specs.WaitLaws.{MayBeReaped, IsReaped, WaitReapsLeast, NoneYetHasEnded}
 use Rattle.model_laws.proofs.Calls.{Comes, still, waits, reaped, no_answer}
 use Rattle.model_laws.proofs.EndsKept.{least_row-IsIn}
-use Rattle.model_laws.proofs.Refusals.{Decides-selected}
+use Rattle.model_laws.proofs.Refusals.{may-match, step_comes}
 
 -- none of the list has a lesser number than its least row
 least_row-least : (state : State) (s : ℕ) (rows : List Row) (row other : Row) → least_row state s rows ≡ Some row → IsIn other rows
@@ -22,62 +18,53 @@ least_row-none : (state : State) (s : ℕ) (rows : List Row) (row : Row) → lea
 least_row-none state s [] row h i = elim i [ ]
 least_row-none state s (r ∷ rows) row h i = cc
 
--- a child that the wait selects, and that has ended, is among those that the definition lists
-to_ended : (state : State) (caller : Row) (which : Which) (row : Row) → MayBeReaped state caller which row → is_live row ≡ false
-    → IsIn row (ended_children state caller which)
-unfolding matching
-to_ended state caller which row may ended =
-    IsIn-filter (λ r. not (is_live r)) row (matching state caller which)
-    (IsIn-filter (λ r. is_parent caller.name r && is_selected state caller which r) row state.rows may.0
-    (and_from _ _ (is_parent-from caller.name row may.1) ((Decides-selected state caller which row).1 may.2)))
-    (not_from_false (is_live row) ended)
-
--- and back
-from_ended : (state : State) (caller : Row) (which : Which) (row : Row) → IsIn row (ended_children state caller which)
-    → MayBeReaped state caller which row × (is_live row ≡ false)
-unfolding matching
-from_ended state caller which row i =
-    let f = IsIn-from_filter (λ r. not (is_live r)) row (matching state caller which) i in
-    let g = IsIn-from_filter (λ r. is_parent caller.name r && is_selected state caller which r) row state.rows f.0 in
-    let t = and_parts (is_parent caller.name row) (is_selected state caller which row) g.1 in
-    ((g.0, is_parent-true caller.name row t.0, (Decides-selected state caller which row).0 t.1), not-true (is_live row) f.1)
+-- the children that the definition lists are those that the wait selects and that have ended
+ended : (state : State) (caller : Row) (which : Which) (row : Row)
+    → IsIn row (ended_children state caller which) ↔ (MayBeReaped state caller which row × (is_live row ≡ false))
+ended state caller which row = (
+  λ i.
+      let f = IsIn-from_filter (λ r. not (is_live r)) row (matching state caller which) i in
+      ((may-match state caller which row).0 f.0, not-true (is_live row) f.1),
+  λ h. IsIn-filter (λ r. not (is_live r)) row (matching state caller which) ((may-match state caller which row).1 h.0) (not_from_false (is_live row) h.1),
+)
 
 -- a task that has ended is a zombie of its end
 zombie_of : (row : Row) → is_live row ≡ false → row.life ≡ Zombie (end_of row)
 zombie_of row h = grind arith
 
 -- a wait reaps the least
-pub comes_reaped : (state : State) (stamp n : ℕ) (which : Which) (o : Outcome) → Comes state stamp (Wait n which) o
-    → (caller : Row) (child : ℕ) (ended : Ended)
-    → live_row state.rows n ≡ Some caller → o.reply ≡ Reaped child ended → (row : Row) × IsReaped state caller which child ended row
-comes_reaped state stamp n which o (still _ reply answer) caller child ended found told =
-    absurd (no_answer reply (Reaped child ended) answer refl told)
-comes_reaped state stamp n which o (waits _ _ other there none) caller child ended found told = absurd (cc)
-comes_reaped state stamp n which o (reaped _ _ other row there least) caller child ended found told =
-    let same : other ≡ caller = cc in
-    let number : number_or_zero state.spaces row.name other.name.space ≡ child = cc in
-    let end : end_of row ≡ ended = cc in
-    let f = from_ended state other which row (least_row-IsIn state other.name.space (ended_children state other which) row least) in
-    subst (λ (x : Row). (r : Row) × IsReaped state x which child ended r) same (
-      row,
-      record {
-        selected = f.0;
-        life = zombie_of row f.1 ∙ ap Zombie end;
-        number = number;
-        least = λ x may dead. subst (λ k. k ≤ number_or_zero state.spaces x.name other.name.space) number
-            (least_row-least state other.name.space (ended_children state other which) row x least (to_ended state other which x may dead));
-      },
-    )
+pub wait_reaps_least : WaitReapsLeast
+wait_reaps_least state stamp n which caller child how found told = go _ (step_comes state stamp (Wait n which)) told
+  where
+    go : (o : Outcome) → Comes state stamp (Wait n which) o → o.reply ≡ Reaped child how → (row : Row) × IsReaped state caller which child how row
+    go o (still _ reply answer) told = absurd (no_answer reply (Reaped child how) answer refl told)
+    go o (waits _ _ other there none) told = absurd (cc)
+    go o (reaped _ _ other row there least) told =
+        let same : caller ≡ other = cc in
+        let number : number_or_zero state.spaces row.name other.name.space ≡ child = cc in
+        let end : end_of row ≡ how = cc in
+        let f = (ended state other which row).0 (least_row-IsIn state other.name.space (ended_children state other which) row least) in
+        rw same (
+          row,
+          record {
+            selected = f.0;
+            life = zombie_of row f.1 ∙ ap Zombie end;
+            number = number;
+            least = λ x may dead. subst (λ k. k ≤ number_or_zero state.spaces x.name other.name.space) number
+                (least_row-least state other.name.space (ended_children state other which) row x least ((ended state other which x).1 (may, dead)));
+          },
+        )
 
 -- where a wait finds none yet, all that it selects live
-pub comes_none_yet : (state : State) (stamp n : ℕ) (which : Which) (o : Outcome) → Comes state stamp (Wait n which) o → (caller : Row)
-    → live_row state.rows n ≡ Some caller → o.reply ≡ NoneYet → (row : Row) → MayBeReaped state caller which row → is_live row ≡ true
-comes_none_yet state stamp n which o (still _ reply answer) caller found told row may = absurd (no_answer reply NoneYet answer refl told)
-comes_none_yet state stamp n which o (reaped _ _ other gone there least) caller found told row may = absurd (cc)
-comes_none_yet state stamp n which o (waits _ _ other there none) caller found told row may = elim (cases_Bool (is_live row)) [
-  | inl live ↦ live
-  | inr dead ↦
-      let same : caller ≡ other = cc in
-      absurd (least_row-none state other.name.space (ended_children state other which) row none
-      (to_ended state other which row (subst (λ (x : Row). MayBeReaped state x which row) same may) dead))
-]
+pub none_yet_has_ended : NoneYetHasEnded
+none_yet_has_ended state stamp n which caller found told row = go _ (step_comes state stamp (Wait n which)) told
+  where
+    go : (o : Outcome) → Comes state stamp (Wait n which) o → o.reply ≡ NoneYet → MayBeReaped state caller which row → is_live row ≡ true
+    go o (still _ reply answer) told may = absurd (no_answer reply NoneYet answer refl told)
+    go o (reaped _ _ other gone there least) told may = absurd (cc)
+    go o (waits _ _ other there none) told may = elim (cases_Bool (is_live row)) [
+      | inl live ↦ live
+      | inr dead ↦
+          let same : caller ≡ other = cc in
+          absurd (least_row-none state other.name.space (ended_children state other which) row none ((ended state other which row).1 (rw same at may, dead)))
+    ]

@@ -1,51 +1,19 @@
 -- Refusals come in their order, and change nothing.
-use Rattle.std.proofs.Common.{◌≡◌, ℕ, suc, ◌+◌, ◌<◌, ◌≤◌, ℤ, pos, negsuc, max, Bool, true, false, not, ◌&&◌, ◌||◌, ◌==◌, List, [], ◌∷◌, length, Option, Some, None, cond, Decides, refl, sym, ap, ◌∙◌, subst, inl, inr, arith, if◌then◌else◌, find, filter, is_none, nat_lt, nat_le, option_map, IsTrue, ◌⊎◌}
-use Rattle.std.specs.Option.{option_map_or, option_eq}
-use Rattle.std.specs.List.{list_any}
-use Rattle.std.proofs.lemmas.Bool.{eqb-true, eq-eqb, ne_eqb, and_parts, and_from, not-true, not_from_false, ltb-true, lt-ltb, leb-true, le-leb}
-use Rattle.std.proofs.lemmas.Bool.Decides.{Decides-eqb, Decides-ltb, Decides-and, Decides-or, Decides-not, Decides-like, not_from_Decides}
-use Rattle.model_laws.proofs.Words.{Call, Fork, GetPid, NsPid, Exec, Exit, Wait, GetPpid, SetPgid, SetSid, MakeControl, RemoveControl, SetLimit, Move, Count, GetPgid, GetSid, Next, Join, SetSubreaper, Which, Name, Row, Space, Reply, Done, Number, Reaped, NoneYet, End, Refused, Control, Refusal, NoCaller, NoTask, NoChild, NoNumber, PidsLimit, SpaceFallen, TooDeep, Elsewhere, BadGroup, OtherSession, IsLeader, NoGroup, Executed, RootInit, NoControl, ControlBusy, RootControl, BadLimit, ControlDepth, deepest_space, deepest_control, greatest_limit, IsIn, contains, least_of, State, space_at, path_up, level, number, root_number, number_or_zero, is_numbered, same_name, is_parent, is_live, live_row, task_at, taken, restart, cyclic_draw, cursor_of, draw, control_at, control_path, count, is_limited_below, passed_limit, Outcome, answered, changed, for_found, unless_found, refuse_if, by_caller, fork, forked, no_room, with_space, is_gone, is_init, rows_after_exit, fall, exit, is_selected, matching, least_row, end_of, without_row, wait, is_negative, target_of, session_group, group_for, has_members, set_group_of, set_pgid, set_sid, asked_by, self_or_task, numbers_by, get_pid, get_ppid, get_pgid, get_sid, ns_pid, next, on_control, is_busy, exec, make_control, remove_control, set_limit, move_task, count_tasks, join, set_subreaper, step}
+use Rattle.model_laws.proofs.Words.{◌↔◌, ◌≡◌, ℕ, suc, ◌+◌, ◌<◌, ◌≤◌, ℤ, pos, negsuc, max, Bool, true, false, not, ◌&&◌, ◌||◌, ◌==◌, List, [], ◌∷◌, length, Option, Some, None, cond, Decides, refl, sym, ap, ◌∙◌, subst, inl, inr, arith, if◌then◌else◌, find, filter, is_none, nat_lt, nat_le, option_map, IsTrue, ◌⊎◌, option_map_or, option_eq, list_any, eqb-true, eq-eqb, ne_eqb, and_parts, and_from, not-true, not_from_false, ltb-true, lt-ltb, leb-true, le-leb, Decides-eqb, Decides-ltb, Decides-and, Decides-or, Decides-not, Decides-like, not_from_Decides, not-false, cond_both, Call, Fork, GetPid, NsPid, Exec, Exit, Wait, GetPpid, SetPgid, SetSid, MakeControl, RemoveControl, SetLimit, Move, Count, GetPgid, GetSid, Next, Join, SetSubreaper, Which, Name, Row, Space, Reply, Number, Reaped, NoneYet, End, Refused, Control, Refusal, NoCaller, NoTask, NoChild, NoNumber, PidsLimit, SpaceFallen, TooDeep, Elsewhere, BadGroup, OtherSession, IsLeader, NoGroup, Executed, RootInit, NoControl, ControlBusy, RootControl, BadLimit, ControlDepth, deepest_space, deepest_control, greatest_limit, IsIn, least_of, State, space_at, path_up, level, number, root_number, number_or_zero, is_numbered, same_name, is_parent, is_live, live_row, task_at, taken, restart, cyclic_draw, cursor_of, draw, control_at, control_path, count, is_limited_below, passed_limit, Outcome, answered, changed, for_found, unless_found, refuse_if, fork, forked, no_room, with_space, is_gone, is_init, ended_children, exit, is_selected, matching, least_row, end_of, without_row, wait, is_negative, target_of, session_group, group_for, has_members, set_group_of, set_pgid, set_sid, self_or_task, numbers_by, get_pid, get_ppid, get_pgid, get_sid, ns_pid, next, is_busy, exec, make_control, remove_control, set_limit, move_task, count_tasks, join, set_subreaper, step}
+use Rattle.model_laws.proofs.Ground.{IsIn-filter, IsIn-from_filter, find-Some, find-None, some_passes, list_any-from_one, option_eq-true, is_parent-true, is_parent-from, same_name-true, same_name-refl, is_numbered-true, is_numbered-from}
 use Rattle.pid_types.specs.declared.call.Which.TheVariants.{Any, Pid, OwnGroup, Group}
 use Rattle.model_laws.specs.Draws.{IsCyclicDraw, IsLeastFree}
-use Rattle.model_laws.specs.Refusals.{goes_on, refuse, find_one, refuse_first, IsLiveTask, IsTaskTo, IsSelfOrTask, IsTarget, IsChild, IsSelected, NamesTarget, IsSessionGroup, IsGroupFor, IsSpace, IsControl, IsBusy, HasNoNumber, wants_room, forks, changes_group, by_live, wants_number, verdict, refusal_in, is_query}
-use Rattle.model_laws.proofs.Lists.{IsIn-filter, IsIn-from_filter, find-Some, find-None, some_passes, list_any-from_one}
-use Rattle.model_laws.proofs.Names.{option_eq-true, is_parent-true, is_parent-from, same_name-true, same_name-refl, is_numbered-true, is_numbered-from}
-use Rattle.model_laws.proofs.Draws.{cyclic_draw-IsCyclicDraw}
-use Rattle.model_laws.proofs.Calls.{Comes, still, waits}
-
--- ---- nothing changes
-
--- where the reply is a refusal or NoneYet, the state is the one before
-pub record Stays (state : State) (o : Outcome) : Type 0 where
-  pub refused : (r : Refusal) → o.reply ≡ Refused r → o.state ≡ state
-  pub none_yet : o.reply ≡ NoneYet → o.state ≡ state
-
--- a refused call leaves the state as it was, and so does a wait that reaps nothing
-pub comes_stays : (state : State) (stamp : ℕ) (call : Call) (o : Outcome) → Comes state stamp call o → Stays state o
-comes_stays state stamp call o (still _ reply answer) = record { refused = λ r h. refl; none_yet = λ h. refl }
-comes_stays state stamp call o (waits n which caller found none) = record { refused = λ r h. refl; none_yet = λ h. refl }
-comes_stays state stamp call o _ = record { refused = λ r h. absurd (cc); none_yet = λ h. absurd (cc) }
-
--- a query leaves the state as it was
-pub query_stays : (state : State) (stamp : ℕ) (call : Call) (o : Outcome) → Comes state stamp call o → IsTrue (is_query call) → o.state ≡ state
-query_stays state stamp call o (still _ reply answer) query = refl
-query_stays state stamp call o _ query = absurd (cc)
+use Rattle.model_laws.specs.Refusals.{goes_on, refuse, find_one, refuse_first, IsLiveTask, IsTaskTo, IsSelfOrTask, IsTarget, IsChild, IsSelected, NamesTarget, IsSessionGroup, IsGroupFor, IsSpace, IsControl, IsBusy, HasNoNumber, wants_room, wants_number, verdict, refusal_in, is_query, RefusalChangesNothing, NoneYetChangesNothing, QueryChangesNothing}
+use Rattle.model_laws.specs.WaitLaws.{MayBeReaped}
+use Rattle.model_laws.proofs.Draws.{draw_is_least}
+use Rattle.model_laws.proofs.Calls.{MayFork, is_answer, Comes, still, born, born_first, fell, handed_on, waits, reaped, grouped, led, executed, control_made, control_removed, limit_set, moved, joined, marked}
 
 -- ---- the first that applies
 
--- the reply is judged so
-record IsJudged (later : Option Refusal → Type 0) (reply : Reply) : Type 0 where
-  said : later (refusal_in reply)
-
--- a reply that is no refusal
-goes : (reply : Reply) → refusal_in reply ≡ None → IsJudged goes_on reply
-goes reply e = record { said = e }
-
--- a test tells whether the reason of a refusal holds
-refused_by : (reason : Type 0) (state : State) (b : Bool) (r : Refusal) (o : Outcome) (later : Option Refusal → Type 0) → Decides b reason
-    → (b ≡ false → IsJudged later o.reply) → IsJudged (refuse reason r later) (refuse_if state b r o).reply
-refused_by reason state true r o later d h = record { said = inl (d.0 refl, refl) }
-refused_by reason state false r o later d h = record { said = inr (not_from_Decides false d refl, (h refl).said) }
+-- the outcome is one that the call can come to, and its reply is judged so
+record IsJudged (state : State) (stamp : ℕ) (call : Call) (later : Option Refusal → Type 0) (o : Outcome) : Type 0 where
+  comes : Comes state stamp call o
+  said : later (refusal_in o.reply)
 
 -- what a search finds fits, and where it finds nothing, nothing does
 pub record IsFound {A : Type 0} (fits : A → Type 0) (o : Option A) : Type 0 where
@@ -60,32 +28,58 @@ finds fits p xs to from = record {
   none = λ e x h. let f = from x h in let never : p x ≡ false = find-None p xs e x f.0 in let there : p x ≡ true = f.1 in cc;
 }
 
--- a search finds one that fits, or there is none
-found_by : {A : Type 0} (fits : A → Type 0) (state : State) (o : Option A) (r : Refusal) (f : A → Outcome) (later : A → Option Refusal → Type 0)
-    → IsFound fits o → ((a : A) → IsJudged (later a) (f a).reply) → IsJudged (find_one fits r later) (for_found state o r f).reply
-found_by fits state None r f later found h = record { said = inr (found.none refl, refl) }
-found_by fits state (Some a) r f later found h = record { said = inl (a, found.some a refl, (h a).said) }
+module _ {state : State} {stamp : ℕ} {call : Call} where
+  -- a call that is not refused
+  goes : {o : Outcome} → refusal_in o.reply ≡ None → Comes state stamp call o → IsJudged state stamp call goes_on o
+  goes none comes = record { comes = comes; said = none }
 
--- the same of a query
-answered_by : {A : Type 0} (fits : A → Type 0) (o : Option A) (r : Refusal) (f : A → Reply) (later : A → Option Refusal → Type 0)
-    → IsFound fits o → ((a : A) → IsJudged (later a) (f a)) → IsJudged (find_one fits r later) (option_map_or f o (Refused r))
-answered_by fits None r f later found h = record { said = inr (found.none refl, refl) }
-answered_by fits (Some a) r f later found h = record { said = inl (a, found.some a refl, (h a).said) }
+  -- an answer
+  says : (reply : Reply) → is_answer reply ≡ true → refusal_in reply ≡ None → IsJudged state stamp call goes_on (answered state reply)
+  says reply answer none = goes none (still _ reply answer)
 
--- a search along a list names the first for which the reason holds
-first_by : (reason : ℕ → Type 0) (p : ℕ → Bool) (r : ℕ → Refusal) (xs : List ℕ) (later : Option Refusal → Type 0) (reply : Option Refusal)
-    → ((x : ℕ) → Decides (p x) (reason x))
-    → ((x : ℕ) → find p xs ≡ Some x → reply ≡ Some (r x)) → (find p xs ≡ None → later reply) → refuse_first reason r xs later reply
-first_by reason p r [] later reply tells some none = none refl
-first_by reason p r (x ∷ xs) later reply tells some none = go (first_by reason p r xs later reply tells) (p x) (tells x) some none
-  where
-    go : (((y : ℕ) → find p xs ≡ Some y → reply ≡ Some (r y)) → (find p xs ≡ None → later reply) → refuse_first reason r xs later reply)
-        → (b : Bool) → Decides b (reason x) → ((y : ℕ) → cond b (Some x) (find p xs) ≡ Some y → reply ≡ Some (r y))
-        → (cond b (Some x) (find p xs) ≡ None → later reply) → refuse (reason x) (r x) (refuse_first reason r xs later) reply
-    go rest true d found lost = inl (d.0 refl, found x refl)
-    go rest false d found lost = inr (not_from_Decides false d refl, rest found lost)
+  -- a refusal
+  refuses : (r : Refusal) (later : Option Refusal → Type 0) → later (Some r) → IsJudged state stamp call later (answered state (Refused r))
+  refuses r later said = record { comes = still _ (Refused r) refl; said = said }
+
+  -- a test tells whether the reason of a refusal holds
+  refused_by : {reason : Type 0} {o : Outcome} {later : Option Refusal → Type 0} (b : Bool) (r : Refusal) → Decides b reason
+      → (b ≡ false → IsJudged state stamp call later o) → IsJudged state stamp call (refuse reason r later) (refuse_if state b r o)
+  refused_by true r d h = refuses r _ (inl (d.0 refl, refl))
+  refused_by false r d h = record { comes = (h refl).comes; said = inr (not_from_Decides false d refl, (h refl).said) }
+
+  -- a search finds one that fits, or there is none
+  found_by : {A : Type 0} {fits : A → Type 0} {f : A → Outcome} {later : A → Option Refusal → Type 0} (o : Option A) (r : Refusal)
+      → IsFound fits o → ((a : A) → o ≡ Some a → IsJudged state stamp call (later a) (f a))
+      → IsJudged state stamp call (find_one fits r later) (for_found state o r f)
+  found_by None r found h = refuses r _ (inr (found.none refl, refl))
+  found_by (Some a) r found h = let j = h a refl in record { comes = j.comes; said = inl (a, found.some a refl, j.said) }
+
+  -- the same of a query
+  answered_by : {A : Type 0} {fits : A → Type 0} {later : A → Option Refusal → Type 0} (o : Option A) (r : Refusal) (f : A → Reply)
+      → IsFound fits o → ((a : A) → IsJudged state stamp call (later a) (answered state (f a)))
+      → IsJudged state stamp call (find_one fits r later) (answered state (option_map_or f o (Refused r)))
+  answered_by None r f found h = refuses r _ (inr (found.none refl, refl))
+  answered_by (Some a) r f found h = record { comes = (h a).comes; said = inl (a, found.some a refl, (h a).said) }
+
+  -- a search along a list names the first for which the reason holds
+  first_by : {reason : ℕ → Type 0} {later : Option Refusal → Type 0} (p : ℕ → Bool) (r : ℕ → Refusal) (xs : List ℕ) (o : Option ℕ → Outcome)
+      → ((x : ℕ) → Decides (p x) (reason x)) → ((x : ℕ) → answered state (Refused (r x)) ≡ o (Some x))
+      → (find p xs ≡ None → IsJudged state stamp call later (o None))
+      → IsJudged state stamp call (refuse_first reason r xs later) (o (find p xs))
+  first_by p r [] o tells some none = none refl
+  first_by {reason} {later} p r (x ∷ xs) o tells some none = go (first_by p r xs o tells some) (p x) (tells x) none
+    where
+      go : ((find p xs ≡ None → IsJudged state stamp call later (o None)) → IsJudged state stamp call (refuse_first reason r xs later) (o (find p xs)))
+          → (b : Bool) → Decides b (reason x) → (cond b (Some x) (find p xs) ≡ None → IsJudged state stamp call later (o None))
+          → IsJudged state stamp call (refuse (reason x) (r x) (refuse_first reason r xs later)) (o (cond b (Some x) (find p xs)))
+      go rest true d lost = subst (IsJudged state stamp call _) (some x) (refuses (r x) _ (inl (d.0 refl, refl)))
+      go rest false d lost = let j = rest lost in record { comes = j.comes; said = inr (not_from_Decides false d refl, j.said) }
 
 -- ---- what the tests tell, and what the look-ups find
+
+-- a test says what it says
+Decides-it : (b : Bool) → Decides b (b ≡ true)
+Decides-it b = (λ e. e, λ e. e)
 
 -- a name is the other one
 Decides-name : (a b : Name) → Decides (same_name a b) (a ≡ b)
@@ -119,11 +113,8 @@ task_found state caller n = finds (IsTaskTo state caller n) (λ row. is_numbered
 -- the one thing where a reason holds, and else what a search finds
 found_or : {A : Type 0} (reason : Type 0) (b : Bool) (x : A) (o : Option A) (fits : A → Type 0) → Decides b reason → IsFound fits o
     → IsFound (λ y. (reason × (y ≡ x)) ⊎ ((reason → ⊥) × fits y)) (if b then Some x else o)
-found_or reason true x o fits d f = record { some = λ y e. inl (d.0 refl, (let same : y ≡ x = cc in same)); none = λ e y t. cc }
-found_or reason false x o fits d f = record {
-  some = λ y e. inr (not_from_Decides false d refl, f.some y e);
-  none = λ e y t. elim t [ inl s ↦ not_from_Decides false d refl s.0 | inr s ↦ f.none e y s.1 ];
-}
+found_or reason true x o fits d f = record { some = λ y e. grind (arith, d.0); none = λ e y t. cc }
+found_or reason false x o fits d f = record { some = λ y e. grind (arith, f.some y, d.1); none = λ e y t. grind (arith, f.none e y, d.1) }
 
 -- where 0 is the caller
 self_found : (state : State) (caller : Row) (n : ℕ) → IsFound (IsSelfOrTask state caller n) (self_or_task state caller n)
@@ -152,10 +143,7 @@ session_found state caller n = go (find p state.rows) (finds fits p state.rows
     go : (o : Option Row) → IsFound fits o → IsFound (IsSessionGroup state caller n) (option_map (λ (row : Row). row.group) o)
     go None f = record { some = λ group e. absurd (cc); none = λ e group t. f.none refl t.0 (t.1, t.2, ap (λ (a : Name). number state.spaces a caller.name.space) t.3 ∙ t.4) }
     go (Some row) f = record {
-      some = λ group e.
-          let t = f.some row refl in
-          let same : row.group ≡ group = cc in
-          (row, t.0, t.1, same, ap (λ (a : Name). number state.spaces a caller.name.space) (sym same) ∙ t.2);
+      some = λ group e. let t = f.some row refl in let same : row.group ≡ group = cc in (row, t.0, t.1, same, rw same at t.2);
       none = λ e group t. cc;
     }
 
@@ -189,13 +177,25 @@ Decides-selected state caller (Pid n) row = Decides-number state caller row.name
 Decides-selected state caller OwnGroup row = Decides-name row.group caller.group
 Decides-selected state caller (Group n) row = Decides-number state caller row.group n
 
+-- the children that a wait selects are those that may be reaped
+pub may-match : (state : State) (caller : Row) (which : Which) (row : Row) → IsIn row (matching state caller which) ↔ MayBeReaped state caller which row
+unfolding matching
+may-match state caller which row = (
+  λ i.
+      let f = IsIn-from_filter (λ r. is_parent caller.name r && is_selected state caller which r) row state.rows i in
+      let t = and_parts (is_parent caller.name row) (is_selected state caller which row) f.1 in
+      (f.0, is_parent-true caller.name row t.0, (Decides-selected state caller which row).0 t.1),
+  λ may. IsIn-filter (λ r. is_parent caller.name r && is_selected state caller which r) row state.rows may.0
+      (and_from _ _ (is_parent-from caller.name row may.1) ((Decides-selected state caller which row).1 may.2)),
+)
+
 -- a group below 0
 Decides-negative : (pgid : ℤ) → Decides (is_negative pgid) ((n : ℕ) × (pgid ≡ negsuc n))
 Decides-negative (pos n) = (λ e. absurd (cc), λ f. let g : pos n ≡ negsuc f.0 = f.1 in cc)
 Decides-negative (negsuc n) = (λ e. (n, refl), λ f. refl)
 
 -- a group that some task is in
-Decides-members : (state : State) (group : Name) → Decides (has_members state group) ((r : Row) × IsIn r state.rows × (r.group ≡ group))
+pub Decides-members : (state : State) (group : Name) → Decides (has_members state group) ((r : Row) × IsIn r state.rows × (r.group ≡ group))
 Decides-members state group =
     Decides-like (has_members state group) (λ f. (f.0, f.1, same_name-true f.0.group group f.2)) (λ f. (f.0, f.1, same_name-refl f.0.group group f.2))
     (Decides-any (λ row. same_name row.group group) state.rows)
@@ -212,7 +212,7 @@ Decides-busy state id =
     (Decides-any (λ (c : Control). option_eq ◌==◌ c.parent (Some id)) state.controls))
 
 -- a limit that is too great
-Decides-limit : (limit : Option ℕ) → Decides (option_map_or (nat_lt greatest_limit) limit false) ((n : ℕ) × (limit ≡ Some n) × (greatest_limit < n))
+pub Decides-limit : (limit : Option ℕ) → Decides (option_map_or (nat_lt greatest_limit) limit false) ((n : ℕ) × (limit ≡ Some n) × (greatest_limit < n))
 Decides-limit None = (λ e. absurd (cc), λ f. let g : None ≡ Some f.0 = f.1 in cc)
 Decides-limit (Some m) = (
   λ e. (m, refl, ltb-true greatest_limit m e),
@@ -223,17 +223,13 @@ Decides-limit (Some m) = (
 Decides-no_number : (state : State) (s : ℕ) → Decides (is_none (draw state s)) (HasNoNumber state s)
 unfolding draw
 Decides-no_number state s =
-    go (cyclic_draw state.pid_max (cursor_of state s) (taken state s)) (cyclic_draw-IsCyclicDraw state.pid_max (cursor_of state s) (taken state s))
+    go (cyclic_draw state.pid_max (cursor_of state s) (taken state s)) (draw_is_least state.pid_max (cursor_of state s) (taken state s))
   where
     low : ℕ
     low = restart (cursor_of state s)
 
     from : (n least : ℕ) → low ≤ least → IsLeastFree (taken state s) least state.pid_max n → HasNoNumber state s → ⊥
-    from n least l is full =
-        let start : least ≤ n = is.from in
-        let there : contains (taken state s) n ≡ true = full n (omega arith) is.below in
-        let never : contains (taken state s) n ≡ false = is.free in
-        cc
+    from n least l is full = grind (arith, full n, is.from, is.below, is.free)
 
     go : (o : Option ℕ) → IsCyclicDraw state.pid_max (cursor_of state s) (taken state s) o → Decides (is_none o) (HasNoNumber state s)
     go None d = (λ e. d, λ h. refl)
@@ -242,187 +238,143 @@ Decides-no_number state s =
 
 -- ---- each call
 
--- of a fork: numbers, then limits
-first_room : (old state : State) (caller : Row) (t : ℕ) → IsJudged (wants_room state caller t) (unless_found old (no_room state caller t) (λ r. r) (forked state caller t)).reply
-unfolding no_room passed_limit
-first_room old state caller t = record {
-  said =
-      first_by (HasNoNumber state) (λ s. is_none (draw state s)) NoNumber (path_up state.spaces t) (refuse_first (λ c. is_limited_below state (count state c + 1) c ≡ true) PidsLimit (control_path state.controls caller.home) goes_on) (said_by full over)
-      (Decides-no_number state) (λ s e. ap (λ o. said_by o over) e) (λ none.
-      first_by (λ c. is_limited_below state (count state c + 1) c ≡ true) (λ c. is_limited_below state (count state c + 1) c) PidsLimit (control_path state.controls caller.home) goes_on (said_by full over)
-      (λ c. (λ e. e, λ e. e)) (λ c e. ap (λ o. said_by o over) none ∙ ap (said_by None) e)
-      (λ e. ap (λ o. said_by o over) none ∙ ap (said_by None) e));
-}
-  where
-    full : Option ℕ
-    full = find (λ s. is_none (draw state s)) (path_up state.spaces t)
+module _ {stamp : ℕ} {call : Call} where
+  -- of a fork: numbers, then limits
+  first_room : (old state : State) (caller : Row) (t : ℕ) → (MayFork state caller t → Comes old stamp call (forked state caller t))
+      → IsJudged old stamp call (wants_room state caller t) (unless_found old (no_room state caller t) (λ r. r) (forked state caller t))
+  unfolding no_room passed_limit
+  first_room old state caller t made =
+      first_by (λ s. is_none (draw state s)) NoNumber (path_up state.spaces t)
+      (λ o. unless_found old (option_map_or (λ s. Some (NoNumber s)) o (option_map PidsLimit (passed_limit state caller.home))) (λ r. r)
+      (forked state caller t))
+      (Decides-no_number state) (λ s. refl) (λ numbers.
+      first_by (λ c. is_limited_below state (count state c + 1) c) PidsLimit (control_path state.controls caller.home)
+      (λ o. unless_found old (option_map PidsLimit o) (λ r. r) (forked state caller t)) (λ c. Decides-it _) (λ c. refl) (λ limits.
+      goes refl (made (record { numbers = numbers; limits = limits }))))
 
-    over : Option ℕ
-    over = find (λ c. is_limited_below state (count state c + 1) c) (control_path state.controls caller.home)
-
-    said_by : Option ℕ → Option ℕ → Option Refusal
-    said_by o p = refusal_in (unless_found old (option_map_or (λ s. Some (NoNumber s)) o (option_map PidsLimit p)) (λ r. r) (forked state caller t)).reply
-
--- the namespace that a fork goes into is there, and stands
-first_space : (state : State) (p : ℕ) (o : Outcome) (later : Option Refusal → Type 0) → IsJudged later o.reply
-    → IsJudged (find_one (IsSpace state p) SpaceFallen (λ s. refuse (s.fallen ≡ true) SpaceFallen later)) (refuse_if state (is_gone state p) SpaceFallen o).reply
-first_space state p o later h =
-    go (space_at state.spaces p) (finds (IsSpace state p) (λ s. s.id == p) state.spaces (λ s i e. (i, eqb-true s.id p e))
-    (λ s t. (t.0, eq-eqb s.id p t.1)))
-  where
-    go : (x : Option Space) → IsFound (IsSpace state p) x
-        → IsJudged (find_one (IsSpace state p) SpaceFallen (λ s. refuse (s.fallen ≡ true) SpaceFallen later)) (refuse_if state (option_map_or (λ t. t.fallen) x true) SpaceFallen o).reply
-    go None f = record { said = inr (f.none refl, refl) }
-    go (Some s) f = record {
-      said = inl (s, f.some s refl, (refused_by (s.fallen ≡ true) state s.fallen SpaceFallen o later (λ e. e, λ e. e) (λ e. h)).said);
-    }
-
--- the call of a live caller
-first_live : (state : State) (n : ℕ) (call : Row → Outcome) (later : Row → Option Refusal → Type 0)
-    → ((row : Row) → IsJudged (later row) (call row).reply) → IsJudged (by_live state n later) (by_caller state n call).reply
-first_live state n call later h = found_by (IsLiveTask state n) state (live_row state.rows n) NoCaller call later (live_found state n) h
-
--- the query of a live caller
-first_asked : (state : State) (n : ℕ) (f : Row → Reply) (later : Row → Option Refusal → Type 0)
-    → ((row : Row) → IsJudged (later row) (f row)) → IsJudged (by_live state n later) (asked_by state n f)
-first_asked state n f later h = answered_by (IsLiveTask state n) (live_row state.rows n) NoCaller f later (live_found state n) h
-
--- a call on a control group
-first_control : (state : State) (id : ℕ) (call : Control → Outcome) (later : Control → Option Refusal → Type 0)
-    → ((c : Control) → IsJudged (later c) (call c).reply) → IsJudged (find_one (IsControl state id) NoControl later) (on_control state id call).reply
-first_control state id call later h =
-    found_by (IsControl state id) state (control_at state.controls id) NoControl call later (control_found state id) h
-
--- a call on its parent
-first_below_root : (state : State) (c : Control) (call : ℕ → Outcome) (later : ℕ → Option Refusal → Type 0) → ((parent : ℕ) → IsJudged (later parent) (call parent).reply)
-    → IsJudged (find_one (λ parent. c.parent ≡ Some parent) RootControl later) (for_found state c.parent RootControl call).reply
-first_below_root state c call later h = found_by (λ parent. c.parent ≡ Some parent) state c.parent RootControl call later (parent_found c) h
-
--- of two outcomes that are no refusals
-first_either : (b : Bool) (x y : Outcome) → refusal_in x.reply ≡ None → refusal_in y.reply ≡ None → IsJudged goes_on (if b then x else y).reply
-first_either true x y h k = record { said = h }
-first_either false x y h k = record { said = k }
-
--- a fork
-first_fork : (state : State) (stamp n : ℕ) (new_space : Bool) → IsJudged (by_live state n (forks state stamp new_space)) (fork state stamp n new_space).reply
-unfolding fork
-first_fork state stamp n new_space =
-    first_live state n _ (forks state stamp new_space) (λ caller.
-    refused_by _ state (new_space && nat_le deepest_space (level state.spaces caller.children_space)) TooDeep _ _
-    (Decides-and new_space _ (λ e. e, λ e. e) (leb-true deepest_space (level state.spaces caller.children_space), le-leb deepest_space (level state.spaces caller.children_space))) (λ shallow.
-    refused_by _ state (new_space && not (caller.children_space == caller.name.space)) Elsewhere _ _
-    (Decides-and new_space _ (λ e. e, λ e. e) (Decides-not _ (Decides-eqb caller.children_space caller.name.space))) (λ here.
-    first_space state caller.children_space _ (wants_number state stamp new_space caller) (room caller new_space))))
-  where
-    room : (caller : Row) (b : Bool) → IsJudged (wants_number state stamp b caller)
-        (let planned = if b then with_space state caller.children_space stamp else state in
-        let t = if b then stamp else caller.children_space in
-        unless_found state (no_room planned caller t) (λ r. r) (forked planned caller t)).reply
-    room caller true = first_room state (with_space state caller.children_space stamp) caller stamp
-    room caller false = first_room state state caller caller.children_space
-
--- a wait
-first_wait : (state : State) (stamp n : ℕ) (which : Which) → IsJudged (verdict state stamp (Wait n which)) (wait state n which).reply
-unfolding wait matching
-first_wait state stamp n which = first_live state n _ _ (λ caller. go caller (filter (p caller) state.rows) refl)
-  where
-    p : Row → Row → Bool
-    p caller row = is_parent caller.name row && is_selected state caller which row
-
-    answer : Row → Row → Outcome
-    answer caller row = changed (without_row state row) (Reaped (number_or_zero state.spaces row.name caller.name.space) (end_of row))
-
-    reaps : (caller : Row) (o : Option Row) → refusal_in (option_map_or (answer caller) o (answered state NoneYet)).reply ≡ None
-    reaps caller None = refl
-    reaps caller (Some row) = refl
-
-    go : (caller : Row) (kept : List Row) → filter (p caller) state.rows ≡ kept
-        → IsJudged (find_one (λ child. IsIn child state.rows × IsChild caller child × IsSelected state caller which child) NoChild (λ child. goes_on))
-        (refuse_if state (length kept == 0) NoChild (option_map_or (answer caller) (least_row state caller.name.space (filter (λ row. not (is_live row)) kept)) (answered state NoneYet))).reply
-    go caller [] e = record {
-      said = inr (λ child f. (let none : IsIn child [] = subst (IsIn child) e (IsIn-filter (p caller) child state.rows f.0 (and_from _ _ (is_parent-from caller.name child f.1) ((Decides-selected state caller which child).1 f.2))) in elim none [ ]), refl);
-    }
-    go caller (child ∷ kept) e =
-        let f = IsIn-from_filter (p caller) child state.rows (subst (IsIn child) (sym e) (inl refl)) in
-        let t = and_parts (is_parent caller.name child) (is_selected state caller which child) f.1 in
-        let some : (length (child ∷ kept) == 0) ≡ false = ne_eqb (suc (length kept)) 0 (λ z. omega arith) in
-        record {
-          said = inl (
-            child,
-            (f.0, is_parent-true caller.name child t.0, (Decides-selected state caller which child).0 t.1),
-            ap (λ x. refusal_in (refuse_if state x NoChild (option_map_or (answer caller) (least_row state caller.name.space (filter (λ row. not (is_live row)) (child ∷ kept))) (answered state NoneYet))).reply) some
-                ∙ reaps caller (least_row state caller.name.space (filter (λ row. not (is_live row)) (child ∷ kept))),
-          );
-        }
-
--- a change of a group
-first_set_group_of : (state : State) (caller target : Row) (pgid : ℤ) → IsJudged (changes_group state caller pgid target) (set_group_of state caller target pgid).reply
-unfolding set_group_of
-first_set_group_of state caller target pgid =
-    refused_by (IsChild caller target × (target.session ≡ caller.session → ⊥)) state (is_parent caller.name target && not (same_name target.session caller.session)) OtherSession _ _
-    (Decides-and _ _ (Decides-child caller target) (Decides-not _ (Decides-name target.session caller.session))) (λ same.
-    refused_by (IsChild caller target × (target.executed ≡ true)) state (is_parent caller.name target && target.executed) Executed _ _
-    (Decides-and _ _ (Decides-child caller target) (λ e. e, λ e. e)) (λ fresh.
-    refused_by ((IsChild caller target → ⊥) × (target.name ≡ caller.name → ⊥)) state (not (is_parent caller.name target || same_name target.name caller.name)) NoTask _ _
-    (Decides-like _ (λ h. (λ c. h (inl c), λ s. h (inr s))) (λ h u. elim u [ inl c ↦ h.0 c | inr s ↦ h.1 s ])
-    (Decides-not _ (Decides-or _ _ (Decides-child caller target) (Decides-name target.name caller.name)))) (λ own.
-    refused_by (target.session ≡ target.name) state (same_name target.session target.name) IsLeader _ _
-    (Decides-name target.session target.name) (λ member.
-    found_by (IsGroupFor state caller target pgid) state (group_for state caller target pgid) NoGroup _ (λ group. goes_on)
-    (group_found state caller target pgid) (λ group. goes _ refl)))))
-
--- the next number, or the end
-first_next : (o : Option ℕ) → IsJudged goes_on (option_map_or Number o End)
-first_next None = goes End refl
-first_next (Some n) = goes (Number n) refl
+  -- the namespace that a fork goes into is there, and stands
+  first_space : (state : State) (p : ℕ) (o : Outcome) (later : Option Refusal → Type 0) → (is_gone state p ≡ false → IsJudged state stamp call later o)
+      → IsJudged state stamp call (find_one (IsSpace state p) SpaceFallen (λ s. refuse (s.fallen ≡ true) SpaceFallen later))
+      (refuse_if state (is_gone state p) SpaceFallen o)
+  first_space state p o later =
+      go (space_at state.spaces p) (finds (IsSpace state p) (λ s. s.id == p) state.spaces (λ s i e. (i, eqb-true s.id p e)) (λ s t. (t.0, eq-eqb s.id p t.1)))
+    where
+      go : (x : Option Space) → IsFound (IsSpace state p) x → (option_map_or (λ t. t.fallen) x true ≡ false → IsJudged state stamp call later o)
+          → IsJudged state stamp call (find_one (IsSpace state p) SpaceFallen (λ s. refuse (s.fallen ≡ true) SpaceFallen later))
+          (refuse_if state (option_map_or (λ t. t.fallen) x true) SpaceFallen o)
+      go None f h = refuses SpaceFallen _ (inr (f.none refl, refl))
+      go (Some s) f h = let j = refused_by s.fallen SpaceFallen (Decides-it s.fallen) h in record { comes = j.comes; said = inl (s, f.some s refl, j.said) }
 
 -- each call is judged so
-judged : (state : State) (stamp : ℕ) (call : Call) → IsJudged (verdict state stamp call) (step state stamp call).reply
-unfolding step exec exit set_pgid set_sid make_control remove_control set_limit move_task count_tasks join set_subreaper get_pid get_ppid get_pgid get_sid ns_pid next
-judged state stamp (Fork caller new_space) = first_fork state stamp caller new_space
-judged state stamp (GetPid caller) = first_asked state caller _ (λ row. goes_on) (λ row. goes _ refl)
-judged state stamp (NsPid caller target) =
-    first_asked state caller _ _ (λ row. answered_by (IsTaskTo state row target) (task_at state row.name.space target) NoTask _
-    (λ task. goes_on) (task_found state row target) (λ task. goes _ refl))
-judged state stamp (Exec caller) = first_live state caller _ (λ row. goes_on) (λ row. goes _ refl)
-judged state stamp (Exit caller status) = first_live state caller _ _ (λ row.
-    refused_by (root_number row.name ≡ 1) state (root_number row.name == 1) RootInit _ goes_on (Decides-eqb (root_number row.name) 1) (λ deep.
-    first_either (is_init state row) (changed (fall state row status) Done) (changed (record state { rows = rows_after_exit state row status }) Done) refl refl))
-judged state stamp (Wait caller which) = first_wait state stamp caller which
-judged state stamp (GetPpid caller) = first_asked state caller _ (λ row. goes_on) (λ row. goes _ refl)
-judged state stamp (SetPgid caller pid pgid) = first_live state caller _ _ (λ row.
-    refused_by ((n : ℕ) × (pgid ≡ negsuc n)) state (is_negative pgid) BadGroup _ _ (Decides-negative pgid) (λ good.
-    found_by (IsTarget state row pid) state (target_of state row pid) NoTask _ (changes_group state row pgid) (target_found state row pid) (λ target.
-    first_set_group_of state row target pgid)))
-judged state stamp (SetSid caller) = first_live state caller _ _ (λ row.
-    refused_by ((r : Row) × IsIn r state.rows × (r.group ≡ row.name)) state (has_members state row.name) IsLeader _ goes_on
-    (Decides-members state row.name) (λ none. goes _ refl))
-judged state stamp (MakeControl parent) = first_control state parent _ _ (λ c.
-    refused_by (deepest_control < length (control_path state.controls parent)) state (nat_lt deepest_control (length (control_path state.controls parent))) ControlDepth _ goes_on
-    (Decides-ltb deepest_control (length (control_path state.controls parent))) (λ shallow. goes _ refl))
-judged state stamp (RemoveControl id) = first_control state id _ _ (λ c. first_below_root state c _ _ (λ parent.
-    refused_by (IsBusy state id) state (is_busy state id) ControlBusy _ goes_on (Decides-busy state id) (λ idle. goes _ refl)))
-judged state stamp (SetLimit id limit) = first_control state id _ _ (λ c. first_below_root state c _ _ (λ parent.
-    refused_by ((n : ℕ) × (limit ≡ Some n) × (greatest_limit < n)) state (option_map_or (nat_lt greatest_limit) limit false) BadLimit _
-    goes_on (Decides-limit limit) (λ good. goes _ refl)))
-judged state stamp (Move task id) =
-    found_by (IsLiveTask state task) state (live_row state.rows task) NoTask _ _ (live_found state task)
-    (λ row. first_control state id _ (λ c. goes_on) (λ c. goes _ refl))
-judged state stamp (Count id) = first_control state id _ (λ c. goes_on) (λ c. goes _ refl)
-judged state stamp (GetPgid caller pid) =
-    first_asked state caller _ _ (λ row. answered_by (IsSelfOrTask state row pid) (self_or_task state row pid) NoTask _ (λ task. goes_on)
-    (self_found state row pid) (λ task. goes _ refl))
-judged state stamp (GetSid caller pid) =
-    first_asked state caller _ _ (λ row. answered_by (IsSelfOrTask state row pid) (self_or_task state row pid) NoTask _ (λ task. goes_on)
-    (self_found state row pid) (λ task. goes _ refl))
-judged state stamp (Next caller kind from) =
-    first_asked state caller _ (λ row. goes_on) (λ row. first_next (least_of (filter (nat_le from) (numbers_by state kind row.name.space))))
-judged state stamp (Join caller target) = first_live state caller _ _ (λ row.
-    found_by (IsTaskTo state row target) state (task_at state row.name.space target) NoTask _ _ (task_found state row target) (λ task.
-    refused_by (is_live task ≡ false) state (not (is_live task)) NoTask _ goes_on (not-true (is_live task), not_from_false (is_live task))
-    (λ live. goes _ refl)))
-judged state stamp (SetSubreaper caller on) = first_live state caller _ (λ row. goes_on) (λ row. goes _ refl)
+judged : (state : State) (stamp : ℕ) (call : Call) → IsJudged state stamp call (verdict state stamp call) (step state stamp call)
+unfolding step fork exec exit wait set_pgid set_group_of set_sid make_control remove_control set_limit move_task count_tasks join set_subreaper get_pid get_ppid get_pgid get_sid ns_pid next
+judged state stamp (Fork n new_space) = found_by _ NoCaller (live_found state n) (λ caller found.
+    refused_by _ TooDeep (Decides-and new_space _ (Decides-it _) (leb-true deepest_space _, le-leb deepest_space _)) (λ shallow.
+    refused_by _ Elsewhere (Decides-and new_space _ (Decides-it _) (Decides-not _ (Decides-eqb caller.children_space caller.name.space))) (λ here.
+    first_space state caller.children_space _ (wants_number state stamp new_space caller) (λ stands. room caller found stands new_space shallow here))))
+  where
+    room : (caller : Row) → live_row state.rows n ≡ Some caller → is_gone state caller.children_space ≡ false → (b : Bool)
+        → (b && nat_le deepest_space (level state.spaces caller.children_space)) ≡ false → (b && not (caller.children_space == caller.name.space)) ≡ false
+        → IsJudged state stamp (Fork n b) (wants_number state stamp b caller)
+        (let planned = if b then with_space state caller.children_space stamp else state in
+        let t = if b then stamp else caller.children_space in
+        unless_found state (no_room planned caller t) (λ r. r) (forked planned caller t))
+    room caller found stands true shallow here =
+        first_room state (with_space state caller.children_space stamp) caller stamp (λ may. born_first n caller found stands shallow (not-false _ here) may)
+    room caller found stands false shallow here =
+        first_room state state caller caller.children_space (λ may. born n false caller refl found stands may)
+judged state stamp (GetPid n) = answered_by _ NoCaller _ (live_found state n) (λ row. says _ refl refl)
+judged state stamp (NsPid n target) =
+    answered_by _ NoCaller _ (live_found state n) (λ row. answered_by _ NoTask _ (task_found state row target) (λ task. says _ refl refl))
+judged state stamp (Exec n) = found_by _ NoCaller (live_found state n) (λ row found. goes refl (executed n row found))
+judged state stamp (Exit n status) = found_by _ NoCaller (live_found state n) (λ row found.
+    refused_by _ RootInit (Decides-eqb (root_number row.name) 1) (λ deep. cond_both (is_init state row) _ _ (IsJudged state stamp (Exit n status) goes_on)
+    (λ e. goes refl (fell n status row found deep e)) (λ e. goes refl (handed_on n status row found e))))
+judged state stamp (Wait n which) = found_by _ NoCaller (live_found state n) (λ row found. go row found (matching state row which) refl)
+  where
+    reaps : (caller : Row) → live_row state.rows n ≡ Some caller → (o : Option Row) → least_row state caller.name.space (ended_children state caller which) ≡ o
+        → IsJudged state stamp (Wait n which) goes_on
+        (option_map_or (λ row. changed (without_row state row) (Reaped (number_or_zero state.spaces row.name caller.name.space) (end_of row))) o
+        (answered state NoneYet))
+    reaps caller found None e = goes refl (waits n which caller found e)
+    reaps caller found (Some row) e = goes refl (reaped n which caller row found e)
+
+    go : (caller : Row) → live_row state.rows n ≡ Some caller → (kept : List Row) → matching state caller which ≡ kept
+        → IsJudged state stamp (Wait n which) (find_one (MayBeReaped state caller which) NoChild (λ child. goes_on))
+        (refuse_if state (length kept == 0) NoChild
+        (option_map_or (λ row. changed (without_row state row) (Reaped (number_or_zero state.spaces row.name caller.name.space) (end_of row)))
+        (least_row state caller.name.space (ended_children state caller which)) (answered state NoneYet)))
+    go caller found [] e = refuses NoChild _ (inr (λ child may. elim (subst (IsIn child) e ((may-match state caller which child).1 may)) [ ], refl))
+    go caller found (child ∷ kept) e =
+        let f = (may-match state caller which child).0 (subst (IsIn child) (sym e) (inl refl)) in
+        let some : (length (child ∷ kept) == 0) ≡ false = ne_eqb (suc (length kept)) 0 (λ z. omega arith) in
+        let j = reaps caller found (least_row state caller.name.space (ended_children state caller which)) refl in
+        rw some (record { comes = j.comes; said = inl (child, f, j.said) })
+judged state stamp (GetPpid n) = answered_by _ NoCaller _ (live_found state n) (λ row. says _ refl refl)
+judged state stamp (SetPgid n pid pgid) = found_by _ NoCaller (live_found state n) (λ row found.
+    refused_by _ BadGroup (Decides-negative pgid) (λ good. found_by _ NoTask (target_found state row pid) (λ target aimed.
+    refused_by _ OtherSession (Decides-and _ _ (Decides-child row target) (Decides-not _ (Decides-name target.session row.session))) (λ same.
+    refused_by _ Executed (Decides-and _ _ (Decides-child row target) (Decides-it _)) (λ fresh.
+    refused_by _ NoTask (Decides-like _ (λ h. (λ c. h (inl c), λ s. h (inr s))) (λ h u. elim u [ inl c ↦ h.0 c | inr s ↦ h.1 s ])
+    (Decides-not _ (Decides-or _ _ (Decides-child row target) (Decides-name target.name row.name)))) (λ own.
+    refused_by _ IsLeader (Decides-name target.session target.name) (λ member. found_by _ NoGroup (group_found state row target pgid) (λ group there.
+    goes refl (grouped n pid pgid row target group found aimed same own there)))))))))
+judged state stamp (SetSid n) = found_by _ NoCaller (live_found state n) (λ row found.
+    refused_by _ IsLeader (Decides-members state row.name) (λ none. goes refl (led n row found none)))
+judged state stamp (MakeControl parent) = found_by _ NoControl (control_found state parent) (λ c found.
+    refused_by _ ControlDepth (Decides-ltb deepest_control _) (λ shallow. goes refl (control_made parent c found shallow)))
+judged state stamp (RemoveControl id) = found_by _ NoControl (control_found state id) (λ c found. found_by _ RootControl (parent_found c) (λ parent under.
+    refused_by _ ControlBusy (Decides-busy state id) (λ idle. goes refl (control_removed id parent c found under idle))))
+judged state stamp (SetLimit id limit) = found_by _ NoControl (control_found state id) (λ c found. found_by _ RootControl (parent_found c) (λ parent under.
+    refused_by _ BadLimit (Decides-limit limit) (λ good. goes refl (limit_set id parent limit c found under good))))
+judged state stamp (Move n id) =
+    found_by _ NoTask (live_found state n) (λ row found. found_by _ NoControl (control_found state id) (λ c there. goes refl (moved n id row c found there)))
+judged state stamp (Count id) = found_by _ NoControl (control_found state id) (λ c found. says _ refl refl)
+judged state stamp (GetPgid n pid) =
+    answered_by _ NoCaller _ (live_found state n) (λ row. answered_by _ NoTask _ (self_found state row pid) (λ task. says _ refl refl))
+judged state stamp (GetSid n pid) =
+    answered_by _ NoCaller _ (live_found state n) (λ row. answered_by _ NoTask _ (self_found state row pid) (λ task. says _ refl refl))
+judged state stamp (Next n kind from) =
+    answered_by _ NoCaller _ (live_found state n) (λ row. ends (least_of (filter (nat_le from) (numbers_by state kind row.name.space))))
+  where
+    ends : (o : Option ℕ) → IsJudged state stamp (Next n kind from) goes_on (answered state (option_map_or Number o End))
+    ends None = says _ refl refl
+    ends (Some m) = says _ refl refl
+judged state stamp (Join n target) = found_by _ NoCaller (live_found state n) (λ row found. found_by _ NoTask (task_found state row target) (λ task there.
+    refused_by _ NoTask (not-true _, not_from_false _) (λ lives. goes refl (joined n target row task found there (not-false _ lives)))))
+judged state stamp (SetSubreaper n on) = found_by _ NoCaller (live_found state n) (λ row found. goes refl (marked n on row found))
+
+-- each call comes to one of the outcomes
+pub step_comes : (state : State) (stamp : ℕ) (call : Call) → Comes state stamp call (step state stamp call)
+step_comes state stamp call = (judged state stamp call).comes
 
 -- a call is refused exactly where a reason holds, by the first one
 pub first_step : (state : State) (stamp : ℕ) (call : Call) → verdict state stamp call (refusal_in (step state stamp call).reply)
 first_step state stamp call = (judged state stamp call).said
+
+-- ---- nothing changes
+
+-- a refused call leaves the state as it was
+pub refusal_changes_nothing : RefusalChangesNothing
+refusal_changes_nothing state stamp call r = go call _ (step_comes state stamp call)
+  where
+    go : (call : Call) (o : Outcome) → Comes state stamp call o → o.reply ≡ Refused r → o.state ≡ state
+    go call o (still _ reply answer) h = refl
+    go call o _ h = absurd (cc)
+
+-- so does a wait that reaps nothing
+pub none_yet_changes_nothing : NoneYetChangesNothing
+none_yet_changes_nothing state stamp call = go call _ (step_comes state stamp call)
+  where
+    go : (call : Call) (o : Outcome) → Comes state stamp call o → o.reply ≡ NoneYet → o.state ≡ state
+    go call o (still _ reply answer) h = refl
+    go call o (waits n which caller found none) h = refl
+    go call o _ h = absurd (cc)
+
+-- and a query
+pub query_changes_nothing : QueryChangesNothing
+query_changes_nothing state stamp call = go call _ (step_comes state stamp call)
+  where
+    go : (call : Call) (o : Outcome) → Comes state stamp call o → IsTrue (is_query call) → o.state ≡ state
+    go call o (still _ reply answer) query = refl
+    go call o _ query = absurd (cc)

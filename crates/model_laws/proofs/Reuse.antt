@@ -1,16 +1,12 @@
 -- No number is handed out twice.
-use Rattle.std.proofs.Common.{◌≡◌, ℕ, zero, suc, ◌+◌, ◌<◌, true, List, [], ◌∷◌, length, take, Some, refl, sym, ap, ◌∙◌, subst, inl, arith, add-one, slice_get}
-use Rattle.std.proofs.lemmas.Bool.{eqb-true}
-use Rattle.std.proofs.lemmas.List.{length-map, length-take-le}
-use Rattle.std.proofs.lemmas.Option.{slice_get_within}
-use Rattle.model_laws.proofs.Words.{Call, Name, Row, Space, Forked, Entry, State, path_up, number, root_number, is_live, row_at, names_in_use, Outcome, sweep, child_of, with_child, with_cursors, step, calls_of, Along, RepliesAsOne, Replays, IsIn, IsCoherent, IsSound, IsBelow, forked, moved_cursor}
-use Rattle.model_laws.specs.ReuseLaws.{state_at, IsInUse, ShareNumber}
-use Rattle.model_laws.proofs.Names.{user_of_name, IsIn-names_in_use}
-use Rattle.model_laws.proofs.Trees.{row_at-listed, live_row-Some}
+use Rattle.model_laws.proofs.Words.{◌≡◌, ℕ, zero, suc, ◌+◌, ◌<◌, true, List, [], ◌∷◌, length, take, Some, refl, sym, ap, ◌∙◌, subst, inl, arith, add-one, slice_get, eqb-true, length-map, length-take-le, slice_get_within, Call, Name, Row, Space, Forked, Entry, State, path_up, number, root_number, is_live, row_at, names_in_use, Outcome, sweep, child_of, insert_row, with_child, with_cursors, step, calls_of, Along, RepliesAsOne, IsIn, IsCoherent, IsSound, IsBelow, forked, moved_cursor}
+use Rattle.model_laws.proofs.Ground.{Uses, user_of_name, IsIn-names_in_use, row_at-listed, live_row-Some}
+use Rattle.model_laws.specs.ReuseLaws.{NoReuse, state_at, IsInUse, ShareNumber}
 use Rattle.model_laws.proofs.Inserts.{IsIn-insert_new, IsIn-insert_old}
 use Rattle.model_laws.proofs.Sweeps.{name_number}
-use Rattle.model_laws.proofs.Calls.{MayFork, Comes, still, born, born_first, no_answer, step_comes}
-use Rattle.model_laws.proofs.ForkKept.{IsReady, IsReady-old, IsReady-new, with_new, fresh, IsCoherent-forked}
+use Rattle.model_laws.proofs.Calls.{MayFork, Comes, still, born, born_first, no_answer}
+use Rattle.model_laws.proofs.Refusals.{step_comes}
+use Rattle.model_laws.proofs.ForkKept.{IsReady, IsReady-old, IsReady-new, with_new, fresh, forked_coherent}
 use Rattle.model_laws.proofs.SpaceMaps.{number-map_spaces}
 use Rattle.model_laws.proofs.StepKept.{step_keeps, run_keeps}
 
@@ -22,48 +18,41 @@ IsFresh name o =
     (child root : ℕ) (row : Row) → o.reply ≡ Forked child root → IsSound o.state → row_at o.state.rows root ≡ Some row
     → ShareNumber o.state name row.name → ⊥
 
-module _ (old : State) (sound : IsCoherent old) (spaces : List Space) (caller : Row) (t : ℕ) (ready : IsReady old spaces caller t)
-    (there : IsIn caller old.rows) (live : is_live caller ≡ true) (may : MayFork (record old { spaces = spaces }) caller t) where
-  -- the state in which the numbers are drawn
-  abbrev state : State
-  state = record old { spaces = spaces }
+-- a task that a fork makes shares no number with a name that was in use
+IsFresh-forked : (old : State) (sound : IsCoherent old) (spaces : List Space) (caller : Row) (t : ℕ) → IsReady old spaces caller t → IsIn caller old.rows
+    → is_live caller ≡ true → MayFork (record old { spaces = spaces }) caller t → (name : Name) → IsIn name (names_in_use old.rows)
+    → IsFresh name (forked (record old { spaces = spaces }) caller t)
+unfolding sweep with_cursors
+IsFresh-forked old sound spaces caller t ready there live may name i c root row told after found share =
+    fresh old sound spaces caller t ready there live may name i share.0 share.1
+    (sym (swept child child.name new (inl refl)) ∙ subst (λ (r : Row). number o.spaces r.name share.0 ≡ Some share.1) same share.3)
+    (sym (swept user.0 name (IsIn-insert_old child old.rows user.0 user.1) user.2) ∙ share.2)
+  where
+    state : State
+    state = record old { spaces = spaces }
 
-  -- the new task
-  abbrev child : Row
-  child = child_of state caller t
+    child : Row
+    child = child_of state caller t
 
-  -- the state with it
-  abbrev made : State
-  made = with_child state child (path_up spaces t)
+    o : State
+    o = (forked state caller t).state
 
-  -- which is coherent
-  made_coherent : IsCoherent made
-  made_coherent = IsCoherent-forked old sound spaces caller t ready there live may
+    new : IsIn child (insert_row child old.rows)
+    new = IsIn-insert_new child old.rows
 
-  -- what was in use still is
-  in_use_after : (a : Name) → IsIn a (names_in_use old.rows) → IsIn a (names_in_use made.rows)
-  in_use_after a i = let u = user_of_name old.rows a i in IsIn-names_in_use made.rows u.0 a (IsIn-insert_old child old.rows u.0 u.1) u.2
+    user : (r : Row) × IsIn r old.rows × Uses r name
+    user = user_of_name old.rows name i
 
-  -- the new name is in use
-  child_in_use : IsIn child.name (names_in_use made.rows)
-  child_in_use = IsIn-names_in_use made.rows child child.name (IsIn-insert_new child old.rows) (inl refl)
+    same : row ≡ child
+    same =
+        let told_root : root_number child.name ≡ root = cc in
+        let at : row_at o.rows root ≡ Some child = subst (λ m. row_at o.rows m ≡ Some child) told_root (row_at-listed o.rows after.coherent.rows_rise child new) in cc
 
-  -- and shares no number with another
-  IsFresh-forked : (name : Name) → IsIn name (names_in_use old.rows) → IsFresh name (forked state caller t)
-  unfolding sweep with_cursors
-  IsFresh-forked name i c root row told after found share =
-      let o : Outcome = forked state caller t in
-      let told_root : root ≡ root_number child.name = cc in
-      let at : row_at o.state.rows (root_number child.name) ≡ Some child = row_at-listed o.state.rows after.coherent.rows_rise child (IsIn-insert_new child old.rows) in
-      let at_root : row_at o.state.rows root ≡ Some child = subst (λ m. row_at o.state.rows m ≡ Some child) (sym told_root) at in
-      let same : row ≡ child = cc in
-      let s : ℕ = share.0 in
-      let n : ℕ = share.1 in
-      let swept : (a : Name) → IsIn a (names_in_use made.rows) → number o.state.spaces a s ≡ number spaces a s =
-      λ a j. name_number made made_coherent a j s ∙ number-map_spaces spaces (moved_cursor state (path_up spaces t)) (λ x. refl) (λ x. refl) a s in
-      fresh old sound spaces caller t ready there live may name i s n
-      (sym (swept child.name child_in_use) ∙ subst (λ (r : Row). number o.state.spaces r.name s ≡ Some n) same share.3)
-      (sym (swept name (in_use_after name i)) ∙ share.2)
+    swept : (r : Row) (a : Name) → IsIn r (insert_row child old.rows) → Uses r a → number o.spaces a share.0 ≡ number spaces a share.0
+    swept r a j u =
+        name_number (with_child state child (path_up spaces t)) (forked_coherent old sound spaces caller t ready there live may).0 a
+        (IsIn-names_in_use (insert_row child old.rows) r a j u) share.0
+        ∙ number-map_spaces spaces (moved_cursor state (path_up spaces t)) (λ x. refl) (λ x. refl) a share.0
 
 -- after a call in a sound state a new task shares no number with a name that was in use
 comes_fresh : (state : State) (stamp : ℕ) (call : Call) (o : Outcome) → Comes state stamp call o → IsSound state → IsBelow stamp state → (name : Name)
@@ -102,17 +91,14 @@ state_at-suc opening first (x ∷ entries) (suc k) e at =
     ∙ ap (λ n. (step (state_at (step opening first x.call).state (first + 1) entries k) n e.call).state) (let z : first + 1 + k ≡ first + suc k = omega arith in z)
 
 -- while a name is in use, no fork makes a row that has one of its numbers in the same namespace
-pub no_reuse : (opening : State) (first : ℕ) (entries : List Entry) → IsSound opening → IsBelow first opening → Replays opening first entries
-    → (k : ℕ) (e : Entry) (child root : ℕ) (row : Row) (name : Name) → slice_get entries k ≡ Some e → IsInUse name (state_at opening first entries k)
-    → e.reply ≡ Forked child root → row_at (state_at opening first entries (k + 1)).rows root ≡ Some row
-    → ShareNumber (state_at opening first entries (k + 1)) name row.name → ⊥
-no_reuse opening first entries sound below run k e child root row name at used told found share =
+pub no_reuse : NoReuse
+no_reuse opening first entries sound below run i j within name used k e child root row from to at told found share =
     let now : State = state_at opening first entries k in
     let kept = run_keeps opening first (calls_of (take k entries)) sound below in
     let long : length (calls_of (take k entries)) ≡ k = length-map (take k entries) (λ (x : Entry). x.call) ∙ length-take-le k entries (let l : k < length entries = slice_get_within entries k e at in omega arith) in
     let next : state_at opening first entries (k + 1) ≡ (step now (first + k) e.call).state = ap (state_at opening first entries) (add-one k) ∙ state_at-suc opening first entries k e at in
     let below : IsBelow (first + k) now = subst (λ n. IsBelow (first + n) now) long kept.1 in
-    (comes_fresh now (first + k) e.call _ (step_comes now (first + k) e.call) kept.0 below name used) child root row
+    (comes_fresh now (first + k) e.call _ (step_comes now (first + k) e.call) kept.0 below name (used k from (omega arith))) child root row
     (Along-at RepliesAsOne opening first entries run k e at ∙ told)
-    (step_keeps now (first + k) e.call kept.0 below).sound (subst (λ (x : State). row_at x.rows root ≡ Some row) next found)
+    (step_keeps now (first + k) e.call kept.0 below).0 (subst (λ (x : State). row_at x.rows root ≡ Some row) next found)
     (subst (λ (x : State). ShareNumber x name row.name) next share)

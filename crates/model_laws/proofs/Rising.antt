@@ -1,8 +1,6 @@
 -- Lists that rise by a key.
-use Rattle.std.proofs.Common.{◌≡◌, ℕ, ◌<◌, Bool, ◌==◌, List, [], ◌∷◌, ◌++◌, map, Some, refl, sym, subst, inl, inr, arith, filter, find}
-use Rattle.std.proofs.lemmas.Bool.{eqb-true, eq-eqb}
-use Rattle.model_laws.proofs.Words.{IsIn, IsRising}
-use Rattle.model_laws.proofs.Lists.{IsIn-map, IsIn-from_map, IsIn-from_filter, find-Some, find-only, each_pushed}
+use Rattle.model_laws.proofs.Words.{◌≡◌, ℕ, ◌<◌, Bool, ◌==◌, List, [], ◌∷◌, ◌++◌, map, Some, refl, sym, subst, inl, inr, arith, filter, find, option_map, ap, ◌∙◌, eqb-true, eq-eqb, Row, root_number, row_at, IsIn, IsRising}
+use Rattle.model_laws.proofs.Lists.{IsIn-map, IsIn-from_map, IsIn-from_filter, find-Some, find-only, find-map, find-same, each_pushed}
 
 -- what is left out of a rising list leaves it rising
 pub IsRising-filter : {X : Type 0} (key : X → ℕ) (p : X → Bool) (xs : List X) → IsRising (map key xs) → IsRising (map key (filter p xs))
@@ -37,3 +35,15 @@ find-key key xs h x i =
 -- what is found by its key has it
 pub find-key_at : {X : Type 0} (key : X → ℕ) (xs : List X) (n : ℕ) (x : X) → find (λ y. key y == n) xs ≡ Some x → IsIn x xs × (key x ≡ n)
 find-key_at key xs n x h = let r = find-Some (λ y. key y == n) xs x h in (r.0, eqb-true (key x) n r.1)
+
+-- root numbers stay where names do
+pub roots-map : (f : Row → Row) → ((r : Row) → (f r).name ≡ r.name) → (rows : List Row)
+    → map (λ r. root_number r.name) (map f rows) ≡ map (λ r. root_number r.name) rows
+roots-map f names [] = refl
+roots-map f names (r ∷ rows) = rw (names r, roots-map f names rows) refl
+
+-- what stands at a number is the changed row
+pub row_at-map : (f : Row → Row) → ((r : Row) → (f r).name ≡ r.name) → (rows : List Row) (n : ℕ) → row_at (map f rows) n ≡ option_map f (row_at rows n)
+row_at-map f names rows n =
+    find-map f (λ r. root_number r.name == n) rows
+    ∙ ap (option_map f) (find-same _ (λ r. root_number r.name == n) rows (λ r i. ap (λ a. root_number a == n) (names r)))

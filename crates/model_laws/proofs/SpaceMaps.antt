@@ -1,8 +1,6 @@
 -- What stays of names, parents and paths where namespaces change.
-use Rattle.std.proofs.Common.{◌≡◌, ℕ, List, map, length, sym, ap, ◌∙◌, subst, inl, inr, option_map, refl, Some, true}
-use Rattle.model_laws.proofs.Words.{Name, Row, Space, space_at, path_up, number, IsIn, IsWellNumbered, HasGoodParents, HasGoodChildrenSpace, IsTreeOfSpaces, climb, parent_number, root_number, is_live}
-use Rattle.model_laws.proofs.Forests.{at-map, chain-map, IsTree-map}
-use Rattle.model_laws.proofs.Names.{number-same_path}
+use Rattle.model_laws.proofs.Words.{◌≡◌, ℕ, List, map, length, sym, ap, ◌∙◌, subst, inl, inr, option_map, refl, Some, true, Name, Row, Space, space_at, path_up, number, IsIn, IsWellNumbered, HasGoodParents, HasGoodChildrenSpace, IsTreeOfSpaces, climb, parent_number, root_number, is_live}
+use Rattle.model_laws.proofs.Ground.{at-map, chain-map, IsTree-map, number-same_path}
 
 -- a name stays well numbered where its path stays, and is there
 pub IsWellNumbered-kept : (spaces others : List Space) (pid_max : ℕ) (a : Name) → path_up others a.space ≡ path_up spaces a.space

@@ -1,74 +1,74 @@
 -- Every call leaves a sound state, and the root namespace stands.
-use Rattle.std.proofs.Common.{◌≡◌, ℕ, suc, ◌+◌, ◌<◌, true, false, List, [], ◌∷◌, length, Some, refl, sym, ap, ◌∙◌, subst, inl, inr, arith, IfSome}
-use Rattle.std.specs.Option.{option_map_or}
-use Rattle.model_laws.proofs.Words.{Call, Row, Space, Control, HasGoodPidMax, climb, State, root_state, root_init, root_name, IsIn, Name, path_up, number, names_in_use, control_at, control_path, is_gone, step, makes_id, state_after, IsSound, IsBelow, IsWellNumbered, HasGoodParents, space_at, Outcome, fall, set_group, start_session, set_executed, set_home, set_mark, HasGoodChildrenSpace, HasLiveInit, IsEmptied, HasGoodLimit}
-use Rattle.model_laws.proofs.Lists.{only}
+use Rattle.model_laws.proofs.Words.{◌≡◌, ℕ, suc, ◌+◌, ◌<◌, true, false, List, [], ◌∷◌, length, Some, refl, sym, ap, ◌∙◌, subst, inl, inr, arith, IfSome, option_map_or, Call, Row, Space, Control, HasGoodPidMax, climb, State, root_state, root_init, root_name, IsIn, Name, path_up, number, names_in_use, control_at, control_path, is_gone, step, makes_id, state_after, IsSound, IsBelow, IsWellNumbered, HasGoodParents, space_at, Outcome, start_session, set_executed, set_home, set_mark, HasGoodChildrenSpace, HasLiveInit, IsEmptied, HasGoodLimit}
+use Rattle.model_laws.proofs.Ground.{only, space_at-Some, live_row-Some, is_numbered-true}
 use Rattle.model_laws.specs.Script.{EndsSound}
-use Rattle.model_laws.proofs.Trees.{space_at-Some, live_row-Some}
-use Rattle.model_laws.proofs.Names.{is_numbered-true}
-use Rattle.model_laws.proofs.Kept.{Keeps, Keeps-same, Keeps-next, Keeps-changed, Keeps-on_row, Keeps-placed, join_keeps, group_for-IsOpen, target_of-IsIn, target_session, IsOpen-new}
-use Rattle.model_laws.proofs.ControlsKept.{make_control_keeps, remove_control_keeps, set_limit_keeps}
-use Rattle.model_laws.proofs.EndsKept.{wait_keeps, IsCoherent-fall, IsBelow-fall}
-use Rattle.model_laws.proofs.ExitKept.{exit_keeps}
-use Rattle.model_laws.proofs.ForkKept.{forked_keeps, forked_first_keeps}
-use Rattle.model_laws.proofs.Calls.{Comes, still, born, born_first, fell, handed_on, waits, reaped, grouped, led, executed, control_made, control_removed, limit_set, moved, joined, marked, step_comes}
+use Rattle.model_laws.proofs.Kept.{IsBelow-next, swept, swept_below, row_leaves, placed_leaves, join_leaves, grouped_leaves, IsOpen-new}
+use Rattle.model_laws.proofs.Survivors.{settled}
+use Rattle.model_laws.specs.RestoreLaws.{StaysSound}
+use Rattle.model_laws.specs.StepLaws.{PlainCallsMakeNoId}
+use Rattle.model_laws.proofs.ControlsKept.{make_control_keeps, remove_control_leaves, set_limit_leaves}
+use Rattle.model_laws.proofs.EndsKept.{reaped_row, wait_leaves, fall_leaves}
+use Rattle.model_laws.proofs.ExitKept.{handed_on_leaves}
+use Rattle.model_laws.proofs.ForkKept.{forked_leaves, forked_first_keeps}
+use Rattle.model_laws.proofs.Calls.{Comes, still, born, born_first, fell, handed_on, waits, reaped, grouped, led, executed, control_made, control_removed, limit_set, moved, joined, marked}
+use Rattle.model_laws.proofs.Refusals.{step_comes}
 
--- a call that makes nothing with an id leaves a sound state, whose ids are below the stamp
+-- a call that makes nothing with an id leaves a sound state, with ids below each stamp that they were below
 pub plain_keeps : (state : State) (stamp : ℕ) (call : Call) (o : Outcome) → Comes state stamp call o → makes_id call ≡ false → IsSound state
-    → IsBelow stamp state
-    → Keeps stamp o
-plain_keeps state stamp call o (still _ reply answer) plain sound below = Keeps-same stamp state reply sound below
-plain_keeps state stamp call o (waits n which caller found none) plain sound below = Keeps-same stamp state _ sound below
-plain_keeps state stamp call o (born n new_space caller _ found stands may) plain sound below =
-    let c = live_row-Some state.rows n caller found in forked_keeps state stamp caller sound below c.0 c.2 stands may
-plain_keeps state stamp call o (executed n caller found) plain sound below =
-    Keeps-on_row stamp state caller.name set_executed _ sound below (λ r. refl) (λ r i e. sound.coherent.children r i) sound.coherent.homes
-    below.children
-plain_keeps state stamp call o (fell n status caller found deep one) plain sound below =
+    → StaysSound state o.state
+plain_keeps state stamp call o (still _ reply answer) plain sound = (sound, λ n below. below)
+plain_keeps state stamp call o (waits n which caller found none) plain sound = (sound, λ m below. below)
+plain_keeps state stamp call o (born n new_space caller _ found stands may) plain sound =
+    let c = live_row-Some state.rows n caller found in swept state _ (forked_leaves state caller sound.coherent c.0 c.2 stands may)
+plain_keeps state stamp call o (executed n caller found) plain sound =
+    swept state _ (row_leaves state caller.name set_executed sound.coherent (λ r. refl) (λ r i e. settled state sound.coherent r i))
+plain_keeps state stamp call o (fell n status caller found deep one) plain sound =
     let c = live_row-Some state.rows n caller found in
-    let first : number state.spaces caller.name caller.name.space ≡ Some 1 = is_numbered-true state.spaces caller.name caller.name.space 1 one in
-    Keeps-changed stamp (fall state caller status) _ (IsCoherent-fall state sound.coherent caller status c.0 first deep)
-    (IsBelow-fall state sound.coherent caller status c.0 first deep stamp below)
-plain_keeps state stamp call o (handed_on n status caller found none) plain sound below =
-    let c = live_row-Some state.rows n caller found in exit_keeps state stamp status caller _ sound below c.0 c.2 none
-plain_keeps state stamp call o (reaped n which caller row found least) plain sound below =
-    let c = live_row-Some state.rows n caller found in wait_keeps state stamp which caller row _ sound below c.0 c.2 least
-plain_keeps state stamp call o (grouped n pid pgid caller target group found aimed same own there) plain sound below =
+    swept state _ (fall_leaves state sound.coherent caller status c.0 (is_numbered-true state.spaces caller.name caller.name.space 1 one) deep)
+plain_keeps state stamp call o (handed_on n status caller found none) plain sound =
+    let c = live_row-Some state.rows n caller found in swept state _ (handed_on_leaves state status caller sound.coherent c.0 c.2 none)
+plain_keeps state stamp call o (reaped n which caller row found least) plain sound =
+    let r = reaped_row state caller row which least in swept state _ (wait_leaves state sound.coherent row r.0 r.1)
+plain_keeps state stamp call o (grouped n pid pgid caller target group found aimed same own there) plain sound =
+    swept state _ (grouped_leaves state caller target pid pgid group sound.coherent (live_row-Some state.rows n caller found).0 aimed same own there)
+plain_keeps state stamp call o (led n caller found none) plain sound =
     let i : IsIn caller state.rows = (live_row-Some state.rows n caller found).0 in
-    let j : IsIn target state.rows = target_of-IsIn state caller target pid i aimed in
-    Keeps-placed stamp state target (set_group group) _ sound below j (λ r. refl)
-    (group_for-IsOpen state sound caller target pgid group j (target_session state sound caller target i j same own) there)
-plain_keeps state stamp call o (led n caller found none) plain sound below =
-    let i : IsIn caller state.rows = (live_row-Some state.rows n caller found).0 in
-    Keeps-placed stamp state caller start_session _ sound below i (λ r. refl) (IsOpen-new state caller i none)
-plain_keeps state stamp call o (control_removed id parent c found under idle) plain sound below =
-    remove_control_keeps state stamp id parent c _ sound below found under idle
-plain_keeps state stamp call o (limit_set id parent limit c found under good) plain sound below =
-    set_limit_keeps state stamp id parent limit c _ sound below found under good
-plain_keeps state stamp call o (moved n id task c found there) plain sound below =
-    Keeps-on_row stamp state task.name (set_home id) _ sound below (λ r. refl) (λ r i e. sound.coherent.children r i) (λ r i. (c, there))
-    below.children
-plain_keeps state stamp call o (joined n target caller row found there live) plain sound below =
-    join_keeps state stamp target caller row _ sound below there
-plain_keeps state stamp call o (marked n on caller found) plain sound below =
-    Keeps-on_row stamp state caller.name (set_mark on) _ sound below (λ r. refl) (λ r i e. sound.coherent.children r i) sound.coherent.homes
-    below.children
-plain_keeps state stamp call o _ plain sound below = absurd (cc)
+    swept state _ (placed_leaves state sound.coherent caller i start_session (λ r. refl) (IsOpen-new state caller i none))
+plain_keeps state stamp call o (control_removed id parent c found under idle) plain sound =
+    swept state _ (remove_control_leaves state id parent c sound.coherent found under idle)
+plain_keeps state stamp call o (limit_set id parent limit c found under good) plain sound =
+    swept state _ (set_limit_leaves state id parent limit c sound.coherent found under good)
+plain_keeps state stamp call o (moved n id task c found there) plain sound =
+    swept state _ (row_leaves state task.name (set_home id) sound.coherent (λ r. refl) (λ r i e.
+    let s = settled state sound.coherent r i in (s.0, s.1, s.2, (c, there), s.4)))
+plain_keeps state stamp call o (joined n target caller row found there live) plain sound =
+    swept state _ (join_leaves state target caller row sound.coherent there)
+plain_keeps state stamp call o (marked n on caller found) plain sound =
+    swept state _ (row_leaves state caller.name (set_mark on) sound.coherent (λ r. refl) (λ r i e. settled state sound.coherent r i))
+plain_keeps state stamp call o _ plain sound = absurd (cc)
 
 -- every call leaves a sound state, whose ids are below the next stamp
 comes_keeps : (state : State) (stamp : ℕ) (call : Call) (o : Outcome) → Comes state stamp call o → IsSound state → IsBelow stamp state
-    → Keeps (stamp + 1) o
-comes_keeps state stamp call o (still _ reply answer) sound below = Keeps-next stamp _ (Keeps-same stamp state reply sound below)
-comes_keeps state stamp call o (born n new_space caller plain found stands may) sound below =
-    Keeps-next stamp _ (plain_keeps state stamp _ _ (born n new_space caller plain found stands may) plain sound below)
+    → IsSound o.state × IsBelow (stamp + 1) o.state
+comes_keeps state stamp call o (still _ reply answer) sound below = (sound, IsBelow-next stamp state below)
 comes_keeps state stamp call o (born_first n caller found stands shallow here may) sound below =
-    let c = live_row-Some state.rows n caller found in forked_first_keeps state stamp caller sound below c.0 c.2 stands shallow here may
-comes_keeps state stamp call o (control_made parent c found shallow) sound below = make_control_keeps state stamp parent c _ sound below found shallow
-comes_keeps state stamp call o m sound below = Keeps-next stamp _ (plain_keeps state stamp _ _ m refl sound below)
+    let c = live_row-Some state.rows n caller found in
+    swept_below _ (stamp + 1) (forked_first_keeps state stamp caller sound.coherent below c.0 c.2 stands shallow here may)
+comes_keeps state stamp call o (control_made parent c found shallow) sound below =
+    swept_below _ (stamp + 1) (make_control_keeps state stamp parent c sound.coherent below found shallow)
+comes_keeps state stamp call o (born n new_space caller plain found stands may) sound below =
+    let k = plain_keeps state stamp _ _ (born n new_space caller plain found stands may) plain sound in (k.0, k.1 (stamp + 1) (IsBelow-next stamp state below))
+comes_keeps state stamp call o m sound below =
+    let k = plain_keeps state stamp _ _ m refl sound in (k.0, k.1 (stamp + 1) (IsBelow-next stamp state below))
 
 -- so does a step
-pub step_keeps : (state : State) (stamp : ℕ) (call : Call) → IsSound state → IsBelow stamp state → Keeps (stamp + 1) (step state stamp call)
+pub step_keeps : (state : State) (stamp : ℕ) (call : Call) → IsSound state → IsBelow stamp state
+    → IsSound (step state stamp call).state × IsBelow (stamp + 1) (step state stamp call).state
 step_keeps state stamp call sound below = comes_keeps state stamp call _ (step_comes state stamp call) sound below
+
+-- a call that makes nothing with an id leaves all ids below its stamp
+pub plain_calls_make_no_id : PlainCallsMakeNoId
+plain_calls_make_no_id state stamp call plain sound = (plain_keeps state stamp call _ (step_comes state stamp call) plain sound).1 stamp
 
 -- every run of calls does
 pub run_keeps : (opening : State) (first : ℕ) (calls : List Call) → IsSound opening → IsBelow first opening
@@ -76,7 +76,7 @@ pub run_keeps : (opening : State) (first : ℕ) (calls : List Call) → IsSound 
 run_keeps opening first [] sound below = (sound, subst (λ n. IsBelow n opening) (omega arith) below)
 run_keeps opening first (call ∷ calls) sound below =
     let k = step_keeps opening first call sound below in
-    let r = run_keeps (step opening first call).state (first + 1) calls k.sound k.below in
+    let r = run_keeps (step opening first call).state (first + 1) calls k.0 k.1 in
     let n : first + 1 + length calls ≡ first + suc (length calls) = omega arith in
     (r.0, subst (λ m. IsBelow m (state_after (step opening first call).state (first + 1) calls)) n r.1)
 

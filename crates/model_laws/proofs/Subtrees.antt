@@ -1,12 +1,7 @@
 -- Paths are chains of parents, and a count is the number of tasks whose home is in the subtree.
-use Rattle.std.proofs.Common.{◌≡◌, ℕ, zero, suc, List, length, Option, Some, None, refl, sym, ap, ◌∙◌, subst, inl, inr, filter, arith}
-use Rattle.std.proofs.lemmas.Bool.Decides.{same_from_decides}
-use Rattle.model_laws.proofs.Words.{Control, ControlRow, Counted, NoControl, IsIn, climb, parent_space, path_up, control_at, parent_control, control_path, is_below, count, answered, for_found, count_tasks, step, with_count, IsTreeOfControls}
+use Rattle.model_laws.proofs.Words.{◌≡◌, ℕ, zero, suc, List, length, Option, Some, None, refl, sym, ap, ◌∙◌, subst, inl, inr, filter, arith, same_from_decides, Control, ControlRow, Counted, NoControl, IsIn, climb, parent_space, path_up, control_at, parent_control, control_path, is_below, count, answered, for_found, count_tasks, step, with_count, IsTreeOfControls}
+use Rattle.model_laws.proofs.Ground.{filter-same, IsIn-from_map, IsIn-from_contains, contains-from_IsIn, Stops, Stops-at_root, climb-None, climb-Some, climb_cases, IsIn-climb_first, at-listed, root_space_parent, root_control_parent, control_at-Some}
 use Rattle.model_laws.specs.PathLaws.{IsChain, IsPathOf, IsInSubtree, PathsAreChains, CountIsOfSubtree, SubtreeIsTold, CountsAreOfSubtrees}
-use Rattle.model_laws.proofs.Lists.{filter-same, IsIn-from_map, IsIn-from_contains, contains-from_IsIn}
-use Rattle.model_laws.proofs.Chains.{Stops, Stops-at_root, climb-None, climb-Some, climb_cases, IsIn-climb_first}
-use Rattle.model_laws.proofs.Forests.{at-listed}
-use Rattle.model_laws.proofs.Trees.{root_space_parent, root_control_parent, control_at-Some}
 use Rattle.model_laws.proofs.ControlsKept.{path_of_parent}
 
 -- a chain that stops is a chain of parents

@@ -1,85 +1,64 @@
 -- Changes by which rows go and change, and namespaces fall.
-use Rattle.std.proofs.Common.{◌≡◌, ℕ, Bool, true, false, List, map, length, Some, None, refl, sym, ap, ◌∙◌, subst, inl, inr, filter, option_map}
-use Rattle.std.proofs.lemmas.List.{map-id}
-use Rattle.model_laws.proofs.Words.{Name, Row, Space, Control, climb, State, path_up, number, root_number, is_live, row_at, names_in_use, control_at, parent_number, IsIn, IsRising, HasGoodParents, HasGoodChildrenSpace, HasGoodGroups, HasLiveInit, IsEmptied, IsCoherent}
-use Rattle.model_laws.proofs.Lists.{IsIn-map, IsIn-from_map, IsIn-filter, IsIn-from_filter, filter-all}
-use Rattle.model_laws.proofs.Names.{Uses, user_of_name, IsIn-names_in_use, group_in_use, session_in_use}
-use Rattle.model_laws.proofs.Rising.{IsRising-filter, unique_key}
-use Rattle.model_laws.proofs.Trees.{row_at-listed}
-use Rattle.model_laws.proofs.RowMaps.{KeepsRows, roots-map}
+use Rattle.model_laws.proofs.Words.{◌≡◌, ℕ, ◌<◌, Bool, true, false, List, map, Some, None, refl, sym, ap, ◌∙◌, subst, inl, inr, filter, map-id, Name, Row, Space, Control, State, path_up, number, root_number, is_live, names_in_use, control_at, IsIn, IsRising, HasGoodParents, HasGoodChildrenSpace, HasGoodGroups, HasLiveInit, IsEmptied, IsCoherent, IsBelow}
+use Rattle.model_laws.proofs.Ground.{IsIn-map, IsIn-filter, IsIn-from_filter, filter-all, each_of_map, Uses, user_of_name, IsIn-names_in_use, group_in_use, session_in_use, IsRising-filter, roots-map}
 use Rattle.model_laws.proofs.SpaceMaps.{HasGoodParents-map, HasGoodChildrenSpace-map, path_up-map, number-map_spaces, IsTreeOfSpaces-map, IsWellNumbered-map, HasGoodParents-kept}
-use Rattle.model_laws.proofs.Ancestry.{Far-same, IsIn-roots, parent_number-at, chain-in_rows, top_row, row_far, parent_row}
+use Rattle.model_laws.proofs.Ancestry.{chain_kept}
+
+-- ---- what is said of a row, and of two
+
+-- what a row names is there: its group and session are in use, its home and the namespace of its children are good ones, of an old id
+abbrev pub IsSettled : State → Row → Type 0
+IsSettled state r =
+    IsIn r.group (names_in_use state.rows) × IsIn r.session (names_in_use state.rows) × HasGoodChildrenSpace state.spaces r
+    × ((c : Control) × (control_at state.controls r.home ≡ Some c)) × ((stamp : ℕ) → IsBelow stamp state → r.children_space < stamp)
+
+-- so it is in a coherent state
+pub settled : (state : State) → IsCoherent state → (r : Row) → IsIn r state.rows → IsSettled state r
+settled state sound r i = (group_in_use state.rows r i, session_in_use state.rows r i, sound.children r i, sound.homes r i, λ stamp below. below.children r i)
+
+-- who is in one group is in one session, and so is the task that the group is named after
+abbrev pub IsPair : Row → Row → Type 0
+IsPair a b = (a.group ≡ b.group → a.session ≡ b.session) × (a.group ≡ b.name → a.session ≡ b.session)
+
+-- so it is of each two of good groups
+pub pairs : (rows : List Row) → HasGoodGroups rows → (a b : Row) → IsIn a rows → IsIn b rows → IsPair a b
+pairs rows good a b i j = (good.together a b i j, good.leader a b i j)
+
+-- ---- rows that stay
 
 module _ (state : State) (sound : IsCoherent state) (p : Row → Bool) (g : Row → Row) (names : (r : Row) → (g r).name ≡ r.name) where
   -- the rows that stay, perhaps changed
   abbrev pub survivors : List Row
   survivors = map g (filter p state.rows)
 
-  -- each survivor was a row that stays
-  survivor_of : (r : Row) → IsIn r survivors → (x : Row) × IsIn x state.rows × (p x ≡ true) × (r ≡ g x)
-  survivor_of r i = let q = IsIn-from_map g r (filter p state.rows) i in let f = IsIn-from_filter p q.0 state.rows q.1 in (q.0, f.0, f.1, q.2)
-
   -- a row that stays is among them
   pub survives : (x : Row) → IsIn x state.rows → p x ≡ true → IsIn (g x) survivors
   survives x i e = IsIn-map g x (filter p state.rows) (IsIn-filter p x state.rows i e)
 
   -- what holds of each row that stays holds of each of them
-  each_survivor : (P : Row → Type 0) → ((x : Row) → IsIn x state.rows → p x ≡ true → P (g x)) → (r : Row) → IsIn r survivors → P r
-  each_survivor P all r i = let q = survivor_of r i in subst P (sym q.3) (all q.0 q.1 q.2)
+  each : (P : Row → Type 0) → ((x : Row) → IsIn x state.rows → p x ≡ true → P (g x)) → (r : Row) → IsIn r survivors → P r
+  each P all = each_of_map P g (filter p state.rows) (λ x i. let f = IsIn-from_filter p x state.rows i in all x f.0 f.1)
 
   -- they rise
   survivors_rise : IsRising (map (λ r. root_number r.name) survivors)
   survivors_rise =
       subst IsRising (sym (roots-map g names (filter p state.rows))) (IsRising-filter (λ (r : Row). root_number r.name) p state.rows sound.rows_rise)
 
-  -- ---- where parents stay
-
-  module _ (ups : (r : Row) → (g r).parent ≡ r.parent)
-      (stay : (r q : Row) → IsIn r state.rows → IsIn q state.rows → p r ≡ true → r.parent ≡ Some q.name → is_live q ≡ true → (p q ≡ true) ×
-      (is_live (g q) ≡ true)) where
-    -- the number is that of a row that stays
-    abbrev Stays : ℕ → Type 0
-    Stays n = (x : Row) × IsIn x state.rows × (root_number x.name ≡ n) × (p x ≡ true)
-
-    -- each is found by its root number
-    row_of_survivor : (n : ℕ) (s : Stays n) → row_at survivors n ≡ Some (g s.0)
-    row_of_survivor n s =
-        subst (λ m. row_at survivors m ≡ Some (g s.0)) (ap root_number (names s.0) ∙ s.2) (row_at-listed survivors survivors_rise (g s.0) (survives s.0 s.1 s.3))
-
-    -- and has the parent that it had
-    parent_stays_same : (n : ℕ) → Stays n → parent_number survivors n ≡ parent_number state.rows n
-    parent_stays_same n s =
-        parent_number-at survivors n (g s.0) (row_of_survivor n s)
-        ∙ ap (option_map root_number) (ups s.0)
-        ∙ sym (parent_number-at state.rows n s.0 (subst (λ m. row_at state.rows m ≡ Some s.0) s.2 (row_at-listed state.rows sound.rows_rise s.0 s.1)))
-
-    -- who stays too
-    parent_stays : (n m : ℕ) → Stays n → parent_number state.rows n ≡ Some m → Stays m
-    parent_stays n m s e =
-        let u = parent_row state sound n m e in
-        let same : s.0 ≡ u.0 = unique_key (λ (x : Row). root_number x.name) state.rows sound.rows_rise s.0 u.0 s.1 u.2 (s.2 ∙ sym u.3) in
-        (u.1, u.4, u.5, (stay s.0 u.1 s.1 u.4 s.3 (ap (λ (x : Row). x.parent) same ∙ u.7) u.6).0)
-
-    -- chains are long enough
-    chain_after : (x : Row) → IsIn x state.rows → p x ≡ true → IsIn 1 (climb (parent_number survivors) (length survivors) (root_number x.name))
-    chain_after x i e =
-        let far = row_far state sound x i in
-        let f = Far-same (parent_number state.rows) (parent_number survivors) Stays parent_stays_same parent_stays far.0 (root_number x.name) far.1 (x, i, refl, e) in
-        chain-in_rows survivors (parent_stays_same 1 f.1 ∙ top_row state sound) (IsIn-roots survivors 1 (g f.1.0) (row_of_survivor 1 f.1)) far.0 (root_number x.name) f.0
-
-    -- parents stay good
-    pub parents_stay : (x : Row) → IsIn x state.rows → p x ≡ true → HasGoodParents survivors state.spaces (g x)
-    parents_stay x i e = HasGoodParents-kept state.rows survivors state.spaces state.spaces x (g x) (names x) (ups x) refl
-        (λ q j up live. let s = stay x q i j e up live in (g q, survives q j s.0, names q, s.1)) (chain_after x i e) (sound.parents x i)
+  -- their parents stay good where these stay and live on
+  pub parents_stay : ((r : Row) → (g r).parent ≡ r.parent)
+      → ((r q : Row) → IsIn r state.rows → IsIn q state.rows → p r ≡ true → r.parent ≡ Some q.name → is_live q ≡ true → (p q ≡ true) × (is_live (g q) ≡ true))
+      → (x : Row) → IsIn x state.rows → p x ≡ true → HasGoodParents survivors state.spaces (g x)
+  parents_stay ups stay x i e = HasGoodParents-kept state.rows survivors state.spaces state.spaces x (g x) (names x) (ups x) refl
+      (λ q j up live. let s = stay x q i j e up live in (g q, survives q j s.0, names q, s.1))
+      (chain_kept state sound survivors survivors_rise g (λ r. p r ≡ true) (λ r j s. (survives r j s, names r, ups r))
+      (λ r q j k s up live. (stay r q j k s up live).0) x i e) (sound.parents x i)
 
 -- what a change has to keep: p says which rows stay, g changes rows, h lets namespaces fall
 pub record KeepsRest (state : State) (p : Row → Bool) (g : Row → Row) (h : Space → Space) : Type 0 where
-  pub group : (r : Row) → IsIn r state.rows → IsIn (g r).group (names_in_use state.rows)
-  pub session : (r : Row) → IsIn r state.rows → IsIn (g r).session (names_in_use state.rows)
+  pub names : (r : Row) → (g r).name ≡ r.name
+  pub rows : (r : Row) → IsIn r state.rows → IsSettled state (g r)
+  pub groups : (a b : Row) → IsIn a state.rows → IsIn b state.rows → IsPair (g a) (g b)
   pub parents : (r : Row) → IsIn r state.rows → p r ≡ true → HasGoodParents (map g (filter p state.rows)) state.spaces (g r)
-  pub children : (r : Row) → IsIn r state.rows → HasGoodChildrenSpace state.spaces (g r)
-  pub groups : HasGoodGroups (map g state.rows)
-  pub homes : (r : Row) → IsIn r state.rows → (c : Control) × (control_at state.controls (g r).home ≡ Some c)
   pub spaces : (s : Space) → ((h s).id ≡ s.id) × ((h s).parent ≡ s.parent)
   pub standing : (s : Space) → IsIn s state.spaces → (h s).fallen ≡ false
       → (s.fallen ≡ false) × ((r : Row) → IsIn r state.rows → is_live r ≡ true → r.name.space ≡ s.id → number state.spaces r.name s.id ≡
@@ -89,11 +68,14 @@ pub record KeepsRest (state : State) (p : Row → Bool) (g : Row → Row) (h : S
       × ((t : Space) → IsIn t state.spaces → IsIn s.id (path_up state.spaces t.id) → (h t).fallen ≡ true)
   pub root : (s : Space) → IsIn s state.spaces → s.id ≡ 0 → (h s).fallen ≡ false
 
-module _ (state : State) (p : Row → Bool) (g : Row → Row) (h : Space → Space) (sound : IsCoherent state) (names : (r : Row) → (g r).name ≡ r.name)
-    (keeps : KeepsRest state p g h) where
+-- what a change leaves: a coherent state, with ids below each stamp that they were below
+abbrev pub Leaves : State → State → Type 0
+Leaves state next = IsCoherent next × ((stamp : ℕ) → IsBelow stamp state → IsBelow stamp next)
+
+module _ (state : State) (p : Row → Bool) (g : Row → Row) (h : Space → Space) (sound : IsCoherent state) (keeps : KeepsRest state p g h) where
   -- the rows after
   abbrev after : List Row
-  after = survivors state sound p g names
+  after = map g (filter p state.rows)
 
   -- namespaces keep their ids
   abbrev ids : (s : Space) → (h s).id ≡ s.id
@@ -108,32 +90,26 @@ module _ (state : State) (p : Row → Bool) (g : Row → Row) (h : Space → Spa
   spaces_after = map h state.spaces
 
   -- what holds of each row that stays
-  each : (P : Row → Type 0) → ((x : Row) → IsIn x state.rows → p x ≡ true → P (g x)) → (r : Row) → IsIn r after → P r
-  each = each_survivor state sound p g names
+  rest : (P : Row → Type 0) → ((x : Row) → IsIn x state.rows → p x ≡ true → P (g x)) → (r : Row) → IsIn r after → P r
+  rest = each state sound p g keeps.names
 
   -- names that are in use were in use
   used_before : (a : Name) → IsIn a (names_in_use after) → IsIn a (names_in_use state.rows)
-  used_before a i = let u = user_of_name after a i in each (λ r. Uses r a → IsIn a (names_in_use state.rows)) used u.0 u.1 u.2
+  used_before a i = let u = user_of_name after a i in rest (λ r. Uses r a → IsIn a (names_in_use state.rows)) used u.0 u.1 u.2
     where
       used : (x : Row) → IsIn x state.rows → p x ≡ true → Uses (g x) a → IsIn a (names_in_use state.rows)
-      used x j e (inl same) = IsIn-names_in_use state.rows x a j (inl (same ∙ names x))
-      used x j e (inr (inl same)) = subst (λ b. IsIn b (names_in_use state.rows)) (sym same) (keeps.group x j)
-      used x j e (inr (inr (inl same))) = subst (λ b. IsIn b (names_in_use state.rows)) (sym same) (keeps.session x j)
+      used x j e (inl same) = IsIn-names_in_use state.rows x a j (inl (same ∙ keeps.names x))
+      used x j e (inr (inl same)) = rw same (keeps.rows x j).0
+      used x j e (inr (inr (inl same))) = rw same (keeps.rows x j).1
       used x j e (inr (inr (inr none))) = elim none [ ]
 
   -- numbers stay
   number_after : (a : Name) (s : ℕ) → number spaces_after a s ≡ number state.spaces a s
   number_after a s = number-map_spaces state.spaces h ids tops a s
 
-  -- groups are good
-  groups_after : HasGoodGroups after
-  groups_after = record {
-    together = λ a b i j. keeps.groups.together a b (was a i) (was b j);
-    leader = λ a b i j. keeps.groups.leader a b (was a i) (was b j);
-  }
-    where
-      was : (r : Row) → IsIn r after → IsIn r (map g state.rows)
-      was = each (λ r. IsIn r (map g state.rows)) (λ x i e. IsIn-map g x state.rows i)
+  -- each two rows are a pair
+  pairs_after : (a b : Row) → IsIn a after → IsIn b after → IsPair a b
+  pairs_after a b i j = rest (λ x. IsPair x b) (λ x k e. rest (IsPair (g x)) (λ y l f. keeps.groups x y k l) b j) a i
 
   -- a namespace that stands has its live init
   standing_after : (s : Space) → IsIn s state.spaces → (h s).fallen ≡ false → HasLiveInit after spaces_after (h s).id
@@ -141,45 +117,50 @@ module _ (state : State) (p : Row → Bool) (g : Row → Row) (h : Space → Spa
       let k = keeps.standing s i e in
       let r = sound.standing s i k.0 in
       let stays = k.1 r.0 r.1 r.2 r.3 r.4 in
-      subst (HasLiveInit after spaces_after) (sym (ids s))
-      (g r.0, survives state sound p g names r.0 r.1 stays.0, stays.1, ap (λ (a : Name). a.space) (names r.0) ∙ r.3, ap (λ a. number spaces_after a s.id) (names r.0) ∙ number_after r.0.name s.id ∙ r.4)
+      subst (HasLiveInit after spaces_after) (sym (ids s)) (
+        g r.0,
+        survives state sound p g keeps.names r.0 r.1 stays.0,
+        stays.1,
+        ap (λ (a : Name). a.space) (keeps.names r.0) ∙ r.3,
+        ap (λ a. number spaces_after a s.id) (keeps.names r.0) ∙ number_after r.0.name s.id ∙ r.4,
+      )
 
   -- a fallen one has no live task
   fallen_after : (s : Space) → IsIn s state.spaces → (h s).fallen ≡ true → IsEmptied after spaces_after (h s).id
   fallen_after s i e =
       let k = keeps.fallen s i e in
       subst (IsEmptied after spaces_after) (sym (ids s)) (record {
-        ended = each (λ r. is_live r ≡ true → number spaces_after r.name s.id ≡ None) (λ x j f live.
-            ap (λ a. number spaces_after a s.id) (names x) ∙ number_after x.name s.id ∙ k.0 x j f live);
-        below = λ t j m.
-            let q = IsIn-from_map h t state.spaces j in
-            let same : t.id ≡ q.0.id = ap (λ (x : Space). x.id) q.2 ∙ ids q.0 in
-            ap (λ (x : Space). x.fallen) q.2 ∙ k.1 q.0 q.1 (subst (IsIn s.id) (path_up-map state.spaces h ids tops q.0.id)
-            (subst (λ x. IsIn s.id (path_up spaces_after x)) same m));
+        ended = rest (λ r. is_live r ≡ true → number spaces_after r.name s.id ≡ None) (λ x j f live.
+            ap (λ a. number spaces_after a s.id) (keeps.names x) ∙ number_after x.name s.id ∙ k.0 x j f live);
+        below = each_of_map (λ t. IsIn s.id (path_up spaces_after t.id) → t.fallen ≡ true) h state.spaces (λ t j m.
+            k.1 t j (subst (IsIn s.id) (path_up-map state.spaces h ids tops t.id) (subst (λ x. IsIn s.id (path_up spaces_after x)) (ids t) m)));
       })
 
   -- a change that keeps so much leaves a coherent state
-  pub IsCoherent-survivors : IsCoherent (record state { rows = after; spaces = spaces_after })
-  IsCoherent-survivors = record {
-    distinct =
-        λ a b i j s n e f. sound.distinct a b (used_before a i) (used_before b j) s n (sym (number_after a s) ∙ e) (sym (number_after b s) ∙ f);
-    numbered = λ a i. IsWellNumbered-map state.spaces h ids tops state.pid_max a (sound.numbered a (used_before a i));
-    parents = each (HasGoodParents after spaces_after) (λ x i e. HasGoodParents-map state.spaces h ids tops after (g x) (keeps.parents x i e));
-    children = each (HasGoodChildrenSpace spaces_after) (λ x i e. HasGoodChildrenSpace-map state.spaces h ids tops (g x) (keeps.children x i));
-    root = λ s i e. let q = IsIn-from_map h s state.spaces i in
-        ap (λ (x : Space). x.fallen) q.2 ∙ keeps.root q.0 q.1 (sym (ids q.0) ∙ sym (ap (λ (x : Space). x.id) q.2) ∙ e);
-    standing = λ s i e. let q = IsIn-from_map h s state.spaces i in
-        subst (HasLiveInit after spaces_after) (sym (ap (λ (x : Space). x.id) q.2))
-        (standing_after q.0 q.1 (sym (ap (λ (x : Space). x.fallen) q.2) ∙ e));
-    fallen = λ s i e. let q = IsIn-from_map h s state.spaces i in
-        subst (IsEmptied after spaces_after) (sym (ap (λ (x : Space). x.id) q.2)) (fallen_after q.0 q.1 (sym (ap (λ (x : Space). x.fallen) q.2) ∙ e));
-    groups = groups_after;
-    rows_rise = survivors_rise state sound p g names;
-    spaces = IsTreeOfSpaces-map state.spaces h ids tops sound.spaces;
-    controls = sound.controls;
-    limits = sound.limits;
-    homes = each (λ r. (c : Control) × (control_at state.controls r.home ≡ Some c)) (λ x i e. keeps.homes x i);
-  }
+  pub leaves : (rows : List Row) (spaces : List Space) → after ≡ rows → spaces_after ≡ spaces → Leaves state (record state { rows = rows; spaces = spaces })
+  leaves rows spaces e f = subst (Leaves state) (λ i. record state { rows = e i; spaces = f i }) (
+    record {
+      distinct =
+          λ a b i j s n x y. sound.distinct a b (used_before a i) (used_before b j) s n (sym (number_after a s) ∙ x) (sym (number_after b s) ∙ y);
+      numbered = λ a i. IsWellNumbered-map state.spaces h ids tops state.pid_max a (sound.numbered a (used_before a i));
+      parents = rest (HasGoodParents after spaces_after) (λ x i e. HasGoodParents-map state.spaces h ids tops after (g x) (keeps.parents x i e));
+      children = rest (HasGoodChildrenSpace spaces_after) (λ x i e. HasGoodChildrenSpace-map state.spaces h ids tops (g x) (keeps.rows x i).2);
+      root = each_of_map (λ s. s.id ≡ 0 → s.fallen ≡ false) h state.spaces (λ s i z. keeps.root s i (sym (ids s) ∙ z));
+      standing = each_of_map (λ s. s.fallen ≡ false → HasLiveInit after spaces_after s.id) h state.spaces standing_after;
+      fallen = each_of_map (λ s. s.fallen ≡ true → IsEmptied after spaces_after s.id) h state.spaces fallen_after;
+      groups = record { together = λ a b i j. (pairs_after a b i j).0; leader = λ a b i j. (pairs_after a b i j).1 };
+      rows_rise = survivors_rise state sound p g keeps.names;
+      spaces = IsTreeOfSpaces-map state.spaces h ids tops sound.spaces;
+      controls = sound.controls;
+      limits = sound.limits;
+      homes = rest (λ r. (c : Control) × (control_at state.controls r.home ≡ Some c)) (λ x i e. (keeps.rows x i).3);
+    },
+    λ stamp below. record {
+      spaces = each_of_map (λ s. s.id < stamp) h state.spaces (λ s i. rw (ids s) (below.spaces s i));
+      controls = below.controls;
+      children = rest (λ r. r.children_space < stamp) (λ x i e. (keeps.rows x i).4 stamp below);
+    },
+  )
 
 -- ---- changes of rows by which none goes, and of namespaces by which none falls
 
@@ -187,47 +168,47 @@ module _ (state : State) (p : Row → Bool) (g : Row → Row) (h : Space → Spa
 abbrev pub all_stay : Row → Bool
 all_stay r = true
 
--- so nothing but rows changes
-pub IsCoherent-all_stay : (state : State) (g : Row → Row) (sound : IsCoherent state) (names : (r : Row) → (g r).name ≡ r.name)
-    → KeepsRest state all_stay g (λ s. s) → IsCoherent (record state { rows = map g state.rows })
-IsCoherent-all_stay state g sound names keeps =
-    let rows : map g (filter all_stay state.rows) ≡ map g state.rows = ap (map g) (filter-all all_stay state.rows (λ r j. refl)) in
-    subst IsCoherent (λ i. record state { rows = rows i; spaces = map-id state.spaces i })
-    (IsCoherent-survivors state all_stay g (λ s. s) sound names keeps)
+-- so all are there
+pub all_there : (g : Row → Row) (rows : List Row) → map g (filter all_stay rows) ≡ map g rows
+all_there g rows = ap (map g) (filter-all all_stay rows (λ r j. refl))
 
--- a change of rows that keeps so much leaves a coherent state
-pub IsCoherent-map_rows : (state : State) (f : Row → Row) → IsCoherent state → KeepsRows state f
-    → IsCoherent (record state { rows = map f state.rows })
-IsCoherent-map_rows state f sound keeps = IsCoherent-all_stay state f sound keeps.names (record {
-  group = keeps.group;
-  session = keeps.session;
-  parents = parents_stay state sound all_stay f keeps.names keeps.parents (λ r q i j stays up live. (refl, keeps.lives q ∙ live));
-  children = keeps.children;
-  groups = keeps.groups;
-  homes = keeps.homes;
+-- a change of rows that keeps names, parents and lives
+pub map_leaves : (state : State) (f : Row → Row) → IsCoherent state
+    → ((r : Row) → ((f r).name ≡ r.name) × ((f r).parent ≡ r.parent) × (is_live (f r) ≡ is_live r))
+    → ((r : Row) → IsIn r state.rows → IsSettled state (f r)) → ((a b : Row) → IsIn a state.rows → IsIn b state.rows → IsPair (f a) (f b))
+    → Leaves state (record state { rows = map f state.rows })
+map_leaves state f sound same rows groups = leaves state all_stay f (λ s. s) sound (record {
+  names = λ r. (same r).0;
+  rows = rows;
+  groups = groups;
+  parents = parents_stay state sound all_stay f (λ r. (same r).0) (λ r. (same r).1) (λ r q i j stays up live. (refl, (same q).2 ∙ live));
   spaces = λ s. (refl, refl);
-  standing = λ s i e. (e, λ r j live here one. (refl, keeps.lives r ∙ live));
-  fallen = λ s i e. let em = sound.fallen s i e in (λ r j stays live. em.ended r j (sym (keeps.lives r) ∙ live), em.below);
+  standing = λ s i e. (e, λ r j live here one. (refl, (same r).2 ∙ live));
+  fallen = λ s i e. let em = sound.fallen s i e in (λ r j stays live. em.ended r j (sym (same r).2 ∙ live), em.below);
   root = sound.root;
-})
+}) _ _ (all_there f state.rows) (map-id state.spaces)
 
--- so does a change of namespaces that keeps their ids and parents, and which have fallen
-pub IsCoherent-map_spaces : (state : State) (h : Space → Space) → ((s : Space) → (h s).id ≡ s.id) → ((s : Space) → (h s).parent ≡ s.parent)
-    → ((s : Space) → (h s).fallen ≡ s.fallen) → IsCoherent state → IsCoherent (record state { spaces = map h state.spaces })
-IsCoherent-map_spaces state h ids ups falls sound =
-    subst IsCoherent (λ i. record state { rows = same i; spaces = map h state.spaces })
-    (IsCoherent-survivors state all_stay (λ r. r) h sound (λ r. refl) (record {
-      group = group_in_use state.rows;
-      session = session_in_use state.rows;
-      parents = parents_stay state sound all_stay (λ r. r) (λ r. refl) (λ r. refl) (λ r q i j stays up live. (refl, live));
-      children = sound.children;
-      groups = subst HasGoodGroups (sym (map-id state.rows)) sound.groups;
-      homes = sound.homes;
-      spaces = λ s. (ids s, ups s);
-      standing = λ s i e. (sym (falls s) ∙ e, λ r j live here one. (refl, live));
-      fallen = λ s i e. let em = sound.fallen s i (sym (falls s) ∙ e) in (λ r j stays live. em.ended r j live, λ t j k. falls t ∙ em.below t j k);
-      root = λ s i zero. falls s ∙ sound.root s i zero;
-    }))
-  where
-    same : map (λ r. r) (filter all_stay state.rows) ≡ state.rows
-    same = map-id (filter all_stay state.rows) ∙ filter-all all_stay state.rows (λ r i. refl)
+-- the row is the other one, but for what a call sets of one task
+abbrev pub IsOwn : Row → Row → Type 0
+IsOwn r x = x ≡ record r { executed = x.executed; home = x.home; children_space = x.children_space; subreaper = x.subreaper }
+
+-- a change of such rows
+pub own_leaves : (state : State) (f : Row → Row) → IsCoherent state → ((r : Row) → IsOwn r (f r)) → ((r : Row) → IsIn r state.rows → IsSettled state (f r))
+    → Leaves state (record state { rows = map f state.rows })
+own_leaves state f sound own rows =
+    map_leaves state f sound (λ r. (ap (λ (x : Row). x.name) (own r), ap (λ (x : Row). x.parent) (own r), ap is_live (own r))) rows
+    (λ a b i j. subst (λ x. IsPair x (f b)) (sym (own a)) (subst (IsPair a) (sym (own b)) (pairs state.rows sound.groups a b i j)))
+
+-- a change of namespaces that keeps their ids and parents, and which have fallen
+pub spaces_leave : (state : State) (h : Space → Space) → ((s : Space) → ((h s).id ≡ s.id) × ((h s).parent ≡ s.parent) × ((h s).fallen ≡ s.fallen))
+    → IsCoherent state → Leaves state (record state { spaces = map h state.spaces })
+spaces_leave state h same sound = leaves state all_stay (λ r. r) h sound (record {
+  names = λ r. refl;
+  rows = settled state sound;
+  groups = pairs state.rows sound.groups;
+  parents = parents_stay state sound all_stay (λ r. r) (λ r. refl) (λ r. refl) (λ r q i j stays up live. (refl, live));
+  spaces = λ s. ((same s).0, (same s).1);
+  standing = λ s i e. (sym (same s).2 ∙ e, λ r j live here one. (refl, live));
+  fallen = λ s i e. let em = sound.fallen s i (sym (same s).2 ∙ e) in (λ r j stays live. em.ended r j live, λ t j k. (same t).2 ∙ em.below t j k);
+  root = λ s i z. (same s).2 ∙ sound.root s i z;
+}) _ _ (all_there (λ r. r) state.rows ∙ map-id state.rows) refl

@@ -1,13 +1,7 @@
 -- The sweep takes away no namespace in which a name in use has a number, and leaves a sound state.
-use Rattle.std.proofs.Common.{◌≡◌, ℕ, false, not, ◌==◌, List, [], ◌∷◌, length, Option, Some, None, refl, sym, ap, ◌∙◌, subst, inl, inr, arith, option_and_then}
-use Rattle.std.proofs.lemmas.Bool.{eqb-true, ne_eqb, and_left, and_right, not_from_false, not-true, cases_Bool}
-use Rattle.model_laws.proofs.Words.{Name, Row, Space, State, space_at, parent_space, path_up, number, names_in_use, taken, is_dead, sweep, IsIn, HasGoodChildrenSpace, IsTreeOfSpaces, IsCoherent, IsSound}
+use Rattle.model_laws.proofs.Words.{◌≡◌, ℕ, false, not, ◌==◌, List, [], ◌∷◌, length, Some, None, refl, sym, ap, ◌∙◌, subst, inl, inr, arith, option_and_then, eqb-true, ne_eqb, and_left, and_right, not_from_false, not-true, cases_Bool, Name, Row, Space, State, space_at, parent_space, path_up, number, names_in_use, taken, is_dead, sweep, IsIn, HasGoodChildrenSpace, IsTreeOfSpaces, IsCoherent, IsSound}
+use Rattle.model_laws.proofs.Ground.{IsIn-filter, IsIn-from_filter, find-filter, option_both, length-IsIn, climb-same, number-on_path, number-within, number-same_path, own_name_in_use, IsIn-taken, user_of_number, IsRising-filter, space_at-Some, space_at-listed, IsOnTree, IsOnTree-name, path_trans}
 use Rattle.model_laws.proofs.SpaceMaps.{IsWellNumbered-kept, HasGoodParents-kept}
-use Rattle.model_laws.proofs.Lists.{IsIn-filter, IsIn-from_filter, find-filter}
-use Rattle.model_laws.proofs.Chains.{climb-same}
-use Rattle.model_laws.proofs.Names.{number-on_path, number-within, number-same_path, own_name_in_use, IsIn-taken, user_of_number}
-use Rattle.model_laws.proofs.Rising.{IsRising-filter}
-use Rattle.model_laws.proofs.Trees.{space_at-Some, space_at-listed, IsOnTree, IsOnTree-name, path_trans}
 
 -- no namespace with the id is dead
 abbrev pub IsKept : State → ℕ → Type 0
@@ -17,11 +11,8 @@ IsKept state x = (s : Space) → IsIn s state.spaces → s.id ≡ x → is_dead 
 pub kept-by_name : (state : State) (a : Name) (x n : ℕ) → IsIn a (names_in_use state.rows) → number state.spaces a x ≡ Some n → IsKept state x
 kept-by_name state a x n i e s j same =
     let here : number state.spaces a s.id ≡ Some n = subst (λ y. number state.spaces a y ≡ Some n) (sym same) e in
-    and_right s.fallen (length (taken state s.id) == 0) (ne_eqb (length (taken state s.id)) 0 (some_long (taken state s.id) n (IsIn-taken state a s.id n i here)))
-  where
-    some_long : (ns : List ℕ) (m : ℕ) → IsIn m ns → length ns ≡ 0 → ⊥
-    some_long [] m k e = elim k [ ]
-    some_long (l ∷ ns) m k e = omega arith
+    let long = length-IsIn n (taken state s.id) (IsIn-taken state a s.id n i here) in
+    and_right s.fallen (length (taken state s.id) == 0) (ne_eqb (length (taken state s.id)) 0 (λ none. omega (arith, long)))
 
 -- the spaces that are kept
 abbrev pub kept_spaces : State → List Space
@@ -100,19 +91,14 @@ module _ (state : State) (sound : IsCoherent state) where
 
   -- children's namespaces stay good, or are dropped
   children_kept : (r : Row) → HasGoodChildrenSpace state.spaces r → HasGoodChildrenSpace (kept_spaces state) r
-  children_kept r h = go (space_at (kept_spaces state) r.children_space) refl h
-    where
-      go : (o : Option Space) → space_at (kept_spaces state) r.children_space ≡ o → HasGoodChildrenSpace state.spaces r
-          → HasGoodChildrenSpace (kept_spaces state) r
-      go None e g = inl e
-      go (Some s) e g =
-          let q = space_at-Some (kept_spaces state) r.children_space s e in
-          let f = from_kept state s q.0 in
-          let there : space_at state.spaces r.children_space ≡ Some s = subst (λ x. space_at state.spaces x ≡ Some s) q.1 (space_at-listed state.spaces sound.spaces s f.0) in
-          elim g [
-            | inl none ↦ let n : space_at state.spaces r.children_space ≡ None = none in absurd (cc)
-            | inr i ↦ inr (subst (IsIn r.name.space) (sym (subst (λ x. path_up (kept_spaces state) x ≡ path_up state.spaces x) q.1 (space_path s f.0 f.1))) i)
-          ]
+  children_kept r h = option_both (space_at (kept_spaces state) r.children_space) (λ _. HasGoodChildrenSpace (kept_spaces state) r) (λ e. inl e) (λ s e.
+      let q = space_at-Some (kept_spaces state) r.children_space s e in
+      let f = from_kept state s q.0 in
+      let there : space_at state.spaces r.children_space ≡ Some s = subst (λ x. space_at state.spaces x ≡ Some s) q.1 (space_at-listed state.spaces sound.spaces s f.0) in
+      elim h [
+        | inl none ↦ let n : space_at state.spaces r.children_space ≡ None = none in absurd (cc)
+        | inr i ↦ inr (subst (IsIn r.name.space) (sym (subst (λ x. path_up (kept_spaces state) x ≡ path_up state.spaces x) q.1 (space_path s f.0 f.1))) i)
+      ])
 
   -- what the sweep leaves of a coherent state is sound
   pub IsSound-sweep : IsSound (sweep state)

@@ -1,11 +1,10 @@
 -- The trees of namespaces and control groups, and rows by their root numbers.
-use Rattle.std.proofs.Common.{◌≡◌, ℕ, true, ◌&&◌, ◌==◌, List, map, Some, None, ap}
-use Rattle.std.proofs.lemmas.Bool.{eqb-true, and_parts}
-use Rattle.model_laws.proofs.Words.{Name, Row, Space, Control, space_at, parent_space, path_up, root_number, row_at, is_live, live_row, control_at, parent_control, control_path, IsIn, IsRising, IsWellNumbered, IsTreeOfSpaces, IsTreeOfControls}
-use Rattle.model_laws.proofs.Lists.{find-Some}
+use Rattle.model_laws.proofs.Words.{◌≡◌, ℕ, true, ◌&&◌, ◌==◌, List, map, Some, None, ap, eqb-true, and_parts, Name, Row, Space, Control, space_at, parent_space, path_up, root_number, row_at, is_live, live_row, control_at, parent_control, control_path, IsIn, IsRising, IsWellNumbered, IsTreeOfSpaces, IsTreeOfControls, State, IsCoherent, number, task_at, is_numbered}
+use Rattle.model_laws.proofs.Lists.{find-Some, find-only}
 use Rattle.model_laws.proofs.Chains.{Stops-at_root, IsIn-climb_first, climb_trans, climb_antisym}
 use Rattle.model_laws.proofs.Rising.{unique_key, find-key, find-key_at}
 use Rattle.model_laws.proofs.Forests.{at-listed, root_parent, path_to_root, chain_listed}
+use Rattle.model_laws.proofs.Names.{own_name_in_use, is_numbered-true, is_numbered-from}
 
 -- ---- namespaces
 
@@ -73,12 +72,6 @@ root_control_parent controls tree = root_parent Control (λ d. d.id) (λ d. d.pa
 pub control_to_root : (controls : List Control) → IsTreeOfControls controls → (id : ℕ) (c : Control) → control_at controls id ≡ Some c → IsIn 0 (control_path controls id)
 control_to_root controls tree id c h = path_to_root Control (λ d. d.id) (λ d. d.parent) (control_path controls) controls tree id c h
 
--- all control groups on a path to the root are there
-pub control_path_listed : (controls : List Control) → IsTreeOfControls controls → (id x : ℕ) → IsIn 0 (control_path controls id)
-    → IsIn x (control_path controls id) → (c : Control) × (control_at controls x ≡ Some c)
-unfolding control_path
-control_path_listed controls tree id x on i = chain_listed Control (λ d. d.id) (λ d. d.parent) (control_path controls) controls tree 65 id x on i
-
 -- ---- rows by their root numbers
 
 -- a row is found by its root number
@@ -101,3 +94,12 @@ live_row-Some rows n row h =
     let r = find-Some (λ (r : Row). (root_number r.name == n) && is_live r) rows row h in
     let t = and_parts (root_number row.name == n) (is_live row) r.1 in
     (r.0, eqb-true (root_number row.name) n t.0, t.1)
+
+-- the task with a number in a namespace is found by it
+pub task_at-own : (state : State) → IsCoherent state → (row : Row) → IsIn row state.rows → (s n : ℕ) → number state.spaces row.name s ≡ Some n
+    → task_at state s n ≡ Some row
+unfolding task_at
+task_at-own state sound row i s n e =
+    find-only (λ r. is_numbered state.spaces r.name s n) state.rows row i (is_numbered-from state.spaces row.name s n e) (λ r j f.
+    same_row state.rows sound.rows_rise r row j i (sound.distinct r.name row.name (own_name_in_use state.rows r j) (own_name_in_use state.rows row i) s n
+    (is_numbered-true state.spaces r.name s n f) e))

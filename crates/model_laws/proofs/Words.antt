@@ -1,4 +1,14 @@
--- The definitions of the model that the lemmas cite, passed on from one place. Declares nothing.
+-- The words of the library and of the model that the lemmas cite, passed on from one place. Declares nothing.
+pub use Rattle.std.proofs.Common.{◌≡◌, ℕ, zero, suc, ◌+◌, ◌-◌, ◌<◌, ◌≤◌, Bool, true, false, not, ◌==◌, List, [], ◌∷◌, ◌++◌, map, reverse, length, Option, Some, None, refl, sym, ap, ◌∙◌, subst, inl, inr, arith, filter, option_map, option_and_then, slice_index, ℤ, ◌&&◌, ◌||◌, find, is_none, nat_lt, nat_le, ◌⊎◌, length-append, if◌then◌else◌, max, cond, is_some, IfSome, unwrap_or, filter_map, pos, negsuc, ◌↔◌, drop, slice_get, flat_map, Decides, IsTrue, take, add-one}
+pub use Rattle.std.proofs.lemmas.Bool.{eq-eqb, ne_eqb, not_from_false, not_from_true, cond_both, eqb-true, eqb-false, ltb-false, not-true, false_from_ne_true, ltb-true, or_cases, or_from, or_parts, or_left, or_right, cases_eq, and_left, leb-false, lt-ltb, and_parts, cases_Bool, le-ltb, and_from, leb-true, le-leb, not-false, and_right}
+pub use Rattle.std.proofs.lemmas.List.{length-map, reverse-append, length-reverse, map-id, map-append, append_assoc, length-take-le}
+pub use Rattle.std.specs.Option.{option_map_or, option_eq}
+pub use Rattle.std.proofs.lemmas.Bool.Decides.{Decides-at, not_from_Decides, same_from_decides, nat_tests, Decides-eqb, Decides-ltb, Decides-and, Decides-or, Decides-not, Decides-like}
+pub use Rattle.std.proofs.lemmas.Option.{option_and_then_some, slice_get_within}
+pub use Rattle.std.proofs.Math.Path.{fun_ext}
+pub use Rattle.std.specs.List.{list_any}
+pub use Rattle.std.specs.Cmp.Lexicographic.{pointwise}
+pub use Rattle.std.proofs.lemmas.Slice.Eq.{bytes_eq-Decides}
 pub use Rattle.pid_types.specs.declared.plain.Name.{Name}
 pub use Rattle.pid_types.specs.declared.plain.Row.{Row}
 pub use Rattle.pid_types.specs.declared.plain.Space.{Space}

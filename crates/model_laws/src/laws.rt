@@ -8,44 +8,52 @@ ghost use Rattle.model_laws.specs.Refusals.{RefusalChangesNothing};
 ghost use Rattle.model_laws.specs.ReuseLaws.{NoReuse};
 
 /// A namespace gives the least free number from its cursor on, or else from the restart on.
+#[tactic(auto, using(crate::proofs::Draws::draw_is_least))]
 pub fn draw_is_least()
     ensures { DrawIsLeast }
 {}
 
 /// A name's number in a namespace on its path is its entry at the level of that namespace.
+#[tactic(auto, using(crate::proofs::Levels::number_is_at_level))]
 pub fn number_is_at_level()
     ensures { NumberIsAtLevel }
 {}
 
 /// A name's numbers from a namespace on its path inwards are its entries from the level of that namespace on.
+#[tactic(auto, using(crate::proofs::Levels::numbers_are_from_level))]
 pub fn numbers_are_from_level()
     ensures { NumbersFromLevel }
 {}
 
 /// In a sound state each name in use has one number in each namespace from its own to the root, and
 /// no number there names two.
+#[tactic(auto, using(crate::proofs::Levels::names_have_numbers))]
 pub fn numbers_are_apart()
     ensures each { NamesHaveNumbers }
     ensures apart { NoNumberNamesTwo }
 {}
 
 /// In a sound state no path to the root is longer than namespaces and control groups may be deep.
+#[tactic(auto, using(crate::proofs::Levels::levels_bounded))]
 pub fn levels_are_bounded()
     ensures { LevelsAreBounded }
 {}
 
 /// The sweep takes no namespace in which a name in use has a number, and in a sound state nothing.
+#[tactic(auto, using(crate::proofs::Levels::sweep_keeps_numbered, crate::proofs::Levels::sound_needs_no_sweep))]
 pub fn sweep_keeps_numbered()
     ensures numbered { SweepKeepsNumbered }
     ensures sound { SoundNeedsNoSweep }
 {}
 
 /// A call is refused exactly where a refusal applies, by the first one in its order.
+#[tactic(auto, using(crate::proofs::Refusals::first_step))]
 pub fn first_refusal_answers()
     ensures { FirstRefusalAnswers }
 {}
 
 /// A refused call, a query and a wait that reaps nothing leave the state as it was.
+#[tactic(auto, using(crate::proofs::Refusals::refusal_changes_nothing, crate::proofs::Refusals::query_changes_nothing, crate::proofs::Refusals::none_yet_changes_nothing))]
 pub fn nothing_changes()
     ensures refusal { RefusalChangesNothing }
     ensures query { QueryChangesNothing }
@@ -53,6 +61,7 @@ pub fn nothing_changes()
 {}
 
 /// No fork raises a count above its limit, in one call and in every run.
+#[tactic(auto, using(crate::proofs::Limits::fork_keeps_limits, crate::proofs::Limits::run_within))]
 pub fn forks_keep_limits()
     ensures call { ForkKeepsLimits }
     ensures run { RunsKeepLimits }

@@ -6,6 +6,7 @@ ghost use Rattle.model_laws.specs.FallLaws.{ExitOfInitFalls};
 ghost use Rattle.model_laws.specs.WaitLaws.{NoneYetHasEnded, WaitReapsLeast};
 
 /// In a sound state the path of a namespace or a control group is its chain of parents up to the root.
+#[tactic(auto, using(crate::proofs::Subtrees::paths_are_chains))]
 pub fn paths_are_chains()
     ensures { PathsAreChains }
 {}
@@ -20,12 +21,14 @@ pub fn count_is_of_subtree()
 
 /// The children of a task that ends go to its nearest ancestor in its own namespace that is a subreaper,
 /// or else to the init there.
+#[tactic(auto, using(crate::proofs::NearestSubreaper::takes_orphans))]
 pub fn new_parent_is_nearest()
     ensures { NewParentIsNearest }
 {}
 
 /// The exit of a namespace's init ends every member, takes away those whose parent is a member, and
 /// changes nobody outside.
+#[tactic(auto, using(crate::proofs::Falls::exit_of_init_falls))]
 pub fn exit_of_init_falls()
     ensures { ExitOfInitFalls }
 {}

@@ -13,6 +13,7 @@ ghost use Rattle.model_laws.specs.SubreaperScripts.{SubreaperTakesChildren, Mark
 ghost use Rattle.model_laws.specs.SubreaperScripts.{MarkOfJoined};
 
 /// Worked scripts of fork and the queries of numbers.
+#[tactic(auto, unfolding(crate::proofs::Computed::computed))]
 pub fn fork_scripts()
     ensures fork_and_get_pid { ForkAndGetPid }
     ensures three_forks { ThreeForks }
@@ -24,12 +25,14 @@ pub fn fork_scripts()
 {}
 
 /// Worked scripts of process groups and sessions.
+#[tactic(auto, unfolding(crate::proofs::Computed::computed))]
 pub fn group_scripts()
     ensures set_pgid_in_order { SetPgidInOrder }
     ensures set_sid_once { SetSidOnce }
 {}
 
 /// Worked scripts of exit and wait.
+#[tactic(auto, unfolding(crate::proofs::Computed::computed))]
 pub fn wait_scripts()
     ensures wait_selects { WaitSelects }
     ensures orphans_go_to_init { OrphansGoToInit }
@@ -47,6 +50,7 @@ pub fn fall_scripts()
 {}
 
 /// Worked scripts of control groups.
+#[tactic(auto, unfolding(crate::proofs::Computed::computed))]
 pub fn control_scripts()
     ensures limits_and_moves { LimitsAndMoves }
     ensures zombies_go_up { ZombiesGoUp }
@@ -55,11 +59,13 @@ pub fn control_scripts()
 {}
 
 /// A worked script of the depth of control groups.
+#[tactic(auto, unfolding(crate::proofs::Computed::computed))]
 pub fn depth_scripts()
     ensures { ControlDepthIs64 }
 {}
 
 /// Worked scripts of join.
+#[tactic(auto, unfolding(crate::proofs::Computed::computed))]
 pub fn join_scripts()
     ensures join_and_fall { JoinAndFall }
     ensures join_and_fall_end { JoinAndFallEnd }
@@ -68,6 +74,7 @@ pub fn join_scripts()
 {}
 
 /// Worked scripts of child subreapers.
+#[tactic(auto, unfolding(crate::proofs::Computed::computed))]
 pub fn subreaper_scripts()
     ensures subreaper_takes_children { SubreaperTakesChildren }
     ensures mark_kept_over_exec { MarkKeptOverExec }

@@ -2,12 +2,14 @@
 ghost use Rattle.model_laws.specs.SightLaws.{QueriesAnswerSeen, SameSightSameAnswers};
 
 /// Each query of a live task is answered from its own number and what its namespace sees.
+#[tactic(auto, using(crate::proofs::Glimpses::queries_answer_seen))]
 pub fn queries_answer_seen()
     ensures { QueriesAnswerSeen }
 {}
 
 /// Two live tasks whose namespaces see the same, and whose own numbers are equal, get the same
 /// answers.
+#[tactic(auto, using(crate::proofs::Glimpses::same_sight_same_answers))]
 pub fn same_sight_same_answers()
     ensures { SameSightSameAnswers }
 {}

@@ -25,16 +25,19 @@ pub fn soundness_is_restored()
 {}
 
 /// No run of calls changes the bound of all numbers.
+#[tactic(auto, using(crate::proofs::Bounds::run_bound))]
 pub fn bound_stays()
     ensures { BoundStays }
 {}
 
 /// In a sound state the root namespace stands. Since every call leaves one, no call lets it fall.
+#[tactic(auto, using(crate::proofs::StepKept::root_never_falls))]
 pub fn root_never_falls()
     ensures { RootNeverFalls }
 {}
 
 /// In a sound state the root init lives. Every chain of parents ends at it.
+#[tactic(auto, using(crate::proofs::Ancestry::root_init_lives))]
 pub fn root_init_lives()
     ensures { RootInitLives }
 {}

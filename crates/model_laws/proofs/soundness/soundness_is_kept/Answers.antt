@@ -1,10 +1,5 @@
-use Rattle.model_laws.proofs.Calls.{step_comes}
-use Rattle.model_laws.proofs.StepKept.{plain_keeps, step_keeps, run_keeps}
+use Rattle.model_laws.proofs.StepKept.{step_keeps, plain_calls_make_no_id, run_keeps}
 use Rattle.model_laws.proofs.soundness.soundness_is_kept.Goals as goal
 
 pub returns : goal.returns
-returns c = record {
-  step = λ state stamp call sound below. let k = step_keeps state stamp call sound below in (k.sound, k.below);
-  plain = λ state stamp call plain sound below. (plain_keeps state stamp call _ (step_comes state stamp call) plain sound below).below;
-  run = run_keeps;
-}
+returns c = record { step = step_keeps; plain = plain_calls_make_no_id; run = run_keeps }
