@@ -13,7 +13,7 @@ use Rattle.pid_script.specs.Reading.{cut}
 abbrev pub Lacks : ℕ → List ℕ → Type 0
 Lacks byte bs = AllByRecursion (λ b. eqb b byte ≡ false) bs
 
-same_eqb : (b : ℕ) → eqb b b ≡ true
+pub same_eqb : (b : ℕ) → eqb b b ≡ true
 same_eqb b = grind (arith)
 
 -- a cut ends at the first such byte

@@ -4,6 +4,7 @@ pub mod Numbers
 pub mod Words
 pub mod Prefixes
 pub mod Read
+pub mod Commands
 pub mod Room
 pub mod Joined
 pub mod Kept
