@@ -19,33 +19,29 @@ named-as_long (row ∷ rows) word =
     (λ long. (rw (other, long, other) (named-as_long rows word)))
     (λ short. (rw (other, short) (named-as_long rows word))))
 
-as_long : (n : ℕ) (command words : List ℕ) → length command ≡ n → command_of command words ≡ option_and_then (λ read. read words) (named (rows_of n commands) command)
+-- so does a command
+abbrev AsLong : ℕ → Type 0
+AsLong n = (command words : List ℕ) → length command ≡ n → command_of command words ≡ option_and_then (λ read. read words) (named (rows_of n commands) command)
+
+as_long : (n : ℕ) → AsLong n
 unfolding command_of
 as_long n command words is =
     ap (option_and_then (λ read. read words)) (named-as_long commands command ∙ ap (λ n. named (rows_of n commands) command) is)
 
-pub of_two : (command words : List ℕ) → length command ≡ 2 → command_of command words ≡ option_and_then (λ read. read words) (named (rows_of 2 commands) command)
+pub of_two : AsLong 2
 of_two = as_long 2
 
-pub of_four : (command words : List ℕ) → length command ≡ 4 → command_of command words ≡ option_and_then (λ read. read words) (named (rows_of 4 commands) command)
+pub of_four : AsLong 4
 of_four = as_long 4
 
-pub of_five : (command words : List ℕ) → length command ≡ 5 → command_of command words ≡ option_and_then (λ read. read words) (named (rows_of 5 commands) command)
+pub of_five : AsLong 5
 of_five = as_long 5
 
-pub of_six : (command words : List ℕ) → length command ≡ 6 → command_of command words ≡ option_and_then (λ read. read words) (named (rows_of 6 commands) command)
-of_six = as_long 6
-
-pub of_seven : (command words : List ℕ) → length command ≡ 7 → command_of command words ≡ option_and_then (λ read. read words) (named (rows_of 7 commands) command)
-of_seven = as_long 7
-
-pub of_nine : (command words : List ℕ) → length command ≡ 9 → command_of command words ≡ option_and_then (λ read. read words) (named (rows_of 9 commands) command)
-of_nine = as_long 9
-
 -- no command has another length
-pub no_command : (command words : List ℕ) → length command ≢ 2 → length command ≢ 4 → length command ≢ 5 → length command ≢ 6 → length command ≢ 7 → length command ≢ 9 → command_of command words ≡ None
+pub no_command : (command words : List ℕ) → length command ≢ 2 → length command ≢ 4 → length command ≢ 5 → length command ≢ 6
+    → length command ≢ 7 → length command ≢ 9 → command_of command words ≡ None
 no_command command words a b c d e f =
     as_long (length command) command words refl
     ∙ (rw (ne_eqb _ 2 a, ne_eqb _ 4 b, ne_eqb _ 5 c, ne_eqb _ 6 d, ne_eqb _ 7 e, ne_eqb _ 9 f))
 
-pub ruleset letters = (of_two, of_four, of_five, of_six, of_seven, of_nine)
+pub ruleset letters = (of_two, of_four, of_five)

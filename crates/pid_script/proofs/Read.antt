@@ -20,30 +20,31 @@ abbrev Spells : List ℕ → (List ℕ → Option Call) → Type 0
 Spells command read = (words : List ℕ) (c : Call) → read words ≡ Some c → IsLineOf (command ++ 32 ∷ words) c × (length (command ++ 32 ∷ words) ≤ 200)
 
 module _ {A : Type 0} {read : List ℕ → Option A} {write : A → List ℕ} {FitsHere : A → Type 0} {most : ℕ} (reads : Reads read write FitsHere most) where
-  row : (command : List ℕ) (call : A → Call) → length command + most ≤ 199 → ((x : A) → FitsHere x → command ++ 32 ∷ write x ≡ line_of (call x)) → ((x : A) → FitsHere x → Fits (call x)) → Spells command (one read call)
+  row : (command : List ℕ) (call : A → Call) → length command + most ≤ 199
+      → ((x : A) → FitsHere x → command ++ 32 ∷ write x ≡ line_of (call x)) → ((x : A) → FitsHere x → Fits (call x)) → Spells command (one read call)
   row command call few line fits words c is =
       option_map_some call (read words) c is (λ x here same.
       let a = reads.says words x here in
       subst (λ c. IsLineOf (command ++ 32 ∷ words) c × (length (command ++ 32 ∷ words) ≤ 200)) same (
         record { written = ap (λ w. command ++ 32 ∷ w) a.0 ∙ line x a.1; fits = fits x a.1 },
-        omega (arith, few, reads.short x a.1, ap length a.0, length-append command (32 ∷ words)),
+        omega (arith, few, (reads.told x a.1).1, ap length a.0, length-append command (32 ∷ words)),
       ))
 
   tells : (call : A → Call) (x : A) → FitsHere x → call_or_bad (one read call (write x)) ≡ says.Call (call x)
-  tells call x fits = ap (λ o. call_or_bad (option_map call o)) (reads.told x fits)
+  tells call x fits = ap (λ o. call_or_bad (option_map call o)) (reads.told x fits).0
 
 -- a number has no space behind it
 no_number : (n : ℕ) (rest : List ℕ) → process_of (decimal n ++ 32 ∷ rest) ≡ None
 no_number n rest = number_below-None (2 ^ 32) (decimal n ++ 32 ∷ rest) (λ m below is.
-    not_in_digits numerals (decimal m) 32 (digits_decimal numerals m (omega arith)) (λ range. absurd (omega (arith, range))) (length (decimal n) + 0)
-    (omega (arith, ap length is, length-append (decimal n) (32 ∷ rest))) (ap (λ w. get_or w (length (decimal n) + 0) 0) is ∙ get_or-append-add (decimal n) (32 ∷ rest) 0 0))
+    not_in_digits numerals (decimal m) 32 (digits_decimal numerals m (omega arith)) (λ range. absurd (omega (arith, range)))
+    (length (decimal n) + 0) (omega (arith, ap length is, length-append (decimal n) (32 ∷ rest)))
+    (ap (λ w. get_or w (length (decimal n) + 0) 0) is ∙ get_or-append-add (decimal n) (32 ∷ rest) 0 0))
 
 -- the word that a fork into a new namespace ends with
 new : Reads (named ((codes "new", true) ∷ [])) (λ on. codes "new") (λ on. on ≡ true) 3
 new = record {
-  told = λ on is. ap Some (sym is);
+  told = λ on is. (ap Some (sym is), lit≤ tt);
   says = named-says (λ w on. (w ≡ codes "new") × (on ≡ true)) ((codes "new", true) ∷ []) ((refl, refl) ◂ tt);
-  short = λ on is. lit≤ tt;
 }
 
 fork_spells : Spells (codes "fork") fork_of

@@ -21,35 +21,35 @@ use Rattle.pid_script.proofs.Cuts.{Lacks, by_test, cut-append, cut-Some, option_
 use Rattle.pid_script.proofs.Numbers.{numerals, number_below-decimal, number_below-Some, signed_of-decimal, signed_of-Some}
 use Rattle.pid_script.proofs.Room.{length_decimal_of_32, length_decimal_of_64}
 
--- what is written so, in so many bytes at most, is read as that, and nothing else is read
+-- what is written so is read as that, and is no longer than this; and nothing else is read
 pub record Reads {A : Type 0} (read : List ℕ → Option A) (write : A → List ℕ) (Fits : A → Type 0) (most : ℕ) : Type 0 where
-  pub told : (x : A) → Fits x → read (write x) ≡ Some x
+  pub told : (x : A) → Fits x → (read (write x) ≡ Some x) × (length (write x) ≤ most)
   pub says : (w : List ℕ) (x : A) → read w ≡ Some x → (w ≡ write x) × Fits x
-  pub short : (x : A) → Fits x → length (write x) ≤ most
 
--- one argument, a space and what comes after it
-pub both : {A B : Type 0} {first : List ℕ → Option A} {write : A → List ℕ} {Fits : A → Type 0} {m : ℕ} {second : List ℕ → Option B} {last : B → List ℕ} {Ends : B → Type 0} {n : ℕ}
-    → Reads first write Fits m → ((x : A) → Fits x → Lacks 32 (write x)) → Reads second last Ends n
-    → Reads (pair first second) (λ p. write p.0 ++ 32 ∷ last p.1) (λ p. Fits p.0 × Ends p.1) (m + n + 1)
-both {first = first} {write = write} {Fits = Fits} {second = second} {last = last} {Ends = Ends} one lacks rest = record {
-  told = λ p fits. (rw (cut-append 32 (write p.0) (last p.1) (lacks p.0 fits.0), one.told p.0 fits.0, rest.told p.1 fits.1));
-  says = λ w p is.
-      option_and_then_some _ (before first w) p is (λ q here more.
-      option_and_then_some _ (cut 32 w) q here (λ c cuts read.
-      option_and_then_some _ (first c.0) q read (λ x front same.
-      option_and_then_some _ (second c.1) p (subst (λ r. option_and_then (λ y. Some (r.0, y)) (second r.1) ≡ Some p) (sym (same_Some _ q same)) more) (λ y back pairs.
-      let a = one.says c.0 x front in
-      let b = rest.says c.1 y back in
-      subst (λ p. (w ≡ write p.0 ++ 32 ∷ last p.1) × (Fits p.0 × Ends p.1)) (same_Some _ p pairs) (cut-Some 32 w c cuts ∙ (λ i. a.0 i ++ 32 ∷ b.0 i), (a.1, b.1))))));
-  short = λ p fits. omega (arith, one.short p.0 fits.0, rest.short p.1 fits.1, length-append (write p.0) (32 ∷ last p.1));
-}
+module _ {A B : Type 0} {first : List ℕ → Option A} {write : A → List ℕ} {Fits : A → Type 0} {m : ℕ} {second : List ℕ → Option B} {last : B → List ℕ} {Ends : B → Type 0} {n : ℕ} where
+  -- one argument, a space and what comes after it
+  pub both : Reads first write Fits m → ((x : A) → Fits x → Lacks 32 (write x)) → Reads second last Ends n
+      → Reads (pair first second) (λ p. write p.0 ++ 32 ∷ last p.1) (λ p. Fits p.0 × Ends p.1) (m + n + 1)
+  both one lacks rest = record {
+    told = λ p fits.
+        let a = one.told p.0 fits.0 in
+        let b = rest.told p.1 fits.1 in
+        (rw (cut-append 32 (write p.0) (last p.1) (lacks p.0 fits.0), a.0, b.0), omega (arith, a.1, b.1, length-append (write p.0) (32 ∷ last p.1)));
+    says = λ w p is.
+        option_and_then_some _ (before first w) p is (λ q here more.
+        option_and_then_some _ (cut 32 w) q here (λ c cuts read.
+        option_and_then_some _ (first c.0) q read (λ x front same.
+        option_and_then_some _ (second c.1) p (subst (λ r. option_and_then (λ y. Some (r.0, y)) (second r.1) ≡ Some p) (sym (same_Some _ q same)) more) (λ y back pairs.
+        let a = one.says c.0 x front in
+        let b = rest.says c.1 y back in
+        subst (λ p. (w ≡ write p.0 ++ 32 ∷ last p.1) × (Fits p.0 × Ends p.1)) (same_Some _ p pairs) (cut-Some 32 w c cuts ∙ (λ i. a.0 i ++ 32 ∷ b.0 i), (a.1, b.1))))));
+  }
 
 -- numbers
 pub number : (bound : ℕ) → bound ≤ 2 ^ 64 → Reads (number_below bound) decimal (λ n. n < bound) 20
 number bound le = record {
-  told = λ n below. number_below-decimal bound n below (omega arith);
+  told = λ n below. (number_below-decimal bound n below (omega arith), length_decimal_of_64 n (omega arith));
   says = λ w n is. let a = number_below-Some bound w n is in (sym a.1, a.0);
-  short = λ n below. length_decimal_of_64 n (omega arith);
 }
 
 pub process : Reads process_of decimal (λ n. n < 2 ^ 32) 20
@@ -57,17 +57,6 @@ process = number (2 ^ 32) (lit≤ tt)
 
 pub control : Reads control_of decimal (λ n. n < 2 ^ 64) 20
 control = number (2 ^ 64) (lit≤ tt)
-
-pub signed : Reads signed_of signed_decimal (FitsSigned w32) 20
-signed = record {
-  told = signed_of-decimal;
-  says = λ w z is. let a = signed_of-Some w z is in (sym a.1, a.0);
-  short = short;
-}
-  where
-    short : (z : ℤ) → FitsSigned w32 z → length (signed_decimal z) ≤ 20
-    short (pos n) fits = let small : n < 2 ^ 31 = fits.sfits in length_decimal_of_64 n (omega arith)
-    short (negsuc n) fits = let small : n < 2 ^ 31 = fits.sfits in omega (arith, length_decimal_of_32 (suc n) (omega arith))
 
 lacks_space : (ds : List ℕ) → AllDigits 10 ds → Lacks 32 ds
 lacks_space [] digits = tt
@@ -81,16 +70,27 @@ lacks_space (d ∷ ds) digits =
 pub lacks_decimal : (n : ℕ) → n < 2 ^ 64 → Lacks 32 (decimal n)
 lacks_decimal n small = lacks_space (decimal n) (digits_decimal numerals n small)
 
+short_signed : (z : ℤ) → FitsSigned w32 z → (length (signed_decimal z) ≤ 20) × Lacks 32 (signed_decimal z)
+short_signed (pos n) fits =
+    let small : n < 2 ^ 31 = fits.sfits in (length_decimal_of_64 n (omega arith), lacks_decimal n (omega arith))
+short_signed (negsuc n) fits =
+    let small : n < 2 ^ 31 = fits.sfits in (omega (arith, length_decimal_of_32 (suc n) (omega arith)), (refl, lacks_decimal (suc n) (omega arith)))
+
+pub signed : Reads signed_of signed_decimal (FitsSigned w32) 20
+signed = record {
+  told = λ z fits. (signed_of-decimal z fits, (short_signed z fits).0);
+  says = λ w z is. let a = signed_of-Some w z is in (sym a.1, a.0);
+}
+
 pub lacks_signed : (z : ℤ) → FitsSigned w32 z → Lacks 32 (signed_decimal z)
-lacks_signed (pos n) fits = let small : n < 2 ^ 31 = fits.sfits in lacks_decimal n (omega arith)
-lacks_signed (negsuc n) fits = let small : n < 2 ^ 31 = fits.sfits in (refl, lacks_decimal (suc n) (omega arith))
+lacks_signed z fits = (short_signed z fits).1
 
 -- a process, and what comes after it
 pub behind : {B : Type 0} {read : List ℕ → Option B} {write : B → List ℕ} {Fits : B → Type 0} {n : ℕ} → Reads read write Fits n
     → Reads (pair process_of read) (λ p. decimal p.0 ++ 32 ∷ write p.1) (λ p. (p.0 < 2 ^ 32) × Fits p.1) (20 + n + 1)
 behind rest = both process (λ n small. lacks_decimal n (omega arith)) rest
 
--- each row of a table is so, one row and the others
+-- each row of a table is so: one row, and the others
 abbrev pub Rows : {A : Type 0} → (List ℕ → A → Type 0) → List (List ℕ × A) → Type 0
 Rows P [] = Unit {0}
 Rows P (row ∷ rows) = P row.0 row.1 × Rows P rows
@@ -113,110 +113,99 @@ either None p x is one other = other is
 either (Some y) p x is one other = one is
 
 -- kinds
+kind_told : (k : Kind) → (kind_of (word_of_kind k) ≡ Some k) × (length (word_of_kind k) ≤ 7) × Lacks 32 (word_of_kind k)
+unfolding kind_of
+kind_told kind.Task = (refl, lit≤ tt, (refl, (refl, (refl, (refl, tt)))))
+kind_told kind.Group = (refl, lit≤ tt, (refl, (refl, (refl, (refl, (refl, tt))))))
+kind_told kind.Session = (refl, lit≤ tt, (refl, (refl, (refl, (refl, (refl, (refl, (refl, tt))))))))
+
 pub kinds : Reads kind_of word_of_kind (λ k. Unit {0}) 7
 unfolding kind_of
-kinds = record { told = told; says = λ w k is. (named-says (λ w k. w ≡ word_of_kind k) ((codes "task", kind.Task) ∷ (codes "group", kind.Group) ∷ (codes "session", kind.Session) ∷ []) (refl ◂ refl ◂ refl ◂ tt) w k is, tt); short = short }
-  where
-    told : (k : Kind) → Unit {0} → kind_of (word_of_kind k) ≡ Some k
-    told kind.Task _ = refl
-    told kind.Group _ = refl
-    told kind.Session _ = refl
-
-    short : (k : Kind) → Unit {0} → length (word_of_kind k) ≤ 7
-    short kind.Task _ = lit≤ tt
-    short kind.Group _ = lit≤ tt
-    short kind.Session _ = lit≤ tt
+kinds = record {
+  told = λ k _. ((kind_told k).0, (kind_told k).1);
+  says = λ w k is.
+      (named-says (λ w k. w ≡ word_of_kind k) ((codes "task", kind.Task) ∷ (codes "group", kind.Group) ∷ (codes "session", kind.Session) ∷ [])
+      (refl ◂ refl ◂ refl ◂ tt) w k is, tt);
+}
 
 pub lacks_kind : (k : Kind) → Unit {0} → Lacks 32 (word_of_kind k)
-lacks_kind kind.Task _ = (refl, (refl, (refl, (refl, tt))))
-lacks_kind kind.Group _ = (refl, (refl, (refl, (refl, (refl, tt)))))
-lacks_kind kind.Session _ = (refl, (refl, (refl, (refl, (refl, (refl, (refl, tt)))))))
+lacks_kind k _ = (kind_told k).2
 
 -- a switch
 abbrev pub word_of_switch : Bool → List ℕ
 word_of_switch true = codes "on"
 word_of_switch false = codes "off"
 
+switch_told : (on : Bool) → Unit {0} → (switch_of (word_of_switch on) ≡ Some on) × (length (word_of_switch on) ≤ 3)
+unfolding switch_of
+switch_told true _ = (refl, lit≤ tt)
+switch_told false _ = (refl, lit≤ tt)
+
 pub switch : Reads switch_of word_of_switch (λ on. Unit {0}) 3
 unfolding switch_of
-switch = record { told = told; says = λ w on is. (named-says (λ w on. w ≡ word_of_switch on) ((codes "on", true) ∷ (codes "off", false) ∷ []) (refl ◂ refl ◂ tt) w on is, tt); short = short }
-  where
-    told : (on : Bool) → Unit {0} → switch_of (word_of_switch on) ≡ Some on
-    told true _ = refl
-    told false _ = refl
-
-    short : (on : Bool) → Unit {0} → length (word_of_switch on) ≤ 3
-    short true _ = lit≤ tt
-    short false _ = lit≤ tt
+switch = record {
+  told = switch_told;
+  says = λ w on is. (named-says (λ w on. w ≡ word_of_switch on) ((codes "on", true) ∷ (codes "off", false) ∷ []) (refl ◂ refl ◂ tt) w on is, tt);
+}
 
 -- the children that a wait selects
 abbrev pub text_of_which : Which → List ℕ
 text_of_which which = join_with_byte 32 (words_of_which which)
 
+which_told : (x : Which) → FitsWhich x → (which_of (text_of_which x) ≡ Some x) × (length (text_of_which x) ≤ 20)
+unfolding which_of numbered_of
+which_told Any fits = (refl, lit≤ tt)
+which_told OwnGroup fits = (refl, lit≤ tt)
+which_told (Pid n) fits = (rw (number_below-decimal (2 ^ 32) n fits (omega arith)), omega (arith, length_decimal_of_32 n fits))
+which_told (Group n) fits = (rw (number_below-decimal (2 ^ 32) n fits (omega arith)), omega (arith, length_decimal_of_32 n fits))
+
+abbrev IsWritten : List ℕ → Which → Type 0
+IsWritten words x = (words ≡ text_of_which x) × FitsWhich x
+
 pub which : Reads which_of text_of_which FitsWhich 20
 unfolding which_of numbered_of
 which = record {
-  told = told;
+  told = which_told;
   says = λ words x is.
-      either _ (numbered_of words) x is (named-says Written ((codes "any", Any) ∷ (codes "own", OwnGroup) ∷ []) ((refl, tt) ◂ (refl, tt) ◂ tt) words x)
+      let selectors : List (List ℕ × (ℕ → Which)) = (codes "pid", Pid) ∷ (codes "group", Group) ∷ [] in
+      either _ (numbered_of words) x is (named-says IsWritten ((codes "any", Any) ∷ (codes "own", OwnGroup) ∷ []) ((refl, tt) ◂ (refl, tt) ◂ tt) words x)
       (λ numbered.
       option_and_then_some _ (cut 32 words) x numbered (λ p cuts rest.
       option_and_then_some _ (process_of p.1) x rest (λ n number last.
       option_map_some _ (named selectors p.0) x last (λ selector one same.
       let a = number_below-Some (2 ^ 32) p.1 n number in
-      subst (Written words) same (subst (λ bytes. Written bytes (selector n)) (sym (cut-Some 32 words p cuts ∙ ap (λ w. p.0 ++ 32 ∷ w) (sym a.1)))
-      (named-says (λ word selector. Written (word ++ 32 ∷ decimal n) (selector n)) selectors ((refl, a.0) ◂ (refl, a.0) ◂ tt) p.0 selector one))))));
-  short = short;
+      subst (IsWritten words) same (subst (λ bytes. IsWritten bytes (selector n)) (sym (cut-Some 32 words p cuts ∙ ap (λ w. p.0 ++ 32 ∷ w) (sym a.1)))
+      (named-says (λ word selector. IsWritten (word ++ 32 ∷ decimal n) (selector n)) selectors ((refl, a.0) ◂ (refl, a.0) ◂ tt) p.0 selector one))))));
 }
-  where
-    selectors : List (List ℕ × (ℕ → Which))
-    selectors = (codes "pid", Pid) ∷ (codes "group", Group) ∷ []
-
-    Written : List ℕ → Which → Type 0
-    Written words x = (words ≡ text_of_which x) × FitsWhich x
-
-    told : (x : Which) → FitsWhich x → which_of (text_of_which x) ≡ Some x
-    told Any fits = refl
-    told OwnGroup fits = refl
-    told (Pid number) fits = rw (number_below-decimal (2 ^ 32) number fits (omega arith))
-    told (Group number) fits = rw (number_below-decimal (2 ^ 32) number fits (omega arith))
-
-    short : (x : Which) → FitsWhich x → length (text_of_which x) ≤ 20
-    short Any fits = lit≤ tt
-    short OwnGroup fits = lit≤ tt
-    short (Pid number) fits = omega (arith, length_decimal_of_32 number fits)
-    short (Group number) fits = omega (arith, length_decimal_of_32 number fits)
 
 -- a limit
 abbrev pub text_of_limit : Option ℕ → List ℕ
 text_of_limit None = codes "max"
 text_of_limit (Some limit) = decimal limit
 
+abbrev IsLimit : Option ℕ → Type 0
+IsLimit limit = IfSome limit (λ n. n < 2 ^ 32)
+
 pub false_from : (b : Bool) → (b ≡ true → ⊥) → b ≡ false
 false_from true never = absurd (never refl)
 false_from false never = refl
 
-not_max : (n : ℕ) → n < 2 ^ 64 → is_word (codes "max") (decimal n) ≡ false
-not_max n small = false_from _ (λ same.
-    let is : decimal n ≡ codes "max" = (bytes_eq-Decides (decimal n) (codes "max")).0 same in
-    not_in_digits numerals (decimal n) 109 (digits_decimal numerals n small) (λ range. absurd (omega (arith, range))) 0 (decimal_nonempty n small)
-    (ap (λ ds. get_or ds 0 0) is))
+limit_told : (x : Option ℕ) → IsLimit x → (limit_of (text_of_limit x) ≡ Some x) × (length (text_of_limit x) ≤ 20)
+unfolding limit_of
+limit_told None fits = (refl, lit≤ tt)
+limit_told (Some n) fits =
+    let not_max : is_word (codes "max") (decimal n) ≡ false = false_from _ (λ same.
+    not_in_digits numerals (decimal n) 109 (digits_decimal numerals n (omega arith)) (λ range. absurd (omega (arith, range))) 0 (decimal_nonempty n (omega arith))
+    (ap (λ ds. get_or ds 0 0) ((bytes_eq-Decides (decimal n) (codes "max")).0 same))) in
+    (rw (not_max, number_below-decimal (2 ^ 32) n fits (omega arith)), length_decimal_of_64 n (omega arith))
 
-pub limit : Reads limit_of text_of_limit (λ limit. IfSome limit (λ n. n < 2 ^ 32)) 20
+pub limit : Reads limit_of text_of_limit IsLimit 20
 unfolding limit_of
 limit = record {
-  told = told;
+  told = limit_told;
   says = λ w x is.
-      either _ (option_map Some (process_of w)) x is (named-says (λ w x. (w ≡ text_of_limit x) × IfSome x (λ n. n < 2 ^ 32)) ((codes "max", None) ∷ []) ((refl, tt) ◂ tt) w x)
-      (λ some. option_map_some _ (process_of w) x some (λ n number same. let a = number_below-Some (2 ^ 32) w n number in
-      subst (λ x. (w ≡ text_of_limit x) × IfSome x (λ n. n < 2 ^ 32)) same (sym a.1, a.0)));
-  short = short;
+      either _ (option_map Some (process_of w)) x is
+      (named-says (λ w x. (w ≡ text_of_limit x) × IsLimit x) ((codes "max", None) ∷ []) ((refl, tt) ◂ tt) w x)
+      (λ some. option_map_some _ (process_of w) x some (λ n number same.
+      let a = number_below-Some (2 ^ 32) w n number in subst (λ x. (w ≡ text_of_limit x) × IsLimit x) same (sym a.1, a.0)));
 }
-  where
-    told : (x : Option ℕ) → IfSome x (λ n. n < 2 ^ 32) → limit_of (text_of_limit x) ≡ Some x
-    told None fits = refl
-    told (Some n) fits = rw (not_max n (omega arith), number_below-decimal (2 ^ 32) n fits (omega arith))
-
-    short : (x : Option ℕ) → IfSome x (λ n. n < 2 ^ 32) → length (text_of_limit x) ≤ 20
-    short None fits = lit≤ tt
-    short (Some n) fits = length_decimal_of_64 n (omega arith)

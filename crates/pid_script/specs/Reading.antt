@@ -121,7 +121,8 @@ one first call words = option_map call (first words)
 abbrev pub two : {A B : Type 0} → (List ℕ → Option A) → (List ℕ → Option B) → (A → B → Call) → List ℕ → Option Call
 two first second call = one (pair first second) (λ p. call p.0 p.1)
 
-abbrev pub three : {A B C : Type 0} → (List ℕ → Option A) → (List ℕ → Option B) → (List ℕ → Option C) → (A → B → C → Call) → List ℕ → Option Call
+abbrev pub three : {A B C : Type 0} → (List ℕ → Option A) → (List ℕ → Option B) → (List ℕ → Option C) → (A → B → C → Call)
+    → List ℕ → Option Call
 three first second third call = one (pair first (pair second third)) (λ p. call p.0 p.1.0 p.1.1)
 
 -- a caller, and whether the word `new` follows it

@@ -257,7 +257,7 @@ fn read_five_letters(command: &[u8], words: &[u8]) -> Option<Call>
 }
 
 /// The call of a command of six letters and the words behind it.
-#[tactic(auto, using(crate::proofs::Commands::letters), unfolding(crate::specs::Reading::command_of))]
+#[tactic(auto, unfolding(crate::specs::Reading::command_of))]
 fn read_six_letters(command: &[u8], words: &[u8]) -> Option<Call>
     ensures { length command.now ≡ 6 → result ≡ command_of command.now words.now }
 {
@@ -270,7 +270,7 @@ fn read_six_letters(command: &[u8], words: &[u8]) -> Option<Call>
 }
 
 /// The call of a command of seven letters and the words behind it.
-#[tactic(auto, using(crate::proofs::Commands::letters), unfolding(crate::specs::Reading::command_of))]
+#[tactic(auto, unfolding(crate::specs::Reading::command_of))]
 fn read_seven_letters(command: &[u8], words: &[u8]) -> Option<Call>
     ensures { length command.now ≡ 7 → result ≡ command_of command.now words.now }
 {
@@ -283,7 +283,7 @@ fn read_seven_letters(command: &[u8], words: &[u8]) -> Option<Call>
 }
 
 /// The call of a command of nine letters and the words behind it.
-#[tactic(auto, using(crate::proofs::Commands::letters), unfolding(crate::specs::Reading::command_of))]
+#[tactic(auto, unfolding(crate::specs::Reading::command_of))]
 fn read_nine_letters(command: &[u8], words: &[u8]) -> Option<Call>
     ensures { length command.now ≡ 9 → result ≡ command_of command.now words.now }
 {
