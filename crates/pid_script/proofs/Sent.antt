@@ -75,6 +75,10 @@ pub OnOk-weaker : (T E : Type 0) (r : Result T E) (P Q : Type 0) → (P → Q) �
 OnOk-weaker T E (Ok x) P Q f p = f p
 OnOk-weaker T E (Err e) P Q f p = tt
 
+pub OnOk-both : (T E : Type 0) (r : Result T E) (P Q R : Type 0) → (P → Q → R) → OnOk r P → OnOk r Q → OnOk r R
+OnOk-both T E (Ok x) P Q R f p q = f p q
+OnOk-both T E (Err e) P Q R f p q = tt
+
 -- where sending stopped in the front, it stopped before what follows it
 pub stops_before : (did : List Event → Type 0) (bytes more : List ℕ) → Stops did bytes → Stops did (bytes ++ more)
 stops_before did bytes more at = (

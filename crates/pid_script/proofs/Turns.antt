@@ -9,7 +9,7 @@ use Rattle.pid_types.specs.DeviceLaws.{some_is_none, AreWell-more, readings-more
 use Rattle.pid_types.specs.declared.call.Call.{Call}
 use Rattle.pid_types.specs.declared.reply.Reply.{Reply}
 use Rattle.pid_script.specs.declared.line.Line.{Line}
-use Rattle.pid_script.specs.Script.{Progress, said_of, said_whole, said_within, kept_after, last_said}
+use Rattle.pid_script.specs.Script.{Progress, said_of, said_whole, said_within, kept_after, said_next}
 use Rattle.pid_script.specs.Session.{Answers, StopsShort, Halts, Breaks}
 use Rattle.pid_script.specs.Dialogue.{Sends, Stalls, is_end, lines_heard, IsAnswered, IsCutShort, Follows, Each, Converses}
 use Rattle.pid_script.specs.declared.tally.RunScriptFault.TheVariants.{Write}
@@ -56,15 +56,14 @@ pub record GoesOn (start p : Progress) (AreMade : List (Call × Reply) → Type 
 abbrev pub lines_of_turn : List ℕ → ℕ → List ℕ → List Line
 lines_of_turn read asked piece = if is_end (Reading asked (Some piece)) then said_of (read ++ piece) else said_whole (read ++ piece)
 
-pub lines_going : (read piece : List ℕ) (part : Option (List ℕ)) (asked : ℕ) → part ≡ kept_after (Some []) read → 0 < length piece
-    → said_within (Some []) read ++ said_within part piece ≡ lines_of_turn read asked piece
-lines_going read [] part asked is some = absurd (omega (arith, some))
-lines_going read (b ∷ bs) part asked is some = more_said read (b ∷ bs) part is ∙ said_within-whole (read ++ b ∷ bs)
+pub lines_next : (read piece : List ℕ) (part : Option (List ℕ)) (asked : ℕ) → part ≡ kept_after (Some []) read → 0 < asked
+    → said_within (Some []) read ++ said_next part piece ≡ lines_of_turn read asked piece
+lines_next read [] part asked is some = rw (lt-ltb 0 asked some) (last_of read part is ∙ ap said_of (sym (append-nil read)))
+lines_next read (b ∷ bs) part asked is some = more_said read (b ∷ bs) part is ∙ said_within-whole (read ++ b ∷ bs)
 
-pub lines_ended : (read piece : List ℕ) (part : Option (List ℕ)) (asked : ℕ) → part ≡ kept_after (Some []) read → piece ≡ [] → 0 < asked
-    → said_within (Some []) read ++ last_said part ≡ lines_of_turn read asked piece
-lines_ended read piece part asked is nothing some =
-    rw (nothing, lt-ltb 0 asked some) (last_of read part is ∙ ap said_of (sym (append-nil read)))
+pub next_within : (part : Option (List ℕ)) (piece : List ℕ) → 0 < length piece → said_next part piece ≡ said_within part piece
+next_within part [] some = absurd (omega arith)
+next_within part (b ∷ bs) some = refl
 
 -- lines whose answers were all written are answered, where they are those that were read
 pub all_answered : {AreMade : List (Call × Reply) → Type 0} (start p : Progress) (events : List Event) (lines : List Line) → Answers start p (λ sent. said events ≡ sent) AreMade lines → p.text ≡ [] → lines ≡ lines_heard events
@@ -128,6 +127,10 @@ turn_reads events asked given es none =
 pub goes_on : (asked : ℕ) (piece : List ℕ) → 0 < length piece → is_end (Reading asked (Some piece)) ≡ false
 goes_on asked [] some = absurd (omega (arith, some))
 goes_on asked (b ∷ bs) some = refl
+
+pub gave_none : (asked : ℕ) (piece : List ℕ) → is_end (Reading asked (Some piece)) ≡ true → length piece ≡ 0
+gave_none asked [] ends = refl
+gave_none asked (b ∷ bs) ends = cc
 
 -- a read, and then what was written, are done after what was done before
 pub turn_done : {S : Type 0} {did wrote : S → S → List Event → Type 0} → ((a b c : S) (xs ys : List Event) → did a b xs → did b c ys → did a c (xs ++ ys))

@@ -9,7 +9,8 @@ ghost use Rattle.pid_types.specs.State.{State};
 ghost use Rattle.pid_types.specs.declared.call.Call.{Call};
 ghost use Rattle.pid_types.specs.declared.reply.Reply.{Reply};
 ghost use Rattle.pid_script.specs.declared.tally.RunScriptFault.TheVariants.{NoMemory, Write};
-ghost use Rattle.pid_script.specs.Script.{begun, with_newline, HasStopped, said_within, kept_after, last_said};
+ghost use Rattle.pid_script.specs.Script.{begun, with_newline, HasStopped, said_within, kept_after};
+ghost use Rattle.pid_script.specs.Script.{last_said, said_next};
 ghost use Rattle.pid_script.specs.Answers.{answer_of, lent, replied};
 ghost use Rattle.pid_script.specs.Dialogue.{Converses, Queues, Responds, Stops};
 ghost use Rattle.pid_script.specs.Session.{Acts, made_by, ended_at, progress_of, IsTallied};
@@ -225,21 +226,50 @@ fn answer_last<T: Table, K: Sink>(
     answer_line(session, table, sink, line)
 }
 
-/// Answers what is left of a script that has ended, and writes all answers.
-fn finish<T: Table, K: Sink>(
+/// Answers what was read: the lines that end within the piece, or the last line, where nothing was read.
+fn answer_read<T: Table, K: Sink>(
     session: &mut Session,
     table: &mut T,
     sink: &mut K,
+    piece: &[u8],
 ) -> Result<(), RunScriptFault>
     requires counted { IsTallied session.old.tally }
-    requires room { session.old.tally.lines + 1 < 2 ^ 64 }
-    ensures { Responds result
+    requires room { session.old.tally.lines + length piece.now + 1 < 2 ^ 64 }
+    ensures told { Responds result
         (progress_of (T.state table.old) (T.stamp table.old) session.old.tally session.old.outbox)
-        (progress_of (T.state table.new) (T.stamp table.new) session.new.tally [])
-        (K.did sink.old sink.new) (T.did table.old table.new) (last_said session.old.part)
+        (progress_of (T.state table.new) (T.stamp table.new) session.new.tally session.new.outbox)
+        (K.did sink.old sink.new) (T.did table.old table.new) (said_next session.old.part piece.now)
         (K.has_failed sink.new) (K.is_full sink.new) }
+    ensures part { OnOk result (0 < length piece.now → session.new.part ≡ kept_after session.old.part piece.now) }
+    ensures counted { 0 < length piece.now → IsTallied session.new.tally }
+    ensures lines { 0 < length piece.now → session.new.tally.lines ≤ session.old.tally.lines + length piece.now }
 {
-    answer_last(session, table, sink)?;
+    if piece.is_empty() {
+        return answer_last(session, table, sink);
+    }
+    answer_chunk(session, table, sink, piece)
+}
+
+/// Answers what was read, and writes all answers.
+fn answer_piece<T: Table, K: Sink>(
+    session: &mut Session,
+    table: &mut T,
+    sink: &mut K,
+    piece: &[u8],
+) -> Result<(), RunScriptFault>
+    requires counted { IsTallied session.old.tally }
+    requires room { session.old.tally.lines + length piece.now + 1 < 2 ^ 64 }
+    ensures told { Responds result
+        (progress_of (T.state table.old) (T.stamp table.old) session.old.tally session.old.outbox)
+        (progress_of (T.state table.new) (T.stamp table.new) session.new.tally session.new.outbox)
+        (K.did sink.old sink.new) (T.did table.old table.new) (said_next session.old.part piece.now)
+        (K.has_failed sink.new) (K.is_full sink.new) }
+    ensures empty { OnOk result (session.new.outbox ≡ []) }
+    ensures part { OnOk result (0 < length piece.now → session.new.part ≡ kept_after session.old.part piece.now) }
+    ensures counted { 0 < length piece.now → IsTallied session.new.tally }
+    ensures lines { 0 < length piece.now → session.new.tally.lines ≤ session.old.tally.lines + length piece.now }
+{
+    answer_read(session, table, sink, piece)?;
     session.outbox.flush(sink)
 }
 
@@ -304,12 +334,10 @@ pub fn run_dialogue<T: Table, D: Dialogue>(
             Ok(count) => count,
             Err(_) => return Err(RunScriptFault::Read),
         };
+        answer_piece(&mut session, table, devices, &chunk[..count])?;
         if count == 0 {
-            finish(&mut session, table, devices)?;
             return Ok(session.tally);
         }
-        answer_chunk(&mut session, table, devices, &chunk[..count])?;
-        session.outbox.flush(devices)?;
     }
     Err(RunScriptFault::TooManyTurns)
 }
