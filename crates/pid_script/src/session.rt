@@ -4,11 +4,12 @@
 ghost use Rattle.std.specs.Prelude.{◌≡◌, ◌≢◌, Some, ◌+◌, ◌^◌, ◌<◌, ◌≤◌, ◌++◌, ◌∷◌, [], List, ℕ, length, OnOk, OnErr};
 ghost use Rattle.std.specs.Prelude.{IfOk, IfErr, Err, Option, IsSome, option_copied, IsTrue, if◌then◌else◌};
 ghost use Rattle.std.specs.Result.{is_ok};
-ghost use Rattle.pid_types.specs.Devices.{DidBoth};
+ghost use Rattle.std.specs.Io.KnownBytes.{ReadConsumes};
+ghost use Rattle.pid_types.specs.Devices.{DidBoth, reading};
 ghost use Rattle.pid_types.specs.State.{State};
 ghost use Rattle.pid_types.specs.declared.call.Call.{Call};
 ghost use Rattle.pid_types.specs.declared.reply.Reply.{Reply};
-ghost use Rattle.pid_script.specs.declared.tally.RunScriptFault.TheVariants.{NoMemory, Write};
+ghost use Rattle.pid_script.specs.declared.tally.RunScriptFault.TheVariants.{NoMemory, Read, Write};
 ghost use Rattle.pid_script.specs.Script.{begun, with_newline, HasStopped, said_within, kept_after};
 ghost use Rattle.pid_script.specs.Script.{last_said, said_next};
 ghost use Rattle.pid_script.specs.Answers.{answer_of, lent, replied};
@@ -62,6 +63,19 @@ pub struct Session {
     pub part: PartLine,
     pub outbox: Outbox,
     pub tally: Tally,
+}
+
+/// Reads once, into the front of the chunk.
+fn read_chunk<S: Source>(source: &mut S, chunk: &mut [u8]) -> Result<usize, RunScriptFault>
+    ensures event { S.did source.old source.new (reading (length chunk.old) result chunk.new ∷ []) }
+    ensures bound { IfOk result (λ n. n ≤ length chunk.new) }
+    ensures bytes { ReadConsumes (S.remaining source.old) (S.remaining source.new) result chunk.new }
+    ensures fails { IfErr result (λ e. (e ≡ Read) × IsTrue (S.has_failed source.new)) }
+{
+    match source.read(chunk) {
+        Ok(count) => Ok(count),
+        Err(_) => Err(RunScriptFault::Read),
+    }
 }
 
 /// Counts a call.
@@ -330,10 +344,7 @@ pub fn run_dialogue<T: Table, D: Dialogue>(
     let mut session = Session::new();
     let mut chunk = [0_u8; CHUNK];
     for _turn in 0..turns {
-        let count = match devices.read(&mut chunk) {
-            Ok(count) => count,
-            Err(_) => return Err(RunScriptFault::Read),
-        };
+        let count = read_chunk(devices, &mut chunk)?;
         answer_piece(&mut session, table, devices, &chunk[..count])?;
         if count == 0 {
             return Ok(session.tally);

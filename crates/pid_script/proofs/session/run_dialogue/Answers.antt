@@ -36,20 +36,21 @@ loop-turn-init g c =
       size = refl;
     }
 
-pub returns-in-Err : goal.returns-in-Err
-returns-in-Err g c =
+pub returns-in_err-count : goal.returns-in_err-count
+returns-in_err-count g c =
     let before = c.loop-turn.invariant in
+    let p = err_from_is_err_and c.from_residual.result c.from_residual.ensures.1 in
     let asked = length c.loop-turn.chunk in
     let few : asked ≤ 4096 = omega (arith, before.size) in
     let all = turn before.events asked None [] in
-    let done = g.met.D.Source.more _ _ _ before.events (Reading asked None ∷ []) before.done c.in-Err.ensures.event in
-    record {
+    let done = g.met.D.Source.more _ _ _ before.events (Reading asked None ∷ []) before.done c.in_err-count.ensures.event in
+    rw (p.1, p.2, c.in_err-count.ensures.fails.0) (record {
       ok = tt;
       err = (
         halts _ 0 before.events (is_answered before.on before.empty asked few) before.on.ends (omega arith)
             (subst (Consumes _ _) (turn_heard before.events asked None [] refl ∙ append-nil (heard before.events)) (g.met.D.Source.consumed _ _ all done))
             (subst (Appends _ _) (turn_said before.events asked None [] ∙ append-nil (said before.events)) (g.met.D.Sink.appended _ _ all ((g.met.D.Dialogue.one _ _ all).0 done))),
-        c.in-Err.ensures.fails,
+        c.in_err-count.ensures.fails.1,
       );
       talk = record {
         events = all;
@@ -62,7 +63,7 @@ returns-in-Err g c =
       whole = tt;
       made = λ is. cc;
       stopped = λ is. absurd (cc);
-    }
+    })
 
 pub returns : goal.returns
 returns g c =
@@ -91,13 +92,13 @@ returns-then-count-eq0 g c =
     let before = c.loop-turn.invariant in
     let asked = length c.loop-turn.chunk in
     let few : asked ≤ 4096 = omega (arith, before.size) in
-    let piece = take c.in-Ok.count c.read.new.buffer in
-    let nothing : piece ≡ [] = ap (λ n. take n c.read.new.buffer) c.if-count-eq0.true in
+    let piece = take c.in_ok-count.count c.read_chunk.new.chunk in
+    let nothing : piece ≡ [] = ap (λ n. take n c.read_chunk.new.chunk) c.if-count-eq0.true in
     let part = c.loop-turn.session.part in
     let more = c.in_ok-answer_piece.ensures.told.ok in
     let es = more.appended.events in
     let all = turn before.events asked (Some piece) es in
-    let done = turn_done g.met.D.Source.more g.met.D.Dialogue.one before.events asked (Some piece) es before.done c.in-Ok.ensures.event more.appended.done in
+    let done = turn_done g.met.D.Source.more g.met.D.Dialogue.one before.events asked (Some piece) es before.done c.in_ok-count.ensures.event more.appended.done in
     let wrote = (g.met.D.Dialogue.one _ _ all).0 done in
     let now = turned before.on before.empty asked few piece {IsAll = g.T.Table.did c.args.table.now c.answer_piece.new.table} (g.met.T.Table.more _ _ _) _ (said_next part piece) more in
     let lines = lines_next (heard before.events) piece part asked before.part (omega (arith, before.size)) ∙ sym (turn_lines before.on before.empty asked few piece es more.appended.writes) in
@@ -107,7 +108,7 @@ returns-then-count-eq0 g c =
       ok = finishes c.answer_piece.new.session.tally all now.answered c.in_ok-answer_piece.ensures.empty
           (lines ∙ ap (λ ended. if ended then said_of (heard all) else said_whole (heard all)) ends)
           (g.met.D.Source.consumed _ _ all done) (g.met.D.Sink.appended _ _ all wrote)
-          (subst IsAtEnd (sym (g.met.D.Dialogue.apart _ _ es more.appended.done more.appended.writes)) (c.in-Ok.ensures.bytes.1 c.if-count-eq0.true (omega (arith, before.size))));
+          (subst IsAtEnd (sym (g.met.D.Dialogue.apart _ _ es more.appended.done more.appended.writes)) (c.in_ok-count.ensures.bytes.1 c.if-count-eq0.true (omega (arith, before.size))));
       err = tt;
       talk = record {
         events = all;
@@ -125,20 +126,20 @@ returns-then-count-eq0 g c =
 pub returns-in_err-answer_piece : goal.returns-in_err-answer_piece
 returns-in_err-answer_piece g c =
     let before = c.loop-turn.invariant in
-    let p = err_from_is_err_and c.from_residual.result c.from_residual.ensures.1 in
+    let p = err_from_is_err_and c.from_residual-in_err-answer_piece.result c.from_residual-in_err-answer_piece.ensures.1 in
     let asked = length c.loop-turn.chunk in
     let few : asked ≤ 4096 = omega (arith, before.size) in
-    let piece = take c.in-Ok.count c.read.new.buffer in
+    let piece = take c.in_ok-count.count c.read_chunk.new.chunk in
     let part = c.loop-turn.session.part in
     let lines = said_next part piece in
     let stops = c.in_err-answer_piece.ensures.told.err in
     let are = lines_next (heard before.events) piece part asked before.part (omega (arith, before.size)) in
     let all = turn before.events asked (Some piece) (stalled stops) in
-    let done = turn_done g.met.D.Source.more g.met.D.Dialogue.one before.events asked (Some piece) (stalled stops) before.done c.in-Ok.ensures.event stops.appended.done in
-    let none : is_end (Reading asked (Some piece)) ≡ true → c.in-Ok.count ≡ 0 = λ ends. omega (arith, gave_none asked piece ends, length-take-le c.in-Ok.count c.read.new.buffer c.in-Ok.ensures.bound) in
+    let done = turn_done g.met.D.Source.more g.met.D.Dialogue.one before.events asked (Some piece) (stalled stops) before.done c.in_ok-count.ensures.event stops.appended.done in
+    let none : is_end (Reading asked (Some piece)) ≡ true → c.in_ok-count.count ≡ 0 = λ ends. omega (arith, gave_none asked piece ends, length-take-le c.in_ok-count.count c.read_chunk.new.chunk c.in_ok-count.ensures.bound) in
     rw (p.1, p.2, c.in_err-answer_piece.ensures.told.fault) (record {
       ok = tt;
-      err = stalled_breaks before.on before.empty asked few piece lines stops are (λ ends silent. subst IsAtEnd (sym (g.met.D.Dialogue.apart _ _ (stalled stops) stops.appended.done silent)) (c.in-Ok.ensures.bytes.1 (none ends) (omega (arith, before.size))))
+      err = stalled_breaks before.on before.empty asked few piece lines stops are (λ ends silent. subst IsAtEnd (sym (g.met.D.Dialogue.apart _ _ (stalled stops) stops.appended.done silent)) (c.in_ok-count.ensures.bytes.1 (none ends) (omega (arith, before.size))))
           (g.met.D.Source.consumed _ _ all done) (g.met.D.Sink.appended _ _ all ((g.met.D.Dialogue.one _ _ all).0 done));
       talk = stalled_talk before.on before.empty asked few piece lines stops are c.args.turns (omega (arith, before.turns, c.loop-turn-test.true)) done;
       same = g.met.D.Dialogue.same _ _ all done;
@@ -152,12 +153,12 @@ loop-turn-preserved g c =
     let before = c.loop-turn.invariant in
     let asked = length c.loop-turn.chunk in
     let few : asked ≤ 4096 = omega (arith, before.size) in
-    let piece = take c.in-Ok.count c.read.new.buffer in
+    let piece = take c.in_ok-count.count c.read_chunk.new.chunk in
     let part = c.loop-turn.session.part in
     let read = c.in_ok-answer_piece.ensures in
-    let within = c.in-Ok.ensures.bound in
+    let within = c.in_ok-count.ensures.bound in
     let len = length-append (heard before.events) piece in
-    let piece_len = length-take-le c.in-Ok.count c.read.new.buffer within in
+    let piece_len = length-take-le c.in_ok-count.count c.read_chunk.new.chunk within in
     let more = read.told.ok in
     let es = more.appended.events in
     let writes = more.appended.writes in
@@ -168,7 +169,7 @@ loop-turn-preserved g c =
     let now = turned before.on before.empty asked few piece {IsAll = g.T.Table.did c.args.table.now c.answer_piece.new.table} (g.met.T.Table.more _ _ _) _ (said_next part piece) more in
     record {
       events = turn before.events asked (Some piece) es;
-      done = turn_done g.met.D.Source.more g.met.D.Dialogue.one before.events asked (Some piece) es before.done c.in-Ok.ensures.event more.appended.done;
+      done = turn_done g.met.D.Source.more g.met.D.Dialogue.one before.events asked (Some piece) es before.done c.in_ok-count.ensures.event more.appended.done;
       on = record {
         each = now.each;
         well = now.well;
