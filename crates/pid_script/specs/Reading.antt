@@ -57,6 +57,10 @@ unfoldable pub signed_of : List ℕ → Option ℤ
 signed_of [] = None
 signed_of (b ∷ bs) = if b == 45 then negative_of bs else option_map pos (number_below (2 ^ 31) (b ∷ bs))
 
+-- no minus sign stands in front
+abbrev pub IsUnsigned : List ℕ → Type 0
+IsUnsigned word = 0 < length word → slice_index word 0 ≢ 45
+
 -- what is read of the word before the first space, and what stands after that space
 abbrev pub before : {A : Type 0} → (List ℕ → Option A) → List ℕ → Option (A × List ℕ)
 before read words = do
