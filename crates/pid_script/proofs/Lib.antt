@@ -2,7 +2,6 @@ pub mod Cuts
 pub mod Digits
 pub mod Numbers
 pub mod Words
-pub mod Prefixes
 pub mod Read
 pub mod Commands
 pub mod Room

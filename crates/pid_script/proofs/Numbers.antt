@@ -16,7 +16,6 @@ use Rattle.std.proofs.lemmas.Int.Digits.{digits_value_more, digits_more}
 use Rattle.std.proofs.lemmas.Str.{digit_value_digit}
 use Rattle.std.proofs.lemmas.Option.{none-some, same_Some, option_and_then_some}
 use Rattle.pid_script.proofs.Cuts.{by_test, cut-Some, cut-found, option_map_some}
-use Rattle.pid_script.proofs.Search.{found}
 use Rattle.std.proofs.lemmas.Fmt.{digits_decimal, digits_value-decimal, decimal-digits_value, decimal_nonempty, first_decimal, decimal_digit}
 use Rattle.pid_script.specs.Reading.{IsFreeOf, IsFrontOf, IsPlain, cut, number_below, number_then, negative_of, signed_of}
 
@@ -193,7 +192,7 @@ pub front_then : (words : List ℕ) (i n : ℕ) → IsFrontOf words i n → i < 
     → Some (n, drop (i + 1) words) ≡ number_then (2 ^ 32) words
 front_then words i n front lt space plain =
     let long = length-take-le i words front.within in
-    let cuts : cut 32 words ≡ Some (take i words, drop (i + 1) words) = cut-found 32 words i (sym (found 32 words i lt (no_space words i n front) space)) in
+    let cuts : cut 32 words ≡ Some (take i words, drop (i + 1) words) = cut-found 32 words i (record { within = lt; is = space; free = no_space words i n front }) in
     sym (rw (cuts, short_some (take i words) n (omega (arith, long, front.few)) plain front.all front.value))
 
 -- where there is no number, there is none with a minus sign

@@ -65,20 +65,6 @@ pub OnErr-always : (T E : Type 0) (r : Result T E) (P : Type 0) → P → OnErr 
 OnErr-always T E (Ok x) P p = tt
 OnErr-always T E (Err e) P p = p
 
--- a fact that follows at an error
-pub OnErr-weaker : (T E : Type 0) (r : Result T E) (P Q : Type 0) → (P → Q) → OnErr r P → OnErr r Q
-OnErr-weaker T E (Ok x) P Q f p = tt
-OnErr-weaker T E (Err e) P Q f p = f p
-
--- a fact that follows at a success
-pub OnOk-weaker : (T E : Type 0) (r : Result T E) (P Q : Type 0) → (P → Q) → OnOk r P → OnOk r Q
-OnOk-weaker T E (Ok x) P Q f p = f p
-OnOk-weaker T E (Err e) P Q f p = tt
-
-pub OnOk-both : (T E : Type 0) (r : Result T E) (P Q R : Type 0) → (P → Q → R) → OnOk r P → OnOk r Q → OnOk r R
-OnOk-both T E (Ok x) P Q R f p q = f p q
-OnOk-both T E (Err e) P Q R f p q = tt
-
 -- where sending stopped in the front, it stopped before what follows it
 pub stops_before : (did : List Event → Type 0) (bytes more : List ℕ) → Stops did bytes → Stops did (bytes ++ more)
 stops_before did bytes more at = (

@@ -26,6 +26,12 @@ is_word word bytes = bytes_eq bytes word
 abbrev pub IsFreeOf : ℕ → ℕ → List ℕ → Type 0
 IsFreeOf byte end bytes = (k : ℕ) → k < end → slice_index bytes k ≢ byte
 
+-- the first such byte stands at this index
+pub record IsFirstOf (byte index : ℕ) (bytes : List ℕ) : Type 0 where
+  pub within : index < length bytes
+  pub is : slice_index bytes index ≡ byte
+  pub free : IsFreeOf byte index bytes
+
 -- what stands before the first such byte, and what stands after it
 abbrev pub cut : ℕ → List ℕ → Option (List ℕ × List ℕ)
 cut byte [] = None

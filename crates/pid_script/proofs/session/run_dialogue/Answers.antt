@@ -6,8 +6,9 @@ use Rattle.std.specs.Io.KnownBytes.{Appends, Consumes, IsAtEnd}
 use Rattle.pid_types.specs.Devices.{Reading, heard, said}
 use Rattle.pid_script.specs.declared.tally.Tally.{Tally}
 use Rattle.pid_script.specs.Script.{said_of, said_whole, said_within, kept_after, said_next}
+use Rattle.pid_script.specs.Session.{Answers}
 use Rattle.pid_script.specs.Dialogue.{is_end}
-use Rattle.pid_script.proofs.Progress.{Answers-begun, Answers-same}
+use Rattle.pid_script.proofs.Progress.{Answers-begun}
 use Rattle.pid_script.proofs.Turns.{turn, turn_heard, turn_said, turn_reads, turn_done, turn_lines, turned, stalled, stalled_breaks, stalled_talk, goes_on, read_follows, is_answered, all_answered, halts, lines_next, next_within, gave_none}
 use Rattle.pid_script.proofs.Ends.{finishes, more_said, more_kept}
 use Rattle.pid_script.proofs.session.run_dialogue.Goals as goal
@@ -174,7 +175,7 @@ loop-turn-preserved g c =
         each = now.each;
         well = now.well;
         ends = now.ends ∙ goes_on asked piece some;
-        answered = Answers-same _ _ _ _ _ _ (ap (λ ls. said_within (Some []) (heard before.events) ++ ls) (next_within part piece some) ∙ more_said (heard before.events) piece part before.part ∙ ap (said_within (Some [])) (sym same)) now.answered;
+        answered = subst (Answers _ _ _ _) (ap (λ ls. said_within (Some []) (heard before.events) ++ ls) (next_within part piece some) ∙ more_said (heard before.events) piece part before.part ∙ ap (said_within (Some [])) (sym same)) now.answered;
       };
       part = more_kept (heard before.events) piece part _ before.part (read.part some) ∙ ap (kept_after (Some [])) (sym same);
       empty = read.empty;
