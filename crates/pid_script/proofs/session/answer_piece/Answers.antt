@@ -12,3 +12,6 @@ pub returns-clause-told : goal.returns-clause-told
 returns-clause-told g c =
     let sent = c.flush.ensures in
     flushes c.flush.result (g.met.K.Sink.more _ _ _) c.in_ok-answer_read.ensures.told.ok sent.ok sent.empty sent.err sent.fault sent.stopped
+
+pub returns-clause-empty : goal.returns-clause-empty
+returns-clause-empty g c = c.flush.ensures.empty

@@ -66,27 +66,26 @@ returns-in_err-count g c =
       stopped = λ is. absurd (cc);
     })
 
-pub returns : goal.returns
-returns g c =
+pub returns-clause-err : goal.returns-clause-err
+returns-clause-err g c =
+    let before = c.loop-turn.invariant in
+    halts _ c.args.turns before.events (is_answered before.on before.empty 0 (omega arith)) before.on.ends (omega (arith, before.long, c.loop-turn-test.false))
+    (g.met.D.Source.consumed _ _ before.events before.done) (g.met.D.Sink.appended _ _ before.events ((g.met.D.Dialogue.one _ _ before.events).0 before.done))
+
+pub returns-clause-talk : goal.returns-clause-talk
+returns-clause-talk g c =
     let before = c.loop-turn.invariant in
     let turns = c.loop-turn.auto._turn-end in
-    let answered = is_answered before.on before.empty 0 (omega arith) in
     record {
-      ok = tt;
-      err = halts _ c.args.turns before.events answered before.on.ends (omega (arith, before.long, c.loop-turn-test.false))
-          (g.met.D.Source.consumed _ _ before.events before.done) (g.met.D.Sink.appended _ _ before.events ((g.met.D.Dialogue.one _ _ before.events).0 before.done));
-      talk = record {
-        events = before.events;
-        done = before.done;
-        each = before.on.each;
-        few = omega (arith, before.turns, turns);
-        ended = (before.on.well, before.on.ends, omega (arith, before.turns, turns, c.loop-turn-test.false), answered);
-      };
-      same = g.met.D.Dialogue.same _ _ before.events before.done;
-      whole = tt;
-      made = λ is. cc;
-      stopped = λ is. absurd (cc);
+      events = before.events;
+      done = before.done;
+      each = before.on.each;
+      few = omega (arith, before.turns, turns);
+      ended = (before.on.well, before.on.ends, omega (arith, before.turns, turns, c.loop-turn-test.false), is_answered before.on before.empty 0 (omega arith));
     }
+
+pub returns-clause-same : goal.returns-clause-same
+returns-clause-same g c = let before = c.loop-turn.invariant in g.met.D.Dialogue.same _ _ before.events before.done
 
 pub returns-then-count-eq0 : goal.returns-then-count-eq0
 returns-then-count-eq0 g c =
