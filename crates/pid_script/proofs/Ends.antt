@@ -1,14 +1,6 @@
 -- How a script ends.
 use Rattle.std.proofs.Common.{◌≡◌, ℕ, List, [], ◌++◌, Option, Some, sym, ap, ◌∙◌, subst, append-nil}
-use Rattle.std.specs.Io.KnownBytes.{Appends, Consumes, IsAtEnd}
-use Rattle.pid_types.specs.State.{State}
-use Rattle.pid_types.specs.declared.call.Call.{Call}
-use Rattle.pid_types.specs.declared.reply.Reply.{Reply}
-use Rattle.pid_types.specs.Devices.{Event, heard, said}
-use Rattle.pid_script.specs.declared.line.Line.{Line}
-use Rattle.pid_script.specs.declared.tally.Tally.{Tally}
-use Rattle.pid_script.specs.Script.{begun, said_of, said_within, kept_after, last_said}
-use Rattle.pid_script.specs.Session.{progress_of, ended_at, Answers, Finishes}
+use Rattle.pid_script.proofs.Names.{Appends, Consumes, IsAtEnd, State, Call, Reply, Event, heard, said, Line, Tally, begun, said_of, said_within, kept_after, last_said, progress_of, ended_at, Answers, Finishes}
 use Rattle.pid_script.proofs.Said.{said_within-all}
 use Rattle.pid_script.proofs.Within.{said_within-append, kept_after-append}
 

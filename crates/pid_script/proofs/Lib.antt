@@ -1,3 +1,4 @@
+pub mod Names
 pub mod Cuts
 pub mod Digits
 pub mod Numbers

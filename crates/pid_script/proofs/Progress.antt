@@ -3,21 +3,9 @@ use Rattle.std.proofs.Common.{◌≡◌, ℕ, ◌+◌, ◌-◌, ◌^◌, Bool, t
 use Rattle.std.proofs.lemmas.Bool.{ne_eqb}
 use Rattle.std.proofs.lemmas.List.Sums.{fold-append}
 use Rattle.std.proofs.lemmas.List.{map-append}
-use Rattle.pid_types.specs.declared.call.Call.{Call}
-use Rattle.pid_types.specs.declared.reply.CallFault.{CallFault}
+use Rattle.pid_script.proofs.Names.{Call, CallFault, Reply, State, Line, Tally, reply_text, fault_text, answer_of, replied, Progress, HasStopped, begun, with_newline, told, stepped, after_call, after_saying, after_line, after_script, Acts, made_by, Leads, ended_at, progress_of, Answers, StopsShort, Event, RunScriptFault, Write, Sends, Stalls, Queues, Stops, Responds}
 use Rattle.pid_types.specs.declared.reply.CallFault.TheVariants.{NoMemory, Spent}
-use Rattle.pid_types.specs.declared.reply.Reply.{Reply}
-use Rattle.pid_types.specs.State.{State}
-use Rattle.pid_script.specs.declared.line.Line.{Line}
 use Rattle.pid_script.specs.declared.line.Line.TheVariants as says
-use Rattle.pid_script.specs.declared.tally.Tally.{Tally}
-use Rattle.pid_script.specs.Answers.{reply_text, fault_text, answer_of, replied}
-use Rattle.pid_script.specs.Script.{Progress, HasStopped, begun, with_newline, told, stepped, after_call, after_saying, after_line, after_script}
-use Rattle.pid_script.specs.Session.{Acts, made_by, Leads, ended_at, progress_of, Answers, StopsShort}
-use Rattle.pid_types.specs.Devices.{Event}
-use Rattle.pid_script.specs.declared.tally.RunScriptFault.{RunScriptFault}
-use Rattle.pid_script.specs.declared.tally.RunScriptFault.TheVariants.{Write}
-use Rattle.pid_script.specs.Dialogue.{Sends, Stalls, Queues, Stops, Responds}
 use Rattle.pid_script.proofs.Sent.{Joins, Sends-more, Stalls-more}
 
 -- two ways are as far if each of their parts is

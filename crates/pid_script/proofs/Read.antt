@@ -111,10 +111,7 @@ parsed-line_of (Fork caller false) fits = rw (number_below-decimal (2 ^ 32) call
 parsed-line_of (Fork caller true) fits = rw (no_number caller (codes "new")) (tells (behind new) (λ p. Fork p.0 p.1) (caller, true) (fits, refl))
 parsed-line_of (Exec caller) fits = tells process Exec caller fits
 parsed-line_of (Exit caller status) fits = tells (behind (number (2 ^ 8) (lit≤ tt))) (λ p. Exit p.0 p.1) (caller, status) fits
-parsed-line_of (Wait caller Any) fits = tells (behind which) (λ p. Wait p.0 p.1) (caller, Any) fits
-parsed-line_of (Wait caller OwnGroup) fits = tells (behind which) (λ p. Wait p.0 p.1) (caller, OwnGroup) fits
-parsed-line_of (Wait caller (Pid number)) fits = tells (behind which) (λ p. Wait p.0 p.1) (caller, Pid number) fits
-parsed-line_of (Wait caller (Group number)) fits = tells (behind which) (λ p. Wait p.0 p.1) (caller, Group number) fits
+parsed-line_of (Wait caller some) fits = ap parsed (sym (wait_line caller some)) ∙ tells (behind which) (λ p. Wait p.0 p.1) (caller, some) fits
 parsed-line_of (SetPgid caller pid pgid) fits =
     tells (behind (both signed lacks_signed signed)) (λ p. SetPgid p.0 p.1.0 p.1.1) (caller, (pid, pgid)) (fits.0, (fits.1, fits.2))
 parsed-line_of (SetSid caller) fits = tells process SetSid caller fits
@@ -127,13 +124,11 @@ parsed-line_of (Next caller kind from) fits =
     tells (behind (both kinds lacks_kind process)) (λ p. Next p.0 p.1.0 p.1.1) (caller, (kind, from)) (fits.0, (tt, fits.1))
 parsed-line_of (MakeControl parent) fits = tells control MakeControl parent fits
 parsed-line_of (RemoveControl id) fits = tells control RemoveControl id fits
-parsed-line_of (SetLimit id (Some most)) fits = tells (both control lacks_decimal limit) (λ p. SetLimit p.0 p.1) (id, Some most) fits
-parsed-line_of (SetLimit id None) fits = tells (both control lacks_decimal limit) (λ p. SetLimit p.0 p.1) (id, None) fits
+parsed-line_of (SetLimit id most) fits = ap parsed (sym (limit_line id most)) ∙ tells (both control lacks_decimal limit) (λ p. SetLimit p.0 p.1) (id, most) fits
 parsed-line_of (Move task id) fits = tells (behind control) (λ p. Move p.0 p.1) (task, id) fits
 parsed-line_of (Count id) fits = tells control Count id fits
 parsed-line_of (Join caller target) fits = tells (behind process) (λ p. Join p.0 p.1) (caller, target) fits
-parsed-line_of (SetSubreaper caller true) fits = tells (behind switch) (λ p. SetSubreaper p.0 p.1) (caller, true) (fits, tt)
-parsed-line_of (SetSubreaper caller false) fits = tells (behind switch) (λ p. SetSubreaper p.0 p.1) (caller, false) (fits, tt)
+parsed-line_of (SetSubreaper caller on) fits = ap parsed (sym (subreaper_line caller on)) ∙ tells (behind switch) (λ p. SetSubreaper p.0 p.1) (caller, on) (fits, tt)
 
 says_call : (o : Option Call) (c : Call) → call_or_bad o ≡ says.Call c → o ≡ Some c
 says_call None c is = cc

@@ -2,9 +2,7 @@
 use Rattle.std.proofs.Common.{◌≡◌, ℕ, List, [], ◌∷◌, ◌++◌, Option, Some, refl, sym, ap, ◌∙◌, subst, append_assoc, append-nil, Result, Ok, Err, OnOk, OnErr, length, length-append, ◌<◌, take, drop, take-append-drop, ◌-◌, ◌≤◌, arith}
 use Rattle.std.proofs.lemmas.Slice.{between_to_end}
 use Rattle.std.proofs.lemmas.List.Concat.{flat_map-append}
-use Rattle.pid_types.specs.Devices.{Event, Writing, said_by, IsWell}
-use Rattle.pid_types.specs.DeviceLaws.{AreWell-more, no_readings}
-use Rattle.pid_script.specs.Dialogue.{Sends, Stalls, Stops}
+use Rattle.pid_script.proofs.Names.{Event, Writing, said_by, IsWell, AreWell-more, no_readings, Sends, Stalls, Stops}
 
 -- what is done one after another
 abbrev pub Joins : (List Event → Type 0) → (List Event → Type 0) → (List Event → Type 0) → Type 0

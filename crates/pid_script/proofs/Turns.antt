@@ -3,16 +3,7 @@ use Rattle.std.proofs.Common.{◌≡◌, ℕ, ◌+◌, ◌<◌, ◌≤◌, Bool,
 use Rattle.std.specs.List.{list_any}
 use Rattle.std.proofs.lemmas.List.Folds.{list_any-append}
 use Rattle.std.proofs.lemmas.List.Concat.{flat_map-append}
-use Rattle.std.specs.Io.KnownBytes.{Appends, Consumes, IsAtEnd}
-use Rattle.pid_types.specs.Devices.{Event, Reading, Writing, heard_by, heard, said_by, said, readings, IsWell, AreWell}
-use Rattle.pid_types.specs.DeviceLaws.{some_is_none, AreWell-more, readings-more, no_readings}
-use Rattle.pid_types.specs.declared.call.Call.{Call}
-use Rattle.pid_types.specs.declared.reply.Reply.{Reply}
-use Rattle.pid_script.specs.declared.line.Line.{Line}
-use Rattle.pid_script.specs.Script.{Progress, said_of, said_whole, said_within, kept_after, said_next}
-use Rattle.pid_script.specs.Session.{Answers, StopsShort, Halts, Breaks}
-use Rattle.pid_script.specs.Dialogue.{Sends, Stalls, is_end, lines_heard, IsAnswered, IsCutShort, Follows, Each, Converses}
-use Rattle.pid_script.specs.declared.tally.RunScriptFault.TheVariants.{Write}
+use Rattle.pid_script.proofs.Names.{Appends, Consumes, IsAtEnd, Event, Reading, Writing, heard_by, heard, said_by, said, readings, IsWell, AreWell, some_is_none, AreWell-more, readings-more, no_readings, Call, Reply, Line, Progress, said_of, said_whole, said_within, kept_after, said_next, Answers, StopsShort, Halts, Breaks, Sends, Stalls, is_end, lines_heard, IsAnswered, IsCutShort, Follows, Each, Converses, Write}
 use Rattle.pid_script.proofs.Said.{said_within-whole}
 use Rattle.pid_script.proofs.Progress.{Answers-more, StopsShort-more}
 use Rattle.pid_script.proofs.Ends.{more_said, last_of}

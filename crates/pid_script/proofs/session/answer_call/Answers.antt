@@ -1,5 +1,4 @@
-use Rattle.pid_script.specs.Script.{with_newline}
-use Rattle.pid_script.specs.Answers.{answer_of, replied}
+use Rattle.pid_script.proofs.Names.{with_newline, answer_of, replied}
 use Rattle.pid_script.proofs.Progress.{call_leads, responds}
 use Rattle.pid_script.proofs.session.answer_call.Goals as goal
 

@@ -1,8 +1,7 @@
 -- As in a job, the lines that a chunk ends follow those before it; each is answered by the table as it stands after the last
 use Rattle.std.proofs.Common.{◌++◌, ◌∷◌, [], Some, sym, ap, ◌∙◌, append-nil, arith, refl, subst}
 use Rattle.std.proofs.lemmas.Result.{err_from_is_err_and}
-use Rattle.pid_script.specs.Script.{said_within, kept_after}
-use Rattle.pid_script.specs.Session.{Answers, StopsShort}
+use Rattle.pid_script.proofs.Names.{said_within, kept_after, Answers, StopsShort}
 use Rattle.pid_script.proofs.Within.{first_end, no_end, said_more}
 use Rattle.pid_script.proofs.Sent.{Sends-nothing, Sends-more, Stalls-more}
 use Rattle.pid_script.proofs.Progress.{Answers-nothing, Answers-more, StopsShort-more, StopsShort-later}

@@ -1,6 +1,5 @@
 use Rattle.std.proofs.Common.{sym, ap, subst}
-use Rattle.pid_script.specs.Script.{last_said}
-use Rattle.pid_script.specs.Session.{Answers}
+use Rattle.pid_script.proofs.Names.{last_said, Answers}
 use Rattle.pid_script.proofs.Sent.{Sends-nothing}
 use Rattle.pid_script.proofs.Progress.{Answers-nothing}
 use Rattle.pid_script.proofs.session.answer_last.Goals as goal

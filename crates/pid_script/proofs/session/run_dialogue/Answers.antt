@@ -2,12 +2,7 @@
 use Rattle.std.proofs.Common.{◌≡◌, ◌<◌, ◌≤◌, ◌++◌, ◌+◌, ◌∷◌, [], Some, None, true, if◌then◌else◌, take, length, refl, sym, ap, ◌∙◌, subst, arith, append-nil, length-append, length-take-le, nat_lt}
 use Rattle.std.proofs.lemmas.Bool.{false≢true}
 use Rattle.std.proofs.lemmas.Result.{err_from_is_err_and}
-use Rattle.std.specs.Io.KnownBytes.{Appends, Consumes, IsAtEnd}
-use Rattle.pid_types.specs.Devices.{Reading, heard, said}
-use Rattle.pid_script.specs.declared.tally.Tally.{Tally}
-use Rattle.pid_script.specs.Script.{said_of, said_whole, said_within, kept_after, said_next}
-use Rattle.pid_script.specs.Session.{Answers}
-use Rattle.pid_script.specs.Dialogue.{is_end}
+use Rattle.pid_script.proofs.Names.{Appends, Consumes, IsAtEnd, Reading, heard, said, Tally, said_of, said_whole, said_within, kept_after, said_next, Answers, is_end}
 use Rattle.pid_script.proofs.Progress.{Answers-begun}
 use Rattle.pid_script.proofs.Turns.{turn, turn_heard, turn_said, turn_reads, turn_done, turn_lines, turned, stalled, stalled_breaks, stalled_talk, goes_on, read_follows, is_answered, all_answered, halts, lines_next, next_within, gave_none}
 use Rattle.pid_script.proofs.Ends.{finishes, more_said, more_kept}
