@@ -1,22 +1,22 @@
 -- Numbers, and the words that they are written as.
 use Rattle.std.proofs.Common.{◌≡◌, ◌≢◌, ℕ, ◌+◌, ◌*◌, ◌^◌, ◌<◌, ◌≤◌, Bool, true, false, cond, ◌&&◌, eqb, ltb, List, [], ◌∷◌, ◌++◌, length, get_or, Option, Some, None, IfSome, IfNone, Result, Ok, Err, OkIff, decimal, refl, sym, ap, ◌∙◌, subst, arith, bytes_eq, lt-ltb, ltb-true, zero, suc, lit<, lit≤, inl, inr, length-append, take, drop, length-take-le, get_or-take, ℤ, pos, neg_ℤ, ◌-ℤ◌, FitsSigned, SomeIff, option_map, option_and_then, eq-eqb, eqb-true, ⊎_elim}
 use Rattle.std.specs.Result.{result_ok}
-use Rattle.std.specs.Int.{w32}
-use Rattle.std.specs.Fmt.{signed_decimal}
+pub use Rattle.std.specs.Int.{w32}
+pub use Rattle.std.specs.Fmt.{signed_decimal}
 use Rattle.std.specs.Char.{digit_value}
-use lib.IntN.{negsuc, +ℤ_idl}
-use Rattle.std.proofs.lemmas.List.{get_or-append-add, get_or_append_left, take_all, take_at}
+pub use lib.IntN.{negsuc, +ℤ_idl}
+pub use Rattle.std.proofs.lemmas.List.{get_or-append-add, get_or_append_left, take_all, take_at}
 use Rattle.std.proofs.lemmas.Slice.{between_to_end}
 use Rattle.std.proofs.lemmas.Bool.{cases_lt, ne_eqb}
-use Rattle.std.proofs.lemmas.Bool.Decides.{nat_tests}
-use Rattle.std.specs.Str.Parse.{AllDigits, digits_value}
-use Rattle.std.proofs.lemmas.Slice.Eq.{bytes_eq-Decides}
-use Rattle.std.proofs.lemmas.Str.Parse.{IsNumeralModel, numerals_by_value, tells_digits, not_in_digits, digit_from_value, digits_value-take-le, digits_value_short}
+pub use Rattle.std.proofs.lemmas.Bool.Decides.{nat_tests}
+pub use Rattle.std.specs.Str.Parse.{AllDigits, digits_value}
+pub use Rattle.std.proofs.lemmas.Slice.Eq.{bytes_eq-Decides}
+pub use Rattle.std.proofs.lemmas.Str.Parse.{IsNumeralModel, numerals_by_value, tells_digits, not_in_digits, digit_from_value, digits_value-take-le, digits_value_short}
 use Rattle.std.proofs.lemmas.Int.Digits.{digits_value_more, digits_more}
 use Rattle.std.proofs.lemmas.Str.{digit_value_digit}
-use Rattle.std.proofs.lemmas.Option.{none-some, same_Some, option_and_then_some}
+pub use Rattle.std.proofs.lemmas.Option.{none-some, same_Some, option_and_then_some}
 use Rattle.pid_script.proofs.Cuts.{by_test, cut-Some, cut-found, option_map_some}
-use Rattle.std.proofs.lemmas.Fmt.{digits_decimal, digits_value-decimal, decimal-digits_value, decimal_nonempty, first_decimal, decimal_digit}
+pub use Rattle.std.proofs.lemmas.Fmt.{digits_decimal, digits_value-decimal, decimal-digits_value, decimal_nonempty, first_decimal, decimal_digit}
 use Rattle.pid_script.specs.Reading.{IsFreeOf, IsFrontOf, IsPlain, cut, number_below, number_then, negative_of, signed_of}
 
 -- std's words for digits and their value

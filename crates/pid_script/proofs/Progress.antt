@@ -191,14 +191,6 @@ StopsShort-later p IsSent xs ys stops =
       some_left = omega (arith, stops.some_left, length-append stops.left more.0);
     }
 
--- a script that begins
-pub Answers-begun : (state : State) (stamp : ℕ) (tally : Tally) (held : List ℕ) (IsSent : List ℕ → Type 0) (AreMade : List (Call × Reply) → Type 0) → IsSent [] → AreMade []
-    → tally ≡ record { lines = 0; recorded = 0; bad = 0 } → held ≡ [] → Answers (begun state stamp) (progress_of state stamp tally held) IsSent AreMade []
-Answers-begun state stamp tally held IsSent AreMade nothing none zero empty =
-    subst (λ q. Answers (begun state stamp) q IsSent AreMade [])
-    ((λ i. progress_of state stamp (sym zero i) (sym empty i)))
-    (Answers-nothing (begun state stamp) IsSent AreMade nothing none)
-
 -- some lines, and then what waits is sent: all of it, or not
 pub flushes : {T : Type 0} {p : Progress} {state : State} {stamp : ℕ} {tally : Tally} {held held' : List ℕ} {lines : List Line} {first second all : List Event → Type 0} {AreMade : List (Call × Reply) → Type 0} {failed full : Bool}
     (r : Result T RunScriptFault) → Joins first second all → Answers p (progress_of state stamp tally held) (Sends first) AreMade lines

@@ -1,19 +1,13 @@
 -- Each call's line says that call, and a line that says a call is that call's line.
 use Rattle.std.proofs.Common.{◌≡◌, ◌≢◌, ℕ, ◌+◌, ◌^◌, ◌≤◌, Bool, true, false, List, [], ◌∷◌, ◌++◌, length, length-append, get_or, Option, Some, None, decimal, codes, refl, sym, ap, ◌∙◌, subst, arith, lit≤, option_map}
-use Rattle.std.proofs.lemmas.Option.{none-some, option_and_then_some}
-use Rattle.std.proofs.lemmas.List.{get_or-append-add}
-use Rattle.std.proofs.lemmas.Str.Parse.{not_in_digits}
-use Rattle.std.proofs.lemmas.Fmt.{digits_decimal}
 use Rattle.pid_types.specs.declared.call.Call.{Call}
 use Rattle.pid_types.specs.declared.call.Call.TheVariants.{Fork, GetPid, NsPid, Exec, Exit, Wait, GetPpid, SetSid, MakeControl, RemoveControl, SetLimit, Move, Count, GetPgid, GetSid, Next, Join, SetSubreaper, SetPgid}
-use Rattle.pid_types.specs.declared.call.Which.{Which}
-use Rattle.pid_types.specs.declared.call.Which.TheVariants.{Any, Pid, OwnGroup, Group}
 use Rattle.pid_script.specs.declared.line.Line.TheVariants as says
 use Rattle.pid_script.specs.Lines.{line_of, Fits, IsLineOf, Says}
 use Rattle.pid_script.specs.Reading.{cut, named, one, process_of, fork_of, fork_new_of, commands, command_of, call_of, call_or_bad, parsed}
 use Rattle.pid_script.proofs.Cuts.{cut-Some, option_map_some}
-use Rattle.pid_script.proofs.Numbers.{numerals, number_below-decimal, number_below-None}
-use Rattle.pid_script.proofs.Words.{◌◂◌, Reads, Rows, named-says, either, both, behind, process, control, number, signed, lacks_decimal, lacks_signed, lacks_kind, kinds, switch, which, limit, word_of_switch, text_of_which, text_of_limit}
+use Rattle.pid_script.proofs.Numbers.{numerals, number_below-decimal, number_below-None, none-some, option_and_then_some, get_or-append-add, not_in_digits, digits_decimal}
+use Rattle.pid_script.proofs.Words.{◌◂◌, Reads, Rows, named-says, either, both, behind, process, control, number, signed, lacks_decimal, lacks_signed, lacks_kind, kinds, switch, which, limit, word_of_switch, text_of_which, text_of_limit, Which, Any, Pid, OwnGroup, Group}
 
 -- what the words behind a command are read as is the call that is written so, which is no long line
 abbrev Spells : List ℕ → (List ℕ → Option Call) → Type 0

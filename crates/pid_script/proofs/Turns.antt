@@ -6,7 +6,7 @@ use Rattle.std.proofs.lemmas.List.Concat.{flat_map-append}
 use Rattle.pid_script.proofs.Names.{Appends, Consumes, IsAtEnd, Event, Reading, Writing, heard_by, heard, said_by, said, readings, IsWell, AreWell, some_is_none, AreWell-more, readings-more, no_readings, Call, Reply, Line, Progress, said_of, said_whole, said_within, kept_after, said_next, Answers, StopsShort, Halts, Breaks, Sends, Stalls, is_end, lines_heard, IsAnswered, IsCutShort, Follows, Each, Converses, Write}
 use Rattle.pid_script.proofs.Said.{said_within-whole}
 use Rattle.pid_script.proofs.Progress.{Answers-more, StopsShort-more}
-use Rattle.pid_script.proofs.Ends.{more_said, last_of}
+pub use Rattle.pid_script.proofs.Ends.{finishes, more_kept, more_said, last_of}
 
 -- each event of some, and then each of others
 pub Each-more : (P : List Event → Event → Type 0) (before xs ys : List Event) → Each P before xs → Each P (before ++ xs) ys → Each P before (xs ++ ys)
@@ -19,15 +19,10 @@ or_false true = refl
 or_false false = refl
 
 -- events among which there is no read hear nothing, and find no end
-pub hears_nothing : (es : List Event) → readings es ≡ [] → heard es ≡ []
-hears_nothing [] none = refl
+hears_nothing : (es : List Event) → readings es ≡ [] → (heard es ≡ []) × (list_any is_end es ≡ false)
+hears_nothing [] none = (refl, refl)
 hears_nothing (Reading asked given ∷ es) none = absurd (some_is_none _ _ none)
 hears_nothing (Writing offered taken ∷ es) none = hears_nothing es none
-
-pub finds_no_end : (es : List Event) → readings es ≡ [] → list_any is_end es ≡ false
-finds_no_end [] none = refl
-finds_no_end (Reading asked given ∷ es) none = absurd (some_is_none _ _ none)
-finds_no_end (Writing offered taken ∷ es) none = finds_no_end es none
 
 -- writes that took some may follow where no device has failed
 pub writes_follow : (start : Progress) (before es : List Event) → AreWell before → AreWell es → readings es ≡ [] → Each (Follows start) before es
@@ -95,7 +90,7 @@ turn events asked given es = events ++ Reading asked given ∷ es
 pub turn_heard : (events : List Event) (asked : ℕ) (given : Option (List ℕ)) (es : List Event) → readings es ≡ []
     → heard (turn events asked given es) ≡ heard events ++ heard_by (Reading asked given)
 turn_heard events asked given es none =
-    flat_map-append heard_by events (Reading asked given ∷ es) ∙ ap (λ rest. heard events ++ (heard_by (Reading asked given) ++ rest)) (hears_nothing es none)
+    flat_map-append heard_by events (Reading asked given ∷ es) ∙ ap (λ rest. heard events ++ (heard_by (Reading asked given) ++ rest)) (hears_nothing es none).0
     ∙ ap (λ rest. heard events ++ rest) (append-nil (heard_by (Reading asked given)))
 
 pub turn_said : (events : List Event) (asked : ℕ) (given : Option (List ℕ)) (es : List Event) → said (turn events asked given es) ≡ said events ++ said es
@@ -105,7 +100,7 @@ pub turn_end : (events : List Event) (asked : ℕ) (given : Option (List ℕ)) (
     → list_any is_end (turn events asked given es) ≡ is_end (Reading asked given)
 turn_end events asked given es none endless =
     list_any-append is_end events (Reading asked given ∷ es)
-    ∙ (λ i. endless i || (is_end (Reading asked given) || finds_no_end es none i))
+    ∙ (λ i. endless i || (is_end (Reading asked given) || (hears_nothing es none).1 i))
     ∙ or_false (is_end (Reading asked given))
 
 pub turn_reads : (events : List Event) (asked : ℕ) (given : Option (List ℕ)) (es : List Event) → readings es ≡ []
@@ -136,16 +131,18 @@ stalled stops = stops.appended.events ++ Writing stops.appended.offered stops.ap
 
 -- where a script goes on and nothing waits
 module _ {start p : Progress} {AreMade : List (Call × Reply) → Type 0} {events : List Event} (on : GoesOn start p AreMade (said_within (Some []) (heard events)) events false)
-    (empty : p.text ≡ []) (asked : ℕ) (few : asked ≤ 4096) where
+    (empty : p.text ≡ []) where
   -- all that was read is answered
   pub is_answered : IsAnswered start events
   is_answered =
       all_answered start p events (said_within (Some []) (heard events)) on.answered empty
       (said_within-whole (heard events) ∙ ap (λ ended. if ended then said_of (heard events) else said_whole (heard events)) (sym on.ends))
 
+module _ {start p : Progress} {AreMade : List (Call × Reply) → Type 0} {events : List Event} (on : GoesOn start p AreMade (said_within (Some []) (heard events)) events false)
+    (empty : p.text ≡ []) {asked : ℕ} (size : asked ≡ 4096) where
   -- a read may follow, and then what follows it
   pub read_follows : (given : Option (List ℕ)) (es : List Event) → Each (Follows start) (events ++ Reading asked given ∷ []) es → Each (Follows start) [] (turn events asked given es)
-  read_follows given es rest = Each-more (Follows start) [] events (Reading asked given ∷ es) on.each ((on.well, on.ends, few, is_answered), rest)
+  read_follows given es rest = Each-more (Follows start) [] events (Reading asked given ∷ es) on.each ((on.well, on.ends, omega (arith, size), is_answered on empty), rest)
 
   module _ (piece : List ℕ) where
     read_well : AreWell (events ++ Reading asked (Some piece) ∷ [])

@@ -1,24 +1,15 @@
 -- Words that are read as they are written, one behind another.
 use Rattle.std.proofs.Common.{◌≡◌, ◌≢◌, ℕ, ◌+◌, ◌^◌, ◌<◌, ◌≤◌, Bool, true, false, eqb, List, [], ◌∷◌, ◌++◌, length, length-append, get_or, Option, Some, None, IfSome, suc, decimal, codes, refl, sym, ap, ◌∙◌, subst, arith, ℤ, pos, FitsSigned, lit≤, option_map, option_and_then}
-use lib.IntN.{negsuc}
-use Rattle.std.specs.Int.{w32}
-use Rattle.std.specs.Fmt.{signed_decimal}
 use Rattle.std.specs.List.{join_with_byte}
 use Rattle.std.specs.Option.{option_or}
-use Rattle.std.specs.Str.Parse.{AllDigits}
-use Rattle.std.proofs.lemmas.Fmt.{digits_decimal, decimal_nonempty}
-use Rattle.std.proofs.lemmas.Str.Parse.{digit_from_value, not_in_digits}
-use Rattle.std.proofs.lemmas.Slice.Eq.{bytes_eq-Decides}
-use Rattle.std.proofs.lemmas.Bool.Decides.{nat_tests}
-use Rattle.std.proofs.lemmas.Option.{none-some, same_Some, option_and_then_some}
-use Rattle.pid_types.specs.declared.call.Which.{Which}
-use Rattle.pid_types.specs.declared.call.Which.TheVariants.{Any, Pid, OwnGroup, Group}
+pub use Rattle.pid_types.specs.declared.call.Which.{Which}
+pub use Rattle.pid_types.specs.declared.call.Which.TheVariants.{Any, Pid, OwnGroup, Group}
 use Rattle.pid_types.specs.declared.call.Kind.{Kind}
 use Rattle.pid_types.specs.declared.call.Kind.TheVariants as kind
 use Rattle.pid_script.specs.Lines.{word_of_kind, words_of_which, FitsWhich}
 use Rattle.pid_script.specs.Reading.{cut, number_below, signed_of, is_word, named, before, pair, process_of, control_of, numbered_of, which_of, kind_of, limit_of, switch_of}
 use Rattle.pid_script.proofs.Cuts.{Lacks, by_test, cut-append, cut-Some, option_map_some}
-use Rattle.pid_script.proofs.Numbers.{numerals, number_below-decimal, number_below-Some, signed_of-decimal, signed_of-Some}
+use Rattle.pid_script.proofs.Numbers.{numerals, number_below-decimal, number_below-Some, signed_of-decimal, signed_of-Some, negsuc, w32, signed_decimal, AllDigits, digits_decimal, decimal_nonempty, digit_from_value, not_in_digits, bytes_eq-Decides, nat_tests, none-some, same_Some, option_and_then_some}
 use Rattle.pid_script.proofs.Room.{length_decimal_of_32, length_decimal_of_64}
 
 -- what is written so is read as that, and is no longer than this; and nothing else is read

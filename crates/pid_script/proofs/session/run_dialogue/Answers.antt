@@ -3,16 +3,13 @@ use Rattle.std.proofs.Common.{◌≡◌, ◌<◌, ◌≤◌, ◌++◌, ◌+◌, 
 use Rattle.std.proofs.lemmas.Bool.{false≢true}
 use Rattle.std.proofs.lemmas.Result.{err_from_is_err_and}
 use Rattle.pid_script.proofs.Names.{Appends, Consumes, IsAtEnd, Reading, heard, said, Tally, said_of, said_whole, said_within, kept_after, said_next, Answers, is_end}
-use Rattle.pid_script.proofs.Progress.{Answers-begun}
-use Rattle.pid_script.proofs.Turns.{turn, turn_heard, turn_said, turn_reads, turn_done, turn_lines, turned, stalled, stalled_breaks, stalled_talk, goes_on, read_follows, is_answered, all_answered, halts, lines_next, next_within, gave_none}
-use Rattle.pid_script.proofs.Ends.{finishes, more_said, more_kept}
+use Rattle.pid_script.proofs.Progress.{Answers-nothing}
+use Rattle.pid_script.proofs.Turns.{finishes, more_said, more_kept, turn, turn_heard, turn_said, turn_reads, turn_done, turn_lines, turned, stalled, stalled_breaks, stalled_talk, goes_on, read_follows, is_answered, all_answered, halts, lines_next, next_within, gave_none}
 use Rattle.pid_script.proofs.session.run_dialogue.Goals as goal
 
 pub loop-turn-init : goal.loop-turn-init
 loop-turn-init g c =
-    let lines = ap (λ (t : Tally). t.lines) c.new-session.ensures.tally in
-    let recorded = ap (λ (t : Tally). t.recorded) c.new-session.ensures.tally in
-    let bad = ap (λ (t : Tally). t.bad) c.new-session.ensures.tally in
+    let begins = c.new-session.ensures in
     record {
       events = [];
       done = g.met.D.Source.nothing _;
@@ -20,13 +17,13 @@ loop-turn-init g c =
         each = tt;
         well = tt;
         ends = refl;
-        answered = Answers-begun _ _ c.new-session.result.tally c.new-session.result.outbox _ _ refl (g.met.T.Table.nothing _) c.new-session.ensures.tally c.new-session.ensures.outbox;
+        answered = rw (begins.tally, begins.outbox) (Answers-nothing _ _ _ refl (g.met.T.Table.nothing _));
       };
-      part = c.new-session.ensures.part;
-      empty = c.new-session.ensures.outbox;
-      counted = omega (arith, lines, recorded, bad);
+      part = begins.part;
+      empty = begins.outbox;
+      counted = rw begins.tally (omega arith);
       turns = refl;
-      few = omega (arith, lines);
+      few = rw begins.tally (omega arith);
       long = omega arith;
       short = omega arith;
       size = refl;
@@ -37,13 +34,12 @@ returns-in_err-count g c =
     let before = c.loop-turn.invariant in
     let p = err_from_is_err_and c.from_residual.result c.from_residual.ensures.1 in
     let asked = length c.loop-turn.chunk in
-    let few : asked ≤ 4096 = omega (arith, before.size) in
     let all = turn before.events asked None [] in
     let done = g.met.D.Source.more _ _ _ before.events (Reading asked None ∷ []) before.done c.in_err-count.ensures.event in
     rw (p.1, p.2, c.in_err-count.ensures.fails.0) (record {
       ok = tt;
       err = (
-        halts _ 0 before.events (is_answered before.on before.empty asked few) before.on.ends (omega arith)
+        halts _ 0 before.events (is_answered before.on before.empty) before.on.ends (omega arith)
             (subst (Consumes _ _) (turn_heard before.events asked None [] refl ∙ append-nil (heard before.events)) (g.met.D.Source.consumed _ _ all done))
             (subst (Appends _ _) (turn_said before.events asked None [] ∙ append-nil (said before.events)) (g.met.D.Sink.appended _ _ all ((g.met.D.Dialogue.one _ _ all).0 done))),
         c.in_err-count.ensures.fails.1,
@@ -51,7 +47,7 @@ returns-in_err-count g c =
       talk = record {
         events = all;
         done = done;
-        each = read_follows before.on before.empty asked few None [] tt;
+        each = read_follows before.on before.empty before.size None [] tt;
         few = omega (arith, turn_reads before.events asked None [] refl, before.turns, c.loop-turn-test.true);
         ended = (before.events, asked, refl);
       };
@@ -64,7 +60,7 @@ returns-in_err-count g c =
 pub returns-clause-err : goal.returns-clause-err
 returns-clause-err g c =
     let before = c.loop-turn.invariant in
-    halts _ c.args.turns before.events (is_answered before.on before.empty 0 (omega arith)) before.on.ends (omega (arith, before.long, c.loop-turn-test.false))
+    halts _ c.args.turns before.events (is_answered before.on before.empty) before.on.ends (omega (arith, before.long, c.loop-turn-test.false))
     (g.met.D.Source.consumed _ _ before.events before.done) (g.met.D.Sink.appended _ _ before.events ((g.met.D.Dialogue.one _ _ before.events).0 before.done))
 
 pub returns-clause-talk : goal.returns-clause-talk
@@ -76,7 +72,7 @@ returns-clause-talk g c =
       done = before.done;
       each = before.on.each;
       few = omega (arith, before.turns, turns);
-      ended = (before.on.well, before.on.ends, omega (arith, before.turns, turns, c.loop-turn-test.false), is_answered before.on before.empty 0 (omega arith));
+      ended = (before.on.well, before.on.ends, omega (arith, before.turns, turns, c.loop-turn-test.false), is_answered before.on before.empty);
     }
 
 pub returns-clause-same : goal.returns-clause-same
@@ -86,7 +82,6 @@ pub returns-then-count-eq0 : goal.returns-then-count-eq0
 returns-then-count-eq0 g c =
     let before = c.loop-turn.invariant in
     let asked = length c.loop-turn.chunk in
-    let few : asked ≤ 4096 = omega (arith, before.size) in
     let piece = take c.in_ok-count.count c.read_chunk.new.chunk in
     let nothing : piece ≡ [] = ap (λ n. take n c.read_chunk.new.chunk) c.if-count-eq0.true in
     let part = c.loop-turn.session.part in
@@ -95,8 +90,8 @@ returns-then-count-eq0 g c =
     let all = turn before.events asked (Some piece) es in
     let done = turn_done g.met.D.Source.more g.met.D.Dialogue.one before.events asked (Some piece) es before.done c.in_ok-count.ensures.event more.appended.done in
     let wrote = (g.met.D.Dialogue.one _ _ all).0 done in
-    let now = turned before.on before.empty asked few piece {IsAll = g.T.Table.did c.args.table.now c.answer_piece.new.table} (g.met.T.Table.more _ _ _) _ (said_next part piece) more in
-    let lines = lines_next (heard before.events) piece part asked before.part (omega (arith, before.size)) ∙ sym (turn_lines before.on before.empty asked few piece es more.appended.writes) in
+    let now = turned before.on before.empty before.size piece {IsAll = g.T.Table.did c.args.table.now c.answer_piece.new.table} (g.met.T.Table.more _ _ _) _ (said_next part piece) more in
+    let lines = lines_next (heard before.events) piece part asked before.part (omega (arith, before.size)) ∙ sym (turn_lines before.on before.empty before.size piece es more.appended.writes) in
     let ends = now.ends ∙ ap (λ bytes. is_end (Reading asked (Some bytes))) nothing ∙ ap (λ n. nat_lt 0 n) before.size in
     let kept = g.met.D.Sink.kept _ _ all wrote now.well in
     record {
@@ -123,7 +118,6 @@ returns-in_err-answer_piece g c =
     let before = c.loop-turn.invariant in
     let p = err_from_is_err_and c.from_residual-in_err-answer_piece.result c.from_residual-in_err-answer_piece.ensures.1 in
     let asked = length c.loop-turn.chunk in
-    let few : asked ≤ 4096 = omega (arith, before.size) in
     let piece = take c.in_ok-count.count c.read_chunk.new.chunk in
     let part = c.loop-turn.session.part in
     let lines = said_next part piece in
@@ -134,9 +128,9 @@ returns-in_err-answer_piece g c =
     let none : is_end (Reading asked (Some piece)) ≡ true → c.in_ok-count.count ≡ 0 = λ ends. omega (arith, gave_none asked piece ends, length-take-le c.in_ok-count.count c.read_chunk.new.chunk c.in_ok-count.ensures.bound) in
     rw (p.1, p.2, c.in_err-answer_piece.ensures.told.fault) (record {
       ok = tt;
-      err = stalled_breaks before.on before.empty asked few piece lines stops are (λ ends silent. subst IsAtEnd (sym (g.met.D.Dialogue.apart _ _ (stalled stops) stops.appended.done silent)) (c.in_ok-count.ensures.bytes.1 (none ends) (omega (arith, before.size))))
+      err = stalled_breaks before.on before.empty before.size piece lines stops are (λ ends silent. subst IsAtEnd (sym (g.met.D.Dialogue.apart _ _ (stalled stops) stops.appended.done silent)) (c.in_ok-count.ensures.bytes.1 (none ends) (omega (arith, before.size))))
           (g.met.D.Source.consumed _ _ all done) (g.met.D.Sink.appended _ _ all ((g.met.D.Dialogue.one _ _ all).0 done));
-      talk = stalled_talk before.on before.empty asked few piece lines stops are c.args.turns (omega (arith, before.turns, c.loop-turn-test.true)) done;
+      talk = stalled_talk before.on before.empty before.size piece lines stops are c.args.turns (omega (arith, before.turns, c.loop-turn-test.true)) done;
       same = g.met.D.Dialogue.same _ _ all done;
       whole = tt;
       made = λ is. cc;
@@ -147,7 +141,6 @@ pub loop-turn-preserved : goal.loop-turn-preserved
 loop-turn-preserved g c =
     let before = c.loop-turn.invariant in
     let asked = length c.loop-turn.chunk in
-    let few : asked ≤ 4096 = omega (arith, before.size) in
     let piece = take c.in_ok-count.count c.read_chunk.new.chunk in
     let part = c.loop-turn.session.part in
     let read = c.in_ok-answer_piece.ensures in
@@ -161,7 +154,7 @@ loop-turn-preserved g c =
     let some : 0 < length piece = omega (arith, piece_len, c.if-count-eq0.false) in
     let heard_len = ap length same in
     let lines = read.lines some in
-    let now = turned before.on before.empty asked few piece {IsAll = g.T.Table.did c.args.table.now c.answer_piece.new.table} (g.met.T.Table.more _ _ _) _ (said_next part piece) more in
+    let now = turned before.on before.empty before.size piece {IsAll = g.T.Table.did c.args.table.now c.answer_piece.new.table} (g.met.T.Table.more _ _ _) _ (said_next part piece) more in
     record {
       events = turn before.events asked (Some piece) es;
       done = turn_done g.met.D.Source.more g.met.D.Dialogue.one before.events asked (Some piece) es before.done c.in_ok-count.ensures.event more.appended.done;
