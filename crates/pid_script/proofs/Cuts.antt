@@ -1,19 +1,19 @@
 -- What a cut finds.
-use Rattle.std.proofs.Common.{◌≡◌, ℕ, suc, ◌+◌, ◌<◌, ◌≤◌, Bool, true, false, cond, eqb, List, [], ◌∷◌, ◌++◌, length, get_or, take, drop, Option, Some, None, refl, sym, ap, ◌∙◌, arith, position, ltb-false, length-take-le, get_or-take, eqb-true, subst, option_map}
+use Rattle.std.proofs.Common.{◌≡◌, ℕ, suc, ◌+◌, ◌<◌, ◌≤◌, Bool, true, false, cond, eqb, List, [], ◌∷◌, ◌++◌, length, get_or, take, drop, Option, Some, None, refl, sym, ap, ◌∙◌, arith, length-take-le, get_or-take, eqb-true, subst, option_map}
 use Rattle.std.specs.List.{AllByRecursion}
 use Rattle.std.proofs.lemmas.List.Elements.{All-from_get_or, recursion_from_All}
-use Rattle.std.proofs.lemmas.List.Sums.{fails_before_first}
-use Rattle.std.proofs.lemmas.List.Quantifiers.{position-Some}
+use Rattle.std.proofs.lemmas.Bool.{ne_eqb}
+use Rattle.std.proofs.lemmas.List.{take_all}
 use Rattle.std.proofs.Math.Seq.{split_at}
 use Rattle.std.proofs.lemmas.Slice.{between_to_end}
 use Rattle.std.proofs.lemmas.Option.{none-some, same_Some}
-use Rattle.pid_script.specs.Reading.{cut}
+use Rattle.pid_script.specs.Reading.{IsFirstOf, IsFreeOf, cut}
 
 -- no byte of the list is this one
 abbrev pub Lacks : ℕ → List ℕ → Type 0
 Lacks byte bs = AllByRecursion (λ b. eqb b byte ≡ false) bs
 
-same_eqb : (b : ℕ) → eqb b b ≡ true
+pub same_eqb : (b : ℕ) → eqb b b ≡ true
 same_eqb b = grind (arith)
 
 -- a cut ends at the first such byte
@@ -31,34 +31,25 @@ pub cut-lacks : (byte : ℕ) (w : List ℕ) → Lacks byte w → cut byte w ≡ 
 cut-lacks byte [] lacks = refl
 cut-lacks byte (b ∷ w) lacks = rw (lacks.0, cut-lacks byte w lacks.1)
 
-cond_none : {A : Type 0} (b : Bool) (x : A) → cond b (Some x) None ≡ None → b ≡ false
-cond_none true x e = absurd (none-some x (sym e))
-cond_none false x e = refl
-
--- the bytes before the first such byte lack it
-lacks_before : (byte : ℕ) (bs : List ℕ) (i : ℕ) → i ≤ length bs → ((k : ℕ) → k < i → eqb (get_or bs k 0) byte ≡ false) → Lacks byte (take i bs)
-lacks_before byte bs i within before =
+-- where there is no such byte before an index, what stands there lacks it
+lacks_before : (byte : ℕ) (bs : List ℕ) (i : ℕ) → i ≤ length bs → IsFreeOf byte i bs → Lacks byte (take i bs)
+lacks_before byte bs i within free =
     recursion_from_All (λ b. eqb b byte ≡ false) (take i bs)
     (All-from_get_or (λ b. eqb b byte ≡ false) (take i bs) 0 (λ k lt.
     let in_front : k < i = omega (arith, length-take-le i bs within) in
-    rw (get_or-take i bs k 0) (before k in_front)))
+    rw (get_or-take i bs k 0) (ne_eqb _ _ (free k in_front))))
 
 -- where there is no such byte, there is no cut
-pub cut-missed : (byte : ℕ) (bs : List ℕ) → position (λ b. eqb b byte) bs ≡ None → cut byte bs ≡ None
-cut-missed byte bs missed =
-    let past = ltb-false _ _ (cond_none _ _ missed) in
-    cut-lacks byte bs (recursion_from_All (λ b. eqb b byte ≡ false) bs
-    (All-from_get_or (λ b. eqb b byte ≡ false) bs 0 (λ k lt. fails_before_first (λ b. eqb b byte) bs k 0 (omega (arith, past)))))
+pub cut-missed : (byte : ℕ) (bs : List ℕ) → IsFreeOf byte (length bs) bs → cut byte bs ≡ None
+cut-missed byte bs free = cut-lacks byte bs (subst (Lacks byte) (take_all (length bs) bs (omega arith)) (lacks_before byte bs (length bs) (omega arith) free))
 
 -- what a cut at the first such byte finds
-pub cut-found : (byte : ℕ) (bs : List ℕ) (i : ℕ) → position (λ b. eqb b byte) bs ≡ Some i → cut byte bs ≡ Some (take i bs, drop (i + 1) bs)
-cut-found byte bs i found =
-    let at = position-Some (λ b. eqb b byte) bs i 0 found in
-    let lt : i < length bs = at.0 in
-    let is : get_or bs i 0 ≡ byte = eqb-true _ _ at.1 in
+pub cut-found : (byte : ℕ) (bs : List ℕ) (i : ℕ) → IsFirstOf byte i bs → cut byte bs ≡ Some (take i bs, drop (i + 1) bs)
+cut-found byte bs i first =
+    let lt = first.within in
     let next : suc i ≡ i + 1 = omega arith in
-    let parts : bs ≡ take i bs ++ byte ∷ drop (i + 1) bs = subst (λ n. bs ≡ take i bs ++ byte ∷ drop n bs) next (subst (λ b. bs ≡ take i bs ++ b ∷ drop (suc i) bs) is (split_at bs i 0 lt)) in
-    ap (cut byte) parts ∙ cut-append byte (take i bs) (drop (i + 1) bs) (lacks_before byte bs i (omega arith) at.2)
+    let parts : bs ≡ take i bs ++ byte ∷ drop (i + 1) bs = subst (λ n. bs ≡ take i bs ++ byte ∷ drop n bs) next (subst (λ b. bs ≡ take i bs ++ b ∷ drop (suc i) bs) first.is (split_at bs i 0 lt)) in
+    ap (cut byte) parts ∙ cut-append byte (take i bs) (drop (i + 1) bs) (lacks_before byte bs i (omega arith) first.free)
 
 pub option_map_some : {A B P : Type 0} (f : A → B) (o : Option A) (y : B) → option_map f o ≡ Some y → ((x : A) → o ≡ Some x → f x ≡ y → P) → P
 option_map_some f None y is go = absurd (none-some y is)

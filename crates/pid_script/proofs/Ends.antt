@@ -1,23 +1,16 @@
 -- How a script ends.
 use Rattle.std.proofs.Common.{◌≡◌, ℕ, List, [], ◌++◌, Option, Some, sym, ap, ◌∙◌, subst, append-nil}
-use Rattle.std.specs.Io.KnownBytes.{Appends, Consumes, IsAtEnd}
-use Rattle.pid_types.specs.State.{State}
-use Rattle.pid_types.specs.declared.call.Call.{Call}
-use Rattle.pid_types.specs.declared.reply.Reply.{Reply}
-use Rattle.pid_types.specs.Devices.{Event, heard, said}
-use Rattle.pid_script.specs.declared.tally.Tally.{Tally}
-use Rattle.pid_script.specs.Script.{begun, said_of, said_within, kept_after, last_said}
-use Rattle.pid_script.specs.Session.{progress_of, ended_at, Answers, Finishes}
+use Rattle.pid_script.proofs.Names.{Appends, Consumes, IsAtEnd, State, Call, Reply, Event, heard, said, Line, Tally, begun, said_of, said_within, kept_after, last_said, progress_of, ended_at, Answers, Finishes}
 use Rattle.pid_script.proofs.Said.{said_within-all}
 use Rattle.pid_script.proofs.Within.{said_within-append, kept_after-append}
 
 module _ {state : State} {stamp : ℕ} {from to before after : Option (List ℕ)} where
-  -- all lines were answered
-  pub finishes : {AreMade : List (Call × Reply) → Type 0} (events : List Event) (state' : State) (stamp' : ℕ) (tally : Tally)
-      → Answers (begun state stamp) (progress_of state' stamp' tally []) (λ sent. said events ≡ sent) AreMade (said_of (heard events))
+  -- all lines were answered, and nothing waits
+  pub finishes : {AreMade : List (Call × Reply) → Type 0} {state' : State} {stamp' : ℕ} (tally : Tally) {held : List ℕ} {lines : List Line} (events : List Event)
+      → Answers (begun state stamp) (progress_of state' stamp' tally held) (λ sent. said events ≡ sent) AreMade lines → held ≡ [] → lines ≡ said_of (heard events)
       → Consumes from to (heard events) → Appends before after (said events) → IsAtEnd to
       → (text : List ℕ) × (calls : List (Call × Reply)) × AreMade calls × Finishes (begun state stamp) (ended_at state' stamp' tally text calls) from to before after
-  finishes events state' stamp' tally answers consumed appended at_end = (
+  finishes {state' = state'} {stamp' = stamp'} tally events answers empty are consumed appended at_end = (
     answers.sent,
     answers.calls,
     answers.made,
@@ -26,8 +19,10 @@ module _ {state : State} {stamp : ℕ} {from to before after : Option (List ℕ)
       script = answers.script;
       consumed = consumed;
       at_end = at_end;
-      says = answers.says;
-      reached = (λ i. ended_at state' stamp' tally (sym (append-nil answers.sent) i) (sym (append-nil answers.calls) i)) ∙ answers.reached;
+      says = answers.says ∙ are;
+      reached =
+          (λ i. ended_at state' stamp' tally ((sym (append-nil answers.sent) ∙ ap (λ held. answers.sent ++ held) (sym empty)) i) (sym (append-nil answers.calls) i))
+          ∙ answers.reached;
       written = subst (Appends before after) answers.appended appended;
     },
   )

@@ -1,15 +1,11 @@
 -- Jobs, read piece by piece.
 use Rattle.std.proofs.Common.{◌≡◌, ℕ, ◌+◌, ◌^◌, ◌<◌, ◌≤◌, inl, inr, Bool, true, false, List, [], ◌∷◌, ◌++◌, length, length-append, take, take_all, take-take, length-take-le, min, leb, leb-true, leb-false, ◌≢◌, Option, Some, refl, sym, ap, ◌∙◌, subst, append_assoc, append-nil, arith, IsTrue}
+use Rattle.std.proofs.lemmas.Bool.{cases_lt}
 use Rattle.std.proofs.lemmas.List.Elements.{All-append, All-nil}
 use Rattle.std.proofs.Math.Seq.{take-append-add}
-use Rattle.std.specs.Io.KnownBytes.{Consumes, IsAtEnd}
-use Rattle.pid_types.specs.declared.call.Call.{Call}
-use Rattle.pid_script.specs.declared.job.JobFault.{JobFault}
+use Rattle.pid_script.proofs.Names.{Consumes, IsAtEnd, Call, JobFault, Line, said_whole, said_of, said_within, IsMet, IsRead, calls_said, AreGood, IsReached, Yields, Refuses, Adds, IsStopped}
 use Rattle.pid_script.specs.declared.job.JobFault.TheVariants as fault
-use Rattle.pid_script.specs.declared.line.Line.{Line}
 use Rattle.pid_script.specs.declared.line.Line.TheVariants as says
-use Rattle.pid_script.specs.Script.{said_whole, said_of, said_within}
-use Rattle.pid_script.specs.Job.{IsMet, IsRead, calls_said, AreGood, IsReached, Yields, Refuses, Adds, IsStopped}
 use Rattle.pid_script.proofs.Said.{said_within-whole}
 use Rattle.pid_script.proofs.Within.{no_end}
 
@@ -74,17 +70,12 @@ IsStopped-later xs ys fault.NoMemory adds stops =
 
 -- what is within reach of a piece of which some bytes were read
 take_piece : (count room : ℕ) (chunk : List ℕ) → count ≤ length chunk → take room (take count chunk) ≡ take (min count room) chunk
-take_piece count room chunk within = at (leb count room) refl
-  where
-    at : (t : Bool) → leb count room ≡ t → take room (take count chunk) ≡ take (min count room) chunk
-    at true below =
-        let fits : count ≤ room = leb-true count room below in
-        let least : min count room ≡ count = omega (arith, fits) in
-        take_all room (take count chunk) (omega (arith, fits, length-take-le count chunk within)) ∙ ap (λ n. take n chunk) (sym least)
-    at false above =
-        let long : room < count = leb-false count room above in
-        let least : min count room ≡ room = omega (arith, long) in
-        take-take room count chunk (omega (arith, long)) ∙ ap (λ n. take n chunk) (sym least)
+take_piece count room chunk within =
+    elim (cases_lt room count) [
+      | inl lt ↦ let least : room ≡ min count room = omega arith in take-take room count chunk (omega arith) ∙ ap (λ n. take n chunk) least
+      | inr le ↦ let least : count ≡ min count room = omega arith in
+          take_all room (take count chunk) (omega (arith, length-take-le count chunk within)) ∙ ap (λ n. take n chunk) least
+    ]
 
 -- and what is of all bytes that were read
 pub take_most : (most count room : ℕ) (read chunk : List ℕ) → room + length read ≡ most → count ≤ length chunk

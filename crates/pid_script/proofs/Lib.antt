@@ -1,9 +1,10 @@
+pub mod Names
 pub mod Cuts
 pub mod Digits
 pub mod Numbers
 pub mod Words
-pub mod Prefixes
 pub mod Read
+pub mod Commands
 pub mod Room
 pub mod Joined
 pub mod Kept

@@ -1,23 +1,22 @@
 -- Numbers, and the words that they are written as.
 use Rattle.std.proofs.Common.{◌≡◌, ◌≢◌, ℕ, ◌+◌, ◌*◌, ◌^◌, ◌<◌, ◌≤◌, Bool, true, false, cond, ◌&&◌, eqb, ltb, List, [], ◌∷◌, ◌++◌, length, get_or, Option, Some, None, IfSome, IfNone, Result, Ok, Err, OkIff, decimal, refl, sym, ap, ◌∙◌, subst, arith, bytes_eq, lt-ltb, ltb-true, zero, suc, lit<, lit≤, inl, inr, length-append, take, drop, length-take-le, get_or-take, ℤ, pos, neg_ℤ, ◌-ℤ◌, FitsSigned, SomeIff, option_map, option_and_then, eq-eqb, eqb-true, ⊎_elim}
 use Rattle.std.specs.Result.{result_ok}
-use Rattle.std.specs.Int.{w32}
-use Rattle.std.specs.Fmt.{signed_decimal}
+pub use Rattle.std.specs.Int.{w32}
+pub use Rattle.std.specs.Fmt.{signed_decimal}
 use Rattle.std.specs.Char.{digit_value}
-use lib.IntN.{negsuc, +ℤ_idl}
-use Rattle.std.proofs.lemmas.List.{get_or-append-add, get_or_append_left, take_all, take_at}
+pub use lib.IntN.{negsuc, +ℤ_idl}
+pub use Rattle.std.proofs.lemmas.List.{get_or-append-add, get_or_append_left, take_all, take_at}
 use Rattle.std.proofs.lemmas.Slice.{between_to_end}
 use Rattle.std.proofs.lemmas.Bool.{cases_lt, ne_eqb}
-use Rattle.std.proofs.lemmas.Bool.Decides.{nat_tests}
-use Rattle.std.specs.Str.Parse.{AllDigits, digits_value}
-use Rattle.std.proofs.lemmas.Slice.Eq.{bytes_eq-Decides}
-use Rattle.std.proofs.lemmas.Str.Parse.{IsNumeralModel, numerals_by_value, tells_digits, not_in_digits, digit_from_value, digits_value-take-le, digits_value_short}
+pub use Rattle.std.proofs.lemmas.Bool.Decides.{nat_tests}
+pub use Rattle.std.specs.Str.Parse.{AllDigits, digits_value}
+pub use Rattle.std.proofs.lemmas.Slice.Eq.{bytes_eq-Decides}
+pub use Rattle.std.proofs.lemmas.Str.Parse.{IsNumeralModel, numerals_by_value, tells_digits, not_in_digits, digit_from_value, digits_value-take-le, digits_value_short}
 use Rattle.std.proofs.lemmas.Int.Digits.{digits_value_more, digits_more}
 use Rattle.std.proofs.lemmas.Str.{digit_value_digit}
-use Rattle.std.proofs.lemmas.Option.{none-some, same_Some, option_and_then_some}
+pub use Rattle.std.proofs.lemmas.Option.{none-some, same_Some, option_and_then_some}
 use Rattle.pid_script.proofs.Cuts.{by_test, cut-Some, cut-found, option_map_some}
-use Rattle.pid_script.proofs.Search.{found}
-use Rattle.std.proofs.lemmas.Fmt.{digits_decimal, digits_value-decimal, decimal-digits_value, decimal_nonempty, first_decimal, decimal_digit}
+pub use Rattle.std.proofs.lemmas.Fmt.{digits_decimal, digits_value-decimal, decimal-digits_value, decimal_nonempty, first_decimal, decimal_digit}
 use Rattle.pid_script.specs.Reading.{IsFreeOf, IsFrontOf, IsPlain, cut, number_below, number_then, negative_of, signed_of}
 
 -- std's words for digits and their value
@@ -193,7 +192,7 @@ pub front_then : (words : List ℕ) (i n : ℕ) → IsFrontOf words i n → i < 
     → Some (n, drop (i + 1) words) ≡ number_then (2 ^ 32) words
 front_then words i n front lt space plain =
     let long = length-take-le i words front.within in
-    let cuts : cut 32 words ≡ Some (take i words, drop (i + 1) words) = cut-found 32 words i (sym (found 32 words i lt (no_space words i n front) space)) in
+    let cuts : cut 32 words ≡ Some (take i words, drop (i + 1) words) = cut-found 32 words i (record { within = lt; is = space; free = no_space words i n front }) in
     sym (rw (cuts, short_some (take i words) n (omega (arith, long, front.few)) plain front.all front.value))
 
 -- where there is no number, there is none with a minus sign
@@ -245,29 +244,31 @@ unfolding signed_of
 signed_of-plain [] no_minus = rw (number_below-None (2 ^ 31) [] (λ n below is. let long = decimal_nonempty n (omega arith) in let empty = ap length is in absurd (omega arith)))
 signed_of-plain (b ∷ bs) no_minus = rw (ne_eqb b 45 (no_minus (omega arith)))
 
--- a number with no sign
-pub plain_some : (E : Type 0) (word : List ℕ) (n : ℕ) (r : Result ℤ E) → number_below (2 ^ 32) word ≡ Some n → OkIff r (FitsSigned w32 (pos n)) (pos n) → result_ok r ≡ option_map pos (number_below (2 ^ 31) word)
-plain_some E word n (Ok z) some is =
-    rw (number_below-within (2 ^ 32) (2 ^ 31) word (lit≤ tt) (lit≤ tt) n some is.0.sfits) (ap Some is.1)
-plain_some E word n (Err e) some not_fits =
-    ⊎_elim (λ below. absurd (not_fits (record { sfits = below })))
-    (λ past. rw (number_below-beyond (2 ^ 32) (2 ^ 31) word (lit≤ tt) (lit≤ tt) n some past))
-    (cases_lt n (2 ^ 31))
-
-no_minus : (n : ℕ) → n < 2 ^ 64 → 0 < length (decimal n) → get_or (decimal n) 0 0 ≢ 45
-no_minus n small long minus =
-    let digits = digits_decimal numerals n small in
-    not_in_digits numerals (decimal n) 45 digits (λ range. absurd (omega (arith, range))) 0 long minus
+signed_plain : (n : ℕ) → n < 2 ^ 64 → signed_of (decimal n) ≡ option_map pos (number_below (2 ^ 31) (decimal n))
+signed_plain n small =
+    signed_of-plain (decimal n) (not_in_digits numerals (decimal n) 45 (digits_decimal numerals n small) (λ range. absurd (omega (arith, range))) 0)
 
 -- a number with its sign is what its word says
 pub signed_of-decimal : (z : ℤ) → FitsSigned w32 z → signed_of (signed_decimal z) ≡ Some z
 signed_of-decimal (pos n) fits =
     let small : n < 2 ^ 31 = fits.sfits in
-    signed_of-plain (decimal n) (no_minus n (omega arith)) ∙ ap (option_map pos) (number_below-decimal (2 ^ 31) n small (omega arith))
+    signed_plain n (omega arith) ∙ ap (option_map pos) (number_below-decimal (2 ^ 31) n small (omega arith))
 signed_of-decimal (negsuc n) fits =
-    let small : n < 2 ^ 31 = fits.sfits in
-    signed_of-minus (45 ∷ decimal (suc n)) (omega arith) refl
-    ∙ negative_of-decimal n small
+    let small : n < 2 ^ 31 = fits.sfits in signed_of-minus (45 ∷ decimal (suc n)) (omega arith) refl ∙ negative_of-decimal n small
+
+-- a number with no sign
+pub unsigned : (E : Type 0) (word : List ℕ) (n : ℕ) (r : Result ℤ E) → number_below (2 ^ 32) word ≡ Some n → OkIff r (FitsSigned w32 (pos n)) (pos n) → result_ok r ≡ signed_of word
+unsigned E word n r some is =
+    let written = number_below-Some (2 ^ 32) word n some in subst (λ w. result_ok r ≡ signed_of w) written.1 (at r is)
+  where
+    at : (r : Result ℤ E) → OkIff r (FitsSigned w32 (pos n)) (pos n) → result_ok r ≡ signed_of (decimal n)
+    at (Ok z) is = ap Some is.1 ∙ sym (signed_of-decimal (pos n) is.0)
+    at (Err e) not_fits =
+        let small = number_below-Some (2 ^ 32) word n some in
+        let never : ¬ (n < 2 ^ 31) = λ below. not_fits (record { sfits = below }) in
+        let past : 2 ^ 31 ≤ n = omega (arith, never) in
+        let said = number_below-decimal (2 ^ 32) n small.0 (omega (arith, small.0)) in
+        sym (rw (signed_plain n (omega (arith, small.0)), number_below-beyond (2 ^ 32) (2 ^ 31) (decimal n) (lit≤ tt) (lit≤ tt) n said past))
 
 negated_Some : (n : ℕ) (z : ℤ) (digits : List ℕ) → n < 2 ^ 31 + 1 → decimal n ≡ digits → cond (eqb n 0) None (Some (neg_ℤ (pos n))) ≡ Some z → FitsSigned w32 z × (signed_decimal z ≡ 45 ∷ digits)
 negated_Some zero z digits below written is = absurd (none-some z is)
@@ -297,4 +298,4 @@ pub ruleset digits = (digits_stop, front_fits, digits_value_more, digits_more)
 
 pub ruleset fronts = (front_none, front_whole)
 
-pub ruleset signs = (signed_of-minus, signed_of-plain, number_below-missing, plain_some, between_to_end)
+pub ruleset signs = (signed_of-minus, signed_of-plain, number_below-missing, between_to_end)

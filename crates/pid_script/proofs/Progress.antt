@@ -1,21 +1,11 @@
 -- How far a script has come.
-use Rattle.std.proofs.Common.{◌≡◌, ℕ, ◌+◌, ◌-◌, ◌^◌, Bool, true, false, cond, eqb, List, [], ◌∷◌, ◌++◌, length-append, map, Option, Result, Ok, Err, is_ok, refl, sym, ap, ◌∙◌, subst, append_assoc, append-nil, codes, arith, fold, eq-eqb}
+use Rattle.std.proofs.Common.{◌≡◌, ℕ, ◌+◌, ◌-◌, ◌^◌, Bool, true, false, cond, eqb, List, [], ◌∷◌, ◌++◌, length-append, map, Option, Result, Ok, Err, OnOk, OnErr, IfErr, is_ok, refl, sym, ap, ◌∙◌, subst, append_assoc, append-nil, codes, arith, fold, eq-eqb}
 use Rattle.std.proofs.lemmas.Bool.{ne_eqb}
 use Rattle.std.proofs.lemmas.List.Sums.{fold-append}
 use Rattle.std.proofs.lemmas.List.{map-append}
-use Rattle.pid_types.specs.declared.call.Call.{Call}
-use Rattle.pid_types.specs.declared.reply.CallFault.{CallFault}
+use Rattle.pid_script.proofs.Names.{Call, CallFault, Reply, State, Line, Tally, reply_text, fault_text, answer_of, replied, Progress, HasStopped, begun, with_newline, told, stepped, after_call, after_saying, after_line, after_script, Acts, made_by, Leads, ended_at, progress_of, Answers, StopsShort, Event, RunScriptFault, Write, Sends, Stalls, Queues, Stops, Responds}
 use Rattle.pid_types.specs.declared.reply.CallFault.TheVariants.{NoMemory, Spent}
-use Rattle.pid_types.specs.declared.reply.Reply.{Reply}
-use Rattle.pid_types.specs.State.{State}
-use Rattle.pid_script.specs.declared.line.Line.{Line}
 use Rattle.pid_script.specs.declared.line.Line.TheVariants as says
-use Rattle.pid_script.specs.declared.tally.Tally.{Tally}
-use Rattle.pid_script.specs.Answers.{reply_text, fault_text, answer_of, replied}
-use Rattle.pid_script.specs.Script.{Progress, begun, with_newline, told, stepped, after_call, after_saying, after_line, after_script}
-use Rattle.pid_script.specs.Session.{Acts, made_by, Leads, ended_at, progress_of, Answers, StopsShort}
-use Rattle.pid_types.specs.Devices.{Event}
-use Rattle.pid_script.specs.Dialogue.{Sends, Stalls, Queues, Stops}
 use Rattle.pid_script.proofs.Sent.{Joins, Sends-more, Stalls-more}
 
 -- two ways are as far if each of their parts is
@@ -60,34 +50,39 @@ bad_leads state stamp tally tally' lines recorded bad = (
   λ held. same_progress _ _ _ _ _ _ _ _ _ _ _ _ _ _ refl refl refl refl (sym lines) (sym recorded) (sym bad),
 )
 
--- a line whose answer was sent or waits
-pub answered : (state : State) (stamp : ℕ) (tally : Tally) (held : List ℕ) (line : Line) (text : List ℕ) (calls : List (Call × Reply)) (state' : State) (stamp' : ℕ) (tally' : Tally) (held' : List ℕ)
-    (did : List Event → Type 0) (AreMade : List (Call × Reply) → Type 0) → Leads state stamp tally line text calls state' stamp' tally' → Queues did (held ++ text) held' → AreMade calls
-    → Answers (progress_of state stamp tally held) (progress_of state' stamp' tally' held') (Sends did) AreMade (line ∷ [])
+-- how a line goes whose answer is sent or waits, or could not be sent
+pub responds : {T : Type 0} {state state' : State} {stamp stamp' : ℕ} {tally tally' : Tally} {held held' : List ℕ} {line : Line} {did : List Event → Type 0} {AreMade : List (Call × Reply) → Type 0} {failed full : Bool}
+    (r : Result T RunScriptFault) (text : List ℕ) (calls : List (Call × Reply)) → Leads state stamp tally line text calls state' stamp' tally' → AreMade calls
+    → OnOk r (Queues did (held ++ text) held') → OnErr r (Stops did (held ++ text)) → IfErr r (λ e. e ≡ Write) → OnErr r (HasStopped failed full)
+    → Responds r (progress_of state stamp tally held) (progress_of state' stamp' tally' held') did AreMade (line ∷ []) failed full
 unfolding after_script
-answered state stamp tally held line text calls state' stamp' tally' held' did AreMade leads queues made = record {
-  sent = queues.0;
-  calls = calls;
-  script = (line, leads.0) ∷ [];
-  says = refl;
-  appended = queues.1;
-  made = made;
-  reached = same_progress _ _ _ _ _ _ _ _ _ _ _ _ _ _ refl refl (sym queues.2) (append-nil calls) refl refl refl ∙ sym (leads.1 held);
+responds {held = held} {line = line} (Ok x) text calls leads made queues stops fault stopped = record {
+  ok = record {
+    sent = queues.0;
+    calls = calls;
+    script = (line, leads.0) ∷ [];
+    says = refl;
+    appended = queues.1;
+    made = made;
+    reached = same_progress _ _ _ _ _ _ _ _ _ _ _ _ _ _ refl refl (sym queues.2) (append-nil calls) refl refl refl ∙ sym (leads.1 held);
+  };
+  err = tt;
+  fault = tt;
+  stopped = tt;
 }
-
--- a line whose answer could not be sent
-pub stopped : (state : State) (stamp : ℕ) (tally : Tally) (held : List ℕ) (line : Line) (text : List ℕ) (calls : List (Call × Reply)) (state' : State) (stamp' : ℕ) (tally' : Tally)
-    (did : List Event → Type 0) → Leads state stamp tally line text calls state' stamp' tally' → Stops did (held ++ text)
-    → StopsShort (progress_of state stamp tally held) (Stalls did) (line ∷ [])
-unfolding after_script
-stopped state stamp tally held line text calls state' stamp' tally' did leads stops = record {
-  sent = stops.0;
-  left = stops.1;
-  script = (line, leads.0) ∷ [];
-  says = refl;
-  appended = stops.2;
-  short = ap (λ p. p.text) (leads.1 held) ∙ stops.3;
-  some_left = stops.4;
+responds {held = held} {line = line} (Err e) text calls leads made queues stops fault stopped = record {
+  ok = tt;
+  err = record {
+    sent = stops.0;
+    left = stops.1;
+    script = (line, leads.0) ∷ [];
+    says = refl;
+    appended = stops.2;
+    short = ap (λ p. p.text) (leads.1 held) ∙ stops.3;
+    some_left = stops.4;
+  };
+  fault = fault;
+  stopped = stopped;
 }
 
 -- the same, with these answers and these calls in front
@@ -196,26 +191,13 @@ StopsShort-later p IsSent xs ys stops =
       some_left = omega (arith, stops.some_left, length-append stops.left more.0);
     }
 
--- the same lines
-pub Answers-same : (p q : Progress) (IsSent : List ℕ → Type 0) (AreMade : List (Call × Reply) → Type 0) (xs ys : List Line) → xs ≡ ys → Answers p q IsSent AreMade xs → Answers p q IsSent AreMade ys
-Answers-same p q IsSent AreMade xs ys same answers = subst (Answers p q IsSent AreMade) same answers
-
-pub StopsShort-same : (p : Progress) (IsSent : List ℕ → Type 0) (xs ys : List Line) → xs ≡ ys → StopsShort p IsSent xs → StopsShort p IsSent ys
-StopsShort-same p IsSent xs ys same stops = subst (StopsShort p IsSent) same stops
-
--- a script that begins
-pub Answers-begun : (state : State) (stamp : ℕ) (tally : Tally) (held : List ℕ) (IsSent : List ℕ → Type 0) (AreMade : List (Call × Reply) → Type 0) → IsSent [] → AreMade []
-    → tally ≡ record { lines = 0; recorded = 0; bad = 0 } → held ≡ [] → Answers (begun state stamp) (progress_of state stamp tally held) IsSent AreMade []
-Answers-begun state stamp tally held IsSent AreMade nothing none zero empty =
-    subst (λ q. Answers (begun state stamp) q IsSent AreMade [])
-    ((λ i. progress_of state stamp (sym zero i) (sym empty i)))
-    (Answers-nothing (begun state stamp) IsSent AreMade nothing none)
-
 -- some lines, and then what waits is sent: all of it, or not
-module _ {first second all : List Event → Type 0} (joins : Joins first second all) {AreMade : List (Call × Reply) → Type 0} (p : Progress) (state : State) (stamp : ℕ) (tally : Tally) (held : List ℕ) (lines : List Line)
-    (answers : Answers p (progress_of state stamp tally held) (Sends first) AreMade lines) where
-  pub Answers-flushed : (held' : List ℕ) → Sends second held → held' ≡ [] → Answers p (progress_of state stamp tally held') (Sends all) AreMade lines
-  Answers-flushed held' sends empty = record {
+pub flushes : {T : Type 0} {p : Progress} {state : State} {stamp : ℕ} {tally : Tally} {held held' : List ℕ} {lines : List Line} {first second all : List Event → Type 0} {AreMade : List (Call × Reply) → Type 0} {failed full : Bool}
+    (r : Result T RunScriptFault) → Joins first second all → Answers p (progress_of state stamp tally held) (Sends first) AreMade lines
+    → OnOk r (Sends second held) → OnOk r (held' ≡ []) → OnErr r (Stops second held) → IfErr r (λ e. e ≡ Write) → OnErr r (HasStopped failed full)
+    → Responds r p (progress_of state stamp tally held') all AreMade lines failed full
+flushes {state = state} {stamp = stamp} {tally = tally} {held = held} (Ok x) joins answers sends empty stops fault stopped = record {
+  ok = record {
     sent = answers.sent ++ held;
     calls = answers.calls;
     script = answers.script;
@@ -223,10 +205,14 @@ module _ {first second all : List Event → Type 0} (joins : Joins first second 
     appended = Sends-more joins answers.sent held answers.appended sends;
     made = answers.made;
     reached = ap (λ text. ended_at state stamp tally text (answers.calls ++ [])) (ap (λ text. (answers.sent ++ held) ++ text) empty ∙ append-nil (answers.sent ++ held)) ∙ answers.reached;
-  }
-
-  pub StopsShort-flushed : Stops second held → StopsShort p (Stalls all) lines
-  StopsShort-flushed stops = record {
+  };
+  err = tt;
+  fault = tt;
+  stopped = tt;
+}
+flushes (Err e) joins answers sends empty stops fault stopped = record {
+  ok = tt;
+  err = record {
     sent = answers.sent ++ stops.0;
     left = stops.1;
     script = answers.script;
@@ -234,4 +220,7 @@ module _ {first second all : List Event → Type 0} (joins : Joins first second 
     appended = Stalls-more joins answers.sent stops.0 answers.appended stops.2;
     short = ap (λ q. q.text) (sym answers.reached) ∙ ap (λ text. answers.sent ++ text) stops.3 ∙ sym (append_assoc answers.sent stops.0 stops.1);
     some_left = stops.4;
-  }
+  };
+  fault = fault;
+  stopped = stopped;
+}

@@ -2,9 +2,7 @@
 use Rattle.std.proofs.Common.{◌≡◌, ℕ, List, [], ◌∷◌, ◌++◌, Option, Some, refl, sym, ap, ◌∙◌, subst, append_assoc, append-nil, Result, Ok, Err, OnOk, OnErr, length, length-append, ◌<◌, take, drop, take-append-drop, ◌-◌, ◌≤◌, arith}
 use Rattle.std.proofs.lemmas.Slice.{between_to_end}
 use Rattle.std.proofs.lemmas.List.Concat.{flat_map-append}
-use Rattle.pid_types.specs.Devices.{Event, Writing, said_by, IsWell}
-use Rattle.pid_types.specs.DeviceLaws.{AreWell-more, no_readings}
-use Rattle.pid_script.specs.Dialogue.{Sends, Stalls, Stops}
+use Rattle.pid_script.proofs.Names.{Event, Writing, said_by, IsWell, AreWell-more, no_readings, Sends, Stalls, Stops}
 
 -- what is done one after another
 abbrev pub Joins : (List Event → Type 0) → (List Event → Type 0) → (List Event → Type 0) → Type 0
@@ -64,16 +62,6 @@ sent_more bytes sent left n within is =
 pub OnErr-always : (T E : Type 0) (r : Result T E) (P : Type 0) → P → OnErr r P
 OnErr-always T E (Ok x) P p = tt
 OnErr-always T E (Err e) P p = p
-
--- a fact that follows at an error
-pub OnErr-weaker : (T E : Type 0) (r : Result T E) (P Q : Type 0) → (P → Q) → OnErr r P → OnErr r Q
-OnErr-weaker T E (Ok x) P Q f p = tt
-OnErr-weaker T E (Err e) P Q f p = f p
-
--- a fact that follows at a success
-pub OnOk-weaker : (T E : Type 0) (r : Result T E) (P Q : Type 0) → (P → Q) → OnOk r P → OnOk r Q
-OnOk-weaker T E (Ok x) P Q f p = f p
-OnOk-weaker T E (Err e) P Q f p = tt
 
 -- where sending stopped in the front, it stopped before what follows it
 pub stops_before : (did : List Event → Type 0) (bytes more : List ℕ) → Stops did bytes → Stops did (bytes ++ more)

@@ -3,19 +3,10 @@ use Rattle.std.proofs.Common.{◌≡◌, ℕ, ◌+◌, ◌<◌, ◌≤◌, Bool,
 use Rattle.std.specs.List.{list_any}
 use Rattle.std.proofs.lemmas.List.Folds.{list_any-append}
 use Rattle.std.proofs.lemmas.List.Concat.{flat_map-append}
-use Rattle.std.specs.Io.KnownBytes.{Appends, Consumes, IsAtEnd}
-use Rattle.pid_types.specs.Devices.{Event, Reading, Writing, heard_by, heard, said_by, said, readings, IsWell, AreWell}
-use Rattle.pid_types.specs.DeviceLaws.{some_is_none, AreWell-more, readings-more, no_readings}
-use Rattle.pid_types.specs.declared.call.Call.{Call}
-use Rattle.pid_types.specs.declared.reply.Reply.{Reply}
-use Rattle.pid_script.specs.declared.line.Line.{Line}
-use Rattle.pid_script.specs.Script.{Progress, said_of, said_whole, said_within, kept_after, last_said}
-use Rattle.pid_script.specs.Session.{Answers, StopsShort, Halts, Breaks}
-use Rattle.pid_script.specs.Dialogue.{Sends, Stalls, is_end, lines_heard, IsAnswered, IsCutShort, Follows, Each, Converses}
-use Rattle.pid_script.specs.declared.tally.RunScriptFault.TheVariants.{Write}
+use Rattle.pid_script.proofs.Names.{Appends, Consumes, IsAtEnd, Event, Reading, Writing, heard_by, heard, said_by, said, readings, IsWell, AreWell, some_is_none, AreWell-more, readings-more, no_readings, Call, Reply, Line, Progress, said_of, said_whole, said_within, kept_after, said_next, Answers, StopsShort, Halts, Breaks, Sends, Stalls, is_end, lines_heard, IsAnswered, IsCutShort, Follows, Each, Converses, Write}
 use Rattle.pid_script.proofs.Said.{said_within-whole}
 use Rattle.pid_script.proofs.Progress.{Answers-more, StopsShort-more}
-use Rattle.pid_script.proofs.Ends.{more_said, last_of}
+pub use Rattle.pid_script.proofs.Ends.{finishes, more_kept, more_said, last_of}
 
 -- each event of some, and then each of others
 pub Each-more : (P : List Event → Event → Type 0) (before xs ys : List Event) → Each P before xs → Each P (before ++ xs) ys → Each P before (xs ++ ys)
@@ -28,15 +19,10 @@ or_false true = refl
 or_false false = refl
 
 -- events among which there is no read hear nothing, and find no end
-pub hears_nothing : (es : List Event) → readings es ≡ [] → heard es ≡ []
-hears_nothing [] none = refl
+hears_nothing : (es : List Event) → readings es ≡ [] → (heard es ≡ []) × (list_any is_end es ≡ false)
+hears_nothing [] none = (refl, refl)
 hears_nothing (Reading asked given ∷ es) none = absurd (some_is_none _ _ none)
 hears_nothing (Writing offered taken ∷ es) none = hears_nothing es none
-
-pub finds_no_end : (es : List Event) → readings es ≡ [] → list_any is_end es ≡ false
-finds_no_end [] none = refl
-finds_no_end (Reading asked given ∷ es) none = absurd (some_is_none _ _ none)
-finds_no_end (Writing offered taken ∷ es) none = finds_no_end es none
 
 -- writes that took some may follow where no device has failed
 pub writes_follow : (start : Progress) (before es : List Event) → AreWell before → AreWell es → readings es ≡ [] → Each (Follows start) before es
@@ -56,15 +42,14 @@ pub record GoesOn (start p : Progress) (AreMade : List (Call × Reply) → Type 
 abbrev pub lines_of_turn : List ℕ → ℕ → List ℕ → List Line
 lines_of_turn read asked piece = if is_end (Reading asked (Some piece)) then said_of (read ++ piece) else said_whole (read ++ piece)
 
-pub lines_going : (read piece : List ℕ) (part : Option (List ℕ)) (asked : ℕ) → part ≡ kept_after (Some []) read → 0 < length piece
-    → said_within (Some []) read ++ said_within part piece ≡ lines_of_turn read asked piece
-lines_going read [] part asked is some = absurd (omega (arith, some))
-lines_going read (b ∷ bs) part asked is some = more_said read (b ∷ bs) part is ∙ said_within-whole (read ++ b ∷ bs)
+pub lines_next : (read piece : List ℕ) (part : Option (List ℕ)) (asked : ℕ) → part ≡ kept_after (Some []) read → 0 < asked
+    → said_within (Some []) read ++ said_next part piece ≡ lines_of_turn read asked piece
+lines_next read [] part asked is some = rw (lt-ltb 0 asked some) (last_of read part is ∙ ap said_of (sym (append-nil read)))
+lines_next read (b ∷ bs) part asked is some = more_said read (b ∷ bs) part is ∙ said_within-whole (read ++ b ∷ bs)
 
-pub lines_ended : (read piece : List ℕ) (part : Option (List ℕ)) (asked : ℕ) → part ≡ kept_after (Some []) read → piece ≡ [] → 0 < asked
-    → said_within (Some []) read ++ last_said part ≡ lines_of_turn read asked piece
-lines_ended read piece part asked is nothing some =
-    rw (nothing, lt-ltb 0 asked some) (last_of read part is ∙ ap said_of (sym (append-nil read)))
+pub next_within : (part : Option (List ℕ)) (piece : List ℕ) → 0 < length piece → said_next part piece ≡ said_within part piece
+next_within part [] some = absurd (omega arith)
+next_within part (b ∷ bs) some = refl
 
 -- lines whose answers were all written are answered, where they are those that were read
 pub all_answered : {AreMade : List (Call × Reply) → Type 0} (start p : Progress) (events : List Event) (lines : List Line) → Answers start p (λ sent. said events ≡ sent) AreMade lines → p.text ≡ [] → lines ≡ lines_heard events
@@ -105,7 +90,7 @@ turn events asked given es = events ++ Reading asked given ∷ es
 pub turn_heard : (events : List Event) (asked : ℕ) (given : Option (List ℕ)) (es : List Event) → readings es ≡ []
     → heard (turn events asked given es) ≡ heard events ++ heard_by (Reading asked given)
 turn_heard events asked given es none =
-    flat_map-append heard_by events (Reading asked given ∷ es) ∙ ap (λ rest. heard events ++ (heard_by (Reading asked given) ++ rest)) (hears_nothing es none)
+    flat_map-append heard_by events (Reading asked given ∷ es) ∙ ap (λ rest. heard events ++ (heard_by (Reading asked given) ++ rest)) (hears_nothing es none).0
     ∙ ap (λ rest. heard events ++ rest) (append-nil (heard_by (Reading asked given)))
 
 pub turn_said : (events : List Event) (asked : ℕ) (given : Option (List ℕ)) (es : List Event) → said (turn events asked given es) ≡ said events ++ said es
@@ -115,7 +100,7 @@ pub turn_end : (events : List Event) (asked : ℕ) (given : Option (List ℕ)) (
     → list_any is_end (turn events asked given es) ≡ is_end (Reading asked given)
 turn_end events asked given es none endless =
     list_any-append is_end events (Reading asked given ∷ es)
-    ∙ (λ i. endless i || (is_end (Reading asked given) || finds_no_end es none i))
+    ∙ (λ i. endless i || (is_end (Reading asked given) || (hears_nothing es none).1 i))
     ∙ or_false (is_end (Reading asked given))
 
 pub turn_reads : (events : List Event) (asked : ℕ) (given : Option (List ℕ)) (es : List Event) → readings es ≡ []
@@ -128,6 +113,10 @@ turn_reads events asked given es none =
 pub goes_on : (asked : ℕ) (piece : List ℕ) → 0 < length piece → is_end (Reading asked (Some piece)) ≡ false
 goes_on asked [] some = absurd (omega (arith, some))
 goes_on asked (b ∷ bs) some = refl
+
+pub gave_none : (asked : ℕ) (piece : List ℕ) → is_end (Reading asked (Some piece)) ≡ true → length piece ≡ 0
+gave_none asked [] ends = refl
+gave_none asked (b ∷ bs) ends = cc
 
 -- a read, and then what was written, are done after what was done before
 pub turn_done : {S : Type 0} {did wrote : S → S → List Event → Type 0} → ((a b c : S) (xs ys : List Event) → did a b xs → did b c ys → did a c (xs ++ ys))
@@ -142,16 +131,18 @@ stalled stops = stops.appended.events ++ Writing stops.appended.offered stops.ap
 
 -- where a script goes on and nothing waits
 module _ {start p : Progress} {AreMade : List (Call × Reply) → Type 0} {events : List Event} (on : GoesOn start p AreMade (said_within (Some []) (heard events)) events false)
-    (empty : p.text ≡ []) (asked : ℕ) (few : asked ≤ 4096) where
+    (empty : p.text ≡ []) where
   -- all that was read is answered
   pub is_answered : IsAnswered start events
   is_answered =
       all_answered start p events (said_within (Some []) (heard events)) on.answered empty
       (said_within-whole (heard events) ∙ ap (λ ended. if ended then said_of (heard events) else said_whole (heard events)) (sym on.ends))
 
+module _ {start p : Progress} {AreMade : List (Call × Reply) → Type 0} {events : List Event} (on : GoesOn start p AreMade (said_within (Some []) (heard events)) events false)
+    (empty : p.text ≡ []) {asked : ℕ} (size : asked ≡ 4096) where
   -- a read may follow, and then what follows it
   pub read_follows : (given : Option (List ℕ)) (es : List Event) → Each (Follows start) (events ++ Reading asked given ∷ []) es → Each (Follows start) [] (turn events asked given es)
-  read_follows given es rest = Each-more (Follows start) [] events (Reading asked given ∷ es) on.each ((on.well, on.ends, few, is_answered), rest)
+  read_follows given es rest = Each-more (Follows start) [] events (Reading asked given ∷ es) on.each ((on.well, on.ends, omega (arith, size), is_answered on empty), rest)
 
   module _ (piece : List ℕ) where
     read_well : AreWell (events ++ Reading asked (Some piece) ∷ [])

@@ -1,80 +1,53 @@
 -- Words that are read as they are written, one behind another.
-use Rattle.std.proofs.Common.{◌≡◌, ◌≢◌, ℕ, ◌^◌, ◌<◌, ◌≤◌, Bool, true, false, cond, eqb, List, [], ◌∷◌, ◌++◌, get_or, Option, Some, None, IfSome, suc, decimal, codes, refl, sym, ap, ◌∙◌, subst, arith, ℤ, pos, FitsSigned, lit≤, option_map, option_and_then}
-use lib.IntN.{negsuc}
-use Rattle.std.specs.Int.{w32}
-use Rattle.std.specs.Fmt.{signed_decimal}
+use Rattle.std.proofs.Common.{◌≡◌, ◌≢◌, ℕ, ◌+◌, ◌^◌, ◌<◌, ◌≤◌, Bool, true, false, eqb, List, [], ◌∷◌, ◌++◌, length, length-append, get_or, Option, Some, None, IfSome, suc, decimal, codes, refl, sym, ap, ◌∙◌, subst, arith, ℤ, pos, FitsSigned, lit≤, option_map, option_and_then}
 use Rattle.std.specs.List.{join_with_byte}
-use Rattle.std.specs.Str.Parse.{AllDigits}
-use Rattle.std.proofs.lemmas.Fmt.{digits_decimal, decimal_nonempty}
-use Rattle.std.proofs.lemmas.Str.Parse.{digit_from_value, not_in_digits}
-use Rattle.std.proofs.lemmas.Slice.Eq.{bytes_eq-Decides}
-use Rattle.std.proofs.lemmas.Bool.Decides.{nat_tests}
-use Rattle.std.proofs.lemmas.Option.{none-some, same_Some, option_and_then_some}
-use Rattle.pid_types.specs.declared.call.Call.{Call}
-use Rattle.pid_types.specs.declared.call.Call.TheVariants.{Exit, Wait, SetPgid, SetLimit, Move, Next, SetSubreaper}
-use Rattle.pid_types.specs.declared.call.Which.{Which}
-use Rattle.pid_types.specs.declared.call.Which.TheVariants.{Any, Pid, OwnGroup, Group}
+use Rattle.std.specs.Option.{option_or}
+pub use Rattle.pid_types.specs.declared.call.Which.{Which}
+pub use Rattle.pid_types.specs.declared.call.Which.TheVariants.{Any, Pid, OwnGroup, Group}
 use Rattle.pid_types.specs.declared.call.Kind.{Kind}
 use Rattle.pid_types.specs.declared.call.Kind.TheVariants as kind
 use Rattle.pid_script.specs.Lines.{word_of_kind, words_of_which, FitsWhich}
-use Rattle.pid_script.specs.Reading.{cut, number_below, signed_of, pair_of, is_word, exit_of, numbered_of, which_of, wait_of, set_pgid_of, kind_of, next_of, limit_of, move_of, switch_of, subreaper_of, by_pair}
+use Rattle.pid_script.specs.Reading.{cut, number_below, signed_of, is_word, named, before, pair, process_of, control_of, numbered_of, which_of, kind_of, limit_of, switch_of}
 use Rattle.pid_script.proofs.Cuts.{Lacks, by_test, cut-append, cut-Some, option_map_some}
-use Rattle.pid_script.proofs.Numbers.{numerals, number_below-decimal, number_below-Some, signed_of-decimal, signed_of-Some}
+use Rattle.pid_script.proofs.Numbers.{numerals, number_below-decimal, number_below-Some, signed_of-decimal, signed_of-Some, negsuc, w32, signed_decimal, AllDigits, digits_decimal, decimal_nonempty, digit_from_value, not_in_digits, bytes_eq-Decides, nat_tests, none-some, same_Some, option_and_then_some}
+use Rattle.pid_script.proofs.Room.{length_decimal_of_32, length_decimal_of_64}
 
--- which words are read, and as what
-pub record Tells {C : Type 0} (read : List ℕ → Option C) (Is : List ℕ → C → Type 0) : Type 0 where
-  pub told : (w : List ℕ) (c : C) → Is w c → read w ≡ Some c
-  pub says : (w : List ℕ) (c : C) → read w ≡ Some c → Is w c
+-- what is written so is read as that, and is no longer than this; and nothing else is read
+pub record Reads {A : Type 0} (read : List ℕ → Option A) (write : A → List ℕ) (Fits : A → Type 0) (most : ℕ) : Type 0 where
+  pub told : (x : A) → Fits x → (read (write x) ≡ Some x) × (length (write x) ≤ most)
+  pub says : (w : List ℕ) (x : A) → read w ≡ Some x → (w ≡ write x) × Fits x
 
--- what is written so
-abbrev pub Writes : {A : Type 0} → (A → List ℕ) → (A → Type 0) → List ℕ → A → Type 0
-Writes write Fits w x = (w ≡ write x) × Fits x
-
--- something that is written so, a space, and what follows
-abbrev pub Before : {A C : Type 0} → (A → List ℕ) → (A → Type 0) → (A → List ℕ → C → Type 0) → List ℕ → C → Type 0
-Before {A = A} write Fits Is w c = (x : A) × (rest : List ℕ) × (w ≡ write x ++ 32 ∷ rest) × Fits x × Is x rest c
-
--- what is made of what was read
-abbrev pub Made : {B C : Type 0} → (B → C) → (List ℕ → B → Type 0) → List ℕ → C → Type 0
-Made {B = B} make Is w c = (y : B) × Is w y × (make y ≡ c)
-
-before : {A C : Type 0} {first : List ℕ → Option A} {write : A → List ℕ} {Fits : A → Type 0} {then : A × List ℕ → Option C} {Is : A → List ℕ → C → Type 0}
-    → Tells first (Writes write Fits) → ((x : A) → Fits x → Lacks 32 (write x)) → ((x : A) → Tells (λ w. then (x, w)) (Is x))
-    → Tells (λ w. option_and_then then (option_and_then (λ p. option_and_then (λ x. Some (x, p.1)) (first p.0)) (cut 32 w))) (Before write Fits Is)
-before {first = first} {write = write} {then = then} one lacks rest = record {
-  told = λ w c is. rw (is.2, cut-append 32 (write is.0) is.1 (lacks is.0 is.3), one.told (write is.0) is.0 (refl, is.3)) ((rest is.0).told is.1 c is.4);
-  says = λ w c is.
-      option_and_then_some then _ c is (λ q here last.
-      option_and_then_some _ (cut 32 w) q here (λ p cuts named.
-      option_and_then_some _ (first p.0) q named (λ x read same.
-      let a = one.says p.0 x read in
-      (x, p.1, cut-Some 32 w p cuts ∙ ap (λ v. v ++ 32 ∷ p.1) a.0, a.1, (rest x).says p.1 c (subst (λ r. then r ≡ Some c) (sym (same_Some _ q same)) last)))));
-}
-
-made : {B C : Type 0} {read : List ℕ → Option B} {Is : List ℕ → B → Type 0} (make : B → C) → Tells read Is → Tells (λ w. option_and_then (λ y. Some (make y)) (read w)) (Made make Is)
-made {read = read} make one = record {
-  told = λ w c is. (rw (one.told w is.0 is.1) (ap Some is.2));
-  says = λ w c is. option_and_then_some _ (read w) c is (λ y read same. (y, one.says w y read, same_Some _ c same));
-}
+module _ {A B : Type 0} {first : List ℕ → Option A} {write : A → List ℕ} {Fits : A → Type 0} {m : ℕ} {second : List ℕ → Option B} {last : B → List ℕ} {Ends : B → Type 0} {n : ℕ} where
+  -- one argument, a space and what comes after it
+  pub both : Reads first write Fits m → ((x : A) → Fits x → Lacks 32 (write x)) → Reads second last Ends n
+      → Reads (pair first second) (λ p. write p.0 ++ 32 ∷ last p.1) (λ p. Fits p.0 × Ends p.1) (m + n + 1)
+  both one lacks rest = record {
+    told = λ p fits.
+        let a = one.told p.0 fits.0 in
+        let b = rest.told p.1 fits.1 in
+        (rw (cut-append 32 (write p.0) (last p.1) (lacks p.0 fits.0), a.0, b.0), omega (arith, a.1, b.1, length-append (write p.0) (32 ∷ last p.1)));
+    says = λ w p is.
+        option_and_then_some _ (before first w) p is (λ q here more.
+        option_and_then_some _ (cut 32 w) q here (λ c cuts read.
+        option_and_then_some _ (first c.0) q read (λ x front same.
+        option_and_then_some _ (second c.1) p (subst (λ r. option_and_then (λ y. Some (r.0, y)) (second r.1) ≡ Some p) (sym (same_Some _ q same)) more) (λ y back pairs.
+        let a = one.says c.0 x front in
+        let b = rest.says c.1 y back in
+        subst (λ p. (w ≡ write p.0 ++ 32 ∷ last p.1) × (Fits p.0 × Ends p.1)) (same_Some _ p pairs) (cut-Some 32 w c cuts ∙ (λ i. a.0 i ++ 32 ∷ b.0 i), (a.1, b.1))))));
+  }
 
 -- numbers
-pub number : (bound : ℕ) → bound ≤ 2 ^ 64 → Tells (number_below bound) (Writes decimal (λ n. n < bound))
+pub number : (bound : ℕ) → bound ≤ 2 ^ 64 → Reads (number_below bound) decimal (λ n. n < bound) 20
 number bound le = record {
-  told = λ w n is. (rw is.0 (number_below-decimal bound n is.1 (omega (arith, is.1))));
+  told = λ n below. (number_below-decimal bound n below (omega arith), length_decimal_of_64 n (omega arith));
   says = λ w n is. let a = number_below-Some bound w n is in (sym a.1, a.0);
 }
 
-pub process : Tells (number_below (2 ^ 32)) (Writes decimal (λ n. n < 2 ^ 32))
+pub process : Reads process_of decimal (λ n. n < 2 ^ 32) 20
 process = number (2 ^ 32) (lit≤ tt)
 
-pub control : Tells (number_below (2 ^ 64)) (Writes decimal (λ n. n < 2 ^ 64))
+pub control : Reads control_of decimal (λ n. n < 2 ^ 64) 20
 control = number (2 ^ 64) (lit≤ tt)
-
-signed : Tells signed_of (Writes signed_decimal (FitsSigned w32))
-signed = record {
-  told = λ w z is. (rw is.0 (signed_of-decimal z is.1));
-  says = λ w z is. let a = signed_of-Some w z is in (sym a.1, a.0);
-}
 
 lacks_space : (ds : List ℕ) → AllDigits 10 ds → Lacks 32 ds
 lacks_space [] digits = tt
@@ -88,145 +61,142 @@ lacks_space (d ∷ ds) digits =
 pub lacks_decimal : (n : ℕ) → n < 2 ^ 64 → Lacks 32 (decimal n)
 lacks_decimal n small = lacks_space (decimal n) (digits_decimal numerals n small)
 
-lacks_process : (n : ℕ) → n < 2 ^ 32 → Lacks 32 (decimal n)
-lacks_process n small = lacks_decimal n (omega arith)
+short_signed : (z : ℤ) → FitsSigned w32 z → (length (signed_decimal z) ≤ 20) × Lacks 32 (signed_decimal z)
+short_signed (pos n) fits =
+    let small : n < 2 ^ 31 = fits.sfits in (length_decimal_of_64 n (omega arith), lacks_decimal n (omega arith))
+short_signed (negsuc n) fits =
+    let small : n < 2 ^ 31 = fits.sfits in (omega (arith, length_decimal_of_32 (suc n) (omega arith)), (refl, lacks_decimal (suc n) (omega arith)))
 
-lacks_signed : (z : ℤ) → FitsSigned w32 z → Lacks 32 (signed_decimal z)
-lacks_signed (pos n) fits = let small : n < 2 ^ 31 = fits.sfits in lacks_decimal n (omega arith)
-lacks_signed (negsuc n) fits = let small : n < 2 ^ 31 = fits.sfits in (refl, lacks_decimal (suc n) (omega arith))
+pub signed : Reads signed_of signed_decimal (FitsSigned w32) 20
+signed = record {
+  told = λ z fits. (signed_of-decimal z fits, (short_signed z fits).0);
+  says = λ w z is. let a = signed_of-Some w z is in (sym a.1, a.0);
+}
 
--- one test of a chain of words
-pub branch : {A : Type 0} (word bytes : List ℕ) (x y : Option A) (z : A) (P : List ℕ → Type 0) → (x ≡ Some z → P word) → (y ≡ Some z → P bytes) → cond (is_word word bytes) x y ≡ Some z → P bytes
-branch word bytes x y z P then otherwise is =
-    by_test (is_word word bytes) (λ same. subst P (sym ((bytes_eq-Decides bytes word).0 same)) (then (rw same at is))) (λ other. otherwise (rw other at is))
+pub lacks_signed : (z : ℤ) → FitsSigned w32 z → Lacks 32 (signed_decimal z)
+lacks_signed z fits = (short_signed z fits).1
 
-choose : {A : Type 0} (P : List ℕ → A → Type 0) {y : Option A} (word bytes : List ℕ) (x z : A) → P word x → (y ≡ Some z → P bytes z) → cond (is_word word bytes) (Some x) y ≡ Some z → P bytes z
-choose P word bytes x z here = branch word bytes _ _ z (λ w. P w z) (λ is. subst (P word) (same_Some x z is) here)
+-- a process, and what comes after it
+pub behind : {B : Type 0} {read : List ℕ → Option B} {write : B → List ℕ} {Fits : B → Type 0} {n : ℕ} → Reads read write Fits n
+    → Reads (pair process_of read) (λ p. decimal p.0 ++ 32 ∷ write p.1) (λ p. (p.0 < 2 ^ 32) × Fits p.1) (20 + n + 1)
+behind rest = both process (λ n small. lacks_decimal n (omega arith)) rest
+
+-- each row of a table is so: one row, and the others
+abbrev pub Rows : {A : Type 0} → (List ℕ → A → Type 0) → List (List ℕ × A) → Type 0
+Rows P [] = Unit {0}
+Rows P (row ∷ rows) = P row.0 row.1 × Rows P rows
+
+infixr 5 ◌◂◌
+abbrev pub ◌◂◌ : {A B : Type 0} → A → B → A × B
+one ◂ others = (one, others)
+
+-- so is the row that a word has
+pub named-says : {A : Type 0} (P : List ℕ → A → Type 0) (rows : List (List ℕ × A)) → Rows P rows → (word : List ℕ) (x : A) → named rows word ≡ Some x → P word x
+named-says P [] all word x is = absurd (none-some x is)
+named-says P (row ∷ rows) all word x is =
+    by_test (is_word row.0 word)
+    (λ same. subst (λ w. P w x) (sym ((bytes_eq-Decides word row.0).0 same)) (subst (P row.0) (same_Some row.1 x (rw same at is)) all.0))
+    (λ other. named-says P rows all.1 word x (rw other at is))
+
+-- what is read one way, or else the other
+pub either : {A P : Type 0} (o p : Option A) (x : A) → option_or o p ≡ Some x → (o ≡ Some x → P) → (p ≡ Some x → P) → P
+either None p x is one other = other is
+either (Some y) p x is one other = one is
 
 -- kinds
-kinds : (k : Kind) → kind_of (word_of_kind k) ≡ Some k
+kind_told : (k : Kind) → (kind_of (word_of_kind k) ≡ Some k) × (length (word_of_kind k) ≤ 7) × Lacks 32 (word_of_kind k)
 unfolding kind_of
-kinds kind.Task = refl
-kinds kind.Group = refl
-kinds kind.Session = refl
+kind_told kind.Task = (refl, lit≤ tt, (refl, (refl, (refl, (refl, tt)))))
+kind_told kind.Group = (refl, lit≤ tt, (refl, (refl, (refl, (refl, (refl, tt))))))
+kind_told kind.Session = (refl, lit≤ tt, (refl, (refl, (refl, (refl, (refl, (refl, (refl, tt))))))))
 
-lacks_kind : (k : Kind) → Lacks 32 (word_of_kind k)
-lacks_kind kind.Task = (refl, (refl, (refl, (refl, tt))))
-lacks_kind kind.Group = (refl, (refl, (refl, (refl, (refl, tt)))))
-lacks_kind kind.Session = (refl, (refl, (refl, (refl, (refl, (refl, (refl, tt)))))))
-
-read_kind : (word : List ℕ) (k : Kind) → kind_of word ≡ Some k → word ≡ word_of_kind k
+pub kinds : Reads kind_of word_of_kind (λ k. Unit {0}) 7
 unfolding kind_of
-read_kind word k =
-    let P : List ℕ → Kind → Type 0 = λ w x. w ≡ word_of_kind x in
-    choose P (codes "task") word kind.Task k refl (choose P (codes "group") word kind.Group k refl (choose P (codes "session") word kind.Session k refl (λ none. absurd (none-some k none))))
+kinds = record {
+  told = λ k _. ((kind_told k).0, (kind_told k).1);
+  says = λ w k is.
+      (named-says (λ w k. w ≡ word_of_kind k) ((codes "task", kind.Task) ∷ (codes "group", kind.Group) ∷ (codes "session", kind.Session) ∷ [])
+      (refl ◂ refl ◂ refl ◂ tt) w k is, tt);
+}
+
+pub lacks_kind : (k : Kind) → Unit {0} → Lacks 32 (word_of_kind k)
+lacks_kind k _ = (kind_told k).2
 
 -- a switch
 abbrev pub word_of_switch : Bool → List ℕ
 word_of_switch true = codes "on"
 word_of_switch false = codes "off"
 
-switches : (on : Bool) → switch_of (word_of_switch on) ≡ Some on
+switch_told : (on : Bool) → Unit {0} → (switch_of (word_of_switch on) ≡ Some on) × (length (word_of_switch on) ≤ 3)
 unfolding switch_of
-switches true = refl
-switches false = refl
+switch_told true _ = (refl, lit≤ tt)
+switch_told false _ = (refl, lit≤ tt)
 
-read_switch : (word : List ℕ) (on : Bool) → switch_of word ≡ Some on → word ≡ word_of_switch on
+pub switch : Reads switch_of word_of_switch (λ on. Unit {0}) 3
 unfolding switch_of
-read_switch word on =
-    let P : List ℕ → Bool → Type 0 = λ w x. w ≡ word_of_switch x in
-    choose P (codes "on") word true on refl (choose P (codes "off") word false on refl (λ none. absurd (none-some on none)))
+switch = record {
+  told = switch_told;
+  says = λ w on is. (named-says (λ w on. w ≡ word_of_switch on) ((codes "on", true) ∷ (codes "off", false) ∷ []) (refl ◂ refl ◂ tt) w on is, tt);
+}
 
 -- the children that a wait selects
 abbrev pub text_of_which : Which → List ℕ
 text_of_which which = join_with_byte 32 (words_of_which which)
 
-selects : (which : Which) → FitsWhich which → which_of (text_of_which which) ≡ Some which
+which_told : (x : Which) → FitsWhich x → (which_of (text_of_which x) ≡ Some x) × (length (text_of_which x) ≤ 20)
 unfolding which_of numbered_of
-selects Any fits = refl
-selects OwnGroup fits = refl
-selects (Pid number) fits = rw (number_below-decimal (2 ^ 32) number fits (omega arith))
-selects (Group number) fits = rw (number_below-decimal (2 ^ 32) number fits (omega arith))
+which_told Any fits = (refl, lit≤ tt)
+which_told OwnGroup fits = (refl, lit≤ tt)
+which_told (Pid n) fits = (rw (number_below-decimal (2 ^ 32) n fits (omega arith)), omega (arith, length_decimal_of_32 n fits))
+which_told (Group n) fits = (rw (number_below-decimal (2 ^ 32) n fits (omega arith)), omega (arith, length_decimal_of_32 n fits))
 
-read_which : (words : List ℕ) (which : Which) → which_of words ≡ Some which → Writes text_of_which FitsWhich words which
+abbrev IsWritten : List ℕ → Which → Type 0
+IsWritten words x = (words ≡ text_of_which x) × FitsWhich x
+
+pub which : Reads which_of text_of_which FitsWhich 20
 unfolding which_of numbered_of
-read_which words which =
-    let P : List ℕ → Which → Type 0 = λ bytes x. Writes text_of_which FitsWhich bytes x in
-    choose P (codes "any") words Any which (refl, tt) (choose P (codes "own") words OwnGroup which (refl, tt) (λ rest.
-    option_and_then_some _ (cut 32 words) which rest (λ p cuts rest.
-    option_and_then_some _ (number_below (2 ^ 32) p.1) which rest (λ n number last.
-    let a = number_below-Some (2 ^ 32) p.1 n number in
-    let Q : List ℕ → Which → Type 0 = λ selector x. P (selector ++ 32 ∷ decimal n) x in
-    subst (λ bytes. P bytes which) (sym (cut-Some 32 words p cuts ∙ ap (λ w. p.0 ++ 32 ∷ w) (sym a.1)))
-    (choose Q (codes "pid") p.0 (Pid n) which (refl, a.0) (choose Q (codes "group") p.0 (Group n) which (refl, a.0) (λ none. absurd (none-some which none))) last)))))
+which = record {
+  told = which_told;
+  says = λ words x is.
+      let selectors : List (List ℕ × (ℕ → Which)) = (codes "pid", Pid) ∷ (codes "group", Group) ∷ [] in
+      either _ (numbered_of words) x is (named-says IsWritten ((codes "any", Any) ∷ (codes "own", OwnGroup) ∷ []) ((refl, tt) ◂ (refl, tt) ◂ tt) words x)
+      (λ numbered.
+      option_and_then_some _ (cut 32 words) x numbered (λ p cuts rest.
+      option_and_then_some _ (process_of p.1) x rest (λ n number last.
+      option_map_some _ (named selectors p.0) x last (λ selector one same.
+      let a = number_below-Some (2 ^ 32) p.1 n number in
+      subst (IsWritten words) same (subst (λ bytes. IsWritten bytes (selector n)) (sym (cut-Some 32 words p cuts ∙ ap (λ w. p.0 ++ 32 ∷ w) (sym a.1)))
+      (named-says (λ word selector. IsWritten (word ++ 32 ∷ decimal n) (selector n)) selectors ((refl, a.0) ◂ (refl, a.0) ◂ tt) p.0 selector one))))));
+}
 
 -- a limit
 abbrev pub text_of_limit : Option ℕ → List ℕ
 text_of_limit None = codes "max"
 text_of_limit (Some limit) = decimal limit
 
+abbrev IsLimit : Option ℕ → Type 0
+IsLimit limit = IfSome limit (λ n. n < 2 ^ 32)
+
 pub false_from : (b : Bool) → (b ≡ true → ⊥) → b ≡ false
 false_from true never = absurd (never refl)
 false_from false never = refl
 
-not_max : (n : ℕ) → n < 2 ^ 64 → is_word (codes "max") (decimal n) ≡ false
-not_max n small = false_from _ (λ same.
-    let is : decimal n ≡ codes "max" = (bytes_eq-Decides (decimal n) (codes "max")).0 same in
-    not_in_digits numerals (decimal n) 109 (digits_decimal numerals n small) (λ range. absurd (omega (arith, range))) 0 (decimal_nonempty n small)
-    (ap (λ ds. get_or ds 0 0) is))
-
-limits : (id : ℕ) (limit : Option ℕ) → IfSome limit (λ n. n < 2 ^ 32)
-    → cond (is_word (codes "max") (text_of_limit limit)) (Some (SetLimit id None)) (option_map (λ n. SetLimit id (Some n)) (number_below (2 ^ 32) (text_of_limit limit))) ≡ Some (SetLimit id limit)
-limits id None fits = refl
-limits id (Some n) fits = rw (not_max n (omega arith), number_below-decimal (2 ^ 32) n fits (omega arith))
-
--- what is read behind each command
-pub exit : Tells exit_of (Before decimal (λ n. n < 2 ^ 32) (λ caller. Made (Exit caller) (Writes decimal (λ n. n < 2 ^ 8))))
-unfolding exit_of
-exit = before process lacks_process (λ caller. made (Exit caller) (number (2 ^ 8) (lit≤ tt)))
-
-pub move : Tells move_of (Before decimal (λ n. n < 2 ^ 32) (λ task. Made (Move task) (Writes decimal (λ n. n < 2 ^ 64))))
-unfolding move_of
-move = before process lacks_process (λ task. made (Move task) control)
-
-pub wait : Tells wait_of (Before decimal (λ n. n < 2 ^ 32) (λ caller. Made (Wait caller) (Writes text_of_which FitsWhich)))
-unfolding wait_of
-wait = before process lacks_process (λ caller. made (Wait caller) (record { told = λ w which is. (rw is.0 (selects which is.1)); says = read_which }))
-
-pub subreaper : Tells subreaper_of (Before decimal (λ n. n < 2 ^ 32) (λ caller. Made (SetSubreaper caller) (Writes word_of_switch (λ on. Unit {0}))))
-unfolding subreaper_of
-subreaper = before process lacks_process (λ caller. made (SetSubreaper caller) (record { told = λ w on is. (rw is.0 (switches on)); says = λ w on is. (read_switch w on is, tt) }))
-
-pub limit : Tells limit_of (Before decimal (λ n. n < 2 ^ 64) (λ id. Made (SetLimit id) (Writes text_of_limit (λ limit. IfSome limit (λ n. n < 2 ^ 32)))))
+limit_told : (x : Option ℕ) → IsLimit x → (limit_of (text_of_limit x) ≡ Some x) × (length (text_of_limit x) ≤ 20)
 unfolding limit_of
-limit = before control lacks_decimal (λ id. record {
-  told = λ w c is. (rw is.1.0 (limits id is.0 is.1.1 ∙ ap Some is.2));
-  says = λ w c is.
-      branch (codes "max") w _ _ c (λ v. Made (SetLimit id) (Writes text_of_limit (λ limit. IfSome limit (λ n. n < 2 ^ 32))) v c) (λ none. (None, (refl, tt), same_Some _ c none))
-      (λ some. option_map_some _ (number_below (2 ^ 32) w) c some (λ n number same. let a = number_below-Some (2 ^ 32) w n number in (Some n, (sym a.1, a.0), same))) is;
-})
+limit_told None fits = (refl, lit≤ tt)
+limit_told (Some n) fits =
+    let not_max : is_word (codes "max") (decimal n) ≡ false = false_from _ (λ same.
+    not_in_digits numerals (decimal n) 109 (digits_decimal numerals n (omega arith)) (λ range. absurd (omega (arith, range))) 0 (decimal_nonempty n (omega arith))
+    (ap (λ ds. get_or ds 0 0) ((bytes_eq-Decides (decimal n) (codes "max")).0 same))) in
+    (rw (not_max, number_below-decimal (2 ^ 32) n fits (omega arith)), length_decimal_of_64 n (omega arith))
 
-pub set_pgid : Tells set_pgid_of (Before decimal (λ n. n < 2 ^ 32) (λ caller. Before signed_decimal (FitsSigned w32) (λ id. Made (SetPgid caller id) (Writes signed_decimal (FitsSigned w32)))))
-unfolding set_pgid_of
-set_pgid = before process lacks_process (λ caller. before signed lacks_signed (λ id. made (SetPgid caller id) signed))
-
-pub next : Tells next_of (Before decimal (λ n. n < 2 ^ 32) (λ caller. Before word_of_kind (λ k. Unit {0}) (λ k. Made (Next caller k) (Writes decimal (λ n. n < 2 ^ 32)))))
-unfolding next_of
-next = before process lacks_process (λ caller. record {
-  told = λ w c is. (rw (is.2, cut-append 32 (word_of_kind is.0) is.1 (lacks_kind is.0), kinds is.0) ((made (Next caller is.0) process).told is.1 c is.4));
-  says = λ w c is.
-      option_and_then_some _ (cut 32 w) c is (λ p cuts rest.
-      option_and_then_some _ (kind_of p.0) c rest (λ k one last.
-      (k, p.1, cut-Some 32 w p cuts ∙ ap (λ v. v ++ 32 ∷ p.1) (read_kind p.0 k one), tt, (made (Next caller k) process).says p.1 c last)));
-})
-
-pair : Tells pair_of (Before decimal (λ n. n < 2 ^ 32) (λ a. Made (λ b. (a, b)) (Writes decimal (λ n. n < 2 ^ 32))))
-unfolding pair_of
-pair = before process lacks_process (λ a. made (λ b. (a, b)) process)
-
-pub two : (call : ℕ → ℕ → Call) → Tells (by_pair call) (Before decimal (λ n. n < 2 ^ 32) (λ a. Made (call a) (Writes decimal (λ n. n < 2 ^ 32))))
-two call = record {
-  told = λ w c is. ap (option_map (λ p. call p.0 p.1)) (pair.told w (is.0, is.4.0) (is.0, is.1, is.2, is.3, (is.4.0, is.4.1, refl))) ∙ ap Some is.4.2;
-  says = λ w c is. option_map_some _ (pair_of w) c is (λ p both same.
-      let a = pair.says w p both in (a.0, a.1, a.2, a.3, (a.4.0, a.4.1, ap (λ q. call q.0 q.1) a.4.2 ∙ same)));
+pub limit : Reads limit_of text_of_limit IsLimit 20
+unfolding limit_of
+limit = record {
+  told = limit_told;
+  says = λ w x is.
+      either _ (option_map Some (process_of w)) x is
+      (named-says (λ w x. (w ≡ text_of_limit x) × IsLimit x) ((codes "max", None) ∷ []) ((refl, tt) ◂ tt) w x)
+      (λ some. option_map_some _ (process_of w) x some (λ n number same.
+      let a = number_below-Some (2 ^ 32) w n number in subst (λ x. (w ≡ text_of_limit x) × IsLimit x) same (sym a.1, a.0)));
 }

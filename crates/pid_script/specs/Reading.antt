@@ -1,7 +1,7 @@
--- What a line of a script says.
+-- What a line of a script says: a table of commands, and small readers for the words behind them.
 use Rattle.std.specs.Prelude.{ℕ, ◌^◌, ◌+◌, ◌<◌, ◌≤◌, ◌≡◌, take, ◌≢◌, length, slice_index, Bool, true, false, ◌&&◌, List, [], ◌∷◌, codes, decimal, Option, Some, None, if◌then◌else◌, ◌==◌, nat_lt, option_and_then, ℤ, pos}
 use lib.IntN.{neg_ℤ}
-use Rattle.std.specs.Option.{option_map}
+use Rattle.std.specs.Option.{option_map, option_or}
 use Rattle.std.specs.Str.{bytes_eq}
 use Rattle.std.specs.Char.{digit_value}
 use Rattle.std.specs.Str.Parse.{AllDigits, digits_value}
@@ -25,6 +25,12 @@ is_word word bytes = bytes_eq bytes word
 -- no such byte stands before this index
 abbrev pub IsFreeOf : ℕ → ℕ → List ℕ → Type 0
 IsFreeOf byte end bytes = (k : ℕ) → k < end → slice_index bytes k ≢ byte
+
+-- the first such byte stands at this index
+pub record IsFirstOf (byte index : ℕ) (bytes : List ℕ) : Type 0 where
+  pub within : index < length bytes
+  pub is : slice_index bytes index ≡ byte
+  pub free : IsFreeOf byte index bytes
 
 -- what stands before the first such byte, and what stands after it
 abbrev pub cut : ℕ → List ℕ → Option (List ℕ × List ℕ)
@@ -57,196 +63,112 @@ unfoldable pub signed_of : List ℕ → Option ℤ
 signed_of [] = None
 signed_of (b ∷ bs) = if b == 45 then negative_of bs else option_map pos (number_below (2 ^ 31) (b ∷ bs))
 
--- the number below the bound before the first space, and what stands after that space
+-- no minus sign stands in front
+abbrev pub IsUnsigned : List ℕ → Type 0
+IsUnsigned word = 0 < length word → slice_index word 0 ≢ 45
+
+-- what is read of the word before the first space, and what stands after that space
+abbrev pub before : {A : Type 0} → (List ℕ → Option A) → List ℕ → Option (A × List ℕ)
+before read words = do
+  p ← cut 32 words
+  x ← read p.0
+  Some (x, p.1)
+
+-- a number below the bound, and one with its sign
 abbrev pub number_then : ℕ → List ℕ → Option (ℕ × List ℕ)
-number_then bound words = do
-  p ← cut 32 words
-  number ← number_below bound p.0
-  Some (number, p.1)
+number_then bound = before (number_below bound)
 
--- the number with its sign before the first space, and what stands after that space
 abbrev pub signed_then : List ℕ → Option (ℤ × List ℕ)
-signed_then words = do
-  p ← cut 32 words
-  number ← signed_of p.0
-  Some (number, p.1)
+signed_then = before signed_of
 
--- two process numbers
-unfoldable pub pair_of : List ℕ → Option (ℕ × ℕ)
-pair_of words = do
-  first ← number_then (2 ^ 32) words
-  second ← number_below (2 ^ 32) first.1
-  Some (first.0, second)
+-- what the row of this word has
+abbrev pub named : {A : Type 0} → List (List ℕ × A) → List ℕ → Option A
+named [] word = None
+named (row ∷ rows) word = if is_word row.0 word then Some row.1 else named rows word
 
--- a caller, and whether the word `new` follows it
-abbrev pub forked_by : List ℕ → Option (List ℕ × List ℕ) → Option Call
-forked_by words None = option_map (λ caller. Fork caller false) (number_below (2 ^ 32) words)
-forked_by words (Some p) =
-    if is_word (codes "new") p.1 then option_map (λ caller. Fork caller true) (number_below (2 ^ 32) p.0) else None
+-- the number of a process, of a control group, and of a status
+abbrev pub process_of : List ℕ → Option ℕ
+process_of = number_below (2 ^ 32)
 
--- a caller and the word `new`
-unfoldable pub fork_new_of : List ℕ → Option Call
-fork_new_of words = do
-  caller ← number_then (2 ^ 32) words
-  if is_word (codes "new") caller.1 then Some (Fork caller.0 true) else None
+abbrev pub control_of : List ℕ → Option ℕ
+control_of = number_below (2 ^ 64)
 
--- a caller, and whether its child gets a new namespace
-unfoldable pub fork_of : List ℕ → Option Call
-fork_of words = forked_by words (cut 32 words)
+abbrev pub status_of : List ℕ → Option ℕ
+status_of = number_below (2 ^ 8)
 
--- a caller and its status
-unfoldable pub exit_of : List ℕ → Option Call
-exit_of words = do
-  caller ← number_then (2 ^ 32) words
-  status ← number_below (2 ^ 8) caller.1
-  Some (Exit caller.0 status)
+-- a kind of number, and a switch
+unfoldable pub kind_of : List ℕ → Option Kind
+kind_of = named ((codes "task", kind.Task) ∷ (codes "group", kind.Group) ∷ (codes "session", kind.Session) ∷ [])
 
--- the children that the selector and the number name
-abbrev pub selected_by : List ℕ → ℕ → Option Which
-selected_by selector number =
-    if is_word (codes "pid") selector then Some (Pid number)
-    else (if is_word (codes "group") selector then Some (Group number) else None)
+unfoldable pub switch_of : List ℕ → Option Bool
+switch_of = named ((codes "on", true) ∷ (codes "off", false) ∷ [])
 
--- the children that a wait selects by a number
+-- a limit
+unfoldable pub limit_of : List ℕ → Option (Option ℕ)
+limit_of word = option_or (named ((codes "max", None) ∷ []) word) (option_map Some (process_of word))
+
+-- the children that a wait selects by a number, and all that it may select
 unfoldable pub numbered_of : List ℕ → Option Which
 numbered_of words = do
   p ← cut 32 words
-  number ← number_below (2 ^ 32) p.1
-  selected_by p.0 number
+  number ← process_of p.1
+  option_map (λ which. which number) (named ((codes "pid", Pid) ∷ (codes "group", Group) ∷ []) p.0)
 
--- which children a wait selects
 unfoldable pub which_of : List ℕ → Option Which
-which_of words =
-    if is_word (codes "any") words then Some Any
-    else (if is_word (codes "own") words then Some OwnGroup else numbered_of words)
+which_of words = option_or (named ((codes "any", Any) ∷ (codes "own", OwnGroup) ∷ []) words) (numbered_of words)
 
--- a caller, and which children it waits for
-unfoldable pub wait_of : List ℕ → Option Call
-wait_of words = do
-  caller ← number_then (2 ^ 32) words
-  which ← which_of caller.1
-  Some (Wait caller.0 which)
+-- one argument and, behind a space, what comes after it
+abbrev pub pair : {A B : Type 0} → (List ℕ → Option A) → (List ℕ → Option B) → List ℕ → Option (A × B)
+pair first second words = do
+  x ← before first words
+  y ← second x.1
+  Some (x.0, y)
 
--- a caller, a process and a group
-unfoldable pub set_pgid_of : List ℕ → Option Call
-set_pgid_of words = do
-  caller ← number_then (2 ^ 32) words
-  pid ← signed_then caller.1
-  pgid ← signed_of pid.1
-  Some (SetPgid caller.0 pid.0 pgid)
+-- a call of one argument, of two and of three
+abbrev pub one : {A : Type 0} → (List ℕ → Option A) → (A → Call) → List ℕ → Option Call
+one first call words = option_map call (first words)
 
--- a kind of number
-unfoldable pub kind_of : List ℕ → Option Kind
-kind_of word =
-    if is_word (codes "task") word then Some kind.Task
-    else (if is_word (codes "group") word then Some kind.Group
-    else (if is_word (codes "session") word then Some kind.Session else None))
+abbrev pub two : {A B : Type 0} → (List ℕ → Option A) → (List ℕ → Option B) → (A → B → Call) → List ℕ → Option Call
+two first second call = one (pair first second) (λ p. call p.0 p.1)
 
--- a caller, a kind and the number to begin at
-unfoldable pub next_of : List ℕ → Option Call
-next_of words = do
-  caller ← number_then (2 ^ 32) words
-  place ← cut 32 caller.1
-  kind ← kind_of place.0
-  from ← number_below (2 ^ 32) place.1
-  Some (Next caller.0 kind from)
+abbrev pub three : {A B C : Type 0} → (List ℕ → Option A) → (List ℕ → Option B) → (List ℕ → Option C) → (A → B → C → Call)
+    → List ℕ → Option Call
+three first second third call = one (pair first (pair second third)) (λ p. call p.0 p.1.0 p.1.1)
 
--- a control group and its limit
-unfoldable pub limit_of : List ℕ → Option Call
-limit_of words = do
-  id ← number_then (2 ^ 64) words
-  if is_word (codes "max") id.1 then Some (SetLimit id.0 None)
-      else option_map (λ limit. SetLimit id.0 (Some limit)) (number_below (2 ^ 32) id.1)
+-- a caller, and whether the word `new` follows it
+unfoldable pub fork_new_of : List ℕ → Option Call
+fork_new_of = two process_of (named ((codes "new", true) ∷ [])) Fork
 
--- a task and a control group
-unfoldable pub move_of : List ℕ → Option Call
-move_of words = do
-  task ← number_then (2 ^ 32) words
-  id ← number_below (2 ^ 64) task.1
-  Some (Move task.0 id)
+unfoldable pub fork_of : List ℕ → Option Call
+fork_of words = option_or (one process_of (λ caller. Fork caller false) words) (fork_new_of words)
 
--- a switch
-unfoldable pub switch_of : List ℕ → Option Bool
-switch_of word =
-    if is_word (codes "on") word then Some true
-    else (if is_word (codes "off") word then Some false else None)
+-- the commands, and what the words behind each are read as
+abbrev pub commands : List (List ℕ × (List ℕ → Option Call))
+commands =
+    (codes "fork", fork_of)
+    ∷ (codes "exec", one process_of Exec)
+    ∷ (codes "exit", two process_of status_of Exit)
+    ∷ (codes "wait", two process_of which_of Wait)
+    ∷ (codes "setpgid", three process_of signed_of signed_of SetPgid)
+    ∷ (codes "setsid", one process_of SetSid)
+    ∷ (codes "getpid", one process_of GetPid)
+    ∷ (codes "getppid", one process_of GetPpid)
+    ∷ (codes "getpgid", two process_of process_of GetPgid)
+    ∷ (codes "getsid", two process_of process_of GetSid)
+    ∷ (codes "nspid", two process_of process_of NsPid)
+    ∷ (codes "next", three process_of kind_of process_of Next)
+    ∷ (codes "mk", one control_of MakeControl)
+    ∷ (codes "rm", one control_of RemoveControl)
+    ∷ (codes "limit", two control_of limit_of SetLimit)
+    ∷ (codes "move", two process_of control_of Move)
+    ∷ (codes "count", one control_of Count)
+    ∷ (codes "join", two process_of process_of Join)
+    ∷ (codes "subreaper", two process_of switch_of SetSubreaper)
+    ∷ []
 
--- a caller and its mark
-unfoldable pub subreaper_of : List ℕ → Option Call
-subreaper_of words = do
-  caller ← number_then (2 ^ 32) words
-  on ← switch_of caller.1
-  Some (SetSubreaper caller.0 on)
-
--- the call of a command about one process
-abbrev pub by_process : (ℕ → Call) → List ℕ → Option Call
-by_process call words = option_map call (number_below (2 ^ 32) words)
-
--- the call of a command about two processes
-abbrev pub by_pair : (ℕ → ℕ → Call) → List ℕ → Option Call
-by_pair call words = option_map (λ p. call p.0 p.1) (pair_of words)
-
--- the call of a command about one control group
-abbrev pub by_control : (ℕ → Call) → List ℕ → Option Call
-by_control call words = option_map call (number_below (2 ^ 64) words)
-
--- the call of a command of two letters and its arguments
-unfoldable pub two_letters_of : List ℕ → List ℕ → Option Call
-two_letters_of command words =
-    if is_word (codes "mk") command then by_control MakeControl words
-    else (if is_word (codes "rm") command then by_control RemoveControl words
-    else None)
-
--- the call of a command of four letters and its arguments
-unfoldable pub four_letters_of : List ℕ → List ℕ → Option Call
-four_letters_of command words =
-    if is_word (codes "fork") command then fork_of words
-    else (if is_word (codes "exec") command then by_process Exec words
-    else (if is_word (codes "exit") command then exit_of words
-    else (if is_word (codes "wait") command then wait_of words
-    else (if is_word (codes "next") command then next_of words
-    else (if is_word (codes "move") command then move_of words
-    else (if is_word (codes "join") command then by_pair Join words
-    else None))))))
-
--- the call of a command of five letters and its arguments
-unfoldable pub five_letters_of : List ℕ → List ℕ → Option Call
-five_letters_of command words =
-    if is_word (codes "nspid") command then by_pair NsPid words
-    else (if is_word (codes "limit") command then limit_of words
-    else (if is_word (codes "count") command then by_control Count words
-    else None))
-
--- the call of a command of six letters and its arguments
-unfoldable pub six_letters_of : List ℕ → List ℕ → Option Call
-six_letters_of command words =
-    if is_word (codes "setsid") command then by_process SetSid words
-    else (if is_word (codes "getpid") command then by_process GetPid words
-    else (if is_word (codes "getsid") command then by_pair GetSid words
-    else None))
-
--- the call of a command of seven letters and its arguments
-unfoldable pub seven_letters_of : List ℕ → List ℕ → Option Call
-seven_letters_of command words =
-    if is_word (codes "setpgid") command then set_pgid_of words
-    else (if is_word (codes "getppid") command then by_process GetPpid words
-    else (if is_word (codes "getpgid") command then by_pair GetPgid words
-    else None))
-
--- the call of a command of nine letters and its arguments
-unfoldable pub nine_letters_of : List ℕ → List ℕ → Option Call
-nine_letters_of command words =
-    if is_word (codes "subreaper") command then subreaper_of words else None
-
--- the call of a command and its arguments
+-- the call of a command and the words behind it
 unfoldable pub command_of : List ℕ → List ℕ → Option Call
-command_of command words =
-    if length command == 2 then two_letters_of command words
-    else (if length command == 4 then four_letters_of command words
-    else (if length command == 5 then five_letters_of command words
-    else (if length command == 6 then six_letters_of command words
-    else (if length command == 7 then seven_letters_of command words
-    else nine_letters_of command words))))
+command_of command words = named commands command >>= λ read. read words
 
 -- the call on a line
 abbrev pub call_of : List ℕ → Option Call

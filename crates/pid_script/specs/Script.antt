@@ -69,6 +69,11 @@ last_said None = says.Bad ∷ []
 last_said (Some []) = []
 last_said (Some (b ∷ bs)) = parsed (b ∷ bs) ∷ []
 
+-- what is said by what is read next: the lines that end within these bytes, and at the end, which gives none, what is left
+abbrev pub said_next : Option (List ℕ) → List ℕ → List Line
+said_next kept [] = last_said kept
+said_next kept (b ∷ bs) = said_within kept (b ∷ bs)
+
 -- why a sink takes no more: a write has failed, or has taken nothing
 abbrev pub HasStopped : Bool → Bool → Type 0
 HasStopped failed full = IsTrue failed ⊎ IsTrue full

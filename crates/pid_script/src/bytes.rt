@@ -1,8 +1,8 @@
 //! Bytes cut at a byte.
-ghost use Rattle.std.specs.Prelude.{◌≡◌, ◌+◌, ◌≤◌, ◌==◌, not, length, take, drop};
-ghost use Rattle.std.specs.List.{position, prefix_len};
+ghost use Rattle.std.specs.Prelude.{◌≡◌, ◌+◌, ◌≤◌, ◌==◌, not, length, take, drop, IfSome, IfNone};
+ghost use Rattle.std.specs.List.{prefix_len};
 ghost use Rattle.std.specs.Option.{option_map};
-ghost use Rattle.pid_script.specs.Reading.{IsFreeOf, cut};
+ghost use Rattle.pid_script.specs.Reading.{IsFirstOf, IsFreeOf, cut};
 
 use std::simd::prelude::*;
 
@@ -13,7 +13,8 @@ const LANES: usize = 16;
 fn first_index_from(bytes: &[u8], byte: u8, from: usize) -> Option<usize>
     requires within { from ≤ length bytes.now }
     requires none { IsFreeOf byte from bytes.now }
-    ensures { result ≡ position (λ b. b == byte) bytes.now }
+    ensures some { IfSome result (λ i. IsFirstOf byte i bytes.now) }
+    ensures none { IfNone result (IsFreeOf byte (length bytes.now) bytes.now) }
 {
     for index in from..bytes.len() {
         if bytes[index] == byte {
@@ -40,7 +41,8 @@ fn run_without(bytes: &[u8], byte: u8, index: usize) -> usize
 /// The index of the first such byte. As many bytes as there are lanes are looked at together, which costs less.
 #[inline(always)]
 fn first_index(bytes: &[u8], byte: u8) -> Option<usize>
-    ensures { result ≡ position (λ b. b == byte) bytes.now }
+    ensures some { IfSome result (λ i. IsFirstOf byte i bytes.now) }
+    ensures none { IfNone result (IsFreeOf byte (length bytes.now) bytes.now) }
 {
     let mut index = 0;
     while bytes.len() - index >= LANES {

@@ -1,11 +1,9 @@
 //! Lines to calls: [`parse_line`] is the table of all lines. Below it stands a reader for the words
 //! of each command; each answers `None` for words that are no such command's.
-ghost use Rattle.std.specs.Prelude.{◌≡◌, ◌<◌, length};
+ghost use Rattle.std.specs.Prelude.{◌≡◌, ◌<◌, ◌^◌, length, codes};
 ghost use Rattle.pid_types.specs.declared.call.Call.TheVariants as calls;
-ghost use Rattle.pid_script.specs.Reading.{pair_of, fork_new_of, fork_of, exit_of, numbered_of, which_of, wait_of};
-ghost use Rattle.pid_script.specs.Reading.{set_pgid_of, kind_of, next_of, limit_of, move_of, switch_of, subreaper_of};
-ghost use Rattle.pid_script.specs.Reading.{by_process, by_pair, by_control, two_letters_of, four_letters_of};
-ghost use Rattle.pid_script.specs.Reading.{five_letters_of, six_letters_of, seven_letters_of, nine_letters_of};
+ghost use Rattle.pid_script.specs.Reading.{process_of, control_of, status_of, signed_of, kind_of, switch_of, limit_of};
+ghost use Rattle.pid_script.specs.Reading.{numbered_of, which_of, pair, two, three, fork_new_of, fork_of};
 ghost use Rattle.pid_script.specs.Reading.{command_of, call_of, call_or_bad, parsed};
 ghost use Rattle.pid_script.specs.Lines.{Says};
 
@@ -25,10 +23,9 @@ pub enum Line {
 }
 
 /// Two numbers.
-#[tactic(auto, unfolding(crate::specs::Reading::pair_of))]
 #[inline(always)]
 fn read_pair(words: &[u8]) -> Option<(u32, u32)>
-    ensures { result ≡ pair_of words.now }
+    ensures { result ≡ pair process_of process_of words.now }
 {
     let (first, rest) = read_then(words)?;
     Some((first, read_u32(rest)?))
@@ -60,7 +57,7 @@ fn read_fork_more(words: &[u8]) -> Option<Call>
 }
 
 /// `P` or `P new`.
-#[tactic(auto, using(crate::proofs::Read::forks))]
+#[tactic(auto, unfolding(crate::specs::Reading::fork_of))]
 #[inline(always)]
 fn read_fork(words: &[u8]) -> Option<Call>
     ensures { result ≡ fork_of words.now }
@@ -75,10 +72,9 @@ fn read_fork(words: &[u8]) -> Option<Call>
 }
 
 /// `P S`.
-#[tactic(auto, unfolding(crate::specs::Reading::exit_of))]
 #[inline(always)]
 fn read_exit(words: &[u8]) -> Option<Call>
-    ensures { result ≡ exit_of words.now }
+    ensures { result ≡ two process_of status_of calls.Exit words.now }
 {
     let (caller, status) = read_then(words)?;
     Some(Call::Exit {
@@ -115,10 +111,9 @@ fn read_which(words: &[u8]) -> Option<Which>
 }
 
 /// `P`, and which children.
-#[tactic(auto, unfolding(crate::specs::Reading::wait_of))]
 #[inline(always)]
 fn read_wait(words: &[u8]) -> Option<Call>
-    ensures { result ≡ wait_of words.now }
+    ensures { result ≡ two process_of which_of calls.Wait words.now }
 {
     let (caller, which) = read_then(words)?;
     Some(Call::Wait {
@@ -128,9 +123,8 @@ fn read_wait(words: &[u8]) -> Option<Call>
 }
 
 /// `P G G`.
-#[tactic(auto, unfolding(crate::specs::Reading::set_pgid_of))]
 fn read_set_pgid(words: &[u8]) -> Option<Call>
-    ensures { result ≡ set_pgid_of words.now }
+    ensures { result ≡ three process_of signed_of signed_of calls.SetPgid words.now }
 {
     let (caller, ids) = read_then(words)?;
     let (pid, rest) = read_signed_then(ids)?;
@@ -152,9 +146,8 @@ fn read_kind(word: &[u8]) -> Option<Kind>
 }
 
 /// `P`, the kind, `P`.
-#[tactic(auto, unfolding(crate::specs::Reading::next_of))]
 fn read_next(words: &[u8]) -> Option<Call>
-    ensures { result ≡ next_of words.now }
+    ensures { result ≡ three process_of kind_of process_of calls.Next words.now }
 {
     let (caller, place) = read_then(words)?;
     let (kind, from) = split_word(place)?;
@@ -165,24 +158,31 @@ fn read_next(words: &[u8]) -> Option<Call>
     })
 }
 
-/// `I P` or `I max`.
+/// `P`, or `max` for none.
 #[tactic(auto, unfolding(crate::specs::Reading::limit_of))]
+fn read_most(word: &[u8]) -> Option<Option<u32>>
+    ensures { result ≡ limit_of word.now }
+{
+    match word {
+        b"max" => Some(None),
+        _ => Some(Some(read_u32(word)?)),
+    }
+}
+
+/// `I P` or `I max`.
 fn read_limit(words: &[u8]) -> Option<Call>
-    ensures { result ≡ limit_of words.now }
+    ensures { result ≡ two control_of limit_of calls.SetLimit words.now }
 {
     let (id, limit) = split_word(words)?;
-    let id = read_u64(id)?;
-    let limit = match limit {
-        b"max" => None,
-        _ => Some(read_u32(limit)?),
-    };
-    Some(Call::SetLimit { id, limit })
+    Some(Call::SetLimit {
+        id: read_u64(id)?,
+        limit: read_most(limit)?,
+    })
 }
 
 /// `P I`.
-#[tactic(auto, unfolding(crate::specs::Reading::move_of))]
 fn read_move(words: &[u8]) -> Option<Call>
-    ensures { result ≡ move_of words.now }
+    ensures { result ≡ two process_of control_of calls.Move words.now }
 {
     let (task, id) = read_then(words)?;
     Some(Call::Move {
@@ -204,9 +204,8 @@ fn read_switch(word: &[u8]) -> Option<bool>
 }
 
 /// `P on` or `P off`.
-#[tactic(auto, unfolding(crate::specs::Reading::subreaper_of))]
 fn read_subreaper(words: &[u8]) -> Option<Call>
-    ensures { result ≡ subreaper_of words.now }
+    ensures { result ≡ two process_of switch_of calls.SetSubreaper words.now }
 {
     let (caller, on) = read_then(words)?;
     Some(Call::SetSubreaper {
@@ -216,9 +215,9 @@ fn read_subreaper(words: &[u8]) -> Option<Call>
 }
 
 /// The call of a command of two letters and the words behind it.
-#[tactic(auto, unfolding(crate::specs::Reading::two_letters_of))]
+#[tactic(auto, using(crate::proofs::Commands::letters), unfolding(crate::specs::Reading::command_of))]
 fn read_two_letters(command: &[u8], words: &[u8]) -> Option<Call>
-    ensures { result ≡ two_letters_of command.now words.now }
+    ensures { length command.now ≡ 2 → result ≡ command_of command.now words.now }
 {
     match command {
         b"mk" => read_u64(words).map(|parent| Call::MakeControl { parent }),
@@ -228,9 +227,9 @@ fn read_two_letters(command: &[u8], words: &[u8]) -> Option<Call>
 }
 
 /// The call of a command of four letters and the words behind it.
-#[tactic(auto, unfolding(crate::specs::Reading::four_letters_of))]
+#[tactic(auto, using(crate::proofs::Commands::letters), unfolding(crate::specs::Reading::command_of))]
 fn read_four_letters(command: &[u8], words: &[u8]) -> Option<Call>
-    ensures { result ≡ four_letters_of command.now words.now }
+    ensures { length command.now ≡ 4 → result ≡ command_of command.now words.now }
 {
     match command {
         b"fork" => read_fork(words),
@@ -245,9 +244,9 @@ fn read_four_letters(command: &[u8], words: &[u8]) -> Option<Call>
 }
 
 /// The call of a command of five letters and the words behind it.
-#[tactic(auto, unfolding(crate::specs::Reading::five_letters_of))]
+#[tactic(auto, using(crate::proofs::Commands::letters), unfolding(crate::specs::Reading::command_of))]
 fn read_five_letters(command: &[u8], words: &[u8]) -> Option<Call>
-    ensures { result ≡ five_letters_of command.now words.now }
+    ensures { length command.now ≡ 5 → result ≡ command_of command.now words.now }
 {
     match command {
         b"nspid" => read_pair(words).map(|(caller, target)| Call::NsPid { caller, target }),
@@ -258,9 +257,9 @@ fn read_five_letters(command: &[u8], words: &[u8]) -> Option<Call>
 }
 
 /// The call of a command of six letters and the words behind it.
-#[tactic(auto, unfolding(crate::specs::Reading::six_letters_of))]
+#[tactic(auto, unfolding(crate::specs::Reading::command_of))]
 fn read_six_letters(command: &[u8], words: &[u8]) -> Option<Call>
-    ensures { result ≡ six_letters_of command.now words.now }
+    ensures { length command.now ≡ 6 → result ≡ command_of command.now words.now }
 {
     match command {
         b"setsid" => read_u32(words).map(|caller| Call::SetSid { caller }),
@@ -271,9 +270,9 @@ fn read_six_letters(command: &[u8], words: &[u8]) -> Option<Call>
 }
 
 /// The call of a command of seven letters and the words behind it.
-#[tactic(auto, unfolding(crate::specs::Reading::seven_letters_of))]
+#[tactic(auto, unfolding(crate::specs::Reading::command_of))]
 fn read_seven_letters(command: &[u8], words: &[u8]) -> Option<Call>
-    ensures { result ≡ seven_letters_of command.now words.now }
+    ensures { length command.now ≡ 7 → result ≡ command_of command.now words.now }
 {
     match command {
         b"setpgid" => read_set_pgid(words),
@@ -284,9 +283,9 @@ fn read_seven_letters(command: &[u8], words: &[u8]) -> Option<Call>
 }
 
 /// The call of a command of nine letters and the words behind it.
-#[tactic(auto, unfolding(crate::specs::Reading::nine_letters_of))]
+#[tactic(auto, unfolding(crate::specs::Reading::command_of))]
 fn read_nine_letters(command: &[u8], words: &[u8]) -> Option<Call>
-    ensures { result ≡ nine_letters_of command.now words.now }
+    ensures { length command.now ≡ 9 → result ≡ command_of command.now words.now }
 {
     match command {
         b"subreaper" => read_subreaper(words),
@@ -295,7 +294,7 @@ fn read_nine_letters(command: &[u8], words: &[u8]) -> Option<Call>
 }
 
 /// The call of a command and the words behind it. A command is told by its length first.
-#[tactic(auto, unfolding(crate::specs::Reading::command_of))]
+#[tactic(auto, using(crate::proofs::Commands::no_command))]
 fn read_command(command: &[u8], words: &[u8]) -> Option<Call>
     ensures { result ≡ command_of command.now words.now }
 {
@@ -305,7 +304,8 @@ fn read_command(command: &[u8], words: &[u8]) -> Option<Call>
         5 => read_five_letters(command, words),
         6 => read_six_letters(command, words),
         7 => read_seven_letters(command, words),
-        _ => read_nine_letters(command, words),
+        9 => read_nine_letters(command, words),
+        _ => None,
     }
 }
 
@@ -321,97 +321,109 @@ fn line_of_call(call: Option<Call>) -> Line
 }
 
 /// What `fork` says with the words behind it.
+#[tactic(auto, unfolding(crate::specs::Reading::command_of))]
 #[inline(always)]
 fn fork_line(words: &[u8]) -> Line
-    ensures { result ≡ call_or_bad (fork_of words.now) }
+    ensures { result ≡ call_or_bad (command_of (codes "fork") words.now) }
 {
     line_of_call(read_fork(words))
 }
 
 /// What `exit` says with the words behind it.
+#[tactic(auto, unfolding(crate::specs::Reading::command_of))]
 #[inline(always)]
 fn exit_line(words: &[u8]) -> Line
-    ensures { result ≡ call_or_bad (exit_of words.now) }
+    ensures { result ≡ call_or_bad (command_of (codes "exit") words.now) }
 {
     line_of_call(read_exit(words))
 }
 
 /// What `wait` says with the words behind it.
+#[tactic(auto, unfolding(crate::specs::Reading::command_of))]
 #[inline(always)]
 fn wait_line(words: &[u8]) -> Line
-    ensures { result ≡ call_or_bad (wait_of words.now) }
+    ensures { result ≡ call_or_bad (command_of (codes "wait") words.now) }
 {
     line_of_call(read_wait(words))
 }
 
 /// What `next` says with the words behind it.
+#[tactic(auto, unfolding(crate::specs::Reading::command_of))]
 #[inline(never)]
 fn next_line(words: &[u8]) -> Line
-    ensures { result ≡ call_or_bad (next_of words.now) }
+    ensures { result ≡ call_or_bad (command_of (codes "next") words.now) }
 {
     line_of_call(read_next(words))
 }
 
 /// What `setpgid` says with the words behind it.
+#[tactic(auto, unfolding(crate::specs::Reading::command_of))]
 #[inline(always)]
 fn set_pgid_line(words: &[u8]) -> Line
-    ensures { result ≡ call_or_bad (set_pgid_of words.now) }
+    ensures { result ≡ call_or_bad (command_of (codes "setpgid") words.now) }
 {
     line_of_call(read_set_pgid(words))
 }
 
 /// What `setsid` says with the words behind it.
+#[tactic(auto, unfolding(crate::specs::Reading::command_of))]
 #[inline(never)]
 fn set_sid_line(words: &[u8]) -> Line
-    ensures { result ≡ call_or_bad (by_process calls.SetSid words.now) }
+    ensures { result ≡ call_or_bad (command_of (codes "setsid") words.now) }
 {
     line_of_call(read_u32(words).map(|caller| Call::SetSid { caller }))
 }
 
 /// What `getpid` says with the words behind it.
+#[tactic(auto, unfolding(crate::specs::Reading::command_of))]
 #[inline(always)]
 fn get_pid_line(words: &[u8]) -> Line
-    ensures { result ≡ call_or_bad (by_process calls.GetPid words.now) }
+    ensures { result ≡ call_or_bad (command_of (codes "getpid") words.now) }
 {
     line_of_call(read_u32(words).map(|caller| Call::GetPid { caller }))
 }
 
 /// What `getppid` says with the words behind it.
+#[tactic(auto, unfolding(crate::specs::Reading::command_of))]
 #[inline(never)]
 fn get_ppid_line(words: &[u8]) -> Line
-    ensures { result ≡ call_or_bad (by_process calls.GetPpid words.now) }
+    ensures { result ≡ call_or_bad (command_of (codes "getppid") words.now) }
 {
     line_of_call(read_u32(words).map(|caller| Call::GetPpid { caller }))
 }
 
 /// What `getpgid` says with the words behind it.
+#[tactic(auto, unfolding(crate::specs::Reading::command_of))]
 #[inline(never)]
 fn get_pgid_line(words: &[u8]) -> Line
-    ensures { result ≡ call_or_bad (by_pair calls.GetPgid words.now) }
+    ensures { result ≡ call_or_bad (command_of (codes "getpgid") words.now) }
 {
     line_of_call(read_pair(words).map(|(caller, pid)| Call::GetPgid { caller, pid }))
 }
 
 /// What `getsid` says with the words behind it.
+#[tactic(auto, unfolding(crate::specs::Reading::command_of))]
 #[inline(never)]
 fn get_sid_line(words: &[u8]) -> Line
-    ensures { result ≡ call_or_bad (by_pair calls.GetSid words.now) }
+    ensures { result ≡ call_or_bad (command_of (codes "getsid") words.now) }
 {
     line_of_call(read_pair(words).map(|(caller, pid)| Call::GetSid { caller, pid }))
 }
 
 /// What `nspid` says with the words behind it.
+#[tactic(auto, unfolding(crate::specs::Reading::command_of))]
 #[inline(never)]
 fn ns_pid_line(words: &[u8]) -> Line
-    ensures { result ≡ call_or_bad (by_pair calls.NsPid words.now) }
+    ensures { result ≡ call_or_bad (command_of (codes "nspid") words.now) }
 {
     line_of_call(read_pair(words).map(|(caller, target)| Call::NsPid { caller, target }))
 }
 
 /// What `count` says with the words behind it.
+#[tactic(auto, unfolding(crate::specs::Reading::command_of))]
 #[inline(never)]
 fn count_line(words: &[u8]) -> Line
-    ensures { result ≡ call_or_bad (by_control calls.Count words.now) }
+    ensures { result ≡ call_or_bad (command_of (codes "count") words.now) }
 {
     line_of_call(read_u64(words).map(|id| Call::Count { id }))
 }

@@ -5,7 +5,7 @@ ghost use Rattle.std.specs.Char.{digit_value};
 ghost use Rattle.std.specs.Str.Parse.{AllDigits, digits_value};
 ghost use Rattle.std.specs.Option.{option_map};
 ghost use Rattle.pid_script.specs.Reading.{IsFrontOf, IsPlain, number_below, number_then, negative_of, signed_of};
-ghost use Rattle.pid_script.specs.Reading.{signed_then};
+ghost use Rattle.pid_script.specs.Reading.{signed_then, IsUnsigned};
 
 use crate::bytes::split_word;
 
@@ -173,6 +173,15 @@ fn read_negative(digits: &[u8]) -> Option<i32>
     negated(read_u32(digits)?)
 }
 
+/// The number with no sign, where it is one of 32 bits that may have one.
+#[tactic(auto, using(crate::proofs::Numbers::unsigned))]
+#[inline(always)]
+fn unsigned(number: u32) -> Option<i32>
+    ensures { (word : List ℕ) → number_below (2 ^ 32) word ≡ Some number → result ≡ signed_of word }
+{
+    i32::try_from(number).ok()
+}
+
 /// The number of a word with its sign, where it is one of 32 bits. A minus sign stands directly before a
 /// number that is not 0.
 #[tactic(auto, using(crate::proofs::Numbers::signs))]
@@ -181,7 +190,7 @@ pub fn read_i32(word: &[u8]) -> Option<i32>
 {
     match word {
         [b'-', digits @ ..] => read_negative(digits),
-        _ => i32::try_from(read_u32(word)?).ok(),
+        _ => unsigned(read_u32(word)?),
     }
 }
 
@@ -193,6 +202,15 @@ fn read_negative_then(digits: &[u8]) -> Option<(i32, &[u8])>
     Some((negated(magnitude)?, rest))
 }
 
+/// The number with no sign before the first space, where there is no minus sign, and what stands after that space.
+#[inline(always)]
+fn read_unsigned_then(words: &[u8]) -> Option<(i32, &[u8])>
+    ensures { IsUnsigned words.now → option_map (λ p. (p.0, p.1.now)) result ≡ signed_then words.now }
+{
+    let (number, rest) = read_then(words)?;
+    Some((unsigned(number)?, rest))
+}
+
 /// The number with its sign before the first space, where it is one of 32 bits, and what stands after that space.
 #[inline(always)]
 pub(crate) fn read_signed_then(words: &[u8]) -> Option<(i32, &[u8])>
@@ -200,9 +218,6 @@ pub(crate) fn read_signed_then(words: &[u8]) -> Option<(i32, &[u8])>
 {
     match words {
         [b'-', digits @ ..] => read_negative_then(digits),
-        _ => {
-            let (number, rest) = read_then(words)?;
-            Some((i32::try_from(number).ok()?, rest))
-        }
+        _ => read_unsigned_then(words),
     }
 }

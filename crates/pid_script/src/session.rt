@@ -4,12 +4,14 @@
 ghost use Rattle.std.specs.Prelude.{◌≡◌, ◌≢◌, Some, ◌+◌, ◌^◌, ◌<◌, ◌≤◌, ◌++◌, ◌∷◌, [], List, ℕ, length, OnOk, OnErr};
 ghost use Rattle.std.specs.Prelude.{IfOk, IfErr, Err, Option, IsSome, option_copied, IsTrue, if◌then◌else◌};
 ghost use Rattle.std.specs.Result.{is_ok};
-ghost use Rattle.pid_types.specs.Devices.{DidBoth};
+ghost use Rattle.std.specs.Io.KnownBytes.{ReadConsumes};
+ghost use Rattle.pid_types.specs.Devices.{DidBoth, reading};
 ghost use Rattle.pid_types.specs.State.{State};
 ghost use Rattle.pid_types.specs.declared.call.Call.{Call};
 ghost use Rattle.pid_types.specs.declared.reply.Reply.{Reply};
-ghost use Rattle.pid_script.specs.declared.tally.RunScriptFault.TheVariants.{NoMemory, Write};
-ghost use Rattle.pid_script.specs.Script.{begun, with_newline, HasStopped, said_within, kept_after, last_said};
+ghost use Rattle.pid_script.specs.declared.tally.RunScriptFault.TheVariants.{NoMemory, Read, Write};
+ghost use Rattle.pid_script.specs.Script.{begun, with_newline, HasStopped, said_within, kept_after};
+ghost use Rattle.pid_script.specs.Script.{last_said, said_next};
 ghost use Rattle.pid_script.specs.Answers.{answer_of, lent, replied};
 ghost use Rattle.pid_script.specs.Dialogue.{Converses, Queues, Responds, Stops};
 ghost use Rattle.pid_script.specs.Session.{Acts, made_by, ended_at, progress_of, IsTallied};
@@ -61,6 +63,19 @@ pub struct Session {
     pub part: PartLine,
     pub outbox: Outbox,
     pub tally: Tally,
+}
+
+/// Reads once, into the front of the chunk.
+fn read_chunk<S: Source>(source: &mut S, chunk: &mut [u8]) -> Result<usize, RunScriptFault>
+    ensures event { S.did source.old source.new (reading (length chunk.old) result chunk.new ∷ []) }
+    ensures bound { IfOk result (λ n. n ≤ length chunk.new) }
+    ensures bytes { ReadConsumes (S.remaining source.old) (S.remaining source.new) result chunk.new }
+    ensures fails { IfErr result (λ e. (e ≡ Read) × IsTrue (S.has_failed source.new)) }
+{
+    match source.read(chunk) {
+        Ok(count) => Ok(count),
+        Err(_) => Err(RunScriptFault::Read),
+    }
 }
 
 /// Counts a call.
@@ -225,21 +240,50 @@ fn answer_last<T: Table, K: Sink>(
     answer_line(session, table, sink, line)
 }
 
-/// Answers what is left of a script that has ended, and writes all answers.
-fn finish<T: Table, K: Sink>(
+/// Answers what was read: the lines that end within the piece, or the last line, where nothing was read.
+fn answer_read<T: Table, K: Sink>(
     session: &mut Session,
     table: &mut T,
     sink: &mut K,
+    piece: &[u8],
 ) -> Result<(), RunScriptFault>
     requires counted { IsTallied session.old.tally }
-    requires room { session.old.tally.lines + 1 < 2 ^ 64 }
-    ensures { Responds result
+    requires room { session.old.tally.lines + length piece.now + 1 < 2 ^ 64 }
+    ensures told { Responds result
         (progress_of (T.state table.old) (T.stamp table.old) session.old.tally session.old.outbox)
-        (progress_of (T.state table.new) (T.stamp table.new) session.new.tally [])
-        (K.did sink.old sink.new) (T.did table.old table.new) (last_said session.old.part)
+        (progress_of (T.state table.new) (T.stamp table.new) session.new.tally session.new.outbox)
+        (K.did sink.old sink.new) (T.did table.old table.new) (said_next session.old.part piece.now)
         (K.has_failed sink.new) (K.is_full sink.new) }
+    ensures part { OnOk result (0 < length piece.now → session.new.part ≡ kept_after session.old.part piece.now) }
+    ensures counted { 0 < length piece.now → IsTallied session.new.tally }
+    ensures lines { 0 < length piece.now → session.new.tally.lines ≤ session.old.tally.lines + length piece.now }
 {
-    answer_last(session, table, sink)?;
+    if piece.is_empty() {
+        return answer_last(session, table, sink);
+    }
+    answer_chunk(session, table, sink, piece)
+}
+
+/// Answers what was read, and writes all answers.
+fn answer_piece<T: Table, K: Sink>(
+    session: &mut Session,
+    table: &mut T,
+    sink: &mut K,
+    piece: &[u8],
+) -> Result<(), RunScriptFault>
+    requires counted { IsTallied session.old.tally }
+    requires room { session.old.tally.lines + length piece.now + 1 < 2 ^ 64 }
+    ensures told { Responds result
+        (progress_of (T.state table.old) (T.stamp table.old) session.old.tally session.old.outbox)
+        (progress_of (T.state table.new) (T.stamp table.new) session.new.tally session.new.outbox)
+        (K.did sink.old sink.new) (T.did table.old table.new) (said_next session.old.part piece.now)
+        (K.has_failed sink.new) (K.is_full sink.new) }
+    ensures empty { OnOk result (session.new.outbox ≡ []) }
+    ensures part { OnOk result (0 < length piece.now → session.new.part ≡ kept_after session.old.part piece.now) }
+    ensures counted { 0 < length piece.now → IsTallied session.new.tally }
+    ensures lines { 0 < length piece.now → session.new.tally.lines ≤ session.old.tally.lines + length piece.now }
+{
+    answer_read(session, table, sink, piece)?;
     session.outbox.flush(sink)
 }
 
@@ -300,16 +344,11 @@ pub fn run_dialogue<T: Table, D: Dialogue>(
     let mut session = Session::new();
     let mut chunk = [0_u8; CHUNK];
     for _turn in 0..turns {
-        let count = match devices.read(&mut chunk) {
-            Ok(count) => count,
-            Err(_) => return Err(RunScriptFault::Read),
-        };
+        let count = read_chunk(devices, &mut chunk)?;
+        answer_piece(&mut session, table, devices, &chunk[..count])?;
         if count == 0 {
-            finish(&mut session, table, devices)?;
             return Ok(session.tally);
         }
-        answer_chunk(&mut session, table, devices, &chunk[..count])?;
-        session.outbox.flush(devices)?;
     }
     Err(RunScriptFault::TooManyTurns)
 }

@@ -1,10 +1,7 @@
 -- A read ends a call, a line, both or neither; what was read before and the unfinished line are always the bytes consumed so far
 use Rattle.std.proofs.Common.{◌≡◌, ◌^◌, ◌++◌, [], Some, take, length, min, refl, sym, ap, ◌∙◌, subst, arith, append-nil, length-append, length-take-le}
-use Rattle.std.specs.Io.KnownBytes.{Consumes}
+use Rattle.pid_script.proofs.Names.{Consumes, said_within, kept_after, last_said, Adds, IsStopped, Consumes-more, Consumes-nothing, Consumes-keeps}
 use Rattle.std.proofs.lemmas.Result.{err_from_is_err_and}
-use Rattle.pid_script.specs.Script.{said_within, kept_after, last_said}
-use Rattle.pid_script.specs.Job.{Adds, IsStopped}
-use Rattle.pid_types.specs.DeviceLaws.{Consumes-more, Consumes-nothing, Consumes-keeps}
 use Rattle.pid_script.proofs.Ends.{more_said, more_kept, last_of}
 use Rattle.pid_script.proofs.Jobs.{Adds-nothing, Adds-more, IsStopped-later, take_most, refuses_within, refuses_last, refuses_read, refuses_long, yields}
 use Rattle.pid_script.proofs.job.read_job.Goals as goal

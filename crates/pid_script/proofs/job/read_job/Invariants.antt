@@ -1,7 +1,5 @@
 use Rattle.std.proofs.Common.{◌≡◌, ◌+◌, ◌^◌, ◌≤◌, List, ℕ, [], Some, length}
-use Rattle.std.specs.Io.KnownBytes.{Consumes}
-use Rattle.pid_script.specs.Script.{said_within, kept_after}
-use Rattle.pid_script.specs.Job.{Adds}
+use Rattle.pid_script.proofs.Names.{Consumes, said_within, kept_after, Adds}
 use Rattle.pid_script.proofs.job.read_job.Given as goal
 
 abbrev pub invariant-loop-turn : goal.invariant-loop-turn

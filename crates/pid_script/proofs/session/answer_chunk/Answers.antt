@@ -1,9 +1,10 @@
 -- As in a job, the lines that a chunk ends follow those before it; each is answered by the table as it stands after the last
-use Rattle.std.proofs.Common.{◌++◌, ◌∷◌, [], Some, sym, ap, ◌∙◌, append-nil, arith, refl, rules}
-use Rattle.pid_script.specs.Script.{said_within, kept_after}
+use Rattle.std.proofs.Common.{◌++◌, ◌∷◌, [], Some, sym, ap, ◌∙◌, append-nil, arith, refl, subst}
+use Rattle.std.proofs.lemmas.Result.{err_from_is_err_and}
+use Rattle.pid_script.proofs.Names.{said_within, kept_after, Answers, StopsShort}
 use Rattle.pid_script.proofs.Within.{first_end, no_end, said_more}
-use Rattle.pid_script.proofs.Sent.{OnErr-always, Sends-nothing, Sends-more, Stalls-more}
-use Rattle.pid_script.proofs.Progress.{Answers-nothing, Answers-more, Answers-same, StopsShort-more, StopsShort-later, StopsShort-same}
+use Rattle.pid_script.proofs.Sent.{Sends-nothing, Sends-more, Stalls-more}
+use Rattle.pid_script.proofs.Progress.{Answers-nothing, Answers-more, StopsShort-more, StopsShort-later}
 use Rattle.pid_script.proofs.session.answer_chunk.Goals as goal
 
 pub loop-end-init : goal.loop-end-init
@@ -44,24 +45,25 @@ returns-in_err-answer_line-clause-told g c =
     let line = c.finish-line.result in
     let after = c.in-Some.after.now in
     let told = c.in_err-answer_line.ensures.told in
-    record {
-      ok = search rules;
-      err = OnErr-always _ _ _ _ (StopsShort-same _ _ _ _
+    let p = err_from_is_err_and c.from_residual.result c.from_residual.ensures.1 in
+    rw (p.1, p.2) (record {
+      ok = tt;
+      err = subst (StopsShort _ _)
           (said_more before.lines line c.loop-end.session.part (Some []) c.loop-end.rest.now after c.in-Some.end.now _ c.finish-line.ensures.value refl end before.said)
           (StopsShort-later _ _ (before.lines ++ line ∷ []) (said_within (Some []) after)
-          (StopsShort-more (Stalls-more (g.met.K.Sink.more _ _ _)) _ _ before.lines (line ∷ []) before.answered told.err)));
-      fault = search (rules, told.fault);
-      stopped = search (rules, told.stopped);
-    }
+          (StopsShort-more (Stalls-more (g.met.K.Sink.more _ _ _)) _ _ before.lines (line ∷ []) before.answered told.err));
+      fault = told.fault;
+      stopped = told.stopped;
+    })
 
 pub returns-clause-told : goal.returns-clause-told
 returns-clause-told g c =
     let before = c.loop-end.invariant in
     let none = no_end c.loop-end.session.part c.loop-end.rest.now (sym c.in_default.ensures) in
     record {
-      ok = Answers-same _ _ _ _ before.lines _
+      ok = subst (Answers _ _ _ _)
           (sym (append-nil before.lines) ∙ ap (λ lines. before.lines ++ lines) (sym none.0) ∙ before.said) before.answered;
-      err = search rules;
-      fault = search rules;
-      stopped = search rules;
+      err = tt;
+      fault = tt;
+      stopped = tt;
     }

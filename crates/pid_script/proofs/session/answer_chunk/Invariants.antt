@@ -1,8 +1,5 @@
 use Rattle.std.proofs.Common.{◌≡◌, ◌+◌, ◌≤◌, ◌++◌, List, length}
-use Rattle.pid_script.specs.declared.line.Line.{Line}
-use Rattle.pid_script.specs.Script.{said_within, kept_after}
-use Rattle.pid_script.specs.Dialogue.{Sends}
-use Rattle.pid_script.specs.Session.{progress_of, Answers, IsTallied}
+use Rattle.pid_script.proofs.Names.{Line, said_within, kept_after, Sends, progress_of, Answers, IsTallied}
 use Rattle.pid_script.proofs.session.answer_chunk.Given as goal
 
 abbrev pub invariant-loop-end : goal.invariant-loop-end

@@ -1,13 +1,13 @@
-use Rattle.std.proofs.Common.{[], sym, ap, rules}
-use Rattle.pid_script.specs.Script.{last_said}
+use Rattle.std.proofs.Common.{sym, ap, subst}
+use Rattle.pid_script.proofs.Names.{last_said, Answers}
 use Rattle.pid_script.proofs.Sent.{Sends-nothing}
-use Rattle.pid_script.proofs.Progress.{Answers-nothing, Answers-same}
+use Rattle.pid_script.proofs.Progress.{Answers-nothing}
 use Rattle.pid_script.proofs.session.answer_last.Goals as goal
 
 pub returns-then-is_empty : goal.returns-then-is_empty
 returns-then-is_empty g c = record {
-  ok = Answers-same _ _ _ _ [] (last_said c.args.session.now.part) (ap last_said (sym (c.is_empty.ensures.0 c.if-is_empty.true))) (Answers-nothing _ _ _ (Sends-nothing _ (g.met.K.Sink.nothing c.args.sink.now)) (g.met.T.Table.nothing c.args.table.now));
-  err = search rules;
-  fault = search rules;
-  stopped = search rules;
+  ok = subst (Answers _ _ _ _) (ap last_said (sym (c.is_empty.ensures.0 c.if-is_empty.true))) (Answers-nothing _ _ _ (Sends-nothing _ (g.met.K.Sink.nothing c.args.sink.now)) (g.met.T.Table.nothing c.args.table.now));
+  err = tt;
+  fault = tt;
+  stopped = tt;
 }

@@ -1,7 +1,5 @@
 use Rattle.std.proofs.Common.{◌≡◌, ◌*◌, ◌≤◌, false, List, [], Some, length}
-use Rattle.pid_types.specs.Devices.{Event, heard, readings}
-use Rattle.pid_script.specs.Script.{begun, said_within, kept_after}
-use Rattle.pid_script.specs.Session.{progress_of, IsTallied}
+use Rattle.pid_script.proofs.Names.{Event, heard, readings, begun, said_within, kept_after, progress_of, IsTallied}
 use Rattle.pid_script.proofs.Turns.{GoesOn}
 use Rattle.pid_script.proofs.session.run_dialogue.Given as goal
 

@@ -1,8 +1,7 @@
 -- The lines that a piece ends and the part that is left are those of the part before and the piece, one behind the other
 use Rattle.std.proofs.Common.{◌++◌, ◌∷◌, [], Some, sym, ap, ◌∙◌, append-nil, arith, refl, subst}
 use Rattle.std.proofs.lemmas.Result.{err_from_is_err_and}
-use Rattle.pid_script.specs.Script.{said_within, kept_after}
-use Rattle.pid_script.specs.Job.{Adds, IsStopped}
+use Rattle.pid_script.proofs.Names.{said_within, kept_after, Adds, IsStopped}
 use Rattle.pid_script.proofs.Within.{first_end, no_end, said_more}
 use Rattle.pid_script.proofs.Jobs.{Adds-more, IsStopped-sooner, IsStopped-later}
 use Rattle.pid_script.proofs.job.Job.push_bytes.Goals as goal

@@ -1,7 +1,5 @@
 use Rattle.std.proofs.Common.{◌≡◌, ◌+◌, ◌≤◌, ◌++◌, List, length}
-use Rattle.pid_script.specs.declared.line.Line.{Line}
-use Rattle.pid_script.specs.Script.{said_within, kept_after}
-use Rattle.pid_script.specs.Job.{Adds}
+use Rattle.pid_script.proofs.Names.{Line, said_within, kept_after, Adds}
 use Rattle.pid_script.proofs.job.Job.push_bytes.Given as goal
 
 abbrev pub invariant-loop-end : goal.invariant-loop-end
