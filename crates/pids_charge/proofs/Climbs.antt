@@ -1,14 +1,8 @@
 -- The way up from a key: what a step leaves of it.
-use Rattle.std.proofs.Common.{◌≡◌, ℕ, zero, suc, ◌+◌, ◌-◌, ◌<◌, ◌≤◌, ◌==◌, Bool, true, false, ◌||◌, if◌then◌else◌, Option, Some, None, option_and_then, refl, sym, ap, ◌∙◌, arith, List, set, length}
-use Rattle.std.specs.Option.{option_map_or}
-use Rattle.std.proofs.lemmas.Bool.{eq-eqb, eqb-true, cases_eq}
+use Rattle.std.proofs.Common.{◌≡◌, ℕ, zero, suc, ◌+◌, ◌-◌, ◌<◌, ◌≤◌, ◌==◌, Bool, true, ◌||◌, if◌then◌else◌, Option, Some, None, option_and_then, refl, sym, ap, ◌∙◌, arith, List, set, length}
+use Rattle.pids_charge.proofs.Words.{cases_eq, eq-eqb, eqb-true, get_or-set_other, get_or-set_same, option_map_or, Slab, get, counter_at, total_at, HasLevels}
+use Rattle.pids_charge.proofs.Words.{Tree, is_under, left, reaches, tree_of, weight, Counter, Node}
 pub use Rattle.std.proofs.lemmas.Bool.{ne_eqb as eqb-apart}
-use Rattle.std.proofs.lemmas.List.{get_or-set_same, get_or-set_other}
-use Rattle.slab.specs.Slab.{Slab, get}
-use Rattle.pids_charge.specs.declared.node.Node.{Node}
-use Rattle.pids_charge.specs.declared.counter.Counter.{Counter}
-use Rattle.pids_charge.specs.Kept.{counter_at, total_at}
-use Rattle.pids_charge.specs.Nodes.{reaches, Tree, tree_of, is_under, weight, left, HasLevels}
 
 abbrev pub one_if : Bool → ℕ
 one_if b = if b then 1 else 0
@@ -29,10 +23,7 @@ module _ (up : ℕ → Option ℕ) (lv : ℕ → ℕ) (levels : (j p : ℕ) → 
   -- who is above has a lower level
   pub reaches_low : (n j k : ℕ) → lv j ≡ n → reaches up n j k ≡ true → lv k ≤ n
   reaches_low zero j k is on = let e : j ≡ k = eqb-true j k on in omega (arith, is, ap lv e)
-  reaches_low (suc n) j k is on = go (λ p e. reaches_low n p k e) (j == k) refl (up j) refl on
-    where
-      go : ((p : ℕ) → lv p ≡ n → reaches up n p k ≡ true → lv k ≤ n) → (b : Bool) → (j == k) ≡ b → (o : Option ℕ) → up j ≡ o → (b || option_map_or (λ p. reaches up n p k) o false) ≡ true → lv k ≤ suc n
-      go rest b e o above on = grind (arith, eqb-true)
+  reaches_low (suc n) j k is on = grind (arith, eqb-true, reaches_low n)
 
   -- what a key adds to itself, and then to those above
   pub one-step : (j k : ℕ) → one_if (reaches up (lv j) j k) ≡ one_if (j == k) + option_map_or (λ p. one_if (reaches up (lv p) p k)) (up j) 0

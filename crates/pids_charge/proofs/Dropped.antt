@@ -1,13 +1,7 @@
 -- What the end of nodes that do not stand leaves of the rest, and a move of a task.
-use Rattle.std.proofs.Common.{◌≡◌, ℕ, ◌+◌, ◌-◌, ◌<◌, ◌≤◌, true, Option, None, option_map, List, [], ◌∷◌, length, map, refl, sym, ap, ◌∙◌, arith}
-use Rattle.std.specs.List.{AllByRecursion}
-use Rattle.std.proofs.lemmas.Bool.{cases_eq, eq-eqb}
-use Rattle.slab.specs.Slab.{Slab, ContainsKey}
-use Rattle.pids_charge.specs.declared.node.Node.{Node}
-use Rattle.pids_charge.specs.declared.counter.Counter.{Counter}
-use Rattle.pids_charge.specs.Nodes.{tree_of, IsTree}
-use Rattle.pids_charge.specs.Charges.{Home, Charges, home_at, moved, ChangesHome}
-use Rattle.pids_charge.specs.Kept.{control_in, charges_of, limit_in, IsListed, IsCounted, IsKept, DropsEmpty, total_at, AreLinked}
+use Rattle.pids_charge.proofs.Words.{List, None, Option, [], ap, arith, length, map, option_map, refl, sym, ℕ, ◌+◌, ◌-◌, ◌<◌, ◌∙◌, ◌∷◌, ◌≡◌, ◌≤◌}
+use Rattle.pids_charge.proofs.Words.{cases_eq, eq-eqb, AllByRecursion, ContainsKey, Slab, ChangesHome, Charges, Home, home_at, moved, AreLinked, DropsEmpty}
+use Rattle.pids_charge.proofs.Words.{IsCounted, IsKept, IsListed, charges_of, control_in, limit_in, total_at, IsTree, tree_of, Counter, Node}
 use Rattle.pids_charge.proofs.Climbs.{eqb-apart}
 use Rattle.pids_charge.proofs.Views.{home_at-is}
 
@@ -20,11 +14,8 @@ map-where P f g same [] all = refl
 map-where P f g same (x ∷ xs) all = ap (λ y. y ∷ map f xs) (same x all.0) ∙ ap (λ ys. g x ∷ ys) (map-where P f g same xs all.1)
 
 module _ (old new : Slab Node) (d : DropsEmpty old new) where
-  stand_up : (k : ℕ) → (tree_of new).stand k ≡ true → (tree_of old).stand k ≡ true
-  stand_up k up = sym (d.stand k) ∙ up
-
   pub IsListed-dropped : (children : List (Option ℕ)) (ids : List (ℕ × ℕ)) → IsListed (tree_of old) children ids → IsListed (tree_of new) children ids
-  IsListed-dropped children ids l = grind (arith, all-weaken, stand_up)
+  IsListed-dropped children ids l = grind (arith, all-weaken)
 
   pub IsKept-dropped : (counters : List Counter) (children : List (Option ℕ)) (ids : List (ℕ × ℕ)) → IsTree (tree_of new) → IsCounted new (total_at counters) None → AreLinked new counters → IsListed (tree_of old) children ids
       → ((k : ℕ) → ContainsKey old k → k < length children) → length children ≤ 1073741824 → IsKept new counters children ids

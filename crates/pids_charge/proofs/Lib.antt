@@ -1,7 +1,9 @@
+pub mod Words
 pub mod Climbs
 pub mod Linked
 pub mod Sums
 pub mod Views
+pub mod Changed
 pub mod Bridges
 pub mod Written
 pub mod Leaves

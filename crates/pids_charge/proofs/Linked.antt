@@ -1,12 +1,6 @@
 -- The limits and parents that the counters have of the nodes: kept where nodes and counters change.
-use Rattle.std.proofs.Common.{◌≡◌, ◌≢◌, ℕ, ◌<◌, ◌≤◌, List, set, length, Some, None, option_and_then, is_some, refl, sym, ap, subst, ◌∙◌, arith}
-use Rattle.std.proofs.lemmas.Bool.{cases_eq}
-use Rattle.std.proofs.lemmas.List.{get_or-set_same, get_or-set_other, length-set}
-use Rattle.slab.specs.Slab.{Slab, get, ContainsKey, with_value, Updates}
-use Rattle.slab.proofs.SlabLemmas.{Updates-with_value}
-use Rattle.pids_charge.specs.declared.node.Node.{Node}
-use Rattle.pids_charge.specs.declared.counter.Counter.{Counter}
-use Rattle.pids_charge.specs.Kept.{counter_at, IsLinked, AreLinked}
+use Rattle.pids_charge.proofs.Words.{List, None, Some, ap, arith, is_some, length, refl, set, ℕ, ◌<◌, ◌≡◌, ◌≢◌, ◌≤◌, cases_eq, get_or-set_other}
+use Rattle.pids_charge.proofs.Words.{get_or-set_same, length-set, ContainsKey, Slab, Updates, get, AreLinked, IsLinked, counter_at, Counter, Node}
 
 -- a node and a counter change at one key
 pub linked-changed : (nodes new : Slab Node) (counters after : List Counter) (a : ℕ) → AreLinked nodes counters → ((k : ℕ) → k ≢ a → get new k ≡ get nodes k)
@@ -14,16 +8,9 @@ pub linked-changed : (nodes new : Slab Node) (counters after : List Counter) (a 
 linked-changed nodes new counters after a w others same longer here k on = grind (arith, cases_eq)
 
 -- a node is written, and keeps its limit and its parent
-pub linked-written : (nodes new : Slab Node) (counters : List Counter) → AreLinked nodes counters → (a : ℕ) (n m : Node) → get nodes a ≡ Some n → new ≡ with_value nodes a m
-    → m.limit ≡ n.limit → m.parent ≡ n.parent → AreLinked new counters
-linked-written nodes new counters w a n m found is limit parent =
-    let u : Updates nodes new a (Some m) = subst (λ x. Updates nodes x a (Some m)) (sym is) (Updates-with_value nodes a m (ap is_some found)) in
-    let r = w a (ap is_some found) in
-    linked-changed nodes new counters counters a w u.others (λ k d. refl) (omega arith) (λ on. record {
-      room = r.room;
-      limit = r.limit ∙ ap (option_and_then (λ (x : Node). x.limit)) found ∙ sym limit ∙ sym (ap (option_and_then (λ (x : Node). x.limit)) u.changed);
-      parent = r.parent ∙ ap (option_and_then (λ (x : Node). x.parent)) found ∙ sym parent ∙ sym (ap (option_and_then (λ (x : Node). x.parent)) u.changed);
-    })
+pub linked-written : {nodes new : Slab Node} {a : ℕ} {n m : Node} (counters : List Counter) → AreLinked nodes counters → get nodes a ≡ Some n
+    → Updates nodes new a (Some m) → m.limit ≡ n.limit → m.parent ≡ n.parent → AreLinked new counters
+linked-written counters w found u limit parent = grind (arith, linked-changed)
 
 -- a node goes
 pub linked-dropped : (nodes new : Slab Node) (counters : List Counter) → AreLinked nodes counters → (a : ℕ) → Updates nodes new a None → AreLinked new counters

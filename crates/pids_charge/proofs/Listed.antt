@@ -1,15 +1,8 @@
 -- Tasks that a table lists, each with the key of its home, add up to the counts.
-use Rattle.std.proofs.Common.{◌≡◌, inl, inr, ℕ, zero, suc, ◌+◌, ◌<◌, ◌≤◌, ◌==◌, Bool, true, false, ◌&&◌, not, cond, if◌then◌else◌, None, Option, Some, List, [], ◌∷◌, length, refl, sym, ap, ◌∙◌, arith}
-use Rattle.std.specs.Option.{option_map_or}
-use Rattle.std.specs.List.{AllByRecursion, filter, count_by}
+use Rattle.std.proofs.Common.{◌≡◌, ℕ, zero, suc, ◌+◌, ◌<◌, ◌≤◌, ◌==◌, Bool, true, false, ◌&&◌, not, cond, if◌then◌else◌, None, Option, Some, List, [], ◌∷◌, length, refl, sym, ap, ◌∙◌, arith}
+use Rattle.pids_charge.proofs.Words.{eq-eqb, get_or_past, length-filter, sum_by-cons, AllByRecursion, count_by, filter, option_map_or, is_below, Control}
+use Rattle.pids_charge.proofs.Words.{Charges, Home, count, home_at, id_at, live_at, tasks_below, tasks_of, zombies_at, sum_below}
 use Rattle.std.proofs.Math.Bool.{and-false, and-true}
-use Rattle.std.proofs.lemmas.Bool.{cases_lt, eq-eqb}
-use Rattle.std.proofs.lemmas.List.{get_or_past}
-use Rattle.std.proofs.lemmas.List.Sums.{sum_by-cons, length-filter}
-use Rattle.pid_types.specs.declared.plain.Control.{Control}
-use Rattle.pid_types.specs.Controls.{is_below}
-use Rattle.pids_charge.specs.Sums.{sum_below}
-use Rattle.pids_charge.specs.Charges.{Home, Charges, home_at, id_at, live_at, zombies_at, tasks_of, tasks_below, count}
 use Rattle.pids_charge.proofs.Climbs.{eqb-apart}
 use Rattle.pids_charge.proofs.Sums.{sum-ext, sum-at, sum-zero, sum_by-places}
 
@@ -21,13 +14,12 @@ module _ {X : Type 0} (home : X → ℕ) where
   -- where no task has its home from a bound on, each home is below it
   homes_below : (n : ℕ) (xs : List X) → ((k : ℕ) → n ≤ k → count_by (λ x. home x == k) xs ≡ 0) → AllByRecursion (λ x. home x < n) xs
   homes_below n [] none = tt
-  homes_below n (x ∷ xs) none = (here, homes_below n xs (λ k from. omega (arith, none k from, sum_by-cons (λ y. cond (home y == k) 1 0) x xs)))
-    where
-      here : home x < n
-      here = elim (cases_lt (home x) n) [ inl lt ↦ lt | inr le ↦ absurd (at_own le) ]
-        where
-          at_own : n ≤ home x → ⊥
-          at_own le = omega (arith, none (home x) le, sum_by-cons (λ y. cond (home y == home x) 1 0) x xs, ap {B = ℕ} (λ b. cond b 1 0) (eq-eqb (home x) (home x) refl))
+  homes_below n (x ∷ xs) none =
+      let at_own = none (home x) in
+      let here = sum_by-cons (λ y. cond (home y == home x) 1 0) x xs in (
+        grind (arith, eq-eqb),
+        homes_below n xs (λ k from. omega (arith, none k from, sum_by-cons (λ y. cond (home y == k) 1 0) x xs)),
+      )
 
   -- one task counts at the key of its home alone
   at_home : (n a : ℕ) (p : ℕ → Bool) → a < n → sum_below n (λ k. cond (p k && (a == k)) 1 0) ≡ cond (p a) 1 0

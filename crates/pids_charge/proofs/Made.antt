@@ -1,26 +1,15 @@
 -- One more control group.
-use Rattle.std.proofs.Common.{◌≡◌, ◌≢◌, ℕ, zero, suc, ◌+◌, ◌<◌, ◌≤◌, Bool, true, false, if◌then◌else◌, Option, Some, None, option_map, option_and_then, is_some, List, [], ◌∷◌, ◌++◌, length, set, map, refl, sym, ap, subst, ◌∙◌, arith}
-use Rattle.std.specs.Option.{option_map_or}
-use Rattle.std.specs.List.{AllByRecursion}
-use Rattle.std.proofs.lemmas.Bool.{cases_eq}
-use Rattle.std.proofs.lemmas.List.{get_or-set_same, get_or-set_other}
-use Rattle.slab.specs.Slab.{Slab, get, ContainsKey, Updates}
-use Rattle.member_lists.specs.Owners.{owner_of}
-use Rattle.id_slab.specs.Ids.{AreBelow}
-use Rattle.id_slab.proofs.Keys.{key_of-push, key_of-new}
-use Rattle.pid_types.specs.Chains.{climb}
-use Rattle.pid_types.specs.declared.plain.Control.{Control}
-use Rattle.pid_types.specs.Controls.{parent_control, control_path}
-use Rattle.pids_charge.specs.declared.node.Node.{Node}
-use Rattle.pids_charge.specs.declared.counter.Counter.{Counter}
+use Rattle.std.proofs.Common.{◌≡◌, ◌≢◌, ℕ, zero, suc, ◌+◌, ◌<◌, ◌≤◌, Bool, true, false, if◌then◌else◌, Option, Some, None, option_map, option_and_then, is_some, List, [], ◌∷◌, ◌++◌, length, set, map, sym, ap, subst, ◌∙◌, arith}
+use Rattle.pids_charge.proofs.Words.{cases_eq, get_or-set_other, get_or-set_same, AllByRecursion, option_map_or, key_of-new, key_of-push, AreBelow, owner_of}
+use Rattle.pids_charge.proofs.Words.{climb, parent_control, control_path, Control, ContainsKey, Slab, Updates, get, IsCounted, IsEntry, IsKept, IsListed}
+use Rattle.pids_charge.proofs.Words.{child_of, control_in, counter_at, limit_in, seen, total_at, IsTree, Tree, all_in, tasks_in, total_in, tree_of, Counter}
+use Rattle.pids_charge.proofs.Words.{Node}
 use Rattle.pids_charge.proofs.Linked as linked
-use Rattle.pids_charge.specs.Nodes.{Tree, tree_of, is_under, tasks_in, total_in, all_in, IsTree}
-use Rattle.pids_charge.specs.Kept.{control_in, child_of, limit_in, seen, IsEntry, IsListed, IsCounted, IsKept, counter_at, total_at}
 use Rattle.pids_charge.proofs.Climbs.{up_levels}
 use Rattle.pids_charge.proofs.Sums.{sum-zero}
 use Rattle.pids_charge.proofs.Views.{home_in, parent-is, there, nearest-self, kept_standing}
 use Rattle.pids_charge.proofs.Written.{reaches_there}
-use Rattle.pids_charge.proofs.Dropped.{all-weaken, map-where}
+use Rattle.pids_charge.proofs.Changed.{share}
 use Rattle.pids_charge.proofs.Leaves as leaves
 
 abbrev control : ℕ → Option ℕ → Option ℕ → Control
@@ -54,12 +43,7 @@ module _ (nodes : Slab Node) (children : List (Option ℕ)) (ids : List (ℕ × 
   length-climb : (n s : ℕ) → (tree_of nodes).stand s ≡ true → (tree_of nodes).level s ≤ n → length (climb above_id (suc n) ((tree_of nodes).id s)) ≡ suc ((tree_of nodes).level s)
   unfolding climb
   length-climb zero s up low = grind arith
-  length-climb (suc n) s up low =
-      ap suc (ap (λ o. length (option_map_or (climb above_id (suc n)) o [])) (parent-is (tree_of nodes) (limit_in nodes) children ids l s up) ∙ go (λ p sp lo. length-climb n p sp lo) ((tree_of nodes).up s) refl)
-    where
-      go : ((p : ℕ) → (tree_of nodes).stand p ≡ true → (tree_of nodes).level p ≤ n → length (climb above_id (suc n) ((tree_of nodes).id p)) ≡ suc ((tree_of nodes).level p)) → (o : Option ℕ) → (tree_of nodes).up s ≡ o
-          → length (option_map_or (climb above_id (suc n)) (option_map (tree_of nodes).id o) []) ≡ (tree_of nodes).level s
-      go rest o none = grind (arith, up_levels)
+  length-climb (suc n) s up low = grind (arith, up_levels, parent-is (tree_of nodes) (limit_in nodes) children ids l, length-climb n)
 
   pub length-path : (s : ℕ) → (tree_of nodes).stand s ≡ true → length (control_path (map (control_in (tree_of nodes) (limit_in nodes)) ids) ((tree_of nodes).id s)) ≡ suc ((tree_of nodes).level s)
   unfolding control_path
@@ -90,86 +74,80 @@ module _ {nodes new : Slab Node} {a q id level : ℕ} (makes : Makes nodes new a
   up_a : (tree_of new).up a ≡ Some q
   up_a = ap (option_and_then (λ (x : Node). x.parent)) updates.changed
 
-  same : {X : Type 0} (f : Option Node → X) (j : ℕ) → j ≢ a → f (get new j) ≡ f (get nodes j)
-  same f j d = ap f (updates.others j d)
-
   pub leaf : (j : ℕ) → (tree_of new).up j ≢ Some a
-  leaf j e = grind (arith, cases_eq, q_apart, up_a, not_up, same)
+  leaf j e = grind (arith, cases_eq, q_apart, up_a, not_up)
 
-  back : (j : ℕ) → j ≢ a → get nodes j ≡ get new j
-  back j d = sym (updates.others j d)
+  back : Updates new nodes a None
+  back = record { changed = old; others = λ j d. sym (updates.others j d) }
 
   empty : tasks_in new a ≡ 0
   empty = ap (λ o. option_map_or (λ (x : Node). x.live + x.zombies) o 0) updates.changed
 
   total-made : (k : ℕ) → total_in new k ≡ total_in nodes k
-  total-made k = sym (leaves.total-leaf new nodes a back old leaf empty k)
+  total-made k = sym (leaves.total-leaf back leaf empty k)
 
   pub all-made : all_in new ≡ all_in nodes
-  all-made = sym (leaves.all-leaf new nodes a back old leaf empty)
+  all-made = sym (leaves.all-leaf back leaf empty)
 
   -- who is not there has no tasks below
   none_below : total_in nodes a ≡ 0
-  none_below = sum-zero (length nodes.slots) (λ j. if is_under (tree_of nodes) j a then tasks_in nodes j else 0) (λ j. go j (is_under (tree_of nodes) j a) refl (get nodes j) refl)
+  none_below = sum-zero (length nodes.slots) (share nodes a) (λ j. none j)
     where
-      go : (j : ℕ) (b : Bool) → is_under (tree_of nodes) j a ≡ b → (o : Option Node) → get nodes j ≡ o → (if b then option_map_or (λ (x : Node). x.live + x.zombies) o 0 else 0) ≡ 0
-      go j false e o f = refl
-      go j true e None f = refl
-      go j true e (Some x) f =
-          absurd (let h = reaches_there (tree_of nodes) w.levels ((tree_of nodes).level j) j a (ap is_some f) e in let g = ap is_some old in cc)
+      none : (j : ℕ) → share nodes a j ≡ 0
+      none j = let above = reaches_there (tree_of nodes) w.levels ((tree_of nodes).level j) j a in grind arith
 
   stand_a : (tree_of new).stand a ≡ true
   stand_a = ap (λ o. option_map_or (λ (x : Node). x.standing) o false) updates.changed
 
   pub IsTree-made : IsTree (tree_of new)
-  IsTree-made = grind (arith, cases_eq, up_a, there, same, q_apart, q_up, next, leaf, low, stand_a)
+  IsTree-made = grind (arith, cases_eq, up_a, there, q_apart, q_up, next, leaf, low, stand_a)
 
   pub IsCounted-made : (counters : List Counter) → IsCounted nodes (total_at counters) None → (after : List Counter) → ((k : ℕ) → counter_at after k ≡ counter_at counters k) → (c : Counter) → c.total ≡ 0 → a < length after
       → IsCounted new (total_at (set after a c)) None
-  IsCounted-made counters counted after kept_at c zero_is room = grind (arith, cases_eq, linked.counter-here, total-made, none_below, linked.counter-others, same, stand_a, leaves.all-leaf, back, old)
+  IsCounted-made counters counted after kept_at c zero_is room =
+      grind (arith, cases_eq, linked.counter-here, total-made, none_below, linked.counter-others, stand_a, all-made)
 
   module _ (children : List (Option ℕ)) (ids : List (ℕ × ℕ)) (l : IsListed (tree_of nodes) children ids) where
     entry_apart : (p : ℕ × ℕ) → IsEntry (tree_of nodes) p → p.1 ≢ a
     entry_apart p e s = let h = sym (e.0) ∙ ap (tree_of nodes).stand s ∙ ap (λ o. option_map_or (λ (x : Node). x.standing) o false) old in cc
 
-    all-push : (P : ℕ × ℕ → Type 0) (ps : List (ℕ × ℕ)) → AllByRecursion P ps → P (id, a) → AllByRecursion P (ps ++ (id, a) ∷ [])
-    all-push P [] all here = (here, tt)
-    all-push P (p ∷ ps) all here = (all.0, all-push P ps all.1 here)
+    entries_made : (ps : List (ℕ × ℕ)) → AllByRecursion (IsEntry (tree_of nodes)) ps → AllByRecursion (IsEntry (tree_of new)) (ps ++ (id, a) ∷ [])
+    entries_made [] all = grind (arith, stand_a)
+    entries_made (p ∷ ps) all = let d = entry_apart p all.0 in grind (arith, entries_made ps)
 
     pub IsListed-made : AreBelow ids id → (more : List (Option ℕ)) → ((k : ℕ) → owner_of more k ≡ owner_of children k) → a < length more → IsListed (tree_of new) (set more a (Some q)) (ids ++ (id, a) ∷ [])
     IsListed-made below more kept_at room = record {
-      owners = grind (arith, cases_eq, get_or-set_same, stand_a, up_a, get_or-set_other, same);
-      entries = all-push (IsEntry (tree_of new)) ids
-          (all-weaken (IsEntry (tree_of nodes)) (IsEntry (tree_of new)) (λ p e. let d = entry_apart p e in (same (λ o. option_map_or (λ (x : Node). x.standing) o false) p.1 d ∙ e.0, same (λ o. option_map_or (λ (x : Node). x.id) o 0) p.1 d ∙ e.1)) ids l.entries)
-          (stand_a, ap (λ o. option_map_or (λ (x : Node). x.id) o 0) updates.changed);
-      listed = grind (arith, cases_eq, key_of-new ids id a below, same, key_of-push);
+      owners = grind (arith, cases_eq, get_or-set_same, stand_a, up_a, get_or-set_other);
+      entries = entries_made ids l.entries;
+      listed = grind (arith, cases_eq, key_of-new ids id a below, key_of-push);
     }
 
     pub controls-made : map (control_in (tree_of new) (limit_in new)) (ids ++ (id, a) ∷ []) ≡ map (control_in (tree_of nodes) (limit_in nodes)) ids ++ (let g : Control = record { id = id; parent = Some ((tree_of nodes).id q); limit = None } in g) ∷ []
-    controls-made = push ids ∙ ap (λ gs. gs ++ control_in (tree_of new) (limit_in new) (id, a) ∷ []) (map-where (IsEntry (tree_of nodes)) (control_in (tree_of new) (limit_in new)) (control_in (tree_of nodes) (limit_in nodes)) entry ids l.entries)
-        ∙ ap (λ g. map (control_in (tree_of nodes) (limit_in nodes)) ids ++ g ∷ []) last
+    controls-made = go ids l.entries
       where
-        push : (ps : List (ℕ × ℕ)) → map (control_in (tree_of new) (limit_in new)) (ps ++ (id, a) ∷ []) ≡ map (control_in (tree_of new) (limit_in new)) ps ++ control_in (tree_of new) (limit_in new) (id, a) ∷ []
-        push [] = refl
-        push (p ∷ ps) = ap (λ gs. control_in (tree_of new) (limit_in new) p ∷ gs) (push ps)
-
         last : control_in (tree_of new) (limit_in new) (id, a) ≡ control id (Some ((tree_of nodes).id q)) None
-        last = grind (arith, up_a, same, q_apart)
+        last = grind (arith, up_a, q_apart)
 
         up : (k : ℕ) → (o : Option ℕ) → (tree_of nodes).up k ≡ o → option_map (tree_of new).id o ≡ option_map (tree_of nodes).id o
-        up k o e = grind (arith, same, not_up)
+        up k o e = grind (arith, not_up)
 
         entry : (p : ℕ × ℕ) → IsEntry (tree_of nodes) p → control_in (tree_of new) (limit_in new) p ≡ control_in (tree_of nodes) (limit_in nodes) p
-        entry p e = grind (arith, entry_apart, same, up)
+        entry p e = grind (arith, entry_apart, up)
+
+        go : (ps : List (ℕ × ℕ)) → AllByRecursion (IsEntry (tree_of nodes)) ps
+            → map (control_in (tree_of new) (limit_in new)) (ps ++ (id, a) ∷ [])
+            ≡ map (control_in (tree_of nodes) (limit_in nodes)) ps ++ control id (Some ((tree_of nodes).id q)) None ∷ []
+        go [] all = ap (λ g. g ∷ []) last
+        go (p ∷ ps) all = let here = entry p all.0 in let rest = go ps all.1 in cc
 
   pub home-made : home_in new a ≡ Some (record { id = id; stands = true; live = 0; zombies = 0 })
   home-made = grind (arith, kept_standing, nearest-self, stand_a)
 
   pub home-others : (k : ℕ) → k ≢ a → home_in new k ≡ home_in nodes k
-  home-others k d = sym (leaves.seen-leaf new nodes a back old leaf k d)
+  home-others k d = sym (leaves.seen-leaf back leaf k d)
 
   pub room-made : (children : List (Option ℕ)) → ((k : ℕ) → ContainsKey nodes k → k < length children) → (more : List (Option ℕ)) → length children ≤ length more → a < length more → (k : ℕ) → ContainsKey new k → k < length more
-  room-made children rooms more bigger lists k on = grind (arith, cases_eq, same)
+  room-made children rooms more bigger lists k on = grind (arith, cases_eq)
 
 pub home-none : (nodes : Slab Node) (k : ℕ) → get nodes k ≡ None → home_in nodes k ≡ None
 home-none nodes k old = ap (option_and_then (seen (tree_of nodes) k)) old

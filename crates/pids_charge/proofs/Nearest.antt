@@ -1,18 +1,11 @@
 -- The nearest limit that one task more would pass, by ids and by keys.
-use Rattle.std.proofs.Common.{◌≡◌, ℕ, zero, suc, ◌+◌, ◌≤◌, nat_lt, nat_le, Bool, true, false, cond, if◌then◌else◌, Option, Some, None, option_map, List, [], map, refl, sym, ap, ◌∙◌, arith}
-use Rattle.std.specs.Prelude.{find}
-use Rattle.std.specs.Option.{option_map_or}
-use Rattle.std.proofs.lemmas.Bool.{cases_lt, lt-ltb, le-ltb, le-leb, lt-leb}
-use Rattle.slab.specs.Slab.{Slab, ContainsKey}
-use Rattle.pid_types.specs.Chains.{climb}
-use Rattle.pid_types.specs.Controls.{parent_control, control_path}
-use Rattle.pid_types.specs.declared.reply.Refusal.TheVariants.{PidsLimit}
-use Rattle.pids_charge.specs.declared.node.Node.{Node}
-use Rattle.pids_charge.specs.Nodes.{tree_of, total_in, IsTree}
-use Rattle.pids_charge.specs.Charges.{count, is_full, charge_refusal}
-use Rattle.pids_charge.specs.Kept.{control_in, charges_of, limit_in, IsListed, is_at_limit, first_full}
+use Rattle.std.proofs.Common.{◌≡◌, ℕ, zero, suc, ◌+◌, ◌≤◌, nat_lt, nat_le, Bool, true, Option, Some, option_map, List, map, sym, ap, ◌∙◌, arith}
+use Rattle.pids_charge.proofs.Words.{cases_lt, le-leb, le-ltb, lt-leb, lt-ltb, find, climb, parent_control, control_path, PidsLimit, ContainsKey, Slab, Charges}
+use Rattle.pids_charge.proofs.Words.{charge_refusal, id_at, is_full, stands, IsKept, IsListed, charges_of, control_in, first_full, is_at_limit, limit_in}
+use Rattle.pids_charge.proofs.Words.{total_at, IsTree, total_in, tree_of, Node}
 use Rattle.pids_charge.proofs.Climbs.{up_levels}
-use Rattle.pids_charge.proofs.Views.{parent-is, limit-is, there}
+use Rattle.pids_charge.specs.declared.Controls.TheInside.{Inside}
+use Rattle.pids_charge.proofs.Views.{id_in, stand_in, parent-is, limit-is, there}
 use Rattle.pids_charge.proofs.Bridges.{count-is}
 
 lt-suc : (a b : ℕ) → nat_lt a (b + 1) ≡ nat_le a b
@@ -23,12 +16,8 @@ module _ (nodes : Slab Node) (totals : ℕ → ℕ) (children : List (Option ℕ
   full-is : (s : ℕ) → (tree_of nodes).stand s ≡ true → is_full (charges_of nodes ids) ((tree_of nodes).id s) ≡ is_at_limit nodes totals s
   full-is s up =
       let c = count-is nodes children ids w l s up ∙ sym (counts s (there nodes s up)) in
-      ap (λ (o : Option ℕ). option_map_or (λ limit. nat_lt limit (count (charges_of nodes ids) ((tree_of nodes).id s) + 1)) o false) (limit-is (tree_of nodes) (limit_in nodes) children ids l s up)
-      ∙ ap (λ (n : ℕ). option_map_or (λ limit. nat_lt limit (n + 1)) (limit_in nodes s) false) c
-      ∙ go (limit_in nodes s)
-    where
-      go : (o : Option ℕ) → option_map_or (λ limit. nat_lt limit (totals s + 1)) o false ≡ option_map_or (λ limit. nat_le limit (totals s)) o false
-      go o = grind (arith, lt-suc)
+      let limit = limit-is (tree_of nodes) (limit_in nodes) children ids l s up in
+      grind (arith, lt-suc)
 
   abbrev above_id : ℕ → Option ℕ
   above_id = parent_control (map (control_in (tree_of nodes) (limit_in nodes)) ids)
@@ -39,27 +28,23 @@ module _ (nodes : Slab Node) (totals : ℕ → ℕ) (children : List (Option ℕ
   find-climb : (n s : ℕ) → (tree_of nodes).stand s ≡ true → find full (climb above_id (suc n) ((tree_of nodes).id s)) ≡ option_map (tree_of nodes).id (first_full nodes totals n s)
   unfolding climb
   find-climb zero s up = grind (arith, full-is)
-  find-climb (suc n) s up =
-      ap (λ b. cond b (Some ((tree_of nodes).id s)) (find full (option_map_or (climb above_id (suc n)) (above_id ((tree_of nodes).id s)) []))) (full-is s up)
-      ∙ ap (λ o. cond (is_at_limit nodes totals s) (Some ((tree_of nodes).id s)) (find full (option_map_or (climb above_id (suc n)) o []))) (parent-is (tree_of nodes) (limit_in nodes) children ids l s up)
-      ∙ go (λ p sp. find-climb n p sp) (is_at_limit nodes totals s) ((tree_of nodes).up s) refl
-    where
-      go : ((p : ℕ) → (tree_of nodes).stand p ≡ true → find full (climb above_id (suc n) ((tree_of nodes).id p)) ≡ option_map (tree_of nodes).id (first_full nodes totals n p))
-          → (b : Bool) (o : Option ℕ) → (tree_of nodes).up s ≡ o
-          → cond b (Some ((tree_of nodes).id s)) (find full (option_map_or (climb above_id (suc n)) (option_map (tree_of nodes).id o) [])) ≡ option_map (tree_of nodes).id (if b then Some s else option_map_or (first_full nodes totals n) o None)
-      go rest b o e = grind arith
+  find-climb (suc n) s up = grind (arith, full-is, parent-is (tree_of nodes) (limit_in nodes) children ids l, find-climb n)
 
   first-more : (n s : ℕ) → (tree_of nodes).level s ≤ n → first_full nodes totals n s ≡ first_full nodes totals ((tree_of nodes).level s) s
   first-more zero s low = let e : (tree_of nodes).level s ≡ 0 = omega (arith, low) in ap (λ m. first_full nodes totals m s) (sym e)
-  first-more (suc n) s low = go (λ p lo. first-more n p lo) ((tree_of nodes).up s) refl
-    where
-      go : ((p : ℕ) → (tree_of nodes).level p ≤ n → first_full nodes totals n p ≡ first_full nodes totals ((tree_of nodes).level p) p) → (o : Option ℕ) → (tree_of nodes).up s ≡ o
-          → first_full nodes totals (suc n) s ≡ first_full nodes totals ((tree_of nodes).level s) s
-      go rest o none = grind (arith, up_levels)
+  first-more (suc n) s low = grind (arith, up_levels, first-more n)
 
   pub charge-is : (s : ℕ) → (tree_of nodes).stand s ≡ true → charge_refusal (charges_of nodes ids) ((tree_of nodes).id s) ≡ option_map PidsLimit (option_map (tree_of nodes).id (first_full nodes totals ((tree_of nodes).level s) s))
   unfolding control_path
   charge-is s up = ap (option_map PidsLimit) (find-climb 64 s up ∙ ap (option_map (tree_of nodes).id) (first-more 64 s (w.deep s)))
+
+-- so of the value that a contract sees
+pub charge_seen : (s : Inside) {v : Charges} → charges_of s.nodes s.ids ≡ v → IsKept s.nodes s.counters.items s.children s.ids → (k : ℕ) → stands v k ≡ true
+    → charge_refusal v (id_at v k)
+    ≡ option_map PidsLimit (option_map (tree_of s.nodes).id (first_full s.nodes (total_at s.counters.items) ((tree_of s.nodes).level k) k))
+charge_seen s {v} is w k on =
+    ap (charge_refusal v) (id_in s is k on) ∙ sym (ap (λ (x : Charges). charge_refusal x ((tree_of s.nodes).id k)) is)
+    ∙ charge-is s.nodes (total_at s.counters.items) s.children s.ids w.tree w.listed w.counted.counts k (stand_in s is k on)
 
 pub first_there : (nodes : Slab Node) (totals : ℕ → ℕ) (n s k : ℕ) → first_full nodes totals n s ≡ Some k → ContainsKey nodes k
 first_there nodes totals n s k is = go n s is
@@ -69,7 +54,4 @@ first_there nodes totals n s k is = go n s is
 
     go : (n s : ℕ) → first_full nodes totals n s ≡ Some k → ContainsKey nodes k
     go zero s is = grind (arith, here)
-    go (suc n) s is = pick (λ p e. go n p e) (is_at_limit nodes totals s) refl ((tree_of nodes).up s) is
-      where
-        pick : ((p : ℕ) → first_full nodes totals n p ≡ Some k → ContainsKey nodes k) → (b : Bool) → is_at_limit nodes totals s ≡ b → (o : Option ℕ) → (if b then Some s else option_map_or (first_full nodes totals n) o None) ≡ Some k → ContainsKey nodes k
-        pick rest b e o is = grind (arith, here)
+    go (suc n) s is = grind (arith, here, go n)

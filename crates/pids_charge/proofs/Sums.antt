@@ -1,8 +1,5 @@
 -- How sums over keys change.
-use Rattle.std.proofs.Common.{◌≡◌, ◌≢◌, ℕ, zero, suc, ◌+◌, ◌<◌, ◌≤◌, List, [], ◌∷◌, length, get_or, refl, arith}
-use Rattle.std.specs.List.{sum_by}
-use Rattle.std.proofs.lemmas.List.Sums.{sum_by-cons}
-use Rattle.pids_charge.specs.Sums.{sum_below}
+use Rattle.pids_charge.proofs.Words.{List, [], arith, get_or, length, refl, suc, zero, ℕ, ◌+◌, ◌<◌, ◌∷◌, ◌≡◌, ◌≢◌, ◌≤◌, sum_by-cons, sum_by, sum_below}
 
 pub sum-ext : (n : ℕ) (f g : ℕ → ℕ) → ((k : ℕ) → f k ≡ g k) → sum_below n f ≡ sum_below n g
 sum-ext n f g same = grind arith
@@ -25,8 +22,12 @@ sum-tail (suc n) zero f le none = absurd (omega (arith, le))
 sum-tail (suc n) (suc m) f le none =
     omega (arith, sum-tail n m (λ k. f (suc k)) (omega (arith, le)) (λ k from. none (suc k) (omega (arith, from))))
 
-pub sum-bounds : (n m : ℕ) (f : ℕ → ℕ) → ((k : ℕ) → n ≤ k → f k ≡ 0) → ((k : ℕ) → m ≤ k → f k ≡ 0) → sum_below n f ≡ sum_below m f
-sum-bounds n m f past_n past_m = grind (arith, sum-tail)
+-- two functions that differ at one key, each of them nothing from a bound of its own on
+pub sum-apart : (n m a : ℕ) (f g : ℕ → ℕ) → ((k : ℕ) → n ≤ k → f k ≡ 0) → ((k : ℕ) → m ≤ k → g k ≡ 0) → ((k : ℕ) → k ≢ a → f k ≡ g k)
+    → sum_below n f + g a ≡ sum_below m g + f a
+sum-apart n m a f g past_n past_m same =
+    let all = n + m + suc a in
+    omega (arith, sum-at all a f g (omega arith) same, sum-tail n all f (omega arith) past_n, sum-tail m all g (omega arith) past_m)
 
 pub sum_le : (n : ℕ) (f g : ℕ → ℕ) → ((k : ℕ) → f k ≤ g k) → sum_below n f ≤ sum_below n g
 sum_le zero f g le = omega arith

@@ -1,7 +1,7 @@
 //! The nodes: control groups, and what is left of removed ones.
 
 ghost use Rattle.std.specs.Prelude.{◌≡◌, Some, None, true};
-ghost use Rattle.slab.specs.Slab.{get, ContainsKey, with_value};
+ghost use Rattle.slab.specs.Slab.{get, ContainsKey, Updates};
 
 use pid_types::keys::ControlKey;
 use slab::Slab;
@@ -62,7 +62,7 @@ pub(crate) fn node_at(nodes: &Slab<Node>, key: ControlKey) -> Node
 /// Writes the node at a key.
 pub(crate) fn set_node(nodes: &mut Slab<Node>, key: ControlKey, node: Node)
     requires { ContainsKey nodes.old key }
-    ensures { nodes.new ≡ with_value nodes.old key node }
+    ensures { Updates nodes.old nodes.new key (Some node) }
 {
     match nodes.get_mut(key as usize) {
         Some(place) => *place = node,

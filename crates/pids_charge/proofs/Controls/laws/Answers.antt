@@ -1,24 +1,19 @@
-use Rattle.std.proofs.Common.{◌≡◌, ℕ, true, is_some, sym, ap, ◌∙◌}
-use Rattle.pid_types.specs.Controls.{control_at}
-use Rattle.pids_charge.specs.Nodes.{tree_of}
-use Rattle.pids_charge.specs.Charges.{Charges, stands, live_at, id_at}
-use Rattle.pids_charge.specs.Kept.{limit_in}
+use Rattle.pids_charge.proofs.Words.{ap, is_some, sym, ◌∙◌, control_at, Charges, limit_in, tree_of}
 use Rattle.pids_charge.proofs.Views as views
 use Rattle.pids_charge.proofs.Controls.laws.Goals as goal
 
 pub returns : goal.returns
 returns c =
-    let nodes = c.self.inside.nodes in
-    let ids = c.self.inside.ids in
-    let stand : (k : ℕ) → stands c.args.self.now k ≡ true → (tree_of nodes).stand k ≡ true = views.stand_in nodes ids c.args.self.now c.self.view_is in
-    let id : (k : ℕ) → stands c.args.self.now k ≡ true → id_at c.args.self.now k ≡ (tree_of nodes).id k = views.id_in nodes ids c.args.self.now c.self.view_is in
+    let t = tree_of c.self.inside.nodes in
+    let limits = limit_in c.self.inside.nodes in
+    let stand = views.stand_in c.self.inside c.self.view_is in
+    let id = views.id_in c.self.inside c.self.view_is in
+    let l = c.self.invariant.listed in
     record {
       ended = λ k off.
-          sym (ap (λ (v : Charges). live_at v k) c.self.view_is) ∙ views.live-is nodes ids k
-          ∙ c.self.invariant.counted.ended k (sym (views.stands-is nodes ids k) ∙ ap (λ (v : Charges). stands v k) c.self.view_is ∙ off);
-      ids = λ j k on at same.
-          views.same_key (tree_of nodes) (limit_in nodes) c.self.inside.children ids c.self.invariant.listed j k (stand j on) (stand k at) (sym (id j on) ∙ same ∙ id k at);
+          views.live-of c.self.inside c.self.view_is k ∙ c.self.invariant.counted.ended k (sym (views.stands-of c.self.inside c.self.view_is k) ∙ off);
+      ids = λ j k on at same. views.same_key t limits c.self.inside.children c.self.inside.ids l j k (stand j on) (stand k at) (sym (id j on) ∙ same ∙ id k at);
       listed = λ k on.
-          ap is_some (ap (control_at c.args.self.now.controls) (id k on) ∙ sym (ap (λ (v : Charges). control_at v.controls ((tree_of nodes).id k)) c.self.view_is)
-          ∙ views.found (tree_of nodes) (limit_in nodes) c.self.inside.children ids c.self.invariant.listed k (stand k on));
+          ap is_some (ap (control_at c.args.self.now.controls) (id k on) ∙ sym (ap (λ (v : Charges). control_at v.controls (t.id k)) c.self.view_is)
+          ∙ views.found t limits c.self.inside.children c.self.inside.ids l k (stand k on));
     }

@@ -1,8 +1,4 @@
-use Rattle.std.proofs.Common.{length, ap, ◌∙◌, sym}
-use Rattle.std.proofs.lemmas.List.{length-map}
-use Rattle.pids_charge.specs.Nodes.{tree_of}
-use Rattle.pids_charge.specs.Charges.{Charges}
-use Rattle.pids_charge.specs.Kept.{control_in, limit_in}
+use Rattle.pids_charge.proofs.Words.{ap, length, sym, ◌∙◌, length-map, Charges, control_in, limit_in, tree_of}
 use Rattle.pids_charge.proofs.Controls.len.Goals as goal
 
 pub returns : goal.returns

@@ -1,15 +1,10 @@
-use Rattle.std.proofs.Common.{ℕ, Option, Some, option_map, sym, ap, ◌∙◌}
-use Rattle.pid_types.specs.declared.reply.Refusal.TheVariants.{PidsLimit}
-use Rattle.pids_charge.specs.declared.node.Node.{Node}
-use Rattle.pids_charge.specs.Nodes.{tree_of}
-use Rattle.pids_charge.specs.Charges.{Charges, charge_refusal}
-use Rattle.pids_charge.specs.Kept.{first_full, total_at}
+use Rattle.pids_charge.proofs.Words.{Option, Some, ap, option_map, sym, ℕ, ◌∙◌, PidsLimit, first_full, total_at, tree_of, Node}
 use Rattle.pids_charge.proofs.Views as views
 use Rattle.pids_charge.proofs.Nearest as limits
 use Rattle.pids_charge.proofs.Controls.may_charge.Goals as goal
 
 pub full_above-requires-clause-home : goal.full_above-requires-clause-home
-full_above-requires-clause-home c = views.there c.self.inside.nodes c.args.home (views.stand_in c.self.inside.nodes c.self.inside.ids c.args.self.now c.self.view_is c.args.home c.requires)
+full_above-requires-clause-home c = views.there_in c.self.inside c.self.view_is c.args.home c.requires
 
 pub node_at-requires : goal.node_at-requires
 node_at-requires c =
@@ -18,17 +13,15 @@ node_at-requires c =
 
 pub returns-in-Some : goal.returns-in-Some
 returns-in-Some c =
-    let f = ap (λ ts. first_full c.self.inside.nodes (total_at ts) ((tree_of c.self.inside.nodes).level c.args.home) c.args.home) (sym c.as_slice.ensures.value) ∙ sym c.full_above.ensures ∙ c.in-Some.is in
-    sym (ap (charge_refusal c.args.self.now) (views.id_in c.self.inside.nodes c.self.inside.ids c.args.self.now c.self.view_is c.args.home c.requires)
-    ∙ sym (ap (λ (v : Charges). charge_refusal v ((tree_of c.self.inside.nodes).id c.args.home)) c.self.view_is)
-    ∙ limits.charge-is c.self.inside.nodes (total_at c.self.inside.counters.items) c.self.inside.children c.self.inside.ids c.self.invariant.tree c.self.invariant.listed c.self.invariant.counted.counts c.args.home (views.stand_in c.self.inside.nodes c.self.inside.ids c.args.self.now c.self.view_is c.args.home c.requires)
-    ∙ ap (λ (o : Option ℕ). option_map PidsLimit (option_map (tree_of c.self.inside.nodes).id o)) f
+    let full = ap (λ ts. first_full c.self.inside.nodes (total_at ts) ((tree_of c.self.inside.nodes).level c.args.home) c.args.home)
+    (sym c.as_slice.ensures.value) ∙ sym c.full_above.ensures ∙ c.in-Some.is in
+    sym (limits.charge_seen c.self.inside c.self.view_is c.self.invariant c.args.home c.requires
+    ∙ ap (λ (o : Option ℕ). option_map PidsLimit (option_map (tree_of c.self.inside.nodes).id o)) full
     ∙ ap (λ i. Some (PidsLimit i)) (views.field-is (λ (n : Node). n.id) 0 c.self.inside.nodes c.in-Some.key c.node_at.result c.node_at.ensures))
 
 pub returns-in-None : goal.returns-in-None
 returns-in-None c =
-    let f = ap (λ ts. first_full c.self.inside.nodes (total_at ts) ((tree_of c.self.inside.nodes).level c.args.home) c.args.home) (sym c.as_slice.ensures.value) ∙ sym c.full_above.ensures ∙ c.in-None.is in
-    sym (ap (charge_refusal c.args.self.now) (views.id_in c.self.inside.nodes c.self.inside.ids c.args.self.now c.self.view_is c.args.home c.requires)
-    ∙ sym (ap (λ (v : Charges). charge_refusal v ((tree_of c.self.inside.nodes).id c.args.home)) c.self.view_is)
-    ∙ limits.charge-is c.self.inside.nodes (total_at c.self.inside.counters.items) c.self.inside.children c.self.inside.ids c.self.invariant.tree c.self.invariant.listed c.self.invariant.counted.counts c.args.home (views.stand_in c.self.inside.nodes c.self.inside.ids c.args.self.now c.self.view_is c.args.home c.requires)
-    ∙ ap (λ (o : Option ℕ). option_map PidsLimit (option_map (tree_of c.self.inside.nodes).id o)) f)
+    let full = ap (λ ts. first_full c.self.inside.nodes (total_at ts) ((tree_of c.self.inside.nodes).level c.args.home) c.args.home)
+    (sym c.as_slice.ensures.value) ∙ sym c.full_above.ensures ∙ c.in-None.is in
+    sym (limits.charge_seen c.self.inside c.self.view_is c.self.invariant c.args.home c.requires
+    ∙ ap (λ (o : Option ℕ). option_map PidsLimit (option_map (tree_of c.self.inside.nodes).id o)) full)

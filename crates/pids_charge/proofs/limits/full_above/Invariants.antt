@@ -1,8 +1,4 @@
-use Rattle.std.proofs.Common.{◌≡◌, ℕ, suc, Some, None}
-use Rattle.std.specs.Option.{option_map_or}
-use Rattle.slab.specs.Slab.{ContainsKey}
-use Rattle.pids_charge.specs.Nodes.{tree_of}
-use Rattle.pids_charge.specs.Kept.{first_full, total_at}
+use Rattle.pids_charge.proofs.Words.{None, Some, suc, ℕ, ◌≡◌, option_map_or, ContainsKey, first_full, total_at, tree_of}
 use Rattle.pids_charge.proofs.limits.full_above.Given as goal
 
 abbrev pub invariant-loop-at : goal.invariant-loop-at

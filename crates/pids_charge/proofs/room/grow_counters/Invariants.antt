@@ -1,5 +1,4 @@
-use Rattle.std.proofs.Common.{◌≡◌, ℕ, ◌+◌, ◌-◌, ◌≤◌, length}
-use Rattle.pids_charge.specs.Kept.{counter_at}
+use Rattle.pids_charge.proofs.Words.{length, ℕ, ◌+◌, ◌-◌, ◌≡◌, ◌≤◌, counter_at}
 use Rattle.pids_charge.proofs.room.grow_counters.Given as goal
 
 abbrev pub invariant-loop-counters : goal.invariant-loop-counters

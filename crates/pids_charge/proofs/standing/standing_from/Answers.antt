@@ -1,5 +1,4 @@
-use Rattle.std.proofs.Common.{◌∙◌, sym}
-use Rattle.pids_charge.specs.Nodes.{tree_of}
+use Rattle.pids_charge.proofs.Words.{sym, ◌∙◌, tree_of}
 use Rattle.pids_charge.proofs.HomeIds as home_ids
 use Rattle.pids_charge.proofs.standing.standing_from.Goals as goal
 

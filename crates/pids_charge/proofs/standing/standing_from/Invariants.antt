@@ -1,7 +1,4 @@
-use Rattle.std.proofs.Common.{◌≡◌}
-use Rattle.slab.specs.Slab.{ContainsKey}
-use Rattle.pids_charge.specs.Nodes.{tree_of}
-use Rattle.pids_charge.specs.Kept.{standing_key}
+use Rattle.pids_charge.proofs.Words.{◌≡◌, ContainsKey, standing_key, tree_of}
 use Rattle.pids_charge.proofs.standing.standing_from.Given as goal
 
 abbrev pub invariant-loop-parent : goal.invariant-loop-parent

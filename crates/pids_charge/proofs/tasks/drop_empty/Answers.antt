@@ -1,8 +1,5 @@
 -- The walk ends at a node that stands or has a task below it; each node that it drops has neither, so nothing is below it
-use Rattle.std.proofs.Common.{◌∙◌, ◌≡◌, inl, inr, None, ap, arith}
-use Rattle.std.proofs.lemmas.List.{get_or_read}
-use Rattle.pids_charge.specs.declared.counter.Counter.{Counter}
-use Rattle.pids_charge.specs.Kept.{total_at}
+use Rattle.pids_charge.proofs.Words.{None, ap, arith, inl, inr, ◌∙◌, ◌≡◌, get_or_read, total_at, Counter}
 use Rattle.pids_charge.proofs.Linked as linked
 use Rattle.pids_charge.proofs.Leaves.{Visits}
 use Rattle.pids_charge.proofs.Leaves as leaves

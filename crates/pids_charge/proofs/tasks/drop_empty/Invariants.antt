@@ -1,8 +1,4 @@
-use Rattle.std.proofs.Common.{◌≡◌, ℕ, suc, Some}
-use Rattle.std.specs.Option.{option_map_or}
-use Rattle.slab.specs.Slab.{ContainsKey}
-use Rattle.pids_charge.specs.Nodes.{tree_of, all_in, IsTree}
-use Rattle.pids_charge.specs.Kept.{IsCounted, DropsEmpty, total_at, AreLinked}
+use Rattle.pids_charge.proofs.Words.{Some, suc, ℕ, ◌≡◌, option_map_or, ContainsKey, AreLinked, DropsEmpty, IsCounted, total_at, IsTree, all_in, tree_of}
 use Rattle.pids_charge.proofs.tasks.drop_empty.Given as goal
 
 abbrev pub invariant-loop-at : goal.invariant-loop-at

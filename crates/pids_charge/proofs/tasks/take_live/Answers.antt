@@ -1,8 +1,5 @@
 -- The subtrees that the node is in weigh one less, and the walk lowers just their totals; a live task is in a node that stands, so no node is left empty
-use Rattle.std.proofs.Common.{◌-◌, None, arith, refl}
-use Rattle.pids_charge.specs.declared.node.Node.{Node}
-use Rattle.pids_charge.specs.Nodes.{tree_of}
-use Rattle.pids_charge.specs.Kept.{total_at}
+use Rattle.pids_charge.proofs.Words.{None, arith, inl, refl, ◌-◌, total_at, Node}
 use Rattle.pids_charge.proofs.Linked as linked
 use Rattle.pids_charge.proofs.Views as views
 use Rattle.pids_charge.proofs.Written.{Writes}
@@ -12,36 +9,26 @@ use Rattle.pids_charge.proofs.tasks.take_live.Goals.{After-set_node}
 
 -- the node is written
 writes : (c : After-set_node) → Writes c.args.nodes.now c.set_node.new.nodes c.args.home c.node_at-node.result (record c.node_at-node.result { live = c.node_at-node.result.live - 1 })
-writes c = record { found = c.node_at-node.ensures; shape = refl; is = c.set_node.ensures }
+writes c = record { found = c.node_at-node.ensures; shape = refl; updates = c.set_node.ensures }
 
 pub lower-requires-clause-some : goal.lower-requires-clause-some
 lower-requires-clause-some c =
     let own = views.field-is (λ (n : Node). n.live) 0 c.args.nodes.now c.args.home c.node_at-node.result c.node_at-node.ensures in
-    written.has_some (writes (goal.at.lower-requires-clause-some c).After-set_node) None (total_at c.args.counters.now.items) c.requires.tree c.requires.counted (omega (arith, own, c.requires.some))
-
-pub returns-clause-changes : goal.returns-clause-changes
-returns-clause-changes c = written.changes (writes (goal.at.returns-clause-changes c).After-set_node) refl (λ (n : Node). record n { live = n.live - 1 }) refl
-
-pub returns-clause-counted : goal.returns-clause-counted
-returns-clause-counted c =
-    let w = writes (goal.at.returns-clause-counted c).After-set_node in
-    let own = views.field-is (λ (n : Node). n.live) 0 c.args.nodes.now c.args.home c.node_at-node.result c.node_at-node.ensures in
-    let less = written.total-less w (omega (arith, own, c.requires.some)) in
-    let all = written.all-changed w in
-    let same = written.weight-same w None (total_at c.args.counters.now.items) c.requires.tree c.requires.counted in
-    written.IsCounted-written w None (total_at c.args.counters.now.items) (total_at c.lower.new.counters.items) c.requires.counted None
-    (λ j on. omega (arith, c.lower.ensures.totals j, less j, c.requires.counted.counts j on, same j))
-    (λ j on gone past.
-    let none = written.weight_none (tree_of c.args.nodes.now) c.requires.tree c.args.home j (written.live_stands c.args.nodes.now c.args.home c.node_at-node.result c.node_at-node.ensures (total_at c.args.counters.now.items) None c.requires.counted (omega (arith, own, c.requires.some))) gone in
-    omega (arith, less j, none, c.requires.counted.filled j on gone past))
-    (λ gone. absurd (omega (arith, own, c.requires.some, written.none_live c.args.nodes.now c.args.home c.node_at-node.result c.node_at-node.ensures (total_at c.args.counters.now.items) None c.requires.counted gone)))
-    (omega (arith, all, own, c.requires.some, c.requires.counted.few))
-
-pub returns-clause-all : goal.returns-clause-all
-returns-clause-all c =
-    let own = views.field-is (λ (n : Node). n.live) 0 c.args.nodes.now c.args.home c.node_at-node.result c.node_at-node.ensures in
-    let all = written.all-changed (writes (goal.at.returns-clause-all c).After-set_node) in
-    omega (arith, all, own, c.requires.some)
+    written.has_some (writes (goal.at.lower-requires-clause-some c).After-set_node) c.requires.tree c.requires.counted (omega (arith, own, c.requires.some))
 
 pub lower-requires-clause-linked : goal.lower-requires-clause-linked
-lower-requires-clause-linked c = linked.linked-written c.args.nodes.now c.set_node.new.nodes c.args.counters.now.items c.requires.linked c.args.home c.node_at-node.result _ c.node_at-node.ensures c.set_node.ensures refl refl
+lower-requires-clause-linked c = linked.linked-written c.args.counters.now.items c.requires.linked c.node_at-node.ensures c.set_node.ensures refl refl
+
+pub returns : goal.returns
+returns c =
+    let w = writes (goal.at.returns c).After-set_node in
+    let own = views.field-is (λ (n : Node). n.live) 0 c.args.nodes.now c.args.home c.node_at-node.result c.node_at-node.ensures in
+    let all = written.all-written w in
+    record {
+      changes = written.changes w refl (λ (n : Node). record n { live = n.live - 1 }) refl;
+      all = omega (arith, all, own, c.requires.some);
+      counted = written.IsCounted-written w c.requires.tree c.requires.counted (total_at c.lower.new.counters.items) None
+          (λ j. grind (arith, c.lower.ensures.totals j)) (inl (written.live_stands c.args.home c.requires.counted c.requires.some))
+          (omega (arith, all, own, c.requires.some, c.requires.counted.few));
+      linked = c.lower.ensures.linked;
+    }

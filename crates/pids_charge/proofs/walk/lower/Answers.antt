@@ -1,8 +1,5 @@
 -- The weight left above the walk falls by one at each step, so what the totals lost and what they are to lose is one sum; no total falls below zero, as each had a task
-use Rattle.std.proofs.Common.{◌-◌, ◌<◌, None, sym, ap, ◌∙◌, arith}
-use Rattle.std.proofs.lemmas.List.{get_or_read}
-use Rattle.pids_charge.specs.declared.counter.Counter.{Counter}
-use Rattle.pids_charge.specs.Nodes.{tree_of}
+use Rattle.pids_charge.proofs.Words.{None, ap, arith, sym, ◌-◌, ◌<◌, ◌∙◌, get_or_read, tree_of, Counter}
 use Rattle.pids_charge.proofs.Climbs as climbs
 use Rattle.pids_charge.proofs.Linked as linked
 use Rattle.pids_charge.proofs.walk.lower.Goals as goal

@@ -1,8 +1,4 @@
-use Rattle.std.proofs.Common.{◌≡◌, ℕ, suc, ◌+◌, ◌≤◌, Some}
-use Rattle.std.specs.Option.{option_map_or}
-use Rattle.slab.specs.Slab.{ContainsKey}
-use Rattle.pids_charge.specs.Nodes.{tree_of, weight, left}
-use Rattle.pids_charge.specs.Kept.{total_at, AreLinked}
+use Rattle.pids_charge.proofs.Words.{Some, suc, ℕ, ◌+◌, ◌≡◌, ◌≤◌, option_map_or, ContainsKey, AreLinked, total_at, left, tree_of, weight}
 use Rattle.pids_charge.proofs.walk.raise.Given as goal
 
 abbrev pub invariant-loop-at : goal.invariant-loop-at
