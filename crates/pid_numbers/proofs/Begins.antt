@@ -1,23 +1,11 @@
 -- A namespace that begins with its first identifier.
-use Rattle.std.proofs.Common.{◌≡◌, ◌≢◌, inl, inr, ℕ, zero, suc, ◌<◌, ◌≤◌, Bool, true, false, List, [], ◌∷◌, length, get_or, Option, Some, None, is_some, if◌then◌else◌, sym, ap, subst, ◌∙◌, arith, ◌+◌, ◌-◌, take, drop, IsSome, option_map, option_and_then, refl}
-use Rattle.std.specs.Prelude.{nat_lt, slice_get}
-use Rattle.std.proofs.lemmas.Bool.{cases_eq}
-use Rattle.std.proofs.lemmas.Bool.Decides.{nat_tests}
-use Rattle.pid_types.specs.Chains.{contains}
-use Rattle.pid_types.specs.Draw.{least_free, cyclic_draw}
-use Rattle.pid_types.proofs.LeastFree.{least_free-found}
-use Rattle.index_array.specs.Place.{Entry, entry_at, indexes, is_prepared}
-use Rattle.index_array.proofs.Indexes.{contains_indexes}
-use Rattle.cyclic_ids.specs.Ids.{Ids, planned}
-use Rattle.pid_numbers.specs.Numbering.{Identifier, new_identifier}
-use Rattle.ns_tree.specs.Tree.{IsTree, Tree, AreListed, new_node, node_in, way, id_in, fell}
+use Rattle.std.proofs.Common.{◌≡◌, ◌≢◌, inl, inr, ℕ, zero, suc, ◌<◌, ◌≤◌, Bool, true, false, List, [], ◌∷◌, length, get_or, Option, Some, None, is_some, if◌then◌else◌, sym, ap, subst, ◌∙◌, arith, ◌+◌, ◌-◌, take, drop, IsSome, option_and_then, refl}
+use Rattle.pid_numbers.proofs.Words.{nat_lt, slice_get, cases_eq, nat_tests, contains, least_free, cyclic_draw, least_free-found, Entry, entry_at, indexes}
+use Rattle.pid_numbers.proofs.Words.{is_prepared, contains_indexes, Ids, planned, Identifier, new_identifier, IsTree, Tree, AreListed, new_node, node_in, way}
+use Rattle.pid_numbers.proofs.Words.{id_in, fell, IsNumbering, AreFallen, leads, entry_on, bound_on, plan_on, touched, stepped, given_to, ArePlanned, AreReady}
+use Rattle.pid_numbers.proofs.Words.{IsWhole, IsKept, option_map_or, beside, Table, name_at}
 use Rattle.pid_numbers.proofs.Ties.{numbering-moved}
-use Rattle.pid_numbers.specs.Slabs.{IsNumbering, AreFallen, leads, entry_on, bound_on, plan_on, touched, stepped, given_to, ArePlanned, AreReady, IsWhole, IsKept}
-use Rattle.std.specs.Option.{option_map_or}
-use Rattle.std.proofs.lemmas.Option.{same_Some}
 use Rattle.std.proofs.Math.Seq.{take-length}
-use Rattle.pid_types.specs.Names.{beside}
-use Rattle.pid_numbers.specs.Table.{Table, name_at}
 use Rattle.pid_numbers.proofs.Views.{IsPlan}
 use Rattle.pid_numbers.proofs.Seats.{IsPut}
 use Rattle.ns_tree.proofs.Growth as growth
@@ -57,9 +45,12 @@ module _ (pid_max : ℕ) (ways ways' : ℕ → List ℕ) (at : ℕ → ℕ → O
     inner = λ t j lt e. elim (cases_eq t key) [
       | inl is ↦ absurd (at_new j (subst (λ (p : List ℕ). j < length p) (ap ways' is ∙ now) lt) (ap (λ p. fell' (get_or p j 0)) (sym (ap ways' is ∙ now)) ∙ e))
       | inr d ↦
-          let below : j < length (ways t) = subst (λ (p : List ℕ). j < length p) (others t d) lt in
-          let off : get_or (ways t) j 0 ≢ key = growth.away-path ways ways' b.tree key parent was now others (ways t) (b.tree.paths t) j below in
-          same t d ∙ f.inner t j below (sym (same (get_or (ways t) j 0) off) ∙ ap (λ p. fell' (get_or p j 0)) (sym (others t d)) ∙ e)
+          let way_t = others t d in
+          let off = growth.away-path ways ways' b.tree key parent was now others (ways t) (b.tree.paths t) j in
+          let inner = f.inner t j in
+          let same_t = same t d in
+          let same_j = same (get_or (ways t) j 0) in
+          grind arith
     ];
     held = λ s e. elim (cases_eq s key) [
       | inl is ↦ absurd (let bad : true ≡ false = sym e ∙ ap fell' is ∙ new in cc)
@@ -73,16 +64,14 @@ module _ (pid_max : ℕ) (ways ways' : ℕ → List ℕ) (at : ℕ → ℕ → O
       at_new : (j : ℕ) → j < length (key ∷ ways parent) → fell' (get_or (key ∷ ways parent) j 0) ≡ true → ⊥
       at_new zero lt e = let bad : true ≡ false = sym e ∙ new in cc
       at_new (suc j) lt e =
-          let below : j < length (ways parent) = omega (arith, lt) in
-          let off : get_or (ways parent) j 0 ≢ key = growth.away-path ways ways' b.tree key parent was now others (ways parent) (b.tree.paths parent) j below in
-          let bad : true ≡ false = sym (f.inner parent j below (sym (same (get_or (ways parent) j 0) off) ∙ e)) ∙ stands in
-          cc
+          let off = growth.away-path ways ways' b.tree key parent was now others (ways parent) (b.tree.paths parent) j in
+          let same_j = same (get_or (ways parent) j 0) in
+          let inner = f.inner parent j in
+          grind arith
 
 -- all numbers but the first
 pub around-is : (ns rest : List ℕ) → ns ≡ 1 ∷ rest → take (length ns - 1) (drop 1 ns) ≡ rest
-around-is ns rest e =
-    let l : length (1 ∷ rest) - 1 ≡ length rest = omega arith in
-    ap (λ n. take (length n - 1) (drop 1 n)) e ∙ ap (λ k. take k rest) l ∙ take-length rest
+around-is ns rest e = let l = take-length rest in grind arith
 
 pub all-is : (ns rest : List ℕ) → ns ≡ 1 ∷ rest → ns ≡ 1 ∷ take (length ns - 1) (drop 1 ns)
 all-is ns rest e = e ∙ ap (λ l. 1 ∷ l) (sym (around-is ns rest e))
@@ -119,12 +108,8 @@ module _ (pid_max : ℕ) (ways ways' : ℕ → List ℕ) (at : ℕ → ℕ → O
       free s n hit = by_place (ties.beside-some s n (key ∷ ways parent) (1 ∷ around) (ap (λ p. beside s p (1 ∷ around)) (sym now) ∙ hit))
         where
           by_place : (j : ℕ) × (j < length (key ∷ ways parent)) × (get_or (key ∷ ways parent) j 0 ≡ s) × (get_or (1 ∷ around) j 0 ≡ n) → (at s n ≡ None) × (0 < n) × (n < pid_max)
-          by_place (zero, l, here, one) =
-              let good = whole.numbering.good.0 in
-              (ap (λ z. at z n) (sym here) ∙ unseen n, omega (arith, one), omega (arith, one, good))
-          by_place (suc j, l, here, drawn_is) =
-              subst (λ n. (at s n ≡ None) × (0 < n) × (n < pid_max)) drawn_is
-              (subst (λ s. (at s (get_or around j 0) ≡ None) × (0 < get_or around j 0) × (get_or around j 0 < pid_max)) here (drawn j (omega (arith, l))))
+          by_place (zero, l, here, one) = let good = whole.numbering.good.0 in let none = unseen n in grind arith
+          by_place (suc j, l, here, drawn_is) = let at_j = drawn j in grind arith
 
 -- the same in the tree, where the numbers of the new namespace were put at its key, and those around it were planned before
 pub record IsBegun (pid_max : ℕ) (tree tree' : Tree) (ids ids1 ids2 : List (Ids ℕ)) (idents : Table) (parent key id : ℕ) (around : List ℕ) (first : Ids ℕ) : Type 0 where
@@ -181,7 +166,4 @@ module _ {pid_max : ℕ} {tree tree' : Tree} {ids ids1 ids2 : List (Ids ℕ)} {i
   }
     where
       bound : (s m : ℕ) → bound_on ids3 s ≡ Some m → m ≡ pid_max
-      bound s m e = elim (cases_eq s key) [
-        | inl at ↦ same_Some m first.pid_max (sym e ∙ bounds3 s ∙ ap (bound_on ids2) at ∙ ap (option_map (λ t. t.pid_max)) g.here) ∙ good
-        | inr d ↦ g.kept.whole.numbering.bounds s m (sym (bounds3 s ∙ ap (option_map (λ t. t.pid_max)) (g.same s d) ∙ bounds s) ∙ e)
-      ]
+      bound s m e = grind (arith, cases_eq)

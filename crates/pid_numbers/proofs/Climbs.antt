@@ -1,15 +1,8 @@
 -- A sweep goes from a namespace outwards, as long as it finds dead ones.
-use Rattle.std.proofs.Common.{◌≡◌, ◌≢◌, inl, inr, ℕ, ◌+◌, ◌<◌, true, false, ◌&&◌, ◌||◌, List, [], ◌∷◌, length, get_or, drop, Option, Some, None, is_some, if◌then◌else◌, sym, ap, subst, arith, ◌∙◌}
-use Rattle.std.specs.Prelude.{nat_lt}
-use Rattle.std.specs.Option.{option_map_or}
-use Rattle.std.proofs.lemmas.Bool.{cases_eq, ne_eqb, ltb-true, false_from_ne_true}
-use Rattle.std.proofs.lemmas.Option.{cond_some}
-use Rattle.std.proofs.lemmas.List.{drop_more}
-use Rattle.cyclic_ids.specs.Ids.{Ids}
-use Rattle.ns_tree.specs.Tree.{Node, IsTree, node_in, way}
+use Rattle.std.proofs.Common.{◌≡◌, ◌≢◌, inl, inr, ℕ, ◌+◌, ◌<◌, true, false, ◌&&◌, List, [], ◌∷◌, length, get_or, drop, Option, Some, None, is_some, if◌then◌else◌, sym, ap, subst, arith, ◌∙◌}
+use Rattle.pid_numbers.proofs.Words.{nat_lt, option_map_or, cases_eq, ne_eqb, ltb-true, false_from_ne_true, cond_some, drop_more, Ids, Node, IsTree, node_in}
+use Rattle.pid_numbers.proofs.Words.{way, contains, empty_on, dead_on, AreAround}
 use Rattle.ns_tree.proofs.Paths as paths
-use Rattle.pid_types.specs.Chains.{contains}
-use Rattle.pid_numbers.specs.Slabs.{empty_on, dead_on, AreAround}
 
 -- what is around a namespace is the path of its parent
 pub above : (ways : ℕ → List ℕ) → IsTree ways → (key parent : ℕ) → Some parent ≡ (if nat_lt 1 (length (ways key)) then Some (get_or (ways key) 1 0) else None) → ways key ≡ key ∷ ways parent
@@ -45,7 +38,7 @@ module _ (nodes : List (Option Node)) (ids : List (Ids ℕ)) (key : ℕ) (a : Ar
       gone = ap (λ o. option_map_or (λ (t : Node). t.fallen) o false && empty_on ids key) here
 
       other : (s : ℕ) → dead_on nodes' ids s ≡ true → s ≢ key
-      other s d e = let bad : false ≡ true = sym gone ∙ ap (dead_on nodes' ids) (sym e) ∙ d in cc
+      other s d e = let bad = gone in grind arith
 
       way_same : (s : ℕ) → s ≢ key → way nodes' s ≡ way nodes s
       way_same s m = ap (λ o. option_map_or (λ t. t.path) o []) (others s m)
@@ -55,17 +48,12 @@ module _ (nodes : List (Option Node)) (ids : List (Ids ℕ)) (key : ℕ) (a : Ar
 
       pub around-next : AreAround nodes' ids (way nodes' parent)
       around-next = record {
-        on = λ s d.
-            let m = other s d in
-            ap (λ p. contains p s) path-same ∙ sym (ap (λ b. b || contains (way nodes parent) s) (ne_eqb key s (λ e. m (sym e)))) ∙ sym (ap (λ p. contains p s) up) ∙ a.on s (sym (same_dead s m) ∙ d);
+        on = λ s d. let m = other s d in let same = path-same in let before = a.on s in let dead = same_dead s m in grind (arith, ne_eqb);
         inside = λ s outer within d.
             let m = other outer d in
             let n : s ≢ key = λ e. let bad : false ≡ true = sym (ap (λ z. contains (way nodes' z) outer) e ∙ ap (λ o. contains (option_map_or (λ (t : Node). t.path) o []) outer) here) ∙ within in cc in
             same_dead s n ∙ a.inside s outer (sym (ap (λ p. contains p outer) (way_same s n)) ∙ within) (sym (same_dead outer m) ∙ d);
-        root = elim (cases_eq 0 key) [
-          | inl e ↦ ap (dead_on nodes' ids) e ∙ gone
-          | inr m ↦ same_dead 0 m ∙ a.root
-        ];
+        root = let none = gone in let same = same_dead 0 in let stood = a.root in grind (arith, cases_eq);
       }
 
       pub left-next : (s : ℕ) → (if dead_on nodes' ids s then None else node_in nodes' s) ≡ (if dead_on nodes ids s then None else node_in nodes s)
@@ -77,7 +65,4 @@ module _ (nodes : List (Option Node)) (ids : List (Ids ℕ)) (key : ℕ) (a : Ar
       ]
 
       pub there-before : (s : ℕ) → is_some (node_in nodes' s) ≡ true → is_some (node_in nodes s) ≡ true
-      there-before s on = elim (cases_eq s key) [
-        | inl e ↦ absurd (let bad : false ≡ true = sym (ap (λ z. is_some (node_in nodes' z)) e ∙ ap is_some here) ∙ on in cc)
-        | inr m ↦ sym (ap is_some (others s m)) ∙ on
-      ]
+      there-before s on = grind (arith, cases_eq)

@@ -1,17 +1,9 @@
 -- The sweep after an identifier went.
-use Rattle.std.proofs.Common.{◌≡◌, ◌≢◌, ℕ, ◌<◌, Bool, true, false, ◌==◌, ◌&&◌, List, [], ◌∷◌, length, Option, Some, None, is_some, if◌then◌else◌, refl, sym, ap, subst, arith, ◌∙◌, option_map, option_and_then}
-use Rattle.std.specs.Prelude.{filter_map, slice_get}
-use Rattle.std.specs.Option.{option_map_or}
-use Rattle.std.proofs.lemmas.Bool.{and_parts, both_ways, false_from_ne_true, true_from_ne_false}
-use Rattle.std.proofs.lemmas.Option.{none-some}
-use Rattle.cyclic_ids.specs.Ids.{Ids}
-use Rattle.index_array.specs.Place.{Entry, entry_at, indexes}
-use Rattle.index_array.proofs.Indexes.{contains_indexes}
-use Rattle.ns_tree.specs.Tree.{Node, Tree, IsTree, node_in, way, fell}
-use Rattle.pid_types.specs.Chains.{contains}
-use Rattle.pid_numbers.specs.Numbering.{Identifier, Numbering, namespace_at, number_in, number_of, path_at, taken_in, is_dead, swept_at}
-use Rattle.pid_numbers.specs.Slabs.{AreFallen, namespace_of, numbering_of, cursor_on, entry_on, bound_on, leads, empty_on, dead_on, touched, AreAround, IsNumbering, IsWhole}
-use Rattle.pid_numbers.specs.Table.{Table, name_at}
+use Rattle.std.proofs.Common.{◌≡◌, ◌≢◌, ℕ, ◌<◌, true, false, ◌==◌, ◌&&◌, List, [], ◌∷◌, length, Option, Some, None, is_some, if◌then◌else◌, refl, sym, ap, subst, arith, ◌∙◌, option_map, option_and_then}
+use Rattle.pid_numbers.proofs.Words.{filter_map, slice_get, option_map_or, and_parts, both_ways, false_from_ne_true, true_from_ne_false, none-some, Ids, Entry}
+use Rattle.pid_numbers.proofs.Words.{entry_at, indexes, contains_indexes, Node, Tree, IsTree, node_in, way, fell, contains, Identifier, Numbering, namespace_at}
+use Rattle.pid_numbers.proofs.Words.{number_in, number_of, path_at, taken_in, swept_at, AreFallen, namespace_of, numbering_of, cursor_on, entry_on}
+use Rattle.pid_numbers.proofs.Words.{bound_on, leads, empty_on, dead_on, touched, AreAround, IsNumbering, IsWhole, Table, name_at}
 use Rattle.pid_numbers.proofs.Sweeps as sweeps
 use Rattle.pid_numbers.proofs.Ties as ties
 use Rattle.pid_numbers.proofs.Ties.{at_key, listed}
@@ -86,10 +78,10 @@ module _ {pid_max : ℕ} {nodes : List (Option Node)} {ids ids1 : List (Ids ℕ)
     }
       where
         way_left : (s : ℕ) → way nodes2 s ≡ if dead_on nodes ids1 s then [] else way nodes s
-        way_left s = ap (λ o. option_map_or (λ t. t.path) o []) (left s) ∙ sweeps.through (λ (o : Option Node). option_map_or (λ t. t.path) o []) (dead_on nodes ids1 s) None (node_in nodes s)
+        way_left s = let is = left s in grind arith
 
         fell_left : (s : ℕ) → fell nodes2 s ≡ if dead_on nodes ids1 s then false else fell nodes s
-        fell_left s = ap (λ o. option_map_or (λ t. t.fallen) o false) (left s) ∙ sweeps.through (λ (o : Option Node). option_map_or (λ t. t.fallen) o false) (dead_on nodes ids1 s) None (node_in nodes s)
+        fell_left s = let is = left s in grind arith
 
 -- where the look-ups are those of the identifiers, the dead ones are the model's
 module _ (pid_max : ℕ) (tree : Tree) (ids : List (Ids ℕ)) (idents : Table) (b : IsNumbering pid_max (way tree.nodes) (entry_on ids) (bound_on ids) (name_at idents)) where
@@ -102,19 +94,7 @@ module _ (pid_max : ℕ) (tree : Tree) (ids : List (Ids ℕ)) (idents : Table) (
       (λ some. let r = some_entry ids s some in (r.0, sym (taken_same pid_max tree ids idents b s r.0) ∙ ap is_some (at_key (entry_on ids s r.0) r.1 r.2).1))
 
   pub swept-same : (nodes : List (Option Node)) → ((s : ℕ) → node_in nodes s ≡ if dead_on tree.nodes ids s then None else node_in tree.nodes s) → (s : ℕ) → option_map (namespace_of (cursor_on ids s)) (node_in nodes s) ≡ swept_at mid s
-  swept-same nodes left s =
-      ap (option_map (namespace_of (cursor_on ids s))) (left s) ∙ go (node_in tree.nodes s) refl
-      ∙ sym (ap (option_and_then (λ t. if is_dead mid s t then None else Some t)) (views.space_is pid_max tree ids idents s))
-    where
-      nothing : (g : Bool) → option_map (namespace_of (cursor_on ids s)) (if g then None else None) ≡ None
-      nothing true = refl
-      nothing false = refl
-
-      go : (o : Option Node) → node_in tree.nodes s ≡ o → option_map (namespace_of (cursor_on ids s)) (if dead_on tree.nodes ids s then None else o) ≡ option_and_then (λ t. if is_dead mid s t then None else Some t) (option_map (namespace_of (cursor_on ids s)) o)
-      go None at = nothing (dead_on tree.nodes ids s)
-      go (Some z) at =
-          sweeps.through (option_map (namespace_of (cursor_on ids s))) (dead_on tree.nodes ids s) None (Some z)
-          ∙ ap (λ g. if g then None else Some (namespace_of (cursor_on ids s) z)) (ap (λ o. option_map_or (λ t. t.fallen) o false && empty_on ids s) at ∙ ap (λ g. z.fallen && g) (empty_taken s))
+  swept-same nodes left s = let l = left s in let is = views.space_is pid_max tree ids idents s in let e = empty_taken s in grind arith
 
   -- between two calls none is dead
   pub nothing-dead : AreFallen (way tree.nodes) (entry_on ids) (fell tree.nodes) → (s : ℕ) → namespace_at mid s ≡ swept_at mid s

@@ -1,14 +1,7 @@
 -- The tasks of a namespace lead to all namespaces inside it.
-use Rattle.std.proofs.Common.{◌≡◌, ◌≢◌, ◌⊎◌, inl, inr, ℕ, ◌+◌, ◌<◌, ◌≤◌, ◌||◌, Bool, true, false, List, [], get_or, Option, Some, None, IsSome, option_map, refl, sym, ap, subst, ◌∙◌, arith}
-use Rattle.std.specs.Option.{option_map_or}
-use Rattle.std.proofs.lemmas.Bool.{cases_eq, cases_lt, both_ways, false≢true, or_right}
-use Rattle.std.proofs.lemmas.Option.{none-some, same_Some}
-use Rattle.pid_types.specs.Chains.{contains}
-use Rattle.pid_types.specs.declared.call.Kind.TheVariants.{Task}
-use Rattle.index_array.specs.Place.{Entry, index_count, is_marked}
-use Rattle.ns_tree.specs.Tree.{Node, felled, felled_within}
-use Rattle.pid_numbers.specs.Numbering.{Identifier, number_in, is_used_as, HasOwnTask}
-use Rattle.pid_numbers.specs.Slabs.{leads, IsTied, AreMarked}
+use Rattle.std.proofs.Common.{◌≡◌, ◌≢◌, ◌⊎◌, inl, inr, ℕ, ◌+◌, ◌<◌, ◌≤◌, Bool, true, false, List, [], get_or, Option, Some, None, IsSome, option_map, refl, sym, ap, subst, ◌∙◌, arith}
+use Rattle.pid_numbers.proofs.Words.{option_map_or, cases_eq, cases_lt, or_right, none-some, contains, Task, Entry, index_count, is_marked, Node, felled}
+use Rattle.pid_numbers.proofs.Words.{felled_within, Identifier, number_in, is_used_as, HasOwnTask, leads, IsTied, AreMarked}
 use Rattle.pid_numbers.proofs.Ties as ties
 use Rattle.pid_numbers.proofs.Sweeps as sweeps
 
@@ -61,27 +54,16 @@ module _ (ways : ℕ → List ℕ) (names : ℕ → Option Identifier) (at : ℕ
 
   module _ (old : ℕ → Option Node) (path : (s : ℕ) → option_map_or (λ t. t.path) (old s) [] ≡ ways s) where
     twice : (o : Option Node) → option_map felled (option_map felled o) ≡ option_map felled o
-    twice None = refl
-    twice (Some t) = refl
+    twice o = grind arith
 
     -- a namespace inside is there, and has fallen once it is marked
     there : (s : ℕ) → contains (ways s) outer ≡ true → has_fallen (option_map felled (old s)) ≡ true
-    there s inside = go (old s) (path s)
-      where
-        go : (o : Option Node) → option_map_or (λ t. t.path) o [] ≡ ways s → has_fallen (option_map felled o) ≡ true
-        go None is = absurd (false≢true (ap (λ p. contains p outer) is ∙ inside))
-        go (Some t) is = refl
+    there s inside = let is = path s in grind arith
 
     -- so the one that a task's number leads to is there at each step
     pub still-there : (now : ℕ → Option Node) (from : ℕ) → IsFalling ways names outer old now from → (n : ℕ) (l : IsLed ways names at outer n) → IsSome (now l.identifier.space)
-    still-there now from f n l = go (now l.identifier.space) (elim (f.so_far l.identifier.space) [
-      | inl same ↦ ap (option_map felled) same
-      | inr w ↦ ap (option_map felled) w.1 ∙ twice (old l.identifier.space)
-    ])
-      where
-        go : (o : Option Node) → option_map felled o ≡ option_map felled (old l.identifier.space) → IsSome o
-        go (Some t) e = refl
-        go None e = absurd (false≢true (ap has_fallen e ∙ there l.identifier.space (inside-of ways outer n l.identifier l.has)))
+    still-there now from f n l =
+        let fallen = there l.identifier.space (inside-of ways outer n l.identifier l.has) in let so = f.so_far l.identifier.space in grind arith
 
     -- one number more
     pub falling-more : (now now' : ℕ → Option Node) (from n : ℕ) → IsFalling ways names outer old now from → (l : IsLed ways names at outer n)
@@ -103,29 +85,23 @@ module _ (ways : ℕ → List ℕ) (names : ℕ → Option Identifier) (at : ℕ
         inside = inside-of ways outer n l.identifier l.has
 
         marked_now : now' home ≡ option_map felled (old home)
-        marked_now = elim (f.so_far home) [
-          | inl same ↦ here ∙ ap (option_map felled) same
-          | inr w ↦ here ∙ ap (option_map felled) w.1 ∙ twice (old home)
-        ]
+        marked_now = let so = f.so_far home in grind (arith, twice)
 
         fallen_home : (s : ℕ) → s ≡ home → has_fallen (now' s) ≡ true
-        fallen_home s same = ap (λ z. has_fallen (now' z)) same ∙ ap has_fallen marked_now ∙ there home inside
+        fallen_home s same = let now_home = marked_now in let is = there home inside in grind arith
 
         met : (i m : ℕ) (u : Identifier) → names i ≡ Some u → number_in ways outer (Some u) ≡ Some m → m < n + 1 → is_used_as Task (Some u) ≡ true → has_fallen (now' u.space) ≡ true
-        met i m u named has below used = elim (cases_eq m n) [
-          | inl same ↦ fallen_home u.space (ap (λ (v : Identifier). v.space) (one same))
-          | inr differs ↦ before differs (cases_lt m from)
-        ]
-          where
-            one : m ≡ n → u ≡ l.identifier
-            one same = same_Some u l.identifier (sym named ∙ ap names (same_Some i l.key (sym (tied.kept outer m i (ap (number_in ways outer) named ∙ has)) ∙ ap (leads at outer) same ∙ l.leads)) ∙ l.named)
-
-            before : m ≢ n → (m < from) ⊎ (from ≤ m) → has_fallen (now' u.space) ≡ true
-            before differs (inl less) = elim (cases_eq u.space home) [
-              | inl same ↦ fallen_home u.space same
-              | inr off ↦ ap has_fallen (others u.space off) ∙ f.met i m u named has less used
-            ]
-            before differs (inr more) = absurd (both_ways (is_marked 0 (at outer m)) (between m more (omega (arith, below, differs))) (marked m i u named has used))
+        met i m u named has below used =
+            let one = ties.at_key (at outer m) i (tied.kept outer m i (ap (number_in ways outer) named ∙ has)) in
+            let is_marked_so = marked m i u named has used in
+            let before = f.met i m u named has in
+            let off = between m in
+            let off_home = others u.space in
+            let home_fell = fallen_home u.space in
+            let same_key = tied.kept outer m i (ap (number_in ways outer) named ∙ has) in
+            let led_to = l.leads in
+            let led_named = l.named in
+            grind (arith, cases_eq, cases_lt)
 
     -- when no number is left, all inside have fallen
     pub falling-all : (now : ℕ → Option Node) (from : ℕ) → IsFalling ways names outer old now from
@@ -133,30 +109,13 @@ module _ (ways : ℕ → List ℕ) (names : ℕ → Option Identifier) (at : ℕ
         → ((n i : ℕ) → leads at outer n ≡ Some i → n < index_count)
         → ((s : ℕ) → contains (ways s) outer ≡ true → has_fallen (old s) ≡ false → HasOwnTask names s)
         → (s : ℕ) → now s ≡ option_map (felled_within outer) (old s)
-    falling-all now from f none range homes s = by (old s) refl (path s) (f.so_far s)
+    falling-all now from f none range homes s = let so = f.so_far s in let p = path s in let home = homes s in grind (arith, or_right, in_range)
       where
         in_range : (t : HasOwnTask names s) → contains (ways s) outer ≡ true → has_fallen (now s) ≡ true
         in_range t inside =
             let some = sweeps.beside-at outer (ways t.identifier.space) t.identifier.numbers (tied.full t.key t.identifier t.named) (ap (λ z. contains (ways z) outer) t.own ∙ inside) in
             let below = range some.0 t.key (tied.kept outer some.0 t.key (ap (number_in ways outer) t.named ∙ some.1)) in
-            elim (cases_lt some.0 from) [
-              | inl less ↦ ap (λ z. has_fallen (now z)) (sym t.own) ∙ f.met t.key some.0 t.identifier t.named some.1 less t.used
-              | inr more ↦ absurd (both_ways (is_marked 0 (at outer some.0)) (none some.0 more below) (marked some.0 t.key t.identifier t.named some.1 t.used))
-            ]
-
-        stands : (t : Node) → old s ≡ Some t → t.path ≡ ways s → now s ≡ old s → (b : Bool) → contains (ways s) outer ≡ b → (c : Bool) → t.fallen ≡ c
-            → Some t ≡ Some (record t { fallen = c || b })
-        stands t is p same false off false stood = ap (λ z. Some (record t { fallen = z })) stood
-        stands t is p same b off true fell = ap (λ z. Some (record t { fallen = z })) fell
-        stands t is p same true inside false stood = absurd (both_ways (has_fallen (now s)) (ap has_fallen (same ∙ is) ∙ stood) (in_range (homes s inside (ap has_fallen is ∙ stood)) inside))
-
-        by : (o : Option Node) → old s ≡ o → option_map_or (λ t. t.path) o [] ≡ ways s
-            → (now s ≡ old s) ⊎ ((contains (ways s) outer ≡ true) × (now s ≡ option_map felled (old s))) → now s ≡ option_map (felled_within outer) o
-        by None is p (inl same) = same ∙ is
-        by None is p (inr w) = w.1 ∙ ap (option_map felled) is
-        by (Some t) is p (inl same) =
-            same ∙ is ∙ stands t is p same (contains (ways s) outer) refl t.fallen refl
-            ∙ ap (λ q. Some (record t { fallen = t.fallen || contains q outer })) (sym p)
-        by (Some t) is p (inr w) =
-            w.1 ∙ ap (option_map felled) is
-            ∙ ap (λ z. Some (record t { fallen = z })) (sym (ap (λ q. t.fallen || contains q outer) p ∙ or_right t.fallen (contains (ways s) outer) w.0))
+            let met = f.met t.key some.0 t.identifier t.named some.1 in
+            let on = marked some.0 t.key t.identifier t.named some.1 t.used in
+            let off = none some.0 in
+            grind (arith, cases_lt)

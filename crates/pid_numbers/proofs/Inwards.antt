@@ -1,13 +1,8 @@
 -- The numbers from a namespace inwards.
-use Rattle.std.proofs.Common.{◌≡◌, ℕ, zero, suc, ◌<◌, Bool, true, false, ◌==◌, ◌||◌, List, [], ◌∷◌, ◌++◌, length, get_or, take, if◌then◌else◌, refl, sym, ap, ◌∙◌, arith}
-use Rattle.std.specs.Prelude.{reverse}
-use Rattle.std.proofs.lemmas.Bool.{eq-eqb, or_parts, false_from_ne_true}
-use Rattle.std.proofs.lemmas.List.{length-reverse, reverse-append}
+use Rattle.std.proofs.Common.{◌≡◌, ℕ, zero, suc, ◌<◌, true, false, ◌==◌, List, [], ◌∷◌, ◌++◌, length, get_or, take, if◌then◌else◌, refl, sym, ap, ◌∙◌, arith}
+use Rattle.pid_numbers.proofs.Words.{reverse, eq-eqb, or_parts, false_from_ne_true, length-reverse, reverse-append, contains, beside_from, IsDistinct}
+use Rattle.pid_numbers.proofs.Words.{contains_at, place_of}
 use Rattle.std.proofs.lemmas.List.Sorted.{list_any-IsPermutation, IsPermutation-reverse}
-use Rattle.pid_types.specs.Chains.{contains}
-use Rattle.pid_types.specs.Names.{beside_from}
-use Rattle.ns_tree.specs.Vacancy.{IsDistinct}
-use Rattle.ns_tree.proofs.Paths.{contains_at, place_of}
 
 contains-reverse : (ts : List ℕ) (s : ℕ) → contains (reverse ts) s ≡ contains ts s
 contains-reverse ts s = sym (list_any-IsPermutation (λ m. m == s) ts (reverse ts) (IsPermutation-reverse ts))
@@ -18,12 +13,7 @@ from-snoc : (s t n : ℕ) (ts ns : List ℕ) → length ts ≡ length ns
 from-snoc s t n [] [] e = refl
 from-snoc s t n [] (m ∷ ms) e = absurd (omega (arith, e))
 from-snoc s t n (u ∷ us) [] e = absurd (omega (arith, e))
-from-snoc s t n (u ∷ us) (m ∷ ms) e = go (u == s) (from-snoc s t n us ms (omega (arith, e)))
-  where
-    go : (b : Bool) → beside_from s (us ++ t ∷ []) (ms ++ n ∷ []) ≡ (if contains us s then beside_from s us ms ++ n ∷ [] else (if t == s then n ∷ [] else []))
-        → (if b then m ∷ (ms ++ n ∷ []) else beside_from s (us ++ t ∷ []) (ms ++ n ∷ [])) ≡ (if b || contains us s then (if b then m ∷ ms else beside_from s us ms) ++ n ∷ [] else (if t == s then n ∷ [] else []))
-    go true again = refl
-    go false again = again
+from-snoc s t n (u ∷ us) (m ∷ ms) e = grind (arith, from-snoc s t n us ms)
 
 module _ (s t n : ℕ) (ts ns : List ℕ) (len : length ns ≡ length ts) where
   outwards : beside_from s (reverse (t ∷ ts)) (reverse (n ∷ ns)) ≡ (if contains ts s then beside_from s (reverse ts) (reverse ns) ++ n ∷ [] else (if t == s then n ∷ [] else []))
@@ -54,4 +44,4 @@ from-none s path numbers off = go (reverse path) (reverse numbers) (contains-rev
     go : (ts ns : List ℕ) → contains ts s ≡ false → beside_from s ts ns ≡ []
     go [] ns off = refl
     go (t ∷ ts) [] off = refl
-    go (t ∷ ts) (n ∷ ns) off = let r = or_parts (t == s) (contains ts s) off in rw r.0 (go ts ns r.1)
+    go (t ∷ ts) (n ∷ ns) off = grind (arith, or_parts, go ts ns)

@@ -1,10 +1,6 @@
 -- The numbers of namespaces, each at its key: what is seen of one that is written.
-use Rattle.std.proofs.Common.{inl, inr, zero, suc, ◌≡◌, ◌≢◌, ℕ, ◌<◌, Bool, true, List, [], ◌∷◌, length, get_or, set, Option, Some, refl, sym, ap, ◌∙◌, arith}
-use Rattle.std.specs.Prelude.{slice_get}
-use Rattle.std.proofs.lemmas.Bool.{cases_eq}
-use Rattle.std.proofs.lemmas.List.{length-set, get_or-set_same}
-use Rattle.std.proofs.lemmas.Option.{slice_get_read}
-use Rattle.ns_tree.proofs.Paths.{everywhere}
+use Rattle.pid_numbers.proofs.Words.{zero, suc, ◌≡◌, ◌≢◌, ℕ, ◌<◌, Bool, true, List, [], ◌∷◌, length, get_or, set, Option, Some, refl, sym, ap, ◌∙◌}
+use Rattle.pid_numbers.proofs.Words.{arith, slice_get, cases_eq, length-set, get_or-set_same, slice_get_read, everywhere}
 
 module _ {X : Type 0} where
   -- what is at a key below their number
@@ -43,7 +39,4 @@ module _ {X : Type 0} where
 
     -- and what is true of it stays true everywhere
     pub kept : (f : Option X → Bool) → (f (Some was) ≡ true → f (Some now) ≡ true) → (s : ℕ) → f (slice_get old s) ≡ true → f (slice_get (set old key now) s) ≡ true
-    kept f e s had = elim (cases_eq s key) [
-      | inl at ↦ ap (λ s. f (slice_get (set old key now) s)) at ∙ ap f w.after ∙ e (sym (ap f w.before) ∙ sym (ap (λ s. f (slice_get old s)) at) ∙ had)
-      | inr differs ↦ ap f (w.others s differs) ∙ had
-    ]
+    kept f e s had = grind (arith, cases_eq)

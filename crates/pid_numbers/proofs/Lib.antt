@@ -1,3 +1,4 @@
+pub mod Words
 pub mod Items
 pub mod Seats
 pub mod Ties

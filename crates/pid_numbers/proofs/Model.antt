@@ -1,22 +1,12 @@
 -- The model's paths and numbers are those of the keys.
-use Rattle.std.proofs.Common.{◌≡◌, ◌≢◌, ◌⊎◌, inl, inr, ℕ, zero, suc, ◌<◌, ◌≤◌, Bool, true, false, ◌==◌, List, [], ◌∷◌, ◌++◌, length, map, get_or, Option, Some, None, if◌then◌else◌, refl, sym, ap, ◌∙◌, arith, option_and_then}
-use Rattle.std.specs.Prelude.{reverse}
-use Rattle.std.specs.Option.{option_map_or}
-use Rattle.std.proofs.lemmas.Bool.{cases_eq, eq-eqb, ne_eqb}
-use Rattle.std.proofs.lemmas.Option.{option_and_then_some}
-use Rattle.std.proofs.lemmas.List.{length-reverse, reverse-append, map-append}
+use Rattle.std.proofs.Common.{◌≡◌, ◌≢◌, ◌⊎◌, ℕ, zero, suc, ◌<◌, ◌≤◌, Bool, true, ◌==◌, List, [], ◌∷◌, ◌++◌, length, map, get_or, Option, Some, None, if◌then◌else◌, refl, sym, ap, ◌∙◌, arith, option_and_then}
+use Rattle.pid_numbers.proofs.Words.{reverse, option_map_or, cases_eq, eq-eqb, ne_eqb, option_and_then_some, length-reverse, reverse-append, map-append, climb}
+use Rattle.pid_numbers.proofs.Words.{beside, parent_space, path_up, number, contains, names_in_use, taken, cyclic_draw, cursor_of, draw, cyclic_draw-same}
+use Rattle.pid_numbers.proofs.Words.{Numbering, Namespace, Identifier, namespace_at, identifier_at, number_of, number_in, path_at, taken_in, draw_in, IsPath}
+use Rattle.pid_numbers.proofs.Words.{distinct-path}
 use Rattle.pid_types.specs.declared.plain.Space.{Space}
 use Rattle.pid_types.specs.declared.plain.Name.{Name}
-use Rattle.pid_types.specs.Chains.{climb}
-use Rattle.pid_types.specs.Names.{beside, parent_space, path_up, number}
-use Rattle.pid_types.specs.Chains.{contains}
 use Rattle.pid_types.specs.State.{State, root_name}
-use Rattle.pid_types.specs.Names.{names_in_use, taken}
-use Rattle.pid_types.specs.Draw.{cyclic_draw, cursor_of, draw}
-use Rattle.cyclic_ids.proofs.Draws.{cyclic_draw-same}
-use Rattle.pid_numbers.specs.Numbering.{Numbering, Namespace, Identifier, namespace_at, identifier_at, number_of, number_in, path_at, taken_in, draw_in}
-use Rattle.ns_tree.specs.Tree.{IsPath}
-use Rattle.ns_tree.proofs.Paths.{distinct-path}
 use Rattle.pid_numbers.proofs.Ties.{beside-none, among_from, among, listed}
 
 abbrev first : (ℕ → ℕ) → List ℕ → Option ℕ
@@ -27,11 +17,7 @@ first id (q ∷ qs) = Some (id q)
 pub beside-ids : (id : ℕ → ℕ) (s : ℕ) (p ns : List ℕ) → ((t : ℕ) → id t ≡ id s → t ≡ s) → beside (id s) (map id p) ns ≡ beside s p ns
 beside-ids id s [] ns only = refl
 beside-ids id s (t ∷ ts) [] only = refl
-beside-ids id s (t ∷ ts) (n ∷ ns) only = go (beside-ids id s ts ns only) (cases_eq t s)
-  where
-    go : beside (id s) (map id ts) ns ≡ beside s ts ns → (t ≡ s) ⊎ (t ≢ s) → (if id t == id s then Some n else beside (id s) (map id ts) ns) ≡ (if t == s then Some n else beside s ts ns)
-    go again (inl e) = rw (eq-eqb t s e, eq-eqb (id t) (id s) (ap id e)) refl
-    go again (inr m) = rw (ne_eqb t s m, ne_eqb (id t) (id s) (λ e. m (only t e))) again
+beside-ids id s (t ∷ ts) (n ∷ ns) only = let again = beside-ids id s ts ns only in grind (arith, cases_eq, eq-eqb, ne_eqb)
 
 abbrev either : Option ℕ → Option ℕ → Option ℕ
 either None b = b
@@ -41,12 +27,7 @@ beside-snoc : (s t n : ℕ) (ts ns : List ℕ) → length ts ≡ length ns → b
 beside-snoc s t n [] [] e = refl
 beside-snoc s t n [] (m ∷ ms) e = absurd (omega (arith, e))
 beside-snoc s t n (u ∷ us) [] e = absurd (omega (arith, e))
-beside-snoc s t n (u ∷ us) (m ∷ ms) e = go (u == s) (beside-snoc s t n us ms (omega (arith, e)))
-  where
-    go : (b : Bool) → beside s (us ++ t ∷ []) (ms ++ n ∷ []) ≡ either (beside s us ms) (if t == s then Some n else None)
-        → (if b then Some m else beside s (us ++ t ∷ []) (ms ++ n ∷ [])) ≡ either (if b then Some m else beside s us ms) (if t == s then Some n else None)
-    go true again = refl
-    go false again = again
+beside-snoc s t n (u ∷ us) (m ∷ ms) e = grind (arith, beside-snoc s t n us ms)
 
 module _ (ways : ℕ → List ℕ) where
   -- the order of the levels does not matter
@@ -64,14 +45,10 @@ module _ (ways : ℕ → List ℕ) where
       tails = omega (arith, e)
 
       plain : (o : Option ℕ) → either o None ≡ o
-      plain None = refl
-      plain (Some a) = refl
+      plain o = grind arith
 
       go : (t ≡ s) ⊎ (t ≢ s) → either (beside s ts ns) (if t == s then Some n else None) ≡ (if t == s then Some n else beside s ts ns)
-      go (inl same) =
-          let none : beside s ts ns ≡ None = beside-none s ts ns (λ j lt z. distinct-path ways (t ∷ ts) h 0 (suc j) (omega arith) (omega (arith, lt)) (same ∙ sym z)) in
-          rw (none, eq-eqb t s same) refl
-      go (inr m) = rw (ne_eqb t s m) (plain (beside s ts ns))
+      go same = let none = beside-none s ts ns in let apart = λ (j : ℕ). distinct-path ways (t ∷ ts) h 0 (suc j) in grind (arith, eq-eqb, ne_eqb, plain)
 
   module _ (spaces : List Space) (id : ℕ → ℕ) (up : (s : ℕ) (rest : List ℕ) → ways s ≡ s ∷ rest → parent_space spaces (id s) ≡ first id rest) where
     climb-is : (fuel s : ℕ) (rest : List ℕ) → IsPath ways (s ∷ rest) → length (s ∷ rest) ≤ fuel → climb (parent_space spaces) fuel (id s) ≡ map id (s ∷ rest)
@@ -104,10 +81,7 @@ module _ (ways : ℕ → List ℕ) where
         map-reverse (x ∷ xs) = reverse-append (id x ∷ []) (map id xs) ∙ ap (λ l. l ++ id x ∷ []) (map-reverse xs) ∙ sym (ap (map id) (reverse-append (x ∷ []) xs) ∙ map-append id (reverse xs) (x ∷ []))
 
 same_test : (a b : Bool) → (a ≡ true → b ≡ true) → (b ≡ true → a ≡ true) → a ≡ b
-same_test true true f g = refl
-same_test false false f g = refl
-same_test true false f g = sym (f refl)
-same_test false true f g = g refl
+same_test a b f g = grind arith
 
 -- a namespace gives the number that the model draws, where the names in use are the same
 pub draw-is : (state : State) (b : Numbering) (sid s : ℕ) (t : Namespace) → namespace_at b s ≡ Some t → state.pid_max ≡ b.pid_max → cursor_of state sid ≡ t.cursor

@@ -1,10 +1,6 @@
 -- Identifiers in their places.
-use Rattle.std.proofs.Common.{inl, inr, ◌≡◌, ◌≢◌, ℕ, ◌<◌, List, length, map, get_or, set, Option, Some, None, IsSome, refl, sym, ap, ◌∙◌, arith, rules, option_map}
-use Rattle.std.proofs.lemmas.List.{length-map, length-set}
-use Rattle.std.proofs.lemmas.Bool.{cases_eq}
-use Rattle.pid_numbers.specs.declared.idents.Ident.{Ident}
-use Rattle.pid_numbers.specs.Numbering.{Identifier}
-use Rattle.pid_numbers.specs.Table.{Table, identifier_of, get, name_at, shown, ChangesPlace, IsTable}
+use Rattle.std.proofs.Common.{◌≡◌, ◌≢◌, ℕ, ◌<◌, List, length, map, get_or, set, Option, Some, None, IsSome, sym, ap, ◌∙◌, arith, option_map}
+use Rattle.pid_numbers.proofs.Words.{length-map, length-set, cases_eq, Ident, Identifier, Table, identifier_of, get, name_at, shown, ChangesPlace, IsTable}
 use Rattle.ns_tree.proofs.Filled as filled
 use Rattle.ns_tree.proofs.Vacancy as vacancy
 
@@ -14,12 +10,10 @@ numbers_of x = length x.numbers
 
 -- who has a name is there
 pub named : (o : Option Ident) (u : Identifier) → option_map identifier_of o ≡ Some u → (x : Ident) × (o ≡ Some x) × (identifier_of x ≡ u)
-named None u e = absurd (cc)
-named (Some x) u e = (x, refl, cc)
+named o u e = grind arith
 
 pub some-named : (o : Option Ident) → IsSome (option_map identifier_of o) → (x : Ident) × (o ≡ Some x)
-some-named None e = absurd (search rules)
-some-named (Some x) e = (x, refl)
+some-named o e = grind arith
 
 -- an identifier is written over, and keeps its numbers
 module _ (places : List Ident) (key : ℕ) (y z : Ident) (lt : key < length places) (some : 0 < length y.numbers) (at : get_or (map shown places) key None ≡ Some y) (same : z.numbers ≡ y.numbers) where
@@ -36,14 +30,7 @@ module _ (places : List Ident) (key : ℕ) (y z : Ident) (lt : key < length plac
   still-table vacant rooms t = record {
     vacancies =
         vacancy.vacant-as (map shown places) (map shown (set places key z)) vacant rooms t.vacancies (length-map (set places key z) shown ∙ length-set places key z ∙ sym (length-map places shown))
-        (λ s none. elim (cases_eq s key) [
-          | inl is ↦ absurd (let e : None ≡ Some y = sym none ∙ ap (λ k. get_or (map shown places) k None) is ∙ at in cc)
-          | inr differs ↦ others s differs ∙ none
-        ])
-        (λ s none. elim (cases_eq s key) [
-          | inl is ↦ absurd (let e : None ≡ Some z = sym none ∙ ap (λ k. get_or (map shown (set places key z)) k None) is ∙ rewritten in cc)
-          | inr differs ↦ sym (others s differs) ∙ none
-        ]);
+        (λ s none. let far = others s in grind (arith, cases_eq)) (λ s none. let far = others s in let now = rewritten in grind (arith, cases_eq));
     few = let n = length-set places key z in let f = t.few in omega (arith, n, f);
   }
 

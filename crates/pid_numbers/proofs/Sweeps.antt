@@ -1,19 +1,8 @@
 -- Namespaces that fall, and those that go.
 use Rattle.std.proofs.Common.{◌≡◌, ◌≢◌, inl, inr, ℕ, zero, suc, ◌+◌, ◌-◌, ◌<◌, Bool, true, false, ◌==◌, ◌||◌, List, [], ◌∷◌, length, get_or, Option, Some, None, is_some, if◌then◌else◌, refl, sym, ap, subst, ◌∙◌, arith, option_map}
-use Rattle.std.specs.Prelude.{MatchBool}
-use Rattle.std.proofs.lemmas.Bool.{cases_eq, eq-eqb, ne_eqb, or_cases, or_left, or_right, both_ways, false_from_ne_true, true≢false, false≢true}
-use Rattle.std.proofs.lemmas.Option.{none-some}
-use Rattle.std.proofs.lemmas.Bool.Decides.{nat_tests}
-use Rattle.pid_types.specs.Chains.{contains}
-use Rattle.pid_types.specs.Names.{beside}
-use Rattle.index_array.specs.Place.{Entry, Place, entry_at, indexes}
-use Rattle.index_array.proofs.Indexes.{contains_indexes}
-use Rattle.pid_numbers.specs.Numbering.{Identifier, number_in}
-use Rattle.cyclic_ids.specs.Ids.{Ids}
-use Rattle.ns_tree.specs.Tree.{Tree, IsTree, way, fell}
-use Rattle.pid_numbers.specs.Table.{Table, name_at}
-use Rattle.pid_numbers.specs.Slabs.{entry_on, bound_on, IsNumbering, IsKept, AreFallen, leads}
-use Rattle.ns_tree.specs.Vacancy.{IsDistinct}
+use Rattle.pid_numbers.proofs.Words.{MatchBool, cases_eq, eq-eqb, ne_eqb, or_cases, or_left, or_right, both_ways, false_from_ne_true, true≢false, false≢true}
+use Rattle.pid_numbers.proofs.Words.{none-some, nat_tests, contains, beside, Entry, Place, entry_at, indexes, contains_indexes, Identifier, number_in, Ids}
+use Rattle.pid_numbers.proofs.Words.{Tree, IsTree, way, fell, Table, name_at, entry_on, bound_on, IsNumbering, IsKept, AreFallen, leads, IsDistinct}
 use Rattle.ns_tree.proofs.Paths as paths
 use Rattle.pid_numbers.proofs.Ties as ties
 pub use Rattle.ns_tree.proofs.Paths.{cases, contains_at, place_of}
@@ -110,23 +99,10 @@ module _ (pid_max : ℕ) (ways : ℕ → List ℕ) (at : ℕ → ℕ → Option 
     module _ (fell fell' : ℕ → Bool) (stands : fell 0 ≡ false) (root : gone 0 ≡ false) (inner : (t j : ℕ) → j < length (ways t) → fell (get_or (ways t) j 0) ≡ true → fell t ≡ true)
         (fell_is : (s : ℕ) → fell' s ≡ if gone s then false else fell s) (rest : (s : ℕ) → fell s ≡ true → gone s ≡ false → (n : ℕ) × (i : ℕ) × (leads at s n ≡ Some i)) where
       fell_was : (s : ℕ) → fell' s ≡ true → (gone s ≡ false) × (fell s ≡ true)
-      fell_was s e = elim (cases (gone s)) [
-        | inl g ↦ absurd (let bad : false ≡ true = sym (fell_is s ∙ ap (λ g. if g then false else fell s) g) ∙ e in cc)
-        | inr g ↦ (g, sym (fell_is s ∙ ap (λ g. if g then false else fell s) g) ∙ e)
-      ]
+      fell_was s e = let is = fell_is s in grind arith
 
       pub fallen-swept : AreFallen ways' at fell'
-      fallen-swept = record {
-        stands = fell_is 0 ∙ ap (λ g. if g then false else fell 0) root ∙ stands;
-        inner = λ t j lt e. elim (cases (gone t)) [
-          | inl g ↦ (let l = ap length (ways_are t ∙ ap (λ g. if g then [] else ways t) g) in absurd (omega (arith, lt, l)))
-          | inr g ↦
-              let below : j < length (ways t) = subst (λ (p : List ℕ). j < length p) (stays t g) lt in
-              let was = fell_was (get_or (ways' t) j 0) e in
-              fell_is t ∙ ap (λ g. if g then false else fell t) g ∙ inner t j below (ap (λ p. fell (get_or p j 0)) (sym (stays t g)) ∙ was.1)
-        ];
-        held = λ s e. let was = fell_was s e in rest s was.1 was.0;
-      }
+      fallen-swept = grind (arith, fell_was)
 
 -- a list without elements has none, and else it has one
 pub none_in : (ns : List ℕ) → (length ns == 0) ≡ true → (n : ℕ) → contains ns n ≡ false
@@ -139,16 +115,7 @@ one_in (m ∷ ms) e = (m, ap (λ b. b || contains ms m) (eq-eqb m m refl))
 
 -- so a test is that of being empty, where it says so
 pub empty_by : (b : Bool) (ns : List ℕ) → (b ≡ true → (n : ℕ) → contains ns n ≡ false) → (b ≡ false → (n : ℕ) × (contains ns n ≡ true)) → b ≡ (length ns == 0)
-empty_by b ns none some = elim (cases b) [
-  | inl on ↦ elim (cases (length ns == 0)) [
-    | inl e ↦ on ∙ sym e
-    | inr e ↦ absurd (let r = one_in ns e in both_ways (contains ns r.0) (none on r.0) r.1)
-  ]
-  | inr off ↦ elim (cases (length ns == 0)) [
-    | inl e ↦ absurd (let r = some off in both_ways (contains ns r.0) (none_in ns e r.0) r.1)
-    | inr e ↦ off ∙ sym e
-  ]
-]
+empty_by b ns none some = grind (arith, none_in, one_in)
 
 -- where no number has an entry the list of those that have one is empty
 pub empty_is : (ps : List (Place ℕ)) (b : Bool) → MatchBool b ((n : ℕ) → entry_at ps n ≡ None) ((n : ℕ) × (is_some (entry_at ps n) ≡ true)) → b ≡ (length (indexes ps) == 0)
@@ -157,15 +124,14 @@ empty_is ps false some = empty_by false (indexes ps) (λ on. absurd (false≢tru
 
 -- what a slab shows of one that is there or not
 pub through : {X Y : Type 0} (h : X → Y) (g : Bool) (a b : X) → h (if g then a else b) ≡ if g then h a else h b
-through h true a b = refl
-through h false a b = refl
+through h g a b = grind arith
 
 -- a namespace falls with all inside it
 module _ (pid_max : ℕ) (ways : ℕ → List ℕ) (at : ℕ → ℕ → Option (Entry ℕ)) (bound : ℕ → Option ℕ) (names : ℕ → Option Identifier) (b : IsNumbering pid_max ways at bound names) (fell fell' : ℕ → Bool) (f : AreFallen ways at fell)
     (outer : ℕ) (inner : outer ≢ 0) (falls : (s : ℕ) → fell' s ≡ (fell s || contains (ways s) outer)) (held : (s : ℕ) → contains (ways s) outer ≡ true → (n : ℕ) × (i : ℕ) × (leads at s n ≡ Some i)) where
   pub fallen-fell : AreFallen ways at fell'
   fallen-fell = record {
-    stands = falls 0 ∙ ap (λ p. fell 0 || contains p outer) b.tree.root ∙ ap (λ x. x || (0 == outer || false)) f.stands ∙ ap (λ x. x || false) (ne_eqb 0 outer (λ e. inner (sym e)));
+    stands = grind (arith, ne_eqb);
     inner = λ t j lt e. elim (or_cases (fell (get_or (ways t) j 0)) (contains (ways (get_or (ways t) j 0)) outer) (sym (falls (get_or (ways t) j 0)) ∙ e)) [
       | inl was ↦ falls t ∙ or_left (fell t) (contains (ways t) outer) (f.inner t j lt was)
       | inr within ↦
@@ -173,10 +139,7 @@ module _ (pid_max : ℕ) (ways : ℕ → List ℕ) (at : ℕ → ℕ → Option 
           let r = paths.around-around ways b.tree t j p.0 lt p.1 in
           falls t ∙ or_right (fell t) (contains (ways t) outer) (ap (contains (ways t)) (sym (r.1 ∙ p.2)) ∙ contains_at (ways t) (j + p.0) r.0)
     ];
-    held = λ s e. elim (or_cases (fell s) (contains (ways s) outer) (sym (falls s) ∙ e)) [
-      | inl was ↦ f.held s was
-      | inr within ↦ held s within
-    ];
+    held = λ s e. let was = f.held s in let within = held s in let is = falls s in grind (arith, or_cases);
   }
 
 -- what stands beside a place of a path without repetition

@@ -1,31 +1,15 @@
 -- Look-ups that lead to names, over plain functions.
-use Rattle.std.proofs.Common.{◌≡◌, ◌≢◌, ◌⊎◌, inl, inr, ℕ, zero, suc, ◌+◌, ◌<◌, ◌≤◌, Bool, true, false, not, ◌==◌, ◌&&◌, ◌||◌, List, [], ◌∷◌, length, map, get_or, drop, length-drop, Option, Some, None, is_none, if◌then◌else◌, refl, sym, ap, subst, ◌∙◌, arith, option_map, unwrap_or, find}
-use Rattle.std.specs.Prelude.{filter_map, slice_set, slice_index_or}
-use Rattle.std.specs.Option.{option_map_or, option_eq}
-use Rattle.std.specs.List.{cons_option}
-use Rattle.std.proofs.lemmas.List.{drop_more, get_or-drop, get_or_past}
-use Rattle.std.proofs.lemmas.Bool.{cases_eq, cases_lt, eq-eqb, ne_eqb, or_right}
-use Rattle.std.proofs.lemmas.Option.{none-some, same_Some}
-use Rattle.pid_types.specs.Chains.{contains}
-use Rattle.pid_types.specs.Names.{beside}
-use Rattle.index_array.specs.Place.{Entry, with_mark}
-use Rattle.pid_types.specs.declared.call.Kind.{Kind}
-use Rattle.pid_types.specs.declared.call.Kind.TheVariants.{Task, Group, Session}
-use Rattle.pid_numbers.specs.Numbering.{Identifier, number_in, is_used, is_used_as, with_uses}
-use Rattle.ns_tree.specs.Tree.{IsTree}
-use Rattle.pid_numbers.specs.Slabs.{stepped, IsTied, IsNumbering, touched, leads, given_to, mark_of, marks_of, AreMarked, AreInRange}
-use Rattle.ns_tree.specs.Vacancy.{IsDistinct}
+use Rattle.std.proofs.Common.{◌≡◌, ◌≢◌, ◌⊎◌, inl, inr, ℕ, zero, suc, ◌+◌, ◌<◌, ◌≤◌, Bool, true, false, ◌||◌, List, [], ◌∷◌, length, map, get_or, drop, length-drop, Option, Some, None, is_none, refl, sym, ap, subst, ◌∙◌, arith, option_map, unwrap_or, find}
+use Rattle.pid_numbers.proofs.Words.{filter_map, slice_set, slice_index_or, option_map_or, cons_option, drop_more, get_or-drop, get_or_past}
+use Rattle.pid_numbers.proofs.Words.{cases_eq, cases_lt, eq-eqb, ne_eqb, or_right, none-some, same_Some, contains, beside, Entry, with_mark, Kind, Task, Group}
+use Rattle.pid_numbers.proofs.Words.{Session, Identifier, number_in, is_used, is_used_as, with_uses, IsTree, stepped, IsTied, IsNumbering, touched, leads}
+use Rattle.pid_numbers.proofs.Words.{given_to, mark_of, marks_of, AreMarked, AreInRange, IsDistinct}
 
 -- where each draws, each number is the one drawn
 pub planned_each : (d : ℕ → Option ℕ) (path : List ℕ) → find (λ s. is_none (d s)) path ≡ None → (k : ℕ) → k < length path → d (get_or path k 0) ≡ Some (get_or (map (λ s. unwrap_or (d s) 0) path) k 0)
 planned_each d [] all k below = absurd (omega (arith, below))
-planned_each d (s ∷ ss) all k below = go (planned_each d ss) (d s) refl all k below
-  where
-    go : (find (λ s. is_none (d s)) ss ≡ None → (k : ℕ) → k < length ss → d (get_or ss k 0) ≡ Some (get_or (map (λ s. unwrap_or (d s) 0) ss) k 0)) → (o : Option ℕ) → d s ≡ o
-        → (if is_none o then Some s else find (λ s. is_none (d s)) ss) ≡ None → (k : ℕ) → k < length (s ∷ ss) → d (get_or (s ∷ ss) k 0) ≡ Some (get_or (map (λ s. unwrap_or (d s) 0) (s ∷ ss)) k 0)
-    go again None is e k lt = absurd (cc)
-    go again (Some n) is e zero lt = is ∙ ap (λ o. Some (unwrap_or o 0)) (sym is)
-    go again (Some n) is e (suc k) lt = again e k (omega (arith, lt))
+planned_each d (s ∷ ss) all zero below = grind arith
+planned_each d (s ∷ ss) all (suc k) below = grind (arith, planned_each d ss)
 
 module _ {X : Type 0} (f : X → Option ℕ) (d : X) where
   -- what is listed is some element's
@@ -33,7 +17,8 @@ module _ {X : Type 0} (f : X → Option ℕ) (d : X) where
   among_from [] n e = absurd (cc)
   among_from (x ∷ xs) n e = go (among_from xs n) (f x) refl e
     where
-      go : (contains (filter_map f xs) n ≡ true → (i : ℕ) × (i < length xs) × (f (get_or xs i d) ≡ Some n)) → (o : Option ℕ) → f x ≡ o → contains (cons_option o (filter_map f xs)) n ≡ true → (i : ℕ) × (i < length (x ∷ xs)) × (f (get_or (x ∷ xs) i d) ≡ Some n)
+      go : (contains (filter_map f xs) n ≡ true → (i : ℕ) × (i < length xs) × (f (get_or xs i d) ≡ Some n)) → (o : Option ℕ) → f x ≡ o
+          → contains (cons_option o (filter_map f xs)) n ≡ true → (i : ℕ) × (i < length (x ∷ xs)) × (f (get_or (x ∷ xs) i d) ≡ Some n)
       go again None is e = let r = again e in (suc r.0, omega (arith, r.1), r.2)
       go again (Some m) is e = elim (cases_eq m n) [
         | inl same ↦ (0, omega arith, is ∙ ap Some same)
@@ -44,11 +29,7 @@ module _ {X : Type 0} (f : X → Option ℕ) (d : X) where
   pub among : (xs : List X) (i n : ℕ) → i < length xs → f (get_or xs i d) ≡ Some n → contains (filter_map f xs) n ≡ true
   among [] i n lt e = absurd (omega (arith, lt))
   among (x ∷ xs) zero n lt e = rw (e, eq-eqb n n refl) refl
-  among (x ∷ xs) (suc i) n lt e = go (among xs i n (omega (arith, lt)) e) (f x)
-    where
-      go : contains (filter_map f xs) n ≡ true → (o : Option ℕ) → contains (cons_option o (filter_map f xs)) n ≡ true
-      go later None = later
-      go later (Some m) = or_right (m == n) (contains (filter_map f xs) n) later
+  among (x ∷ xs) (suc i) n lt e = let later = among xs i n (omega (arith, lt)) e in grind (arith, or_right)
 
 -- so it is where nothing past the end has one
 pub listed : (f : Option Identifier → Option ℕ) → f None ≡ None → (xs : List (Option Identifier)) (i n : ℕ) → f (get_or xs i None) ≡ Some n → contains (filter_map f xs) n ≡ true
@@ -76,24 +57,10 @@ module _ (a b : ℕ) (ps ns : List ℕ) (absent : beside a ps ns ≡ None) where
   -- one namespace after the other
   pub touched-cons : (h : Option (Entry ℕ) → Option (Entry ℕ)) (f f' : ℕ → ℕ → Option (Entry ℕ)) → f' a b ≡ h (f a b) → ((m : ℕ) → m ≢ b → f' a m ≡ f a m) → ((s : ℕ) → s ≢ a → (m : ℕ) → f' s m ≡ f s m)
       → (s n : ℕ) → touched ps ns h f' s n ≡ touched (a ∷ ps) (b ∷ ns) h f s n
-  touched-cons h f f' here same others s n = elim (cases_eq s a) [
-    | inl e ↦ ap (λ z. touched ps ns h f' z n) e ∙ at_a ∙ sym (ap (λ z. touched (a ∷ ps) (b ∷ ns) h f z n) e)
-    | inr differs ↦ rw (ne_eqb a s (λ e. differs (sym e)), others s differs n) refl
-  ]
-    where
-      at_a : touched ps ns h f' a n ≡ touched (a ∷ ps) (b ∷ ns) h f a n
-      at_a = rw (absent, eq-eqb a a refl) (elim (cases_eq n b) [
-        | inl e ↦ rw (e, eq-eqb b b refl) here
-        | inr differs ↦ rw (ne_eqb b n (λ e. differs (sym e))) (same n differs)
-      ])
+  touched-cons h f f' here same others s n = grind (arith, cases_eq, eq-eqb, ne_eqb)
 
   pub stepped-cons : (g g' : ℕ → ℕ) → g' a ≡ b + 1 → ((s : ℕ) → s ≢ a → g' s ≡ g s) → (s : ℕ) → stepped ps ns s (g' s) ≡ stepped (a ∷ ps) (b ∷ ns) s (g s)
-  stepped-cons g g' here others s = elim (cases_eq s a) [
-    | inl e ↦
-        ap (λ z. stepped ps ns z (g' z)) e ∙ ap (λ o. option_map_or (λ n. n + 1) o (g' a)) absent ∙ here
-        ∙ sym (ap (λ z. stepped (a ∷ ps) (b ∷ ns) z (g z)) e ∙ ap (λ t. option_map_or (λ n. n + 1) (if t then Some b else beside a ps ns) (g a)) (eq-eqb a a refl))
-    | inr differs ↦ ap (stepped ps ns s) (others s differs) ∙ sym (ap (λ t. option_map_or (λ n. n + 1) (if t then Some b else beside s ps ns) (g s)) (ne_eqb a s (λ e. differs (sym e))))
-  ]
+  stepped-cons g g' here others s = grind (arith, cases_eq, eq-eqb, ne_eqb)
 
 module _ (path numbers : List ℕ) (distinct : IsDistinct path) (len : length numbers ≡ length path) (k : ℕ) (below : k < length path) (key n : ℕ) (at : key ≡ get_or path k 0) (is : n ≡ get_or numbers k 0) where
   head : drop k path ≡ key ∷ drop (k + 1) path
@@ -125,11 +92,7 @@ module _ (path numbers : List ℕ) (distinct : IsDistinct path) (len : length nu
   later j lo lt e = distinct k j (omega (arith, lo)) lt (sym at ∙ sym e)
 
 decide_some : (o : Option ℕ) (n : ℕ) → (o ≡ Some n) ⊎ (o ≢ Some n)
-decide_some None n = inr (λ e. cc)
-decide_some (Some m) n = elim (cases_eq m n) [
-  | inl e ↦ inl (ap Some e)
-  | inr d ↦ inr (λ e. d (ap (λ o. unwrap_or o 0) e))
-]
+decide_some o n = grind (arith, cases_eq)
 
 -- a change along a path reaches the numbers there
 module _ (path numbers : List ℕ) (h : Option (Entry ℕ) → Option (Entry ℕ)) (f : ℕ → ℕ → Option (Entry ℕ)) (s n : ℕ) where
@@ -138,20 +101,11 @@ module _ (path numbers : List ℕ) (h : Option (Entry ℕ) → Option (Entry ℕ
 
   -- and no others
   pub touched-miss : beside s path numbers ≢ Some n → touched path numbers h f s n ≡ f s n
-  touched-miss d = go (beside s path numbers) d
-    where
-      go : (o : Option ℕ) → o ≢ Some n → (if option_eq ◌==◌ o (Some n) then h (f s n) else f s n) ≡ f s n
-      go None d = refl
-      go (Some m) d = rw (ne_eqb m n (λ e. d (ap Some e))) refl
+  touched-miss d = grind (arith, ne_eqb)
 
 -- the marks tell whether an identifier is used
 pub told : (u : Identifier) → is_used u ≡ (is_used_as Task (Some u) || (is_used_as Group (Some u) || is_used_as Session (Some u)))
-told u = go (u.tasks == 0) (u.groups == 0) (u.sessions == 0)
-  where
-    go : (a b d : Bool) → not (a && (b && d)) ≡ (not a || (not b || not d))
-    go true true d = refl
-    go true false d = refl
-    go false b d = refl
+told u = grind arith
 
 marks-live : (u v : Identifier) → marks_of (Some u) ≡ marks_of (Some v) → is_used v ≡ true → is_used u ≡ true
 marks-live u v e live = told u ∙ ap (λ l. slice_index_or l 0 false || (slice_index_or l 1 false || slice_index_or l 2 false)) e ∙ sym (told v) ∙ live
@@ -162,10 +116,7 @@ first-live u e = told u ∙ ap (λ l. slice_index_or l 0 false || (slice_index_o
 -- what is said of each name, where one alone is another
 module _ (ways : ℕ → List ℕ) (see see' : ℕ → ℕ → Option ℕ) (names names' : ℕ → Option Identifier) (t : IsTied ways names see) (i : ℕ) (others : (j : ℕ) → j ≢ i → names' j ≡ names j) where
   each : (P : Identifier → Type 0) → ((u : Identifier) → names' i ≡ Some u → P u) → ((j : ℕ) (x : Identifier) → names j ≡ Some x → P x) → (j : ℕ) (x : Identifier) → names' j ≡ Some x → P x
-  each P here there j x e = elim (cases_eq j i) [
-    | inl same ↦ here x (sym (ap names' same) ∙ e)
-    | inr differs ↦ there j x (sym (others j differs) ∙ e)
-  ]
+  each P here there j x e = grind (arith, cases_eq)
 
   tied-with : ((u : Identifier) → names' i ≡ Some u → (length u.numbers ≡ length (ways u.space)) × (0 < length u.numbers) × (is_used u ≡ true))
       → ((s n j : ℕ) → see' s n ≡ Some j → number_in ways s (names' j) ≡ Some n) → ((s n j : ℕ) → number_in ways s (names' j) ≡ Some n → see' s n ≡ Some j) → IsTied ways names' see'
@@ -179,41 +130,21 @@ module _ (ways : ℕ → List ℕ) (see see' : ℕ → ℕ → Option ℕ) (name
 
   module _ (u : Identifier) where
     new_one : names' i ≡ Some u → (length u.numbers ≡ length (ways u.space)) × (0 < length u.numbers) × (is_used u ≡ true) → (x : Identifier) → names' i ≡ Some x → (length x.numbers ≡ length (ways x.space)) × (0 < length x.numbers) × (is_used x ≡ true)
-    new_one now fits x e = subst (λ (x : Identifier). (length x.numbers ≡ length (ways x.space)) × (0 < length x.numbers) × (is_used x ≡ true)) (same_Some u x (sym now ∙ e)) fits
+    new_one now fits x e = let same = same_Some u x (sym now ∙ e) in grind arith
 
     -- a new name
     pub tied-given : names i ≡ None → names' i ≡ Some u → (length u.numbers ≡ length (ways u.space)) × (0 < length u.numbers) × (is_used u ≡ true)
         → ((s n : ℕ) → beside s (ways u.space) u.numbers ≡ Some n → see s n ≡ None)
         → ((s n : ℕ) → beside s (ways u.space) u.numbers ≡ Some n → see' s n ≡ Some i) → ((s n : ℕ) → beside s (ways u.space) u.numbers ≢ Some n → see' s n ≡ see s n) → IsTied ways names' see'
     tied-given was now fits free hits misses = tied-with (new_one now fits)
-        (λ s n j e. elim (decide_some (beside s (ways u.space) u.numbers) n) [
-          | inl hit ↦ ap (number_in ways s) (ap names' (sym (same_Some i j (sym (hits s n hit) ∙ e))) ∙ now) ∙ hit
-          | inr miss ↦
-              let is : number_in ways s (names j) ≡ Some n = t.found s n j (sym (misses s n miss) ∙ e) in
-              ap (number_in ways s) (others j (λ z. let bad : Some n ≡ None = sym is ∙ ap (number_in ways s) (ap names z ∙ was) in cc)) ∙ is
-        ])
-        (λ s n j e. elim (cases_eq j i) [
-          | inl same ↦ hits s n (sym (ap (number_in ways s) (ap names' same ∙ now)) ∙ e) ∙ ap Some (sym same)
-          | inr differs ↦
-              let old : see s n ≡ Some j = t.kept s n j (sym (ap (number_in ways s) (others j differs)) ∙ e) in
-              misses s n (λ hit. let bad : Some j ≡ None = sym old ∙ free s n hit in cc) ∙ old
-        ])
+        (λ s n j e. let hit = decide_some (beside s (ways u.space) u.numbers) n in let found = t.found s n j in grind (arith, cases_eq))
+        (λ s n j e. let kept = t.kept s n j in grind (arith, cases_eq, decide_some))
 
     -- a name that goes
     pub tied-released : names i ≡ Some u → names' i ≡ None → ((s n : ℕ) → beside s (ways u.space) u.numbers ≡ Some n → see' s n ≡ None) → ((s n : ℕ) → beside s (ways u.space) u.numbers ≢ Some n → see' s n ≡ see s n) → IsTied ways names' see'
     tied-released was now hits misses = tied-with (λ x e. absurd (none-some x (sym now ∙ e)))
-        (λ s n j e. elim (decide_some (beside s (ways u.space) u.numbers) n) [
-          | inl hit ↦ absurd (none-some j (sym (hits s n hit) ∙ e))
-          | inr miss ↦
-              let is : number_in ways s (names j) ≡ Some n = t.found s n j (sym (misses s n miss) ∙ e) in
-              ap (number_in ways s) (others j (λ z. miss (sym (ap (number_in ways s) (ap names z ∙ was)) ∙ is))) ∙ is
-        ])
-        (λ s n j e. elim (cases_eq j i) [
-          | inl same ↦ absurd (none-some n (sym (ap (number_in ways s) (ap names' same ∙ now)) ∙ e))
-          | inr differs ↦
-              let old : see s n ≡ Some j = t.kept s n j (sym (ap (number_in ways s) (others j differs)) ∙ e) in
-              misses s n (λ hit. differs (same_Some j i (sym old ∙ t.kept s n i (ap (number_in ways s) was ∙ hit)))) ∙ old
-        ])
+        (λ s n j e. let hit = decide_some (beside s (ways u.space) u.numbers) n in let found = t.found s n j in grind (arith, cases_eq))
+        (λ s n j e. let kept = t.kept s n j in let own = t.kept s n i in grind (arith, cases_eq, decide_some))
 
     -- a name whose uses change
     pub tied-renamed : (v : Identifier) → names i ≡ Some v → names' i ≡ Some u → ((s : ℕ) → number_in ways s (Some u) ≡ number_in ways s (Some v)) → (length u.numbers ≡ length (ways u.space)) × (0 < length u.numbers) × (is_used u ≡ true)
@@ -221,40 +152,26 @@ module _ (ways : ℕ → List ℕ) (see see' : ℕ → ℕ → Option ℕ) (name
     tied-renamed v was now same_number fits sees = tied-with (new_one now fits) (λ s n j e. number s j ∙ t.found s n j (sym (sees s n) ∙ e)) (λ s n j e. sees s n ∙ t.kept s n j (sym (number s j) ∙ e))
       where
         number : (s j : ℕ) → number_in ways s (names' j) ≡ number_in ways s (names j)
-        number s j = elim (cases_eq j i) [
-          | inl same ↦ ap (number_in ways s) (ap names' same ∙ now) ∙ same_number s ∙ ap (number_in ways s) (sym was ∙ ap names (sym same))
-          | inr differs ↦ ap (number_in ways s) (others j differs)
-        ]
+        number s j = grind (arith, cases_eq)
 
 -- the marks where the uses of one identifier changed
 module _ (at at' : ℕ → ℕ → Option (Entry ℕ)) (names names' : ℕ → Option Identifier) (old : AreMarked at names) (path numbers : List ℕ) (i : ℕ) (others : (j : ℕ) → j ≢ i → names' j ≡ names j) where
   pub marks-set : ((s n : ℕ) (e : Entry ℕ) → beside s path numbers ≡ Some n → at' s n ≡ Some e → e.marks ≡ marks_of (names' e.value))
       → ((s n : ℕ) → beside s path numbers ≢ Some n → at' s n ≡ at s n) → ((s n : ℕ) → beside s path numbers ≢ Some n → leads at s n ≢ Some i) → AreMarked at' names'
-  marks-set hits misses away s n e is = elim (decide_some (beside s path numbers) n) [
-    | inl hit ↦ hits s n e hit is
-    | inr miss ↦
-        let was : at s n ≡ Some e = sym (misses s n miss) ∙ is in
-        let other : e.value ≢ i = λ z. away s n miss (ap (option_map (λ e. e.value)) was ∙ ap Some z) in
-        old s n e was ∙ ap marks_of (sym (others e.value other))
-  ]
+  marks-set hits misses away s n e is = grind (arith, decide_some)
 
 -- each number is in range where the new ones are
 range-set : (pid_max : ℕ) (see see' : ℕ → ℕ → Option ℕ) → AreInRange pid_max see → (path numbers : List ℕ) → ((s n i : ℕ) → see' s n ≡ Some i → beside s path numbers ≡ Some n → (0 < n) × (n < pid_max))
     → ((s n : ℕ) → beside s path numbers ≢ Some n → see' s n ≡ see s n) → AreInRange pid_max see'
-range-set pid_max see see' old path numbers hits misses s n i e = elim (decide_some (beside s path numbers) n) [
-  | inl hit ↦ hits s n i e hit
-  | inr miss ↦ old s n i (sym (misses s n miss) ∙ e)
-]
+range-set pid_max see see' old path numbers hits misses s n i e = grind (arith, decide_some)
 
 -- what marks are read changes no key
 pub value-marked : (m : ℕ) (on : Bool) (o : Option (Entry ℕ)) → option_map (λ (e : Entry ℕ). e.value) (with_mark m on o) ≡ option_map (λ e. e.value) o
-value-marked m on None = refl
-value-marked m on (Some e) = refl
+value-marked m on o = grind arith
 
 -- what stands at a number of an identifier leads to it
 pub at_key : (o : Option (Entry ℕ)) (i : ℕ) → option_map (λ (e : Entry ℕ). e.value) o ≡ Some i → (e : Entry ℕ) × (o ≡ Some e) × (e.value ≡ i)
-at_key None i h = absurd (cc)
-at_key (Some e) i h = (e, refl, ap (λ o. unwrap_or o 0) h)
+at_key o i h = grind arith
 
 -- the paths change where no identifier is
 pub numbering-moved : (pid_max : ℕ) (ways ways' : ℕ → List ℕ) (at : ℕ → ℕ → Option (Entry ℕ)) (bound bound' : ℕ → Option ℕ) (names : ℕ → Option Identifier) → IsNumbering pid_max ways at bound names → IsTree ways' → ((s m : ℕ) → bound' s ≡ Some m → m ≡ pid_max)
@@ -275,11 +192,7 @@ numbering-moved pid_max ways ways' at bound bound' names b tree bounds homes = r
 }
   where
     stays : (s i : ℕ) → number_in ways' s (names i) ≡ number_in ways s (names i)
-    stays s i = go (names i) refl
-      where
-        go : (o : Option Identifier) → names i ≡ o → number_in ways' s o ≡ number_in ways s o
-        go None is = refl
-        go (Some u) is = ap (λ p. beside s p u.numbers) (homes i u is)
+    stays s i = grind (arith, homes)
 
 module _ (pid_max : ℕ) (ways : ℕ → List ℕ) (at at' : ℕ → ℕ → Option (Entry ℕ)) (bound bound' : ℕ → Option ℕ) (names names' : ℕ → Option Identifier) (b : IsNumbering pid_max ways at bound names)
     (same_bound : (s : ℕ) → bound' s ≡ bound s) where
@@ -359,27 +272,18 @@ module _ (pid_max : ℕ) (ways : ℕ → List ℕ) (at at' : ℕ → ℕ → Opt
 
 -- the marks where a use of one kind comes or goes
 marks-kept : (kind : Kind) (n : ℕ) (v : Identifier) → is_used_as kind (Some (with_uses kind n v)) ≡ is_used_as kind (Some v) → marks_of (Some (with_uses kind n v)) ≡ marks_of (Some v)
-marks-kept Task n v e = ap (λ b. b ∷ is_used_as Group (Some v) ∷ is_used_as Session (Some v) ∷ []) e
-marks-kept Group n v e = ap (λ b. is_used_as Task (Some v) ∷ b ∷ is_used_as Session (Some v) ∷ []) e
-marks-kept Session n v e = ap (λ b. is_used_as Task (Some v) ∷ is_used_as Group (Some v) ∷ b ∷ []) e
+marks-kept kind n v e = grind arith
 
 marks-turned : (kind : Kind) (n : ℕ) (v : Identifier) (on : Bool) → is_used_as kind (Some (with_uses kind n v)) ≡ on → slice_set (marks_of (Some v)) (mark_of kind) on ≡ marks_of (Some (with_uses kind n v))
-marks-turned Task n v on e = ap (λ b. b ∷ is_used_as Group (Some v) ∷ is_used_as Session (Some v) ∷ []) (sym e)
-marks-turned Group n v on e = ap (λ b. is_used_as Task (Some v) ∷ b ∷ is_used_as Session (Some v) ∷ []) (sym e)
-marks-turned Session n v on e = ap (λ b. is_used_as Task (Some v) ∷ is_used_as Group (Some v) ∷ b ∷ []) (sym e)
+marks-turned kind n v on e = grind arith
 
 pub path-kept : (kind : Kind) (n : ℕ) (v : Identifier) → ((with_uses kind n v).space ≡ v.space) × ((with_uses kind n v).numbers ≡ v.numbers)
-path-kept Task n v = (refl, refl)
-path-kept Group n v = (refl, refl)
-path-kept Session n v = (refl, refl)
+path-kept kind n v = grind arith
 
 module _ (path numbers : List ℕ) (m : ℕ) (on : Bool) (at at' : ℕ → ℕ → Option (Entry ℕ)) (is : (s n : ℕ) → at' s n ≡ touched path numbers (with_mark m on) at s n) where
   -- a change of marks leads nowhere else
   pub leads-marked : (s n : ℕ) → leads at' s n ≡ leads at s n
-  leads-marked s n = elim (decide_some (beside s path numbers) n) [
-    | inl hit ↦ ap (option_map (λ e. e.value)) (is s n ∙ touched-hit path numbers (with_mark m on) at s n hit) ∙ value-marked m on (at s n)
-    | inr miss ↦ ap (option_map (λ e. e.value)) (is s n ∙ touched-miss path numbers (with_mark m on) at s n miss)
-  ]
+  leads-marked s n = grind (arith, decide_some, touched-hit, touched-miss, value-marked)
 
 module _ (pid_max : ℕ) (ways : ℕ → List ℕ) (at at' : ℕ → ℕ → Option (Entry ℕ)) (bound bound' : ℕ → Option ℕ) (names names' : ℕ → Option Identifier) (b : IsNumbering pid_max ways at bound names) (same_bound : (s : ℕ) → bound' s ≡ bound s)
     (i : ℕ) (kind : Kind) (count : ℕ) (v : Identifier) (was : names i ≡ Some v) (now : names' i ≡ Some (with_uses kind count v)) (others : (j : ℕ) → j ≢ i → names' j ≡ names j) where

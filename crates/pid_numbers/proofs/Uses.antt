@@ -1,13 +1,6 @@
 -- An identifier with another number of uses of a kind.
-use Rattle.std.proofs.Common.{◌≡◌, ◌≢◌, ℕ, Bool, true, List, length, Some, IfSome, refl, sym, ap, subst, ◌∙◌}
-use Rattle.std.proofs.lemmas.Option.{same_Some}
-use Rattle.cyclic_ids.specs.Ids.{Ids}
-use Rattle.index_array.specs.Place.{with_mark}
-use Rattle.ns_tree.specs.Tree.{Tree, way}
-use Rattle.pid_types.specs.declared.call.Kind.{Kind}
-use Rattle.pid_numbers.specs.Numbering.{Identifier, is_used, is_used_as, with_uses}
-use Rattle.pid_numbers.specs.Slabs.{entry_on, bound_on, touched, mark_of, IsKept}
-use Rattle.pid_numbers.specs.Table.{Table, name_at}
+use Rattle.pid_numbers.proofs.Words.{◌≡◌, ◌≢◌, ℕ, Bool, true, List, length, Some, IfSome, refl, sym, ap, subst, ◌∙◌, same_Some, Ids, with_mark, Tree, way, Kind}
+use Rattle.pid_numbers.proofs.Words.{Identifier, is_used, is_used_as, with_uses, entry_on, bound_on, touched, mark_of, IsKept, Table, name_at}
 use Rattle.pid_numbers.proofs.Ties as ties
 use Rattle.pid_numbers.proofs.Sweeps as sweeps
 use Rattle.pid_numbers.proofs.Views as views

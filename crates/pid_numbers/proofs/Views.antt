@@ -1,30 +1,17 @@
 -- What a numbering shows of the slabs.
-use Rattle.std.proofs.Common.{rules, inl, inr, zero, suc, ◌∷◌, ◌≡◌, ◌≢◌, ℕ, ◌<◌, arith, if◌then◌else◌, Bool, true, false, List, [], length, map, get_or, Option, Some, None, IsSome, IfSome, not, ◌||◌, ◌==◌, ◌+◌, subst, is_some, is_none, refl, sym, ap, ◌∙◌, option_map, option_and_then, unwrap_or, find}
-use Rattle.std.specs.Prelude.{nat_lt, reverse, slice_get}
-use Rattle.pid_types.specs.Names.{beside, beside_from}
-use Rattle.std.specs.Option.{option_map_or}
-use Rattle.std.proofs.lemmas.List.{length-map}
-use Rattle.std.proofs.lemmas.Bool.{cases_lt, cond_both, false_from_ne_true, ne_eqb, not_from_false, or_right}
-use Rattle.std.proofs.lemmas.Option.{slice_get_within, option_and_then_some}
+use Rattle.std.proofs.Common.{rules, zero, suc, ◌∷◌, ◌≡◌, ◌≢◌, ℕ, ◌<◌, arith, if◌then◌else◌, Bool, true, false, List, [], length, map, get_or, Option, Some, None, IsSome, IfSome, not, ◌==◌, ◌+◌, subst, is_some, is_none, refl, sym, ap, ◌∙◌, option_map, option_and_then, unwrap_or, find}
+use Rattle.pid_numbers.proofs.Words.{cases_lt, cond_both, false_from_ne_true, ne_eqb, not_from_false, length-map, option_and_then_some, slice_get_within}
+use Rattle.pid_numbers.proofs.Words.{option_map_or, nat_lt, reverse, slice_get, cyclic_draw-same, Ids, planned, contains_indexes, Entry, IsLeastIndex, entry_at}
+use Rattle.pid_numbers.proofs.Words.{indexes, is_marked, with_mark, distinct-path, Node, Tree, fell, id_in, node_in, way, IsDistinct, draw-Some, contains}
+use Rattle.pid_numbers.proofs.Words.{cyclic_draw, beside, beside_from, Kind, Identifier, IsNextUsed, IsNumberUsedAs, Numbering, draw_in, has_fallen_at, id_at}
+use Rattle.pid_numbers.proofs.Words.{identifier_at, is_there, is_used, is_used_as, levels_of, more, moved, namespace_at, number_in, number_of, path_at, uses}
+use Rattle.pid_numbers.proofs.Words.{with_uses, taken_in, AreIn, ArePlanned, IsKept, IsNumbering, bound_on, cursor_on, entry_on, leads, mark_of, marks_of}
+use Rattle.pid_numbers.proofs.Words.{namespace_of, numbering_of, plan_on, stepped, touched, with_cursors, Table, identifier_of, name_at}
 use Rattle.std.proofs.Math.ListN.{get_or-map}
-use Rattle.pid_types.specs.Chains.{contains}
-use Rattle.pid_types.specs.Draw.{cyclic_draw}
-use Rattle.pid_types.proofs.LeastFree.{draw-Some}
-use Rattle.cyclic_ids.specs.Ids.{Ids, planned}
-use Rattle.pid_numbers.specs.Table.{Table}
-use Rattle.index_array.specs.Place.{Entry, entry_at, indexes, is_marked, with_mark, IsLeastIndex}
-use Rattle.index_array.proofs.Indexes.{contains_indexes}
-use Rattle.cyclic_ids.proofs.Draws.{cyclic_draw-same}
-use Rattle.ns_tree.specs.Tree.{Node, Tree, node_in, way, id_in, fell}
-use Rattle.ns_tree.specs.Vacancy.{IsDistinct}
+use Rattle.pid_numbers.specs.declared.Numbers.TheInside.{Inside}
 use Rattle.ns_tree.proofs.Paths as paths
 use Rattle.ns_tree.proofs.Vacancy.{filled-in}
 use Rattle.pid_numbers.proofs.Items as items
-use Rattle.pid_numbers.specs.Numbering.{Numbering, Identifier, moved, levels_of, is_there, namespace_at, id_at, has_fallen_at, identifier_at, path_at, number_in, number_of, taken_in, draw_in, is_used_as, is_used, with_uses, uses, more, IsNumberUsedAs, IsNextUsed}
-use Rattle.pid_types.specs.declared.call.Kind.{Kind}
-use Rattle.pid_types.specs.declared.call.Kind.TheVariants.{Task, Group, Session}
-use Rattle.pid_numbers.specs.Slabs.{numbering_of, namespace_of, with_cursors, entry_on, leads, plan_on, cursor_on, marks_of, mark_of, bound_on, touched, stepped, AreIn, ArePlanned, IsNumbering, IsKept}
-use Rattle.pid_numbers.specs.Table.{identifier_of, name_at}
 use Rattle.pid_numbers.proofs.Ties.{at_key, among_from, listed, planned_each, path-kept, told}
 
 -- a look-up among the namespaces
@@ -35,12 +22,10 @@ namespace-at cursor (o ∷ nodes) (suc s) = namespace-at (λ s. cursor (suc s)) 
 
 -- what is seen of one that is there or not
 pub map_or-map : {X Y Z : Type 0} (f : Y → Z) (g : X → Y) (o : Option X) (d : Z) → option_map_or f (option_map g o) d ≡ option_map_or (λ x. f (g x)) o d
-map_or-map f g None d = refl
-map_or-map f g (Some x) d = refl
+map_or-map f g o d = grind arith
 
 some-map : {X Y : Type 0} (g : X → Y) (o : Option X) → is_some (option_map g o) ≡ is_some o
-some-map g None = refl
-some-map g (Some x) = refl
+some-map g o = grind arith
 
 pub held : {X : Type 0} (o : Option X) → IsSome o → (v : X) × (o ≡ Some v)
 held None h = absurd (search rules)
@@ -52,11 +37,7 @@ absent (Some v) e = absurd (cc)
 
 -- a namespace with a path is there
 pub there-of : (nodes : List (Option Node)) (s : ℕ) → 0 < length (way nodes s) → (z : Node) × (node_in nodes s ≡ Some z)
-there-of nodes s some = go (node_in nodes s) some
-  where
-    go : (o : Option Node) → 0 < length (option_map_or (λ t. t.path) o []) → (z : Node) × (o ≡ Some z)
-    go None lt = absurd (omega (arith, lt))
-    go (Some z) lt = (z, refl)
+there-of nodes s some = grind arith
 
 -- a namespace that is there has numbers
 pub there_in : (nodes : List (Option Node)) (ids : List (Ids ℕ)) → length ids ≡ length nodes → (s : ℕ) (z : Node) → node_in nodes s ≡ Some z → s < length ids
@@ -177,36 +158,9 @@ pub record IsPlan (pid_max : ℕ) (nodes : List (Option Node)) (ids : List (Ids 
   -- each number of it is free, and in range
   pub free : (j : ℕ) → j < length (way nodes space) → (entry_on ids (get_or (way nodes space) j 0) (get_or numbers j 0) ≡ None) × (0 < get_or numbers j 0) × (get_or numbers j 0 < pid_max)
 
-pub plan-of : (pid_max : ℕ) (tree : Tree) (ids : List (Ids ℕ)) (idents : Table) (b : Numbering) → numbering_of pid_max tree ids idents ≡ b → IsKept pid_max tree ids idents → (space : ℕ) (numbers : List ℕ)
-    → find (λ s. is_none (draw_in b s)) (path_at b space) ≡ None → numbers ≡ map (λ s. unwrap_or (draw_in b s) 0) (path_at b space) → IsPlan pid_max tree.nodes ids space numbers
-plan-of pid_max tree ids idents b view k space numbers all is = record {
-  len = planned_len pid_max tree ids idents k.whole.numbering space numbers here;
-  drawn = drawn;
-  distinct = paths.distinct-path (way tree.nodes) (way tree.nodes space) (k.whole.numbering.tree.paths space);
-  free = λ j lt.
-      let s = get_or (way tree.nodes space) j 0 in
-      let range = plan_in_range pid_max ids s (get_or numbers j 0) (λ m e. k.whole.numbering.bounds s m e) (drawn j lt) in
-      (plan_free ids s (get_or numbers j 0) (drawn j lt), range.0, range.1);
-}
-  where
-    here : numbers ≡ map (λ s. unwrap_or (draw_in (numbering_of pid_max tree ids idents) s) 0) (path_at (numbering_of pid_max tree ids idents) space)
-    here = subst (λ b. numbers ≡ map (λ s. unwrap_or (draw_in b s) 0) (path_at b space)) (sym view) is
-
-    drawn : ArePlanned ids (way tree.nodes space) numbers
-    drawn = all_planned pid_max tree ids idents k.whole.numbering k.count space numbers (subst (λ b. find (λ s. is_none (draw_in b s)) (path_at b space) ≡ None) (sym view) all) here
-
--- a namespace that is there is one of the tree
-pub there : (pid_max : ℕ) (tree : Tree) (ids : List (Ids ℕ)) (idents : Table) (b : Numbering) → numbering_of pid_max tree ids idents ≡ b → (s : ℕ) → IsSome (namespace_at b s) → IsSome (node_in tree.nodes s)
-there pid_max tree ids idents b view s some = sym (there_is pid_max tree ids idents s) ∙ ap (λ z. is_there z s) view ∙ some
-
--- the identifier with a key is that of the slab
-pub identifier_is : (pid_max : ℕ) (tree : Tree) (ids : List (Ids ℕ)) (idents : Table) (b : Numbering) → numbering_of pid_max tree ids idents ≡ b → (k : ℕ) → identifier_at b k ≡ name_at idents k
-identifier_is pid_max tree ids idents b view k = ap (λ z. identifier_at z k) (sym view) ∙ name_is pid_max tree ids idents k
-
 -- one that has a use is there
 pub used : (kind : Kind) (o : Option Identifier) → is_used_as kind o ≡ true → (v : Identifier) × (o ≡ Some v)
-used kind None h = absurd (cc)
-used kind (Some v) h = (v, refl)
+used kind o h = grind arith
 
 -- what is said where there is one
 pub at-some : {X : Type 0} (P : X → Type 0) (o : Option X) (x : X) → IfSome o P → o ≡ Some x → P x
@@ -222,23 +176,17 @@ marked-as kind n v on ways at at' o e now s m =
 
 -- a use that was counted
 pub used-with : (kind : Kind) (n : ℕ) (v : Identifier) → is_used_as kind (Some (with_uses kind n v)) ≡ not (n == 0)
-used-with Task n v = refl
-used-with Group n v = refl
-used-with Session n v = refl
+used-with kind n v = grind arith
 
 pub more_used : (kind : Kind) (v : Identifier) → is_used_as kind (Some (more kind v)) ≡ true
 more_used kind v = used-with kind (uses kind v + 1) v ∙ not_from_false (uses kind v + 1 == 0) (ne_eqb (uses kind v + 1) 0 (λ e. omega (arith, e)))
 
 -- an identifier with a use of some kind is used
 pub used_some : (kind : Kind) (v : Identifier) → is_used_as kind (Some v) ≡ true → is_used v ≡ true
-used_some Task v e = told v ∙ ap (λ b. b || (is_used_as Group (Some v) || is_used_as Session (Some v))) e
-used_some Group v e = told v ∙ or_right (is_used_as Task (Some v)) (is_used_as Group (Some v) || is_used_as Session (Some v)) (ap (λ b. b || is_used_as Session (Some v)) e)
-used_some Session v e = told v ∙ or_right (is_used_as Task (Some v)) (is_used_as Group (Some v) || is_used_as Session (Some v)) (or_right (is_used_as Group (Some v)) (is_used_as Session (Some v)) e)
+used_some kind v e = grind (arith, told)
 
 get_mark : (kind : Kind) (o : Option Identifier) → get_or (marks_of o) (mark_of kind) false ≡ is_used_as kind o
-get_mark Task o = refl
-get_mark Group o = refl
-get_mark Session o = refl
+get_mark kind o = grind arith
 
 module _ (pid_max : ℕ) (tree : Tree) (ids : List (Ids ℕ)) (idents : Table) (b : IsNumbering pid_max (way tree.nodes) (entry_on ids) (bound_on ids) (name_at idents)) (kind : Kind) (s : ℕ) where
   abbrev whole : Numbering
@@ -276,54 +224,72 @@ module _ (pid_max : ℕ) (tree : Tree) (ids : List (Ids ℕ)) (idents : Table) (
   -- the least number with a mark is the least one that is used so
   pub next_is : (from : ℕ) (r : Option ℕ) → IsLeastIndex (λ n. is_marked (mark_of kind) (entry_on ids s n)) from 16777216 r → IsNextUsed whole kind s from r
   next_is from None none = λ m low u. (let e : true ≡ false = sym (used_marked m u) ∙ none m low (below_end m u) in cc)
-  next_is from (Some n) least = (
-    least.0,
-    marked_used n least.2,
-    λ m low u. elim (cases_lt m n) [
-      | inl below ↦ absurd (let e : true ≡ false = sym (used_marked m u) ∙ least.3 m low below in cc)
-      | inr past ↦ past
-    ],
-  )
-
--- a namespace with a key is that of the tree
-pub namespace_is : (pid_max : ℕ) (tree : Tree) (ids : List (Ids ℕ)) (idents : Table) (b : Numbering) → numbering_of pid_max tree ids idents ≡ b → (s : ℕ) → namespace_at b s ≡ option_map (namespace_of (cursor_on ids s)) (node_in tree.nodes s)
-namespace_is pid_max tree ids idents b view s = ap (λ z. namespace_at z s) (sym view) ∙ space_is pid_max tree ids idents s
+  next_is from (Some n) least = (least.0, marked_used n least.2, λ m low u. let on = used_marked m u in let off = least.3 m low in grind (arith, cases_lt))
 
 -- one whose cursor moves is seen so
 pub seen-moved : (path numbers : List ℕ) (s cursor : ℕ) (o : Option Node) → option_map (namespace_of (stepped path numbers s cursor)) o ≡ option_map (moved path numbers s) (option_map (namespace_of cursor) o)
-seen-moved path numbers s cursor None = refl
-seen-moved path numbers s cursor (Some t) = refl
-
--- its id, and whether it fell
-pub id_is : (pid_max : ℕ) (tree : Tree) (ids : List (Ids ℕ)) (idents : Table) (b : Numbering) → numbering_of pid_max tree ids idents ≡ b → (s : ℕ) → id_at b s ≡ id_in tree.nodes s
-id_is pid_max tree ids idents b view s = ap (option_map (λ t. t.id)) (namespace_is pid_max tree ids idents b view s) ∙ go (node_in tree.nodes s)
-  where
-    go : (o : Option Node) → option_map (λ t. t.id) (option_map (namespace_of (cursor_on ids s)) o) ≡ option_map (λ t. t.id) o
-    go None = refl
-    go (Some t) = refl
-
-pub fell_is : (pid_max : ℕ) (tree : Tree) (ids : List (Ids ℕ)) (idents : Table) (b : Numbering) → numbering_of pid_max tree ids idents ≡ b → (s : ℕ) → has_fallen_at b s ≡ fell tree.nodes s
-fell_is pid_max tree ids idents b view s = ap (λ o. option_map_or (λ t. t.fallen) o false) (namespace_is pid_max tree ids idents b view s) ∙ map_or-map (λ t. t.fallen) (namespace_of (cursor_on ids s)) (node_in tree.nodes s) false
-
--- and its path
-pub path-of : (pid_max : ℕ) (tree : Tree) (ids : List (Ids ℕ)) (idents : Table) (b : Numbering) → numbering_of pid_max tree ids idents ≡ b → (s : ℕ) → path_at b s ≡ way tree.nodes s
-path-of pid_max tree ids idents b view s = ap (λ z. path_at z s) (sym view) ∙ path_is pid_max tree ids idents s
+seen-moved path numbers s cursor o = grind arith
 
 -- the identifier whose namespace was found
 pub home : (o : Option Identifier) (own : ℕ) → Some own ≡ option_map (λ (u : Identifier). u.space) o → (u : Identifier) × (o ≡ Some u) × (u.space ≡ own)
-home None own e = absurd (cc)
-home (Some u) own e = (u, refl, ap (λ o. unwrap_or o 0) (sym e))
+home o own e = grind arith
 
--- its number in a namespace
-pub number-of : (pid_max : ℕ) (tree : Tree) (ids : List (Ids ℕ)) (idents : Table) (b : Numbering) → numbering_of pid_max tree ids idents ≡ b → (i s own : ℕ) (u : Identifier) → name_at idents i ≡ Some u → u.space ≡ own
-    → number_of b i s ≡ beside s (way tree.nodes own) u.numbers
-number-of pid_max tree ids idents b view i s own u is at =
-    ap (λ z. number_of z i s) (sym view) ∙ number_is pid_max tree ids idents i s ∙ ap (number_in (way tree.nodes) s) is ∙ ap (λ p. beside s (way tree.nodes p) u.numbers) at
+-- what a contract sees is so of the tree, the numbers by key and the identifiers
+module _ (x : Inside) {b : Numbering} (view : numbering_of x.pid_max x.tree x.ids.items x.idents ≡ b) where
+  -- a namespace that is there is one of the tree
+  pub there : (s : ℕ) → IsSome (namespace_at b s) → IsSome (node_in x.tree.nodes s)
+  there s some = sym (there_is x.pid_max x.tree x.ids.items x.idents s) ∙ ap (λ z. is_there z s) view ∙ some
 
--- its numbers from a namespace inwards
-pub levels-of : (pid_max : ℕ) (tree : Tree) (ids : List (Ids ℕ)) (idents : Table) (b : Numbering) → numbering_of pid_max tree ids idents ≡ b → (i s own : ℕ) (u : Identifier) → name_at idents i ≡ Some u → u.space ≡ own
-    → levels_of b i s ≡ beside_from s (reverse (way tree.nodes own)) (reverse u.numbers)
-levels-of pid_max tree ids idents b view i s own u is at =
-    ap (λ z. levels_of z i s) (sym view)
-    ∙ ap (λ o. option_map_or (λ v. beside_from s (reverse (path_at (numbering_of pid_max tree ids idents) v.space)) (reverse v.numbers)) o []) (name_is pid_max tree ids idents i ∙ is)
-    ∙ ap (λ p. beside_from s (reverse p) (reverse u.numbers)) (path_is pid_max tree ids idents u.space ∙ ap (way tree.nodes) at)
+  pub namespace_is : (s : ℕ) → namespace_at b s ≡ option_map (namespace_of (cursor_on x.ids.items s)) (node_in x.tree.nodes s)
+  namespace_is s = ap (λ z. namespace_at z s) (sym view) ∙ space_is x.pid_max x.tree x.ids.items x.idents s
+
+  -- its id, whether it fell, and its path
+  pub id_is : (s : ℕ) → id_at b s ≡ id_in x.tree.nodes s
+  id_is s = let is = namespace_is s in grind arith
+
+  pub fell_is : (s : ℕ) → has_fallen_at b s ≡ fell x.tree.nodes s
+  fell_is s = let is = namespace_is s in grind arith
+
+  pub path-of : (s : ℕ) → path_at b s ≡ way x.tree.nodes s
+  path-of s = ap (λ z. path_at z s) (sym view) ∙ path_is x.pid_max x.tree x.ids.items x.idents s
+
+  -- the identifier with a key is that of the slab
+  pub identifier_is : (k : ℕ) → identifier_at b k ≡ name_at x.idents k
+  identifier_is k = ap (λ z. identifier_at z k) (sym view) ∙ name_is x.pid_max x.tree x.ids.items x.idents k
+
+  module _ (i s own : ℕ) (u : Identifier) (is : name_at x.idents i ≡ Some u) (at : u.space ≡ own) where
+    -- its number in a namespace
+    pub number-of : number_of b i s ≡ beside s (way x.tree.nodes own) u.numbers
+    number-of =
+        ap (λ z. number_of z i s) (sym view) ∙ number_is x.pid_max x.tree x.ids.items x.idents i s ∙ ap (number_in (way x.tree.nodes) s) is
+        ∙ ap (λ p. beside s (way x.tree.nodes p) u.numbers) at
+
+    -- its numbers from a namespace inwards
+    pub levels-of : levels_of b i s ≡ beside_from s (reverse (way x.tree.nodes own)) (reverse u.numbers)
+    levels-of =
+        ap (λ z. levels_of z i s) (sym view)
+        ∙ ap (λ o. option_map_or
+        (λ v. beside_from s (reverse (path_at (numbering_of x.pid_max x.tree x.ids.items x.idents) v.space)) (reverse v.numbers)) o [])
+        (name_is x.pid_max x.tree x.ids.items x.idents i ∙ is)
+        ∙ ap (λ p. beside_from s (reverse p) (reverse u.numbers)) (path_is x.pid_max x.tree x.ids.items x.idents u.space ∙ ap (way x.tree.nodes) at)
+
+  -- what is drawn along a path is a plan of it
+  pub plan-of : IsKept x.pid_max x.tree x.ids.items x.idents → (space : ℕ) (numbers : List ℕ) → find (λ s. is_none (draw_in b s)) (path_at b space) ≡ None
+      → numbers ≡ map (λ s. unwrap_or (draw_in b s) 0) (path_at b space) → IsPlan x.pid_max x.tree.nodes x.ids.items space numbers
+  plan-of k space numbers all is = record {
+    len = planned_len x.pid_max x.tree x.ids.items x.idents k.whole.numbering space numbers here;
+    drawn = drawn;
+    distinct = paths.distinct-path (way x.tree.nodes) (way x.tree.nodes space) (k.whole.numbering.tree.paths space);
+    free = λ j lt.
+        let s = get_or (way x.tree.nodes space) j 0 in
+        let range = plan_in_range x.pid_max x.ids.items s (get_or numbers j 0) (λ m e. k.whole.numbering.bounds s m e) (drawn j lt) in
+        (plan_free x.ids.items s (get_or numbers j 0) (drawn j lt), range.0, range.1);
+  }
+    where
+      here : numbers ≡ map (λ s. unwrap_or (draw_in (numbering_of x.pid_max x.tree x.ids.items x.idents) s) 0)
+          (path_at (numbering_of x.pid_max x.tree x.ids.items x.idents) space)
+      here = subst (λ b. numbers ≡ map (λ s. unwrap_or (draw_in b s) 0) (path_at b space)) (sym view) is
+
+      drawn : ArePlanned x.ids.items (way x.tree.nodes space) numbers
+      drawn = all_planned x.pid_max x.tree x.ids.items x.idents k.whole.numbering k.count space numbers
+          (subst (λ b. find (λ s. is_none (draw_in b s)) (path_at b space) ≡ None) (sym view) all) here

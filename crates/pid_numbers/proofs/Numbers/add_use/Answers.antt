@@ -1,9 +1,6 @@
 -- The marks along the path are those of the uses: they change with the first use of a kind alone
-use Rattle.std.proofs.Common.{◌≡◌, ◌∙◌, ◌+◌, sym, ap, subst, Some, true, IsSome}
-use Rattle.ns_tree.specs.Tree.{way}
+use Rattle.pid_numbers.proofs.Words.{◌≡◌, ◌∙◌, ◌+◌, sym, ap, subst, Some, true, IsSome, way, Identifier, uses, is_used_as, name_at}
 use Rattle.ns_tree.proofs.Paths as paths
-use Rattle.pid_numbers.specs.Numbering.{Identifier, uses, is_used_as}
-use Rattle.pid_numbers.specs.Table.{name_at}
 use Rattle.pid_numbers.proofs.Views as views
 use Rattle.pid_numbers.proofs.Uses.{IsRecounted}
 use Rattle.pid_numbers.proofs.Uses as uses
@@ -12,7 +9,7 @@ use Rattle.pid_numbers.proofs.Numbers.add_use.Goals.{After-more_use}
 
 -- one use more
 found : (c : After-more_use) → (v : Identifier) × (name_at c.self.inside.idents c.args.ident ≡ Some v)
-found c = views.held (name_at c.self.inside.idents c.args.ident) (subst IsSome (views.identifier_is c.self.inside.pid_max c.self.inside.tree c.self.inside.ids.items c.self.inside.idents c.args.self.now c.self.view_is c.args.ident) c.requires.there)
+found c = views.held (name_at c.self.inside.idents c.args.ident) (subst IsSome (views.identifier_is c.self.inside c.self.view_is c.args.ident) c.requires.there)
 
 recounted : (c : After-more_use) → IsRecounted c.self.inside.idents c.more_use.new.self c.args.ident c.args.kind
 recounted c = let v = found c in record { identifier = v.0; count = uses c.args.kind v.0 + 1; was = v.1; now = c.more_use.ensures.here v.0 v.1; others = c.more_use.ensures.others }
@@ -29,7 +26,7 @@ invariant_of-self c =
 pub returns-then-had-clause-others : goal.returns-then-had-clause-others
 returns-then-had-clause-others c j m =
     views.name_is c.self.inside.pid_max c.self.inside.tree c.self.inside.ids.items c.more_use.new.self j ∙ c.more_use.ensures.others j m
-    ∙ sym (views.identifier_is c.self.inside.pid_max c.self.inside.tree c.self.inside.ids.items c.self.inside.idents c.args.self.now c.self.view_is j)
+    ∙ sym (views.identifier_is c.self.inside c.self.view_is j)
 
 pub mark_numbers-requires : goal.mark_numbers-requires
 mark_numbers-requires c =
@@ -49,4 +46,4 @@ invariant_of-self-2 c =
 pub returns-clause-others : goal.returns-clause-others
 returns-clause-others c j m =
     views.name_is c.self.inside.pid_max c.self.inside.tree c.mark_numbers.new.ids.items c.more_use.new.self j ∙ c.more_use.ensures.others j m
-    ∙ sym (views.identifier_is c.self.inside.pid_max c.self.inside.tree c.self.inside.ids.items c.self.inside.idents c.args.self.now c.self.view_is j)
+    ∙ sym (views.identifier_is c.self.inside c.self.view_is j)

@@ -1,15 +1,11 @@
-use Rattle.std.proofs.Common.{◌≡◌, ◌∙◌, refl, sym, ap, length, Some, option_map}
-use Rattle.std.specs.Prelude.{slice_get}
-use Rattle.std.specs.Option.{option_map_or}
-use Rattle.std.proofs.lemmas.Option.{slice_get_read}
-use Rattle.ns_tree.specs.Tree.{node_in}
-use Rattle.pid_numbers.specs.Slabs.{cursor_on, namespace_of}
+use Rattle.pid_numbers.proofs.Words.{◌≡◌, ◌∙◌, refl, sym, ap, length, Some, option_map, slice_get, option_map_or, slice_get_read, node_in, cursor_on}
+use Rattle.pid_numbers.proofs.Words.{namespace_of}
 use Rattle.pid_numbers.proofs.Views as views
 use Rattle.pid_numbers.proofs.Numbers.cursor.Goals as goal
 
 pub returns-then-not-is_there : goal.returns-then-not-is_there
 returns-then-not-is_there c =
-    sym (ap (option_map (λ t. t.cursor)) (views.namespace_is c.self.inside.pid_max c.self.inside.tree c.self.inside.ids.items c.self.inside.idents c.args.self.now c.self.view_is c.args.space
+    sym (ap (option_map (λ t. t.cursor)) (views.namespace_is c.self.inside c.self.view_is c.args.space
     ∙ ap (option_map (namespace_of (cursor_on c.self.inside.ids.items c.args.space))) (views.absent (node_in c.self.inside.tree.nodes c.args.space) (sym c.is_there.ensures ∙ c.if-not-is_there.true))))
 
 pub returns : goal.returns
@@ -19,4 +15,5 @@ returns c =
     let lt = views.there_in c.self.inside.tree.nodes ids c.self.invariant.count c.args.space z.0 z.1 in
     let at : slice_get ids c.args.space ≡ Some c.index.result.now = slice_get_read ids (length ids) c.args.space c.index.result.now refl lt c.index.ensures in
     ap Some (c.cursor.ensures ∙ sym (ap (λ o. option_map_or (λ t. t.cursor) o 0) at))
-    ∙ sym (ap (option_map (λ t. t.cursor)) (views.namespace_is c.self.inside.pid_max c.self.inside.tree c.self.inside.ids.items c.self.inside.idents c.args.self.now c.self.view_is c.args.space ∙ ap (option_map (namespace_of (cursor_on ids c.args.space))) z.1))
+    ∙ sym (ap (option_map (λ t. t.cursor))
+    (views.namespace_is c.self.inside c.self.view_is c.args.space ∙ ap (option_map (namespace_of (cursor_on ids c.args.space))) z.1))

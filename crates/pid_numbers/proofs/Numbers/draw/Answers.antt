@@ -1,10 +1,6 @@
 -- All memory is taken first, and taking it moves no plan: so the numbers planned are free still when the path is written
-use Rattle.std.proofs.Common.{rules, ◌≡◌, ◌∙◌, sym, ap, subst, refl, arith, ℕ, ◌<◌, length, get_or, None, option_map}
-use Rattle.ns_tree.specs.Tree.{node_in, way}
-use Rattle.ns_tree.specs.Vacancy.{IsDistinct}
-use Rattle.pid_numbers.specs.Numbering.{path_at, moved, new_identifier}
-use Rattle.pid_numbers.specs.Slabs.{namespace_of, cursor_on, entry_on, bound_on, touched, stepped, given_to, ArePlanned}
-use Rattle.pid_numbers.specs.Table.{name_at}
+use Rattle.pid_numbers.proofs.Words.{rules, ◌≡◌, ◌∙◌, sym, ap, subst, refl, arith, ℕ, ◌<◌, length, get_or, None, option_map, node_in, way, IsDistinct, path_at}
+use Rattle.pid_numbers.proofs.Words.{moved, new_identifier, namespace_of, cursor_on, entry_on, bound_on, touched, stepped, given_to, ArePlanned, name_at}
 use Rattle.pid_numbers.proofs.Views.{IsPlan}
 use Rattle.pid_numbers.proofs.Views as views
 use Rattle.pid_numbers.proofs.Seats as seats
@@ -15,7 +11,7 @@ use Rattle.pid_numbers.proofs.Numbers.draw.Goals.{After-insert_reserved, After-s
 
 -- what the plan says
 plan : (c : After-self) → IsPlan c.self.inside.pid_max c.self.inside.tree.nodes c.self.inside.ids.items c.args.space c.args.numbers.now
-plan c = views.plan-of c.self.inside.pid_max c.self.inside.tree c.self.inside.ids.items c.self.inside.idents c.args.self.now c.self.view_is c.self.invariant c.args.space c.args.numbers.now c.requires.all c.requires.planned
+plan c = views.plan-of c.self.inside c.self.view_is c.self.invariant c.args.space c.args.numbers.now c.requires.all c.requires.planned
 
 -- and the identifier that is put
 put : (c : After-insert_reserved) → seats.IsPut c.self.inside.idents c.insert_reserved.new.self c.in_ok-key.key (new_identifier c.args.space c.args.numbers.now)
@@ -26,7 +22,7 @@ from-requires c = let few = c.self.invariant.whole.numbering.tree.few c.args.spa
 
 pub insert_reserved-requires-clause-some : goal.insert_reserved-requires-clause-some
 insert_reserved-requires-clause-some c =
-    let some = c.self.invariant.some c.args.space (views.there c.self.inside.pid_max c.self.inside.tree c.self.inside.ids.items c.self.inside.idents c.args.self.now c.self.view_is c.args.space c.requires.there) in
+    let some = c.self.invariant.some c.args.space (views.there c.self.inside c.self.view_is c.args.space c.requires.there) in
     let len = (plan (goal.at.insert_reserved-requires-clause-some c).After-self).len in
     let l = ap length c.in_ok-stored.ensures in
     omega (arith, some, len, l)
@@ -66,7 +62,7 @@ invariant_of-self-2 c =
     sweeps.kept-with c.self.inside.pid_max c.self.inside.tree ids new c.self.inside.idents c.insert_reserved.new.self c.self.invariant (c.give_path.ensures.count ∙ prep.count)
     (ties.numbering-given c.self.inside.pid_max (way c.self.inside.tree.nodes) (entry_on ids) (entry_on new) (bound_on ids) (bound_on new) (name_at c.self.inside.idents) (name_at c.insert_reserved.new.self) c.self.invariant.whole.numbering (λ s. c.give_path.ensures.bound s ∙ prep.bound s)
     key (new_identifier c.args.space numbers) x.others x.was x.now p.len
-    (omega (arith, p.len, c.self.invariant.some c.args.space (views.there c.self.inside.pid_max c.self.inside.tree c.self.inside.ids.items c.self.inside.idents c.args.self.now c.self.view_is c.args.space c.requires.there))) refl
+    (omega (arith, p.len, c.self.invariant.some c.args.space (views.there c.self.inside c.self.view_is c.args.space c.requires.there))) refl
     (λ s n hit.
     let r = ties.beside-some s n path numbers hit in
     subst (λ n. (entry_on ids s n ≡ None) × (0 < n) × (n < c.self.inside.pid_max)) r.3 (subst (λ s. (entry_on ids s (get_or numbers r.0 0) ≡ None) × (0 < get_or numbers r.0 0) × (get_or numbers r.0 0 < c.self.inside.pid_max)) r.2 (p.free r.0 r.1))) is)
@@ -75,14 +71,15 @@ invariant_of-self-2 c =
 pub returns-clause-others : goal.returns-clause-others
 returns-clause-others c j m =
     views.name_is c.self.inside.pid_max c.self.inside.tree c.give_path.new.ids.items c.insert_reserved.new.self j ∙ (put (goal.at.returns-clause-others c).After-insert_reserved).others j m
-    ∙ sym (views.identifier_is c.self.inside.pid_max c.self.inside.tree c.self.inside.ids.items c.self.inside.idents c.args.self.now c.self.view_is j)
+    ∙ sym (views.identifier_is c.self.inside c.self.view_is j)
 
 pub returns-clause-namespaces : goal.returns-clause-namespaces
 returns-clause-namespaces c s =
     let o = node_in c.self.inside.tree.nodes s in
     let numbers = c.args.numbers.now in
-    let path : c.path_up-path.result.now ≡ path_at c.args.self.now c.args.space = c.path_up-path.ensures ∙ sym (views.path-of c.self.inside.pid_max c.self.inside.tree c.self.inside.ids.items c.self.inside.idents c.args.self.now c.self.view_is c.args.space) in
+    let path : c.path_up-path.result.now ≡ path_at c.args.self.now c.args.space =
+    c.path_up-path.ensures ∙ sym (views.path-of c.self.inside c.self.view_is c.args.space) in
     views.namespace-at (cursor_on c.give_path.new.ids.items) c.self.inside.tree.nodes s
     ∙ ap (λ k. option_map (namespace_of k) o) (c.give_path.ensures.cursors s ∙ ap (stepped c.path_up-path.result.now numbers s) (c.in_ok-prepare_path.ensures.cursors s) ∙ ap (λ p. stepped p numbers s (cursor_on c.self.inside.ids.items s)) path)
     ∙ views.seen-moved (path_at c.args.self.now c.args.space) numbers s (cursor_on c.self.inside.ids.items s) o
-    ∙ ap (option_map (moved (path_at c.args.self.now c.args.space) numbers s)) (sym (views.namespace_is c.self.inside.pid_max c.self.inside.tree c.self.inside.ids.items c.self.inside.idents c.args.self.now c.self.view_is s))
+    ∙ ap (option_map (moved (path_at c.args.self.now c.args.space) numbers s)) (sym (views.namespace_is c.self.inside c.self.view_is s))

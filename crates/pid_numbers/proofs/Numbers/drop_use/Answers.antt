@@ -1,15 +1,10 @@
 -- Only the last use of all frees numbers; a namespace loses its last one then, if at all, and so only those on the path can be dropped
-use Rattle.std.proofs.Common.{◌≡◌, ◌∙◌, sym, ap, refl, subst, List, Bool, ℕ, ◌-◌, length, Some, None, true, false, IsSome, map, option_map, if◌then◌else◌}
-use Rattle.std.specs.List.{filter}
-use Rattle.ns_tree.specs.Tree.{AreListed, id_in, node_in, way}
-use Rattle.ns_tree.specs.Vacancy.{IsDistinct}
+use Rattle.pid_numbers.proofs.Words.{Bool, IsSome, List, None, Option, Some, ap, arith, false, if◌then◌else◌, length, map, option_map, refl, rules, subst, sym}
+use Rattle.pid_numbers.proofs.Words.{true, ℕ, ◌-◌, ◌∙◌, ◌≡◌, filter, Ids, distinct-path, AreListed, Tree, id_in, node_in, way, IsDistinct, Identifier}
+use Rattle.pid_numbers.proofs.Words.{Numbering, is_there, is_used, is_used_as, less, left_of, swept_at, uses, AreIn, cursor_on, entry_on, numbering_of, touched}
+use Rattle.pid_numbers.proofs.Words.{with_cursors, Table, identifier_of, name_at}
 use Rattle.ns_tree.proofs.Orders as orders
 use Rattle.ns_tree.proofs.Paths as paths
-use Rattle.cyclic_ids.specs.Ids.{Ids}
-use Rattle.ns_tree.specs.Tree.{Tree}
-use Rattle.pid_numbers.specs.Numbering.{Numbering, is_there, less, uses, is_used, is_used_as, swept_at}
-use Rattle.pid_numbers.specs.Slabs.{numbering_of, with_cursors, cursor_on, entry_on, touched, AreIn}
-use Rattle.pid_numbers.specs.Table.{Table, identifier_of, name_at}
 use Rattle.pid_numbers.proofs.Views as views
 use Rattle.pid_numbers.proofs.Uses.{IsRecounted}
 use Rattle.pid_numbers.proofs.Uses as uses
@@ -20,26 +15,18 @@ use Rattle.pid_numbers.proofs.Numbers.drop_use.Goals.{After-less_use, After-rele
 -- one use less
 recounted : (c : After-less_use) → IsRecounted c.self.inside.idents c.less_use.new.self c.args.ident c.args.kind
 recounted c =
-    let v = views.used c.args.kind (name_at c.self.inside.idents c.args.ident) (ap (is_used_as c.args.kind) (sym (views.identifier_is c.self.inside.pid_max c.self.inside.tree c.self.inside.ids.items c.self.inside.idents c.args.self.now c.self.view_is c.args.ident)) ∙ c.requires) in
+    let v = views.used c.args.kind (name_at c.self.inside.idents c.args.ident)
+    (ap (is_used_as c.args.kind) (sym (views.identifier_is c.self.inside c.self.view_is c.args.ident)) ∙ c.requires) in
     record { identifier = v.0; count = uses c.args.kind v.0 - 1; was = v.1; now = c.less_use.ensures.here v.0 v.1; others = c.less_use.ensures.others }
 
 pub less_use-requires : goal.less_use-requires
-less_use-requires c = ap (is_used_as c.args.kind) (sym (views.identifier_is c.self.inside.pid_max c.self.inside.tree c.self.inside.ids.items c.self.inside.idents c.args.self.now c.self.view_is c.args.ident)) ∙ c.requires
+less_use-requires c = ap (is_used_as c.args.kind) (sym (views.identifier_is c.self.inside c.self.view_is c.args.ident)) ∙ c.requires
 
 pub invariant_of-self : goal.invariant_of-self
 invariant_of-self c =
-    uses.counted c.self.invariant (recounted (goal.at.invariant_of-self c).After-less_use) (sym c.has_use.ensures ∙ c.if-has_use.true ∙ sym (ap (is_used_as c.args.kind) (sym (views.identifier_is c.self.inside.pid_max c.self.inside.tree c.self.inside.ids.items c.self.inside.idents c.args.self.now c.self.view_is c.args.ident)) ∙ c.requires))
-
-pub returns-then-has_use-clause-here : goal.returns-then-has_use-clause-here
-returns-then-has_use-clause-here c u is =
-    let now = c.less_use.ensures.here u (sym (views.identifier_is c.self.inside.pid_max c.self.inside.tree c.self.inside.ids.items c.self.inside.idents c.args.self.now c.self.view_is c.args.ident) ∙ is) in
-    let still = views.used_some c.args.kind (less c.args.kind u) (ap (is_used_as c.args.kind) (sym now) ∙ sym c.has_use.ensures ∙ c.if-has_use.true) in
-    views.name_is c.self.inside.pid_max c.self.inside.tree c.self.inside.ids.items c.less_use.new.self c.args.ident ∙ now ∙ sym (ap (λ b. if b then Some (less c.args.kind u) else None) still)
-
-pub returns-then-has_use-clause-others : goal.returns-then-has_use-clause-others
-returns-then-has_use-clause-others c j m =
-    views.name_is c.self.inside.pid_max c.self.inside.tree c.self.inside.ids.items c.less_use.new.self j ∙ c.less_use.ensures.others j m
-    ∙ sym (views.identifier_is c.self.inside.pid_max c.self.inside.tree c.self.inside.ids.items c.self.inside.idents c.args.self.now c.self.view_is j)
+    uses.counted c.self.invariant (recounted (goal.at.invariant_of-self c).After-less_use)
+    (sym c.has_use.ensures ∙ c.if-has_use.true
+    ∙ sym (ap (is_used_as c.args.kind) (sym (views.identifier_is c.self.inside c.self.view_is c.args.ident)) ∙ c.requires))
 
 pub mark_numbers-requires : goal.mark_numbers-requires
 mark_numbers-requires c =
@@ -54,17 +41,6 @@ pub invariant_of-self-then-in_use : goal.invariant_of-self-then-in_use
 invariant_of-self-then-in_use c =
     uses.marked c.self.invariant (recounted (goal.at.invariant_of-self-then-in_use c).After-less_use) false c.mark_numbers.new.ids.items (sym c.has_use.ensures ∙ c.if-has_use.false) (λ u is. sym (c.in_use.ensures u is) ∙ c.if-in_use.true)
     c.mark_numbers.ensures.count c.mark_numbers.ensures.bound c.mark_numbers.ensures.entries
-
-pub returns-then-in_use-clause-here : goal.returns-then-in_use-clause-here
-returns-then-in_use-clause-here c u is =
-    let now = c.less_use.ensures.here u (sym (views.identifier_is c.self.inside.pid_max c.self.inside.tree c.self.inside.ids.items c.self.inside.idents c.args.self.now c.self.view_is c.args.ident) ∙ is) in
-    let still : is_used (less c.args.kind u) ≡ true = sym (c.in_use.ensures (less c.args.kind u) now) ∙ c.if-in_use.true in
-    views.name_is c.self.inside.pid_max c.self.inside.tree c.mark_numbers.new.ids.items c.less_use.new.self c.args.ident ∙ now ∙ sym (ap (λ b. if b then Some (less c.args.kind u) else None) still)
-
-pub returns-then-in_use-clause-others : goal.returns-then-in_use-clause-others
-returns-then-in_use-clause-others c j m =
-    views.name_is c.self.inside.pid_max c.self.inside.tree c.mark_numbers.new.ids.items c.less_use.new.self j ∙ c.less_use.ensures.others j m
-    ∙ sym (views.identifier_is c.self.inside.pid_max c.self.inside.tree c.self.inside.ids.items c.self.inside.idents c.args.self.now c.self.view_is j)
 
 pub remove-gone-requires : goal.remove-gone-requires
 remove-gone-requires c = let r = recounted (goal.at.remove-gone-requires c).After-less_use in subst IsSome (sym r.now) refl
@@ -109,51 +85,78 @@ swept_from pid_max tree ids ids1 idents idents1 b view cursors s =
     ∙ ap (λ k. swept_at (record { pid_max = pid_max; next = idents.vacant_key; namespaces = with_cursors k tree.nodes; names = map (option_map identifier_of) idents1.slots; order = tree.order }) s) (λ i s. cursors s i)
     ∙ ap (λ b. swept_at (record b { names = map (option_map identifier_of) idents1.slots }) s) view
 
-pub returns-clause-namespaces : goal.returns-clause-namespaces
-returns-clause-namespaces c s =
-    views.namespace-at (cursor_on c.release_path.new.ids.items) c.sweep.new.tree.nodes s
-    ∙ drops.swept-same c.self.inside.pid_max c.self.inside.tree c.release_path.new.ids.items c.remove-gone.new.self (released (goal.at.returns-clause-namespaces c).After-release_path (recounted (goal.at.returns-clause-namespaces c).After-less_use)).after c.sweep.new.tree.nodes c.sweep.ensures.nodes s
-    ∙ swept_from c.self.inside.pid_max c.self.inside.tree c.self.inside.ids.items c.release_path.new.ids.items c.self.inside.idents c.remove-gone.new.self c.args.self.now c.self.view_is c.release_path.ensures.cursors s
-
-pub returns-then-has_use-clause-namespaces : goal.returns-then-has_use-clause-namespaces
-returns-then-has_use-clause-namespaces c s =
-    let whole = (invariant_of-self c).whole in
-    drops.nothing-dead c.self.inside.pid_max c.self.inside.tree c.self.inside.ids.items c.less_use.new.self whole.numbering whole.fallen s
-    ∙ swept_from c.self.inside.pid_max c.self.inside.tree c.self.inside.ids.items c.self.inside.ids.items c.self.inside.idents c.less_use.new.self c.args.self.now c.self.view_is (λ s. refl) s
-
-pub returns-then-in_use-clause-namespaces : goal.returns-then-in_use-clause-namespaces
-returns-then-in_use-clause-namespaces c s =
-    let whole = (invariant_of-self-then-in_use c).whole in
-    drops.nothing-dead c.self.inside.pid_max c.self.inside.tree c.mark_numbers.new.ids.items c.less_use.new.self whole.numbering whole.fallen s
-    ∙ swept_from c.self.inside.pid_max c.self.inside.tree c.self.inside.ids.items c.mark_numbers.new.ids.items c.self.inside.idents c.less_use.new.self c.args.self.now c.self.view_is c.mark_numbers.ensures.cursors s
-
-pub returns-clause-here : goal.returns-clause-here
-returns-clause-here c u is =
-    let now = c.less_use.ensures.here u (sym (views.identifier_is c.self.inside.pid_max c.self.inside.tree c.self.inside.ids.items c.self.inside.idents c.args.self.now c.self.view_is c.args.ident) ∙ is) in
-    let none : is_used (less c.args.kind u) ≡ false = sym (c.in_use.ensures (less c.args.kind u) now) ∙ c.if-in_use.false in
-    views.name_is c.self.inside.pid_max c.sweep.new.tree c.release_path.new.ids.items c.remove-gone.new.self c.args.ident ∙ ap (option_map identifier_of) c.remove-gone.ensures.updates.changed
-    ∙ sym (ap (λ b. if b then Some (less c.args.kind u) else None) none)
-
-pub returns-clause-others : goal.returns-clause-others
-returns-clause-others c j m =
-    views.name_is c.self.inside.pid_max c.sweep.new.tree c.release_path.new.ids.items c.remove-gone.new.self j ∙ ap (option_map identifier_of) (c.remove-gone.ensures.updates.others j m) ∙ c.less_use.ensures.others j m
-    ∙ sym (views.identifier_is c.self.inside.pid_max c.self.inside.tree c.self.inside.ids.items c.self.inside.idents c.args.self.now c.self.view_is j)
-
 -- the order where no namespace goes
-same_order : (pid_max : ℕ) (tree : Tree) (ids : List (Ids ℕ)) (idents : Table) → AreListed (id_in tree.nodes) tree.order → (b : Numbering) → tree.order ≡ b.order → tree.order ≡ filter (λ p. is_there (numbering_of pid_max tree ids idents) p.1) b.order
+same_order : (pid_max : ℕ) (tree : Tree) (ids : List (Ids ℕ)) (idents : Table) → AreListed (id_in tree.nodes) tree.order → (b : Numbering)
+    → tree.order ≡ b.order → tree.order ≡ filter (λ p. is_there (numbering_of pid_max tree ids idents) p.1) b.order
 same_order pid_max tree ids idents l b is =
-    sym (orders.all-there (id_in tree.nodes) (id_in tree.nodes) tree.order l (λ s. is_there (numbering_of pid_max tree ids idents) s) (λ s i e. views.there_is pid_max tree ids idents s ∙ orders.id-there (node_in tree.nodes s) i e))
+    sym (orders.all-there (id_in tree.nodes) (id_in tree.nodes) tree.order l (λ s. is_there (numbering_of pid_max tree ids idents) s)
+    (λ s i e. views.there_is pid_max tree ids idents s ∙ orders.id-there (node_in tree.nodes s) i e))
     ∙ ap (filter (λ p. is_there (numbering_of pid_max tree ids idents) p.1)) is
 
-pub returns-then-has_use-clause-order : goal.returns-then-has_use-clause-order
-returns-then-has_use-clause-order c = same_order c.self.inside.pid_max c.self.inside.tree c.self.inside.ids.items c.less_use.new.self c.self.invariant.listed c.args.self.now (ap (λ b. b.order) c.self.view_is)
+-- what is left of it
+left_as : (o : Option Identifier) (u : Identifier) (on : Bool) → o ≡ Some u → is_used u ≡ on → (if on then o else None) ≡ left_of u
+left_as o u on now used = grind arith
 
-pub returns-then-in_use-clause-order : goal.returns-then-in_use-clause-order
-returns-then-in_use-clause-order c = same_order c.self.inside.pid_max c.self.inside.tree c.mark_numbers.new.ids.items c.less_use.new.self c.self.invariant.listed c.args.self.now (ap (λ b. b.order) c.self.view_is)
+pub returns-then-has_use : goal.returns-then-has_use
+returns-then-has_use c =
+    let whole = (invariant_of-self c).whole in
+    let max = c.self.inside.pid_max in
+    let tree = c.self.inside.tree in
+    let ids = c.self.inside.ids.items in
+    record {
+      here = λ u is.
+          let now = c.less_use.ensures.here u (sym (views.identifier_is c.self.inside c.self.view_is c.args.ident) ∙ is) in
+          let still = views.used_some c.args.kind (less c.args.kind u) (ap (is_used_as c.args.kind) (sym now) ∙ sym c.has_use.ensures ∙ c.if-has_use.true) in
+          views.name_is max tree ids c.less_use.new.self c.args.ident ∙ left_as _ (less c.args.kind u) true now still;
+      others = λ j m. views.name_is max tree ids c.less_use.new.self j ∙ c.less_use.ensures.others j m
+          ∙ sym (views.identifier_is c.self.inside c.self.view_is j);
+      namespaces = λ s.
+          drops.nothing-dead max tree ids c.less_use.new.self whole.numbering whole.fallen s
+          ∙ swept_from max tree ids ids c.self.inside.idents c.less_use.new.self _ c.self.view_is (λ s. refl) s;
+      order = same_order max tree ids c.less_use.new.self c.self.invariant.listed c.args.self.now (ap (λ b. b.order) c.self.view_is);
+      pid_max = search rules;
+    }
 
-pub returns-clause-order : goal.returns-clause-order
-returns-clause-order c =
-    let now = numbering_of c.self.inside.pid_max c.sweep.new.tree c.release_path.new.ids.items c.remove-gone.new.self in
-    c.sweep.ensures.order
-    ∙ ap (λ (f : ℕ → Bool). filter (λ p. f p.1) c.self.inside.tree.order) (λ i s. sym (views.there_is c.self.inside.pid_max c.sweep.new.tree c.release_path.new.ids.items c.remove-gone.new.self s) i)
-    ∙ ap (λ b. filter (λ p. is_there now p.1) b.order) c.self.view_is
+pub returns-then-in_use : goal.returns-then-in_use
+returns-then-in_use c =
+    let whole = (invariant_of-self-then-in_use c).whole in
+    let max = c.self.inside.pid_max in
+    let tree = c.self.inside.tree in
+    let ids = c.mark_numbers.new.ids.items in
+    record {
+      here = λ u is.
+          let now = c.less_use.ensures.here u (sym (views.identifier_is c.self.inside c.self.view_is c.args.ident) ∙ is) in
+          views.name_is max tree ids c.less_use.new.self c.args.ident
+          ∙ left_as _ (less c.args.kind u) true now (sym (c.in_use.ensures (less c.args.kind u) now) ∙ c.if-in_use.true);
+      others = λ j m. views.name_is max tree ids c.less_use.new.self j ∙ c.less_use.ensures.others j m
+          ∙ sym (views.identifier_is c.self.inside c.self.view_is j);
+      namespaces = λ s.
+          drops.nothing-dead max tree ids c.less_use.new.self whole.numbering whole.fallen s
+          ∙ swept_from max tree c.self.inside.ids.items ids c.self.inside.idents c.less_use.new.self _ c.self.view_is c.mark_numbers.ensures.cursors s;
+      order = same_order max tree ids c.less_use.new.self c.self.invariant.listed c.args.self.now (ap (λ b. b.order) c.self.view_is);
+      pid_max = search rules;
+    }
+
+pub returns : goal.returns
+returns c =
+    let max = c.self.inside.pid_max in
+    let tree = c.sweep.new.tree in
+    let ids = c.release_path.new.ids.items in
+    let idents = c.remove-gone.new.self in
+    let gone = released (goal.at.returns c).After-release_path (recounted (goal.at.returns c).After-less_use) in
+    record {
+      here = λ u is.
+          let now = c.less_use.ensures.here u (sym (views.identifier_is c.self.inside c.self.view_is c.args.ident) ∙ is) in
+          views.name_is max tree ids idents c.args.ident ∙ ap (option_map identifier_of) c.remove-gone.ensures.updates.changed
+          ∙ left_as _ (less c.args.kind u) false now (sym (c.in_use.ensures (less c.args.kind u) now) ∙ c.if-in_use.false);
+      others = λ j m.
+          views.name_is max tree ids idents j ∙ ap (option_map identifier_of) (c.remove-gone.ensures.updates.others j m) ∙ c.less_use.ensures.others j m
+          ∙ sym (views.identifier_is c.self.inside c.self.view_is j);
+      namespaces = λ s.
+          views.namespace-at (cursor_on ids) tree.nodes s ∙ drops.swept-same max c.self.inside.tree ids idents gone.after tree.nodes c.sweep.ensures.nodes s
+          ∙ swept_from max c.self.inside.tree c.self.inside.ids.items ids c.self.inside.idents idents _ c.self.view_is c.release_path.ensures.cursors s;
+      order =
+          c.sweep.ensures.order ∙ ap (λ (f : ℕ → Bool). filter (λ p. f p.1) c.self.inside.tree.order) (λ i s. sym (views.there_is max tree ids idents s) i)
+          ∙ ap (λ b. filter (λ p. is_there (numbering_of max tree ids idents) p.1) b.order) c.self.view_is;
+      pid_max = search rules;
+    }

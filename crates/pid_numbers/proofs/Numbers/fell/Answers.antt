@@ -1,14 +1,10 @@
 -- What falls has a number in use: that of the task whose own namespace it is, or that by which it had fallen before
-use Rattle.std.proofs.Common.{◌≡◌, ◌∙◌, ◌||◌, refl, sym, ap, subst, arith, ℕ, List, [], Bool, true, false, Option, Some, None, option_map}
-use Rattle.std.specs.Option.{option_map_or}
-use Rattle.index_array.specs.Place.{Entry}
-use Rattle.ns_tree.specs.Tree.{Node, Tree, IsTree, node_in, way, fell, felled_within}
+use Rattle.pid_numbers.proofs.Words.{Bool, List, Option, Some, [], ap, arith, false, option_map, refl, subst, sym, true, ℕ, ◌||◌, ◌∙◌, ◌≡◌, option_map_or}
+use Rattle.pid_numbers.proofs.Words.{Entry, IsTree, Node, fell, felled_within, node_in, way, contains, HasOwnTask, Identifier, Numbering, fallen_within}
+use Rattle.pid_numbers.proofs.Words.{has_fallen_at, identifier_at, path_at, AreFallen, IsTied, bound_on, cursor_on, entry_on, leads, namespace_of, numbering_of}
+use Rattle.pid_numbers.proofs.Words.{name_at}
+use Rattle.pid_numbers.specs.declared.Numbers.TheInside.{Inside}
 use Rattle.ns_tree.proofs.Paths as paths
-use Rattle.pid_types.specs.Chains.{contains}
-use Rattle.cyclic_ids.specs.Ids.{Ids}
-use Rattle.pid_numbers.specs.Numbering.{Numbering, Identifier, identifier_at, path_at, has_fallen_at, fallen_within, HasOwnTask}
-use Rattle.pid_numbers.specs.Slabs.{numbering_of, namespace_of, cursor_on, entry_on, bound_on, leads, IsTied, AreFallen}
-use Rattle.pid_numbers.specs.Table.{Table, name_at}
 use Rattle.pid_numbers.proofs.Views as views
 use Rattle.pid_numbers.proofs.Ties as ties
 use Rattle.pid_numbers.proofs.Sweeps as sweeps
@@ -16,20 +12,19 @@ use Rattle.pid_numbers.proofs.Falling as falling
 use Rattle.pid_numbers.proofs.Numbers.fell.Goals as goal
 
 falls : (outer : ℕ) (o : Option Node) → option_map_or (λ t. t.fallen) (option_map (felled_within outer) o) false ≡ (option_map_or (λ t. t.fallen) o false || contains (option_map_or (λ t. t.path) o []) outer)
-falls outer None = refl
-falls outer (Some z) = refl
+falls outer o = grind arith
 
 -- it keeps its cursor
 seen : (outer cursor : ℕ) (o : Option Node) → option_map (namespace_of cursor) (option_map (felled_within outer) o) ≡ option_map (fallen_within outer) (option_map (namespace_of cursor) o)
-seen outer cursor None = refl
-seen outer cursor (Some z) = refl
+seen outer cursor o = grind arith
 
 -- some task's own namespace is seen as such in the numbering
-homes : (pid_max : ℕ) (tree : Tree) (ids : List (Ids ℕ)) (idents : Table) (b : Numbering) → numbering_of pid_max tree ids idents ≡ b → (space : ℕ) → ((s : ℕ) → contains (path_at b s) space ≡ true → has_fallen_at b s ≡ false → HasOwnTask (identifier_at b) s)
-    → (s : ℕ) → contains (way tree.nodes s) space ≡ true → fell tree.nodes s ≡ false → HasOwnTask (name_at idents) s
-homes pid_max tree ids idents b view space all s inside stands =
-    let t = all s (ap (λ p. contains p space) (views.path-of pid_max tree ids idents b view s) ∙ inside) (views.fell_is pid_max tree ids idents b view s ∙ stands) in
-    record { key = t.key; identifier = t.identifier; named = sym (views.identifier_is pid_max tree ids idents b view t.key) ∙ t.named; own = t.own; used = t.used }
+homes : (x : Inside) {b : Numbering} → numbering_of x.pid_max x.tree x.ids.items x.idents ≡ b → (space : ℕ)
+    → ((s : ℕ) → contains (path_at b s) space ≡ true → has_fallen_at b s ≡ false → HasOwnTask (identifier_at b) s)
+    → (s : ℕ) → contains (way x.tree.nodes s) space ≡ true → fell x.tree.nodes s ≡ false → HasOwnTask (name_at x.idents) s
+homes x view space all s inside stands =
+    let t = all s (ap (λ p. contains p space) (views.path-of x view s) ∙ inside) (views.fell_is x view s ∙ stands) in
+    record { key = t.key; identifier = t.identifier; named = sym (views.identifier_is x view t.key) ∙ t.named; own = t.own; used = t.used }
 
 -- each namespace inside has a number in use
 still-used : (ways : ℕ → List ℕ) (names : ℕ → Option Identifier) (at : ℕ → ℕ → Option (Entry ℕ)) → IsTree ways → IsTied ways names (leads at) → (fell : ℕ → Bool) → AreFallen ways at fell → (space : ℕ)
@@ -45,7 +40,7 @@ fall_all-requires c =
       tied = b.tied;
       marks = b.marks;
       range = λ n i led. (let below = (b.range c.args.space n i led).1 in let most = b.good.1 in omega (arith, below, most));
-      homes = homes c.self.inside.pid_max c.self.inside.tree c.self.inside.ids.items c.self.inside.idents c.args.self.now c.self.view_is c.args.space c.requires.homes;
+      homes = homes c.self.inside c.self.view_is c.args.space c.requires.homes;
     }
 
 pub invariant_of-self : goal.invariant_of-self
@@ -58,7 +53,7 @@ invariant_of-self c =
     let b = c.self.invariant.whole.numbering in
     let f = c.self.invariant.whole.fallen in
     let ways : (s : ℕ) → way new s ≡ way old s = λ s. ap (λ o. option_map_or (λ t. t.path) o []) (c.fall_all.ensures.nodes s) ∙ views.map_or-map (λ t. t.path) (felled_within c.args.space) (node_in old s) [] in
-    let used = still-used (way old) names at b.tree b.tied (fell old) f c.args.space (homes c.self.inside.pid_max c.self.inside.tree c.self.inside.ids.items c.self.inside.idents c.args.self.now c.self.view_is c.args.space c.requires.homes) in
+    let used = still-used (way old) names at b.tree b.tied (fell old) f c.args.space (homes c.self.inside c.self.view_is c.args.space c.requires.homes) in
     let fallen = sweeps.fallen-fell c.self.inside.pid_max (way old) at bound names b (fell old) (fell new) f c.args.space c.requires.inner
     (λ s. ap (λ o. option_map_or (λ t. t.fallen) o false) (c.fall_all.ensures.nodes s) ∙ falls c.args.space (node_in old s))
     (λ s within. used s within (fell old s) refl) in
@@ -76,4 +71,4 @@ pub returns-clause-namespaces : goal.returns-clause-namespaces
 returns-clause-namespaces c s =
     let cursor = cursor_on c.self.inside.ids.items s in
     views.namespace-at (cursor_on c.self.inside.ids.items) c.fall_all.new.tree.nodes s ∙ ap (option_map (namespace_of cursor)) (c.fall_all.ensures.nodes s) ∙ seen c.args.space cursor (node_in c.self.inside.tree.nodes s)
-    ∙ ap (option_map (fallen_within c.args.space)) (sym (views.namespace_is c.self.inside.pid_max c.self.inside.tree c.self.inside.ids.items c.self.inside.idents c.args.self.now c.self.view_is s))
+    ∙ ap (option_map (fallen_within c.args.space)) (sym (views.namespace_is c.self.inside c.self.view_is s))

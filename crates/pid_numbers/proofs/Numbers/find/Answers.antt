@@ -1,6 +1,4 @@
-use Rattle.std.proofs.Common.{◌≡◌, sym, ℕ, Option, Some, None, MatchOption, ◌≢◌}
-use Rattle.pid_numbers.specs.Numbering.{number_of}
-use Rattle.pid_numbers.specs.Slabs.{numbering_of, entry_on, leads}
+use Rattle.pid_numbers.proofs.Words.{◌≡◌, sym, ℕ, Option, Some, None, MatchOption, ◌≢◌, number_of, numbering_of, entry_on, leads}
 use Rattle.pid_numbers.proofs.Views as views
 use Rattle.pid_numbers.proofs.Numbers.find.Goals as goal
 

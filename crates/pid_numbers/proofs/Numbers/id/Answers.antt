@@ -3,4 +3,4 @@ use Rattle.pid_numbers.proofs.Views as views
 use Rattle.pid_numbers.proofs.Numbers.id.Goals as goal
 
 pub returns : goal.returns
-returns c = c.id.ensures ∙ sym (views.id_is c.self.inside.pid_max c.self.inside.tree c.self.inside.ids.items c.self.inside.idents c.args.self.now c.self.view_is c.args.space)
+returns c = c.id.ensures ∙ sym (views.id_is c.self.inside c.self.view_is c.args.space)

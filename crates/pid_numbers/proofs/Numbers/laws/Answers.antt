@@ -1,14 +1,10 @@
 -- The invariant speaks of the tree and of numbers by key, the contract of namespaces as they are seen: each law is read through the view
-use Rattle.std.proofs.Common.{◌≡◌, ◌∙◌, sym, ap, subst, ℕ, ◌<◌, ◌≤◌, List, length, get_or, drop, Some, unwrap_or}
-use Rattle.std.specs.List.{AllByRecursion}
+use Rattle.pid_numbers.proofs.Words.{◌≡◌, ◌∙◌, sym, ap, subst, ℕ, ◌<◌, ◌≤◌, List, length, get_or, drop, Some, unwrap_or, AllByRecursion, id_in, node_in, way}
+use Rattle.pid_numbers.proofs.Words.{fell, contains, Numbering, id_at, number_of, path_at, has_fallen_at, entry_on, leads}
 use Rattle.id_slab.specs.Ids.{key_of, AreRising}
-use Rattle.ns_tree.specs.Tree.{id_in, node_in, way, fell}
 use Rattle.ns_tree.proofs.Orders as orders
 use Rattle.ns_tree.proofs.Paths as paths
-use Rattle.pid_types.specs.Chains.{contains}
 use Rattle.pid_types.specs.Settings.{HasGoodPidMax}
-use Rattle.pid_numbers.specs.Numbering.{Numbering, id_at, number_of, path_at, has_fallen_at}
-use Rattle.pid_numbers.specs.Slabs.{entry_on, leads}
 use Rattle.pid_numbers.proofs.Views as views
 use Rattle.pid_numbers.proofs.Drops as drops
 use Rattle.pid_numbers.proofs.Numbers.laws.Goals as goal
@@ -22,18 +18,19 @@ returns c =
     let idents = c.self.inside.idents in
     let b = c.self.invariant.whole.numbering in
     let value = c.args.self.now in
-    let path = views.path-of max tree ids idents value c.self.view_is in
+    let path = views.path-of c.self.inside c.self.view_is in
     let led : (i s n : ℕ) → number_of value i s ≡ Some n → leads (entry_on ids) s n ≡ Some i = λ i s n h.
     b.tied.kept s n i (sym (views.number_is max tree ids idents i s) ∙ ap (λ z. number_of z i s) c.self.view_is ∙ h) in
-    let fallen : (s : ℕ) → has_fallen_at value s ≡ fell tree.nodes s = views.fell_is max tree ids idents value c.self.view_is in
-    let id : (s : ℕ) → id_at value s ≡ id_in tree.nodes s = views.id_is max tree ids idents value c.self.view_is in
+    let fallen : (s : ℕ) → has_fallen_at value s ≡ fell tree.nodes s = views.fell_is c.self.inside c.self.view_is in
+    let id : (s : ℕ) → id_at value s ≡ id_in tree.nodes s = views.id_is c.self.inside c.self.view_is in
     let led_to : (s i : ℕ) → id_at value s ≡ Some i → key_of tree.order i ≡ Some s = λ s i e. c.self.invariant.listed.listed s i (sym (id s) ∙ e) in
     record {
       distinct = λ i j s n x y. ap (λ o. unwrap_or o 0) (sym (led i s n x) ∙ led j s n y);
       range = λ i s n h. (let r = b.range s n i (led i s n h) in (r.0, subst (λ m. n < m) (ap (λ z. z.pid_max) c.self.view_is) r.1));
-      full = λ i u h. (let e = sym (views.identifier_is max tree ids idents value c.self.view_is i) ∙ h in (b.tied.some i u e, b.tied.full i u e ∙ ap length (sym (path u.space))));
+      full = λ i u h.
+          (let e = sym (views.identifier_is c.self.inside c.self.view_is i) ∙ h in (b.tied.some i u e, b.tied.full i u e ∙ ap length (sym (path u.space))));
       good = subst HasGoodPidMax (ap (λ z. z.pid_max) c.self.view_is) b.good;
-      used = λ i u h. b.tied.live i u (sym (views.identifier_is max tree ids idents value c.self.view_is i) ∙ h);
+      used = λ i u h. b.tied.live i u (sym (views.identifier_is c.self.inside c.self.view_is i) ∙ h);
       root = path 0 ∙ b.tree.root;
       own = λ s some. ap (λ l. get_or l 0 0) (path s) ∙ paths.own-first ways b.tree s (subst (λ (l : List ℕ). 0 < length l) (path s) some);
       around = subst (λ (p : ℕ → List ℕ). (s j : ℕ) → j < length (p s) → p (get_or (p s) j 0) ≡ drop j (p s)) (λ i s. sym (path s) i) (λ s j lt. paths.at-path ways (ways s) (b.tree.paths s) j lt);

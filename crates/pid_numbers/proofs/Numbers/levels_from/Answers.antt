@@ -1,10 +1,7 @@
 -- An identifier has one number for each namespace of its path: so the levels to leave out are a difference of two paths' lengths
-use Rattle.std.proofs.Common.{◌<◌, ◌≡◌, ◌∙◌, sym, ap, subst, arith, ◌+◌, ◌≤◌, ◌-◌, suc, length, get_or, take, [], IfSome}
-use Rattle.std.specs.Prelude.{reverse}
-use Rattle.std.specs.Option.{option_map_or}
-use Rattle.ns_tree.specs.Tree.{way}
+use Rattle.pid_numbers.proofs.Words.{◌<◌, ◌≡◌, ◌∙◌, sym, ap, subst, arith, ◌+◌, ◌≤◌, ◌-◌, suc, length, get_or, take, [], IfSome, reverse, option_map_or, way}
+use Rattle.pid_numbers.proofs.Words.{name_at}
 use Rattle.ns_tree.proofs.Paths as paths
-use Rattle.pid_numbers.specs.Table.{name_at}
 use Rattle.pid_numbers.proofs.Views as views
 use Rattle.pid_numbers.proofs.Inwards as inwards
 use Rattle.pid_numbers.proofs.Numbers.levels_from.Goals as goal
@@ -14,7 +11,7 @@ pub returns-then-not-is_within : goal.returns-then-not-is_within
 returns-then-not-is_within c =
     let h = views.home (name_at c.self.inside.idents c.args.ident) c.in-Some.own c.in-Some.ensures in
     c.new-then-not-is_within.ensures
-    ∙ sym (views.levels-of c.self.inside.pid_max c.self.inside.tree c.self.inside.ids.items c.self.inside.idents c.args.self.now c.self.view_is c.args.ident c.args.space c.in-Some.own h.0 h.1 h.2
+    ∙ sym (views.levels-of c.self.inside c.self.view_is c.args.ident c.args.space c.in-Some.own h.0 h.1 h.2
     ∙ inwards.from-none c.args.space (way c.self.inside.tree.nodes c.in-Some.own) h.0.numbers (sym c.if-not-is_within.ensures))
 
 pub overflow_sub-above : goal.overflow_sub-above
@@ -53,5 +50,5 @@ returns c =
     c.write_numbers_inwards.ensures
     ∙ ap (λ o. option_map_or (λ u. reverse (take (k + 1) u.numbers)) o []) h.1
     ∙ ap (λ n. reverse (take n h.0.numbers)) one
-    ∙ sym (views.levels-of c.self.inside.pid_max c.self.inside.tree c.self.inside.ids.items c.self.inside.idents c.args.self.now c.self.view_is c.args.ident c.args.space own h.0 h.1 h.2
+    ∙ sym (views.levels-of c.self.inside c.self.view_is c.args.ident c.args.space own h.0 h.1 h.2
     ∙ inwards.from-place c.args.space (ways own) h.0.numbers (paths.distinct-path ways (ways own) (b.tree.paths own)) (b.tied.full c.args.ident h.0 h.1 ∙ ap (λ s. length (ways s)) h.2) k place.0 place.1)

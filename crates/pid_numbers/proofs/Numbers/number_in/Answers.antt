@@ -1,10 +1,6 @@
 -- The path of an outer namespace is the end of the inner one's: so the difference of their lengths is the place of the number
-use Rattle.std.proofs.Common.{◌≡◌, ◌∙◌, sym, ap, subst, arith, ◌<◌, ◌-◌, length, get_or, IfSome, Some, option_map}
-use Rattle.pid_types.specs.Names.{beside}
-use Rattle.pid_numbers.specs.Numbering.{Identifier}
-use Rattle.ns_tree.specs.Tree.{way}
+use Rattle.pid_numbers.proofs.Words.{◌≡◌, ◌∙◌, sym, ap, subst, arith, ◌<◌, ◌-◌, length, get_or, IfSome, Some, option_map, beside, Identifier, way, name_at}
 use Rattle.ns_tree.proofs.Paths as paths
-use Rattle.pid_numbers.specs.Table.{name_at}
 use Rattle.pid_numbers.proofs.Views as views
 use Rattle.pid_numbers.proofs.Sweeps as sweeps
 use Rattle.pid_numbers.proofs.Numbers.number_in.Goals as goal
@@ -13,7 +9,7 @@ use Rattle.pid_numbers.proofs.Numbers.number_in.Goals.{After-levels-2}
 pub returns-then-not-is_within : goal.returns-then-not-is_within
 returns-then-not-is_within c =
     let h = views.home (name_at c.self.inside.idents c.args.ident) c.in_ok-own.own c.in_ok-own.ensures in
-    sym (views.number-of c.self.inside.pid_max c.self.inside.tree c.self.inside.ids.items c.self.inside.idents c.args.self.now c.self.view_is c.args.ident c.args.space c.in_ok-own.own h.0 h.1 h.2
+    sym (views.number-of c.self.inside c.self.view_is c.args.ident c.args.space c.in_ok-own.own h.0 h.1 h.2
     ∙ sweeps.off-path c.args.space (way c.self.inside.tree.nodes c.in_ok-own.own) h.0.numbers (sym c.if-not-is_within.ensures))
 
 pub overflow_sub-place : goal.overflow_sub-place
@@ -41,4 +37,5 @@ pub returns : goal.returns
 returns c =
     let h = views.home (name_at c.self.inside.idents c.args.ident) c.in_ok-own.own c.in_ok-own.ensures in
     c.number_at.ensures ∙ ap (option_map (λ u. get_or u.numbers (c.levels.result - c.levels-2.result) 0)) h.1
-    ∙ sym (views.number-of c.self.inside.pid_max c.self.inside.tree c.self.inside.ids.items c.self.inside.idents c.args.self.now c.self.view_is c.args.ident c.args.space c.in_ok-own.own h.0 h.1 h.2 ∙ (placed (goal.at.returns c).After-levels-2 h.0 h.1 h.2).1)
+    ∙ sym (views.number-of c.self.inside c.self.view_is c.args.ident c.args.space c.in_ok-own.own h.0 h.1 h.2
+    ∙ (placed (goal.at.returns c).After-levels-2 h.0 h.1 h.2).1)

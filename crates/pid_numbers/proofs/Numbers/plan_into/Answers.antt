@@ -1,7 +1,5 @@
-use Rattle.std.proofs.Common.{◌≡◌, ◌++◌, sym, subst, find, is_none, None, map, unwrap_or, Some, OnOk, IfErr}
-use Rattle.ns_tree.specs.Tree.{way}
-use Rattle.pid_numbers.specs.Numbering.{draw_in, path_at}
-use Rattle.pid_numbers.specs.Slabs.{plan_on, numbering_of, AreIn}
+use Rattle.pid_numbers.proofs.Words.{◌≡◌, ◌++◌, sym, subst, find, is_none, None, map, unwrap_or, Some, OnOk, IfErr, way, draw_in, path_at, plan_on}
+use Rattle.pid_numbers.proofs.Words.{numbering_of, AreIn}
 use Rattle.pid_numbers.proofs.Views as views
 use Rattle.pid_numbers.proofs.Numbers.plan_into.Goals as goal
 

@@ -1,9 +1,7 @@
 -- The plan is that of the parent's path behind a 1, and that path is the same in the view and in the tree
-use Rattle.std.proofs.Common.{◌≡◌, ◌≤◌, [], ◌∷◌, ◌++◌, ◌+◌, ◌∙◌, sym, ap, subst, arith, length, find, is_none, None, map, unwrap_or, Some, OnOk, IfErr}
-use Rattle.ns_tree.specs.Tree.{way}
+use Rattle.pid_numbers.proofs.Words.{◌≡◌, ◌≤◌, [], ◌∷◌, ◌++◌, ◌∙◌, sym, ap, subst, arith, length, find, is_none, None, map, unwrap_or, Some, OnOk, IfErr}
+use Rattle.pid_numbers.proofs.Words.{way, draw_in, path_at, plan_on, numbering_of, AreIn}
 use Rattle.pid_types.specs.Bounds.{deepest_space}
-use Rattle.pid_numbers.specs.Numbering.{draw_in, path_at}
-use Rattle.pid_numbers.specs.Slabs.{plan_on, numbering_of, AreIn}
 use Rattle.pid_numbers.proofs.Views as views
 use Rattle.pid_numbers.proofs.Numbers.plan_new_into.Goals as goal
 

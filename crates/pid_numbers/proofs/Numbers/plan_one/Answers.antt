@@ -1,14 +1,11 @@
-use Rattle.std.proofs.Common.{◌∙◌, sym, ap, option_map, option_and_then}
-use Rattle.pid_types.specs.Draw.{cyclic_draw}
-use Rattle.ns_tree.specs.Tree.{node_in}
-use Rattle.pid_numbers.specs.Numbering.{draw_in, taken_in}
-use Rattle.pid_numbers.specs.Slabs.{cursor_on, namespace_of}
+use Rattle.pid_numbers.proofs.Words.{◌∙◌, sym, ap, option_map, option_and_then, cyclic_draw, node_in, draw_in, taken_in, cursor_on, namespace_of}
 use Rattle.pid_numbers.proofs.Views as views
 use Rattle.pid_numbers.proofs.Numbers.plan_one.Goals as goal
 
 pub returns-then-not-is_there : goal.returns-then-not-is_there
 returns-then-not-is_there c =
-    sym (ap (option_and_then (λ t. cyclic_draw c.args.self.now.pid_max t.cursor (taken_in c.args.self.now c.args.space))) (views.namespace_is c.self.inside.pid_max c.self.inside.tree c.self.inside.ids.items c.self.inside.idents c.args.self.now c.self.view_is c.args.space
+    sym (ap (option_and_then (λ t. cyclic_draw c.args.self.now.pid_max t.cursor (taken_in c.args.self.now c.args.space)))
+    (views.namespace_is c.self.inside c.self.view_is c.args.space
     ∙ ap (option_map (namespace_of (cursor_on c.self.inside.ids.items c.args.space))) (views.absent (node_in c.self.inside.tree.nodes c.args.space) (sym c.is_there.ensures ∙ c.if-not-is_there.true))))
 
 pub returns : goal.returns

@@ -1,10 +1,6 @@
 -- No entry and no bound changes, so all that is known stays; of the namespaces one has another cursor
-use Rattle.std.proofs.Common.{◌≡◌, ◌≢◌, inl, inr, ℕ, ◌==◌, refl, sym, ap, ◌∙◌, Option, Some, None, option_map, if◌then◌else◌}
-use Rattle.std.proofs.lemmas.Bool.{cases_eq, eq-eqb, ne_eqb}
-use Rattle.ns_tree.specs.Tree.{Node, node_in, way}
-use Rattle.pid_numbers.specs.Numbering.{cursor_put}
-use Rattle.pid_numbers.specs.Slabs.{namespace_of, cursor_on, entry_on, bound_on}
-use Rattle.pid_numbers.specs.Table.{name_at}
+use Rattle.pid_numbers.proofs.Words.{Option, ap, arith, if◌then◌else◌, option_map, refl, sym, ℕ, ◌==◌, ◌∙◌, ◌≡◌, ◌≢◌, cases_eq, eq-eqb, ne_eqb, Node, node_in}
+use Rattle.pid_numbers.proofs.Words.{way, cursor_put, bound_on, cursor_on, entry_on, namespace_of, name_at}
 use Rattle.pid_numbers.proofs.Views as views
 use Rattle.pid_numbers.proofs.Ties as ties
 use Rattle.pid_numbers.proofs.Sweeps as sweeps
@@ -12,7 +8,7 @@ use Rattle.pid_numbers.proofs.Numbers.put_cursor.Goals as goal
 
 pub put_cursor-requires : goal.put_cursor-requires
 put_cursor-requires c =
-    let z = views.held (node_in c.self.inside.tree.nodes c.args.space) (views.there c.self.inside.pid_max c.self.inside.tree c.self.inside.ids.items c.self.inside.idents c.args.self.now c.self.view_is c.args.space c.requires) in
+    let z = views.held (node_in c.self.inside.tree.nodes c.args.space) (views.there c.self.inside c.self.view_is c.args.space c.requires) in
     views.there_in c.self.inside.tree.nodes c.self.inside.ids.items c.self.invariant.count c.args.space z.0 z.1
 
 pub invariant_of-self : goal.invariant_of-self
@@ -27,15 +23,11 @@ invariant_of-self c =
 
 -- the cursor is put at one key
 put : (space cursor s old new : ℕ) → (s ≡ space → new ≡ cursor) → (s ≢ space → new ≡ old) → new ≡ (if s == space then cursor else old)
-put space cursor s old new here other = elim (cases_eq s space) [
-  | inl same ↦ here same ∙ sym (ap (λ b. if b then cursor else old) (eq-eqb s space same))
-  | inr differs ↦ other differs ∙ sym (ap (λ b. if b then cursor else old) (ne_eqb s space differs))
-]
+put space cursor s old new here other = grind (arith, cases_eq, eq-eqb, ne_eqb)
 
 seen : (space cursor s old new : ℕ) → new ≡ (if s == space then cursor else old) → (o : Option Node)
     → option_map (namespace_of new) o ≡ option_map (cursor_put space cursor s) (option_map (namespace_of old) o)
-seen space cursor s old new is None = refl
-seen space cursor s old new is (Some z) = ap (λ n. Some (namespace_of n z)) is
+seen space cursor s old new is o = grind arith
 
 pub returns-clause-namespaces : goal.returns-clause-namespaces
 returns-clause-namespaces c s =
@@ -46,4 +38,4 @@ returns-clause-namespaces c s =
     ∙ seen c.args.space c.args.cursor s (cursor_on old s) (cursor_on new s)
     (put c.args.space c.args.cursor s (cursor_on old s) (cursor_on new s) (λ same. ap (cursor_on new) same ∙ c.put_cursor.ensures.here) (c.put_cursor.ensures.others s))
     (node_in nodes s)
-    ∙ ap (option_map (cursor_put c.args.space c.args.cursor s)) (sym (views.namespace_is c.self.inside.pid_max c.self.inside.tree old c.self.inside.idents c.args.self.now c.self.view_is s))
+    ∙ ap (option_map (cursor_put c.args.space c.args.cursor s)) (sym (views.namespace_is c.self.inside c.self.view_is s))

@@ -1,9 +1,6 @@
 -- An identifier that is there has a namespace that is there, and as many numbers as that has levels
-use Rattle.std.proofs.Common.{◌≡◌, ◌∙◌, sym, ap, subst, arith, refl, ◌≤◌, length, [], Option, Some, None, IfSome, option_map}
-use Rattle.std.specs.Option.{option_map_or}
-use Rattle.ns_tree.specs.Tree.{Node, node_in, way}
-use Rattle.pid_numbers.specs.Numbering.{id_at}
-use Rattle.pid_numbers.specs.Table.{name_at}
+use Rattle.pid_numbers.proofs.Words.{◌≡◌, ◌∙◌, sym, ap, subst, arith, refl, ◌≤◌, length, [], Option, Some, None, IfSome, option_map, option_map_or, Node}
+use Rattle.pid_numbers.proofs.Words.{node_in, way, id_at, name_at}
 use Rattle.pid_numbers.proofs.Views as views
 use Rattle.pid_numbers.proofs.Numbers.write_name.Goals as goal
 
@@ -38,5 +35,6 @@ write_numbers_inwards-requires-clause-there c =
 pub returns-clause-space : goal.returns-clause-space
 returns-clause-space c =
     let h = views.home (name_at c.self.inside.idents c.args.ident) c.in-Some.own c.in-Some.ensures in
-    subst (λ o. IfSome o (λ u. id_at c.args.self.now u.space ≡ Some c.in-Some-id.space)) (sym (views.identifier_is c.self.inside.pid_max c.self.inside.tree c.self.inside.ids.items c.self.inside.idents c.args.self.now c.self.view_is c.args.ident ∙ h.1))
-    (ap (id_at c.args.self.now) h.2 ∙ views.id_is c.self.inside.pid_max c.self.inside.tree c.self.inside.ids.items c.self.inside.idents c.args.self.now c.self.view_is c.in-Some.own ∙ sym c.in-Some-id.ensures)
+    subst (λ o. IfSome o (λ u. id_at c.args.self.now u.space ≡ Some c.in-Some-id.space))
+    (sym (views.identifier_is c.self.inside c.self.view_is c.args.ident ∙ h.1))
+    (ap (id_at c.args.self.now) h.2 ∙ views.id_is c.self.inside c.self.view_is c.in-Some.own ∙ sym c.in-Some-id.ensures)

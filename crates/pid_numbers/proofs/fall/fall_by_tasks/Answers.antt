@@ -1,9 +1,6 @@
 -- The walk is over numbers, not namespaces: each one inside that stood is the own one of a task with a number here, so none is missed
-use Rattle.std.proofs.Common.{◌≡◌, ◌∙◌, option_map, option_and_then, refl, sym, ap, subst, arith, IsSome}
-use Rattle.std.specs.Option.{option_map_or}
-use Rattle.ns_tree.specs.Tree.{felled, node_in, way}
-use Rattle.pid_numbers.specs.Slabs.{entry_on, home_at}
-use Rattle.pid_numbers.specs.Table.{name_at}
+use Rattle.pid_numbers.proofs.Words.{◌≡◌, ◌∙◌, option_map, option_and_then, refl, sym, ap, subst, arith, IsSome, option_map_or, felled, node_in, way, entry_on}
+use Rattle.pid_numbers.proofs.Words.{home_at, name_at}
 use Rattle.pid_numbers.proofs.Falling as falling
 use Rattle.pid_numbers.proofs.fall.fall_by_tasks.Goals as goal
 

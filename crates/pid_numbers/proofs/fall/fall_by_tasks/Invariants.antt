@@ -1,7 +1,4 @@
-use Rattle.std.proofs.Common.{length, ◌≡◌, ◌≤◌, ◌-◌}
-use Rattle.index_array.specs.Place.{index_count}
-use Rattle.ns_tree.specs.Tree.{node_in, way}
-use Rattle.pid_numbers.specs.Table.{name_at}
+use Rattle.pid_numbers.proofs.Words.{length, ◌≡◌, ◌≤◌, ◌-◌, index_count, node_in, way, name_at}
 use Rattle.pid_numbers.proofs.Falling.{IsFalling}
 use Rattle.pid_numbers.proofs.fall.fall_by_tasks.Given as goal
 

@@ -1,7 +1,5 @@
 -- One number and the cursor change at one key: a planned number shows that there are numbers, and their bound stays
-use Rattle.std.proofs.Common.{rules, arith, ap, ◌∙◌, option_map, option_and_then, Some}
-use Rattle.std.specs.Option.{option_map_or}
-use Rattle.index_array.specs.Place.{entry_at}
+use Rattle.pid_numbers.proofs.Words.{rules, arith, ap, ◌∙◌, option_map, option_and_then, Some, option_map_or, entry_at}
 use Rattle.pid_numbers.proofs.Views as views
 use Rattle.pid_numbers.proofs.Items as items
 use Rattle.pid_numbers.proofs.spaces.give_at.Goals as goal

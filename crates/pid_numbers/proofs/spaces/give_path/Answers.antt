@@ -1,9 +1,5 @@
-use Rattle.std.proofs.Common.{refl, ◌<◌, length, ◌∙◌, ap, arith, get_or, option_map, option_and_then, false}
-use Rattle.std.specs.Option.{option_map_or}
-use Rattle.cyclic_ids.specs.Ids.{planned}
-use Rattle.index_array.specs.Place.{entry_at, is_prepared}
-use Rattle.ns_tree.proofs.Paths.{everywhere}
-use Rattle.pid_numbers.specs.Slabs.{entry_on, given_to, bound_on, cursor_on}
+use Rattle.pid_numbers.proofs.Words.{refl, ◌<◌, length, ◌∙◌, ap, arith, get_or, option_map, option_and_then, false, option_map_or, planned, entry_at}
+use Rattle.pid_numbers.proofs.Words.{is_prepared, everywhere, entry_on, given_to, bound_on, cursor_on}
 use Rattle.pid_numbers.proofs.Ties as ties
 use Rattle.pid_numbers.proofs.spaces.give_path.Goals as goal
 

@@ -1,9 +1,5 @@
-use Rattle.std.proofs.Common.{◌≡◌, ◌∙◌, sym, ap, refl, ◌&&◌, ◌==◌, length, Some, None, true}
-use Rattle.std.specs.Prelude.{slice_get}
-use Rattle.std.specs.Option.{option_map_or}
-use Rattle.std.proofs.lemmas.Option.{slice_get_read, slice_get_past}
-use Rattle.index_array.specs.Place.{indexes}
-use Rattle.pid_numbers.specs.Slabs.{empty_on}
+use Rattle.pid_numbers.proofs.Words.{◌≡◌, ◌∙◌, sym, ap, refl, ◌&&◌, ◌==◌, length, Some, None, true, slice_get, option_map_or, slice_get_read, slice_get_past}
+use Rattle.pid_numbers.proofs.Words.{indexes, empty_on}
 use Rattle.pid_numbers.proofs.Sweeps as sweeps
 use Rattle.pid_numbers.proofs.spaces.is_dead.Goals as goal
 

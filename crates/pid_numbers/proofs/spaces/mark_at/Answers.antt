@@ -1,8 +1,5 @@
 -- Both branches write one mark at one key, by the kind's index: no cursor and no bound changes with it
-use Rattle.std.proofs.Common.{rules, true, false, sym, ap, ◌∙◌, option_map, option_and_then, Some}
-use Rattle.std.specs.Option.{option_map_or}
-use Rattle.index_array.specs.Place.{entry_at, with_mark}
-use Rattle.pid_numbers.specs.Slabs.{mark_of}
+use Rattle.pid_numbers.proofs.Words.{rules, true, false, sym, ap, ◌∙◌, option_map, option_and_then, Some, option_map_or, entry_at, with_mark, mark_of}
 use Rattle.pid_numbers.proofs.Items as items
 use Rattle.pid_numbers.proofs.spaces.mark_at.Goals as goal
 

@@ -1,8 +1,5 @@
-use Rattle.std.proofs.Common.{refl, ◌<◌, length, ◌∙◌, sym, ap, subst, get_or, option_map, option_and_then}
-use Rattle.std.specs.Option.{option_map_or}
-use Rattle.index_array.specs.Place.{entry_at, with_mark}
-use Rattle.ns_tree.proofs.Paths.{everywhere}
-use Rattle.pid_numbers.specs.Slabs.{entry_on, bound_on, cursor_on, mark_of}
+use Rattle.pid_numbers.proofs.Words.{refl, ◌<◌, length, ◌∙◌, sym, ap, subst, get_or, option_map, option_and_then, option_map_or, entry_at, with_mark}
+use Rattle.pid_numbers.proofs.Words.{everywhere, entry_on, bound_on, cursor_on, mark_of}
 use Rattle.pid_numbers.proofs.Ties as ties
 use Rattle.pid_numbers.proofs.spaces.mark_path.Goals as goal
 

@@ -1,6 +1,4 @@
-use Rattle.std.proofs.Common.{length, ◌≡◌, ℕ, drop}
-use Rattle.index_array.specs.Place.{with_mark}
-use Rattle.pid_numbers.specs.Slabs.{entry_on, bound_on, cursor_on, touched, mark_of}
+use Rattle.pid_numbers.proofs.Words.{length, ◌≡◌, ℕ, drop, with_mark, entry_on, bound_on, cursor_on, touched, mark_of}
 use Rattle.pid_numbers.proofs.spaces.mark_path.Given as goal
 
 abbrev pub invariant-loop-k : goal.invariant-loop-k

@@ -1,5 +1,4 @@
-use Rattle.std.proofs.Common.{◌≡◌, ◌++◌, map, take, drop, find, is_none, unwrap_or}
-use Rattle.pid_numbers.specs.Slabs.{plan_on}
+use Rattle.pid_numbers.proofs.Words.{◌≡◌, ◌++◌, map, take, drop, find, is_none, unwrap_or, plan_on}
 use Rattle.pid_numbers.proofs.spaces.plan_path.Given as goal
 
 abbrev pub invariant-loop-k : goal.invariant-loop-k

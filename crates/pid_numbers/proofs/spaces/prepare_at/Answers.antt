@@ -1,9 +1,6 @@
 -- Memory for a number is in no view of a namespace: so plans, entries and cursors stay at every key, and what was ready is so still
-use Rattle.std.proofs.Common.{rules, arith, ◌≡◌, refl, true, OnOk, length, subst, sym, ap, ◌∙◌, option_map, option_and_then, Some, false}
-use Rattle.std.specs.Option.{option_map_or}
-use Rattle.std.proofs.lemmas.Option.{slice_get_read}
-use Rattle.index_array.specs.Place.{entry_at, is_prepared}
-use Rattle.cyclic_ids.specs.Ids.{planned}
+use Rattle.pid_numbers.proofs.Words.{rules, arith, ◌≡◌, refl, true, OnOk, length, subst, sym, ap, ◌∙◌, option_map, option_and_then, Some, false, option_map_or}
+use Rattle.pid_numbers.proofs.Words.{slice_get_read, entry_at, is_prepared, planned}
 use Rattle.pid_numbers.proofs.Views as views
 use Rattle.pid_numbers.proofs.Items as items
 use Rattle.pid_numbers.proofs.spaces.prepare_at.Goals as goal

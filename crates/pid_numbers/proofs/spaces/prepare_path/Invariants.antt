@@ -1,5 +1,4 @@
-use Rattle.std.proofs.Common.{length, ◌≡◌, ℕ, ◌<◌, get_or, true}
-use Rattle.pid_numbers.specs.Slabs.{entry_on, bound_on, cursor_on, plan_on, ready}
+use Rattle.pid_numbers.proofs.Words.{length, ◌≡◌, ℕ, ◌<◌, get_or, true, entry_on, bound_on, cursor_on, plan_on, ready}
 use Rattle.pid_numbers.proofs.spaces.prepare_path.Given as goal
 
 abbrev pub invariant-loop-k : goal.invariant-loop-k

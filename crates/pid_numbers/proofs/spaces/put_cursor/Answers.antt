@@ -1,6 +1,4 @@
-use Rattle.std.proofs.Common.{rules, ap, ◌∙◌, option_map, option_and_then, Some}
-use Rattle.std.specs.Option.{option_map_or}
-use Rattle.index_array.specs.Place.{entry_at}
+use Rattle.pid_numbers.proofs.Words.{rules, ap, ◌∙◌, option_map, option_and_then, Some, option_map_or, entry_at}
 use Rattle.pid_numbers.proofs.Items as items
 use Rattle.pid_numbers.proofs.spaces.put_cursor.Goals as goal
 

@@ -1,7 +1,5 @@
 -- A free number leaves the cursor and the bound where they are
-use Rattle.std.proofs.Common.{rules, ap, ◌∙◌, option_map, option_and_then, Some}
-use Rattle.std.specs.Option.{option_map_or}
-use Rattle.index_array.specs.Place.{entry_at}
+use Rattle.pid_numbers.proofs.Words.{rules, ap, ◌∙◌, option_map, option_and_then, Some, option_map_or, entry_at}
 use Rattle.pid_numbers.proofs.Items as items
 use Rattle.pid_numbers.proofs.spaces.release_at.Goals as goal
 

@@ -1,5 +1,4 @@
-use Rattle.std.proofs.Common.{length, ◌≡◌, ℕ, drop, None}
-use Rattle.pid_numbers.specs.Slabs.{entry_on, bound_on, cursor_on, touched}
+use Rattle.pid_numbers.proofs.Words.{length, ◌≡◌, ℕ, drop, None, entry_on, bound_on, cursor_on, touched}
 use Rattle.pid_numbers.proofs.spaces.release_path.Given as goal
 
 abbrev pub invariant-loop-k : goal.invariant-loop-k

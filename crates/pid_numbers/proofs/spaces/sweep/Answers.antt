@@ -1,7 +1,5 @@
 -- The path is read before its namespace goes: where one is dead only those on its path are, and the next one is around it
-use Rattle.std.proofs.Common.{◌∙◌, refl, sym, ap, is_some}
-use Rattle.std.specs.List.{filter}
-use Rattle.ns_tree.specs.Tree.{node_in, way, id_in}
+use Rattle.pid_numbers.proofs.Words.{◌∙◌, refl, sym, ap, is_some, filter, node_in, way, id_in}
 use Rattle.ns_tree.proofs.Orders as orders
 use Rattle.pid_numbers.proofs.Climbs as climbs
 use Rattle.pid_numbers.proofs.spaces.sweep.Goals as goal

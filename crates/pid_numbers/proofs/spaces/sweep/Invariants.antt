@@ -1,7 +1,5 @@
-use Rattle.std.proofs.Common.{◌≡◌, ℕ, ◌<◌, length, None, IsSome, is_some, if◌then◌else◌}
-use Rattle.std.specs.List.{filter}
-use Rattle.ns_tree.specs.Tree.{IsTree, AreListed, node_in, way, id_in}
-use Rattle.pid_numbers.specs.Slabs.{dead_on, AreAround}
+use Rattle.pid_numbers.proofs.Words.{◌≡◌, ℕ, ◌<◌, length, None, IsSome, is_some, if◌then◌else◌, filter, IsTree, AreListed, node_in, way, id_in, dead_on}
+use Rattle.pid_numbers.proofs.Words.{AreAround}
 use Rattle.pid_numbers.proofs.spaces.sweep.Given as goal
 
 abbrev pub invariant-loop-tree : goal.invariant-loop-tree

@@ -1,8 +1,4 @@
-use Rattle.std.proofs.Common.{◌∙◌, ◌<◌, length, map, set, Some, arith, sym, ap, subst}
-use Rattle.std.specs.Prelude.{vec_capacity}
-use Rattle.std.proofs.lemmas.List.{length-map, length-set}
-use Rattle.ns_tree.specs.Vacancy.{AreVacant}
-use Rattle.pid_numbers.specs.Table.{get, shown}
+use Rattle.pid_numbers.proofs.Words.{◌∙◌, ◌<◌, length, map, set, Some, arith, sym, ap, subst, vec_capacity, length-map, length-set, AreVacant, get, shown}
 use Rattle.ns_tree.proofs.Filled as filled
 use Rattle.pid_numbers.proofs.Seats as seats
 use Rattle.ns_tree.proofs.Vacancy as vacancy

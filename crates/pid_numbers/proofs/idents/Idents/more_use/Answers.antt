@@ -1,7 +1,5 @@
-use Rattle.std.proofs.Common.{◌≡◌, ◌∙◌, ◌<◌, length, map, get_or, None, Some, IsSome, sym, ap, subst, option_map}
-use Rattle.std.specs.Prelude.{vec_capacity}
-use Rattle.pid_numbers.specs.Numbering.{more}
-use Rattle.pid_numbers.specs.Table.{identifier_of, name_at, shown}
+use Rattle.pid_numbers.proofs.Words.{◌≡◌, ◌∙◌, ◌<◌, length, map, get_or, None, Some, IsSome, sym, ap, subst, option_map, vec_capacity, more, identifier_of}
+use Rattle.pid_numbers.proofs.Words.{name_at, shown}
 use Rattle.ns_tree.proofs.Filled as filled
 use Rattle.pid_numbers.proofs.Seats as seats
 use Rattle.pid_numbers.proofs.idents.Idents.more_use.Goals as goal

@@ -1,10 +1,6 @@
 -- A place without numbers is how vacancy shows; its key was not vacant, so there is room for it in the list of vacant keys
-use Rattle.std.proofs.Common.{◌≡◌, ◌∙◌, ◌<◌, ◌++◌, ◌∷◌, ℕ, List, [], length, map, get_or, None, Some, IsSome, arith, sym, ap, subst, option_map}
-use Rattle.std.specs.Prelude.{vec_capacity}
-use Rattle.std.proofs.lemmas.List.{length-set}
-use Rattle.pid_numbers.specs.declared.idents.Ident.{Ident}
-use Rattle.ns_tree.specs.Vacancy.{AreVacant}
-use Rattle.pid_numbers.specs.Table.{get, identifier_of, name_at, shown}
+use Rattle.pid_numbers.proofs.Words.{◌≡◌, ◌∙◌, ◌<◌, ◌++◌, ◌∷◌, ℕ, List, [], length, map, get_or, None, Some, IsSome, arith, sym, ap, subst, option_map}
+use Rattle.pid_numbers.proofs.Words.{vec_capacity, length-set, Ident, AreVacant, get, identifier_of, name_at, shown}
 use Rattle.ns_tree.proofs.Filled as filled
 use Rattle.pid_numbers.proofs.Seats as seats
 use Rattle.ns_tree.proofs.Vacancy as vacancy
