@@ -51,6 +51,8 @@ module _ (words : List ℕ) (read : List ℕ → Option ℤ) where
 pub unsigned_missed : (words : List ℕ) → IsUnsigned words → before process_of words ≡ None → signed_then words ≡ None
 unsigned_missed words plain = missed words signed_of (λ p cuts none.
     let parts = cut-Some 32 words p cuts in
-    rw (signed_of-plain p.0 (λ long minus. plain (subst (λ l. 0 < length l) (sym parts) (grind (arith, common_steps)))
-    (ap (λ l. get_or l 0 0) parts ∙ get_or_append_left p.0 (32 ∷ p.1) 0 0 long ∙ minus)),
-    number_below-missing (2 ^ 32) (2 ^ 31) p.0 (lit≤ tt) (lit≤ tt) none))
+    rw (
+      signed_of-plain p.0 (λ long minus. plain (subst (λ l. 0 < length l) (sym parts) (grind (arith, common_steps)))
+          (ap (λ l. get_or l 0 0) parts ∙ get_or_append_left p.0 (32 ∷ p.1) 0 0 long ∙ minus)),
+      number_below-missing (2 ^ 32) (2 ^ 31) p.0 (lit≤ tt) (lit≤ tt) none,
+    ))

@@ -114,9 +114,11 @@ pub kinds : Reads kind_of word_of_kind (λ k. Unit {0}) 7
 unfolding kind_of
 kinds = record {
   told = λ k _. ((kind_told k).0, (kind_told k).1);
-  says = λ w k is.
-      (named-says (λ w k. w ≡ word_of_kind k) ((codes "task", kind.Task) ∷ (codes "group", kind.Group) ∷ (codes "session", kind.Session) ∷ [])
-      (refl ◂ refl ◂ refl ◂ tt) w k is, tt);
+  says = λ w k is. (
+    named-says (λ w k. w ≡ word_of_kind k) ((codes "task", kind.Task) ∷ (codes "group", kind.Group) ∷ (codes "session", kind.Session) ∷ [])
+        (refl ◂ refl ◂ refl ◂ tt) w k is,
+    tt,
+  );
 }
 
 pub lacks_kind : (k : Kind) → Unit {0} → Lacks 32 (word_of_kind k)
