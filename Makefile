@@ -63,7 +63,8 @@ test: ## * the gate: proves every crate from nothing, tries the edits that must 
 	$(need_rt)
 	@tools/report out/gate.txt crates/pidtab/out/pidtab -- $(MAKE) --no-print-directory gate
 
-# The steps of the gate. The last part is hostile to the programs that were built. `rt ci` takes no links.
+# The steps of the gate. Two look at the C around the library, which is not proved. The last is hostile to the programs that were built.
+# `rt ci` takes no links.
 gate:
 	@for it in $$(find out -type l 2> /dev/null | head -n 1); do echo "$$it is a link, which the gate does not take: remove it, or run make clean" >&2; exit 1; done
 	@tools/architecture --check
@@ -71,6 +72,8 @@ gate:
 	@tools/widths --check
 	@tools/walk --check
 	@tools/gate --check
+	@tools/guard --check
+	@bindings/c/test_guard
 	rt ci
 	@$(MAKE) -s hostile
 
@@ -233,7 +236,7 @@ SAVED_THREADS_TEST = test_saved_threads saved saved_file shared guard_record hea
 DEVICES = -Dread=test_read -Dwrite=test_write
 bindings-c:
 	$(call tested,$(firstword $(CC)),$(LIBRARY),\
-		bindings/c/test_names && $(MAKE) -s out/proved.a && \
+		bindings/c/test_names && tools/guard --check && bindings/c/test_guard && $(MAKE) -s out/proved.a && \
 		$(CC) $(CHECKED) $(HELD) -c -o out/test_heap.o bindings/c/heap.c && \
 		$(CC) $(CHECKED) -o out/test bindings/c/test.c bindings/c/guard.c out/test_heap.o out/proved.a && out/test && \
 		$(CC) $(CHECKED) -o out/test_words bindings/c/test_words.c bindings/c/guard.c bindings/c/heap.c out/proved.a && out/test_words && \

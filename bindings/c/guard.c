@@ -1,5 +1,5 @@
 /* The functions of pidtab.h that work on a table. Each marks the table, calls the proved function, and takes the mark away: while
- * it is there, every other is PIDTAB_BUSY. The proved functions have other names here, by renamed.syms. */
+ * it is there, every other is PIDTAB_BUSY. The proved functions have other names here, by renamed.syms. Written by tools/guard. */
 #include "pidtab.h"
 
 uint32_t proved_open(struct pidtab *table, uint32_t pid_max);

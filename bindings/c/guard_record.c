@@ -1,4 +1,4 @@
-/* The functions of pidtab.h that work on a record, with the mark of guard.c around each. */
+/* The functions of pidtab.h that work on a record, with the mark of guard.c around each. Written by tools/guard. */
 #include "pidtab.h"
 
 uint32_t proved_record_open(struct pidtab_record *record, uint32_t pid_max, uint64_t first_stamp, uint32_t workers);
