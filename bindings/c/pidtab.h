@@ -1,7 +1,8 @@
 /* pidtab.h - Linux process identifiers as one table, in this process.
  *
- * The functions of the library are proved. This header is not: it is written by hand to fit crates/pidtab_c, and
- * bindings/c/test.c compares the two.
+ * What each function does to a table is proved (crates/pidtab_c). Around each proved function stand a few lines of C, bindings/c/guard.c and
+ * guard_record.c, which mark the table, and are only tested, as the shared and the saved ones are. This header is written by hand to fit;
+ * bindings/c/test.c and test_guard compare it.
  *
  * One function at a time works on a table: while one does, each other that another thread calls is PIDTAB_BUSY, and does nothing.
  * Threads that take turns under a lock never see it. Two tables share nothing.
@@ -502,8 +503,8 @@ uint32_t pidtab_record_dump(struct pidtab_record *record, void *bytes, size_t ro
 
 /* Opens a record that goes on as a text says: with its state, and its stamp for the next call. counts has how many calls of each of 1 to
  * 16 workers were recorded before; their sum is the ordinal of the next call. The history begins there. DONE; BUSY where it is open
- * already; then OUT_OF_RANGE for the workers; then BAD_TEXT and the fault, as pidtab_load has them; then OUT_OF_RANGE where the counts
- * add up to the stamp or more; NO_MEMORY. */
+ * already; then OUT_OF_RANGE for the workers; then BAD_TEXT and a fault of kind 1 or 2; then OUT_OF_RANGE where the counts add up to the
+ * stamp or more; then BAD_TEXT and another fault; NO_MEMORY. */
 uint32_t pidtab_record_load(struct pidtab_record *record, const void *text, size_t length, const uint64_t *counts, size_t workers, struct pidtab_fault *fault);
 
 #ifdef __cplusplus

@@ -2,6 +2,8 @@
 use Rattle.std.specs.Prelude.{◌≡◌, ◌<◌, ◌≤◌, ℕ, List, length, sum}
 use Rattle.pid_types.specs.State.{State}
 use Rattle.table_text.specs.Texts.{text_of}
+use Rattle.table_text.specs.Ranges.{IsWord}
+use Rattle.table_text.specs.Reading.{IsHeldState}
 use Rattle.table_plan.specs.declared.fault.RestoreFault.{RestoreFault}
 use Rattle.table_plan.specs.declared.fault.RestoreFault.TheVariants as why
 use Rattle.kept_table.specs.Calls.{resumed}
@@ -36,6 +38,11 @@ pub record HasWorkers (counts : List ℕ) : Type 0 where
 -- the text says a state and a stamp, and the counts add up to that stamp or more
 abbrev pub HasTooManyCalls : List ℕ → List ℕ → Type 0
 HasTooManyCalls text counts = (stamp : ℕ) × (state : State) × (text ≡ text_of stamp state) × (stamp ≤ sum counts)
+
+-- the same of a state and a stamp whose numbers fit
+abbrev pub TellsTooManyCalls : List ℕ → List ℕ → Type 0
+TellsTooManyCalls text counts =
+    (stamp : ℕ) × (state : State) × IsWord stamp × IsHeldState state × (text ≡ text_of stamp state) × (stamp ≤ sum counts)
 
 -- the record goes on as the text says, behind so many calls of each worker
 pub record IsResumed (text counts : List ℕ) (c : Chronicle) : Type 0 where

@@ -1,11 +1,12 @@
 //! A record as a text, for C: the text of its present state is written, and a record goes on from such a text.
 ghost use Rattle.std.specs.Prelude.{◌≡◌, ◌≢◌, ◌<◌, ◌≤◌, ◌↔◌, ◌⊎◌, IsSome, None, IfOk, length, sum, take, drop};
 ghost use Rattle.pid_types.specs.Sound.{IsBelow};
+ghost use Rattle.table_text.specs.Reading.{IsNoText};
 ghost use Rattle.table_text.specs.Texts.{text_of};
 ghost use Rattle.kept_table.specs.Calls.{resumed};
 ghost use Rattle.kept_table.specs.Chronicle.{next_stamp};
 ghost use Rattle.pidtab_c.specs.Records.{Has};
-ghost use Rattle.pidtab_c.specs.Saved.{no_fault, HasWorkers, HasTooManyCalls, IsResumed};
+ghost use Rattle.pidtab_c.specs.Saved.{no_fault, HasWorkers, HasTooManyCalls, TellsTooManyCalls, IsResumed};
 
 use crate::record::{MOST_WORKERS, PidtabRecord};
 use crate::saved_table::{FaultNumbers, put_fault};
@@ -13,9 +14,11 @@ use crate::status::{BAD_TEXT, BUSY, CLOSED, DONE, NO_MEMORY, NO_ROOM, OUT_OF_RAN
 use crate::texts::write_text;
 use kept_table::Kept;
 use std::alloc::{AllocError, Global};
-use table_load::load::{Loaded, load};
+use table_load::load::{Loaded, table_of};
+use table_plan::fault::RestoreFault;
 use table_text::dump::dump_text;
-use table_text::laws::snapshots_have_their_state;
+use table_text::laws::{snapshots_have_their_state, texts_tell_states, what_fits_is_of_words};
+use table_text::read::read_text;
 
 /// The stamp of the next call; where the stamps are used up, the one that no call has.
 fn stamp_of(held: &Kept) -> u64
@@ -91,9 +94,10 @@ pub extern "C" fn pidtab_record_dump(
 /// history begins there. Any bytes may be given.
 ///
 /// `BUSY` where it is open already; then `OUT_OF_RANGE` for no worker or more than 16; then `BAD_TEXT` where the text
-/// is that of no table, and `fault` says why; then `OUT_OF_RANGE` where the counts add up to the stamp of the text or
-/// more, since the first call of all has a stamp of 1 or more; `NO_MEMORY`. Where the status is not `BAD_TEXT`, `fault`
-/// is zeroes. Whoever opens a record closes it.
+/// has not the form, and `fault` says why by kind 1 or 2; then `OUT_OF_RANGE` where the counts add up to the stamp of
+/// the text or more, since the first call of all has a stamp of 1 or more; then `BAD_TEXT` where the text is that of no
+/// table, by another kind; `NO_MEMORY`. Where the status is not `BAD_TEXT`, `fault` is zeroes. Whoever opens a record
+/// closes it.
 #[unsafe(no_mangle)]
 pub extern "C" fn pidtab_record_load(
     alloc: Global,
@@ -108,7 +112,10 @@ pub extern "C" fn pidtab_record_load(
     ensures busy { (result ≡ BUSY) ↔ IsSome table.old.handle.held }
     ensures no_workers { table.old.handle.held ≡ None → (HasWorkers counts.now → ⊥) → result ≡ OUT_OF_RANGE }
     ensures out_of_range { result ≡ OUT_OF_RANGE → HasWorkers counts.now → HasTooManyCalls text.now counts.now }
+    ensures too_many { table.old.handle.held ≡ None → HasWorkers counts.now → TellsTooManyCalls text.now counts.now
+        → (result ≡ OUT_OF_RANGE) ⊎ (result ≡ NO_MEMORY) }
     ensures bad_text { result ≡ BAD_TEXT → (1 ≤ fault.new.kind) × (fault.new.kind ≤ 12) }
+    ensures form { result ≡ BAD_TEXT → fault.new.kind ≤ 2 → IsNoText text.now }
     ensures no_fault { result ≢ BAD_TEXT → fault.new ≡ no_fault }
     ensures statuses { (result ≡ DONE) ⊎ ((result ≡ BUSY) ⊎ ((result ≡ OUT_OF_RANGE)
         ⊎ ((result ≡ BAD_TEXT) ⊎ (result ≡ NO_MEMORY)))) }
@@ -120,13 +127,19 @@ pub extern "C" fn pidtab_record_load(
     if counts.is_empty() || counts.len() > MOST_WORKERS as usize {
         return OUT_OF_RANGE;
     }
-    let loaded = match load(alloc, text) {
+    texts_tell_states();
+    what_fits_is_of_words();
+    let saved = match read_text(alloc, text) {
+        Ok(saved) => saved,
+        Err(found) => return put_fault(RestoreFault::from(found), fault),
+    };
+    if !Kept::can_resume(saved.stamp, counts) {
+        return OUT_OF_RANGE;
+    }
+    let loaded = match table_of(alloc, &saved) {
         Ok(loaded) => loaded,
         Err(found) => return put_fault(found, fault),
     };
-    if !Kept::can_resume(loaded.stamp, counts) {
-        return OUT_OF_RANGE;
-    }
     let Ok(held) = boxed_resume(alloc, loaded, counts) else {
         return NO_MEMORY;
     };

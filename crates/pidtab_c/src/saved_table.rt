@@ -1,7 +1,9 @@
 //! A table as a text, for C: the text is written, and a table is opened as such a text says.
 ghost use Rattle.std.specs.Prelude.{◌≡◌, ◌≢◌, ◌<◌, ◌≤◌, ◌↔◌, ◌⊎◌, IsSome, None, IfOk};
-ghost use Rattle.std.specs.Prelude.{length, take, drop};
+ghost use Rattle.std.specs.Prelude.{length, take, drop, IfErr};
 ghost use Rattle.table_plan.specs.declared.fault.RestoreFault.TheVariants.{NoMemory};
+ghost use Rattle.table_plan.specs.Faults.{IsOfForm};
+ghost use Rattle.table_text.specs.Reading.{IsNoText};
 ghost use Rattle.table_text.specs.Texts.{text_of};
 ghost use Rattle.pidtab_c.specs.Records.{Has};
 ghost use Rattle.pidtab_c.specs.Saved.{no_fault, fault_numbers};
@@ -50,6 +52,7 @@ pub(crate) fn tell_fault(fault: RestoreFault) -> FaultNumbers
 pub(crate) fn put_fault(found: RestoreFault, fault: &mut FaultNumbers) -> u32
     ensures told { fault.new ≡ fault_numbers found }
     ensures kind { result ≡ BAD_TEXT → (1 ≤ fault.new.kind) × (fault.new.kind ≤ 12) }
+    ensures form { result ≡ BAD_TEXT → fault.new.kind ≤ 2 → IsOfForm found }
     ensures none { result ≡ NO_MEMORY → fault.new ≡ no_fault }
     ensures no_memory { (result ≡ NO_MEMORY) ↔ (found ≡ NoMemory) }
     ensures statuses { (result ≡ NO_MEMORY) ⊎ (result ≡ BAD_TEXT) }
@@ -65,6 +68,7 @@ pub(crate) fn put_fault(found: RestoreFault, fault: &mut FaultNumbers) -> u32
 fn boxed_load(alloc: Global, text: &[u8]) -> Result<Box<StampedTable>, RestoreFault>
     ensures text { IfOk result (λ held. text.now ≡ text_of held.value.stamp held.value.state) }
     ensures sound { IfOk result (λ held. IsInOrder held.value) }
+    ensures form { IfErr result (λ fault. IsOfForm fault → IsNoText text.now) }
 {
     let held = StampedTable::of_loaded(load(alloc, text)?);
     match Box::new(alloc, held) {
@@ -112,8 +116,8 @@ pub extern "C" fn pidtab_dump(
 /// Opens a table as the text says: its state, and the stamp of its next call. Any bytes may be given.
 ///
 /// `BUSY` where it is open already; then `BAD_TEXT` where the text is that of no table, and `fault` says why; or
-/// `NO_MEMORY`. Where the status is not `BAD_TEXT`, `fault` is zeroes. It costs some times what the forks cost that
-/// made the tasks.
+/// `NO_MEMORY`. A fault of kind 1 or 2 comes only where the text is that of no state at all. Where the status is not
+/// `BAD_TEXT`, `fault` is zeroes. It costs some times what the forks cost that made the tasks.
 #[unsafe(no_mangle)]
 pub extern "C" fn pidtab_load(
     alloc: Global,
@@ -127,6 +131,7 @@ pub extern "C" fn pidtab_load(
     ensures not_done { result ≢ DONE → table.new.handle.held ≡ table.old.handle.held }
     ensures busy { (result ≡ BUSY) ↔ IsSome table.old.handle.held }
     ensures bad_text { result ≡ BAD_TEXT → (1 ≤ fault.new.kind) × (fault.new.kind ≤ 12) }
+    ensures form { result ≡ BAD_TEXT → fault.new.kind ≤ 2 → IsNoText text.now }
     ensures no_fault { result ≢ BAD_TEXT → fault.new ≡ no_fault }
     ensures statuses { (result ≡ DONE) ⊎ ((result ≡ BUSY) ⊎ ((result ≡ BAD_TEXT) ⊎ (result ≡ NO_MEMORY))) }
 {

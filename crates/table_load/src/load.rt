@@ -1,13 +1,15 @@
 //! The way from a text to a table: [`load`].
-ghost use Rattle.std.specs.Prelude.{◌≡◌, IfOk};
+ghost use Rattle.std.specs.Prelude.{◌≡◌, IfOk, IfErr};
 ghost use Rattle.pid_types.specs.Sound.{IsSound, IsBelow};
+ghost use Rattle.table_plan.specs.Faults.{IsOfForm};
+ghost use Rattle.table_text.specs.Reading.{IsNoText, saved_state};
 ghost use Rattle.table_text.specs.Texts.{text_of};
 
 use crate::make::make_table;
 use pid_table::PidTable;
 use std::alloc::Global;
 use table_plan::fault::RestoreFault;
-use table_text::read::read_text;
+use table_text::read::{Saved, read_text};
 
 /// A table that was loaded from a text.
 #[derive(Drop)]
@@ -20,7 +22,8 @@ pub struct Loaded {
 
 /// The table that a text was written of, and the stamp of its next call. `docs/SCRIPT.md` has the form.
 ///
-/// The error is the first that is met: a fault of the text with its line, or want of memory. Then nothing is kept. A
+/// The error is the first that is met: a fault of the text with its line, or want of memory. Then nothing is kept. That
+/// a line is bad, or the digest wrong, is said of a text that is that of no state alone. A
 /// text that a table wrote is refused in one case, with [`RestoreFault::NoNumber`]: where a namespace without an init
 /// has to be made again in one whose numbers are all in use.
 ///
@@ -29,8 +32,46 @@ pub struct Loaded {
 pub fn load(alloc: Global, text: &[u8]) -> Result<Loaded, RestoreFault>
     ensures text { IfOk result (λ l. text.now ≡ text_of l.stamp l.table) }
     ensures sound { IfOk result (λ l. IsSound l.table × IsBelow l.stamp l.table) }
+    ensures form { IfErr result (λ fault. IsOfForm fault → IsNoText text.now) }
 {
     let saved = read_text(alloc, text)?;
-    let draft = make_table(alloc, &saved)?;
-    draft.finish(&saved)
+    table_of(alloc, &saved)
+}
+
+/// The table that a text says which was read. It is the second half of [`load`], for whoever looks at what was read
+/// before a table is made.
+pub fn table_of(alloc: Global, saved: &Saved) -> Result<Loaded, RestoreFault>
+    ensures state { IfOk result (λ l. l.table ≡ saved_state saved.now) }
+    ensures stamp { IfOk result (λ l. l.stamp ≡ saved.now.stamp) }
+    ensures sound { IfOk result (λ l. IsSound l.table × IsBelow l.stamp l.table) }
+    ensures form { IfErr result (λ fault. IsOfForm fault → ⊥) }
+{
+    match make_as_said(alloc, saved) {
+        Ok(loaded) => Ok(loaded),
+        Err(fault) => Err(beside_form(fault)),
+    }
+}
+
+/// The table is made, and compared with what the text says.
+fn make_as_said(alloc: Global, saved: &Saved) -> Result<Loaded, RestoreFault>
+    ensures state { IfOk result (λ l. l.table ≡ saved_state saved.now) }
+    ensures stamp { IfOk result (λ l. l.stamp ≡ saved.now.stamp) }
+    ensures sound { IfOk result (λ l. IsSound l.table × IsBelow l.stamp l.table) }
+{
+    let draft = make_table(alloc, saved)?;
+    draft.finish(saved)
+}
+
+/// A fault of what a text says. It is none of the text's form, which was read.
+fn beside_form(fault: RestoreFault) -> RestoreFault
+    ensures form { IsOfForm result → ⊥ }
+    ensures other { (IsOfForm fault → ⊥) → result ≡ fault }
+{
+    match fault {
+        // Never so: no plan says this.
+        RestoreFault::BadLine(line) | RestoreFault::WrongDigest(line) => {
+            RestoreFault::Impossible(line)
+        }
+        other => other,
+    }
 }

@@ -55,6 +55,11 @@ impl From<AllocError> for RestoreFault {
 }
 
 impl From<LoadFault> for RestoreFault {
+    ghost use Rattle.std.specs.Prelude.{◌≡◌};
+    ghost use Rattle.table_plan.specs.Faults.{of_load};
+
+    ghost from_gives = { λ fault given. given ≡ of_load fault };
+
     fn from(fault: LoadFault) -> RestoreFault {
         match fault {
             LoadFault::NoMemory => RestoreFault::NoMemory,

@@ -56,7 +56,7 @@ has_numbers state sound r there =
         let lives = (sound.coherent.parents r there).good parent is in
         subst IsNumbered lives.lives.2 (well lives.lives.0.name (in_use state.rows lives.lives.0 lives.lives.1).0)
 
-words_of_state : (state : State) → IsHeldState state → IsStateOfWords state
+pub words_of_state : (state : State) → IsHeldState state → IsStateOfWords state
 words_of_state state held = record {
   rows = λ r there. words_of_row r (held.rows r there);
   spaces = λ s there. words_of_space s (held.spaces s there);

@@ -3,7 +3,7 @@ ghost use Rattle.std.specs.Prelude.{◌≡◌, IfOk, IfErr};
 ghost use Rattle.pid_types.specs.State.{State};
 ghost use Rattle.pid_types.specs.Sound.{IsSound};
 ghost use Rattle.pid_types.specs.Shown.{Shows};
-ghost use Rattle.table_text.specs.Laws.{SnapshotsHaveTheirState, TextsTellStates};
+ghost use Rattle.table_text.specs.Laws.{SnapshotsHaveTheirState, TextsTellStates, WhatFitsIsOfWords};
 ghost use Rattle.table_text.specs.Reading.{saved_state};
 ghost use Rattle.table_text.specs.declared.fault.LoadFault.TheVariants.{NoMemory};
 
@@ -21,6 +21,11 @@ pub fn snapshots_have_their_state()
 /// Equal texts are of one state, with one stamp. The bound of all numbers is part of the state.
 pub fn texts_tell_states()
     ensures { TextsTellStates }
+{}
+
+/// Numbers that fit their types are words of 64 bits.
+pub fn what_fits_is_of_words()
+    ensures { WhatFitsIsOfWords }
 {}
 
 /// What is written of a sound state is read back, and only want of memory keeps it from that.
