@@ -162,6 +162,14 @@ impl Kept {
         self.config
     }
 
+    /// Whether it goes on from a table that was loaded. Where it does not, the opening is the root init's state until
+    /// something is cut away.
+    pub fn is_resumed(&self) -> bool
+        ensures { result ≡ self.now.is_resumed }
+    {
+        self.is_resumed
+    }
+
     /// How many calls were recorded, the cut ones among them.
     ///
     /// Its contract says what a record promises whenever nobody works on it: for a record behind

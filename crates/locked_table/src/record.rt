@@ -114,6 +114,14 @@ impl<L: Ledger, const N: usize> Record<L, N> {
         self.kept.config()
     }
 
+    /// Whether it goes on from a table that was loaded. Where it does not, the opening is the root init's state until
+    /// something is cut away.
+    pub fn is_resumed(&self) -> bool
+        ensures { result ≡ self.now.is_resumed }
+    {
+        self.kept.is_resumed()
+    }
+
     /// How many calls were recorded, the cut ones among them.
     ///
     /// Its contract tells what the record promises whenever nobody works on it: for a record behind

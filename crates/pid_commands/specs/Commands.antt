@@ -5,6 +5,7 @@ use Rattle.std.specs.Io.KnownBytes.{Appends}
 use Rattle.std.specs.List.{AllZip}
 use Rattle.pid_types.specs.Settings.{Settings}
 use Rattle.pid_types.specs.State.{State}
+use Rattle.pid_types.specs.Step.{may_grow}
 use Rattle.pid_types.specs.declared.call.Call.{Call}
 use Rattle.pid_types.specs.declared.reply.Reply.{Reply}
 use Rattle.pid_script.specs.Job.{Refuses, Yields}
@@ -32,12 +33,12 @@ pub record RunsScript (settings : Settings) (from to before after : Option (List
   pub tally : Tally
   pub text : List ℕ
   pub calls : List (Call × Reply)
-  pub finished : Finishes (start_of settings) (ended_at present stamp tally text calls) from to before after
+  pub finished : Finishes may_grow (start_of settings) (ended_at present stamp tally text calls) from to before after
 
 -- the script stopped short of its end, after at most so many reads
 abbrev pub FailsToRun : ℕ → Settings → Option (List ℕ) → Option (List ℕ) → Option (List ℕ) → Option (List ℕ) → Bool → Fault → Type 0
 FailsToRun turns settings from to before after failed fault =
-    (cause : RunScriptFault) × (fault ≡ of_script cause) × Leaves turns (start_of settings) from to before after failed cause
+    (cause : RunScriptFault) × (fault ≡ of_script cause) × Leaves may_grow turns (start_of settings) from to before after failed cause
 
 -- the same of a reader that is gone afterwards
 abbrev pub RunsInput : Settings → Option (List ℕ) → Option (List ℕ) → Option (List ℕ) → Type 0

@@ -3,7 +3,8 @@ use Rattle.std.specs.Prelude.{ℕ, ◌≡◌, ◌+◌, ◌<◌, List, [], ◌∷
 use Rattle.std.specs.declared.alloc.Global.{Global}
 use Rattle.std.specs.List.{flat_map}
 use Rattle.pid_types.specs.Settings.{Settings}
-use Rattle.pid_types.specs.State.{State}
+use Rattle.pid_types.specs.State.{State, root_state}
+use Rattle.pid_types.specs.Step.{may_grow}
 use Rattle.pid_types.specs.Shown.{Shows}
 use Rattle.pid_types.specs.declared.call.Call.{Call}
 use Rattle.pid_types.specs.declared.entry.Receipt.{Receipt}
@@ -41,7 +42,8 @@ works_text first [] = []
 works_text first (work ∷ works) = work_lines first work ++ works_text (first + 1) works
 
 -- the text is what workers of these jobs had, and the list of the table that they left. The table was made with the settings, it
--- keeps the promise of a record, its history is whole, and in it are just the receipts that the workers have
+-- keeps the promise of a record, its history is whole and begins with the root init alone, and in it are just the receipts that the
+-- workers have
 pub record ShowsRun (settings : Settings) (jobs : List (Vec Call Global)) (text : List ℕ) : Type 0 where
   pub kept : Chronicle
   pub works : List Work
@@ -49,6 +51,7 @@ pub record ShowsRun (settings : Settings) (jobs : List (Vec Call Global)) (text 
   pub made : kept.config ≡ settings
   pub promised : KeepsPromise kept
   pub whole : kept.first_kept ≡ 0
+  pub begins : kept.opening ≡ root_state settings.pid_max
   pub many : length works ≡ length jobs
   pub done : (w : ℕ) (d : Work) (j : Vec Call Global) → w < length jobs
       → Fulfils (slice_index_or jobs w j).items (slice_index_or works w d).receipts.items (slice_index_or works w d).refused
@@ -56,7 +59,7 @@ pub record ShowsRun (settings : Settings) (jobs : List (Vec Call Global)) (text 
   pub shown : Shows kept.present plain
   pub told : text ≡ works_text 0 works ++ list_of plain
 
--- the source is at its end, and the list is that of the state to which its script leads
+-- the source is at its end, no call of its script found no memory, and the list is that of the state to which it leads
 pub record ListsScript (settings : Settings) (from to : Option (List ℕ)) (list : List ℕ) : Type 0 where
   pub present : State
   pub stamp : ℕ
@@ -64,11 +67,13 @@ pub record ListsScript (settings : Settings) (from to : Option (List ℕ)) (list
   pub text : List ℕ
   pub calls : List (Call × Reply)
   pub plain : Plain
-  pub finished : Finishes (start_of settings) (ended_at present stamp tally text calls) from to None None
+  pub finished : Finishes may_grow (start_of settings) (ended_at present stamp tally text calls) from to None None
+  pub all : tally.starved ≡ 0
   pub shown : Shows present plain
   pub listed : list ≡ list_of plain
 
--- there was no memory for the list, or the script stopped short of its end, after at most so many reads
+-- there was no memory for the list or a call, or the script stopped short of its end, after at most so many reads
 abbrev pub FailsToList : ℕ → Settings → Option (List ℕ) → Option (List ℕ) → Bool → Fault → Type 0
 FailsToList turns settings from to failed fault =
-    (fault ≡ NoMemory) ⊎ ((f : RunScriptFault) × (fault ≡ of_script f) × Leaves turns (start_of settings) from to None None failed f)
+    (fault ≡ NoMemory)
+    ⊎ ((f : RunScriptFault) × (fault ≡ of_script f) × Leaves may_grow turns (start_of settings) from to None None failed f)

@@ -178,11 +178,17 @@ fn list_of_script<L: Ledger, R: Threads + AllocGlobal, S: Source>(
     ensures fault { IfErr result (FailsToList MOST_READS config.now (S.remaining source.old) (S.remaining source.new)
         (S.has_failed source.new)) }
 {
-    let left = run_for_table::<L, _, _>(rt.alloc(), blank, source, &mut Discard, config)?;
-    if !left.is_whole {
+    let (tally, record) = run_for_table::<L, _, _>(
+        rt.alloc(),
+        blank,
+        source,
+        &mut Discard,
+        config,
+    )?;
+    if tally.starved > 0 {
         return Err(Fault::NoMemory);
     }
-    Ok(list_record(rt, rt.alloc(), &left.record)?)
+    Ok(list_record(rt, rt.alloc(), &record)?)
 }
 
 /// Reads the job files, runs a worker for each, and writes what they had. Its text is held whole, so

@@ -10,9 +10,9 @@ pub use Rattle.pid_script.specs.declared.tally.Tally.{Tally}
 pub use Rattle.pid_script.specs.declared.tally.RunScriptFault.{RunScriptFault}
 pub use Rattle.pid_script.specs.declared.tally.RunScriptFault.TheVariants.{Write}
 pub use Rattle.pid_script.specs.declared.job.JobFault.{JobFault}
-pub use Rattle.pid_script.specs.Script.{Progress, HasStopped, begun, with_newline, told, stepped, after_saying, after_line, said_of, said_whole, said_within, kept_after, said_next, last_said, kept_line, kept_more}
+pub use Rattle.pid_script.specs.Script.{Progress, HasStopped, begun, with_newline, told, stepped, found_none, MayStarve, MayAllStarve, Says, after_saying, after_line, said_of, said_whole, said_within, kept_after, said_next, last_said, kept_line, kept_more}
 unfoldable pub use Rattle.pid_script.specs.Script.{after_call, after_script}
-pub use Rattle.pid_script.specs.Session.{Acts, made_by, Leads, ended_at, progress_of, Answers, StopsShort, Halts, Breaks, Finishes, IsTallied}
+pub use Rattle.pid_script.specs.Session.{Acts, is_starved, made_by, Leads, ended_at, progress_of, Answers, StopsShort, Halts, Breaks, Finishes, IsTallied}
 pub use Rattle.pid_script.specs.Dialogue.{Sends, Stalls, Queues, Stops, Responds, is_end, lines_heard, IsAnswered, IsCutShort, Follows, Each, Converses}
 pub use Rattle.pid_script.specs.Job.{IsMet, IsRead, calls_said, AreGood, IsReached, Yields, Refuses, Adds, IsStopped}
 pub use Rattle.pid_script.specs.Answers.{fault_text, answer_of, replied}

@@ -3,7 +3,7 @@ use Rattle.std.proofs.Common.{◌≡◌, ℕ, ◌+◌, ◌<◌, ◌≤◌, Bool,
 use Rattle.std.specs.List.{list_any}
 use Rattle.std.proofs.lemmas.List.Folds.{list_any-append}
 use Rattle.std.proofs.lemmas.List.Concat.{flat_map-append}
-use Rattle.pid_script.proofs.Names.{Appends, Consumes, IsAtEnd, Event, Reading, Writing, heard_by, heard, said_by, said, readings, IsWell, AreWell, some_is_none, AreWell-more, readings-more, no_readings, Call, Reply, Line, Progress, said_of, said_whole, said_within, kept_after, said_next, Answers, StopsShort, Halts, Breaks, Sends, Stalls, is_end, lines_heard, IsAnswered, IsCutShort, Follows, Each, Converses, Write}
+use Rattle.pid_script.proofs.Names.{Appends, Consumes, IsAtEnd, Event, Reading, Writing, heard_by, heard, said_by, said, readings, IsWell, AreWell, some_is_none, AreWell-more, readings-more, no_readings, Call, Reply, Line, Progress, Says, said_of, said_whole, said_within, kept_after, said_next, Answers, StopsShort, Halts, Breaks, Sends, Stalls, is_end, lines_heard, IsAnswered, IsCutShort, Follows, Each, Converses, Write}
 use Rattle.pid_script.proofs.Said.{said_within-whole}
 use Rattle.pid_script.proofs.Progress.{Answers-more, StopsShort-more}
 pub use Rattle.pid_script.proofs.Ends.{finishes, more_kept, more_said, last_of}
@@ -25,18 +25,18 @@ hears_nothing (Reading asked given ∷ es) none = absurd (some_is_none _ _ none)
 hears_nothing (Writing offered taken ∷ es) none = hears_nothing es none
 
 -- writes that took some may follow where no device has failed
-pub writes_follow : (start : Progress) (before es : List Event) → AreWell before → AreWell es → readings es ≡ [] → Each (Follows start) before es
-writes_follow start before [] well all none = tt
-writes_follow start before (Reading asked given ∷ es) well all none = absurd (some_is_none _ _ none)
-writes_follow start before (Writing offered taken ∷ es) well all none =
-    (well, writes_follow start (before ++ Writing offered taken ∷ []) es (AreWell-more before (Writing offered taken ∷ []) well (all.0, tt)) all.1 none)
+pub writes_follow : (may : Call → Bool) (start : Progress) (before es : List Event) → AreWell before → AreWell es → readings es ≡ [] → Each (Follows may start) before es
+writes_follow may start before [] well all none = tt
+writes_follow may start before (Reading asked given ∷ es) well all none = absurd (some_is_none _ _ none)
+writes_follow may start before (Writing offered taken ∷ es) well all none =
+    (well, writes_follow may start (before ++ Writing offered taken ∷ []) es (AreWell-more before (Writing offered taken ∷ []) well (all.0, tt)) all.1 none)
 
 -- events of which none is a fault, and in which each read came once all before it was answered; and whether they found the end
-pub record GoesOn (start p : Progress) (AreMade : List (Call × Reply) → Type 0) (lines : List Line) (events : List Event) (ended : Bool) : Type 0 where
-  pub each : Each (Follows start) [] events
+pub record GoesOn (may : Call → Bool) (start p : Progress) (AreMade : List (Call × Reply) → Type 0) (lines : List Line) (events : List Event) (ended : Bool) : Type 0 where
+  pub each : Each (Follows may start) [] events
   pub well : AreWell events
   pub ends : list_any is_end events ≡ ended
-  pub answered : Answers start p (λ sent. said events ≡ sent) AreMade lines
+  pub answered : Answers may start p (λ sent. said events ≡ sent) AreMade lines
 
 -- the lines that a turn comes to: those that its piece ends, and at the end of the source what is left
 abbrev pub lines_of_turn : List ℕ → ℕ → List ℕ → List Line
@@ -52,28 +52,28 @@ next_within part [] some = absurd (omega arith)
 next_within part (b ∷ bs) some = refl
 
 -- lines whose answers were all written are answered, where they are those that were read
-pub all_answered : {AreMade : List (Call × Reply) → Type 0} (start p : Progress) (events : List Event) (lines : List Line) → Answers start p (λ sent. said events ≡ sent) AreMade lines → p.text ≡ [] → lines ≡ lines_heard events
-    → IsAnswered start events
-all_answered start p events lines answers empty are = record {
+pub all_answered : {may : Call → Bool} {AreMade : List (Call × Reply) → Type 0} (start p : Progress) (events : List Event) (lines : List Line) → Answers may start p (λ sent. said events ≡ sent) AreMade lines → p.text ≡ [] → lines ≡ lines_heard events
+    → IsAnswered may start events
+all_answered {may} start p events lines answers empty are = record {
   script = answers.script;
-  says = answers.says ∙ are;
+  says = subst (Says may answers.script) are answers.says;
   text = answers.appended ∙ sym (append-nil answers.sent) ∙ ap (λ text. answers.sent ++ text) (sym empty) ∙ ap (λ q. q.text) answers.reached;
 }
 
-by_end : (to : Option (List ℕ)) (read : List ℕ) (lines : List Line) (ended : Bool) → (ended ≡ true → IsAtEnd to) → lines ≡ (if ended then said_of read else said_whole read)
-    → (lines ≡ said_whole read) ⊎ (IsAtEnd to × (lines ≡ said_of read))
-by_end to read lines true at_end are = inr (at_end refl, are)
-by_end to read lines false at_end are = inl are
+by_end : (P : List Line → Type 0) (to : Option (List ℕ)) (read : List ℕ) (ended : Bool) → (ended ≡ true → IsAtEnd to) → P (if ended then said_of read else said_whole read)
+    → P (said_whole read) ⊎ (IsAtEnd to × P (said_of read))
+by_end P to read true at_end are = inr (at_end refl, are)
+by_end P to read false at_end are = inl are
 
 -- what a source and a sink tell of events whose answers were all written
-pub halts : {from to before after : Option (List ℕ)} (start : Progress) (least : ℕ) (events : List Event) → IsAnswered start events → list_any is_end events ≡ false
-    → least ≤ length (heard events) → Consumes from to (heard events) → Appends before after (said events) → Halts least start from to before after
-halts {before = before} {after = after} start least events answered endless long consumed appended = record {
+pub halts : {may : Call → Bool} {from to before after : Option (List ℕ)} (start : Progress) (least : ℕ) (events : List Event) → IsAnswered may start events → list_any is_end events ≡ false
+    → least ≤ length (heard events) → Consumes from to (heard events) → Appends before after (said events) → Halts may least start from to before after
+halts {may = may} {before = before} {after = after} start least events answered endless long consumed appended = record {
   read = heard events;
   script = answered.script;
   consumed = consumed;
   long = long;
-  says = answered.says ∙ ap (λ ended. if ended then said_of (heard events) else said_whole (heard events)) endless;
+  says = subst (Says may answered.script) (ap (λ ended. if ended then said_of (heard events) else said_whole (heard events)) endless) answered.says;
   written = subst (Appends before after) answered.text appended;
 }
 
@@ -126,23 +126,23 @@ turn_done more one {a} {b} {c} {d} events asked given es before event written =
     more a b d events (Reading asked given ∷ es) before (more b c d (Reading asked given ∷ []) es event ((one c d es).1 written))
 
 -- where a write took none
-abbrev pub stalled : {p : Progress} {did : List Event → Type 0} {lines : List Line} → StopsShort p (Stalls did) lines → List Event
+abbrev pub stalled : {may : Call → Bool} {p : Progress} {did : List Event → Type 0} {lines : List Line} → StopsShort may p (Stalls did) lines → List Event
 stalled stops = stops.appended.events ++ Writing stops.appended.offered stops.appended.taken ∷ []
 
 -- where a script goes on and nothing waits
-module _ {start p : Progress} {AreMade : List (Call × Reply) → Type 0} {events : List Event} (on : GoesOn start p AreMade (said_within (Some []) (heard events)) events false)
+module _ {may : Call → Bool} {start p : Progress} {AreMade : List (Call × Reply) → Type 0} {events : List Event} (on : GoesOn may start p AreMade (said_within (Some []) (heard events)) events false)
     (empty : p.text ≡ []) where
   -- all that was read is answered
-  pub is_answered : IsAnswered start events
+  pub is_answered : IsAnswered may start events
   is_answered =
       all_answered start p events (said_within (Some []) (heard events)) on.answered empty
       (said_within-whole (heard events) ∙ ap (λ ended. if ended then said_of (heard events) else said_whole (heard events)) (sym on.ends))
 
-module _ {start p : Progress} {AreMade : List (Call × Reply) → Type 0} {events : List Event} (on : GoesOn start p AreMade (said_within (Some []) (heard events)) events false)
+module _ {may : Call → Bool} {start p : Progress} {AreMade : List (Call × Reply) → Type 0} {events : List Event} (on : GoesOn may start p AreMade (said_within (Some []) (heard events)) events false)
     (empty : p.text ≡ []) {asked : ℕ} (size : asked ≡ 4096) where
   -- a read may follow, and then what follows it
-  pub read_follows : (given : Option (List ℕ)) (es : List Event) → Each (Follows start) (events ++ Reading asked given ∷ []) es → Each (Follows start) [] (turn events asked given es)
-  read_follows given es rest = Each-more (Follows start) [] events (Reading asked given ∷ es) on.each ((on.well, on.ends, omega (arith, size), is_answered on empty), rest)
+  pub read_follows : (given : Option (List ℕ)) (es : List Event) → Each (Follows may start) (events ++ Reading asked given ∷ []) es → Each (Follows may start) [] (turn events asked given es)
+  read_follows given es rest = Each-more (Follows may start) [] events (Reading asked given ∷ es) on.each ((on.well, on.ends, omega (arith, size), is_answered on empty), rest)
 
   module _ (piece : List ℕ) where
     read_well : AreWell (events ++ Reading asked (Some piece) ∷ [])
@@ -156,12 +156,12 @@ module _ {start p : Progress} {AreMade : List (Call × Reply) → Type 0} {event
 
   module _ (piece : List ℕ) {did : List Event → Type 0} where
     -- where the lines of what it gave are answered
-    pub turned : {IsNext IsAll : List (Call × Reply) → Type 0} → ((xs ys : List (Call × Reply)) → AreMade xs → IsNext ys → IsAll (xs ++ ys)) → (q : Progress) (lines : List Line) → (more : Answers p q (Sends did) IsNext lines)
-        → GoesOn start q IsAll (said_within (Some []) (heard events) ++ lines) (turn events asked (Some piece) more.appended.events) (is_end (Reading asked (Some piece)))
+    pub turned : {IsNext IsAll : List (Call × Reply) → Type 0} → ((xs ys : List (Call × Reply)) → AreMade xs → IsNext ys → IsAll (xs ++ ys)) → (q : Progress) (lines : List Line) → (more : Answers may p q (Sends did) IsNext lines)
+        → GoesOn may start q IsAll (said_within (Some []) (heard events) ++ lines) (turn events asked (Some piece) more.appended.events) (is_end (Reading asked (Some piece)))
     turned {IsAll = IsAll} after q lines more =
         let sends = more.appended in
         record {
-          each = read_follows (Some piece) sends.events (writes_follow start (events ++ Reading asked (Some piece) ∷ []) sends.events (read_well piece) sends.well sends.writes);
+          each = read_follows (Some piece) sends.events (writes_follow may start (events ++ Reading asked (Some piece) ∷ []) sends.events (read_well piece) sends.well sends.writes);
           well = AreWell-more events (Reading asked (Some piece) ∷ sends.events) on.well (tt, sends.well);
           ends = turn_end events asked (Some piece) sends.events sends.writes on.ends;
           answered = Answers-more {a = λ sent. said events ≡ sent} {b = λ sent. said sends.events ≡ sent} {c = λ sent. said (turn events asked (Some piece) sends.events) ≡ sent} {m = IsAll}
@@ -170,12 +170,12 @@ module _ {start p : Progress} {AreMade : List (Call × Reply) → Type 0} {event
               (record { sent = more.sent; calls = more.calls; script = more.script; says = more.says; appended = sends.sent; made = more.made; reached = more.reached });
         }
 
-    module _ (lines : List Line) (stops : StopsShort p (Stalls did) lines) (are : said_within (Some []) (heard events) ++ lines ≡ lines_of_turn (heard events) asked piece) where
+    module _ (lines : List Line) (stops : StopsShort may p (Stalls did) lines) (are : said_within (Some []) (heard events) ++ lines ≡ lines_of_turn (heard events) asked piece) where
       stalled_writes : readings (stalled stops) ≡ []
       stalled_writes = no_readings stops.appended.events (Writing stops.appended.offered stops.appended.taken ∷ []) stops.appended.writes refl
 
       -- where a write took none, not all of the answers were written
-      stalled_short : IsCutShort start (turn events asked (Some piece) (stalled stops))
+      stalled_short : IsCutShort may start (turn events asked (Some piece) (stalled stops))
       stalled_short =
           let stalls = stops.appended in
           let last = Writing stalls.offered stalls.taken ∷ [] in
@@ -189,14 +189,14 @@ module _ {start p : Progress} {AreMade : List (Call × Reply) → Type 0} {event
           record {
             script = short.script;
             left = short.left;
-            says = short.says ∙ are ∙ sym (turn_lines piece (stalled stops) stalled_writes);
+            says = subst (Says may short.script) (are ∙ sym (turn_lines piece (stalled stops) stalled_writes)) short.says;
             text = short.short ∙ ap (λ sent. sent ++ short.left) (sym short.appended);
             some_left = short.some_left;
           }
 
       pub stalled_breaks : {from to before after : Option (List ℕ)} → (is_end (Reading asked (Some piece)) ≡ true → readings (stalled stops) ≡ [] → IsAtEnd to)
           → Consumes from to (heard (turn events asked (Some piece) (stalled stops))) → Appends before after (said (turn events asked (Some piece) (stalled stops)))
-          → Breaks start from to before after
+          → Breaks may start from to before after
       stalled_breaks {to = to} at_end consumed appended =
           let all = turn events asked (Some piece) (stalled stops) in
           let ends = turn_end events asked (Some piece) (stalled stops) stalled_writes on.ends in
@@ -206,14 +206,14 @@ module _ {start p : Progress} {AreMade : List (Call × Reply) → Type 0} {event
             sent = said all;
             left = stalled_short.left;
             consumed = consumed;
-            says = by_end to (heard all) _ (list_any is_end all) (λ ended. at_end (sym ends ∙ ended) stalled_writes) stalled_short.says;
+            says = by_end (Says may stalled_short.script) to (heard all) (list_any is_end all) (λ ended. at_end (sym ends ∙ ended) stalled_writes) stalled_short.says;
             text = stalled_short.text;
             some_left = stalled_short.some_left;
             written = appended;
           }
 
       pub stalled_talk : {T : Type 0} {all : List Event → Type 0} (turns : ℕ) → length (readings events) + 1 ≤ turns → all (turn events asked (Some piece) (stalled stops))
-          → Converses {T = T} turns start all (Err Write)
+          → Converses {T = T} may turns start all (Err Write)
       stalled_talk turns within done =
           let stalls = stops.appended in
           let last = Writing stalls.offered stalls.taken ∷ [] in
@@ -222,7 +222,7 @@ module _ {start p : Progress} {AreMade : List (Call × Reply) → Type 0} {event
             events = turn events asked (Some piece) (stalled stops);
             done = done;
             each = read_follows (Some piece) (stalled stops)
-                (Each-more (Follows start) before stalls.events last (writes_follow start before stalls.events (read_well piece) stalls.well stalls.writes)
+                (Each-more (Follows may start) before stalls.events last (writes_follow may start before stalls.events (read_well piece) stalls.well stalls.writes)
                 (AreWell-more before stalls.events (read_well piece) stalls.well, tt));
             few = omega (arith, turn_reads events asked (Some piece) (stalled stops) stalled_writes, within);
             ended = (

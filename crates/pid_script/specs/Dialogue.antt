@@ -8,7 +8,7 @@ use Rattle.pid_script.specs.declared.tally.RunScriptFault.{RunScriptFault}
 use Rattle.pid_script.specs.declared.tally.RunScriptFault.TheVariants as fault
 use Rattle.pid_types.specs.declared.call.Call.{Call}
 use Rattle.pid_types.specs.declared.reply.Reply.{Reply}
-use Rattle.pid_script.specs.Script.{Progress, HasStopped, said_of, said_whole, after_script}
+use Rattle.pid_script.specs.Script.{Progress, HasStopped, said_of, said_whole, after_script, Says}
 use Rattle.pid_script.specs.Session.{Answers, StopsShort}
 
 -- the sink took these bytes, by writes that each took some
@@ -39,10 +39,10 @@ abbrev pub Stops : (List Event → Type 0) → List ℕ → Type 0
 Stops did bytes = (sent left : List ℕ) × Stalls did sent × (bytes ≡ sent ++ left) × (0 < length left)
 
 -- how these lines went: they took the script from p to q; or the sink has stopped, and took not all of their answers
-pub record Responds {T : Type 0} (result : Result T RunScriptFault) (p q : Progress) (did : List Event → Type 0)
+pub record Responds {T : Type 0} (may : Call → Bool) (result : Result T RunScriptFault) (p q : Progress) (did : List Event → Type 0)
     (made : List (Call × Reply) → Type 0) (lines : List Line) (failed full : Bool) : Type 0 where
-  pub ok : OnOk result (Answers p q (Sends did) made lines)
-  pub err : OnErr result (StopsShort p (Stalls did) lines)
+  pub ok : OnOk result (Answers may p q (Sends did) made lines)
+  pub err : OnErr result (StopsShort may p (Stalls did) lines)
   pub fault : IfErr result (λ e. e ≡ fault.Write)
   pub stopped : OnErr result (HasStopped failed full)
 
@@ -58,24 +58,25 @@ abbrev pub lines_heard : List Event → List Line
 lines_heard events = if list_any is_end events then said_of (heard events) else said_whole (heard events)
 
 -- what was written is what the lines that were read come to
-pub record IsAnswered (start : Progress) (events : List Event) : Type 0 where
+pub record IsAnswered (may : Call → Bool) (start : Progress) (events : List Event) : Type 0 where
   pub script : List (Line × Bool)
-  pub says : map (λ l. l.0) script ≡ lines_heard events
+  pub says : Says may script (lines_heard events)
   pub text : said events ≡ (after_script start script).text
 
 -- what was written is not all that the lines that were read come to, but its front
-pub record IsCutShort (start : Progress) (events : List Event) : Type 0 where
+pub record IsCutShort (may : Call → Bool) (start : Progress) (events : List Event) : Type 0 where
   pub script : List (Line × Bool)
   pub left : List ℕ
-  pub says : map (λ l. l.0) script ≡ lines_heard events
+  pub says : Says may script (lines_heard events)
   pub text : (after_script start script).text ≡ said events ++ left
   pub some_left : 0 < length left
 
 -- no event comes after a fault. A read comes before the end alone, asks for at most 4,096 bytes, and comes once all that was
 -- read is answered
-abbrev pub Follows : Progress → List Event → Event → Type 0
-Follows start before (Reading asked given) = AreWell before × (list_any is_end before ≡ false) × (asked ≤ 4096) × IsAnswered start before
-Follows start before (Writing offered taken) = AreWell before
+abbrev pub Follows : (Call → Bool) → Progress → List Event → Event → Type 0
+Follows may start before (Reading asked given) =
+    AreWell before × (list_any is_end before ≡ false) × (asked ≤ 4096) × IsAnswered may start before
+Follows may start before (Writing offered taken) = AreWell before
 
 -- each event is so, given those before it
 abbrev pub Each : (List Event → Event → Type 0) → List Event → List Event → Type 0
@@ -83,21 +84,22 @@ Each P before [] = ⊤
 Each P before (e ∷ es) = P before e × Each P (before ++ e ∷ []) es
 
 -- how the events end: at the end of the source, with all answered; with the fault of a device; or after so many reads
-abbrev pub EndsBy : ℕ → Progress → Option RunScriptFault → List Event → Type 0
-EndsBy turns start None events = AreWell events × (list_any is_end events ≡ true) × IsAnswered start events
-EndsBy turns start (Some fault.NoMemory) events = events ≡ []
-EndsBy turns start (Some fault.Read) events = (before : List Event) × (asked : ℕ) × (events ≡ before ++ Reading asked None ∷ [])
-EndsBy turns start (Some fault.Write) events =
+abbrev pub EndsBy : (Call → Bool) → ℕ → Progress → Option RunScriptFault → List Event → Type 0
+EndsBy may turns start None events = AreWell events × (list_any is_end events ≡ true) × IsAnswered may start events
+EndsBy may turns start (Some fault.NoMemory) events = events ≡ []
+EndsBy may turns start (Some fault.Read) events = (before : List Event) × (asked : ℕ) × (events ≡ before ++ Reading asked None ∷ [])
+EndsBy may turns start (Some fault.Write) events =
     (before : List Event) × (offered : List ℕ) × (taken : Option ℕ)
-    × (events ≡ before ++ Writing offered taken ∷ []) × (¬ IsWell (Writing offered taken)) × IsCutShort start events
-EndsBy turns start (Some fault.TooManyTurns) events =
-    AreWell events × (list_any is_end events ≡ false) × (length (readings events) ≡ turns) × IsAnswered start events
+    × (events ≡ before ++ Writing offered taken ∷ []) × (¬ IsWell (Writing offered taken)) × IsCutShort may start events
+EndsBy may turns start (Some fault.TooManyTurns) events =
+    AreWell events × (list_any is_end events ≡ false) × (length (readings events) ≡ turns) × IsAnswered may start events
 
 -- what a script did with its devices, from the first event to the last
 pub record Converses
-    {T : Type 0} (turns : ℕ) (start : Progress) (did : List Event → Type 0) (result : Result T RunScriptFault) : Type 0 where
+    {T : Type 0} (may : Call → Bool) (turns : ℕ) (start : Progress) (did : List Event → Type 0)
+    (result : Result T RunScriptFault) : Type 0 where
   pub events : List Event
   pub done : did events
-  pub each : Each (Follows start) [] events
+  pub each : Each (Follows may start) [] events
   pub few : length (readings events) ≤ turns
-  pub ended : EndsBy turns start (result_err result) events
+  pub ended : EndsBy may turns start (result_err result) events

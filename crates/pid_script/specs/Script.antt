@@ -1,5 +1,5 @@
 -- What a script comes to.
-use Rattle.std.specs.Prelude.{ℕ, ◌+◌, ◌-◌, ◌^◌, Bool, List, [], ◌∷◌, ◌++◌, length, map, fold, codes, Option, Some, None, if◌then◌else◌, ◌==◌, nat_le, IsTrue, ◌⊎◌}
+use Rattle.std.specs.Prelude.{ℕ, ◌+◌, ◌-◌, ◌^◌, ◌≡◌, ⊤, Bool, true, false, List, [], ◌∷◌, ◌++◌, length, map, fold, codes, Option, Some, None, if◌then◌else◌, ◌==◌, nat_le, IsTrue, ◌⊎◌}
 use Rattle.std.specs.List.{onto_first}
 use Rattle.pid_types.specs.declared.call.Call.{Call}
 use Rattle.pid_types.specs.declared.reply.CallFault.TheVariants.{NoMemory, Spent}
@@ -79,7 +79,8 @@ abbrev pub HasStopped : Bool → Bool → Type 0
 HasStopped failed full = IsTrue failed ⊎ IsTrue full
 
 -- how far a script has come: the table's state and the stamp of its next call, the answers, each with its newline, the recorded calls
--- with their replies, and how many lines there were, how many calls were recorded and how many lines were bad
+-- with their replies, and how many lines there were, how many calls were recorded, how many lines were bad and how many calls found no
+-- memory
 pub record Progress : Type 0 where
   pub state : State
   pub stamp : ℕ
@@ -88,6 +89,7 @@ pub record Progress : Type 0 where
   pub lines : ℕ
   pub recorded : ℕ
   pub bad : ℕ
+  pub starved : ℕ
 
 -- before the first line, at this state and stamp
 abbrev pub begun : State → ℕ → Progress
@@ -99,6 +101,7 @@ begun state stamp = record {
   lines = 0;
   recorded = 0;
   bad = 0;
+  starved = 0;
 }
 
 -- before the first line of a script: the root state of the configuration, and its first stamp
@@ -108,6 +111,10 @@ start_of config = begun (root_state config.pid_max) config.first_stamp
 -- one line more, with this answer
 abbrev pub told : Progress → List ℕ → Progress
 told p answer = record p { text = p.text ++ with_newline answer; lines = p.lines + 1 }
+
+-- a call that finds no memory
+abbrev pub found_none : Progress → Progress
+found_none p = record (told p (fault_text NoMemory)) { starved = p.starved + 1 }
 
 -- a call that is recorded: one step, which uses a stamp
 abbrev pub stepped : Progress → Call → Progress
@@ -125,7 +132,7 @@ stepped p call =
 -- a call that finds no stamp below the greatest number of 64 bits changes nothing, and so does one that finds no memory
 unfoldable pub after_call : Progress → Bool → Call → Progress
 after_call p starved call =
-    if p.stamp == 2 ^ 64 - 1 then told p (fault_text Spent) else (if starved then told p (fault_text NoMemory) else stepped p call)
+    if p.stamp == 2 ^ 64 - 1 then told p (fault_text Spent) else (if starved then found_none p else stepped p call)
 
 -- what one line adds
 abbrev pub after_saying : Progress → Bool → Line → Progress
@@ -140,3 +147,20 @@ after_line p line = after_saying p line.1 line.0
 -- what the lines of a script come to, one after another
 unfoldable pub after_script : Progress → List (Line × Bool) → Progress
 after_script p script = fold after_line p script
+
+-- a line may be said to find no memory if it is a call that may
+abbrev pub MayStarve : (Call → Bool) → Line → Bool → Type 0
+MayStarve may line false = ⊤
+MayStarve may says.Empty true = ⊥
+MayStarve may (says.Call call) true = IsTrue (may call)
+MayStarve may says.Bad true = ⊥
+
+-- none of the lines is said to find no memory but calls that may
+abbrev pub MayAllStarve : (Call → Bool) → List (Line × Bool) → Type 0
+MayAllStarve may [] = ⊤
+MayAllStarve may (line ∷ script) = MayStarve may line.0 line.1 × MayAllStarve may script
+
+-- the script is these lines, of which none finds no memory but calls that may
+pub record Says (may : Call → Bool) (script : List (Line × Bool)) (said : List Line) : Type 0 where
+  pub lines : map (λ l. l.0) script ≡ said
+  pub starved : MayAllStarve may script

@@ -2,7 +2,7 @@
 //! device that is both. A session holds one line that has not ended and at most 8,192 bytes of answers; it takes no
 //! memory of its own.
 ghost use Rattle.std.specs.Prelude.{◌≡◌, ◌≢◌, Some, ◌+◌, ◌^◌, ◌<◌, ◌≤◌, ◌++◌, ◌∷◌, [], List, ℕ, length, OnOk, OnErr};
-ghost use Rattle.std.specs.Prelude.{IfOk, IfErr, Err, Option, IsSome, option_copied, IsTrue, if◌then◌else◌};
+ghost use Rattle.std.specs.Prelude.{Bool, IfOk, IfErr, Err, Option, IsSome, option_copied, IsTrue, if◌then◌else◌};
 ghost use Rattle.std.specs.Result.{is_ok};
 ghost use Rattle.std.specs.Io.KnownBytes.{ReadConsumes};
 ghost use Rattle.pid_types.specs.Devices.{DidBoth, reading};
@@ -14,7 +14,7 @@ ghost use Rattle.pid_script.specs.Script.{begun, with_newline, HasStopped, said_
 ghost use Rattle.pid_script.specs.Script.{last_said, said_next};
 ghost use Rattle.pid_script.specs.Answers.{answer_of, lent, replied};
 ghost use Rattle.pid_script.specs.Dialogue.{Converses, Queues, Responds, Stops};
-ghost use Rattle.pid_script.specs.Session.{Acts, made_by, ended_at, progress_of, IsTallied};
+ghost use Rattle.pid_script.specs.Session.{Acts, made_by, is_starved, ended_at, progress_of, IsTallied};
 ghost use Rattle.pid_script.specs.Session.{Finishes, Leaves};
 
 use crate::bytes::split_line;
@@ -39,10 +39,12 @@ pub trait Table {
     ghost held: { Self → Option Reply };
     // The calls that it made between two moments, with their replies.
     ghost did: { Self → Self → List (Call × Reply) → Type 0 };
+    // Which calls may find no memory.
+    ghost may_starve: { Call → Bool };
 
     /// Makes the call, and holds the reply. After a fault the table is as it was.
     fn act(&mut self, call: Call) -> Result<(), CallFault>
-        ensures acts { Acts (state self.old) (stamp self.old) call (replied result (held self.new))
+        ensures acts { Acts may_starve (state self.old) (stamp self.old) call (replied result (held self.new))
             (state self.new) (stamp self.new) }
         ensures held { OnOk result (IsSome (held self.new)) }
         ensures did { did self.old self.new (made_by call (replied result (held self.new))) };
@@ -79,17 +81,20 @@ fn read_chunk<S: Source>(source: &mut S, chunk: &mut [u8]) -> Result<usize, RunS
 }
 
 /// Counts a call.
-fn count_call(tally: &mut Tally, is_recorded: bool)
+fn count_call(tally: &mut Tally, made: Result<(), CallFault>)
     requires counted { IsTallied tally.old }
     requires room { tally.old.lines + 1 < 2 ^ 64 }
     ensures lines { tally.new.lines ≡ tally.old.lines + 1 }
-    ensures recorded { tally.new.recorded ≡ (if is_recorded then tally.old.recorded + 1 else tally.old.recorded) }
+    ensures recorded { tally.new.recorded ≡ (if is_ok made then tally.old.recorded + 1 else tally.old.recorded) }
+    ensures starved { tally.new.starved ≡ (if is_starved made then tally.old.starved + 1 else tally.old.starved) }
     ensures bad { tally.new.bad ≡ tally.old.bad }
     ensures counted { IsTallied tally.new }
 {
     tally.lines += 1;
-    if is_recorded {
-        tally.recorded += 1;
+    match made {
+        Ok(()) => tally.recorded += 1,
+        Err(CallFault::NoMemory) => tally.starved += 1,
+        Err(CallFault::Spent) => {}
     }
 }
 
@@ -127,9 +132,11 @@ fn tell_answer<T: Table, K: Sink>(
     ensures lines { session.new.tally.lines ≡ session.old.tally.lines + 1 }
     ensures recorded { session.new.tally.recorded
         ≡ (if is_ok made then session.old.tally.recorded + 1 else session.old.tally.recorded) }
+    ensures starved { session.new.tally.starved
+        ≡ (if is_starved made then session.old.tally.starved + 1 else session.old.tally.starved) }
     ensures bad { session.new.tally.bad ≡ session.old.tally.bad }
 {
-    count_call(&mut session.tally, made.is_ok());
+    count_call(&mut session.tally, made);
     session.outbox.push_answer(sink, answer_held(table, made))
 }
 
@@ -143,7 +150,7 @@ fn answer_call<T: Table, K: Sink>(
 ) -> Result<(), RunScriptFault>
     requires counted { IsTallied session.old.tally }
     requires room { session.old.tally.lines + 1 < 2 ^ 64 }
-    ensures told { Responds result
+    ensures told { Responds T.may_starve result
         (progress_of (T.state table.old) (T.stamp table.old) session.old.tally session.old.outbox)
         (progress_of (T.state table.new) (T.stamp table.new) session.new.tally session.new.outbox)
         (K.did sink.old sink.new) (T.did table.old table.new) (Line.Call call ∷ [])
@@ -166,7 +173,7 @@ fn answer_line<T: Table, K: Sink>(
 ) -> Result<(), RunScriptFault>
     requires counted { IsTallied session.old.tally }
     requires room { session.old.tally.lines + 1 < 2 ^ 64 }
-    ensures told { Responds result
+    ensures told { Responds T.may_starve result
         (progress_of (T.state table.old) (T.stamp table.old) session.old.tally session.old.outbox)
         (progress_of (T.state table.new) (T.stamp table.new) session.new.tally session.new.outbox)
         (K.did sink.old sink.new) (T.did table.old table.new) (line ∷ [])
@@ -199,7 +206,7 @@ fn answer_chunk<T: Table, K: Sink>(
 ) -> Result<(), RunScriptFault>
     requires counted { IsTallied session.old.tally }
     requires room { session.old.tally.lines + length chunk.now < 2 ^ 64 }
-    ensures told { Responds result
+    ensures told { Responds T.may_starve result
         (progress_of (T.state table.old) (T.stamp table.old) session.old.tally session.old.outbox)
         (progress_of (T.state table.new) (T.stamp table.new) session.new.tally session.new.outbox)
         (K.did sink.old sink.new) (T.did table.old table.new) (said_within session.old.part chunk.now)
@@ -227,7 +234,7 @@ fn answer_last<T: Table, K: Sink>(
 ) -> Result<(), RunScriptFault>
     requires counted { IsTallied session.old.tally }
     requires room { session.old.tally.lines + 1 < 2 ^ 64 }
-    ensures { Responds result
+    ensures { Responds T.may_starve result
         (progress_of (T.state table.old) (T.stamp table.old) session.old.tally session.old.outbox)
         (progress_of (T.state table.new) (T.stamp table.new) session.new.tally session.new.outbox)
         (K.did sink.old sink.new) (T.did table.old table.new) (last_said session.old.part)
@@ -249,7 +256,7 @@ fn answer_read<T: Table, K: Sink>(
 ) -> Result<(), RunScriptFault>
     requires counted { IsTallied session.old.tally }
     requires room { session.old.tally.lines + length piece.now + 1 < 2 ^ 64 }
-    ensures told { Responds result
+    ensures told { Responds T.may_starve result
         (progress_of (T.state table.old) (T.stamp table.old) session.old.tally session.old.outbox)
         (progress_of (T.state table.new) (T.stamp table.new) session.new.tally session.new.outbox)
         (K.did sink.old sink.new) (T.did table.old table.new) (said_next session.old.part piece.now)
@@ -273,7 +280,7 @@ fn answer_piece<T: Table, K: Sink>(
 ) -> Result<(), RunScriptFault>
     requires counted { IsTallied session.old.tally }
     requires room { session.old.tally.lines + length piece.now + 1 < 2 ^ 64 }
-    ensures told { Responds result
+    ensures told { Responds T.may_starve result
         (progress_of (T.state table.old) (T.stamp table.old) session.old.tally session.old.outbox)
         (progress_of (T.state table.new) (T.stamp table.new) session.new.tally session.new.outbox)
         (K.did sink.old sink.new) (T.did table.old table.new) (said_next session.old.part piece.now)
@@ -292,7 +299,7 @@ impl Session {
     fn new() -> Session
         ensures part { result.part ≡ Some [] }
         ensures outbox { result.outbox ≡ [] }
-        ensures tally { result.tally ≡ record { lines = 0; recorded = 0; bad = 0 } }
+        ensures tally { result.tally ≡ record { lines = 0; recorded = 0; bad = 0; starved = 0 } }
     {
         Session {
             part: PartLine::new(),
@@ -301,6 +308,7 @@ impl Session {
                 lines: 0,
                 recorded: 0,
                 bad: 0,
+                starved: 0,
             },
         }
     }
@@ -326,13 +334,13 @@ pub fn run_dialogue<T: Table, D: Dialogue>(
     turns: u32,
 ) -> Result<Tally, RunScriptFault>
     ensures ok { IfOk result (λ tally. (text : List ℕ) × (calls : List (Call × Reply))
-        × T.did table.old table.new calls × Finishes (begun (T.state table.old) (T.stamp table.old))
+        × T.did table.old table.new calls × Finishes T.may_starve (begun (T.state table.old) (T.stamp table.old))
         (ended_at (T.state table.new) (T.stamp table.new) tally text calls)
         (D.remaining devices.old) (D.remaining devices.new) (D.contents devices.old) (D.contents devices.new)) }
-    ensures err { IfErr result (Leaves turns (begun (T.state table.old) (T.stamp table.old))
+    ensures err { IfErr result (Leaves T.may_starve turns (begun (T.state table.old) (T.stamp table.old))
         (D.remaining devices.old) (D.remaining devices.new) (D.contents devices.old) (D.contents devices.new)
         (D.Source.has_failed devices.new)) }
-    ensures talk { Converses turns (begun (T.state table.old) (T.stamp table.old))
+    ensures talk { Converses T.may_starve turns (begun (T.state table.old) (T.stamp table.old))
         (D.Source.did devices.old devices.new) result }
     ensures same { D.is_same devices.old devices.new }
     ensures whole { OnOk result ((D.Source.has_failed devices.new ≡ D.Source.has_failed devices.old)
@@ -362,13 +370,13 @@ pub fn run_script<T: Table, S: Source, K: Sink>(
     turns: u32,
 ) -> Result<Tally, RunScriptFault>
     ensures ok { IfOk result (λ tally. (text : List ℕ) × (calls : List (Call × Reply))
-        × T.did table.old table.new calls × Finishes (begun (T.state table.old) (T.stamp table.old))
+        × T.did table.old table.new calls × Finishes T.may_starve (begun (T.state table.old) (T.stamp table.old))
         (ended_at (T.state table.new) (T.stamp table.new) tally text calls)
         (S.remaining source.old) (S.remaining source.new) (K.contents sink.old) (K.contents sink.new)) }
-    ensures err { IfErr result (Leaves turns (begun (T.state table.old) (T.stamp table.old))
+    ensures err { IfErr result (Leaves T.may_starve turns (begun (T.state table.old) (T.stamp table.old))
         (S.remaining source.old) (S.remaining source.new) (K.contents sink.old) (K.contents sink.new)
         (S.has_failed source.new)) }
-    ensures talk { Converses turns (begun (T.state table.old) (T.stamp table.old))
+    ensures talk { Converses T.may_starve turns (begun (T.state table.old) (T.stamp table.old))
         (DidBoth (S.did source.old source.new) (K.did sink.old sink.new)) result }
     ensures whole { OnOk result ((S.has_failed source.new ≡ S.has_failed source.old)
         × (K.has_failed sink.new ≡ K.has_failed sink.old) × (K.is_full sink.new ≡ K.is_full sink.old)) }

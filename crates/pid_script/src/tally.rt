@@ -11,6 +11,8 @@ pub struct Tally {
     pub recorded: u64,
     /// The bad lines.
     pub bad: u64,
+    /// The calls that found no memory, and were answered `no memory`.
+    pub starved: u64,
 }
 
 /// Why a script was not answered to its end. Nothing was read or written after it.

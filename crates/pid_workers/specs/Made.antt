@@ -12,5 +12,6 @@ calls_of c = map (λ (e : Entry). (e.call, e.reply)) c.entries
 -- between two moments a record made these calls, and nothing of its history was cut away
 pub record Makes (before after : Chronicle) (calls : List (Call × Reply)) : Type 0 where
   pub config : after.config ≡ before.config
+  pub resumed : after.is_resumed ≡ before.is_resumed
   pub whole : after.first_kept ≡ before.first_kept
   pub made : calls_of after ≡ calls_of before ++ calls

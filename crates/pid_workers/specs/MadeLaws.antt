@@ -8,12 +8,13 @@ use Rattle.pid_workers.specs.Made.{calls_of, Makes}
 
 -- no call
 pub makes_nothing : (c : Chronicle) → Makes c c []
-makes_nothing c = record { config = refl; whole = refl; made = sym (append-nil (calls_of c)) }
+makes_nothing c = record { config = refl; resumed = refl; whole = refl; made = sym (append-nil (calls_of c)) }
 
 -- some calls, and then others
 pub makes_more : (a b c : Chronicle) (xs ys : List (Call × Reply)) → Makes a b xs → Makes b c ys → Makes a c (xs ++ ys)
 makes_more a b c xs ys first second = record {
   config = second.config ∙ first.config;
+  resumed = second.resumed ∙ first.resumed;
   whole = second.whole ∙ first.whole;
   made = second.made ∙ ap (λ calls. calls ++ ys) first.made ∙ append_assoc (calls_of a) xs ys;
 }

@@ -23,7 +23,6 @@ mod result;
 mod script;
 mod short_seat;
 mod threads;
-mod whole_seat;
 
 pub use audits::audit;
 pub use desk::{Desk, Gate, OpenGate, SeatDesk};
@@ -37,5 +36,5 @@ pub use pid_script::line::{Line, parse_line};
 pub use pid_script::list::list_text;
 pub use pid_script::tally::{RunScriptFault, Tally};
 pub use result::Work;
-pub use script::{Left, MOST_READS, run, run_for_table, run_limited, run_state};
+pub use script::{MOST_READS, run, run_for_table, run_limited, run_state};
 pub use threads::{Finished, RunFault, run_workers};

@@ -1,5 +1,5 @@
 //! A record for one worker, as a [`Table`] that answers one call after another. There is no lock.
-ghost use Rattle.std.specs.Prelude.{◌≡◌, [], IfOk};
+ghost use Rattle.std.specs.Prelude.{◌≡◌, false, [], IfOk};
 ghost use Rattle.kept_table.specs.Chronicle.{next_stamp};
 ghost use Rattle.pid_types.specs.State.{root_state};
 
@@ -26,6 +26,7 @@ impl<L: Ledger> OneSeat<L> {
         ensures present { IfOk result (λ t. t.record.present ≡ root_state config.now.pid_max) }
         ensures stamp { IfOk result (λ t. next_stamp t.record ≡ config.now.first_stamp) }
         ensures config { IfOk result (λ t. t.record.config ≡ config.now) }
+        ensures fresh { IfOk result (λ t. t.record.is_resumed ≡ false) }
         ensures whole { IfOk result (λ t. t.record.first_kept ≡ 0) }
         ensures entries { IfOk result (λ t. t.record.entries ≡ []) }
     {
@@ -41,6 +42,7 @@ impl<L: Ledger> OneSeat<L> {
 impl<L: Ledger> Table for OneSeat<L> {
     ghost use Rattle.std.specs.Prelude.{◌++◌};
     ghost use Rattle.kept_table.specs.Chronicle.{next_stamp, last_reply};
+    ghost use Rattle.pid_script.specs.Session.{any_call};
     ghost use Rattle.pid_workers.specs.Made.{Makes};
     ghost use Rattle.pid_workers.specs.MadeLaws.{makes_nothing, makes_more};
 
@@ -51,6 +53,9 @@ impl<L: Ledger> Table for OneSeat<L> {
     ghost held = { λ t. last_reply t.record };
 
     ghost did = { λ a b calls. Makes a.record b.record calls };
+
+    // Each call has an entry, which needs memory.
+    ghost may_starve = { any_call };
 
     ghost nothing = { λ a. makes_nothing a.record };
 

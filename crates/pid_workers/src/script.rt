@@ -1,20 +1,19 @@
 //! Scripts run on a table of their own, for one worker.
-ghost use Rattle.std.specs.Prelude.{◌≡◌, ℕ, List, IfOk, IfErr, OnOk, Err};
+ghost use Rattle.std.specs.Prelude.{◌≡◌, false, ℕ, List, IfOk, IfErr, OnOk, Err};
 ghost use Rattle.kept_table.specs.Chronicle.{next_stamp};
 ghost use Rattle.pid_types.specs.State.{State};
+ghost use Rattle.pid_types.specs.Step.{may_grow};
 ghost use Rattle.pid_types.specs.declared.call.Call.{Call};
 ghost use Rattle.pid_types.specs.declared.reply.Reply.{Reply};
 ghost use Rattle.pid_workers.specs.Made.{calls_of};
 ghost use Rattle.pid_script.specs.Script.{start_of, HasStopped};
 ghost use Rattle.pid_script.specs.declared.tally.RunScriptFault.TheVariants.{Write};
-ghost use Rattle.pid_script.specs.declared.tally.Tally.{Tally};
 ghost use Rattle.pid_types.specs.Devices.{DidBoth};
 ghost use Rattle.pid_script.specs.Dialogue.{Converses};
-ghost use Rattle.pid_script.specs.Session.{ended_at, Finishes, Leaves};
+ghost use Rattle.pid_script.specs.Session.{any_call, ended_at, Finishes, Leaves};
 
 use crate::one_seat::OneSeat;
 use crate::short_seat::ShortSeat;
-use crate::whole_seat::WholeSeat;
 use locked_table::Record;
 use pid_script::session::run_script;
 use pid_script::tally::{RunScriptFault, Tally};
@@ -45,13 +44,13 @@ pub fn run_limited<L: Ledger, S: Source, K: Sink>(
     requires name { blank.name ≡ L.name }
     requires parts { (blank.parts ≡ L.parts) × (L.parts ≡ 1) }
     ensures ok { IfOk result (λ tally. (present : State) × (stamp : ℕ) × (text : List ℕ) × (calls : List (Call × Reply))
-        × Finishes (start_of config.now)
+        × Finishes may_grow (start_of config.now)
         (ended_at present stamp tally text calls)
         (S.remaining source.old) (S.remaining source.new) (K.contents sink.old) (K.contents sink.new)) }
-    ensures err { IfErr result (Leaves turns (start_of config.now)
+    ensures err { IfErr result (Leaves may_grow turns (start_of config.now)
         (S.remaining source.old) (S.remaining source.new) (K.contents sink.old) (K.contents sink.new)
         (S.has_failed source.new)) }
-    ensures talk { Converses turns (start_of config.now) (DidBoth (S.did source.old source.new)
+    ensures talk { Converses may_grow turns (start_of config.now) (DidBoth (S.did source.old source.new)
         (K.did sink.old sink.new)) result }
     ensures whole { OnOk result ((S.has_failed source.new ≡ S.has_failed source.old)
         × (K.has_failed sink.new ≡ K.has_failed sink.old) × (K.is_full sink.new ≡ K.is_full sink.old)) }
@@ -75,13 +74,13 @@ pub fn run<L: Ledger, S: Source, K: Sink>(
     requires name { blank.name ≡ L.name }
     requires parts { (blank.parts ≡ L.parts) × (L.parts ≡ 1) }
     ensures ok { IfOk result (λ tally. (present : State) × (stamp : ℕ) × (text : List ℕ) × (calls : List (Call × Reply))
-        × Finishes (start_of config.now)
+        × Finishes may_grow (start_of config.now)
         (ended_at present stamp tally text calls)
         (S.remaining source.old) (S.remaining source.new) (K.contents sink.old) (K.contents sink.new)) }
-    ensures err { IfErr result (Leaves MOST_READS (start_of config.now)
+    ensures err { IfErr result (Leaves may_grow MOST_READS (start_of config.now)
         (S.remaining source.old) (S.remaining source.new) (K.contents sink.old) (K.contents sink.new)
         (S.has_failed source.new)) }
-    ensures talk { Converses MOST_READS (start_of config.now)
+    ensures talk { Converses may_grow MOST_READS (start_of config.now)
         (DidBoth (S.did source.old source.new) (K.did sink.old sink.new)) result }
     ensures whole { OnOk result ((S.has_failed source.new ≡ S.has_failed source.old)
         × (K.has_failed sink.new ≡ K.has_failed sink.old) × (K.is_full sink.new ≡ K.is_full sink.old)) }
@@ -102,15 +101,16 @@ pub fn run_state<L: Ledger, S: Source, K: Sink>(
 ) -> Result<(Tally, Record<L, 1>), RunScriptFault>
     requires name { blank.name ≡ L.name }
     requires parts { (blank.parts ≡ L.parts) × (L.parts ≡ 1) }
-    ensures ok { IfOk result (λ r. (text : List ℕ) × Finishes (start_of config.now)
+    ensures ok { IfOk result (λ r. (text : List ℕ) × Finishes any_call (start_of config.now)
         (ended_at r.1.present (next_stamp r.1) r.0 text (calls_of r.1))
         (S.remaining source.old) (S.remaining source.new) (K.contents sink.old) (K.contents sink.new)) }
     ensures config { IfOk result (λ r. r.1.config ≡ config.now) }
+    ensures fresh { IfOk result (λ r. r.1.is_resumed ≡ false) }
     ensures history { IfOk result (λ r. r.1.first_kept ≡ 0) }
-    ensures err { IfErr result (Leaves MOST_READS (start_of config.now)
+    ensures err { IfErr result (Leaves any_call MOST_READS (start_of config.now)
         (S.remaining source.old) (S.remaining source.new) (K.contents sink.old) (K.contents sink.new)
         (S.has_failed source.new)) }
-    ensures talk { Converses MOST_READS (start_of config.now)
+    ensures talk { Converses any_call MOST_READS (start_of config.now)
         (DidBoth (S.did source.old source.new) (K.did sink.old sink.new)) result }
     ensures whole { OnOk result ((S.has_failed source.new ≡ S.has_failed source.old)
         × (K.has_failed sink.new ≡ K.has_failed sink.old) × (K.is_full sink.new ≡ K.is_full sink.old)) }
@@ -128,41 +128,33 @@ pub fn run_state<L: Ledger, S: Source, K: Sink>(
     Ok((tally, record))
 }
 
-/// What a script leaves: the record, which has no history, and whether each of its calls found the memory that it
-/// needed.
-#[derive(Drop)]
-pub struct Left<L: Ledger> {
-    pub record: Record<L, 1>,
-    pub is_whole: bool,
-}
-
-/// Runs a script on a new table, as [`run`] does, and hands back what it leaves. No clause says when `is_whole` holds.
+/// Runs a script on a new table, as [`run`] does, and hands back the record that the lines leave, without a history.
+/// [`Tally::starved`] says how many calls found no memory, and so are not in it.
 pub fn run_for_table<L: Ledger, S: Source, K: Sink>(
     alloc: Global,
     blank: Blank,
     source: &mut S,
     sink: &mut K,
     config: &Config,
-) -> Result<Left<L>, RunScriptFault>
+) -> Result<(Tally, Record<L, 1>), RunScriptFault>
     requires name { blank.name ≡ L.name }
     requires parts { (blank.parts ≡ L.parts) × (L.parts ≡ 1) }
-    ensures ok { IfOk result (λ left. (stamp : ℕ) × (tally : Tally) × (text : List ℕ) × (calls : List (Call × Reply))
-        × Finishes (start_of config.now) (ended_at left.record.present stamp tally text calls)
+    ensures ok { IfOk result (λ r. (stamp : ℕ) × (text : List ℕ) × (calls : List (Call × Reply))
+        × Finishes may_grow (start_of config.now) (ended_at r.1.present stamp r.0 text calls)
         (S.remaining source.old) (S.remaining source.new) (K.contents sink.old) (K.contents sink.new)) }
-    ensures err { IfErr result (Leaves MOST_READS (start_of config.now)
+    ensures err { IfErr result (Leaves may_grow MOST_READS (start_of config.now)
         (S.remaining source.old) (S.remaining source.new) (K.contents sink.old) (K.contents sink.new)
         (S.has_failed source.new)) }
 {
-    let mut table = match WholeSeat::<L>::new(alloc, blank, config) {
+    let mut table = match ShortSeat::<L>::new(alloc, blank, config) {
         Ok(table) => table,
         Err(_) => return Err(RunScriptFault::NoMemory),
     };
-    let _tally = run_script(&mut table, source, sink, MOST_READS)?;
-    let WholeSeat { seat, is_whole } = table;
+    let tally = run_script(&mut table, source, sink, MOST_READS)?;
     let ShortSeat {
         record,
         seat: _seat,
         reply: _reply,
-    } = seat;
-    Ok(Left { record, is_whole })
+    } = table;
+    Ok((tally, record))
 }

@@ -40,6 +40,7 @@ impl<L: Ledger> ShortSeat<L> {
 
 impl<L: Ledger> Table for ShortSeat<L> {
     ghost use Rattle.std.specs.Prelude.{⊤, Some};
+    ghost use Rattle.pid_types.specs.Step.{may_grow};
     ghost use Rattle.kept_table.specs.Chronicle.{next_stamp};
 
     ghost state = { λ t. t.record.present };
@@ -50,6 +51,8 @@ impl<L: Ledger> Table for ShortSeat<L> {
 
     // What is cut away is not told.
     ghost did = { λ _ _ _. ⊤ };
+
+    ghost may_starve = { may_grow };
 
     ghost nothing = { λ _. tt };
 

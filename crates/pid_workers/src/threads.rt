@@ -2,7 +2,7 @@
 //!
 //! [`run_workers`] is the one door. It takes the jobs as lists of calls, so what a job makes cannot
 //! be named later in it but by luck: ids and numbers depend on which worker comes first.
-ghost use Rattle.std.specs.Prelude.{◌≡◌, ℕ, ◌<◌, length, vec_len, slice_index_or, IfOk, OnOk};
+ghost use Rattle.std.specs.Prelude.{◌≡◌, false, ℕ, ◌<◌, length, vec_len, slice_index_or, IfOk, OnOk};
 ghost use Rattle.locked_table.specs.SeatState.{AreSeats};
 ghost use Rattle.pid_workers.specs.Job.{Fulfils};
 ghost use Rattle.pid_workers.specs.Receipts.{IsAudited};
@@ -202,20 +202,24 @@ fn finish_all<
     Ok(Finished { kept, works })
 }
 
-/// Whether the kept history is that of a table with the configuration, from its first call on, and each
-/// worker's receipts are its entries there. The error is a [`RunFault::Audit`]: of the least worker and
-/// the first place that differ, or of worker 0 and place 0 where the history is not such a one.
+/// Whether the record began with the configuration's root state, its history is kept from its first call on, and
+/// each worker's receipts are its entries there. The error is a [`RunFault::Audit`]: of the least worker and the
+/// first place that differ, or of worker 0 and place 0 where the record is not such a one.
 fn check_finished<L: Ledger, const N: usize>(
     finished: &Finished<L, N>,
     config: &Config,
 ) -> Result<(), RunFault>
     requires { vec_len finished.now.works ≡ N }
     ensures config { OnOk result (finished.now.kept.config ≡ config.now) }
+    ensures fresh { OnOk result (finished.now.kept.is_resumed ≡ false) }
     ensures kept { OnOk result (finished.now.kept.first_kept ≡ 0) }
     ensures audited { OnOk result (IsAudited N finished.now.kept finished.now.works.items) }
 {
-    // Never so. But no contract can name what stood behind the lock, and the answer promises both.
-    if finished.kept.config() != *config || finished.kept.first_kept() != 0 {
+    // Never so. But no contract can name what stood behind the lock, and the answer promises all three.
+    if finished.kept.config() != *config
+        || finished.kept.is_resumed()
+        || finished.kept.first_kept() != 0
+    {
         return Err(RunFault::Audit {
             worker: 0,
             place: 0,
@@ -259,6 +263,7 @@ pub fn run_workers<
     requires parts { (blank.parts ≡ L.parts) × (L.parts ≡ N) × (0 < N) }
     requires jobs { length jobs.now ≡ N }
     ensures config { IfOk result (λ f. f.kept.config ≡ config.now) }
+    ensures fresh { IfOk result (λ f. f.kept.is_resumed ≡ false) }
     ensures kept { IfOk result (λ f. f.kept.first_kept ≡ 0) }
     ensures works { IfOk result (λ f. vec_len f.works ≡ N) }
     ensures jobs { IfOk result (λ f. (w : ℕ) (d : _) (j : _) → w < N

@@ -48,6 +48,7 @@ fn assert_resumed<L: Ledger>(
     assert_eq!(rt; record.next_stamp(), Some(7));
     assert_eq!(rt; record.config().pid_max(), 32768);
     assert_eq!(rt; record.tasks(), 2);
+    assert!(rt; record.is_resumed());
     for (seat, count) in seats.iter().zip(counts) {
         assert_eq!(rt; seat.calls(), *count);
     }
@@ -93,9 +94,12 @@ fn go_on_under_lock<L: Ledger, R: Wait + Abort>(
     requires parts { (blank.parts ≡ L.parts) × (L.parts ≡ 2) }
 {
     let loaded = load(alloc, TEXT).expect(rt, "a table");
-    assert!(rt; Kept::can_resume(loaded.stamp, &[4, 2]));
-    let resumed = Shared::<L, 2>::resume(alloc, blank, loaded.table, loaded.stamp, &[4, 2]);
-    let (shared, mut seats) = resumed?;
+    let counts = [4, 2];
+    assert!(rt; Kept::can_resume(loaded.stamp, &counts));
+    let resumed = Record::<L, 2>::resume(alloc, blank, loaded.table, loaded.stamp, &counts);
+    let (record, mut seats) = resumed?;
+    let shared = Shared::of(record);
+    assert_resumed(rt, &shared.lock(rt), seats.as_slice(), &counts);
     call_all(rt, &shared, &mut seats, &behind(6));
     assert!(rt; are_in_order(seats.as_slice()));
     let record = shared.close(seats);

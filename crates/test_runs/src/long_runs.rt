@@ -124,6 +124,7 @@ fn long_run_takes_little_memory(rt: HostRuntime) {
         lines: 2_000_000,
         recorded: 2_000_000,
         bad: 0,
+        starved: 0,
     };
     assert_eq!(rt; tally, Ok(whole));
     assert_eq!(rt; sink.bytes, 4_000_000);

@@ -185,6 +185,7 @@ fn answers_calls_and_bad_lines(rt: HostRuntime) {
             lines: 9,
             recorded: 1,
             bad: 7,
+            starved: 0,
         };
         expect_run(&rt, &mut source, &mut sink, 1000, Ok(tally), text);
     }
@@ -230,6 +231,7 @@ fn stops_at_its_last_turn(rt: HostRuntime) {
         lines: 1,
         recorded: 1,
         bad: 0,
+        starved: 0,
     };
     let late = Err(RunScriptFault::TooManyTurns);
     let answer: &[u8] = b"child 2 root 2\n";

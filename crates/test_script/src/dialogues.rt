@@ -17,6 +17,7 @@ struct Starved;
 impl Table for Starved {
     ghost use Rattle.std.specs.Prelude.{None};
     ghost use Rattle.pid_types.specs.State.{root_state};
+    ghost use Rattle.pid_script.specs.Session.{any_call};
 
     ghost state = { λ _. root_state 300 };
 
@@ -25,6 +26,8 @@ impl Table for Starved {
     ghost held = { λ _. None };
 
     ghost did = { λ _ _ _. ⊤ };
+
+    ghost may_starve = { any_call };
 
     ghost nothing = { λ _. tt };
 
@@ -152,6 +155,7 @@ fn answers_whole_lines_before_it_reads_on(rt: HostRuntime) {
         lines: 5,
         recorded: 0,
         bad: 1,
+        starved: 3,
     };
     expect_dialogue(
         &rt,
@@ -174,6 +178,7 @@ fn reads_as_often_as_it_may(rt: HostRuntime) {
         lines: 2,
         recorded: 0,
         bad: 0,
+        starved: 2,
     };
     expect_dialogue(&rt, &[lines], 2, Ok(tally), answers, &[0, 20]);
 }

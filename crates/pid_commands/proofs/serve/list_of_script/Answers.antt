@@ -1,19 +1,20 @@
-use Rattle.std.proofs.Common.{inl, refl}
+use Rattle.std.proofs.Common.{inl, refl, arith}
 use Rattle.std.proofs.lemmas.Result.{err_from_is_err_and}
 use Rattle.pid_commands.proofs.serve.list_of_script.Goals as goal
 
 -- the state that the script leaves, and the snapshot that the list shows
 pub returns-clause-ok : goal.returns-clause-ok
 returns-clause-ok g c =
-    let ran = c.in_ok-left.ensures.ok in
+    let ran = c.in_ok-tally.ensures.ok in
     let listed = c.in_ok-list_record.ensures in record {
-      present = c.in_ok-left.left.record.present;
+      present = c.in_ok-tally.record.present;
       stamp = ran.0;
-      tally = ran.1;
-      text = ran.2;
-      calls = ran.3;
+      tally = c.in_ok-tally.tally;
+      text = ran.1;
+      calls = ran.2;
       plain = listed.0;
-      finished = ran.4;
+      finished = ran.3;
+      all = omega (arith, c.if-tally-gt0.false);
       shown = listed.1;
       listed = listed.2;
     }

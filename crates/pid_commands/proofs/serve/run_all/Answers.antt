@@ -1,4 +1,5 @@
-use Rattle.std.proofs.Common.{sym, subst, arith}
+use Rattle.std.proofs.Common.{sym, subst, ap, ◌∙◌, arith}
+use Rattle.pid_types.specs.State.{root_state}
 use Rattle.pid_workers.specs.Receipts.{IsAudited}
 use Rattle.pid_commands.proofs.serve.run_all.Goals as goal
 
@@ -15,6 +16,7 @@ returns-in-Ok-clause-ok g c =
       made = ran.config;
       promised = c.total-total.ensures.promise;
       whole = ran.kept;
+      begins = c.total-total.ensures.promise.replayed.starts ran.fresh ran.kept ∙ ap (λ config. root_state config.pid_max) ran.config;
       many = omega (arith, ran.works, finished.works.ok.0, c.requires.jobs);
       done = λ w d j lt. ran.jobs w d j (omega (arith, lt, c.requires.jobs));
       audited = subst (λ n. IsAudited n finished.kept finished.works.items) (sym c.requires.jobs) ran.audited;

@@ -48,7 +48,7 @@ returns-in_err-answer_line-clause-told g c =
     let p = err_from_is_err_and c.from_residual.result c.from_residual.ensures.1 in
     rw (p.1, p.2) (record {
       ok = tt;
-      err = subst (StopsShort _ _)
+      err = subst (StopsShort _ _ _)
           (said_more before.lines line c.loop-end.session.part (Some []) c.loop-end.rest.now after c.in-Some.end.now _ c.finish-line.ensures.value refl end before.said)
           (StopsShort-later _ _ (before.lines ++ line ∷ []) (said_within (Some []) after)
           (StopsShort-more (Stalls-more (g.met.K.Sink.more _ _ _)) _ _ before.lines (line ∷ []) before.answered told.err));
@@ -61,7 +61,7 @@ returns-clause-told g c =
     let before = c.loop-end.invariant in
     let none = no_end c.loop-end.session.part c.loop-end.rest.now (sym c.in_default.ensures) in
     record {
-      ok = subst (Answers _ _ _ _)
+      ok = subst (Answers _ _ _ _ _)
           (sym (append-nil before.lines) ∙ ap (λ lines. before.lines ++ lines) (sym none.0) ∙ before.said) before.answered;
       err = tt;
       fault = tt;

@@ -162,7 +162,7 @@ loop-turn-preserved g c =
         each = now.each;
         well = now.well;
         ends = now.ends ∙ goes_on asked piece some;
-        answered = subst (Answers _ _ _ _) (ap (λ ls. said_within (Some []) (heard before.events) ++ ls) (next_within part piece some) ∙ more_said (heard before.events) piece part before.part ∙ ap (said_within (Some [])) (sym same)) now.answered;
+        answered = subst (Answers _ _ _ _ _) (ap (λ ls. said_within (Some []) (heard before.events) ++ ls) (next_within part piece some) ∙ more_said (heard before.events) piece part before.part ∙ ap (said_within (Some [])) (sym same)) now.answered;
       };
       part = more_kept (heard before.events) piece part _ before.part (read.part some) ∙ ap (kept_after (Some [])) (sym same);
       empty = read.empty;

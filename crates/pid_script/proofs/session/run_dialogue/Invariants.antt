@@ -7,7 +7,7 @@ abbrev pub invariant-loop-turn : goal.invariant-loop-turn
 invariant-loop-turn g l = record {
   events : List Event;
   done : g.D.Source.did l.initial.devices l.devices events;
-  on : GoesOn (begun (g.T.Table.state l.initial.table) (g.T.Table.stamp l.initial.table))
+  on : GoesOn g.T.Table.may_starve (begun (g.T.Table.state l.initial.table) (g.T.Table.stamp l.initial.table))
       (progress_of (g.T.Table.state l.table) (g.T.Table.stamp l.table) l.session.tally l.session.outbox) (g.T.Table.did l.initial.table l.table)
       (said_within (Some []) (heard events)) events false;
   part : l.session.part ≡ kept_after (Some []) (heard events);
