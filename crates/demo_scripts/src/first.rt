@@ -1,6 +1,5 @@
-//! A first program over the table: one thread holds a record and its seat, makes four calls, and
-//! writes the answers.
-#![tactic(auto)]
+//! A first use of the table: one thread holds a record and its seat, makes four calls, and writes the
+//! answers.
 
 ghost use Rattle.std.specs.Prelude.{◌≡◌};
 
@@ -14,8 +13,9 @@ use std::io::Write;
 use std::marker::Brand;
 use std::sync::ledger::{Blank, Ledger};
 
-fn main(rt: HostRuntime) -> Result<()> {
-    play::<Brand, HostRuntime>(&rt, Blank::new(1))
+/// Makes the calls, on a table whose type is picked here.
+pub fn run(rt: &HostRuntime) -> Result<()> {
+    play::<Brand, HostRuntime>(rt, Blank::new(1))
 }
 
 /// The calls, on a table of their own, with one worker.

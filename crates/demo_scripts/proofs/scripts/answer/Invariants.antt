@@ -1,4 +1,4 @@
-use Rattle.demo_scripts.proofs.answer.Given as goal
+use Rattle.demo_scripts.proofs.scripts.answer.Given as goal
 
 -- the table's one ledger is the one that the blank names
 abbrev pub ghosts-show : goal.ghosts-show

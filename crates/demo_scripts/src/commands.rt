@@ -1,9 +1,8 @@
-//! Plays the commands of standard input, and writes what each of them writes.
+//! Plays commands, and writes what each of them writes.
 //!
 //! A line is `$ pidtab WORD ..`, and ` < FILE` at its end gives the command the file as its standard
 //! input, which is empty otherwise. Below the line stand the command's output, its line on standard
 //! error, if any, and a line `status K`, if its exit status K is not 0.
-#![tactic(auto)]
 
 use anyhow::{Context, Result};
 use pid_commands::{read_words, run_answer};
@@ -14,12 +13,15 @@ use std::thread::Threads;
 use std::time::Clock;
 use std::{fs, io};
 
-fn main(rt: HostRuntime) -> Result<()> {
-    let text = io::read_to_string(rt.alloc(), rt.reader())?;
-    for line in text.as_str().lines() {
+/// Plays the command of each line.
+pub fn play_all<R: Files + Print + Threads + Wait + Clock + Sync + AllocGlobal>(
+    rt: &R,
+    text: &str,
+) -> Result<()> {
+    for line in text.lines() {
         println!(rt; "{line}")?;
         let words = line.strip_prefix("$ pidtab").context("no command")?;
-        play(&rt, words)?;
+        play(rt, words)?;
     }
     Ok(())
 }
