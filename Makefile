@@ -63,6 +63,9 @@ test: ## * the gate: proves every crate from nothing, tries the edits that must 
 	$(need_rt)
 	@tools/report out/gate.txt crates/pidtab/out/pidtab -- $(MAKE) --no-print-directory gate
 
+# What the gate may cost, in processor minutes: tools/gate says on which machine.
+GATE_MINUTES = 160
+
 # The steps of the gate. The last part is hostile to the programs that were built. `rt ci` takes no links.
 gate:
 	@for it in $$(find out -type l 2> /dev/null | head -n 1); do echo "$$it is a link, which the gate does not take: remove it, or run make clean" >&2; exit 1; done
@@ -71,6 +74,7 @@ gate:
 	@tools/widths --check
 	@tools/walk --check
 	@tools/gate --check
+	@tools/gate --budget $(GATE_MINUTES)
 	rt ci
 	@$(MAKE) -s hostile
 
