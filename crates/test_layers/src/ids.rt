@@ -169,16 +169,3 @@ fn draws_across_blocks(rt: HostRuntime) {
     expect_release(&rt, &mut ids, 129);
     expect_next(&rt, &ids, 129, Some(130));
 }
-
-/// One number at a time comes and goes: each block is left empty, and the next has the number's turn.
-#[test]
-fn leaves_empty_blocks(rt: HostRuntime) {
-    let mut ids = CyclicIds::new(rt.alloc(), 301);
-    for n in 1..=300 {
-        expect_draw(&rt, &mut ids, Some(n));
-        expect_next(&rt, &ids, 0, Some(n));
-        expect_release(&rt, &mut ids, n);
-        expect_empty(&rt, &ids, true);
-    }
-    expect_draw(&rt, &mut ids, Some(300));
-}

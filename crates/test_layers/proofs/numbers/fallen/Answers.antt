@@ -3,7 +3,7 @@ use Rattle.std.specs.Option.{option_map_or}
 use Rattle.std.proofs.lemmas.Bool.{cases_eq}
 use Rattle.pid_types.specs.Chains.{contains}
 use Rattle.pid_numbers.specs.Numbering.{Numbering, Namespace, HasOwnTask, namespace_at, identifier_at, path_at, moved, new_namespace, new_identifier}
-use Rattle.test_numbers.proofs.numbers.fallen.Goals as goal
+use Rattle.test_layers.proofs.numbers.fallen.Goals as goal
 
 -- beside the root there is one namespace alone, which is the own one of its first identifier
 only_home : (old new : Numbering) (i space : ℕ) (items : List ℕ) → namespace_at old 0 ≡ Some (new_namespace 0 (0 ∷ [])) → ((s : ℕ) → s ≢ 0 → namespace_at old s ≡ None) → namespace_at old space ≡ None
