@@ -1,6 +1,5 @@
-//! Numbers that look random, the same in each run, for loads and generated scripts: Marsaglia's xorshift
-//! of 64 bits, with the shifts 13, 7 and 17 ("Xorshift RNGs", Journal of Statistical Software 8, 2003).
-#![tactic(auto)]
+//! Numbers that look random, the same in each run: Marsaglia's xorshift of 64 bits, with the shifts 13, 7 and 17
+//! ("Xorshift RNGs", Journal of Statistical Software 8, 2003).
 
 ghost use Rattle.std.specs.Prelude.{◌<◌};
 
@@ -11,13 +10,6 @@ pub struct Random {
 }
 
 impl Random {
-    /// The sequence from its start, which is the same each time. It costs one write.
-    pub fn new() -> Self {
-        Random {
-            state: 88_172_645_463_325_252,
-        }
-    }
-
     /// The sequence of a seed, any number; 0 has the sequence of a seed of its own too. It costs one
     /// multiplication.
     pub fn seeded(seed: u64) -> Self {
@@ -37,17 +29,9 @@ impl Random {
         x
     }
 
-    /// The next number, brought below `n` by the remainder, so that small numbers come a little more
-    /// often where `n` is no power of two. It takes the same time whatever `n` is.
-    pub fn below(&mut self, n: usize) -> usize
-        requires { 0 < n }
-        ensures { result < n }
-    {
-        self.step() as usize % n
-    }
-
-    /// The next number without its low bits, brought below `n` likewise: the low bits of neighbours are
-    /// alike where seeds are small, the high ones are not.
+    /// The next number without its low bits, brought below `n` by the remainder: the low bits of neighbours are alike
+    /// where seeds are small, the high ones are not. Small numbers come a little more often where `n` is no power of
+    /// two.
     pub fn high_below(&mut self, n: usize) -> usize
         requires { 0 < n }
         ensures { result < n }
