@@ -63,6 +63,9 @@ test: ## * the gate: proves every crate from nothing, tries the edits that must 
 	$(need_rt)
 	@tools/report out/gate.txt crates/pidtab/out/pidtab -- $(MAKE) --no-print-directory gate
 
+# What the gate may cost, in processor minutes: tools/gate says on which machine.
+GATE_MINUTES = 160
+
 # The steps of the gate. Two look at the C around the library, which is not proved. The last is hostile to the programs that were built.
 # `rt ci` takes no links.
 gate:
@@ -72,6 +75,7 @@ gate:
 	@tools/widths --check
 	@tools/walk --check
 	@tools/gate --check
+	@tools/gate --budget $(GATE_MINUTES)
 	@tools/guard --check
 	@bindings/c/test_guard
 	rt ci

@@ -156,9 +156,35 @@ class Checkout(unittest.TestCase):
         self.assertEqual((status, self.table.read_text()), (1, TABLE))
         self.assertIn("rt ci ended with status 1", said)
 
+    def write_yardstick(self, seconds: str) -> None:
+        """Puts the crate by which machines compare into the checkout, and its proof into the table."""
+        (self.top / "crates/plain_view/src").mkdir(parents=True, exist_ok=True)
+        self.table.write_text(TABLE + f"plain_view\t{seconds}\t\t\t0\ngone\t9000\t\t\t0\n")
+
+    def test_a_budget(self) -> None:
+        # 73 seconds of the other crates, and no crate that is gone: (73 + 95) / 60 = 2.8 minutes.
+        self.write_yardstick("95")
+        self.assertEqual(self.run_gate("--budget", "3"), (0, "", ""))
+        said = "docs/gate.tsv: the gate takes 2.8 processor minutes where plain_view takes 95 seconds, and may take 2\n"
+        self.assertEqual(self.run_gate("--budget", "2"), (1, "", said))
+
+    def test_a_budget_on_a_slow_machine(self) -> None:
+        # Half as fast as the yardstick's machine: (73 + 190) / 2 / 60 = 2.2 minutes; and thrice as fast: (73 + 32) * 95 / 32 / 60 = 5.2.
+        self.write_yardstick("190")
+        self.assertEqual(self.run_gate("--budget", "3"), (0, "", ""))
+        self.assertIn(" 2.2 processor minutes ", self.run_gate("--budget", "2")[2])
+        self.write_yardstick("32")
+        self.assertIn(" 5.2 processor minutes ", self.run_gate("--budget", "5")[2])
+
+    def test_a_budget_without_the_yardstick(self) -> None:
+        said = "docs/gate.tsv: plain_view was not measured, by which machines compare\n"
+        for row in ("", "plain_view\t\t\t\t0\n"):
+            self.table.write_text(TABLE + row)
+            self.assertEqual(self.run_gate("--budget", "1000"), (1, "", said))
+
     def test_the_words_of_the_command_line(self) -> None:
         self.assertEqual(self.run_gate("measure", "none"), (2, "", "tools/gate: no crate none\n"))
-        for words in ((), ("check",), ("write", "low")):
+        for words in ((), ("check",), ("write", "low"), ("--budget",), ("--budget", "2.5"), ("--budget", "2", "3")):
             status, _, said = self.run_gate(*words)
             self.assertEqual((status, said.splitlines()[0]), (2, "What the gate costs, by crate: measures it, and writes the table of docs/GATE.md."))
 

@@ -1,8 +1,8 @@
 //! The generated runs.
 
+use crate::openings::{ask_below_deepest, build_controls, build_spaces};
 use crate::pair::Pair;
 use crate::tally::Tally;
-use crate::worked::{ask_below_deepest, build_controls, build_spaces};
 use anyhow::{Result, bail};
 use pid_types::config::Config;
 use pid_types::reply::Refusal;

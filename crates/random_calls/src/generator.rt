@@ -5,7 +5,7 @@
 ghost use Rattle.std.specs.Prelude.{◌<◌};
 
 use crate::draft::{DRAFTS, Draft, Theme};
-use bench_random::Random;
+use crate::random::Random;
 use pid_types::call::{Call, Kind, Which};
 use pid_types::plain::{Life, Name, Plain};
 

@@ -252,19 +252,3 @@ fn updates_marks(rt: HostRuntime) -> Result<(), Fail> {
     expect_place(&rt, &tree, 1, Some(0), None);
     Ok(())
 }
-
-/// The children of a removed task keep its key.
-#[test]
-fn keeps_the_parent_key(rt: HostRuntime) -> Result<(), Fail> {
-    let mut tree = seven(rt.alloc())?;
-    begin(&rt, &mut tree, 0, None);
-    begin(&rt, &mut tree, 1, Some(0));
-    begin(&rt, &mut tree, 2, Some(1));
-    go(&rt, &mut tree, 1);
-    expect_task(&rt, &tree, 1, None);
-    expect_place(&rt, &tree, 1, None, None);
-    expect_place(&rt, &tree, 2, Some(1), None);
-    expect_child(&rt, &tree, 1, Some(2));
-    expect_child(&rt, &tree, 0, None);
-    Ok(())
-}

@@ -1,0 +1,171 @@
+//! `CyclicIds`: worked draws.
+
+ghost use Rattle.std.specs.Prelude.{◌<◌};
+
+use cyclic_ids::{CyclicIds, GROUP_MARK, SESSION_MARK, TASK_MARK};
+use std::process::Abort;
+
+/// Draws a number, and tries again where there was no memory; then the next number has to stay.
+fn draw(rt: &impl Abort, ids: &mut CyclicIds) -> Option<u32> {
+    let n = ids.plan()?;
+    if ids.prepare(n).is_err() {
+        assert_eq!(rt; ids.plan(), Some(n));
+        if ids.prepare(n).is_err() {
+            return None;
+        }
+    }
+    ids.commit(n, n);
+    Some(n)
+}
+
+// What the ids answer, of which the tests know nothing more.
+
+fn expect_draw(rt: &impl Abort, ids: &mut CyclicIds, drawn: Option<u32>) {
+    assert_eq!(rt; draw(rt, ids), drawn);
+}
+
+/// Releases a number that was drawn, whose entry is itself.
+fn expect_release(rt: &impl Abort, ids: &mut CyclicIds, n: u32) {
+    assert_eq!(rt; ids.release(n), Some(n));
+}
+
+fn expect_entry(rt: &impl Abort, ids: &CyclicIds, n: u32, entry: u32) {
+    assert_eq!(rt; ids.find(n).copied(), Some(entry));
+}
+
+fn expect_marked(rt: &impl Abort, ids: &CyclicIds, mark: usize, next: Option<u32>)
+    requires { mark < 3 }
+{
+    assert_eq!(rt; ids.next_marked(0, mark), next);
+}
+
+fn expect_next(rt: &impl Abort, ids: &CyclicIds, from: u32, next: Option<u32>) {
+    assert_eq!(rt; ids.next(from), next);
+}
+
+fn expect_cursor(rt: &impl Abort, ids: &CyclicIds, cursor: u32) {
+    assert_eq!(rt; ids.cursor(), cursor);
+}
+
+fn has_mark(ids: &CyclicIds, n: u32, mark: usize) -> bool
+    requires { mark < 3 }
+{
+    ids.has_mark(n, mark)
+}
+
+/// Gives the planned number with marks, again where there was no memory.
+fn give_marked(ids: &mut CyclicIds, entry: u32, marks: [bool; 3]) {
+    if let Some(n) = ids.plan() {
+        if ids.prepare(n).is_ok() || ids.prepare(n).is_ok() {
+            ids.commit_marked(n, entry, marks);
+        }
+    }
+}
+
+fn set_mark(ids: &mut CyclicIds, n: u32, mark: usize) -> bool
+    requires { mark < 3 }
+{
+    ids.set_mark(n, mark)
+}
+
+fn clear_mark(ids: &mut CyclicIds, n: u32, mark: usize) -> bool
+    requires { mark < 3 }
+{
+    ids.clear_mark(n, mark)
+}
+
+fn expect_empty(rt: &impl Abort, ids: &CyclicIds, is_empty: bool) {
+    assert_eq!(rt; ids.is_empty(), is_empty);
+}
+
+/// No number is in use, then one, then none again.
+#[test]
+fn tells_whether_a_number_is_in_use(rt: HostRuntime) {
+    let mut ids = CyclicIds::new(rt.alloc(), 301);
+    expect_empty(&rt, &ids, true);
+    expect_draw(&rt, &mut ids, Some(1));
+    expect_empty(&rt, &ids, false);
+    expect_release(&rt, &mut ids, 1);
+    expect_empty(&rt, &ids, true);
+}
+
+/// 1 to 300, and then only what is freed from 300 on.
+#[test]
+fn draws_in_turn(rt: HostRuntime) {
+    let mut ids = CyclicIds::new(rt.alloc(), 301);
+    for n in 1..=300 {
+        expect_draw(&rt, &mut ids, Some(n));
+    }
+    expect_cursor(&rt, &ids, 301);
+    expect_draw(&rt, &mut ids, None);
+    expect_release(&rt, &mut ids, 7);
+    expect_draw(&rt, &mut ids, None);
+    expect_release(&rt, &mut ids, 300);
+    expect_cursor(&rt, &ids, 301);
+    expect_draw(&rt, &mut ids, Some(300));
+    expect_entry(&rt, &ids, 300, 300);
+}
+
+/// Past the bound a draw starts again at 300: 5, which is free, is not drawn.
+#[test]
+fn restarts_at_300(rt: HostRuntime) {
+    let mut ids = CyclicIds::new(rt.alloc(), 303);
+    for n in 1..=302 {
+        expect_draw(&rt, &mut ids, Some(n));
+    }
+    expect_release(&rt, &mut ids, 5);
+    expect_release(&rt, &mut ids, 301);
+    expect_release(&rt, &mut ids, 302);
+    expect_draw(&rt, &mut ids, Some(301));
+    expect_release(&rt, &mut ids, 300);
+    expect_draw(&rt, &mut ids, Some(302));
+    expect_draw(&rt, &mut ids, Some(300));
+    expect_draw(&rt, &mut ids, None);
+}
+
+/// A number that is given with marks has those, and no other.
+#[test]
+fn gives_with_marks(rt: HostRuntime) {
+    let mut ids = CyclicIds::new(rt.alloc(), 301);
+    give_marked(&mut ids, 9, [true, false, true]);
+    expect_entry(&rt, &ids, 1, 9);
+    expect_marked(&rt, &ids, TASK_MARK, Some(1));
+    assert!(rt; !has_mark(&ids, 1, GROUP_MARK));
+    assert!(rt; has_mark(&ids, 1, SESSION_MARK));
+    expect_cursor(&rt, &ids, 2);
+}
+
+/// A mark is on a number that is in use, and on no other.
+#[test]
+fn marks_numbers(rt: HostRuntime) {
+    let mut ids = CyclicIds::new(rt.alloc(), 301);
+    expect_draw(&rt, &mut ids, Some(1));
+    expect_draw(&rt, &mut ids, Some(2));
+    expect_marked(&rt, &ids, TASK_MARK, None);
+    assert!(rt; set_mark(&mut ids, 2, GROUP_MARK));
+    assert!(rt; !set_mark(&mut ids, 3, GROUP_MARK));
+    expect_marked(&rt, &ids, GROUP_MARK, Some(2));
+    assert!(rt; !has_mark(&ids, 2, SESSION_MARK));
+    assert!(rt; clear_mark(&mut ids, 2, GROUP_MARK));
+    expect_marked(&rt, &ids, GROUP_MARK, None);
+}
+
+/// 130 numbers are in three blocks of 64, of which one at a time stands beside the tree.
+#[test]
+fn draws_across_blocks(rt: HostRuntime) {
+    let mut ids = CyclicIds::new(rt.alloc(), 301);
+    for n in 1..=130 {
+        expect_draw(&rt, &mut ids, Some(n));
+    }
+    assert!(rt; set_mark(&mut ids, 70, TASK_MARK));
+    assert!(rt; set_mark(&mut ids, 129, TASK_MARK));
+    expect_marked(&rt, &ids, TASK_MARK, Some(70));
+    expect_release(&rt, &mut ids, 70);
+    expect_marked(&rt, &ids, TASK_MARK, Some(129));
+    expect_entry(&rt, &ids, 5, 5);
+    expect_entry(&rt, &ids, 130, 130);
+    expect_next(&rt, &ids, 70, Some(71));
+    expect_next(&rt, &ids, 131, None);
+    expect_release(&rt, &mut ids, 129);
+    expect_next(&rt, &ids, 129, Some(130));
+}
