@@ -5,17 +5,21 @@
 /* The heap that heap.c is built with here: it refuses the allocation that the counter falls on. 0: none. */
 static int refuse_at;
 
-static bool refused(void)
+/* How many bytes were asked for. */
+static size_t bytes_asked;
+
+static bool refused(size_t size)
 {
+	bytes_asked += size;
 	return refuse_at > 0 && --refuse_at == 0;
 }
 
 void *test_malloc(size_t size)
 {
-	return refused() ? NULL : malloc(size);
+	return refused(size) ? NULL : malloc(size);
 }
 
 void *test_realloc(void *at, size_t size)
 {
-	return refused() ? NULL : realloc(at, size);
+	return refused(size) ? NULL : realloc(at, size);
 }

@@ -186,6 +186,21 @@ static void want_of_memory(void)
 	pidtab_record_close(&record);
 }
 
+/* The room for entries grows with them: 1,000 calls ask for less than four times 184 bytes each, and a few pages. */
+static void room_grows_with_the_calls(void)
+{
+	struct pidtab_record record = PIDTAB_RECORD_INIT;
+	struct pidtab_reply reply;
+	uint64_t ordinal;
+
+	CHECK(pidtab_record_open(&record, 32768, 1, 1) == PIDTAB_DONE);
+	bytes_asked = 0;
+	for (int i = 0; i < 1000; i++)
+		CHECK(pidtab_record_call(&record, 0, &getpid_1, &reply, &ordinal) == PIDTAB_DONE);
+	CHECK(bytes_asked >= 1000 * 184 && bytes_asked < 4 * 1000 * 184 + 65536);
+	pidtab_record_close(&record);
+}
+
 int main(void)
 {
 	closed();
@@ -194,5 +209,6 @@ int main(void)
 	stamps_are_used_up();
 	asked();
 	want_of_memory();
+	room_grows_with_the_calls();
 	return 0;
 }
