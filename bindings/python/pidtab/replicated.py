@@ -90,7 +90,7 @@ class Replicated(Calls):
         """
         if isinstance(texts, (str, bytes, bytearray)):
             raise TypeError(f"submit takes many lines, each a str, not one {type(texts).__name__}")
-        return self._submit([as_line(text) for text in texts])
+        return self._submit([as_line(text) for text in texts], lambda submitted: submitted)
 
     @property
     def ask(self) -> ReplicaAsk:
@@ -148,24 +148,23 @@ class Replicated(Calls):
         super()._check_owner()
         self._replica.check_open()
 
-    def _submit(self, lines: Sequence[bytes]) -> Submitted:
-        """Has calls made."""
+    def _submit(self, lines: Sequence[bytes], answer: Callable[[Submitted], T]) -> T:
+        """Has calls made, and answers something of them."""
         super()._check_owner()
         submitted = Submitted(lines, deadline_behind(self.patience), lambda replica=self._replica: replica.left)
         if not submitted.done():
             submitted.keeps = self
-        self._replica.submit(submitted)
-        return submitted
-
-    def _answers(self, lines: Sequence[bytes]) -> tuple[str, ...]:
-        self._replica.check_thread()
-        submitted = self._submit(lines)
         try:
-            return submitted.result()
+            self._replica.submit(submitted)
+            return answer(submitted)
         except BaseException:
             # An interrupt: what was not sent is not made.
             submitted.cancel()
             raise
+
+    def _answers(self, lines: Sequence[bytes]) -> tuple[str, ...]:
+        self._replica.check_thread()
+        return self._submit(lines, Submitted.result)
 
     def _make(self, call: Call, form: Form[T]) -> T:
         # A number that does not fit is told without a call.
@@ -174,15 +173,18 @@ class Replicated(Calls):
 
     def _ask(self, call: PidtabCall, reply: PidtabReply) -> int:
         super()._check_owner()
-        with self._replica.read() as table:
-            if not isinstance(table, Table):
-                raise LibraryFault("only a table by the library answers queries that are no calls: open it with table=pidtab.Table")
-            return table._ask(call, reply)
+        return self._replica.read(lambda table: as_table(table)._ask(call, reply))
 
     def _list_text(self) -> str:
         super()._check_owner()
-        with self._replica.read() as table:
-            return table._list_text()
+        return self._replica.read(lambda table: table._list_text())
+
+
+def as_table(table: Calls) -> Table:
+    """A host's own table, if it is one by the library."""
+    if not isinstance(table, Table):
+        raise LibraryFault("only a table by the library answers queries that are no calls: open it with table=pidtab.Table")
+    return table
 
 
 def opener(table: Callable[..., Calls], pid_max: int) -> Callable[[], Calls]:

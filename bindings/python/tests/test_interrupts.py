@@ -10,11 +10,11 @@ import tempfile
 import threading
 import time
 import unittest
-from collections.abc import Callable
+from collections.abc import Callable, Collection, Sequence
 from contextlib import AbstractContextManager, suppress
-from functools import partial
+from functools import lru_cache, partial
 from pathlib import Path
-from types import FrameType
+from types import CodeType, FrameType
 from typing import Any
 from unittest import mock
 
@@ -39,16 +39,33 @@ def interrupts(first: float, every: float = 0.0) -> AbstractContextManager[None]
     return alarms(interrupt, first, every)
 
 
-class Interrupter:
-    """Interrupts once, behind one of the places of the package where something has just been called: there a handler may run."""
+@lru_cache(maxsize=None)
+def catches(code: CodeType) -> Sequence[tuple[int, int, int]]:
+    """From where to where in the code what is raised is caught, and where."""
+    # An earlier Python than 3.11 notes that while it runs, and not by the place.
+    return [(it.start, it.end, it.target) for it in getattr(dis.Bytecode(code), "exception_entries", ())]
 
-    def __init__(self, place: int) -> None:
+
+def is_behind_call(frame: FrameType, last: int) -> bool:
+    """Whether the step before was a call, and what is raised now is caught where the handler's would be, which is raised at that step."""
+    code = frame.f_code
+    found = [[target for start, end, target in catches(code) if start <= place < end] for place in (last, frame.f_lasti)]
+    return dis.opname[code.co_code[last]].startswith("CALL") and found[0] == found[1]
+
+
+class Interrupter:
+    """Interrupts once, behind one of the places of some files where something has just been called: there a handler may run."""
+
+    def __init__(self, place: int, files: Collection[str] = FILES) -> None:
         self.left = place
+        self.files = files
         self.before: dict[FrameType, int] = {}
+        # What was raised, with the frames that it came through, as a prompt keeps them.
+        self.fault: KeyboardInterrupt | None = None
 
     def trace(self, frame: FrameType, event: str, argument: object) -> Any:
         """What the interpreter calls at each of its steps."""
-        if frame.f_code.co_filename not in FILES:
+        if frame.f_code.co_filename not in self.files:
             return None
         frame.f_trace_opcodes = True
         if event == "exception":
@@ -57,7 +74,7 @@ class Interrupter:
         if event == "opcode":
             last = self.before.get(frame)
             self.before[frame] = frame.f_lasti
-            if last is not None and dis.opname[frame.f_code.co_code[last]].startswith("CALL"):
+            if last is not None and is_behind_call(frame, last):
                 self.left -= 1
             if self.left == 0:
                 sys.settrace(None)
@@ -70,7 +87,8 @@ class Interrupter:
         sys.settrace(self.trace)
         try:
             ask()
-        except KeyboardInterrupt:
+        except KeyboardInterrupt as fault:
+            self.fault = fault
             return True
         finally:
             sys.settrace(traced)
