@@ -377,6 +377,7 @@ class Refusals(Cluster):
             # Others write to etcd too, so its revision alone does not say how far the log is.
             etcds.ask("/v3/kv/put", {"key": text64("other"), "value": text64(str(number))})
             self.assertEqual(two.ask(now=True).count(), number)
+            self.assertEqual(two.ask(now=True).stat(number).numbers, (number,))
         self.assertEqual(one.mk(), 59)
         marks = etcds.ask("/v3/kv/range", {"key": text64("web:~mark")})
         self.assertEqual(len(marks["kvs"]), 1)

@@ -5,13 +5,13 @@ from contextlib import suppress
 from operator import index
 from typing import TypeVar
 
-from pidtab.answers import Form
+from pidtab.answers import Form, Stat
 from pidtab.bounds import DEFAULT_PID_MAX, check_pid_max, check_seconds
 from pidtab.calls import Call, Calls, as_line
 from pidtab.faults import LibraryFault, NotKept
 from pidtab.log import Log
-from pidtab.native import Ask, pack
-from pidtab.raw import PidtabCall, PidtabReply
+from pidtab.native import Ask, AskableCalls, pack
+from pidtab.raw import PidtabCall, PidtabReply, PidtabTask
 from pidtab.replica import Replica
 from pidtab.submitted import Submitted, deadline_behind
 from pidtab.table import Table
@@ -38,13 +38,22 @@ class ReplicaAsk(Ask):
         """The same queries; with `now`, each first waits until this host has all that the log has: it asks the log for its end."""
         return ReplicaAsk(self._table, now)
 
+    def stat(self, caller: int, pid: int = 0) -> Stat:
+        """As `Ask.stat`, of this host's own table."""
+        self._wait()
+        return super().stat(caller, pid)
+
     def _make(self, call: Call, form: Form[T]) -> T:
-        if self._now:
-            self._table.catch_up()
+        self._wait()
         return super()._make(call, form)
 
+    def _wait(self) -> None:
+        """Waits, with `now`, until this host is not behind."""
+        if self._now:
+            self._table.catch_up()
 
-class Replicated(Calls):
+
+class Replicated(AskableCalls):
     """One table on many hosts, by a log that they share: `Replicated(log)` on each of them is the same table.
 
     A call goes into the log, is made on each host in the log's order, and is answered when it was made here. It is made exactly once as long as
@@ -174,6 +183,10 @@ class Replicated(Calls):
     def _ask(self, call: PidtabCall, reply: PidtabReply) -> int:
         super()._check_owner()
         return self._replica.read(lambda table: as_table(table)._ask(call, reply))
+
+    def _stat(self, caller: int, pid: int, task: PidtabTask) -> int:
+        super()._check_owner()
+        return self._replica.read(lambda table: as_table(table)._stat(caller, pid, task))
 
     def _list_text(self) -> str:
         super()._check_owner()
