@@ -5,7 +5,7 @@ const LIST = "task 1 space 0 parent 0 group 1 session 1 control 0 live\nspace 0 
 
 class Element {
   constructor() {
-    Object.assign(this, { value: "", textContent: "", hidden: false, children: [], dataset: {}, listeners: {}, classes: new Set(), scrollTop: 0 });
+    Object.assign(this, { value: "", textContent: "", hidden: false, children: [], dataset: {}, listeners: {}, classes: new Set(), scrollTop: 0, clientHeight: 0 });
     this.style = { setProperty: () => undefined };
     this.classList = { toggle: (name, on) => (on ? this.classes.add(name) : this.classes.delete(name)) };
     this.attributes = {};
@@ -27,6 +27,14 @@ class Element {
   }
   querySelectorAll() {
     return [];
+  }
+  /** Whether it has an element below it. */
+  contains(other) {
+    return this === other || this.children.some((child) => child.contains?.(other));
+  }
+  /** The element of a class that is nearest above, as far as the tests need it: itself. */
+  closest() {
+    return this;
   }
   /** All texts in it. */
   get said() {
@@ -72,8 +80,13 @@ export async function loadPage(examples, hash) {
   await import(`../page.js?${Math.random()}`);
   const fire = (id, kind, value) => {
     if (value !== undefined) find(id).value = value;
-    (id ? find(id).listeners : listeners)[kind]({ target: find(id) });
+    return (id ? find(id).listeners : listeners)[kind]({ target: find(id) });
+  };
+  /** Chooses a file of a name and a text, and waits until it is opened. */
+  const choose = (name, text, size = text.length) => {
+    find("file").files = [{ name, size, text: async () => text }];
+    return fire("file", "change");
   };
   while (!body.dataset.ready && find("fault").textContent === "") await new Promise((resolve) => setTimeout(resolve, 1));
-  return { find, fire, body };
+  return { find, fire, choose, body };
 }
