@@ -139,7 +139,7 @@ test("a file that is none of these is told in a sentence, and what is shown stay
   const before = find("now").said;
   for (const [text, words] of [
     [LIST.replace("live", "alive"), "line 1: not a line of a list"],
-    [read("examples/recovery.text").replace("exit 6", "exit 5"), "line 9: wrong digest"],
+    [read("examples/recovery.text").replace("exit 6", "exit 5"), "line 10: wrong digest"],
   ]) {
     await choose("bad", text);
     assert.deepEqual([find("fault").textContent, find("fault").hidden], [`The file bad is not shown: ${words}.`, false]);

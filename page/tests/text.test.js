@@ -67,12 +67,12 @@ test("marks, and a namespace for children that is another", async () => {
 test("what is no text of a table", async () => {
   const good = read("examples/recovery.text");
   const faults = [
-    [good.slice(0, -1), "line 9: cut off, without a newline"],
+    [good.slice(0, -1), "line 10: cut off, without a newline"],
     [good.replace("table 1", "table 2"), "line 1: not the head of a text of version 1"],
     [good.replace("task 2,1@3", "task 2,1"), "line 3: not a line of a text"],
-    [good.replace("exit 6", "exit 7"), "line 9: wrong digest"],
-    [good.replace(/end .*\n/, ""), "line 8: no digest"],
-    [`${good}space 9 parent 0 cursor 2\n`, "line 9: not a line of a text"],
+    [good.replace("exit 6", "exit 7"), "line 10: wrong digest"],
+    [good.replace(/end .*\n/, ""), "line 9: no digest"],
+    [`${good}space 9 parent 0 cursor 2\n`, "line 10: not a line of a text"],
   ];
   for (const [text, message] of faults) await assert.rejects(listOfText(text), { message }, message);
 });
