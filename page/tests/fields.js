@@ -3,7 +3,7 @@
 
 const LIST = "task 1 space 0 parent 0 group 1 session 1 control 0 live\nspace 0 parent - cursor 2\ncontrol 0 parent - limit max count 1\n";
 
-class Element {
+export class Element {
   constructor() {
     Object.assign(this, { value: "", textContent: "", hidden: false, children: [], dataset: {}, listeners: {}, classes: new Set(), scrollTop: 0, clientHeight: 0 });
     this.style = { setProperty: () => undefined };
@@ -14,7 +14,8 @@ class Element {
     return this.value.length;
   }
   setAttribute(name, value) {
-    this.attributes[name] = value;
+    this.attributes[name] = String(value);
+    if (name.startsWith("data-")) this.dataset[name.slice("data-".length)] = String(value);
   }
   append(...children) {
     this.children.push(...children);
@@ -27,6 +28,12 @@ class Element {
   }
   querySelectorAll() {
     return [];
+  }
+  querySelector() {
+    return null;
+  }
+  get lastElementChild() {
+    return Object.assign(this.children.at(-1), { remove: () => this.children.pop() });
   }
   /** Whether it has an element below it. */
   contains(other) {
