@@ -361,7 +361,8 @@ class Refusals(Cluster):
         etcds._words = ("--quota-backend-bytes=100000000",)
         etcds.start(0)
         etcds.wait_until_ready()
-        etcds.ask("/v3/maintenance/alarm", {"action": "DEACTIVATE", "alarm": "NOSPACE"})
+        for alarm in etcds.ask("/v3/maintenance/alarm", {"action": "GET"})["alarms"]:
+            etcds.ask("/v3/maintenance/alarm", {"action": "DEACTIVATE", **alarm})
         self.assertEqual(self.insist(lambda: table.fork(1).root), 2)
         table.close()
 
