@@ -10,11 +10,11 @@ import tempfile
 import threading
 import time
 import unittest
-from collections.abc import Callable, Collection, Sequence
+from collections.abc import Callable, Collection
 from contextlib import AbstractContextManager, suppress
-from functools import lru_cache, partial
+from functools import partial
 from pathlib import Path
-from types import CodeType, FrameType
+from types import FrameType
 from typing import Any
 from unittest import mock
 
@@ -39,33 +39,22 @@ def interrupts(first: float, every: float = 0.0) -> AbstractContextManager[None]
     return alarms(interrupt, first, every)
 
 
-@lru_cache(maxsize=None)
-def catches(code: CodeType) -> Sequence[tuple[int, int, int]]:
-    """From where to where in the code what is raised is caught, and where."""
-    # An earlier Python than 3.11 notes that while it runs, and not by the place.
-    return [(it.start, it.end, it.target) for it in getattr(dis.Bytecode(code), "exception_entries", ())]
-
-
-def is_behind_call(frame: FrameType, last: int) -> bool:
-    """Whether the step before was a call, and what is raised now is caught where the handler's would be, which is raised at that step."""
-    code = frame.f_code
-    found = [[target for start, end, target in catches(code) if start <= place < end] for place in (last, frame.f_lasti)]
-    return dis.opname[code.co_code[last]].startswith("CALL") and found[0] == found[1]
-
-
 class Interrupter:
-    """Interrupts once, behind one of the places of some files where something has just been called: there a handler may run."""
+    """Interrupts once, behind one of the places of the package where something has just been called: there a handler may run."""
 
-    def __init__(self, place: int, files: Collection[str] = FILES) -> None:
+    # By what the interpreter is asked to tell of its steps.
+    told = sys.gettrace
+    tell = sys.settrace
+
+    def __init__(self, place: int) -> None:
         self.left = place
-        self.files = files
         self.before: dict[FrameType, int] = {}
         # What was raised, with the frames that it came through, as a prompt keeps them.
         self.fault: KeyboardInterrupt | None = None
 
     def trace(self, frame: FrameType, event: str, argument: object) -> Any:
         """What the interpreter calls at each of its steps."""
-        if frame.f_code.co_filename not in self.files:
+        if frame.f_code.co_filename not in FILES:
             return None
         frame.f_trace_opcodes = True
         if event == "exception":
@@ -74,7 +63,7 @@ class Interrupter:
         if event == "opcode":
             last = self.before.get(frame)
             self.before[frame] = frame.f_lasti
-            if last is not None and is_behind_call(frame, last):
+            if last is not None and dis.opname[frame.f_code.co_code[last]].startswith("CALL"):
                 self.left -= 1
             if self.left == 0:
                 sys.settrace(None)
@@ -83,16 +72,40 @@ class Interrupter:
 
     def run(self, ask: Callable[[], object]) -> bool:
         """Whether the call was interrupted."""
-        traced = sys.gettrace()
-        sys.settrace(self.trace)
+        before = self.told()
+        self.tell(self.trace)
         try:
             ask()
         except KeyboardInterrupt as fault:
             self.fault = fault
             return True
         finally:
-            sys.settrace(traced)
+            self.tell(before)
         return False
+
+
+class CallInterrupter(Interrupter):
+    """Interrupts once, in the step of one of the calls that are made in some files, behind what was called.
+
+    There a handler is run too. What it raises is caught where the call is, and not where the next step is, which may be behind a `with`.
+    """
+
+    told = sys.getprofile
+    tell = sys.setprofile
+
+    def __init__(self, place: int, files: Collection[str]) -> None:
+        super().__init__(place)
+        self.files = files
+
+    def trace(self, frame: FrameType | None, event: str, argument: object) -> None:
+        """What the interpreter calls at the beginning and at the end of what is called."""
+        # A function of C ends in the frame that has called it, and one of Python in its own.
+        caller = frame if event == "c_return" else frame and frame.f_back if event == "return" else None
+        if caller is not None and caller.f_code.co_filename in self.files:
+            self.left -= 1
+            if self.left == 0:
+                sys.setprofile(None)
+                raise KeyboardInterrupt
 
 
 class Interrupts(unittest.TestCase):

@@ -22,7 +22,7 @@ from pidtab.log_form import MOST_SESSIONS, OPEN, Asked, Settings, read_entry, wr
 from tests.stand_in import StandIn
 from tests.test_ends import OTHERS, in_child, run_python
 from tests.alarms import alarms
-from tests.test_interrupts import Interrupter, interrupts
+from tests.test_interrupts import CallInterrupter, interrupts
 
 SETTINGS = write_settings(Settings(1, 32768, 1))
 NO_DIGEST = "0" * 16
@@ -514,11 +514,11 @@ class Ends(Hosts):
             lambda: table.fork(1), lambda: table.submit(["fork 1"]).result(), lambda: table.submit(["fork 1"]).exception(), table.list, table.catch_up,
         ]  # fmt: skip
         for ask in asks:
-            interrupted: list[Interrupter] = []
+            interrupted: list[CallInterrupter] = []
             with alarms(tell_hang, LONG):
                 # The interpreter may tell of the steps of a function from its second call on.
-                self.assertFalse(Interrupter(-1, FILES).run(ask))
-                while (interrupter := Interrupter(len(interrupted) + 1, FILES)).run(ask):
+                self.assertFalse(CallInterrupter(-1, FILES).run(ask))
+                while (interrupter := CallInterrupter(len(interrupted) + 1, FILES)).run(ask):
                     interrupted.append(interrupter)
                     # No thread waits for a lock that nobody gives up.
                     root = table.fork(1).root
@@ -532,7 +532,7 @@ class Ends(Hosts):
             table.fork(1)
             places += 1
             with alarms(tell_hang, LONG):
-                is_interrupted = Interrupter(places, FILES).run(table.close)
+                is_interrupted = CallInterrupter(places, FILES).run(table.close)
                 table.close()
             self.assertFalse([it for it in table._replica.threads if it.is_alive()])
         self.assertGreater(places, 3)
