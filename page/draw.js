@@ -1,6 +1,16 @@
 // The drawing of a list: nested boxes of namespaces with their tasks, and the tree of control groups.
 
+import { countIn, sift } from "./filter.js";
 import { boxesOf, controlTree } from "./layout.js";
+
+/** Where more tasks are shown, the boxes in the outermost one are folded, and drawn once they are opened. */
+export const MOST_OPEN = 400;
+
+/** So many items of a box or of the control groups are drawn, and at each press as many more. */
+export const MOST_ITEMS = 1500;
+
+/** So many numbers of tasks stand beside a control group. */
+const MOST_HOMES = 40;
 
 /** Deeper rows stand no further in: their parents are told in words too. */
 const MOST_INDENT = 16;
@@ -86,25 +96,85 @@ function taskRow({ task, depth }, marks) {
   );
 }
 
-function itemOf(item, marks) {
-  return item.task ? taskRow(item, marks) : make("li", { class: "nested", ...indent(item.depth) }, drawBox(item, marks));
+/** A count with its word, as "1 task" and "2 tasks"; null for none. */
+function counted(count, word) {
+  return count > 0 ? `${count.toLocaleString("en")} ${word}${count === 1 ? "" : "s"}` : null;
 }
 
-function drawBox(box, marks) {
-  const { space } = box;
-  const mark = marks.spaces.get(space.id);
-  const head = make(
-    "h3",
-    {},
-    ...spaced([`namespace ${space.id}`, fact("cursor", space.cursor), space.fallen ? span("life zombie", "fallen") : null, markOf(mark)]),
-  );
-  const items = box.items.map((item) => itemOf(item, marks));
-  return make("section", { class: `space ${mark}`, "data-space": space.id }, head, make("ul", { role: "list" }, ...items));
+/** What a box has, in words. */
+export function sayInside(box) {
+  const { tasks, ended, spaces } = countIn(box);
+  const parts = [counted(tasks, "task") ?? "no task", counted(ended, "zombie"), counted(spaces, "namespace")];
+  return parts.filter((part) => part !== null).join(", ");
+}
+
+/** Items from one on, as many as are drawn in one go, and behind them a button if there are more. */
+function drawnFrom(items, from, draw) {
+  const end = from + MOST_ITEMS;
+  const drawn = items.slice(from, end).map(draw);
+  if (end >= items.length) return drawn;
+  const words = `${Math.min(items.length - end, MOST_ITEMS).toLocaleString("en")} more of ${items.length.toLocaleString("en")}`;
+  return [...drawn, make("li", { class: "more" }, make("button", { type: "button" }, words))];
+}
+
+/** Draws more in a list that ends with a button for it. */
+function appendMore(list, items, draw) {
+  list.lastElementChild.remove();
+  list.append(...drawnFrom(items, list.children.length, draw));
+}
+
+/** The namespaces of a list as boxes. Which are open may be told by their ids, and stays so from one list to the next. */
+export class Spaces {
+  constructor(listing, changes, filter = null, opened = new Map()) {
+    this.root = sift(boxesOf(listing), filter);
+    this.marks = changes.marks;
+    this.opened = opened;
+    this.inside = countIn(this.root);
+    this.boxes = new Map();
+    this.drawItem = (item) =>
+      item.task ? taskRow(item, this.marks) : make("li", { class: "nested", ...indent(item.depth) }, this.drawBox(item));
+  }
+
+  /** All of them, as they are at first. */
+  draw() {
+    return this.drawBox(this.root);
+  }
+
+  isOpen(box) {
+    return this.opened.get(box.space.id) ?? (box === this.root || this.inside.tasks <= MOST_OPEN);
+  }
+
+  drawBox(box) {
+    const { space } = box;
+    const mark = this.marks.spaces.get(space.id);
+    const open = this.isOpen(box);
+    this.boxes.set(space.id, box);
+    const fallen = space.fallen ? span("life zombie", "fallen") : null;
+    const parts = [`namespace ${space.id}`, fact("cursor", space.cursor), fallen, markOf(mark), open ? null : span("inside", sayInside(box))];
+    const list = make("ul", { role: "list" }, ...(open ? drawnFrom(box.items, 0, this.drawItem) : []));
+    const state = open ? { open: "" } : {};
+    return make("details", { class: `space ${mark}`, "data-space": space.id, ...state }, make("summary", {}, ...spaced(parts)), list);
+  }
+
+  /** Notes that the box of an element was opened or folded by somebody, and draws what is in it where that is not there yet. */
+  toggle(element) {
+    const box = this.boxes.get(element.dataset.space);
+    const [head, list] = element.children;
+    if (element.open === this.isOpen(box)) return;
+    this.opened.set(box.space.id, element.open);
+    if (element.open && list.children.length === 0) list.append(...drawnFrom(box.items, 0, this.drawItem));
+    if (!head.querySelector(".inside")) head.append(span("inside", sayInside(box)));
+  }
+
+  /** Draws more of the box of an element. */
+  showMore(element) {
+    appendMore(element.children[1], this.boxes.get(element.dataset.space).items, this.drawItem);
+  }
 }
 
 /** The namespaces of a list, with the marks of what is new or has changed. */
 export function drawSpaces(listing, changes) {
-  return drawBox(boxesOf(listing), changes.marks);
+  return new Spaces(listing, changes).draw();
 }
 
 /** A bar of how much of the limit is used, or its room where there is none. Its words stand beside it. */
@@ -121,11 +191,18 @@ function sayCount(control) {
   return `${count} of ${limit}${more}`;
 }
 
+/** The numbers of the tasks whose home a control group is, of many only the first ones. */
+function homesOf(tasks) {
+  if (tasks.length === 0) return null;
+  const left = tasks.length - MOST_HOMES;
+  const more = left > 0 ? ` and ${left.toLocaleString("en")} more` : "";
+  return span("fact homes", "tasks ", make("b", {}, tasks.slice(0, MOST_HOMES).map((task) => task.root).join(" ")), more);
+}
+
 function controlRow({ control, depth, tasks }, marks) {
   const mark = marks.controls.get(control.id);
   const full = control.limit !== null && control.count >= control.limit ? "full" : "";
-  const here = tasks.length > 0 ? span("fact homes", "tasks ", make("b", {}, tasks.map((task) => task.root).join(" "))) : null;
-  const facts = [meterOf(control), span("fact count", "count ", make("b", {}, sayCount(control))), here, markOf(mark)];
+  const facts = [meterOf(control), span("fact count", "count ", make("b", {}, sayCount(control))), homesOf(tasks), markOf(mark)];
   return make(
     "li",
     { class: `row control ${full} ${mark}`, ...indent(depth), "data-control": control.id },
@@ -134,6 +211,23 @@ function controlRow({ control, depth, tasks }, marks) {
 }
 
 /** The control groups of a list. */
+export class Controls {
+  constructor(listing, changes) {
+    this.nodes = controlTree(listing);
+    this.drawNode = (node) => controlRow(node, changes.marks);
+  }
+
+  draw() {
+    return make("ul", { role: "list" }, ...drawnFrom(this.nodes, 0, this.drawNode));
+  }
+
+  /** Draws more in the list that was drawn. */
+  showMore(list) {
+    appendMore(list, this.nodes, this.drawNode);
+  }
+}
+
+/** The control groups of a list, with the marks of what is new or has changed. */
 export function drawControls(listing, changes) {
-  return make("ul", { role: "list" }, ...controlTree(listing).map((node) => controlRow(node, changes.marks)));
+  return new Controls(listing, changes).draw();
 }

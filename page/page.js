@@ -1,12 +1,14 @@
 // The page: a script and its answers on the left, the table after one of its lines on the right.
 
 import { changesBetween, sayChanges } from "./changes.js";
-import { drawControls, drawSpaces, make } from "./draw.js";
+import { Controls, make, sayInside, Spaces } from "./draw.js";
+import { readFilter } from "./filter.js";
 import { whyBad } from "./language.js";
 import { hashOf, scriptOf } from "./link.js";
 import { readList } from "./list.js";
 import { kindOf, lineAt, linesOf, MOST_LINES, Player } from "./play.js";
 import { newTable } from "./table.js";
+import { kindOfText, listOfText } from "./text.js";
 
 const LEAST_PID_MAX = 301;
 const GREATEST_PID_MAX = 4194304;
@@ -14,13 +16,30 @@ const LEAST_ROWS = 8;
 // A script of more lines is played once nobody has typed for so many milliseconds.
 const SHORT_SCRIPT = 500;
 const PAUSE = 150;
+// Of a longer script only the rows in sight are drawn, with so many before and behind them.
+const MOST_ROWS = 2000;
+const ROWS_BEYOND = 200;
+// A file of more bytes is not opened.
+const MOST_BYTES = 2 ** 26;
 
 const find = (id) => document.getElementById(id);
-const IDS = "example about pid-max editor gutter script answers back place on now spaces controls list fault link";
+const IDS = "example about pid-max editor gutter script answers back place on now spaces controls list fault link file filter found";
 const fields = Object.fromEntries(IDS.split(" ").map((id) => [id, find(id)]));
 const examples = JSON.parse(find("examples").textContent);
-// What is shown: the lines with their answers, and after which line, counted from 1; 0 is before the first.
-const shown = { lines: [], answers: [], place: 0 };
+// What is shown: the lines with their answers, which of them has the first row that is drawn, and the table after one, counted from 1, where 0
+// is before the first, or that of a file: its list, what has changed in it, its drawings, and which namespaces somebody has opened or folded.
+const shown = {
+  lines: [],
+  answers: [],
+  place: 0,
+  firstRow: 0,
+  isFile: false,
+  listing: null,
+  changes: null,
+  spaces: null,
+  controls: null,
+  opened: new Map(),
+};
 // A script of one's own, which stays while an example is shown.
 const own = { script: "", pidMax: "32768" };
 let module;
@@ -66,17 +85,45 @@ function answerRow(answer, place) {
   return make("li", { class: kindOf(answer), "data-place": place + 1 }, heard, make("span", {}, answer));
 }
 
+/** How high a row is. */
+function rowHeight() {
+  return fields.gutter.children[0]?.offsetHeight || 1;
+}
+
+/** The first line whose row has to be drawn, counted from 0, and the one behind the last. */
+function rowsInSight() {
+  const count = shown.lines.length;
+  if (count <= MOST_ROWS) return [0, count];
+  const { scrollTop, clientHeight } = fields.editor;
+  const from = Math.max(0, Math.floor(scrollTop / rowHeight()) - ROWS_BEYOND);
+  return [from, Math.min(count, from + Math.ceil(clientHeight / rowHeight()) + 2 * ROWS_BEYOND)];
+}
+
+/** Writes the numbers of the lines, and the answers beside them. */
+function drawRows() {
+  const [from, to] = rowsInSight();
+  const lines = Array.from({ length: to - from }, (_, at) => from + at);
+  shown.firstRow = from;
+  fields.editor.style.setProperty("--above", String(from));
+  fields.answers.replaceChildren(...lines.map((place) => answerRow(shown.answers[place], place)));
+  fields.gutter.replaceChildren(...lines.map((place) => make("li", { "data-place": place + 1 }, String(place + 1))));
+}
+
+/** Draws the rows of a long script that came into sight. */
+function scrollRows() {
+  if (Math.abs(rowsInSight()[0] - shown.firstRow) > ROWS_BEYOND / 2) drawRows();
+}
+
 /** Plays the whole script and writes the answers beside its lines. */
 function playScript(bound) {
   const lines = linesOf(fields.script.value);
   shown.lines = lines.slice(0, MOST_LINES);
   shown.answers = player.play(bound, shown.lines);
-  fields.answers.replaceChildren(...shown.answers.map(answerRow));
   // One more, as the text may go on behind its last newline.
   fields.script.rows = Math.max(lines.length + 1, LEAST_ROWS);
-  fields.gutter.replaceChildren(...shown.lines.map((_, place) => make("li", { "data-place": place + 1 }, String(place + 1))));
+  drawRows();
   fields.place.max = String(shown.lines.length);
-  sayFault(lines.length > MOST_LINES ? `Only the first ${MOST_LINES} lines are played.` : "");
+  sayFault(lines.length > MOST_LINES ? `Only the first ${MOST_LINES.toLocaleString("en")} lines are played.` : "");
 }
 
 /** The line and its answer, in words. */
@@ -90,12 +137,11 @@ function sayPlace() {
 
 /** Scrolls the script so that the line can be seen. */
 function reveal(place) {
-  const row = fields.gutter.children[place - 1];
   const { editor } = fields;
-  if (!row) return;
-  if (row.offsetTop < editor.scrollTop) editor.scrollTop = row.offsetTop;
-  const end = row.offsetTop + row.offsetHeight - editor.clientHeight;
-  if (end > editor.scrollTop) editor.scrollTop = end;
+  if (place === 0) return;
+  const end = place * rowHeight();
+  if (end - rowHeight() < editor.scrollTop) editor.scrollTop = end - rowHeight();
+  if (end - editor.clientHeight > editor.scrollTop) editor.scrollTop = end - editor.clientHeight;
 }
 
 /** Shows where the line stands: the slider, the buttons, the band behind it. */
@@ -110,19 +156,72 @@ function markPlace() {
   fields.editor.classList.toggle("at-start", place === 0);
 }
 
+/** What the filter lets through, or null for all; what is no filter is told beside it. */
+function filterOf() {
+  let [filter, words] = [null, ""];
+  try {
+    filter = readFilter(fields.filter.value);
+  } catch (fault) {
+    words = fault.message;
+  }
+  fields.filter.setAttribute("aria-invalid", String(words !== ""));
+  fields.found.textContent = words;
+  return filter;
+}
+
+/** Draws the namespaces that are shown, as far as the filter lets their tasks through. */
+function drawNamespaces() {
+  const filter = filterOf();
+  shown.spaces = new Spaces(shown.listing, shown.changes, filter, shown.opened);
+  fields.spaces.replaceChildren(shown.spaces.draw());
+  if (filter) fields.found.textContent = sayInside(shown.spaces.root);
+}
+
+/** Draws a table: its list, how that differs from the one before, and what is said of it. */
+function drawTable(list, before, words, more) {
+  shown.listing = readList(list);
+  shown.changes = changesBetween(before && readList(before), shown.listing);
+  drawNamespaces();
+  shown.controls = new Controls(shown.listing, shown.changes);
+  fields.controls.replaceChildren(shown.controls.draw());
+  fields.list.textContent = list;
+  fields.now.replaceChildren(make("b", {}, words), make("span", {}, more(shown.changes)));
+}
+
 /** Draws the table after the line. */
 function showPlace(place) {
   shown.place = Math.min(place, shown.lines.length);
-  guarded((bound) => {
+  shown.isFile = false;
+  guarded(() => {
     const { before, after } = player.listsAround(shown.place);
-    const listing = readList(after);
-    const changes = changesBetween(before && readList(before), listing);
-    fields.spaces.replaceChildren(drawSpaces(listing, changes));
-    fields.controls.replaceChildren(drawControls(listing, changes));
-    fields.list.textContent = after;
-    fields.now.replaceChildren(make("b", {}, sayPlace()), make("span", {}, shown.place > 0 ? sayChanges(changes) : ""));
+    drawTable(after, before, sayPlace(), (changes) => (shown.place > 0 ? sayChanges(changes) : ""));
   });
   markPlace();
+}
+
+/** Shows the table of a file, until a line of the script is shown again. */
+function showFile(name, list) {
+  shown.opened.clear();
+  drawTable(list, null, `The table of the file ${name}`, () => sayInside(shown.spaces.root));
+  shown.isFile = true;
+}
+
+/** Opens the file that was chosen. A script becomes one's own, and of another the table is shown. */
+async function openFile() {
+  const [file] = fields.file.files;
+  if (!file) return;
+  try {
+    if (file.size > MOST_BYTES) throw new Error(`it has more than ${MOST_BYTES / 2 ** 20} MiB`);
+    const text = await file.text();
+    const kind = kindOfText(text);
+    sayFault("");
+    if (kind === "script") takeScript(text, `The script of the file ${file.name}.`);
+    else showFile(file.name, kind === "text" ? await listOfText(text) : text);
+  } catch (fault) {
+    sayFault(`The file ${file.name} is not shown: ${fault.message}.`);
+  }
+  // So that the same one can be opened again.
+  fields.file.value = "";
 }
 
 /** Plays the script anew, and shows the table after the line. */
@@ -139,6 +238,7 @@ function caretLine() {
 function showScript(script, pidMax, about) {
   clearTimeout(waiting);
   waiting = undefined;
+  shown.opened.clear();
   fields.about.textContent = about;
   fields.script.value = script;
   fields["pid-max"].value = pidMax;
@@ -184,16 +284,21 @@ function makeLink() {
   fields.about.textContent = "The address of the page has this script.";
 }
 
+/** Has a script be one's own, and shows it. */
+function takeScript(script, about) {
+  fields.script.value = script;
+  fields["pid-max"].value = "32768";
+  keepOwn();
+  showScript(own.script, own.pidMax, about);
+}
+
 /** Shows the script of the address, if it has one; whether it has. */
 function openLink() {
   try {
     const script = scriptOf(location.hash);
     if (script === null) return false;
     if (script === fields.script.value) return true;
-    fields.script.value = script;
-    fields["pid-max"].value = "32768";
-    keepOwn();
-    chooseExample();
+    takeScript(script, "");
     return true;
   } catch (fault) {
     sayFault(fault.message);
@@ -203,7 +308,7 @@ function openLink() {
 
 /** The table after the line of the cursor, where that has moved. */
 function follow() {
-  if (waiting === undefined && caretLine() !== shown.place) showPlace(caretLine());
+  if (waiting === undefined && (shown.isFile || caretLine() !== shown.place)) showPlace(caretLine());
 }
 
 /** Has an answer tell why its line is bad. */
@@ -221,6 +326,14 @@ function stepBy(step) {
 function pressed(event) {
   const place = event.target.closest("[data-place]")?.dataset.place;
   if (place) showPlace(Number(place));
+}
+
+/** Draws more of where somebody has pressed the button for it. */
+function drawMore(event) {
+  const list = event.target.closest(".more")?.parentElement;
+  if (!list) return;
+  if (fields.controls.contains(list)) shown.controls.showMore(list);
+  else shown.spaces.showMore(list.parentElement);
 }
 
 /** Marks the parent and the children of the task under the pointer. */
@@ -245,6 +358,12 @@ function listen() {
   fields.answers.addEventListener("click", pressed);
   fields.answers.addEventListener("pointerover", explain);
   fields.gutter.addEventListener("click", pressed);
+  fields.editor.addEventListener("scroll", scrollRows);
+  fields.file.addEventListener("change", openFile);
+  fields.filter.addEventListener("input", drawNamespaces);
+  fields.spaces.addEventListener("toggle", (event) => shown.spaces.toggle(event.target), true);
+  fields.spaces.addEventListener("click", drawMore);
+  fields.controls.addEventListener("click", drawMore);
   fields.spaces.addEventListener("pointerover", relate);
   fields.spaces.addEventListener("pointerleave", relate);
 }

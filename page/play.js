@@ -1,7 +1,7 @@
 // A script, line by line: what each line is answered, and the list that stands after it.
 
 /** The most lines that the page plays. */
-export const MOST_LINES = 5000;
+export const MOST_LINES = 30000;
 
 /** After so many lines the state of the table is kept, so that a step need not play all lines before it. */
 export const KEPT_EVERY = 100;

@@ -91,6 +91,13 @@ export class Browser {
     await this.ask("Input.dispatchKeyEvent", { type: "keyUp", ...how });
   }
 
+  /** Chooses a file in the field with the id. */
+  async chooseFile(id, file) {
+    const { root } = await this.ask("DOM.getDocument");
+    const { nodeId } = await this.ask("DOM.querySelector", { nodeId: root.nodeId, selector: `#${id}` });
+    await this.ask("DOM.setFileInputFiles", { files: [file], nodeId });
+  }
+
   /** What has been told of a kind, as "Network.requestWillBeSent". */
   told(method) {
     return this.events.filter((event) => event.method === method).map(({ params }) => params);

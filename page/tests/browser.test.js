@@ -1,12 +1,16 @@
 // The built page in a headless Chromium.
 
 import assert from "node:assert/strict";
-import { existsSync } from "node:fs";
+import { existsSync, mkdtempSync, rmSync, writeFileSync } from "node:fs";
+import { tmpdir } from "node:os";
+import { join } from "node:path";
 import { after, before, describe, test } from "node:test";
 import { pathToFileURL } from "node:url";
 
+import { MOST_LINES } from "../play.js";
 import { Browser, findChromium } from "./browser.js";
-import { examples, REPOSITORY } from "./stored.js";
+import { listOfContainers } from "./containers.js";
+import { examples, read, REPOSITORY } from "./stored.js";
 
 const PAGE = `${REPOSITORY}out/page/pidtab.html`;
 const program = findChromium();
@@ -208,13 +212,77 @@ describe("the page", { skip: missing() }, () => {
   });
 
   test("a long script is cut, and says so", async () => {
-    await write("getpid 1\n".repeat(5000));
-    await browser.until(`${ANSWERS}.length === 5000`);
+    const played = (count) => browser.until(`document.getElementById("place").max === "${count}"`);
+    await write("getpid 1\n".repeat(MOST_LINES));
+    await played(MOST_LINES);
     assert.equal(await browser.value(FAULT), "");
-    await write(`${"getpid 1\n".repeat(5000)}getpid 1`);
+    await write(`${"getpid 1\n".repeat(MOST_LINES)}getpid 1`);
     await browser.until(`(${FAULT}) !== ""`);
-    assert.equal((await browser.value(ANSWERS)).length, 5000);
-    assert.equal(await browser.value(FAULT), "Only the first 5000 lines are played.");
+    await played(MOST_LINES);
+    assert.equal(await browser.value(FAULT), "Only the first 30,000 lines are played.");
+    await choose("container");
+  });
+
+  test("the rows of a long script are drawn where they are in sight", async () => {
+    await write(Array.from({ length: 10000 }, (_, at) => `getpid ${at + 2}`).join("\n"));
+    await browser.until(`document.getElementById("place").max === "10000"`);
+    const first = () => browser.value(`document.querySelector("#gutter li").textContent`);
+    assert.equal(await first(), "1");
+    // The row of the last line stands where its number says, in sight.
+    await browser.value(`(() => { const it = document.getElementById("editor"); it.scrollTop = it.scrollHeight; })()`);
+    await browser.until(`document.querySelector("#gutter li:last-child").textContent === "10000"`);
+    const bottoms = `["#gutter", "#answers"].map((id) => document.querySelector(id + " li:last-child").getBoundingClientRect().bottom)`;
+    const [one, other] = await browser.value(bottoms);
+    const edge = await browser.value(`document.getElementById("editor").getBoundingClientRect().bottom`);
+    assert.ok(one === other && one <= edge && edge - one < 100, `${one} ${other} ${edge}`);
+    await choose("container");
+  });
+
+  test("a press on the head of a namespace folds it, and it stays so from line to line", async () => {
+    await choose("container");
+    const open = () => browser.value(`[...document.querySelectorAll("#spaces .space")].map((box) => box.open)`);
+    assert.deepEqual(await open(), [true, true]);
+    await browser.value(`document.querySelector("#spaces .space .space > summary").click()`);
+    await browser.until(`document.querySelector("#spaces .space .space > summary .inside")`);
+    assert.deepEqual(await open(), [true, false]);
+    await browser.value(`document.getElementById("back").click()`);
+    assert.deepEqual(await open(), [true, false]);
+    await choose("container");
+    assert.deepEqual(await open(), [true, true]);
+  });
+
+  test("1,000 containers of a list are shown soon, and a filter finds tasks of theirs", async () => {
+    const folder = mkdtempSync(join(tmpdir(), "pidtab-list-"));
+    const file = join(folder, "web.list");
+    writeFileSync(file, listOfContainers(1000, 20));
+    const begun = Date.now();
+    await browser.chooseFile("file", file);
+    await browser.until(`document.querySelectorAll("#spaces .space .space").length === 1000`);
+    assert.ok(Date.now() - begun < 10_000, `${Date.now() - begun} ms`);
+    rmSync(folder, { recursive: true });
+    assert.equal(await browser.value(NOW), "The table of the file web.list21,001 tasks, 1,000 zombies, 1,000 namespaces");
+    assert.equal(await browser.value(`document.querySelectorAll("#controls .control").length`), 1001);
+    const tasks = `document.querySelectorAll("#spaces .task").length`;
+    assert.equal(await browser.value(tasks), 1);
+    await browser.value(`document.querySelector("#spaces .space .space > summary").click()`);
+    await browser.until(`${tasks} === 22`);
+    const filter = (text) =>
+      browser.value(`(() => { const it = document.getElementById("filter"); it.value = "${text}"; it.dispatchEvent(new Event("input")); })()`);
+    await filter("control 43");
+    assert.equal(await browser.value(`document.getElementById("found").textContent`), "21 tasks, 1 zombie, 1 namespace");
+    assert.equal(await browser.value(tasks), 21);
+    await filter("");
+    await choose("container");
+  });
+
+  test("files with a script and with the text of a table", async () => {
+    await browser.chooseFile("file", `${REPOSITORY}examples/fall.script`);
+    await browser.until(`document.getElementById("about").textContent === "The script of the file fall.script."`);
+    assert.equal(await browser.value(`document.getElementById("script").value`), read("examples/fall.script"));
+    await browser.chooseFile("file", `${REPOSITORY}examples/recovery.text`);
+    await browser.until(`(${NOW}) === "The table of the file recovery.text4 tasks, 1 zombie, 1 namespace"`);
+    assert.deepEqual(sorted(await browser.value(DRAWN)), sorted(drawnOf(await browser.value(LIST))));
+    await choose("container");
   });
 
   test("who hears the page is told what each part is", async () => {
@@ -224,6 +292,7 @@ describe("the page", { skip: missing() }, () => {
     const wanted = [
       "combobox: Example",
       "spinbutton: pid_max",
+      "searchbox: Show tasks",
       "textbox: Script, a call on each line",
       "slider: After which line",
       "button: One line back",
@@ -231,7 +300,7 @@ describe("the page", { skip: missing() }, () => {
       "heading: What is proved, and what this page adds",
     ];
     for (const it of wanted) assert.ok(named.includes(it), it);
-    const controls = nodes.filter(({ ignored, role }) => !ignored && /^(button|slider|textbox|combobox|spinbutton)$/.test(role?.value));
+    const controls = nodes.filter(({ ignored, role }) => !ignored && /^(button|slider|textbox|searchbox|combobox|spinbutton)$/.test(role?.value));
     assert.deepEqual(controls.filter(({ name }) => !name?.value), []);
     const heard = await browser.value(`document.querySelector("#answers li:nth-child(8)").textContent`);
     assert.equal(heard, "line 8, fork 3: EAGAIN pids-limit 1");
@@ -243,12 +312,12 @@ describe("the page", { skip: missing() }, () => {
     await browser.value(`document.activeElement.blur(), scrollTo(0, 0)`);
     await focus("example");
     const reached = [];
-    for (let at = 0; at < 9; at++) {
+    for (let at = 0; at < 11; at++) {
       reached.push(await browser.value(`document.activeElement.id || document.activeElement.localName`));
       await browser.press("Tab");
     }
     const first = reached.filter((id) => id !== "editor");
-    assert.deepEqual(first.slice(0, 7), ["example", "pid-max", "link", "script", "summary", "back", "place"]);
+    assert.deepEqual(first.slice(0, 10), ["example", "pid-max", "file", "link", "script", "summary", "back", "place", "on", "filter"]);
   });
 
   test("nothing was loaded but the page, and nothing went wrong", () => {

@@ -3,9 +3,9 @@
 
 const LIST = "task 1 space 0 parent 0 group 1 session 1 control 0 live\nspace 0 parent - cursor 2\ncontrol 0 parent - limit max count 1\n";
 
-class Element {
+export class Element {
   constructor() {
-    Object.assign(this, { value: "", textContent: "", hidden: false, children: [], dataset: {}, listeners: {}, classes: new Set(), scrollTop: 0 });
+    Object.assign(this, { value: "", textContent: "", hidden: false, children: [], dataset: {}, listeners: {}, classes: new Set(), scrollTop: 0, clientHeight: 0 });
     this.style = { setProperty: () => undefined };
     this.classList = { toggle: (name, on) => (on ? this.classes.add(name) : this.classes.delete(name)) };
     this.attributes = {};
@@ -14,7 +14,8 @@ class Element {
     return this.value.length;
   }
   setAttribute(name, value) {
-    this.attributes[name] = value;
+    this.attributes[name] = String(value);
+    if (name.startsWith("data-")) this.dataset[name.slice("data-".length)] = String(value);
   }
   append(...children) {
     this.children.push(...children);
@@ -27,6 +28,20 @@ class Element {
   }
   querySelectorAll() {
     return [];
+  }
+  querySelector() {
+    return null;
+  }
+  get lastElementChild() {
+    return Object.assign(this.children.at(-1), { remove: () => this.children.pop() });
+  }
+  /** Whether it has an element below it. */
+  contains(other) {
+    return this === other || this.children.some((child) => child.contains?.(other));
+  }
+  /** The element of a class that is nearest above, as far as the tests need it: itself. */
+  closest() {
+    return this;
   }
   /** All texts in it. */
   get said() {
@@ -72,8 +87,13 @@ export async function loadPage(examples, hash) {
   await import(`../page.js?${Math.random()}`);
   const fire = (id, kind, value) => {
     if (value !== undefined) find(id).value = value;
-    (id ? find(id).listeners : listeners)[kind]({ target: find(id) });
+    return (id ? find(id).listeners : listeners)[kind]({ target: find(id) });
+  };
+  /** Chooses a file of a name and a text, and waits until it is opened. */
+  const choose = (name, text, size = text.length) => {
+    find("file").files = [{ name, size, text: async () => text }];
+    return fire("file", "change");
   };
   while (!body.dataset.ready && find("fault").textContent === "") await new Promise((resolve) => setTimeout(resolve, 1));
-  return { find, fire, body };
+  return { find, fire, choose, body };
 }

@@ -4,6 +4,7 @@ import assert from "node:assert/strict";
 import { test } from "node:test";
 
 import { loadPage } from "./fields.js";
+import { read } from "./stored.js";
 
 const EXAMPLES = [
   { name: "container", about: "a container", script: "fork 1 new\n" },
@@ -72,9 +73,9 @@ test("a long script is played once nobody has typed for a while, and each key is
     fire("script", "keyup");
   }
   assert.ok(performance.now() - start < 5 * 100, `${performance.now() - start} ms`);
-  assert.equal(find("answers").children.length, 1);
+  assert.equal(find("place").max, "1");
   await pause(400);
-  assert.equal(find("answers").children.length, 4991);
+  assert.equal(find("place").max, "4991");
 });
 
 test("an example that is chosen while a long script waits is what is shown", async () => {
@@ -84,5 +85,80 @@ test("an example that is chosen while a long script waits is what is shown", asy
   await pause(300);
   assert.equal(find("answers").children.length, 2);
   fire("example", "change", "");
-  assert.equal(find("answers").children.length, 4990);
+  assert.equal(find("place").max, "4990");
+});
+
+test("of a long script the rows in sight are drawn, and others once they come into sight", async () => {
+  const { find, fire } = await loadPage(EXAMPLES, "");
+  fire("script", "input", Array.from({ length: 20000 }, (_, at) => `getpid ${at + 1}`).join("\n"));
+  await pause(400);
+  const rows = () => find("gutter").children.map((row) => row.said);
+  assert.ok(rows().length < 1000, String(rows().length));
+  assert.equal(rows()[0], "1");
+  // The rows of the stand-in are a pixel high.
+  find("editor").scrollTop = 15000;
+  fire("editor", "scroll");
+  assert.ok(rows().includes("15001") && rows().length < 1000);
+  assert.equal(find("answers").children[0].said, `line ${rows()[0]}, getpid ${rows()[0]}: 1`);
+});
+
+const LIST = `task 1 space 0 parent 0 group 1 session 1 control 0 live
+task 2,1 space 1 parent 1 group 1 session 1 control 0 live
+task 3,2 space 1 parent 2 group 1 session 1 control 0 exit 7
+space 0 parent - cursor 4
+space 1 parent 0 cursor 3
+control 0 parent - limit max count 3
+`;
+
+test("a file with a script is shown as one's own script", async () => {
+  const { find, choose } = await loadPage(EXAMPLES, "");
+  await choose("mine.script", "getpid 1\nmk 0\n");
+  assert.deepEqual([find("script").value, find("example").value], ["getpid 1\nmk 0\n", ""]);
+  assert.equal(find("about").textContent, "The script of the file mine.script.");
+  assert.equal(find("answers").children.length, 2);
+});
+
+test("the table of a file with a list is shown, until a line of the script is", async () => {
+  const { find, fire, choose } = await loadPage(EXAMPLES, "");
+  await choose("web.list", LIST);
+  assert.equal(find("now").said, "The table of the file web.list3 tasks, 1 zombie, 1 namespace");
+  assert.equal(find("list").textContent, LIST);
+  assert.equal(find("script").value, "fork 1 new\n");
+  fire("script", "click");
+  assert.ok(find("now").said.startsWith("After line 1 of 1: fork 1 new"), find("now").said);
+});
+
+test("the table of a file with the text of a table is shown", async () => {
+  const { find, choose } = await loadPage(EXAMPLES, "");
+  await choose("recovery.text", read("examples/recovery.text"));
+  assert.equal(find("now").said, "The table of the file recovery.text4 tasks, 1 zombie, 1 namespace");
+});
+
+test("a file that is none of these is told in a sentence, and what is shown stays", async () => {
+  const { find, choose } = await loadPage(EXAMPLES, "");
+  const before = find("now").said;
+  for (const [text, words] of [
+    [LIST.replace("live", "alive"), "line 1: not a line of a list"],
+    [read("examples/recovery.text").replace("exit 6", "exit 5"), "line 10: wrong digest"],
+  ]) {
+    await choose("bad", text);
+    assert.deepEqual([find("fault").textContent, find("fault").hidden], [`The file bad is not shown: ${words}.`, false]);
+  }
+  await choose("big", "", 2 ** 26 + 1);
+  assert.equal(find("fault").textContent, "The file big is not shown: it has more than 64 MiB.");
+  assert.equal(find("now").said, before);
+});
+
+test("a filter shows the tasks that it lets through, and says how many", async () => {
+  const { find, fire, choose } = await loadPage(EXAMPLES, "");
+  await choose("web.list", LIST);
+  fire("filter", "input", "zombie");
+  assert.equal(find("found").textContent, "1 task, 1 zombie, 1 namespace");
+  assert.ok(!find("spaces").said.includes("live"), find("spaces").said);
+  fire("filter", "input", "zombies");
+  assert.ok(find("found").textContent.startsWith('A filter has no "zombies": it takes a number of a task, live,'));
+  assert.equal(find("filter").attributes["aria-invalid"], "true");
+  assert.ok(find("spaces").said.includes("live"));
+  fire("filter", "input", "");
+  assert.deepEqual([find("found").textContent, find("filter").attributes["aria-invalid"]], ["", "false"]);
 });

@@ -1,4 +1,4 @@
-"""An etcd cluster on this machine's loopback, whose members can be killed and stopped."""
+"""An etcd cluster on this machine's loopback, whose members can be killed, stopped, and cut off from each other."""
 
 import base64
 import json
@@ -14,7 +14,7 @@ import urllib.request
 from pathlib import Path
 from typing import Any
 
-HOST = "127.0.0.1"
+from cluster.relay import ALL, HOST, Relay
 
 # Nothing here takes longer, in seconds, on a busy machine.
 LONGEST = 60.0
@@ -47,7 +47,10 @@ def text64(text: str) -> str:
 class Etcds:
     """Some members, each a process of its own with a folder of its own."""
 
-    def __init__(self, folder: Path, count: int = 3, *words: str, scheme: str = "http", tls: ssl.SSLContext | None = None) -> None:
+    def __init__(
+        self, folder: Path, count: int = 3, *words: str, scheme: str = "http", tls: ssl.SSLContext | None = None, relayed: bool = False
+    ) -> None:
+        """Starts them; by relays, where one of them is to be cut off."""
         self._program = need_etcd()
         self._folder = folder
         self._words = words
@@ -55,6 +58,9 @@ class Etcds:
         self._tls = tls
         ports = free_ports(2 * count)
         self._clients, self._peers = ports[:count], ports[count:]
+        self._relays = [Relay(port) for port in self._peers] if relayed else []
+        # Where a member is called by the others.
+        self._called = [it.port for it in self._relays] or self._peers
         self._running: dict[int, subprocess.Popen[bytes]] = {}
         for place in range(count):
             self.start(place)
@@ -68,10 +74,11 @@ class Etcds:
     def start(self, place: int) -> None:
         """Starts a member, again with what it has on disk."""
         client, peer = f"{self._scheme}://{HOST}:{self._clients[place]}", f"http://{HOST}:{self._peers[place]}"
-        cluster = ",".join(f"m{it}=http://{HOST}:{port}" for it, port in enumerate(self._peers))
+        called = [f"http://{HOST}:{port}" for port in self._called]
+        cluster = ",".join(f"m{it}={url}" for it, url in enumerate(called))
         words = {
             "name": f"m{place}", "data-dir": str(self._folder / f"m{place}"), "listen-client-urls": client, "advertise-client-urls": client,
-            "listen-peer-urls": peer, "initial-advertise-peer-urls": peer, "initial-cluster": cluster, "log-level": "error",
+            "listen-peer-urls": peer, "initial-advertise-peer-urls": called[place], "initial-cluster": cluster, "log-level": "error",
         }  # fmt: skip
         command = [self._program, *(f"--{name}={value}" for name, value in words.items()), *self._words]
         with open(self._folder / f"m{place}.log", "ab") as said:
@@ -90,10 +97,24 @@ class Etcds:
         """Has it go on."""
         self._running[place].send_signal(signal.SIGCONT)
 
+    def cut_off(self, place: int) -> None:
+        """Cuts a member off from the others, both ways. Its clients still have it."""
+        # By this a member says who it is where it calls another.
+        name = b"X-Server-From: %x\r\n" % int(self._status(place)["header"]["member_id"])
+        for at, relay in enumerate(self._relays):
+            relay.cut(ALL if at == place else name)
+
+    def join(self) -> None:
+        """Has all members speak with each other again."""
+        for relay in self._relays:
+            relay.join()
+
     def stop(self) -> None:
         """Ends all members."""
         for place in list(self._running):
             self.kill(place)
+        for relay in self._relays:
+            relay.close()
 
     def ask(self, path: str, body: dict[str, Any], place: int = 0, token: str = "") -> dict[str, Any]:
         """What a member answers."""
@@ -114,12 +135,15 @@ class Etcds:
                 time.sleep(0.1)
 
     def leader(self) -> int:
-        """The member that leads."""
-        for place in self._running:
-            told = self._status(place)
-            if told.get("leader") == told.get("header", {}).get("member_id"):
-                return place
-        raise LookupError("no leader")
+        """The member that leads, once there is one."""
+        end = time.monotonic() + LONGEST
+        while time.monotonic() < end:
+            for place in self._running:
+                told = self._status(place)
+                if told and told.get("leader") == told["header"]["member_id"]:
+                    return place
+            time.sleep(0.1)
+        raise TimeoutError("no member leads")
 
     def compact(self, place: int = 0) -> None:
         """Drops the history up to now."""

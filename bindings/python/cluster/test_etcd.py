@@ -10,13 +10,17 @@ import tempfile
 import threading
 import time
 import unittest
+from collections.abc import Callable, Sequence
 from contextlib import suppress
 from pathlib import Path
+from typing import TypeVar
 from unittest import mock
 
 from cluster.etcds import LONGEST, Etcds, need_etcd, text64
 from cluster.load import table_kind
+from cluster.relay import HOST, Relay
 from pidtab import EtcdLog, LogFault, NotKnown, Process, Replicated, Table, find_library, find_program
+from pidtab.etcd_log import TIMEOUT
 from pidtab.replay import read_log
 from tests.pages import displays, fenced, read_page, section
 from tests.programs import need_tool, run
@@ -26,6 +30,11 @@ PACKAGE = Path(__file__).resolve().parents[1]
 
 # How long the users of a test make calls, in seconds.
 LOAD = 14
+
+# The loss of one member holds no host up for longer, in seconds.
+SOON = 2.0
+
+T = TypeVar("T")
 
 
 class Writer:
@@ -81,11 +90,26 @@ class Cluster(unittest.TestCase):
         self.folder = Path(folder.name)
         self.writers: list[Writer] = []
 
-    def start(self, *words: str, count: int = 3) -> Etcds:
+    def start(self, *words: str, count: int = 3, relayed: bool = False) -> Etcds:
         """Starts members."""
-        etcds = Etcds(self.folder, count, *words)
+        etcds = Etcds(self.folder, count, *words, relayed=relayed)
         self.addCleanup(etcds.stop)
         return etcds
+
+    def open(self, members: Sequence[str], patience: float = 30.0, timeout: float = TIMEOUT) -> Replicated:
+        """A host in this process."""
+        table = Replicated(EtcdLog(members, "web", timeout=timeout), table=table_kind(), patience=patience)
+        self.addCleanup(table.close)
+        return table
+
+    def insist(self, ask: Callable[[], T]) -> T:
+        """What is answered once etcd answers again."""
+        end = time.monotonic() + LONGEST
+        while True:
+            try:
+                return ask()
+            except NotKnown:
+                self.assertLess(time.monotonic(), end)
 
     def writer(self, etcds: Etcds, **wishes: int) -> Writer:
         """Starts a host, and waits until its table is open."""
@@ -214,14 +238,56 @@ class Crashes(Cluster):
         self.assertIn(f"answers {calls}: 0 lost, 0 wrong, 0 doubled; 0 calls have none\n", said)
 
 
+class Losses(Cluster):
+    """What hosts do without a member of three, and where they are cut off from the others."""
+
+    def test_a_member_is_lost_for_good(self) -> None:
+        etcds = self.start()
+        # Each names another member first. So whichever is lost, one host asks it, and one watches there.
+        hosts = [self.open([*etcds.members[first:], *etcds.members[:first]]) for first in range(3)]
+        for lost in range(3):
+            etcds.kill(lost)
+            etcds.leader()
+            end = time.monotonic() + SOON
+            asked = [it.submit(["fork 1"]) for it in hosts]
+            answers = [it.result(max(0.0, end - time.monotonic()))[0] for it in asked]
+            self.assertCountEqual(answers, [f"child {it} root {it}" for it in range(3 * lost + 2, 3 * lost + 5)])
+            etcds.start(lost)
+            etcds.wait_until_ready()
+
+    def count(self, table: Replicated) -> int:
+        """How many tasks a read finds that is not behind the log."""
+        table.catch_up()
+        return len(table.list().tasks)
+
+    def test_a_read_on_a_host_that_is_cut_off(self) -> None:
+        # For so many milliseconds, and then as many more at most, a member that is cut off takes itself for one that has a leader.
+        etcds = self.start("--election-timeout=4000", relayed=True)
+        lone = (etcds.leader() + 1) % 3
+        others = [it for it in etcds.members if it != etcds.members[lone]]
+        # From the other members this host is cut off too.
+        relays = [Relay(int(it.partition(":")[2])) for it in others]
+        for it in relays:
+            self.addCleanup(it.close)
+        far = self.open([etcds.members[lone], *(f"{HOST}:{it.port}" for it in relays)], patience=3, timeout=1)
+        near = self.open(others)
+        self.assertEqual((near.fork(1).root, self.count(far)), (2, 2))
+        etcds.cut_off(lone)
+        for it in relays:
+            it.cut()
+        self.assertEqual(near.fork(1).root, 3)
+        # Its member does not know of that call, and must not be believed.
+        with self.assertRaisesRegex(NotKnown, "no call was made"):
+            self.count(far)
+        self.assertEqual(self.count(near), 3)
+        etcds.join()
+        for it in relays:
+            it.join()
+        self.assertEqual(self.insist(lambda: self.count(far)), 3)
+
+
 class Refusals(Cluster):
     """What etcd refuses, and what was done to a log."""
-
-    def open(self, etcds: Etcds, patience: float = 30.0, **wishes: object) -> Replicated:
-        """A host in this process."""
-        table = Replicated(EtcdLog(etcds.members, "web", **wishes), table=table_kind(), patience=patience)  # type: ignore[arg-type]
-        self.addCleanup(table.close)
-        return table
 
     def wait_for_fault(self, table: Replicated, words: str) -> None:
         """Waits until a replica has stopped, and sees why."""
@@ -238,32 +304,32 @@ class Refusals(Cluster):
 
     def test_a_log_that_was_changed(self) -> None:
         etcds = self.start(count=1)
-        table = self.open(etcds)
+        table = self.open(etcds.members)
         table.fork(1)
         etcds.ask("/v3/kv/put", {"key": self.keys(etcds)[-1], "value": text64("hello")})
         self.wait_for_fault(table, "the entry at revision 4 was overwritten")
         with self.assertRaisesRegex(LogFault, "the entry at revision 4 was overwritten"):
-            self.open(etcds)
+            self.open(etcds.members)
 
     def test_a_log_that_was_trimmed(self) -> None:
         etcds = self.start(count=1)
-        table = self.open(etcds)
+        table = self.open(etcds.members)
         for _ in range(5):
             table.fork(1)
         etcds.ask("/v3/kv/deleterange", {"key": self.keys(etcds)[3]})
         self.wait_for_fault(table, "an entry of the log web was deleted")
         # The first revision is 2, that of the settings, and a session is opened by the next.
         with self.assertRaisesRegex(LogFault, "the writer of entry 6 had an entry 5, which the log has no more"):
-            self.open(etcds)
+            self.open(etcds.members)
         etcds.ask("/v3/kv/deleterange", {"key": self.keys(etcds)[0]})
         with self.assertRaisesRegex(LogFault, "the log does not begin with its settings: it was trimmed"):
-            self.open(etcds)
+            self.open(etcds.members)
 
     def test_a_key_that_is_none_of_an_entry(self) -> None:
         etcds = self.start(count=1)
         etcds.ask("/v3/kv/put", {"key": text64("web:hello"), "value": text64("hello")})
         with self.assertRaisesRegex(LogFault, "the log web has a key that is none of an entry: b'hello'"):
-            self.open(etcds)
+            self.open(etcds.members)
         # Of another log it is none.
         log = EtcdLog(etcds.members, "we")
         with Replicated(log, table=table_kind()) as table:
@@ -280,13 +346,13 @@ class Refusals(Cluster):
 
     def test_another_pid_max(self) -> None:
         etcds = self.start(count=1)
-        self.open(etcds)
+        self.open(etcds.members)
         with self.assertRaisesRegex(LogFault, "the log has form 1, pid_max 32768 and model 1, and this replica form 1, pid_max 400 and model 1"):
             Replicated(EtcdLog(etcds.members, "web"), pid_max=400, table=table_kind())
 
     def test_no_space(self) -> None:
         etcds = self.start("--quota-backend-bytes=4194304", count=1)
-        table = self.open(etcds, patience=3)
+        table = self.open(etcds.members, patience=3)
         with self.assertRaisesRegex(NotKnown, "has not answered for 3 seconds .*etcdserver: mvcc: database space exceeded"):
             for _ in range(2000):
                 table.answers(["x" * 200] * 2000)
@@ -295,14 +361,9 @@ class Refusals(Cluster):
         etcds._words = ("--quota-backend-bytes=100000000",)
         etcds.start(0)
         etcds.wait_until_ready()
-        etcds.ask("/v3/maintenance/alarm", {"action": "DEACTIVATE", "alarm": "NOSPACE"})
-        end = time.monotonic() + LONGEST
-        while time.monotonic() < end:
-            try:
-                self.assertEqual(table.fork(1).root, 2)
-                break
-            except NotKnown:
-                pass
+        for alarm in etcds.ask("/v3/maintenance/alarm", {"action": "GET"})["alarms"]:
+            etcds.ask("/v3/maintenance/alarm", {"action": "DEACTIVATE", **alarm})
+        self.assertEqual(self.insist(lambda: table.fork(1).root), 2)
         table.close()
 
     def test_queries_that_are_not_behind(self) -> None:
@@ -317,6 +378,7 @@ class Refusals(Cluster):
             # Others write to etcd too, so its revision alone does not say how far the log is.
             etcds.ask("/v3/kv/put", {"key": text64("other"), "value": text64(str(number))})
             self.assertEqual(two.ask(now=True).count(), number)
+            self.assertEqual(two.ask(now=True).stat(number).numbers, (number,))
         self.assertEqual(one.mk(), 59)
         marks = etcds.ask("/v3/kv/range", {"key": text64("web:~mark")})
         self.assertEqual(len(marks["kvs"]), 1)

@@ -31,7 +31,7 @@ from pidtab.library import find_library
 from pidtab.listing import BadList, Control, Listing, Space, Task, read_list
 from pidtab.log import Following, Log, Progress
 from pidtab.memory_log import MemoryLog
-from pidtab.native import Ask
+from pidtab.native import Ask, Askable, AskableCalls
 from pidtab.process import Process
 from pidtab.program import find_program
 from pidtab.replicated import ReplicaAsk, Replicated
@@ -46,6 +46,8 @@ __all__ = [
     "GREATEST_PID_MAX",
     "LEAST_PID_MAX",
     "Ask",
+    "Askable",
+    "AskableCalls",
     "BadHistory",
     "BadList",
     "BadText",

@@ -87,6 +87,8 @@ class Etcd:
         self._token = ""
         self._cluster = ""
         self._at = 0
+        # Rises with each watch, whoever opens it: so one that begins anew is not at the member where the last one failed.
+        self._watched = 0
         # Connections that are open and not in use, each with the process that opened it.
         self._idle: list[tuple[int, http.client.HTTPConnection]] = []
         weakref.finalize(self, close_all, self._idle)
@@ -97,16 +99,12 @@ class Etcd:
             self._log_in()
         return self._ask(path, body)
 
-    @property
-    def turns(self) -> int:
-        """A number that is one more once another member is asked."""
-        return self._at
-
-    def open_watch(self, turn: int, body: JSON) -> tuple[http.client.HTTPConnection, http.client.HTTPResponse]:
-        """A watch at the member whose turn it is, of which each line is an answer. The caller closes the connection."""
+    def open_watch(self, body: JSON) -> tuple[http.client.HTTPConnection, http.client.HTTPResponse]:
+        """A watch at the next member, of which each line is an answer. The caller closes the connection."""
         if self._user and not self._token:
             self._log_in()
-        connection = self._connect(self._member(turn))
+        self._watched += 1
+        connection = self._connect(self._member(self._watched))
         try:
             connection.request("POST", "/v3/watch", json.dumps(body), self._headers())
             reply = connection.getresponse()

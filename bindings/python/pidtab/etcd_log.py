@@ -149,7 +149,6 @@ class EtcdFollowing(Following):
         self._seen = after
         self._closed = False
         self._connection: http.client.HTTPConnection | None = None
-        self._turn = etcd.turns
         self._steps = self._walk()
 
     def __next__(self) -> Progress:
@@ -241,8 +240,7 @@ class EtcdFollowing(Following):
     def _watch(self) -> Iterator[Progress]:
         """What comes behind the place, until it is quiet, which is a TimeoutError, or ends."""
         wanted = {"key": encode(self._log.prefix), "range_end": encode(self._log.last), "start_revision": self._seen + 1}
-        self._turn += 1
-        connection, reply = self._etcd.open_watch(self._turn, {"create_request": {**wanted, "fragment": True}})
+        connection, reply = self._etcd.open_watch({"create_request": {**wanted, "fragment": True}})
         self._connection = connection
         try:
             while not self._closed and (line := reply.readline()):

@@ -4,6 +4,7 @@ import random
 import threading
 from collections.abc import Sequence
 
+from pidtab.changed import Changed
 from pidtab.log import Following, Log, Progress
 
 # How often each trouble comes, of 1.
@@ -27,7 +28,7 @@ class MemoryLog(Log):
         self._random = None if seed is None else random.Random(seed)
         self._entries: list[bytes] = []
         self._late: list[bytes] = []
-        self._changed = threading.Condition()
+        self._changed = Changed()
 
     def append(self, entry: bytes) -> int:
         """Puts an entry behind the others. After an OSError it is there or not."""
@@ -93,8 +94,8 @@ class MemoryLog(Log):
 
     def _wait_for(self, following: "MemoryFollowing") -> Progress:
         """What comes behind the place of a follower."""
+        self._changed.wait_for(lambda: following.closed or len(self._entries) > following.place, IDLE)
         with self._changed:
-            self._changed.wait_for(lambda: following.closed or len(self._entries) > following.place, IDLE)
             if self._comes():
                 raise ConnectionError("the follower is cut off")
             most = self._random.randint(1, 5) if self._random else len(self._entries)
@@ -121,5 +122,4 @@ class MemoryFollowing(Following):
     def close(self) -> None:
         """Ends it: who waits in it waits no more."""
         self.closed = True
-        with self._log._changed:
-            self._log._changed.notify_all()
+        self._log._changed.notify_all()

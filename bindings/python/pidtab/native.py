@@ -127,40 +127,6 @@ def read_task(caller: SupportsIndex, pid: SupportsIndex, read: Callable[[int, in
     return tell_stat(task)
 
 
-class NumberCalls(Calls):
-    """Calls by functions of the library, each of which answers a status."""
-
-    @abstractmethod
-    def _call(self, call: PidtabCall, reply: PidtabReply) -> int:
-        """The status of the function that answers the numbers."""
-
-    @abstractmethod
-    def _line(self, line: bytes, room: "ctypes.Array[ctypes.c_char]", size: ctypes.c_size_t) -> int:
-        """The status of the function that answers the line."""
-
-    @abstractmethod
-    def _list(self, room: "ctypes.Array[ctypes.c_char]", size: ctypes.c_size_t) -> int:
-        """The status of the function that writes the list."""
-
-    def _make(self, call: Call, form: Form[T]) -> T:
-        self._check_owner()
-        return make_call(call, form, self._call)
-
-    def _answers(self, lines: Sequence[bytes]) -> tuple[str, ...]:
-        self._check_owner()
-        # Calls of other threads may come between two lines.
-        return tuple([self._answer(line) for line in lines])
-
-    def _answer(self, line: bytes) -> str:
-        room, size = Answer(), ctypes.c_size_t()
-        status = self._line(line, room, size)
-        return ctypes.string_at(room, size.value).decode("ascii") if status == DONE else answer_of(status)
-
-    def _list_text(self) -> str:
-        self._check_owner()
-        return read_written(self._list, "list")
-
-
 class Asked(Protocol):
     """A table that answers queries."""
 
@@ -199,3 +165,49 @@ class Ask(Queries):
             if name.startswith("_") or not hasattr(Calls, name):
                 raise AttributeError(f"pidtab.Ask has no {name}")
             raise AttributeError(f"{name} is no query: `ask` has getpid, getppid, getpgid, getsid, nspid, next and count")
+
+
+class Askable(Protocol):
+    """What has queries that are no calls: `Table`, `Shared`, `Seat` and `Replicated`. It is a type for a caller's own functions."""
+
+    @property
+    def ask(self) -> Ask:
+        """Queries that shift no later id."""
+
+
+class AskableCalls(Calls, Askable):
+    """A table with its calls and with queries that are no calls: `Table`, `Seat` and `Replicated`, but no `Process`."""
+
+
+class NumberCalls(AskableCalls):
+    """Calls by functions of the library, each of which answers a status."""
+
+    @abstractmethod
+    def _call(self, call: PidtabCall, reply: PidtabReply) -> int:
+        """The status of the function that answers the numbers."""
+
+    @abstractmethod
+    def _line(self, line: bytes, room: "ctypes.Array[ctypes.c_char]", size: ctypes.c_size_t) -> int:
+        """The status of the function that answers the line."""
+
+    @abstractmethod
+    def _list(self, room: "ctypes.Array[ctypes.c_char]", size: ctypes.c_size_t) -> int:
+        """The status of the function that writes the list."""
+
+    def _make(self, call: Call, form: Form[T]) -> T:
+        self._check_owner()
+        return make_call(call, form, self._call)
+
+    def _answers(self, lines: Sequence[bytes]) -> tuple[str, ...]:
+        self._check_owner()
+        # Calls of other threads may come between two lines.
+        return tuple([self._answer(line) for line in lines])
+
+    def _answer(self, line: bytes) -> str:
+        room, size = Answer(), ctypes.c_size_t()
+        status = self._line(line, room, size)
+        return ctypes.string_at(room, size.value).decode("ascii") if status == DONE else answer_of(status)
+
+    def _list_text(self) -> str:
+        self._check_owner()
+        return read_written(self._list, "list")

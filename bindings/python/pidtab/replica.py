@@ -5,12 +5,13 @@ import queue
 import threading
 import time
 from collections import deque
-from collections.abc import Callable, Iterator, Sequence
-from contextlib import contextmanager, suppress
+from collections.abc import Callable, Sequence
+from contextlib import suppress
 from typing import TypeVar
 
 from pidtab.backoff import Backoff
 from pidtab.calls import Calls
+from pidtab.changed import Changed
 from pidtab.faults import Diverged, LogFault, NotKnown, ProgramFault, TableClosed
 from pidtab.log import Following, Log, Progress
 from pidtab.log_form import FORM, MODEL, MOST_BYTES, OPEN, SHORT_DIGEST, Asked, Settings, write_calls, write_end, write_settings
@@ -59,6 +60,8 @@ class Batch:
 class Replica:
     """A table that follows a log, and what this host puts into it.
 
+    An interrupt comes into a thread of the caller alone. So what takes several steps is done by the threads of the replica.
+
     Nothing here has its own reference to the `Replicated` that it serves, but by what was submitted and is not answered.
     """
 
@@ -71,6 +74,8 @@ class Replica:
         self.left = False
         self.stopped = False
         self.closing = False
+        # Nothing is waited for any more.
+        self.hurried = False
         self.fault: Exception | None = None
         # What the log last said that it could not do, for the words of a fault.
         self.trouble: Exception | None = None
@@ -80,8 +85,7 @@ class Replica:
         self.lost: Exception | None = None
         self.replays = 0
         self.failed_at = 0
-        self.lock = threading.Lock()
-        self.changed = threading.Condition(self.lock)
+        self.changed = Changed()
         self.queue: deque[Part] = deque()
         # What was sent and is not answered, by session and number.
         self.pending: dict[tuple[int, int], Batch] = {}
@@ -91,23 +95,25 @@ class Replica:
         # What is being sent.
         self.batch: Batch | None = None
         self.following: Following | None = None
-        # Asks the watching thread to end the replica. A destructor may put something here, as it takes no lock.
+        # Asks the thread that watches to end the replica. A destructor may put something here, as it takes no lock.
         self.wishes: "queue.SimpleQueue[None]" = queue.SimpleQueue()
         self.table_lock = threading.Lock()
         self.machine = Machine(open_table, self.settings)
         # The last entry that was applied, and the digest behind it. While the log is replayed it stays.
         self.place = (0, "")
         self.threads = [threading.Thread(target=it, name=f"pidtab {it.__name__}", daemon=True) for it in (self.follow, self.append, self.watch)]
-        self.appender = self.threads[1]
+        self.appender, self.watcher = self.threads[1:]
 
     # What the threads of the caller do.
 
     def start(self) -> None:
         """Begins, and waits until the table is as the log has it now."""
+        # The first, as it ends what cannot be opened.
+        self.watcher.start()
         try:
             # Before the follower begins, which so gets there by itself.
             end = self.insist(self.log.end, deadline_behind(self.patience))
-            for thread in self.threads:
+            for thread in self.threads[:-1]:
                 thread.start()
             self.reach(end)
             if not self.machine.begun:
@@ -118,7 +124,7 @@ class Replica:
 
     def submit(self, submitted: Submitted) -> None:
         """Has calls made."""
-        with self.lock:
+        with self.changed:
             self.check_open()
             self.waiting.append(submitted)
             self.queue.extend(submitted.parts)
@@ -142,9 +148,8 @@ class Replica:
         if threading.current_thread() in self.threads:
             raise RuntimeError("what is called when a Future is done cannot wait for its table: use `submit` there, or another thread")
 
-    @contextmanager
-    def read(self) -> Iterator[Calls]:
-        """The table, which nobody changes meanwhile. Amid a replay it would be as it was before, so who reads waits for its end."""
+    def read(self, look: Callable[[Calls], T]) -> T:
+        """What is seen in the table, which nobody changes meanwhile. Amid a replay it would be as it was before, so who reads waits for its end."""
         while True:
             self.check_open()
             if not self.is_whole():
@@ -153,8 +158,7 @@ class Replica:
             with self.table_lock:
                 self.check_open()
                 if self.is_whole():
-                    yield self.machine.table
-                    return
+                    return look(self.machine.table)
 
     def is_whole(self) -> bool:
         """Whether the table has all that was ever answered here."""
@@ -166,9 +170,8 @@ class Replica:
         self.check_open()
         deadline = deadline_behind(self.patience)
         end = self.insist(self.log.end, deadline)
-        with self.changed:
-            if self.changed.wait_for(lambda: self.seen >= end or self.stopped, SOON) and not self.stopped:
-                return self.place[0]
+        if self.changed.wait_for(lambda: self.seen >= end or self.stopped, SOON) and not self.stopped:
+            return self.place[0]
         self.reach(self.insist(self.log.mark, deadline))
         return self.place[0]
 
@@ -178,13 +181,12 @@ class Replica:
 
     def wait_until(self, holds: Callable[[], bool]) -> None:
         """Waits for something that the follower brings, as long as it goes on within the patience."""
-        with self.changed:
-            while not holds():
-                self.check_open()
-                before = self.progress()
-                self.changed.wait_for(lambda: holds() or self.stopped or before != self.progress(), self.patience)
-                if not (holds() or self.stopped) and before == self.progress():
-                    raise self.over()
+        while not holds():
+            self.check_open()
+            before = self.progress()
+            self.changed.wait_for(lambda: holds() or self.stopped or before != self.progress(), self.patience)
+            if not (holds() or self.stopped) and before == self.progress():
+                raise self.over()
 
     def progress(self) -> tuple[int, int, int]:
         """What changes as long as the follower goes on."""
@@ -214,45 +216,23 @@ class Replica:
 
     def pause(self, seconds: float) -> None:
         """Waits, and less if the replica stops."""
-        with self.changed:
-            self.changed.wait_for(lambda: self.stopped, seconds)
+        self.changed.wait_for(lambda: self.stopped, seconds)
 
     def close(self) -> None:
         """Waits within the patience until what was submitted is answered, and ends. What still waits gets a `NotKnown`."""
         self.check_thread()
-        self.finish()
-
-    def finish(self) -> None:
-        """The same, also for the thread that watches."""
-        deadline = deadline_behind(self.patience)
+        self.wishes.put(None)
         try:
-            with self.changed:
-                self.closing = True
-                self.changed.notify_all()
-                while self.is_waited_for() and time.monotonic() < deadline:
-                    # What is cancelled wakes nobody.
-                    self.changed.wait(LOOK)
-            if self.is_idle():
-                # It ends the session, by one try.
-                self.appender.join(LAST_SECONDS)
-        finally:
-            self.stop(None, CLOSED)
-        for thread in self.threads:
-            if thread is not threading.current_thread():
-                thread.join(LAST_SECONDS)
-
-    def is_waited_for(self) -> bool:
-        """Whether an answer may come yet that somebody waits for. The caller has the lock."""
-        return not self.stopped and any(not it.done() for it in self.waiting)
+            self.watcher.join()
+        except BaseException:
+            self.abandon()
+            raise
 
     def abandon(self) -> None:
-        """Ends what could not be opened."""
-        self.stop(None, CLOSED)
-
-    def is_idle(self) -> bool:
-        """Whether nothing waits for an answer."""
-        with self.lock:
-            return not self.stopped and not self.queue and not self.pending
+        """Has the replica end at once. Who asks this does not wait for it."""
+        self.hurried = True
+        self.wishes.put(None)
+        self.changed.notify_all()
 
     def stop(self, fault: Exception | None, why: str) -> None:
         """Ends the threads and the table, and fails all that waits. Where it has stopped before, that stays as it was."""
@@ -269,7 +249,6 @@ class Replica:
             # A generator that is at work cannot be closed, and ends behind its next word.
             with suppress(ValueError):
                 following.close()
-        self.wishes.put(None)
         for it in failed:
             it.fail(why, fault)
         if fault is None:
@@ -407,8 +386,8 @@ class Replica:
 
     def next_comes(self) -> bool:
         """Waits until there is something to send; False where nothing more comes."""
+        self.changed.wait_for(lambda: self.stopped or self.queue or self.batch or (self.closing and not self.pending))
         with self.changed:
-            self.changed.wait_for(lambda: self.stopped or self.queue or self.batch or (self.closing and not self.pending))
             return bool(self.queue or self.batch) and not self.stopped
 
     def send(self, backoff: Backoff) -> None:
@@ -416,7 +395,7 @@ class Replica:
         try:
             if not self.session:
                 session = self.log.append(OPEN)
-                with self.lock:
+                with self.changed:
                     self.session, self.sequence = session, 0
             batch = self.batch = self.batch or self.take_batch()
             if batch is not None and self.is_wanted(batch):
@@ -430,7 +409,7 @@ class Replica:
     def take_batch(self) -> Batch | None:
         """What goes into the next entry; None where nothing does."""
         parts, size = [], 0
-        with self.lock:
+        with self.changed:
             while self.session and self.queue and size + self.queue[0].size <= MOST_BYTES:
                 part = self.queue.popleft()
                 if part.submitted.send():
@@ -445,24 +424,54 @@ class Replica:
 
     def is_wanted(self, batch: Batch) -> bool:
         """Whether an entry is still to be sent: it was not applied, and its session goes on."""
-        with self.lock:
+        with self.changed:
             return not self.stopped and (batch.session, batch.sequence) in self.pending
 
-    # The thread that watches the time.
+    # The thread that watches the time, and ends the replica.
 
     def watch(self) -> None:
-        """Fails what waits longer than the patience, and ends a replica that nobody has any more."""
-        while not self.stopped:
-            with self.lock:
-                until = self.waiting[0].deadline if self.waiting else deadline_behind(self.patience)
-            try:
-                self.wishes.get(timeout=max(0.0, until - time.monotonic()))
-            except queue.Empty:
-                self.expire()
-            else:
-                # A stop wakes this thread too, and says so before.
-                if not self.stopped:
-                    self.finish()
+        """Fails what waits longer than the patience, until the replica is closed, or nobody has it any more."""
+        while not self.is_to_end():
+            self.expire()
+        self.finish()
+
+    def is_to_end(self) -> bool:
+        """Waits until the first of the patiences is over, or somebody wishes the replica to end: whether that is so."""
+        with self.changed:
+            until = self.waiting[0].deadline if self.waiting else deadline_behind(self.patience)
+        try:
+            self.wishes.get(timeout=max(0.0, until - time.monotonic()))
+        except queue.Empty:
+            return False
+        return True
+
+    def finish(self) -> None:
+        """Waits within the patience until what was submitted is answered, and ends the threads and the table."""
+        deadline = deadline_behind(self.patience)
+        with self.changed:
+            self.closing = True
+            self.changed.notify_all()
+        # What is cancelled wakes nobody.
+        while time.monotonic() < deadline and not self.changed.wait_for(self.is_unwanted, LOOK):
+            pass
+        if self.is_idle():
+            # It ends the session, by one try.
+            self.appender.join(LAST_SECONDS)
+        self.stop(None, CLOSED)
+        # What could not be opened may lack some.
+        for thread in self.threads[:-1]:
+            if thread.is_alive():
+                thread.join(LAST_SECONDS)
+
+    def is_unwanted(self) -> bool:
+        """Whether nobody waits for an answer that may come yet."""
+        with self.changed:
+            return self.stopped or self.hurried or all(it.done() for it in self.waiting)
+
+    def is_idle(self) -> bool:
+        """Whether nothing waits for an answer, and the session can be ended."""
+        with self.changed:
+            return not (self.stopped or self.hurried or self.queue or self.pending)
 
     def expire(self) -> None:
         """Fails what waits longer than the patience."""

@@ -5,13 +5,13 @@ from contextlib import suppress
 from operator import index
 from typing import TypeVar
 
-from pidtab.answers import Form
+from pidtab.answers import Form, Stat
 from pidtab.bounds import DEFAULT_PID_MAX, check_pid_max, check_seconds
 from pidtab.calls import Call, Calls, as_line
 from pidtab.faults import LibraryFault, NotKept
 from pidtab.log import Log
-from pidtab.native import Ask, pack
-from pidtab.raw import PidtabCall, PidtabReply
+from pidtab.native import Ask, AskableCalls, pack
+from pidtab.raw import PidtabCall, PidtabReply, PidtabTask
 from pidtab.replica import Replica
 from pidtab.submitted import Submitted, deadline_behind
 from pidtab.table import Table
@@ -38,13 +38,22 @@ class ReplicaAsk(Ask):
         """The same queries; with `now`, each first waits until this host has all that the log has: it asks the log for its end."""
         return ReplicaAsk(self._table, now)
 
+    def stat(self, caller: int, pid: int = 0) -> Stat:
+        """As `Ask.stat`, of this host's own table."""
+        self._wait()
+        return super().stat(caller, pid)
+
     def _make(self, call: Call, form: Form[T]) -> T:
-        if self._now:
-            self._table.catch_up()
+        self._wait()
         return super()._make(call, form)
 
+    def _wait(self) -> None:
+        """Waits, with `now`, until this host is not behind."""
+        if self._now:
+            self._table.catch_up()
 
-class Replicated(Calls):
+
+class Replicated(AskableCalls):
     """One table on many hosts, by a log that they share: `Replicated(log)` on each of them is the same table.
 
     A call goes into the log, is made on each host in the log's order, and is answered when it was made here. It is made exactly once as long as
@@ -90,7 +99,7 @@ class Replicated(Calls):
         """
         if isinstance(texts, (str, bytes, bytearray)):
             raise TypeError(f"submit takes many lines, each a str, not one {type(texts).__name__}")
-        return self._submit([as_line(text) for text in texts])
+        return self._submit([as_line(text) for text in texts], lambda submitted: submitted)
 
     @property
     def ask(self) -> ReplicaAsk:
@@ -148,24 +157,23 @@ class Replicated(Calls):
         super()._check_owner()
         self._replica.check_open()
 
-    def _submit(self, lines: Sequence[bytes]) -> Submitted:
-        """Has calls made."""
+    def _submit(self, lines: Sequence[bytes], answer: Callable[[Submitted], T]) -> T:
+        """Has calls made, and answers something of them."""
         super()._check_owner()
         submitted = Submitted(lines, deadline_behind(self.patience), lambda replica=self._replica: replica.left)
         if not submitted.done():
             submitted.keeps = self
-        self._replica.submit(submitted)
-        return submitted
-
-    def _answers(self, lines: Sequence[bytes]) -> tuple[str, ...]:
-        self._replica.check_thread()
-        submitted = self._submit(lines)
         try:
-            return submitted.result()
+            self._replica.submit(submitted)
+            return answer(submitted)
         except BaseException:
             # An interrupt: what was not sent is not made.
             submitted.cancel()
             raise
+
+    def _answers(self, lines: Sequence[bytes]) -> tuple[str, ...]:
+        self._replica.check_thread()
+        return self._submit(lines, Submitted.result)
 
     def _make(self, call: Call, form: Form[T]) -> T:
         # A number that does not fit is told without a call.
@@ -174,15 +182,22 @@ class Replicated(Calls):
 
     def _ask(self, call: PidtabCall, reply: PidtabReply) -> int:
         super()._check_owner()
-        with self._replica.read() as table:
-            if not isinstance(table, Table):
-                raise LibraryFault("only a table by the library answers queries that are no calls: open it with table=pidtab.Table")
-            return table._ask(call, reply)
+        return self._replica.read(lambda table: as_table(table)._ask(call, reply))
+
+    def _stat(self, caller: int, pid: int, task: PidtabTask) -> int:
+        super()._check_owner()
+        return self._replica.read(lambda table: as_table(table)._stat(caller, pid, task))
 
     def _list_text(self) -> str:
         super()._check_owner()
-        with self._replica.read() as table:
-            return table._list_text()
+        return self._replica.read(lambda table: table._list_text())
+
+
+def as_table(table: Calls) -> Table:
+    """A host's own table, if it is one by the library."""
+    if not isinstance(table, Table):
+        raise LibraryFault("only a table by the library answers queries that are no calls: open it with table=pidtab.Table")
+    return table
 
 
 def opener(table: Callable[..., Calls], pid_max: int) -> Callable[[], Calls]:

@@ -2,10 +2,11 @@
 
 import time
 from collections.abc import Callable, Sequence
-from concurrent.futures import Future, InvalidStateError
+from concurrent.futures import Future, InvalidStateError, TimeoutError
 from contextlib import suppress
 from typing import NamedTuple
 
+from pidtab.changed import Changed
 from pidtab.faults import NotKnown, TableClosed
 from pidtab.log_form import LONGEST_LINE, PART_BYTES
 
@@ -44,6 +45,8 @@ class Submitted(Future["tuple[str, ...]"]):
 
     def __init__(self, lines: Sequence[bytes], deadline: float, is_left: Callable[[], bool]) -> None:
         super().__init__()
+        # In the place of the one that a Future has, which an interrupt may leave taken.
+        self._condition = Changed()
         self.deadline = deadline
         # Whether some of it may be in the log.
         self.sent = False
@@ -58,13 +61,13 @@ class Submitted(Future["tuple[str, ...]"]):
 
     def result(self, timeout: float | None = None) -> "tuple[str, ...]":
         """The answers, as those of `Calls.answers`. In a forked child, which gets none, a `TableClosed` where they were not there before."""
-        self._check_owner()
-        return super().result(timeout)
+        self._wait(timeout)
+        return super().result(0)
 
     def exception(self, timeout: float | None = None) -> BaseException | None:
         """What was raised in the place of answers."""
-        self._check_owner()
-        return super().exception(timeout)
+        self._wait(timeout)
+        return super().exception(0)
 
     def cancel(self) -> bool:
         """Has its calls not made, if nothing of it was sent. Whether that went well."""
@@ -110,6 +113,12 @@ class Submitted(Future["tuple[str, ...]"]):
         self.keeps = None
         with suppress(InvalidStateError):
             self.set_exception(fault)
+
+    def _wait(self, timeout: float | None) -> None:
+        """Waits until it is over."""
+        self._check_owner()
+        if not self._condition.wait_for(self.done, timeout):
+            raise TimeoutError
 
     def _check_owner(self) -> None:
         # Before anything that takes a lock, which another thread of the parent may have had.

@@ -10,7 +10,7 @@ import tempfile
 import threading
 import time
 import unittest
-from collections.abc import Callable
+from collections.abc import Callable, Collection
 from contextlib import AbstractContextManager, suppress
 from functools import partial
 from pathlib import Path
@@ -42,9 +42,15 @@ def interrupts(first: float, every: float = 0.0) -> AbstractContextManager[None]
 class Interrupter:
     """Interrupts once, behind one of the places of the package where something has just been called: there a handler may run."""
 
+    # By what the interpreter is asked to tell of its steps.
+    told = sys.gettrace
+    tell = sys.settrace
+
     def __init__(self, place: int) -> None:
         self.left = place
         self.before: dict[FrameType, int] = {}
+        # What was raised, with the frames that it came through, as a prompt keeps them.
+        self.fault: KeyboardInterrupt | None = None
 
     def trace(self, frame: FrameType, event: str, argument: object) -> Any:
         """What the interpreter calls at each of its steps."""
@@ -66,15 +72,40 @@ class Interrupter:
 
     def run(self, ask: Callable[[], object]) -> bool:
         """Whether the call was interrupted."""
-        traced = sys.gettrace()
-        sys.settrace(self.trace)
+        before = self.told()
+        self.tell(self.trace)
         try:
             ask()
-        except KeyboardInterrupt:
+        except KeyboardInterrupt as fault:
+            self.fault = fault
             return True
         finally:
-            sys.settrace(traced)
+            self.tell(before)
         return False
+
+
+class CallInterrupter(Interrupter):
+    """Interrupts once, in the step of one of the calls that are made in some files, behind what was called.
+
+    There a handler is run too. What it raises is caught where the call is, and not where the next step is, which may be behind a `with`.
+    """
+
+    told = sys.getprofile
+    tell = sys.setprofile
+
+    def __init__(self, place: int, files: Collection[str]) -> None:
+        super().__init__(place)
+        self.files = files
+
+    def trace(self, frame: FrameType | None, event: str, argument: object) -> None:
+        """What the interpreter calls at the beginning and at the end of what is called."""
+        # A function of C ends in the frame that has called it, and one of Python in its own.
+        caller = frame if event == "c_return" else frame and frame.f_back if event == "return" else None
+        if caller is not None and caller.f_code.co_filename in self.files:
+            self.left -= 1
+            if self.left == 0:
+                sys.setprofile(None)
+                raise KeyboardInterrupt
 
 
 class Interrupts(unittest.TestCase):

@@ -1,5 +1,7 @@
 """One table on many hosts, by a log in memory and a table in pure Python: what is answered, what is refused, and what an end or an interrupt leaves."""
 
+import concurrent.futures._base
+import contextlib
 import copy
 import gc
 import os
@@ -11,6 +13,7 @@ import unittest
 import weakref
 from collections.abc import Callable, Iterator, Sequence
 from concurrent.futures import CancelledError
+from types import FrameType
 from unittest import mock
 
 import pidtab
@@ -18,13 +21,37 @@ from pidtab import Diverged, EtcdLog, Following, LibraryFault, LogFault, MemoryL
 from pidtab.log_form import MOST_SESSIONS, OPEN, Asked, Settings, read_entry, write_calls, write_end, write_settings
 from tests.stand_in import StandIn
 from tests.test_ends import OTHERS, in_child, run_python
-from tests.test_interrupts import interrupts
+from tests.alarms import alarms
+from tests.test_interrupts import CallInterrupter, interrupts
 
 SETTINGS = write_settings(Settings(1, 32768, 1))
 NO_DIGEST = "0" * 16
 
 # Longer than any answer of a log that goes, in seconds.
 LONG = 20.0
+
+PACKAGE = os.path.dirname(pidtab.__file__)
+
+# What a caller's thread runs, with what of the library has locks.
+FILES = {
+    *(os.path.join(PACKAGE, f"{name}.py") for name in ("calls", "changed", "memory_log", "replica", "replicated", "submitted")),
+    concurrent.futures._base.__file__,
+    contextlib.__file__,
+    threading.__file__,
+}
+
+
+def interrupt_package(number: int, frame: FrameType | None) -> None:
+    """The handler of a signal that raises, but only in the package and in what that has called: a test is not what is tested."""
+    while frame is not None:
+        if frame.f_code.co_filename.startswith(PACKAGE):
+            raise KeyboardInterrupt
+        frame = frame.f_back
+
+
+def tell_hang(number: int, frame: FrameType | None) -> None:
+    """The handler of a signal that ends a test."""
+    raise AssertionError(f"no answer within {LONG} seconds")
 
 
 class SwitchedLog(MemoryLog):
@@ -481,9 +508,38 @@ class Ends(Hosts):
         self.assertEqual(sent.result(LONG), ("child 2 root 2",))
         self.assertEqual(table.fork(1).root, 3)
 
+    def test_an_interrupt_behind_each_step(self) -> None:
+        table = self.open()
+        asks: Sequence[Callable[[], object]] = [
+            lambda: table.fork(1), lambda: table.submit(["fork 1"]).result(), lambda: table.submit(["fork 1"]).exception(), table.list, table.catch_up,
+        ]  # fmt: skip
+        for ask in asks:
+            interrupted: list[CallInterrupter] = []
+            with alarms(tell_hang, LONG):
+                # The interpreter may tell of the steps of a function from its second call on.
+                self.assertFalse(CallInterrupter(-1, FILES).run(ask))
+                while (interrupter := CallInterrupter(len(interrupted) + 1, FILES)).run(ask):
+                    interrupted.append(interrupter)
+                    # No thread waits for a lock that nobody gives up.
+                    root = table.fork(1).root
+                    self.assertEqual(len(table.list().tasks), root)
+            self.assertGreater(len(interrupted), 5)
+
+    def test_an_interrupt_behind_each_step_of_an_end(self) -> None:
+        places, is_interrupted = 0, True
+        while is_interrupted:
+            table = self.open()
+            table.fork(1)
+            places += 1
+            with alarms(tell_hang, LONG):
+                is_interrupted = CallInterrupter(places, FILES).run(table.close)
+                table.close()
+            self.assertFalse([it for it in table._replica.threads if it.is_alive()])
+        self.assertGreater(places, 3)
+
     def test_many_interrupts(self) -> None:
         table, given, interrupted, end = self.open(), [], 0, time.monotonic() + 1.5
-        with interrupts(0.02, 0.02):
+        with alarms(interrupt_package, 0.02, 0.02):
             while time.monotonic() < end:
                 try:
                     while True:

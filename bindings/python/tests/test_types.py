@@ -1,0 +1,63 @@
+"""What a checker of types says of code that uses the package, by mypy where it is installed."""
+
+import re
+import subprocess
+import tempfile
+import unittest
+from pathlib import Path
+
+from tests.programs import need_tool
+
+PACKAGE = Path(__file__).resolve().parents[1]
+
+# Of the lines that end with this word, and of no others, a checker has to complain.
+WRONG = "# wrong"
+
+USER = """\
+import pidtab
+
+
+def parent(table: pidtab.Askable, task: int) -> int:
+    return table.ask.stat(task).parent + table.ask.getppid(task)
+
+
+def child(table: pidtab.AskableCalls) -> int:
+    return parent(table, table.fork(1).root)
+
+
+def count(queries: pidtab.Queries) -> int:
+    return queries.count()
+
+
+def use(table: pidtab.Table, shared: pidtab.Shared, seat: pidtab.Seat, many: pidtab.Replicated) -> int:
+    asked = parent(table, 1) + parent(shared, 1) + parent(seat, 1) + parent(many, 1) + count(shared.ask) + count(seat)
+    return asked + child(table) + child(seat) + child(many)
+
+
+def misuse(process: pidtab.Process, shared: pidtab.Shared, calls: pidtab.Calls, table: pidtab.AskableCalls) -> None:
+    parent(process, 1)  # wrong
+    child(process)  # wrong
+    child(shared)  # wrong
+    calls.ask  # wrong
+    table.ask.fork(1)  # wrong
+    table.fork("1")  # wrong
+"""
+
+
+class Types(unittest.TestCase):
+    def test_a_table_and_what_is_asked_of_it(self) -> None:
+        mypy = need_tool("mypy")
+        # By this file a checker sees that an installed package has types.
+        self.assertTrue((PACKAGE / "pidtab" / "py.typed").is_file())
+        with tempfile.TemporaryDirectory() as folder:
+            (Path(folder) / "user.py").write_text(USER)
+            # Of the package itself nothing is said: a user's mypy says nothing of what is installed either.
+            words = ["--strict", "--no-incremental", "--cache-dir=/dev/null", "--follow-imports=silent", "user.py"]
+            done = subprocess.run([mypy, *words], cwd=folder, env={"MYPYPATH": str(PACKAGE)}, capture_output=True, text=True, check=False)
+        told = [int(it) for it in re.findall(r"(?m)^user\.py:(\d+): error", done.stdout)]
+        wrong = [number for number, line in enumerate(USER.splitlines(), start=1) if line.endswith(WRONG)]
+        self.assertEqual((told, done.stderr), (wrong, ""), done.stdout)
+
+
+if __name__ == "__main__":
+    unittest.main()
