@@ -98,7 +98,8 @@ func SharedFromDump(text string, counts []uint64, keep uint64) (*Shared, error) 
 		numbers[i] = C.uint64_t(count)
 		before += count
 	}
-	held, fault, bytes := &heldRecord{goesOn: true}, new(C.struct_pidtab_fault), withByte(text)
+	held, fault, bytes := newRecord(), new(C.struct_pidtab_fault), withByte(text)
+	held.goesOn = true
 	at, workers := &numbers[0], C.size_t(len(numbers))
 	status := C.pidtab_record_load(&held.raw, unsafe.Pointer(&bytes[0]), C.size_t(len(text)), at, workers, fault)
 	if err := textFaultOf(status, fault); err != nil {
