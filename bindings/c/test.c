@@ -97,13 +97,13 @@ static void numbers_that_do_not_fit(void)
 {
 	struct pidtab table = PIDTAB_INIT;
 	char answer[PIDTAB_LONGEST_ANSWER + 1];
-	uint32_t root;
+	uint32_t root, least = 256, many = 300, most = UINT32_MAX;
 
 	CHECK(pidtab_open(&table, 32768) == PIDTAB_DONE && pidtab_fork(&table, 1, true, &root) == 2);
-	CHECK(ask(&table, "exit 2 300", answer) == PIDTAB_BAD_LINE && pidtab_exit(&table, root, 300) == -EINVAL);
-	CHECK(pidtab_exit(&table, root, 256) == -EINVAL && pidtab_exit(&table, root, UINT32_MAX) == -EINVAL);
-	CHECK(pidtab_fork(&table, 1, 300, &root) == -EINVAL && root == 2 && pidtab_fork(&table, 1, 2, NULL) == -EINVAL);
-	CHECK(pidtab_limit(&table, 0, 300, 1) == -EINVAL && pidtab_subreaper(&table, 1, 300) == -EINVAL);
+	CHECK(ask(&table, "exit 2 300", answer) == PIDTAB_BAD_LINE && pidtab_exit(&table, root, many) == -EINVAL);
+	CHECK(pidtab_exit(&table, root, least) == -EINVAL && pidtab_exit(&table, root, most) == -EINVAL);
+	CHECK(pidtab_fork(&table, 1, many, &root) == -EINVAL && root == 2 && pidtab_fork(&table, 1, 2, NULL) == -EINVAL);
+	CHECK(pidtab_limit(&table, 0, many, 1) == -EINVAL && pidtab_subreaper(&table, 1, many) == -EINVAL);
 	CHECK(pidtab_wait(&table, 1, (enum pidtab_which)300, 0, NULL) == -EINVAL && pidtab_next(&table, 1, (enum pidtab_use)300, 1) == -EINVAL);
 	/* None of them was a call: this one is the second. */
 	CHECK(answers(&table, "mk 0", "control 2") && pidtab_exit(&table, root, 255) == 0);

@@ -325,7 +325,7 @@ func (held *heldRecord) makeAgain(saved *Saved, in *input) error {
 			return err
 		}
 		var place C.size_t
-		status := C.pidtab_record_replay(&held.raw, &entry, 1, &place)
+		status := C.pidtab_record_replay(held.raw, &entry, 1, &place)
 		if err := faultOf(uint32(status)); err != nil {
 			return err
 		}

@@ -132,7 +132,7 @@ func (held *heldRecord) cutSaved(to io.Writer, saved *Saved, keep uint64) error 
 	if err := saved.writeUpTo(counts.Recorded, to, held.read); err != nil {
 		return err
 	}
-	C.pidtab_record_checkpoint(&held.raw)
+	C.pidtab_record_checkpoint(held.raw)
 	return nil
 }
 

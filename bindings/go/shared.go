@@ -31,11 +31,12 @@ type Shared struct {
 	own *heldRecord
 }
 
-// A heldRecord is a record of the library, with its lock. It stays where it is, and is never copied.
+// A heldRecord is a record of the library, with its lock. It stays where it is, and is never copied. What C is given has no pointer of Go in it, and
+// the lock is a part of its own, since the collector ends nothing that has a pointer into itself.
 type heldRecord struct {
-	lock     turnLock
+	lock     *turnLock
 	saving   saving
-	raw      C.struct_pidtab_record
+	raw      *C.struct_pidtab_record
 	settings Settings
 	goesOn   bool // made of the text of another table, so that its history does not begin with the root init alone
 	seated   uint32
@@ -43,8 +44,8 @@ type heldRecord struct {
 
 // newRecord is a record that is not open yet.
 func newRecord() *heldRecord {
-	held := new(heldRecord)
-	held.saving.told.L, held.saving.recorded.L = &held.lock, &held.lock
+	held := &heldRecord{lock: new(turnLock), raw: new(C.struct_pidtab_record)}
+	held.saving.told.L, held.saving.recorded.L = held.lock, held.lock
 	return held
 }
 
@@ -58,7 +59,7 @@ func OpenShared(settings Settings) (*Shared, error) {
 	}
 	held := newRecord()
 	held.settings = settings
-	status := C.pidtab_record_open(&held.raw, C.uint32_t(settings.PidMax), C.uint64_t(settings.FirstStamp), C.uint32_t(settings.Workers))
+	status := C.pidtab_record_open(held.raw, C.uint32_t(settings.PidMax), C.uint64_t(settings.FirstStamp), C.uint32_t(settings.Workers))
 	if err := faultOf(uint32(status)); err != nil {
 		return nil, err
 	}
@@ -99,7 +100,7 @@ func (shared *Shared) Ask(query Call) (Reply, error) {
 	numbers, reply, held := query.numbers(), new(C.struct_pidtab_reply), shared.held()
 	held.lock.LockForCall()
 	defer held.lock.Unlock()
-	if err := faultOf(uint32(C.pidtab_record_ask(&held.raw, &numbers, reply))); err != nil {
+	if err := faultOf(uint32(C.pidtab_record_ask(held.raw, &numbers, reply))); err != nil {
 		return Reply{}, err
 	}
 	return replyOf(reply), nil
@@ -205,7 +206,7 @@ func (shared *Shared) List() (string, error) {
 	held.lock.Lock()
 	defer held.lock.Unlock()
 	return wholeText(func(room unsafe.Pointer, most C.size_t, size *C.size_t) C.uint32_t {
-		return C.pidtab_record_list(&held.raw, room, most, size)
+		return C.pidtab_record_list(held.raw, room, most, size)
 	})
 }
 
@@ -221,7 +222,7 @@ func (shared *Shared) Opening() (string, error) {
 	held.lock.Lock()
 	defer held.lock.Unlock()
 	return wholeText(func(room unsafe.Pointer, most C.size_t, size *C.size_t) C.uint32_t {
-		return C.pidtab_record_opening(&held.raw, room, most, size)
+		return C.pidtab_record_opening(held.raw, room, most, size)
 	})
 }
 
@@ -240,7 +241,7 @@ func (shared *Shared) Replay(saved []Entry) error {
 	for first := 0; first < len(saved); first += batch {
 		room := numbersOf(saved[first:least(first+batch, len(saved))])
 		var place C.size_t
-		status := C.pidtab_record_replay(&held.raw, &room[0], C.size_t(len(room)), &place)
+		status := C.pidtab_record_replay(held.raw, &room[0], C.size_t(len(room)), &place)
 		held.wakeSaver()
 		held.cutWhereLong()
 		if err := faultOf(uint32(status)); err != nil {
@@ -253,7 +254,7 @@ func (shared *Shared) Replay(saved []Entry) error {
 // held is the record of the library; one that is not open where nobody has opened it.
 func (shared *Shared) held() *heldRecord {
 	if shared.own == nil {
-		return new(heldRecord)
+		return newRecord()
 	}
 	return shared.own
 }
@@ -263,13 +264,13 @@ func (shared *Shared) alone(do func(*C.struct_pidtab_record) C.uint32_t) error {
 	held := shared.held()
 	held.lock.Lock()
 	defer held.lock.Unlock()
-	return faultOf(uint32(do(&held.raw)))
+	return faultOf(uint32(do(held.raw)))
 }
 
 // counts is how far the history goes. The lock is held.
 func (held *heldRecord) counts() (Counts, error) {
 	var firstKept, recorded C.uint64_t
-	err := faultOf(uint32(C.pidtab_record_counts(&held.raw, &firstKept, &recorded)))
+	err := faultOf(uint32(C.pidtab_record_counts(held.raw, &firstKept, &recorded)))
 	return Counts{uint64(firstKept), uint64(recorded)}, err
 }
 
@@ -281,14 +282,14 @@ func (held *heldRecord) cutWhereLong() {
 		return
 	}
 	if counts, err := held.counts(); err == nil && counts.Recorded-counts.FirstKept >= keep {
-		C.pidtab_record_checkpoint(&held.raw)
+		C.pidtab_record_checkpoint(held.raw)
 	}
 }
 
 func (held *heldRecord) close() {
 	held.lock.Lock()
 	defer held.lock.Unlock()
-	C.pidtab_record_close(&held.raw)
+	C.pidtab_record_close(held.raw)
 	held.saving.told.Broadcast()
 	held.saving.recorded.Broadcast()
 }
@@ -296,7 +297,7 @@ func (held *heldRecord) close() {
 // read reads the kept entries from the ordinal on: how many. The lock is held.
 func (held *heldRecord) read(from uint64, room []C.struct_pidtab_entry) (int, error) {
 	var count C.size_t
-	status := C.pidtab_record_read(&held.raw, C.uint64_t(from), &room[0], C.size_t(len(room)), &count)
+	status := C.pidtab_record_read(held.raw, C.uint64_t(from), &room[0], C.size_t(len(room)), &count)
 	return int(count), faultOf(uint32(status))
 }
 
@@ -371,7 +372,7 @@ func (seat *Seat) Line(line string) (string, error) {
 		if status := own.held.waitForSaver(); status != C.PIDTAB_DONE {
 			return status
 		}
-		status := C.pidtab_record_line(&own.held.raw, C.uint32_t(own.worker), line, length, room, C.PIDTAB_LONGEST_ANSWER, size, &ordinal)
+		status := C.pidtab_record_line(own.held.raw, C.uint32_t(own.worker), line, length, room, C.PIDTAB_LONGEST_ANSWER, size, &ordinal)
 		return own.after(status, ordinal)
 	})
 }
@@ -379,7 +380,7 @@ func (seat *Seat) Line(line string) (string, error) {
 // place is what the seat knows; one at a table that is not open where nobody has given it.
 func (seat *Seat) place() *seated {
 	if seat.own == nil {
-		return &seated{held: new(heldRecord)}
+		return &seated{held: newRecord()}
 	}
 	return seat.own
 }
@@ -392,7 +393,7 @@ func (own *seated) step(call *C.struct_pidtab_call, reply *C.struct_pidtab_reply
 	if status := own.held.waitForSaver(); status != C.PIDTAB_DONE {
 		return status
 	}
-	status := C.pidtab_record_call(&own.held.raw, C.uint32_t(own.worker), call, reply, &ordinal)
+	status := C.pidtab_record_call(own.held.raw, C.uint32_t(own.worker), call, reply, &ordinal)
 	return own.after(status, ordinal)
 }
 
