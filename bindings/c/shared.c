@@ -117,7 +117,7 @@ static void cut_behind_call(struct pidtab_shared *shared)
 		pidtab_record_checkpoint(&shared->record);
 }
 
-/* Waits until the saver is near enough, where there is a bound. A saver that cannot save lets no call go on. */
+/* Waits until the saver is near enough. A saver that cannot save lets no call go on. */
 static uint32_t wait_for_saver(struct pidtab_shared *shared)
 {
 	uint64_t first_kept, recorded;
@@ -136,7 +136,7 @@ static uint32_t wait_for_saver(struct pidtab_shared *shared)
 static uint32_t begin_call(struct pidtab_shared *shared)
 {
 	lock_for_call(shared);
-	return wait_for_saver(shared);
+	return shared->most == 0 ? (uint32_t)PIDTAB_DONE : wait_for_saver(shared);
 }
 
 static uint32_t end_call(struct pidtab_shared *shared, uint32_t status)
