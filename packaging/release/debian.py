@@ -82,13 +82,13 @@ def changelog_of(maker):
     """The changes of this version in the form of Debian."""
     wrapped = [textwrap.fill(it, 78, initial_indent="  * ", subsequent_indent="    ") for it in maker.source.changes()]
     head = f"pidtab ({maker.source.debian_version}) unstable; urgency=medium"
-    foot = f" -- {MAINTAINER}  {formatdate(maker.source.time, localtime=False).replace('-0000', '+0000')}"
+    foot = f" -- {MAINTAINER} <>  {formatdate(maker.source.time, localtime=False).replace('-0000', '+0000')}"
     return "\n\n".join([head, "\n".join(wrapped), foot]) + "\n"
 
 
 def overrides_of(name, tree):
-    """What lintian need not say: program and library are as the gate has built them, so that their sums are those of GATE.txt."""
-    lines = []
+    """What lintian need not say: program and library are as the gate has built them, so that their sums are those of GATE.txt; and there is no address."""
+    lines = [f"{name}: {it} *" for it in ("malformed-contact Maintainer", "bogus-mail-host-in-debian-changelog")]
     for file in files_below(tree):
         kind = "" if file.is_symlink() else elf.kind_of(file)
         if kind == "archive":
@@ -108,9 +108,7 @@ def add_documents(maker, name, tree):
     write_text(folder / "copyright", copyright_of(maker))
     (folder / "changelog.gz").write_bytes(compress(changelog_of(maker).encode()))
     write_text(folder / "GATE.txt", maker.built.gate)
-    overrides = overrides_of(name, tree)
-    if overrides:
-        write_text(tree / "usr/share/lintian/overrides" / name, overrides)
+    write_text(tree / "usr/share/lintian/overrides" / name, overrides_of(name, tree))
 
 
 def compress_manuals(tree):
