@@ -111,7 +111,7 @@ struct pidtab_saved {
 uint32_t pidtab_saved_begin(struct pidtab_saved *saved, int file, const struct pidtab_saved_head *head);
 
 /* Writes the calls that were recorded since, and perhaps some that are recorded meanwhile. The lock of a shared record is held while up to
- * 512 calls are copied, and for no write. Short and interrupted writes are gone on with. It takes some 125 KB of stack.
+ * 512 calls are copied, and for no write. Short and interrupted writes are gone on with. It takes some 120 KB of stack.
  *
  * DONE, CLOSED, BUSY. NOT_KEPT where the next call to be saved was cut away, or the record has fewer calls than the file: so a history
  * that was cut before it was saved from its first call on is refused. TORN where a load has left out a torn end that is not trimmed
