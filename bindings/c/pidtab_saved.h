@@ -9,7 +9,8 @@
  * Nobody checks that a caller keeps these rules, nor those of pidtab.h, which hold too:
  *
  * - One thread at a time works on a struct pidtab_saved: the saver. The others may make calls on the shared record meanwhile, and wait
- *   for the saver. The saver makes no call on a record that has a bound.
+ *   for the saver. The saver makes no call on a record that has a bound. Threads wait for one saver: where several files are saved, each
+ *   tells how far it is.
  * - One process at a time writes the file, and by one descriptor.
  * - What a write has given to the kernel survives the process. To have it survive the machine, call fsync or fdatasync.
  * - A pipe without a reader is SIGPIPE, as for any write. Ignored, it is PIDTAB_DEVICE with EPIPE.

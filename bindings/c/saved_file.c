@@ -111,7 +111,6 @@ static uint32_t read_entries(const struct either *either, uint64_t from, struct 
 
 /* Entries as bytes: where each ends, and the checksum there. */
 struct laid_out {
-	size_t count;
 	size_t ends[A_WRITE];
 	uint64_t sums[A_WRITE];
 	unsigned char bytes[A_WRITE * PIDTAB_SAVED_LONGEST];
@@ -121,13 +120,13 @@ static uint32_t lay_out(const struct pidtab_entry *entries, size_t count, uint64
 {
 	size_t size, used = 0;
 
-	for (out->count = 0; out->count < count; out->count++) {
-		uint32_t status = pidtab_saved_put(&entries[out->count], out->bytes + used, sizeof out->bytes - used, &size, &sum);
+	for (size_t i = 0; i < count; i++) {
+		uint32_t status = pidtab_saved_put(&entries[i], out->bytes + used, sizeof out->bytes - used, &size, &sum);
 		if (status != PIDTAB_DONE)
 			return status;
 		used += size;
-		out->ends[out->count] = used;
-		out->sums[out->count] = sum;
+		out->ends[i] = used;
+		out->sums[i] = sum;
 	}
 	return PIDTAB_DONE;
 }

@@ -85,7 +85,7 @@ static void wake_saver(struct pidtab_shared *shared)
 	if (!shared->sleeps)
 		return;
 	shared->sleeps = false;
-	pthread_cond_signal(&shared->recorded);
+	pthread_cond_broadcast(&shared->recorded);
 }
 
 void pidtab_shared_unlock(struct pidtab_shared *shared)

@@ -182,7 +182,7 @@ func (held *heldRecord) sleepUntilCall(saved *Saved) (bool, error) {
 func (held *heldRecord) wakeSaver() {
 	if held.saving.sleeps {
 		held.saving.sleeps = false
-		held.saving.recorded.Signal()
+		held.saving.recorded.Broadcast()
 	}
 }
 
