@@ -122,10 +122,11 @@ SHARED_FILES = $(DESTDIR)$(PREFIX)/share/pidtab
 # The built library, if there is one.
 BUILT_LIBRARY = $(wildcard out/libpidtab.so.1)
 
-# The description for pkg-config, in which folders below the prefix stay so.
+# The description for pkg-config, in which folders below the prefix stay so. Its version is that of the release.
+RELEASE = $(shell cat VERSION 2> /dev/null)
 in_prefix = $(subst $(PREFIX)/,$${prefix}/,$(1))
-describe = sed 's|^prefix=.*|prefix=$(PREFIX)|; s|^libdir=.*|libdir=$(call in_prefix,$(LIBDIR))|; s|^includedir=.*|includedir=$(call in_prefix,$(INCLUDEDIR))|' \
-	bindings/c/pidtab.pc.in
+describe = sed 's|^prefix=.*|prefix=$(PREFIX)|; s|^libdir=.*|libdir=$(call in_prefix,$(LIBDIR))|; s|^includedir=.*|includedir=$(call in_prefix,$(INCLUDEDIR))|; \
+	s|^Version:.*|Version: $(RELEASE)|' bindings/c/pidtab.pc.in
 
 built:
 	@test -x '$(PIDTAB)' || { echo 'no program $(PIDTAB): build it with `make build`' >&2; exit 1; }
@@ -163,10 +164,10 @@ uninstall: ## removes what both have installed, with the same variables
 
 # FORCE=1 makes a release of what is not proved, which says so.
 DIST = --program '$(PIDTAB)' $(if $(FORCE),--force)
-dist: ## makes a release in out/dist of what `make test` and `make lib` have proved: a tarball, packages, a wheel, a crate and a module
+dist: ## makes a release in out/dist of what `make test` and `make lib` have proved; with FORCE=1 of what is not proved, which it says
 	@packaging/dist $(DIST)
 
-dist-test: ## installs each part of out/dist without a network, and uses it; what the machine lacks is skipped with a word
+dist-test: ## installs each part of out/dist without a network, uses it, and makes the release again (some 2 minutes); what is missing is skipped
 	@packaging/dist-test $(DIST)
 
 .PHONY: lib
@@ -178,7 +179,7 @@ TESTED = -std=c11 -D_GNU_SOURCE -O1 -g -Wall -Wextra -Werror -pthread
 CHECKED = $(TESTED) -fsanitize=address,undefined -fno-sanitize-recover=all
 THREADED = $(TESTED) -fsanitize=thread
 
-lib: ## * proves and builds the library for C, with its header, in out/ (some 40 minutes from nothing, a few behind `make build`)
+lib: ## * proves and builds the library for C, with its header, in out/ (some 40 minutes from nothing, 18 behind `make build`)
 	$(need_rt)
 	@mkdir -p out
 	@tools/prove pidtab_c out/lib.log rt lib || { echo 'make lib failed: see out/lib.log' >&2; exit 1; }
@@ -237,6 +238,7 @@ SHARED_TEST = test_shared shared guard guard_record heap
 SAVED_TEST = test_saved saved guard_record heap
 SAVED_FILE_TEST = test_saved_file saved shared guard_record
 SAVED_THREADS_TEST = test_saved_threads saved saved_file shared guard_record heap
+SAVER_TEST = test_saver saved saved_file shared guard_record heap
 DEVICES = -Dread=test_read -Dwrite=test_write
 bindings-c:
 	$(call tested,$(firstword $(CC)),$(LIBRARY),\
@@ -251,7 +253,8 @@ bindings-c:
 		$(CC) $(THREADED) -o out/test_threads $(THREADS_TEST:%=bindings/c/%.c) out/held_heap.o out/proved.a && out/test_threads && \
 		for sanitizer in '$(CHECKED)' '$(THREADED)'; do \
 			$(CC) $$sanitizer -o out/test_shared $(SHARED_TEST:%=bindings/c/%.c) out/proved.a && out/test_shared && \
-			$(CC) $$sanitizer -o out/test_saved_threads $(SAVED_THREADS_TEST:%=bindings/c/%.c) out/proved.a && out/test_saved_threads || exit 1; done && \
+			$(CC) $$sanitizer -o out/test_saved_threads $(SAVED_THREADS_TEST:%=bindings/c/%.c) out/proved.a && out/test_saved_threads && \
+			$(CC) $$sanitizer -o out/test_saver $(SAVER_TEST:%=bindings/c/%.c) out/proved.a && out/test_saver || exit 1; done && \
 		$(CC) $(CHECKED) -o out/test_saved $(SAVED_TEST:%=bindings/c/%.c) out/proved.a && out/test_saved && \
 		$(CC) $(CHECKED) $(DEVICES) -c -o out/test_devices.o bindings/c/saved_file.c && \
 		$(CC) $(CHECKED) -o out/test_saved_file $(SAVED_FILE_TEST:%=bindings/c/%.c) out/test_heap.o out/test_devices.o out/proved.a && out/test_saved_file)
@@ -276,7 +279,7 @@ replicated: ## * tests one table on many hosts (some 8 minutes); where there is 
 .PHONY: page page-test
 
 # The proved table as WebAssembly, and what is around it, over the crates below the library for C. What the tools say is in out/page.log.
-page: lib ## * builds the page in the browser, out/page/pidtab.html, and first what `make lib` does
+page: lib ## * builds the page in the browser, out/page/pidtab.html, and first what `make lib` does (6 minutes behind that)
 	@{ page/wasm/build && page/build; } > out/page.log 2>&1 || { echo 'make page failed: see out/page.log' >&2; exit 1; }
 	@tools/report out/page.txt out/page/pidtab.html
 	@echo out/page/pidtab.html

@@ -293,7 +293,7 @@ uint32_t pidtab_stat(struct pidtab *table, uint32_t caller, uint32_t number, str
 uint32_t pidtab_call_line(const struct pidtab_call *call, void *line, size_t room, size_t *size);
 
 /* Each call as a function: a number, or minus an errno, which is the status or that of the refusal. What tells no number
- * is 0. pidtab_call tells a status from a refusal, and one refusal from another. */
+ * is 0. pidtab_call tells a status from a refusal, and one refusal from another. What a line could not say is -EINVAL, and no call. */
 
 static inline int64_t pidtab_value(struct pidtab *table, const struct pidtab_call *call, struct pidtab_reply *reply)
 {
@@ -312,8 +312,8 @@ static inline int64_t pidtab_do(struct pidtab *table, uint32_t operation, uint32
 	return pidtab_value(table, &call, &reply);
 }
 
-/* fork(2), or clone(2) with CLONE_NEWPID: the child's number to the caller; *root is its root number. root may be null. */
-static inline int64_t pidtab_fork(struct pidtab *table, uint32_t caller, bool new_space, uint32_t *root)
+/* fork(2), or clone(2) with CLONE_NEWPID where new_space is 1 and not 0: the child's number to the caller; *root is its root number. root may be null. */
+static inline int64_t pidtab_fork(struct pidtab *table, uint32_t caller, uint32_t new_space, uint32_t *root)
 {
 	struct pidtab_call call = { PIDTAB_FORK, caller, 0, 0, new_space, 0, 0 };
 	struct pidtab_reply reply;
@@ -344,7 +344,8 @@ static inline int64_t pidtab_exec(struct pidtab *table, uint32_t caller)
 	return pidtab_do(table, PIDTAB_EXEC, caller, 0, 0, 0);
 }
 
-static inline int64_t pidtab_exit(struct pidtab *table, uint32_t caller, uint8_t status)
+/* The status is 0 to 255. */
+static inline int64_t pidtab_exit(struct pidtab *table, uint32_t caller, uint32_t status)
 {
 	return pidtab_do(table, PIDTAB_EXIT, caller, 0, status, 0);
 }
@@ -389,8 +390,8 @@ static inline int64_t pidtab_rm(struct pidtab *table, uint64_t id)
 	return pidtab_do(table, PIDTAB_RM, 0, id, 0, 0);
 }
 
-/* Where limited is false there is no limit from now on. */
-static inline int64_t pidtab_limit(struct pidtab *table, uint64_t id, bool limited, uint32_t limit)
+/* Where limited is 0 and not 1 there is no limit from now on. */
+static inline int64_t pidtab_limit(struct pidtab *table, uint64_t id, uint32_t limited, uint32_t limit)
 {
 	return pidtab_do(table, PIDTAB_LIMIT, 0, id, limit, limited);
 }
@@ -426,7 +427,8 @@ static inline int64_t pidtab_join(struct pidtab *table, uint32_t caller, uint32_
 	return pidtab_do(table, PIDTAB_JOIN, caller, 0, target, 0);
 }
 
-static inline int64_t pidtab_subreaper(struct pidtab *table, uint32_t caller, bool on)
+/* Where on is 1 it is one from now on, and where on is 0 it is none. */
+static inline int64_t pidtab_subreaper(struct pidtab *table, uint32_t caller, uint32_t on)
 {
 	return pidtab_do(table, PIDTAB_SUBREAPER, caller, 0, 0, on);
 }

@@ -8,7 +8,9 @@
  *
  * Nobody checks that a caller keeps these rules, nor those of pidtab.h, which hold too:
  *
- * - One thread at a time works on a struct pidtab_saved. The others may make calls on the shared record meanwhile.
+ * - One thread at a time works on a struct pidtab_saved: the saver. The others may make calls on the shared record meanwhile, and wait
+ *   for the saver. The saver makes no call on a record that has a bound. Threads wait for one saver: where several files are saved, each
+ *   tells how far it is.
  * - One process at a time writes the file, and by one descriptor.
  * - What a write has given to the kernel survives the process. To have it survive the machine, call fsync or fdatasync.
  * - A pipe without a reader is SIGPIPE, as for any write. Ignored, it is PIDTAB_DEVICE with EPIPE.
@@ -27,6 +29,7 @@ enum pidtab_saved_status {
 	PIDTAB_DEVICE = 5,        /* EIO: a read or a write of the file failed; the field `error` has its errno */
 	PIDTAB_NOT_SAVED = 8,     /* ENOEXEC: the bytes are no saved history */
 	PIDTAB_NOT_EMPTY = 17,    /* EEXIST: the file has bytes already */
+	PIDTAB_ENDED = 32,        /* EPIPE: the saver has ended, and the call is not known to be saved */
 	PIDTAB_TORN = 42,         /* ENOMSG: the bytes end before the head, or the entry, does */
 	PIDTAB_WRONG_BYTE = 84,   /* EILSEQ: a byte is not the one that was written */
 	PIDTAB_OTHER_VERSION = 93 /* EPROTONOSUPPORT: the form is of a version that this library does not know */
@@ -42,6 +45,8 @@ static inline const char *pidtab_saved_text(uint32_t status)
 		return "the bytes are no saved history";
 	case PIDTAB_NOT_EMPTY:
 		return "the file has bytes already";
+	case PIDTAB_ENDED:
+		return "the saver has ended";
 	case PIDTAB_TORN:
 		return "the bytes end within the head or an entry";
 	case PIDTAB_WRONG_BYTE:
@@ -91,11 +96,11 @@ uint32_t pidtab_saved_take(const void *bytes, size_t length, struct pidtab_entry
 /* A file that a history is saved to. Its fields may be read, and are not written. */
 struct pidtab_saved {
 	struct pidtab_saved_head head; /* the settings in the file */
-	uint64_t next;                 /* so many calls are in the file, each whole; the next one has this ordinal */
+	uint64_t next;                 /* so many calls are in the file, each whole, also where a write failed; the next one has this ordinal */
 	uint64_t bytes;                /* so many bytes they have, with the head */
 	uint64_t left_out;             /* so many bytes of a torn end a load has found behind them */
 	uint64_t sum;
-	size_t part;                   /* so many bytes a write that failed has left behind them */
+	size_t part;                   /* so many bytes of the next one a write that failed has left behind them */
 	bool is_torn;                  /* the torn end is in the file yet */
 	int file;
 	int error;                     /* the errno of what was PIDTAB_DEVICE, or else 0 */
@@ -106,8 +111,8 @@ struct pidtab_saved {
  * DEVICE, and then pidtab_saved_trim takes away what was written of the head. */
 uint32_t pidtab_saved_begin(struct pidtab_saved *saved, int file, const struct pidtab_saved_head *head);
 
-/* Writes the calls that were recorded since, and perhaps some that are recorded meanwhile. The lock of a shared record is held for
- * sixteen calls at a time, and for no write. Short and interrupted writes are gone on with.
+/* Writes the calls that were recorded since, and perhaps some that are recorded meanwhile. The lock of a shared record is held while up to
+ * 512 calls are copied, and for no write. Short and interrupted writes are gone on with. It takes some 120 KB of stack.
  *
  * DONE, CLOSED, BUSY. NOT_KEPT where the next call to be saved was cut away, or the record has fewer calls than the file: so a history
  * that was cut before it was saved from its first call on is refused. TORN where a load has left out a torn end that is not trimmed
@@ -116,6 +121,32 @@ uint32_t pidtab_saved_begin(struct pidtab_saved *saved, int file, const struct p
  * What is saved may be cut: pidtab_record_checkpoint_at with `next` gives its memory back, and the file goes on. */
 uint32_t pidtab_saved_append(struct pidtab_saved *saved, struct pidtab_record *record);
 uint32_t pidtab_saved_append_shared(struct pidtab_saved *saved, struct pidtab_shared *shared);
+
+/* The saver of a shared record that threads work on, in a thread of its own. It appends, sleeps until a call is recorded, and begins
+ * again, until pidtab_saved_end. With `to_disk` each turn ends with fdatasync, so one such call serves all that wait. Where keep is not 0,
+ * it cuts the history whenever that has so many entries: all others wait while the last calls are written and the table is copied.
+ *
+ * DONE where it has ended, and then all calls that were recorded before the end are saved. Any other status is that of the append, or
+ * DEVICE of the fdatasync; all that wait have it too. It may be called again. Behind an fdatasync that failed, nobody knows what the disk
+ * has: load the file. */
+uint32_t pidtab_saved_serve(struct pidtab_saved *saved, struct pidtab_shared *shared, uint64_t keep, bool to_disk);
+
+/* Waits until the call with the ordinal is saved: in the file, by an append, a load or pidtab_saved_serve; and on the disk, where only
+ * pidtab_saved_serve with `to_disk` saves. Each of these wakes all that wait, at the end of its turn. It costs a lock, and a sleep where the
+ * call is not saved yet.
+ *
+ * DONE, also where the saver has ended or failed since. Any other status is that of the saver's last turn, at once until a turn does better,
+ * with its errno where it is DEVICE: whether the call is saved is not known. ENDED. Before the first turn it waits. */
+uint32_t pidtab_saved_wait(struct pidtab_shared *shared, uint64_t ordinal);
+
+/* From now on at most so many calls are recorded and not saved; 0, as at first, is any number. A call of pidtab_shared_call or
+ * pidtab_shared_line that would be one more waits for the saver, as pidtab_saved_wait does. Where the saver's last turn failed, or it has
+ * ended, it is not made, and answers that status. */
+void pidtab_saved_bound(struct pidtab_shared *shared, uint64_t most);
+
+/* Ends the saver, for good: pidtab_saved_serve saves what was recorded, and answers. What waits, or comes to wait, for a call that is not
+ * saved is ENDED. So it is called when no thread waits any more. */
+void pidtab_saved_end(struct pidtab_shared *shared);
 
 /* Opens a record by the head of the file, and makes its calls. The file is read from its beginning to its end, and not changed. Where keep is not 0, the
  * new record's history is cut whenever it has so many entries; each cut is a copy of the table. A shared record cuts none later.

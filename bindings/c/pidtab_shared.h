@@ -4,6 +4,9 @@
  * has the answer that one sequential table would give, and a call's ordinal is its place. The functions on the record are proved.
  * The lock is pthread's, and shared.c, which takes it, is trusted.
  *
+ * A call, a query and a stat give way to all other functions: one that has come for the lock has it after one more of each other
+ * thread at most. So a thread that saves the history, or cuts it, keeps up with busy ones.
+ *
  * No function is called from a signal handler, nor in the forked child of a process with threads, and no thread is cancelled in
  * one. The rules of pidtab.h hold too. A struct pidtab_shared is never copied.
  */
@@ -25,6 +28,15 @@ struct pidtab_shared {
 	uint64_t keep; /* as many entries are kept, and then cut; 0: never cut */
 	uint32_t workers;
 	uint32_t seated;
+	pthread_mutex_t gate;    /* of who goes before the calls */
+	pthread_cond_t told;     /* a saver has told how far it is */
+	pthread_cond_t recorded; /* a call was recorded while a saver slept */
+	uint64_t saved;          /* so many calls a saver has saved, as it has told */
+	uint64_t most;           /* as many calls may be recorded and not saved; 0: any number */
+	uint32_t saving;         /* the status of the saver's last turn */
+	int error;               /* the errno of what was PIDTAB_DEVICE */
+	bool is_awaited;         /* somebody at the gate waits for the lock */
+	bool sleeps;             /* a saver waits for a call */
 };
 
 /* Opens a record, as pidtab_record_open does. Where keep is not 0, the call that makes the kept entries as many cuts the history; it
@@ -47,7 +59,8 @@ uint32_t pidtab_shared_seat(struct pidtab_shared *shared, uint32_t *worker);
 struct pidtab_record *pidtab_shared_lock(struct pidtab_shared *shared);
 void pidtab_shared_unlock(struct pidtab_shared *shared);
 
-/* What the functions of pidtab.h with these names do. */
+/* What the functions of pidtab.h with these names do. Where pidtab_saved_bound of pidtab_saved.h has set a bound, a call and a line wait for
+ * the saver, and may answer its status. */
 uint32_t pidtab_shared_call(struct pidtab_shared *shared, uint32_t worker, const struct pidtab_call *call, struct pidtab_reply *reply, uint64_t *ordinal);
 uint32_t pidtab_shared_line(struct pidtab_shared *shared, uint32_t worker, const void *line, size_t length, void *answer, size_t room, size_t *size, uint64_t *ordinal);
 uint32_t pidtab_shared_ask(struct pidtab_shared *shared, const struct pidtab_call *call, struct pidtab_reply *reply);

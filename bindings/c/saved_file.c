@@ -6,11 +6,14 @@
 
 #include <errno.h>
 #include <string.h>
-#include <sys/stat.h>
 #include <unistd.h>
 
-/* So many entries are in hand at once, and the bytes of as many of the longest. */
+/* A load has so many entries in hand at once, and the bytes of as many of the longest. */
 #define AT_ONCE 16
+
+/* An append reads so many under one lock: a thread that saves has to wait for it among all that make calls. It writes so many at once. */
+#define A_TURN 512
+#define A_WRITE 64
 
 /* What a load that failed leaves, so that no append writes behind a wrong byte. */
 #define NO_FILE (-1)
@@ -33,23 +36,25 @@ static uint32_t write_on(struct pidtab_saved *saved, const unsigned char *bytes,
 		if (count > 0)
 			saved->part += (size_t)count;
 	}
-	saved->part = 0;
-	saved->bytes += size;
 	return PIDTAB_DONE;
 }
 
-/* Goes to the beginning of an empty file. A pipe and the like has none, and is taken for empty. */
+/* So many bytes of the part are whole, and counted as such. */
+static void count_whole(struct pidtab_saved *saved, size_t size)
+{
+	saved->part -= size;
+	saved->bytes += size;
+}
+
+/* Goes to the beginning of an empty file, which is its end. A pipe and the like has none, and is taken for empty. There is no fstat here, which
+ * would ask for another C library than all else does. */
 static uint32_t go_to_beginning(struct pidtab_saved *saved)
 {
-	struct stat about;
+	off_t end = lseek(saved->file, 0, SEEK_END);
 
-	if (fstat(saved->file, &about) != 0)
+	if (end < 0 && errno != ESPIPE)
 		return failed(saved, errno);
-	if (!S_ISREG(about.st_mode))
-		return PIDTAB_DONE;
-	if (about.st_size != 0)
-		return PIDTAB_NOT_EMPTY;
-	return lseek(saved->file, 0, SEEK_SET) == 0 ? PIDTAB_DONE : failed(saved, errno);
+	return end > 0 ? PIDTAB_NOT_EMPTY : PIDTAB_DONE;
 }
 
 uint32_t pidtab_saved_begin(struct pidtab_saved *saved, int file, const struct pidtab_saved_head *head)
@@ -63,6 +68,8 @@ uint32_t pidtab_saved_begin(struct pidtab_saved *saved, int file, const struct p
 		status = go_to_beginning(&begun);
 	if (status == PIDTAB_DONE)
 		status = write_on(&begun, block, size);
+	if (status == PIDTAB_DONE)
+		count_whole(&begun, size);
 	*saved = begun;
 	return status;
 }
@@ -98,28 +105,65 @@ static uint32_t count_calls(const struct either *either, uint64_t *first_kept, u
 static uint32_t read_entries(const struct either *either, uint64_t from, struct pidtab_entry *entries, size_t *count)
 {
 	if (either->shared)
-		return pidtab_shared_read(either->shared, from, entries, AT_ONCE, count);
-	return pidtab_record_read(either->record, from, entries, AT_ONCE, count);
+		return pidtab_shared_read(either->shared, from, entries, A_TURN, count);
+	return pidtab_record_read(either->record, from, entries, A_TURN, count);
 }
 
-/* Saves the next entries. Behind a write that failed they are the same ones, and perhaps more, so the same bytes come first. */
-static uint32_t append_some(struct pidtab_saved *saved, const struct either *either)
-{
-	struct pidtab_entry entries[AT_ONCE];
-	unsigned char bytes[AT_ONCE * PIDTAB_SAVED_LONGEST];
-	uint64_t sum = saved->sum;
-	size_t count = 0, size = 0, used = 0;
-	uint32_t status = read_entries(either, saved->next, entries, &count);
+/* Entries as bytes: where each ends, and the checksum there. */
+struct laid_out {
+	size_t ends[A_WRITE];
+	uint64_t sums[A_WRITE];
+	unsigned char bytes[A_WRITE * PIDTAB_SAVED_LONGEST];
+};
 
-	for (size_t i = 0; i < count && status == PIDTAB_DONE; i++, used += size)
-		status = pidtab_saved_put(&entries[i], bytes + used, sizeof bytes - used, &size, &sum);
-	if (status == PIDTAB_DONE)
-		status = write_on(saved, bytes, used);
+static uint32_t lay_out(const struct pidtab_entry *entries, size_t count, uint64_t sum, struct laid_out *out)
+{
+	size_t size, used = 0;
+
+	for (size_t i = 0; i < count; i++) {
+		uint32_t status = pidtab_saved_put(&entries[i], out->bytes + used, sizeof out->bytes - used, &size, &sum);
+		if (status != PIDTAB_DONE)
+			return status;
+		used += size;
+		out->ends[i] = used;
+		out->sums[i] = sum;
+	}
+	return PIDTAB_DONE;
+}
+
+/* Saves the next entries, at most A_WRITE. Behind a write that failed, what is whole counts, and the rest is `part`: so the next write
+ * is of the same entry, and perhaps more, and the same bytes come first. */
+static uint32_t write_entries(struct pidtab_saved *saved, const struct pidtab_entry *entries, size_t count)
+{
+	struct laid_out out;
+	size_t whole = 0;
+	uint32_t status = lay_out(entries, count, saved->sum, &out);
+
 	if (status != PIDTAB_DONE)
 		return status;
-	saved->next += count;
-	saved->sum = sum;
-	return PIDTAB_DONE;
+	status = write_on(saved, out.bytes, out.ends[count - 1]);
+	while (whole < count && out.ends[whole] <= saved->part)
+		whole++;
+	if (whole > 0) {
+		count_whole(saved, out.ends[whole - 1]);
+		saved->next += whole;
+		saved->sum = out.sums[whole - 1];
+	}
+	return status;
+}
+
+/* Saves the entries of one turn. */
+static uint32_t append_some(struct pidtab_saved *saved, const struct either *either)
+{
+	struct pidtab_entry entries[A_TURN];
+	size_t count = 0, most;
+	uint32_t status = read_entries(either, saved->next, entries, &count);
+
+	for (size_t at = 0; at < count && status == PIDTAB_DONE; at += most) {
+		most = count - at < A_WRITE ? count - at : A_WRITE;
+		status = write_entries(saved, entries + at, most);
+	}
+	return status;
 }
 
 /* Goes to the end of the file; a pipe is there. A file without a head, or with a torn end, is not gone on with. */
@@ -153,9 +197,125 @@ uint32_t pidtab_saved_append(struct pidtab_saved *saved, struct pidtab_record *r
 	return append_from(saved, &(struct either){ .record = record });
 }
 
+/* Has all that wait look again, and gives the lock back. */
+static void wake_all(struct pidtab_shared *shared)
+{
+	pthread_cond_broadcast(&shared->told);
+	pidtab_shared_unlock(shared);
+}
+
+/* Tells all that wait how far the file is. What ended is not taken back. */
+static uint32_t tell(const struct pidtab_saved *saved, struct pidtab_shared *shared, uint32_t status)
+{
+	pidtab_shared_lock(shared);
+	if (status == PIDTAB_DONE)
+		shared->saved = saved->next;
+	if (shared->saving != PIDTAB_ENDED)
+		shared->saving = status;
+	shared->error = saved->error;
+	wake_all(shared);
+	return status;
+}
+
 uint32_t pidtab_saved_append_shared(struct pidtab_saved *saved, struct pidtab_shared *shared)
 {
-	return append_from(saved, &(struct either){ .shared = shared });
+	return tell(saved, shared, append_from(saved, &(struct either){ .shared = shared }));
+}
+
+/* Cuts the history where it is long enough: all others wait while the last calls are written. Where there is no memory, it grows on. */
+static uint32_t cut_saved(struct pidtab_saved *saved, struct pidtab_shared *shared, uint64_t keep)
+{
+	struct pidtab_record *record = pidtab_shared_lock(shared);
+	uint64_t first_kept, recorded;
+	uint32_t status = pidtab_record_counts(record, &first_kept, &recorded);
+
+	if (status == PIDTAB_DONE && keep != 0 && recorded - first_kept >= keep) {
+		status = append_from(saved, &(struct either){ .record = record });
+		if (status == PIDTAB_DONE)
+			pidtab_record_checkpoint(record);
+	}
+	pidtab_shared_unlock(shared);
+	return status;
+}
+
+static uint32_t sync_file(struct pidtab_saved *saved)
+{
+	int done;
+
+	do
+		done = fdatasync(saved->file);
+	while (done != 0 && errno == EINTR);
+	return done == 0 ? PIDTAB_DONE : failed(saved, errno);
+}
+
+static uint32_t serve_once(struct pidtab_saved *saved, struct pidtab_shared *shared, uint64_t keep, bool to_disk)
+{
+	uint32_t status = append_from(saved, &(struct either){ .shared = shared });
+
+	if (status == PIDTAB_DONE)
+		status = cut_saved(saved, shared, keep);
+	if (status == PIDTAB_DONE && to_disk)
+		status = sync_file(saved);
+	return tell(saved, shared, status);
+}
+
+/* Sleeps until a call is recorded that the file does not have. Whether the saver has ended. */
+static bool sleep_until_call(const struct pidtab_saved *saved, struct pidtab_shared *shared)
+{
+	struct pidtab_record *record = pidtab_shared_lock(shared);
+	uint64_t first_kept, recorded;
+	bool has_ended;
+
+	while (shared->saving != PIDTAB_ENDED && pidtab_record_counts(record, &first_kept, &recorded) == PIDTAB_DONE && recorded <= saved->next) {
+		shared->sleeps = true;
+		pthread_cond_wait(&shared->recorded, &shared->lock);
+	}
+	has_ended = shared->saving == PIDTAB_ENDED;
+	pidtab_shared_unlock(shared);
+	return has_ended;
+}
+
+uint32_t pidtab_saved_serve(struct pidtab_saved *saved, struct pidtab_shared *shared, uint64_t keep, bool to_disk)
+{
+	bool has_ended = false, is_last;
+	uint32_t status;
+
+	/* One turn more behind the end, for what was recorded before it. */
+	do {
+		is_last = has_ended;
+		status = serve_once(saved, shared, keep, to_disk);
+		has_ended = status == PIDTAB_DONE && sleep_until_call(saved, shared);
+	} while (status == PIDTAB_DONE && !is_last);
+	return status;
+}
+
+uint32_t pidtab_saved_wait(struct pidtab_shared *shared, uint64_t ordinal)
+{
+	uint32_t status = PIDTAB_DONE;
+
+	pidtab_shared_lock(shared);
+	while (shared->saved <= ordinal && shared->saving == PIDTAB_DONE)
+		pthread_cond_wait(&shared->told, &shared->lock);
+	if (shared->saved <= ordinal)
+		status = shared->saving;
+	if (status == PIDTAB_DEVICE)
+		errno = shared->error;
+	pidtab_shared_unlock(shared);
+	return status;
+}
+
+void pidtab_saved_bound(struct pidtab_shared *shared, uint64_t most)
+{
+	pidtab_shared_lock(shared);
+	shared->most = most;
+	wake_all(shared);
+}
+
+void pidtab_saved_end(struct pidtab_shared *shared)
+{
+	pidtab_shared_lock(shared);
+	shared->saving = PIDTAB_ENDED;
+	wake_all(shared);
 }
 
 /* What was read of the file, and is not taken yet. */
@@ -313,6 +473,7 @@ static uint32_t replay_all(struct pidtab_saved *saved, struct input *input, cons
 	if (!either->shared)
 		return replay_on(saved, input, either->record, keep);
 	status = replay_on(saved, input, pidtab_shared_lock(either->shared), keep);
+	either->shared->saved = saved->next;
 	pidtab_shared_unlock(either->shared);
 	return status;
 }

@@ -1,5 +1,26 @@
-/* The lock around a record that threads share. A mutex of the default type: to lock and to unlock it in turn cannot fail. */
+/* The lock around a record that threads share. Mutexes of the default type: to lock and to unlock them in turn cannot fail.
+ *
+ * Such a mutex is for whoever comes first when it is free, which is a busy thread that has just given it back, and not one that has to
+ * wake up. So who is no call goes by a gate: it is seen there by the next call of each thread, which waits until it has the lock. */
 #include "pidtab_shared.h"
+
+static void lock_before_calls(struct pidtab_shared *shared)
+{
+	pthread_mutex_lock(&shared->gate);
+	__atomic_store_n(&shared->is_awaited, true, __ATOMIC_RELAXED);
+	pthread_mutex_lock(&shared->lock);
+	__atomic_store_n(&shared->is_awaited, false, __ATOMIC_RELAXED);
+	pthread_mutex_unlock(&shared->gate);
+}
+
+static void lock_for_call(struct pidtab_shared *shared)
+{
+	if (__atomic_load_n(&shared->is_awaited, __ATOMIC_RELAXED)) {
+		pthread_mutex_lock(&shared->gate);
+		pthread_mutex_unlock(&shared->gate);
+	}
+	pthread_mutex_lock(&shared->lock);
+}
 
 static uint32_t unlocked(struct pidtab_shared *shared, uint32_t status)
 {
@@ -7,25 +28,34 @@ static uint32_t unlocked(struct pidtab_shared *shared, uint32_t status)
 	return status;
 }
 
-/* What is there before the record is open. Whether there was memory for the lock. */
-static bool begin(struct pidtab_shared *shared, uint32_t workers, uint64_t keep)
+/* What is there before the record is open. */
+static void begin(struct pidtab_shared *shared, uint32_t workers, uint64_t keep)
 {
-	*shared = (struct pidtab_shared){ .record = PIDTAB_RECORD_INIT, .keep = keep, .workers = workers };
-	return pthread_mutex_init(&shared->lock, NULL) == 0;
+	*shared = (struct pidtab_shared){
+		.lock = PTHREAD_MUTEX_INITIALIZER, .record = PIDTAB_RECORD_INIT, .keep = keep, .workers = workers,
+		.gate = PTHREAD_MUTEX_INITIALIZER, .told = PTHREAD_COND_INITIALIZER, .recorded = PTHREAD_COND_INITIALIZER
+	};
+}
+
+static void end(struct pidtab_shared *shared)
+{
+	pthread_cond_destroy(&shared->recorded);
+	pthread_cond_destroy(&shared->told);
+	pthread_mutex_destroy(&shared->gate);
+	pthread_mutex_destroy(&shared->lock);
 }
 
 /* The status of the open, after which there is no lock where there is no record. */
 static uint32_t opened(struct pidtab_shared *shared, uint32_t status)
 {
 	if (status != PIDTAB_DONE)
-		pthread_mutex_destroy(&shared->lock);
+		end(shared);
 	return status;
 }
 
 uint32_t pidtab_shared_open(struct pidtab_shared *shared, uint32_t pid_max, uint64_t first_stamp, uint32_t workers, uint64_t keep)
 {
-	if (!begin(shared, workers, keep))
-		return PIDTAB_NO_MEMORY;
+	begin(shared, workers, keep);
 	return opened(shared, pidtab_record_open(&shared->record, pid_max, first_stamp, workers));
 }
 
@@ -33,25 +63,34 @@ uint32_t pidtab_shared_load(struct pidtab_shared *shared, const void *text, size
 {
 	/* Other numbers of workers than those that a uint32_t has are out of range, and nothing is opened then. */
 	*fault = (struct pidtab_fault){ 0, 0 };
-	if (!begin(shared, (uint32_t)workers, keep))
-		return PIDTAB_NO_MEMORY;
+	begin(shared, (uint32_t)workers, keep);
 	return opened(shared, pidtab_record_load(&shared->record, text, length, counts, workers, fault));
 }
 
 void pidtab_shared_close(struct pidtab_shared *shared)
 {
 	pidtab_record_close(&shared->record);
-	pthread_mutex_destroy(&shared->lock);
+	end(shared);
 }
 
 struct pidtab_record *pidtab_shared_lock(struct pidtab_shared *shared)
 {
-	pthread_mutex_lock(&shared->lock);
+	lock_before_calls(shared);
 	return &shared->record;
+}
+
+/* Calls may have been recorded: a saver that sleeps looks. */
+static void wake_saver(struct pidtab_shared *shared)
+{
+	if (!shared->sleeps)
+		return;
+	shared->sleeps = false;
+	pthread_cond_broadcast(&shared->recorded);
 }
 
 void pidtab_shared_unlock(struct pidtab_shared *shared)
 {
+	wake_saver(shared);
 	pthread_mutex_unlock(&shared->lock);
 }
 
@@ -59,7 +98,7 @@ uint32_t pidtab_shared_seat(struct pidtab_shared *shared, uint32_t *worker)
 {
 	uint32_t status = PIDTAB_OUT_OF_RANGE;
 
-	pthread_mutex_lock(&shared->lock);
+	lock_before_calls(shared);
 	if (shared->seated < shared->workers) {
 		*worker = shared->seated++;
 		status = PIDTAB_DONE;
@@ -78,84 +117,111 @@ static void cut_behind_call(struct pidtab_shared *shared)
 		pidtab_record_checkpoint(&shared->record);
 }
 
+/* Waits until the saver is near enough. A saver that cannot save lets no call go on. */
+static uint32_t wait_for_saver(struct pidtab_shared *shared)
+{
+	uint64_t first_kept, recorded;
+
+	while (shared->most != 0 && pidtab_record_counts(&shared->record, &first_kept, &recorded) == PIDTAB_DONE) {
+		if (recorded < shared->saved || recorded - shared->saved < shared->most)
+			break;
+		if (shared->saving != PIDTAB_DONE)
+			return shared->saving;
+		pthread_cond_wait(&shared->told, &shared->lock);
+	}
+	return PIDTAB_DONE;
+}
+
+/* The lock for a call; where that is not to be made, the status. */
+static uint32_t begin_call(struct pidtab_shared *shared)
+{
+	lock_for_call(shared);
+	return shared->most == 0 ? (uint32_t)PIDTAB_DONE : wait_for_saver(shared);
+}
+
+static uint32_t end_call(struct pidtab_shared *shared, uint32_t status)
+{
+	if (status == PIDTAB_DONE) {
+		cut_behind_call(shared);
+		wake_saver(shared);
+	}
+	return unlocked(shared, status);
+}
+
 uint32_t pidtab_shared_call(struct pidtab_shared *shared, uint32_t worker, const struct pidtab_call *call, struct pidtab_reply *reply, uint64_t *ordinal)
 {
-	uint32_t status;
+	uint32_t status = begin_call(shared);
 
-	pthread_mutex_lock(&shared->lock);
-	status = pidtab_record_call(&shared->record, worker, call, reply, ordinal);
 	if (status == PIDTAB_DONE)
-		cut_behind_call(shared);
-	return unlocked(shared, status);
+		status = pidtab_record_call(&shared->record, worker, call, reply, ordinal);
+	return end_call(shared, status);
 }
 
 uint32_t pidtab_shared_line(struct pidtab_shared *shared, uint32_t worker, const void *line, size_t length, void *answer, size_t room, size_t *size, uint64_t *ordinal)
 {
-	uint32_t status;
+	uint32_t status = begin_call(shared);
 
-	pthread_mutex_lock(&shared->lock);
-	status = pidtab_record_line(&shared->record, worker, line, length, answer, room, size, ordinal);
 	if (status == PIDTAB_DONE)
-		cut_behind_call(shared);
-	return unlocked(shared, status);
+		status = pidtab_record_line(&shared->record, worker, line, length, answer, room, size, ordinal);
+	return end_call(shared, status);
 }
 
 uint32_t pidtab_shared_ask(struct pidtab_shared *shared, const struct pidtab_call *call, struct pidtab_reply *reply)
 {
-	pthread_mutex_lock(&shared->lock);
+	lock_for_call(shared);
 	return unlocked(shared, pidtab_record_ask(&shared->record, call, reply));
 }
 
 uint32_t pidtab_shared_stat(struct pidtab_shared *shared, uint32_t caller, uint32_t number, struct pidtab_task *task)
 {
-	pthread_mutex_lock(&shared->lock);
+	lock_for_call(shared);
 	return unlocked(shared, pidtab_record_stat(&shared->record, caller, number, task));
 }
 
 uint32_t pidtab_shared_counts(struct pidtab_shared *shared, uint64_t *first_kept, uint64_t *recorded)
 {
-	pthread_mutex_lock(&shared->lock);
+	lock_before_calls(shared);
 	return unlocked(shared, pidtab_record_counts(&shared->record, first_kept, recorded));
 }
 
 uint32_t pidtab_shared_worker(struct pidtab_shared *shared, uint32_t worker, uint64_t *calls)
 {
-	pthread_mutex_lock(&shared->lock);
+	lock_before_calls(shared);
 	return unlocked(shared, pidtab_record_worker(&shared->record, worker, calls));
 }
 
 uint32_t pidtab_shared_entry(struct pidtab_shared *shared, uint64_t ordinal, uint64_t *worker, struct pidtab_call *call, struct pidtab_reply *reply)
 {
-	pthread_mutex_lock(&shared->lock);
+	lock_before_calls(shared);
 	return unlocked(shared, pidtab_record_entry(&shared->record, ordinal, worker, call, reply));
 }
 
 uint32_t pidtab_shared_read(struct pidtab_shared *shared, uint64_t from, struct pidtab_entry *entries, size_t room, size_t *count)
 {
-	pthread_mutex_lock(&shared->lock);
+	lock_before_calls(shared);
 	return unlocked(shared, pidtab_record_read(&shared->record, from, entries, room, count));
 }
 
 uint32_t pidtab_shared_checkpoint(struct pidtab_shared *shared)
 {
-	pthread_mutex_lock(&shared->lock);
+	lock_before_calls(shared);
 	return unlocked(shared, pidtab_record_checkpoint(&shared->record));
 }
 
 uint32_t pidtab_shared_checkpoint_at(struct pidtab_shared *shared, uint64_t seen)
 {
-	pthread_mutex_lock(&shared->lock);
+	lock_before_calls(shared);
 	return unlocked(shared, pidtab_record_checkpoint_at(&shared->record, seen));
 }
 
 uint32_t pidtab_shared_list(struct pidtab_shared *shared, void *bytes, size_t room, size_t *size)
 {
-	pthread_mutex_lock(&shared->lock);
+	lock_before_calls(shared);
 	return unlocked(shared, pidtab_record_list(&shared->record, bytes, room, size));
 }
 
 uint32_t pidtab_shared_dump(struct pidtab_shared *shared, void *bytes, size_t room, size_t *size)
 {
-	pthread_mutex_lock(&shared->lock);
+	lock_before_calls(shared);
 	return unlocked(shared, pidtab_record_dump(&shared->record, bytes, room, size));
 }

@@ -92,6 +92,25 @@ static void each_call(void)
 	pidtab_close(&table);
 }
 
+/* What no line has is no call: nothing is cut off a number. */
+static void numbers_that_do_not_fit(void)
+{
+	struct pidtab table = PIDTAB_INIT;
+	char answer[PIDTAB_LONGEST_ANSWER + 1];
+	uint32_t root, least = 256, many = 300, most = UINT32_MAX;
+
+	CHECK(pidtab_open(&table, 32768) == PIDTAB_DONE && pidtab_fork(&table, 1, true, &root) == 2);
+	CHECK(ask(&table, "exit 2 300", answer) == PIDTAB_BAD_LINE && pidtab_exit(&table, root, many) == -EINVAL);
+	CHECK(pidtab_exit(&table, root, least) == -EINVAL && pidtab_exit(&table, root, most) == -EINVAL);
+	CHECK(pidtab_fork(&table, 1, many, &root) == -EINVAL && root == 2 && pidtab_fork(&table, 1, 2, NULL) == -EINVAL);
+	CHECK(pidtab_limit(&table, 0, many, 1) == -EINVAL && pidtab_subreaper(&table, 1, many) == -EINVAL);
+	CHECK(pidtab_wait(&table, 1, (enum pidtab_which)300, 0, NULL) == -EINVAL && pidtab_next(&table, 1, (enum pidtab_use)300, 1) == -EINVAL);
+	/* None of them was a call: this one is the second. */
+	CHECK(answers(&table, "mk 0", "control 2") && pidtab_exit(&table, root, 255) == 0);
+	CHECK(ask(&table, "wait 1 any", answer) == PIDTAB_DONE && strcmp(answer, "reaped 2 exit 255") == 0);
+	CHECK(pidtab_close(&table) == PIDTAB_DONE);
+}
+
 /* The numbers of processes that were read of the task. */
 static bool task_is(struct pidtab *table, uint32_t caller, uint32_t number, uint32_t parent, uint32_t group, uint32_t session, struct pidtab_task *task)
 {
@@ -235,6 +254,7 @@ int main(void)
 {
 	each_function();
 	each_call();
+	numbers_that_do_not_fit();
 	each_task();
 	want_of_memory();
 	threads();

@@ -432,6 +432,7 @@ static void full_after(size_t size, int fault)
 	}
 	for (int again = 0; again < 2; again++) {
 		CHECK(pidtab_saved_append(&saved, &whole) == PIDTAB_DEVICE && saved.error == told);
+		CHECK(saved.next == whole_in(size));
 		CHECK(saved.bytes == places[saved.next] && saved.bytes + saved.part == size && has(file, bytes, size));
 	}
 	mend();
@@ -448,10 +449,10 @@ static void given_up(void)
 	CHECK(pidtab_saved_begin(&saved, file, &head) == PIDTAB_DONE);
 	device.left = places[20] + 5 - 48;
 	device.fault = EIO;
-	CHECK(pidtab_saved_append(&saved, &whole) == PIDTAB_DEVICE && saved.next == 16 && saved.part == places[20] + 5 - places[16]);
+	CHECK(pidtab_saved_append(&saved, &whole) == PIDTAB_DEVICE && saved.next == 20 && saved.part == 5);
 	mend();
 	CHECK(load_status(file, &read) == PIDTAB_DONE && read.next == 20 && read.left_out == 5);
-	CHECK(pidtab_saved_trim(&saved) == PIDTAB_DONE && has(file, bytes, places[16]));
+	CHECK(pidtab_saved_trim(&saved) == PIDTAB_DONE && has(file, bytes, places[20]));
 	CHECK(pidtab_saved_append(&saved, &whole) == PIDTAB_DONE && has(file, bytes, places[calls]) && close(file) == 0);
 }
 

@@ -98,9 +98,10 @@ func SharedFromDump(text string, counts []uint64, keep uint64) (*Shared, error) 
 		numbers[i] = C.uint64_t(count)
 		before += count
 	}
-	held, fault, bytes := &heldRecord{goesOn: true}, new(C.struct_pidtab_fault), withByte(text)
+	held, fault, bytes := newRecord(), new(C.struct_pidtab_fault), withByte(text)
+	held.goesOn = true
 	at, workers := &numbers[0], C.size_t(len(numbers))
-	status := C.pidtab_record_load(&held.raw, unsafe.Pointer(&bytes[0]), C.size_t(len(text)), at, workers, fault)
+	status := C.pidtab_record_load(held.raw, unsafe.Pointer(&bytes[0]), C.size_t(len(text)), at, workers, fault)
 	if err := textFaultOf(status, fault); err != nil {
 		return nil, err
 	}
@@ -117,7 +118,7 @@ func (shared *Shared) Dump() (string, error) {
 	held.lock.Lock()
 	defer held.lock.Unlock()
 	return wholeText(func(room unsafe.Pointer, most C.size_t, size *C.size_t) C.uint32_t {
-		return C.pidtab_record_dump(&held.raw, room, most, size)
+		return C.pidtab_record_dump(held.raw, room, most, size)
 	})
 }
 

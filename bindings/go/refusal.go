@@ -21,6 +21,7 @@ var (
 	ErrNotKept    = errors.New("pidtab: no entry with the ordinal is kept: it was cut away, or is not reached yet")
 	ErrAgain      = errors.New("pidtab: another number of calls was recorded by now")
 	ErrDiffers    = errors.New("pidtab: a reply is not the saved one")
+	ErrUnsaved    = errors.New("pidtab: too many calls are not saved, and the saver has failed or ended")
 )
 
 // ReplayError is why a replay stopped: the entries before the place were made again, and none behind it. ErrDiffers says that the call of the
@@ -41,11 +42,39 @@ func (stopped ReplayError) Unwrap() error {
 	return stopped.Err
 }
 
+// Word is why the table refuses a call, as the script language has it.
+type Word string
+
+// The words, in the order of their numbers. Behind NoNumber stands the id of a namespace, behind PidsLimit that of a control group.
+const (
+	NoCaller     Word = "no-caller"     // no live task has the caller's root number
+	NoTask       Word = "no-task"       // no such task, or the call is not allowed on it
+	NoChild      Word = "no-child"      // no child matches
+	NoNumber     Word = "no-number"     // the namespace has no free number
+	PidsLimit    Word = "pids-limit"    // the control group has as many tasks as its limit allows
+	SpaceFallen  Word = "space-fallen"  // the namespace for the caller's children has fallen
+	TooDeep      Word = "too-deep"      // a namespace below one of level 32, the deepest
+	Elsewhere    Word = "elsewhere"     // a new namespace from a caller whose children go into another one
+	BadGroup     Word = "bad-group"     // a negative process group
+	OtherSession Word = "other-session" // a child that is in another session
+	IsLeader     Word = "is-leader"     // a session leader, or a process group leader
+	NoGroup      Word = "no-group"      // no such process group in the caller's session
+	Executed     Word = "executed"      // a child that has executed
+	RootInit     Word = "root-init"     // the exit of the root namespace's init
+	NoControl    Word = "no-control"    // no control group has the id
+	ControlBusy  Word = "control-busy"  // a control group with live tasks or children
+	RootControl  Word = "root-control"  // the root control group, which has no limit and stays
+	BadLimit     Word = "bad-limit"     // a limit above 4194304
+	ControlDepth Word = "control-depth" // a control group below one of level 64, the deepest
+)
+
 // Refusal is an error of a call that the table refuses, which changes nothing but that the call is counted. Its errno is wrapped:
 // errors.Is(err, syscall.ESRCH).
 type Refusal struct {
 	Errno syscall.Errno // the error that the kernel would give
-	Why   string        // the word of the script language, as no-caller; behind no-number and pids-limit stands an id
+	Why   string        // the word, and behind it the id if there is one, as the script language has them
+	Word  Word          // the word alone, as NoCaller
+	ID    uint64        // behind NoNumber and PidsLimit: the id of what refuses; else 0
 }
 
 // Error tells the errno and the word.
@@ -58,25 +87,21 @@ func (refusal Refusal) Unwrap() error {
 	return refusal.Errno
 }
 
-// The words of the refusals, by their numbers.
-var words = [...]string{
-	1: "no-caller", 2: "no-task", 3: "no-child", 4: "no-number", 5: "pids-limit", 6: "space-fallen", 7: "too-deep",
-	8: "elsewhere", 9: "bad-group", 10: "other-session", 11: "is-leader", 12: "no-group", 13: "executed", 14: "root-init",
-	15: "no-control", 16: "control-busy", 17: "root-control", 18: "bad-limit", 19: "control-depth",
+// The words of the refusals, by their numbers from 1 on.
+var words = [...]Word{
+	"", NoCaller, NoTask, NoChild, NoNumber, PidsLimit, SpaceFallen, TooDeep, Elsewhere, BadGroup, OtherSession, IsLeader, NoGroup, Executed,
+	RootInit, NoControl, ControlBusy, RootControl, BadLimit, ControlDepth,
 }
-
-const (
-	noNumber  = 4
-	pidsLimit = 5
-)
 
 // refusalOf is what a reply says that is a refusal.
 func refusalOf(reply *C.struct_pidtab_reply) error {
-	why := words[reply.refusal]
-	if reply.refusal == noNumber || reply.refusal == pidsLimit {
-		why = fmt.Sprintf("%s %d", why, reply.first)
+	refusal := Refusal{Errno: syscall.Errno(reply.error), Word: words[reply.refusal]}
+	refusal.Why = string(refusal.Word)
+	if refusal.Word == NoNumber || refusal.Word == PidsLimit {
+		refusal.ID = uint64(reply.first)
+		refusal.Why = fmt.Sprintf("%s %d", refusal.Word, refusal.ID)
 	}
-	return Refusal{syscall.Errno(reply.error), why}
+	return refusal
 }
 
 // faultOf is what a status says; nothing where it is done.
@@ -104,6 +129,8 @@ func faultOf(status uint32) error {
 		return ErrAgain
 	case C.PIDTAB_DIFFERS:
 		return ErrDiffers
+	case C.PIDTAB_ENDED:
+		return ErrUnsaved
 	case C.PIDTAB_TORN:
 		return ErrTorn
 	case C.PIDTAB_NOT_SAVED:

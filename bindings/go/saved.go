@@ -20,6 +20,7 @@ var (
 	ErrWrongByte    = errors.New("pidtab: a byte is not the one that was written")
 	ErrBadSettings  = errors.New("pidtab: no table has the settings of the head")
 	ErrOtherTable   = errors.New("pidtab: what is saved is of another table")
+	ErrEnded        = errors.New("pidtab: the saver has ended")
 	ErrNil          = errors.New("pidtab: nil where a writer, a reader, a file or a Saved is needed")
 )
 
@@ -53,7 +54,7 @@ type Saved struct {
 	bytes   uint64
 	leftOut uint64
 	sum     C.uint64_t
-	part    int // so many bytes a write that failed has left behind the last whole call
+	part    int // so many bytes of the next call a write that failed has left behind the last whole one
 	isTorn  bool
 }
 
@@ -94,8 +95,8 @@ func (saved *Saved) Trim(file *os.File) error {
 }
 
 // Save writes the calls that were recorded since, and perhaps some that are recorded meanwhile; to a zero Saved the head comes first. So what is
-// saved is always the history up to one moment. Other goroutines make calls meanwhile: the lock of the table is held for sixteen entries at a time,
-// and for no write. Goroutines that save to one Saved take turns.
+// saved is always the history up to one moment. Other goroutines make calls meanwhile: the lock of the table is held while up to 512 entries are
+// copied, and for no write. Goroutines that save to one Saved take turns. At its end it wakes those in WaitSaved.
 //
 // What an *os.File was given survives the process, and behind its Sync the machine. A call that is saved may be cut, by CheckpointAt with
 // Saved.Calls.
@@ -109,7 +110,7 @@ func (shared *Shared) Save(to io.Writer, saved *Saved) error {
 	}
 	saved.lock.Lock()
 	defer saved.lock.Unlock()
-	return saved.at(shared.save(to, saved))
+	return shared.held().tell(saved, shared.save(to, saved))
 }
 
 // LoadShared makes a table of a saved history, which is read to its end. It has the settings of the head, no seat is given, and each call is made
@@ -174,27 +175,22 @@ func (shared *Shared) save(to io.Writer, saved *Saved) error {
 	if saved.bytes == 0 {
 		err = saved.writeHead(to, held.settings)
 	}
-	for err == nil && saved.calls < counts.Recorded {
-		err = shared.saveSome(to, saved)
-	}
-	return err
-}
-
-// How many entries are read under the lock at a time.
-const atOnce = 16
-
-// saveSome writes the next entries.
-func (shared *Shared) saveSome(to io.Writer, saved *Saved) error {
-	var entries [atOnce]C.struct_pidtab_entry
-	var count C.size_t
-	err := shared.alone(func(raw *C.struct_pidtab_record) C.uint32_t {
-		return C.pidtab_record_read(raw, C.uint64_t(saved.calls), &entries[0], atOnce, &count)
-	})
 	if err != nil {
 		return err
 	}
-	return saved.writeEntries(to, entries[:count])
+	return saved.writeUpTo(counts.Recorded, to, func(from uint64, room []C.struct_pidtab_entry) (int, error) {
+		held.lock.Lock()
+		defer held.lock.Unlock()
+		return held.read(from, room)
+	})
 }
+
+// How many entries are read under the lock at a time, as a goroutine that saves has to wait for it among all that make calls; and how many are
+// written at a time.
+const (
+	aTurn  = 512
+	aWrite = 64
+)
 
 // at is a fault at the next call, and nothing where there is none.
 func (saved *Saved) at(fault error) error {
@@ -220,13 +216,34 @@ func (saved *Saved) writeHead(to io.Writer, settings Settings) error {
 	if err := saved.write(to, room[:size]); err != nil {
 		return err
 	}
-	saved.sum = sum
+	saved.countWhole(int(size), sum)
 	return nil
 }
 
-// writeEntries writes the next entries. Behind a write that failed they are the same ones, and perhaps more, so the same bytes come first.
+// writeUpTo writes the entries below an ordinal, which are read a turn at a time.
+func (saved *Saved) writeUpTo(recorded uint64, to io.Writer, read func(uint64, []C.struct_pidtab_entry) (int, error)) error {
+	if saved.calls >= recorded {
+		return nil
+	}
+	room := make([]C.struct_pidtab_entry, least(aTurn, int(recorded-saved.calls)))
+	for saved.calls < recorded {
+		count, err := read(saved.calls, room)
+		for at := 0; at < count && err == nil; at += aWrite {
+			err = saved.writeEntries(to, room[at:least(at+aWrite, count)])
+		}
+		if err != nil {
+			return err
+		}
+	}
+	return nil
+}
+
+// writeEntries writes the next entries, at most aWrite. Behind a write that failed, what is whole counts, and the rest is the part: so the next write
+// is of the same entry, and perhaps more, and the same bytes come first.
 func (saved *Saved) writeEntries(to io.Writer, entries []C.struct_pidtab_entry) error {
-	var room [atOnce * C.PIDTAB_SAVED_LONGEST]byte
+	var room [aWrite * C.PIDTAB_SAVED_LONGEST]byte
+	var ends [aWrite]int
+	var sums [aWrite]C.uint64_t
 	used, sum := 0, saved.sum
 	for i := range entries {
 		var size C.size_t
@@ -235,13 +252,18 @@ func (saved *Saved) writeEntries(to io.Writer, entries []C.struct_pidtab_entry) 
 			return err
 		}
 		used += int(size)
+		ends[i], sums[i] = used, sum
 	}
-	if err := saved.write(to, room[:used]); err != nil {
-		return err
+	err := saved.write(to, room[:used])
+	whole := 0
+	for whole < len(entries) && ends[whole] <= saved.part {
+		whole++
 	}
-	saved.calls += uint64(len(entries))
-	saved.sum = sum
-	return nil
+	if whole > 0 {
+		saved.countWhole(ends[whole-1], sums[whole-1])
+		saved.calls += uint64(whole)
+	}
+	return err
 }
 
 // write writes what of the bytes is not written yet. A write that is short without an error is gone on with.
@@ -259,9 +281,14 @@ func (saved *Saved) write(to io.Writer, bytes []byte) error {
 			return io.ErrShortWrite
 		}
 	}
-	saved.part = 0
-	saved.bytes += uint64(len(bytes))
 	return nil
+}
+
+// countWhole counts so many bytes of the part as whole; the checksum goes so far.
+func (saved *Saved) countWhole(size int, sum C.uint64_t) {
+	saved.part -= size
+	saved.bytes += uint64(size)
+	saved.sum = sum
 }
 
 // leaveOut leaves out what is behind the last whole call.
@@ -285,7 +312,7 @@ func loadInto(saved *Saved, from io.Reader, keep uint64) (*Shared, error) {
 		shared.Close()
 		return nil, err
 	}
-	saved.held, shared.own.settings.Keep = shared.own, 0
+	saved.held, shared.own.settings.Keep, shared.own.saving.saved = shared.own, 0, saved.calls
 	return shared, nil
 }
 
@@ -298,7 +325,7 @@ func (held *heldRecord) makeAgain(saved *Saved, in *input) error {
 			return err
 		}
 		var place C.size_t
-		status := C.pidtab_record_replay(&held.raw, &entry, 1, &place)
+		status := C.pidtab_record_replay(held.raw, &entry, 1, &place)
 		if err := faultOf(uint32(status)); err != nil {
 			return err
 		}

@@ -431,12 +431,16 @@ func (it *device) Read(to []byte) (int, error) {
 // Behind a write that failed at each byte, the next save goes on with the same byte.
 func TestAWriterThatFailsAfterEachByte(t *testing.T) {
 	shared, wanted := whole(t)
+	places := placesOf(wanted)
 	for length := range wanted {
 		file, saved := new(bytes.Buffer), new(Saved)
 		err := shared.Save(&device{file, length}, saved)
 		var fault SavedError
 		if !errors.Is(err, errDevice) || !errors.As(err, &fault) || fault.Bytes != saved.Bytes() || file.Len() != length {
 			t.Error(length, err)
+		}
+		if length >= 48 && saved.Calls() != uint64(callsBelow(places, length)) {
+			t.Error(length, saved.Calls())
 		}
 		save(t, shared, &device{file, math.MaxInt}, saved)
 		if !bytes.Equal(file.Bytes(), wanted) || saved.Bytes() != uint64(len(wanted)) {

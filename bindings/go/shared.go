@@ -5,7 +5,6 @@ import "C"
 
 import (
 	"runtime"
-	"sync"
 	"unsafe"
 )
 
@@ -32,13 +31,22 @@ type Shared struct {
 	own *heldRecord
 }
 
-// A heldRecord is a record of the library, with its lock. It stays where it is, and is never copied.
+// A heldRecord is a record of the library, with its lock. It stays where it is, and is never copied. What C is given has no pointer of Go in it, and
+// the lock is a part of its own, since the collector ends nothing that has a pointer into itself.
 type heldRecord struct {
-	lock     sync.Mutex
-	raw      C.struct_pidtab_record
+	lock     *turnLock
+	saving   saving
+	raw      *C.struct_pidtab_record
 	settings Settings
 	goesOn   bool // made of the text of another table, so that its history does not begin with the root init alone
 	seated   uint32
+}
+
+// newRecord is a record that is not open yet.
+func newRecord() *heldRecord {
+	held := &heldRecord{lock: new(turnLock), raw: new(C.struct_pidtab_record)}
+	held.saving.told.L, held.saving.recorded.L = held.lock, held.lock
+	return held
 }
 
 // OpenShared makes a table with the root init alone. ErrOutOfRange for settings outside their ranges, ErrNoMemory.
@@ -49,8 +57,9 @@ func OpenShared(settings Settings) (*Shared, error) {
 	if settings.FirstStamp == 0 {
 		settings.FirstStamp = 1
 	}
-	held := &heldRecord{settings: settings}
-	status := C.pidtab_record_open(&held.raw, C.uint32_t(settings.PidMax), C.uint64_t(settings.FirstStamp), C.uint32_t(settings.Workers))
+	held := newRecord()
+	held.settings = settings
+	status := C.pidtab_record_open(held.raw, C.uint32_t(settings.PidMax), C.uint64_t(settings.FirstStamp), C.uint32_t(settings.Workers))
 	if err := faultOf(uint32(status)); err != nil {
 		return nil, err
 	}
@@ -58,8 +67,8 @@ func OpenShared(settings Settings) (*Shared, error) {
 	return &Shared{held}, nil
 }
 
-// Close frees the table and its history. A second time nothing is done; all methods, and those of the seats, answer ErrClosed from then on. A
-// table that nobody has any more, nor a seat of it, is closed at some time.
+// Close frees the table and its history. A second time nothing is done; all methods, and those of the seats, answer ErrClosed from then on, also
+// what waits for the saver. A table that nobody has any more, nor a seat of it, is closed at some time.
 func (shared *Shared) Close() {
 	shared.held().close()
 }
@@ -88,9 +97,10 @@ func (shared *Shared) Seat() (*Seat, error) {
 // Ask answers a query as its call would be answered, refusals too. It is no call: nothing changes, and it is not recorded. A query is a getpid,
 // getppid, getpgid, getsid, nspid, next or count; ErrOutOfRange for each other call.
 func (shared *Shared) Ask(query Call) (Reply, error) {
-	numbers, reply := query.numbers(), new(C.struct_pidtab_reply)
-	err := shared.alone(func(raw *C.struct_pidtab_record) C.uint32_t { return C.pidtab_record_ask(raw, &numbers, reply) })
-	if err != nil {
+	numbers, reply, held := query.numbers(), new(C.struct_pidtab_reply), shared.held()
+	held.lock.LockForCall()
+	defer held.lock.Unlock()
+	if err := faultOf(uint32(C.pidtab_record_ask(held.raw, &numbers, reply))); err != nil {
 		return Reply{}, err
 	}
 	return replyOf(reply), nil
@@ -166,9 +176,8 @@ func (shared *Shared) Entries(from uint64, most int) ([]Entry, error) {
 	entries, room := make([]Entry, 0, most), make([]C.struct_pidtab_entry, batch)
 	for len(entries) < most {
 		next := from + uint64(len(entries))
-		var read C.size_t
-		status := C.pidtab_record_read(&held.raw, C.uint64_t(next), &room[0], C.size_t(least(batch, most-len(entries))), &read)
-		if err := faultOf(uint32(status)); err != nil {
+		read, err := held.read(next, room[:least(batch, most-len(entries))])
+		if err != nil {
 			return nil, err
 		}
 		entries = appendEntries(entries, next, room[:read])
@@ -197,7 +206,7 @@ func (shared *Shared) List() (string, error) {
 	held.lock.Lock()
 	defer held.lock.Unlock()
 	return wholeText(func(room unsafe.Pointer, most C.size_t, size *C.size_t) C.uint32_t {
-		return C.pidtab_record_list(&held.raw, room, most, size)
+		return C.pidtab_record_list(held.raw, room, most, size)
 	})
 }
 
@@ -213,7 +222,7 @@ func (shared *Shared) Opening() (string, error) {
 	held.lock.Lock()
 	defer held.lock.Unlock()
 	return wholeText(func(room unsafe.Pointer, most C.size_t, size *C.size_t) C.uint32_t {
-		return C.pidtab_record_opening(&held.raw, room, most, size)
+		return C.pidtab_record_opening(held.raw, room, most, size)
 	})
 }
 
@@ -232,7 +241,8 @@ func (shared *Shared) Replay(saved []Entry) error {
 	for first := 0; first < len(saved); first += batch {
 		room := numbersOf(saved[first:least(first+batch, len(saved))])
 		var place C.size_t
-		status := C.pidtab_record_replay(&held.raw, &room[0], C.size_t(len(room)), &place)
+		status := C.pidtab_record_replay(held.raw, &room[0], C.size_t(len(room)), &place)
+		held.wakeSaver()
 		held.cutWhereLong()
 		if err := faultOf(uint32(status)); err != nil {
 			return ReplayError{first + int(place), err}
@@ -244,7 +254,7 @@ func (shared *Shared) Replay(saved []Entry) error {
 // held is the record of the library; one that is not open where nobody has opened it.
 func (shared *Shared) held() *heldRecord {
 	if shared.own == nil {
-		return new(heldRecord)
+		return newRecord()
 	}
 	return shared.own
 }
@@ -254,13 +264,13 @@ func (shared *Shared) alone(do func(*C.struct_pidtab_record) C.uint32_t) error {
 	held := shared.held()
 	held.lock.Lock()
 	defer held.lock.Unlock()
-	return faultOf(uint32(do(&held.raw)))
+	return faultOf(uint32(do(held.raw)))
 }
 
 // counts is how far the history goes. The lock is held.
 func (held *heldRecord) counts() (Counts, error) {
 	var firstKept, recorded C.uint64_t
-	err := faultOf(uint32(C.pidtab_record_counts(&held.raw, &firstKept, &recorded)))
+	err := faultOf(uint32(C.pidtab_record_counts(held.raw, &firstKept, &recorded)))
 	return Counts{uint64(firstKept), uint64(recorded)}, err
 }
 
@@ -272,14 +282,23 @@ func (held *heldRecord) cutWhereLong() {
 		return
 	}
 	if counts, err := held.counts(); err == nil && counts.Recorded-counts.FirstKept >= keep {
-		C.pidtab_record_checkpoint(&held.raw)
+		C.pidtab_record_checkpoint(held.raw)
 	}
 }
 
 func (held *heldRecord) close() {
 	held.lock.Lock()
 	defer held.lock.Unlock()
-	C.pidtab_record_close(&held.raw)
+	C.pidtab_record_close(held.raw)
+	held.saving.told.Broadcast()
+	held.saving.recorded.Broadcast()
+}
+
+// read reads the kept entries from the ordinal on: how many. The lock is held.
+func (held *heldRecord) read(from uint64, room []C.struct_pidtab_entry) (int, error) {
+	var count C.size_t
+	status := C.pidtab_record_read(held.raw, C.uint64_t(from), &room[0], C.size_t(len(room)), &count)
+	return int(count), faultOf(uint32(status))
 }
 
 // entryOf is the entry with the ordinal that the library's numbers say.
@@ -314,7 +333,7 @@ func least(a, b int) int {
 // Seat is a worker's place at a Shared, by which it makes calls. Each is recorded, the refused ones too, with its ordinal. A seat is meant for one
 // goroutine; where several use it, each call is made, and Ordinal is that of the last one of them. A copy is the same seat.
 //
-// Each call may answer ErrNoMemory, as its entry takes memory, ErrClosed, ErrSpent and ErrBusy, beside what its method names.
+// Each call may answer ErrNoMemory, as its entry takes memory, ErrClosed, ErrSpent, ErrBusy and ErrUnsaved, beside what its method names.
 type Seat struct {
 	calls
 	own *seated
@@ -346,11 +365,14 @@ func (seat *Seat) Ordinal() (uint64, bool) {
 // ErrEmptyLine, ErrBadLine, and what a call may answer.
 func (seat *Seat) Line(line string) (string, error) {
 	own := seat.place()
-	own.held.lock.Lock()
+	own.held.lock.LockForCall()
 	defer own.held.lock.Unlock()
 	return answer(line, func(line unsafe.Pointer, length C.size_t, room unsafe.Pointer, size *C.size_t) C.uint32_t {
 		var ordinal C.uint64_t
-		status := C.pidtab_record_line(&own.held.raw, C.uint32_t(own.worker), line, length, room, C.PIDTAB_LONGEST_ANSWER, size, &ordinal)
+		if status := own.held.waitForSaver(); status != C.PIDTAB_DONE {
+			return status
+		}
+		status := C.pidtab_record_line(own.held.raw, C.uint32_t(own.worker), line, length, room, C.PIDTAB_LONGEST_ANSWER, size, &ordinal)
 		return own.after(status, ordinal)
 	})
 }
@@ -358,17 +380,20 @@ func (seat *Seat) Line(line string) (string, error) {
 // place is what the seat knows; one at a table that is not open where nobody has given it.
 func (seat *Seat) place() *seated {
 	if seat.own == nil {
-		return &seated{held: new(heldRecord)}
+		return &seated{held: newRecord()}
 	}
 	return seat.own
 }
 
 // step makes a call.
 func (own *seated) step(call *C.struct_pidtab_call, reply *C.struct_pidtab_reply) C.uint32_t {
-	own.held.lock.Lock()
+	own.held.lock.LockForCall()
 	defer own.held.lock.Unlock()
 	var ordinal C.uint64_t
-	status := C.pidtab_record_call(&own.held.raw, C.uint32_t(own.worker), call, reply, &ordinal)
+	if status := own.held.waitForSaver(); status != C.PIDTAB_DONE {
+		return status
+	}
+	status := C.pidtab_record_call(own.held.raw, C.uint32_t(own.worker), call, reply, &ordinal)
 	return own.after(status, ordinal)
 }
 
@@ -376,6 +401,7 @@ func (own *seated) step(call *C.struct_pidtab_call, reply *C.struct_pidtab_reply
 func (own *seated) after(status C.uint32_t, ordinal C.uint64_t) C.uint32_t {
 	if status == C.PIDTAB_DONE {
 		own.ordinal, own.made = uint64(ordinal), true
+		own.held.wakeSaver()
 		own.held.cutWhereLong()
 	}
 	return status

@@ -205,7 +205,7 @@ func TestCallsLinesAndOrdinals(t *testing.T) {
 	}
 	want(t, "fork", of(seat.Fork(1, NewNamespace)), Child{2, 2}, nil)
 	wantOrdinal(t, seat, 0)
-	want(t, "nobody", of(other.Getpid(9)), uint32(0), Refusal{syscall.ESRCH, "no-caller"})
+	want(t, "nobody", of(other.Getpid(9)), uint32(0), refused(syscall.ESRCH, "no-caller"))
 	wantOrdinal(t, other, 1)
 	want(t, "line", of(other.Line("getpid 2")), "1", nil)
 	want(t, "refused line", of(other.Line("getpid 9")), "ESRCH no-caller", nil)
@@ -296,9 +296,9 @@ func TestQueriesThatAreNoCalls(t *testing.T) {
 
 func TestWhatAReplyRefuses(t *testing.T) {
 	reply, err := open(t, 32768).Call(Call{Operation: OpGetpid, Caller: 9})
-	want(t, "refused", told{reply.Err(), err}, Refusal{syscall.ESRCH, "no-caller"}, nil)
+	want(t, "refused", told{reply.Err(), err}, refused(syscall.ESRCH, "no-caller"), nil)
 	limited := Reply{Kind: ReplyRefused, Errno: syscall.EAGAIN, Refusal: 5, First: 7}
-	want(t, "limited", only(limited.Err()), nil, Refusal{syscall.EAGAIN, "pids-limit 7"})
+	want(t, "limited", only(limited.Err()), nil, refused(syscall.EAGAIN, "pids-limit 7"))
 	want(t, "done", only(Reply{Kind: ReplyOK}.Err()), nil, nil)
 }
 

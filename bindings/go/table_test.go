@@ -5,6 +5,7 @@ import (
 	"io/fs"
 	"reflect"
 	"sort"
+	"strconv"
 	"strings"
 	"sync"
 	"syscall"
@@ -192,6 +193,27 @@ var refusals = []struct {
 	{32768, chain("mk ", 0, 64, ""), func(it *Table) told { return of(it.Mk(64)) }, syscall.EAGAIN, "control-depth"},
 }
 
+// refused is the refusal with the words of an answer: one, and perhaps an id behind it.
+func refused(errno syscall.Errno, why string) Refusal {
+	word, id, _ := strings.Cut(why, " ")
+	number, _ := strconv.ParseUint(id, 10, 64)
+	return Refusal{Errno: errno, Why: why, Word: Word(word), ID: number}
+}
+
+// The constants are those of docs/SCRIPT.md, and tell a refusal from another.
+func TestWords(t *testing.T) {
+	table := open(t, 32768)
+	play(t, table, "mk 0", "limit 1 1", "move 1 1")
+	_, err := table.Fork(1, NoNewNamespace)
+	var refusal Refusal
+	if !errors.As(err, &refusal) || refusal.Word != PidsLimit || refusal.ID != 1 || refusal.Why != "pids-limit 1" {
+		t.Errorf("%v", err)
+	}
+	if _, err := table.Getpid(9); !errors.As(err, &refusal) || refusal.Word != NoCaller || refusal.ID != 0 {
+		t.Errorf("%v", err)
+	}
+}
+
 // fill forks until there is a refusal, in a table of 300 numbers.
 func fill(table *Table) (child Child, err error) {
 	for i := 0; i < 300 && err == nil; i++ {
@@ -202,14 +224,15 @@ func fill(table *Table) (child Child, err error) {
 
 func TestRefusals(t *testing.T) {
 	for i, it := range refusals {
-		if word, _, _ := strings.Cut(it.why, " "); words[i+1] != word {
+		wanted := refused(it.errno, it.why)
+		if words[i+1] != wanted.Word {
 			t.Errorf("refusal %d is %s", i+1, words[i+1])
 		}
 		table := open(t, it.pidMax)
 		play(t, table, it.before...)
 		err := it.call(table).err
 		var refusal Refusal
-		if !errors.As(err, &refusal) || refusal != (Refusal{it.errno, it.why}) || !errors.Is(err, it.errno) {
+		if !errors.As(err, &refusal) || refusal != wanted || !errors.Is(err, it.errno) {
 			t.Errorf("%s: %v", it.why, err)
 		}
 	}
@@ -259,7 +282,7 @@ func TestAFullTable(t *testing.T) {
 	}
 	play(t, table, "exit 5 0")
 	want(t, "wait", of(table.Wait(1, Any())), &Reaped{5, 0, false}, nil)
-	want(t, "fork", of(table.Fork(1, false)), Child{}, Refusal{syscall.EAGAIN, "no-number 0"})
+	want(t, "fork", of(table.Fork(1, false)), Child{}, refused(syscall.EAGAIN, "no-number 0"))
 	play(t, table, "exit 300 0", "wait 1 any")
 	want(t, "fork", of(table.Fork(1, false)), Child{300, 300}, nil)
 }

@@ -4,6 +4,7 @@ import dataclasses
 import os
 import pathlib
 import re
+import sys
 
 from release import elf
 from release.faults import Fault, run
@@ -76,10 +77,9 @@ class Built:
         """The least version of the C library that program and library need."""
         return max(elf.glibc_needed(self.program), elf.glibc_needed(self.shared))
 
-    def packages(self):
-        """The packages of Debian that program and library need."""
-        others = elf.packages_needed(self.program) | elf.packages_needed(self.shared)
-        return ", ".join([f"libc6 (>= {'.'.join(map(str, self.glibc()))})", *sorted(others)])
+    def packages(self, file):
+        """The packages of Debian that one of them needs."""
+        return ", ".join([f"libc6 (>= {'.'.join(map(str, elf.glibc_needed(file)))})", *sorted(elf.packages_needed(file))])
 
 
 def gate_text(source, given, reports):
@@ -90,6 +90,7 @@ def gate_text(source, given, reports):
     except Fault as fault:
         if not given.force:
             raise Fault(f"{fault}; with FORCE=1 the release is made and says that it is not proved") from None
+        print(f"packaging/dist: this release is not proved: {fault}", file=sys.stderr)
         return f"not proved\n\ncommit {source.commit}\n"
     texts = [(given.reports / name).read_text(encoding="utf-8") for name, _, _ in reports]
     return "What was proved and built.\n\n" + "\n".join(texts)

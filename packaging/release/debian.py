@@ -16,7 +16,8 @@ from release.tarball import add_pages
 PACKAGES = ("pidtab", "libpidtab1", "libpidtab-dev", "python3-pidtab")
 # Whose documents are those for users.
 MAIN = "pidtab"
-MAINTAINER = "The pidtab authors <pidtab@example.org>"
+# Without an address, as long as there is none that is read.
+MAINTAINER = "The pidtab authors"
 INTERPRETER = "#!/usr/bin/python3"
 FOLDERS = {"PREFIX": "/usr", "LIBDIR": "/usr/lib/x86_64-linux-gnu", "PYTHONDIR": "/usr/lib/python3/dist-packages"}
 # What `make install` installs and each package has in a place of its own.
@@ -30,7 +31,8 @@ class Maker:
     def __init__(self, source, built, work):
         self.source, self.built, self.work = source, built, work
         self.words = source.folder / "packaging/debian"
-        self.values = {"VERSION": source.version, "MAINTAINER": MAINTAINER, "NEEDED": built.packages()}
+        self.values = {"VERSION": source.debian_version, "MAINTAINER": MAINTAINER, "NEEDED": built.packages(built.program)}
+        self.values["LIBRARYNEEDS"] = built.packages(built.shared)
 
     def filled(self, name, **more):
         """The text of a file of packaging/debian with its values, and nothing where there is no such file."""
@@ -64,7 +66,7 @@ class Maker:
         add_control(self, name, tree)
         settle(tree, self.source.time)
         architecture = re.search(r"^Architecture: (.*)$", self.filled(f"{name}.control", SIZE=""), re.MULTILINE)[1]
-        file = parts / f"{name}_{self.source.version}_{architecture}.deb"
+        file = parts / f"{name}_{self.source.debian_version}_{architecture}.deb"
         times = {**os.environ, "SOURCE_DATE_EPOCH": str(self.source.time)}
         run(["dpkg-deb", "--root-owner-group", "-Zxz", "--threads-max=1", "--build", tree, file], env=times)
 
@@ -78,15 +80,15 @@ def copyright_of(maker):
 
 def changelog_of(maker):
     """The changes of this version in the form of Debian."""
-    wrapped = [textwrap.fill(it, 78, initial_indent="  * ", subsequent_indent="    ") for it in maker.source.changes(maker.source.version)]
-    head = f"pidtab ({maker.source.version}) unstable; urgency=medium"
-    foot = f" -- {MAINTAINER}  {formatdate(maker.source.time, localtime=False).replace('-0000', '+0000')}"
+    wrapped = [textwrap.fill(it, 78, initial_indent="  * ", subsequent_indent="    ") for it in maker.source.changes()]
+    head = f"pidtab ({maker.source.debian_version}) unstable; urgency=medium"
+    foot = f" -- {MAINTAINER} <>  {formatdate(maker.source.time, localtime=False).replace('-0000', '+0000')}"
     return "\n\n".join([head, "\n".join(wrapped), foot]) + "\n"
 
 
 def overrides_of(name, tree):
-    """What lintian need not say: program and library are as the gate has built them, so that their sums are those of GATE.txt."""
-    lines = []
+    """What lintian need not say: program and library are as the gate has built them, so that their sums are those of GATE.txt; and there is no address."""
+    lines = [f"{name}: {it} *" for it in ("malformed-contact Maintainer", "bogus-mail-host-in-debian-changelog")]
     for file in files_below(tree):
         kind = "" if file.is_symlink() else elf.kind_of(file)
         if kind == "archive":
@@ -106,9 +108,7 @@ def add_documents(maker, name, tree):
     write_text(folder / "copyright", copyright_of(maker))
     (folder / "changelog.gz").write_bytes(compress(changelog_of(maker).encode()))
     write_text(folder / "GATE.txt", maker.built.gate)
-    overrides = overrides_of(name, tree)
-    if overrides:
-        write_text(tree / "usr/share/lintian/overrides" / name, overrides)
+    write_text(tree / "usr/share/lintian/overrides" / name, overrides_of(name, tree))
 
 
 def compress_manuals(tree):
@@ -121,7 +121,7 @@ def compress_manuals(tree):
 def symbols_of(maker):
     """Which version of the package has each symbol: this one at least."""
     head = f"{SHARED} libpidtab1 #MINVER#\n* Build-Depends-Package: libpidtab-dev\n"
-    return head + "".join(f" {it} {maker.source.version}\n" for it in elf.exported(maker.built.shared))
+    return head + "".join(f" {it} {maker.source.debian_version}\n" for it in elf.exported(maker.built.shared))
 
 
 def add_control(maker, name, tree):

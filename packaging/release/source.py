@@ -7,6 +7,10 @@ import re
 from release.faults import Fault, run
 
 
+# Behind the version of what is not released.
+DEV = "-dev"
+
+
 @dataclasses.dataclass
 class Source:
     """A copy of the files of a commit."""
@@ -27,6 +31,16 @@ class Source:
         names = run(["git", "-C", top, "ls-tree", "-r", "--name-only", commit]).decode().splitlines()
         return cls(folder, commit, time, (folder / "VERSION").read_text().strip(), names)
 
+    @property
+    def is_released(self):
+        """Whether this is a release. What comes before one has its version, and `-dev` behind it."""
+        return not self.version.endswith(DEV)
+
+    @property
+    def debian_version(self):
+        """The version as Debian sorts it: what comes before a release is below it."""
+        return self.version.replace(DEV, "~dev")
+
     def read(self, name):
         return (self.folder / name).read_text(encoding="utf-8")
 
@@ -38,8 +52,9 @@ class Source:
         """The names of what users read: the pages with their pictures, and the examples."""
         return [it for it in self.names if it.startswith(("docs/", "examples/")) or re.fullmatch(r"[A-Z]+\.md|(?!\.).*/README\.md", it)]
 
-    def changes(self, version):
-        """What the change log says of a version, an entry each."""
+    def changes(self):
+        """What the change log says of this version, an entry each."""
+        version = self.version if self.is_released else "Unreleased"
         found = re.search(rf"^## \[{re.escape(version)}\].*\n((?:(?!## ).*\n?)*)", self.read("CHANGELOG.md"), re.MULTILINE)
         if not found:
             raise Fault(f"CHANGELOG.md has no version {version}")

@@ -23,8 +23,10 @@ from pidtab.faults import (
     ProgramFault,
     ProgramMissing,
     Refusal,
+    SaverEnded,
     SeatsTaken,
     TableClosed,
+    Unsaved,
 )
 from pidtab.history import Counts, Entry
 from pidtab.library import find_library
@@ -80,6 +82,7 @@ __all__ = [
     "ReplicaAsk",
     "Replicated",
     "Saved",
+    "SaverEnded",
     "Seat",
     "SeatsTaken",
     "Shared",
@@ -89,6 +92,7 @@ __all__ = [
     "Table",
     "TableClosed",
     "Task",
+    "Unsaved",
     "draw_list",
     "find_library",
     "find_program",

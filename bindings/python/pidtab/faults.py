@@ -19,6 +19,14 @@ class NotKept(LookupError):
     """The history has no entry with the ordinal: it was cut away, or there is no such call yet."""
 
 
+class SaverEnded(RuntimeError):
+    """The saver of a shared table has ended, and whether the call is saved is not known."""
+
+
+class Unsaved(RuntimeError):
+    """As many calls are recorded and not saved as the bound lets there be, and the saver has ended or failed, which is the cause. The call was not made."""
+
+
 class BadHistory(ValueError):
     """A file that is no saved history, or not the one that was written, or whose calls have other replies now.
 
@@ -88,9 +96,15 @@ class LibraryMissing(LibraryFault):
 
 
 class Refusal(OSError):
-    """A call that the table refused, with the kernel's errno and, as `why`, the word and the id that may stand behind it."""
+    """A call that the table refused, with the kernel's errno and, as `why`, the word and the id that may stand behind it.
+
+    `word` is the word alone, as "pids-limit", and `id` the number behind it: that of the namespace of a "no-number", and of the control group of a
+    "pids-limit". None has no id.
+    """
 
     why: str = ""
+    word: str = ""
+    id: int | None = None
 
 
 class ProcessLookupRefusal(Refusal, ProcessLookupError):
@@ -164,6 +178,8 @@ def refusal_of(number: int, line: str, why: str) -> Refusal:
     """The refusal with the errno, of the call on the line."""
     refusal = REFUSALS.get(number, Refusal)(number, f"{line}: {why}")
     refusal.why = why
+    refusal.word, _, id = why.partition(" ")
+    refusal.id = int(id) if id else None
     return refusal
 
 

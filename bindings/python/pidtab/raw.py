@@ -25,6 +25,7 @@ DIFFERS = 74
 DEVICE = 5
 NOT_SAVED = 8
 NOT_EMPTY = 17
+ENDED = 32
 TORN = 42
 WRONG_BYTE = 84
 OTHER_VERSION = 93
@@ -144,9 +145,9 @@ class PidtabEntry(ctypes.Structure):
 
 
 class PidtabShared(ctypes.Structure):
-    """Room for a table behind a lock, whose size is the platform's: it has some 80 bytes. While it is open it is never copied."""
+    """Room for a table behind a lock, whose size is the platform's: it has some 250 bytes. While it is open it is never copied."""
 
-    _fields_ = [("room", ctypes.c_uint64 * 32)]
+    _fields_ = [("room", ctypes.c_uint64 * 64)]
 
 
 class PidtabSavedHead(ctypes.Structure):
@@ -255,4 +256,8 @@ SAVED_FUNCTIONS: dict[str, Function] = {
     "pidtab_saved_load_shared": (U32, [SAVED, ctypes.c_int, SHARED, U64]),
     "pidtab_saved_trim": (U32, [SAVED]),
     "pidtab_saved_resume_shared": (U32, [SAVED, ctypes.c_int, SAVED_HEAD, SHARED, U64]),
+    "pidtab_saved_serve": (U32, [SAVED, SHARED, U64, ctypes.c_bool]),
+    "pidtab_saved_wait": (U32, [SHARED, U64]),
+    "pidtab_saved_bound": (None, [SHARED, U64]),
+    "pidtab_saved_end": (None, [SHARED]),
 }

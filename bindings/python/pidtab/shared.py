@@ -8,17 +8,20 @@ from collections.abc import Callable, Iterator, Sequence
 
 from pidtab.bounds import DEFAULT_PID_MAX, check_pid_max, check_range
 from pidtab.calls import Listed
-from pidtab.faults import NotKept, SeatsTaken, TableClosed
+from pidtab.faults import NotKept, SaverEnded, SeatsTaken, TableClosed, Unsaved
 from pidtab.history import Counts, Entry, read_entry
 from pidtab.library import call_later, find_library, load_shared
 from pidtab.native import Ask, NumberCalls, check_loaded, fault_of, head_of, read_written, text_bytes
 from pidtab.owner import TABLES, Owner
 from pidtab.raw import (
     AGAIN,
+    DEVICE,
     DONE,
+    ENDED,
     MOST_WORKERS,
     NOT_KEPT,
     OUT_OF_RANGE,
+    TORN,
     PidtabCall,
     PidtabEntry,
     PidtabFault,
@@ -36,6 +39,9 @@ NO_ORDINAL = GREATEST_NUMBER
 
 # How many entries are read in one go, while all other threads wait.
 BLOCK = 1024
+
+# What a call answers that the bound does not let be made: the status of the saver.
+OF_SAVER = (DEVICE, ENDED, NOT_KEPT, TORN)
 
 
 def close_shared(functions: ctypes.CDLL, at: PidtabShared, opened: Sequence[int], process: int) -> None:
@@ -115,10 +121,10 @@ class Seat(NumberCalls):
         return self.shared._stat(caller, pid, task)
 
     def _call(self, call: PidtabCall, reply: PidtabReply) -> int:
-        return self.shared._status("pidtab_shared_call", self.worker, call, reply, self._ordinal)
+        return self.shared._bounded("pidtab_shared_call", self.worker, call, reply, self._ordinal)
 
     def _line(self, line: bytes, room: "ctypes.Array[ctypes.c_char]", size: ctypes.c_size_t) -> int:
-        return self.shared._status("pidtab_shared_line", self.worker, line, len(line), room, len(room), size, self._ordinal)
+        return self.shared._bounded("pidtab_shared_line", self.worker, line, len(line), room, len(room), size, self._ordinal)
 
     def _list(self, room: "ctypes.Array[ctypes.c_char]", size: ctypes.c_size_t) -> int:
         return self.shared._list(room, size)
@@ -144,6 +150,8 @@ class Shared(Listed, Owner):
     _hold: Hold | None = None
     # None where it was neither loaded nor saved.
     _file: SavedFile | None = None
+    # Whether a thread saves, or may wait for one that does.
+    _has_saver = False
     # Whether it was made of the text of another table, so that its history does not begin with the root init.
     _goes_on = False
 
@@ -260,8 +268,10 @@ class Shared(Listed, Owner):
         TABLES.add(self)
 
     def close(self) -> None:
-        """Frees the table with its history. A second time nothing is done. Calls that other threads are in are made before."""
-        self._hold = self._file = None
+        """Frees the table with its history. A second time nothing is done. Calls that other threads are in are made before, and the saver ends."""
+        hold, self._hold, self._file = self._hold, None, None
+        if hold is not None and self._has_saver and not self._is_left():
+            hold.functions.pidtab_saved_end(hold.at)
 
     def dump(self) -> str:
         """All that there is to know of the table as it is now, as text (docs/SCRIPT.md). It has no history, and no workers.
@@ -295,6 +305,76 @@ class Shared(Listed, Owner):
             if sync:
                 file.sync()
             return file.told
+
+    def serve(self, path: FilePath, *, keep: int = 0, sync: bool = False) -> Saved:
+        """The saver, for a thread of its own: it saves what is recorded, and sleeps until more is, until `end_saving` or `close`. What the file has then.
+
+        With `sync` each turn ends with fdatasync(2), so one serves all that wait, and only behind it the calls of the turn count as saved. Where `keep`
+        is not 0, it cuts the history whenever that has so many entries: all others wait while the last calls are written and the table is copied.
+
+        It raises what `save` does, and `wait_saved` raises it too. It may be called again; but where fdatasync failed, nobody knows what the disk has:
+        load the file. Ctrl-C waits for its end.
+        """
+        keep = check_range("keep", keep, 0, GREATEST_NUMBER)
+        hold, path = self._with_saver(), os.path.abspath(os.fsdecode(path))
+        with self._saving:
+            file = self._file_at(path, hold.functions)
+            file.make_ready()
+            if sync:
+                file.sync()
+            file.check(int(hold.functions.pidtab_saved_serve(file.at, hold.at, keep, sync)), "serve")
+            return file.told
+
+    def wait_saved(self, ordinal: int) -> None:
+        """Waits until the call with the ordinal is saved: behind the `save`, the load or the turn of `serve` that has it, each of which wakes all that wait.
+
+        What the saver's last turn has raised is raised, at once until a turn does better: whether the call is saved is not known. `SaverEnded` is
+        raised behind `end_saving`. Before the first turn it waits, and Ctrl-C does so too.
+        """
+        ordinal = check_range("ordinal", ordinal, 0, GREATEST_NUMBER)
+        hold = self._with_saver()
+        status = int(hold.functions.pidtab_saved_wait(hold.at, ordinal))
+        if status != DONE:
+            raise self._saver_fault(status)
+
+    def bound_unsaved(self, most: int) -> None:
+        """Has at most so many calls be recorded and not saved from now on; 0, as at first, is any number.
+
+        A call of a seat that would be one more waits for the saver, as `wait_saved` does. Where the saver's last turn failed, or it has ended, it is
+        not made, and is an `Unsaved`. The thread that saves makes no call then.
+        """
+        most = check_range("most", most, 0, GREATEST_NUMBER)
+        hold = self._with_saver()
+        hold.functions.pidtab_saved_bound(hold.at, most)
+
+    def end_saving(self) -> None:
+        """Ends the saver, for good: `serve` saves what was recorded, and answers.
+
+        What waits, or comes to wait, for a call that is not saved is a `SaverEnded`. So it is called when no thread waits any more.
+        """
+        hold = self._check_open()
+        hold.functions.pidtab_saved_end(hold.at)
+
+    def _with_saver(self) -> Hold:
+        """The open table, of which a close ends the saver first."""
+        hold = self._check_open()
+        self._has_saver = True
+        return hold
+
+    def _saver_fault(self, status: int) -> Exception:
+        """What the saver raised; that the table is closed where that has ended it."""
+        self._check_open()
+        file = self._file
+        if status == ENDED or file is None:
+            return SaverEnded("the saver has ended, and whether the call is saved is not known")
+        return file.fault_of(status, "save")
+
+    def _bounded(self, name: str, *arguments: object) -> int:
+        """What a function answers that makes a call, where the bound lets it be made."""
+        status = self._status(name, *arguments)
+        if status in OF_SAVER:
+            raise Unsaved("too many calls are not saved, and the saver has ended or failed") from self._saver_fault(status)
+        return status
 
     def _file_at(self, path: str, functions: ctypes.CDLL) -> SavedFile:
         """The file at the path, which has a head."""

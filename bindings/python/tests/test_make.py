@@ -221,6 +221,7 @@ class LibraryFolders(Checkouts):
         super().setUp()
         for name in ("man", "bindings/c"):
             shutil.copytree(REPOSITORY / name, self.top / name)
+        shutil.copy(REPOSITORY / "VERSION", self.top)
         (self.top / "out").mkdir()
         for name in ("libpidtab.a", "libpidtab.so.1", "pidtab.h", "pidtab_shared.h", "pidtab_saved.h"):
             (self.top / "out" / name).touch()
@@ -233,6 +234,8 @@ class LibraryFolders(Checkouts):
         (described,) = (self.top / "system").rglob("pidtab.pc")
         text = described.read_text()
         self.assertTrue((described.parent.parent / "libpidtab.so").exists())
+        # As `pkg-config --modversion` has it.
+        self.assertIn(f"\nVersion: {(REPOSITORY / 'VERSION').read_text()}", text)
         self.make("uninstall", *words)
         self.assertEqual([it for it in (self.top / "system").rglob("*") if not it.is_dir()], [])
         return [str(described.relative_to(self.top / "system")), *text.splitlines()[:3]]

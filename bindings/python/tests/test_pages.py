@@ -32,6 +32,7 @@ EXAMPLES = [
     ("bindings/c/README.md", "## Example", "c"),
     ("bindings/c/README.md", "## A table as text", "c"),
     ("bindings/c/README.md", "## A saved history", "c"),
+    ("docs/SAVED.md", "## Answer once it is on the disk", "c"),
     ("bindings/rust/README.md", "## Example", "rust"),
     ("bindings/rust/README.md", "## A table for many threads, with its history", "rust"),
     ("bindings/rust/README.md", "## A saved history", "rust"),

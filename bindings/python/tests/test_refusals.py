@@ -88,6 +88,9 @@ class RefusalCases(Cases):
         assert isinstance(refusal, Refusal)
         self.assertEqual(refusal.errno, getattr(errno, answer.split(" ")[0]))
         self.assertEqual(refusal.why, why)
+        # The id of the two that have one.
+        id = {"no-number 0": 0, "pids-limit 1": 1}.get(why)
+        self.assertEqual((refusal.word, refusal.id), (answer.split(" ")[1], id))
         self.assertEqual(str(refusal), f"[Errno {refusal.errno}] {line}: {why}")
 
     def test_it_can_be_sent_to_another_process(self) -> None:
@@ -95,6 +98,7 @@ class RefusalCases(Cases):
             self.open().exit(1)
         copy = pickle.loads(pickle.dumps(raised.exception))
         self.assertEqual((type(copy), copy.errno, copy.why), (Refusal, errno.EBUSY, "root-init"))
+        self.assertEqual((copy.word, copy.id), ("root-init", None))
 
 
 class RefusalsByProgram(RefusalCases, ByProgram):

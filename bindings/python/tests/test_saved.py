@@ -513,6 +513,11 @@ class Misuse(Files):
                 shared.save(self.path)
             self.assertEqual((caught.exception.errno, self.path.stat().st_size), (errno.EFBIG, length if length >= BLOCK else 0))
             resource.setrlimit(resource.RLIMIT_FSIZE, limits)
+            if length >= BLOCK:
+                # As many calls count as the file loads.
+                assert shared.saved is not None
+                with Shared.load(self.path) as again:
+                    self.assertEqual(shared.saved.calls, again.counts().recorded)
             shared.save(self.path)
             self.assertEqual(self.path.read_bytes(), saved)
             shared.close()

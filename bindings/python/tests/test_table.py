@@ -40,7 +40,7 @@ PASSED: dict[str, type] = {
     "const void *line": ctypes.c_char_p, "const void *text": ctypes.c_char_p, "void *": raw.BYTES, "struct pidtab *": raw.TABLE, "struct pidtab_shared *": raw.SHARED,
     "struct pidtab_call *": raw.CALL, "struct pidtab_reply *": raw.REPLY, "struct pidtab_task *": raw.TASK, "struct pidtab_fault *": raw.FAULT,
     "struct pidtab_entry *": raw.ENTRIES, "size_t *": raw.SIZE,
-    "struct pidtab_saved *": raw.SAVED, "struct pidtab_saved_head *": raw.SAVED_HEAD, "int ": ctypes.c_int,
+    "struct pidtab_saved *": raw.SAVED, "struct pidtab_saved_head *": raw.SAVED_HEAD, "int ": ctypes.c_int, "bool ": ctypes.c_bool,
     "uint32_t *": raw.NUMBER_32, "uint64_t *": raw.NUMBER_64, "size_t ": raw.SIZE_T, "uint32_t ": raw.U32, "uint64_t ": raw.U64,
 }  # fmt: skip
 
@@ -83,7 +83,7 @@ class Header(unittest.TestCase):
 
     def test_the_enums(self) -> None:
         enums = [read_enum(name) for name in ("status", "record_status", "saved_status", "operation", "which", "use", "kind")]
-        self.assertEqual([len(enum) for enum in enums], [10, 3, 6, 19, 4, 3, 10])
+        self.assertEqual([len(enum) for enum in enums], [10, 3, 7, 19, 4, 3, 10])
         for word, number in [entry for enum in enums for entry in enum.items()]:
             self.assertEqual(getattr(raw, word), number, word)
 

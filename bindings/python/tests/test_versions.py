@@ -5,20 +5,23 @@ import unittest
 
 from tests.pages import read_page, section
 
-VERSION = r"(\d+\.\d+\.\d+)"
+VERSION = r"(\d+\.\d+\.\d+(?:-dev)?)"
 
 # Where the version is written beside the file VERSION.
 VERSIONS = {
-    "bindings/python/pyproject.toml": rf'^version = "{VERSION}"$',
+    "bindings/python/pyproject.toml": r'^version = "(.*)"$',
     "bindings/rust/Cargo.toml": rf'^version = "{VERSION}"$',
-    "README.md": rf"\bversion {VERSION}\b",
+    "README.md": rf"\bversion {VERSION}[ ,]",
 }
+
+# What Python's packages call what is not released.
+DEV = "-dev", ".dev0"
 
 # Where the number of the interface is written.
 INTERFACES = {
     "docs/STABLE.md": r"^- The \*interface\* is (\d+)\.",
     "bindings/c/pidtab.h": r"^#define PIDTAB_VERSION (\d+)$",
-    "bindings/c/pidtab.pc.in": r"^Version: (\d+)$",
+    "bindings/c/pidtab.pc.in": r"^interface=(\d+)$",
     "bindings/c/pidtab.map": r"^PIDTAB_(\d+) \{$",
     "bindings/python/pidtab/raw.py": r"^VERSION = (\d+)$",
     "bindings/rust/src/raw.rs": r"^pub\(crate\) const VERSION: u32 = (\d+);$",
@@ -57,13 +60,17 @@ class Versions(unittest.TestCase):
         self.assertRegex(version, rf"\A{VERSION}\n\Z")
         for page, pattern in VERSIONS.items():
             with self.subTest(page):
-                self.assertEqual(found(page, pattern), [version.strip()])
+                self.assertEqual([it.replace(DEV[1], DEV[0]) for it in found(page, pattern)], [version.strip()])
 
     def test_the_changes(self) -> None:
         heads = re.findall(r"^## (.*)$", read_page("CHANGELOG.md"), re.MULTILINE)
         self.assertEqual(heads[0], "[Unreleased]")
         self.assertRegex(heads[1], r"\A\[\d+\.\d+\.\d+\] - \d{4}-\d\d-\d\d\Z")
-        self.assertEqual(heads[1].split("]")[0], f"[{read_page('VERSION').strip()}")
+        released, version = heads[1].split("]")[0].strip("["), read_page("VERSION").strip()
+        if version.endswith("-dev"):
+            self.assertGreater(*([int(it) for it in name.removesuffix("-dev").split(".")] for name in (version, released)))
+        else:
+            self.assertEqual(released, version)
 
     def test_the_interface(self) -> None:
         (interface,) = found("docs/STABLE.md", INTERFACES["docs/STABLE.md"])

@@ -171,6 +171,9 @@ pub enum Error {
     Again,
     /// A reply is not the saved one.
     Differs,
+    /// As many calls are recorded and not saved as the bound lets there be, and the saver has failed or ended:
+    /// [`Shared::wait_saved`](crate::Shared::wait_saved) says why.
+    Unsaved,
 }
 
 impl Error {
@@ -207,6 +210,7 @@ impl fmt::Display for Error {
             Error::NotKept => to.write_str("no entry with the ordinal is kept"),
             Error::Again => to.write_str("another number of calls was recorded by now"),
             Error::Differs => to.write_str("a reply is not the saved one"),
+            Error::Unsaved => to.write_str("too many calls are not saved, and the saver has failed or ended"),
         }
     }
 }
@@ -225,6 +229,7 @@ impl From<Error> for io::Error {
             Error::NotKept => kind_of(raw::NOT_KEPT as i32),
             Error::Again => kind_of(raw::AGAIN as i32),
             Error::Differs => io::ErrorKind::InvalidData,
+            Error::Unsaved => io::ErrorKind::BrokenPipe,
             Error::Spent => io::ErrorKind::Other,
         };
         io::Error::new(kind, error)
@@ -275,6 +280,8 @@ pub enum LineError {
     Spent,
     /// As [`Error::Busy`].
     Busy,
+    /// As [`Error::Unsaved`].
+    Unsaved,
 }
 
 impl LineError {
@@ -291,6 +298,16 @@ impl LineError {
     }
 }
 
+impl LineError {
+    /// What a call was not made for, before its line was read.
+    pub(crate) fn of_bound(error: Error) -> LineError {
+        match error {
+            Error::Unsaved => LineError::Unsaved,
+            _ => LineError::Busy,
+        }
+    }
+}
+
 impl fmt::Display for LineError {
     fn fmt(&self, to: &mut fmt::Formatter<'_>) -> fmt::Result {
         to.write_str(match self {
@@ -299,6 +316,7 @@ impl fmt::Display for LineError {
             LineError::NoMemory => "no memory",
             LineError::Spent => "spent",
             LineError::Busy => "busy",
+            LineError::Unsaved => "too many calls are not saved, and the saver has failed or ended",
         })
     }
 }
@@ -313,6 +331,7 @@ impl From<LineError> for io::Error {
             LineError::NoMemory => io::ErrorKind::OutOfMemory,
             LineError::Spent => io::ErrorKind::Other,
             LineError::Busy => io::Error::from(Error::Busy).kind(),
+            LineError::Unsaved => io::ErrorKind::BrokenPipe,
         };
         io::Error::new(kind, error)
     }

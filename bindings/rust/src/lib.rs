@@ -73,19 +73,19 @@ pub struct Reaped {
 /// ```compile_fail,E0004
 /// use pidtab::Error::*;
 /// fn all(it: pidtab::Error) {
-///     match it { Refused { .. } | NoMemory | Spent | OutOfRange | Busy | NotKept | Again | Differs => {} }
+///     match it { Refused { .. } | NoMemory | Spent | OutOfRange | Busy | NotKept | Again | Differs | Unsaved => {} }
 /// }
 /// ```
 ///
 /// ```compile_fail,E0004
 /// use pidtab::LineError::*;
-/// fn all(it: pidtab::LineError) { match it { Empty | Bad | NoMemory | Spent | Busy => {} } }
+/// fn all(it: pidtab::LineError) { match it { Empty | Bad | NoMemory | Spent | Busy | Unsaved => {} } }
 /// ```
 ///
 /// ```compile_fail,E0004
 /// use pidtab::SavedFault::*;
 /// fn all(it: pidtab::SavedFault) {
-///     match it { Io(_) | Torn | NotSaved | OtherVersion | WrongByte | Settings | OtherTable | Table(_) => {} }
+///     match it { Io(_) | Torn | NotSaved | OtherVersion | WrongByte | Settings | OtherTable | Ended | Table(_) => {} }
 /// }
 /// ```
 ///

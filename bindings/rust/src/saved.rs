@@ -65,34 +65,61 @@ impl Saved {
                 Err(fault) => return Err(fault),
             }
         }
-        self.part = 0;
-        self.bytes += bytes.len() as u64;
         Ok(())
+    }
+
+    /// So many bytes of the part are whole, and the checksum goes so far.
+    fn count_whole(&mut self, size: usize, sum: u64) {
+        self.part -= size;
+        self.bytes += size as u64;
+        self.sum = sum;
+    }
+
+    /// Writes the entries below an ordinal, which are read a turn at a time.
+    fn write_up_to(
+        &mut self,
+        recorded: u64,
+        to: &mut impl Write,
+        mut read: impl FnMut(u64, &mut [raw::Entry]) -> Result<usize, Error>,
+    ) -> Result<(), SavedFault> {
+        let most = recorded.saturating_sub(self.calls).min(TURN as u64);
+        let mut room = vec![raw::Entry::blank(); most as usize];
+        while self.calls < recorded {
+            let count = read(self.calls, &mut room)?;
+            let mut entries = room[..count].chunks(BATCH);
+            entries.try_for_each(|it| self.write_entries(it, to))?;
+        }
+        Ok(to.flush()?)
     }
 
     fn write_head(&mut self, head: &raw::SavedHead, to: &mut impl Write) -> Result<(), SavedFault> {
         let (mut bytes, mut sum) = ([0; raw::SAVED_BLOCK], 0);
         let size = raw::put_head(head, &mut bytes, &mut sum).map_err(Error::of)?;
         self.write(&bytes[..size], to)?;
-        self.sum = sum;
+        self.count_whole(size, sum);
         Ok(())
     }
 
-    /// Writes the next entries. Behind a write that failed they are the same ones, and perhaps more, so the same bytes come first.
+    /// Writes the next entries, at most a batch. Behind a write that failed, what is whole counts, and the rest is the part: so the next write is
+    /// of the same entry, and perhaps more, and the same bytes come first.
     fn write_entries(
         &mut self,
         entries: &[raw::Entry],
         to: &mut impl Write,
     ) -> Result<(), SavedFault> {
         let mut bytes = [0; raw::SAVED_LONGEST * BATCH];
-        let (mut size, mut sum) = (0, self.sum);
-        for entry in entries {
-            size += raw::put_entry(entry, &mut bytes[size..], &mut sum).map_err(Error::of)?;
+        let mut ends = [(0, self.sum); BATCH + 1];
+        for (place, entry) in entries.iter().enumerate() {
+            let (at, mut sum) = ends[place];
+            let put = raw::put_entry(entry, &mut bytes[at..], &mut sum);
+            ends[place + 1] = (at + put.map_err(Error::of)?, sum);
         }
-        self.write(&bytes[..size], to)?;
-        self.calls += entries.len() as u64;
-        self.sum = sum;
-        Ok(())
+        let written = self.write(&bytes[..ends[entries.len()].0], to);
+        let ends = &ends[..=entries.len()];
+        let whole = ends.partition_point(|it| it.0 <= self.part) - 1;
+        self.count_whole(ends[whole].0, ends[whole].1);
+        self.calls += whole as u64;
+        Ok(written?)
     }
 
     /// What is behind the last whole call is left out.
@@ -111,13 +138,16 @@ impl Saved {
     }
 }
 
-/// How many entries are read under the lock at a time.
-const BATCH: usize = 16;
+/// How many entries are read under the lock at a time: a thread that saves has to wait for it among all that make calls.
+const TURN: usize = 512;
+
+/// How many are written at a time.
+const BATCH: usize = 64;
 
 impl Shared {
     /// Writes the calls that were recorded since, and perhaps some that are recorded meanwhile; to a new [`Saved`] the head comes first. So what
-    /// is saved is always the history up to one moment. Other threads make calls meanwhile: the lock is held for sixteen entries at a time, and
-    /// for no write. At the end it flushes the writer.
+    /// is saved is always the history up to one moment. Other threads make calls meanwhile: the lock is held while up to 512 entries are copied,
+    /// and for no write. At the end it flushes the writer, and wakes those in [`Shared::wait_saved`].
     ///
     /// ```
     /// use pidtab::{Calls, Saved, Shared};
@@ -142,7 +172,85 @@ impl Shared {
     /// has left out a torn end that is not trimmed; `Table(Busy)`.
     pub fn save<W: Write>(&self, saved: &mut Saved, mut to: W) -> Result<(), SavedError> {
         let done = self.save_on(saved, &mut to);
-        done.map_err(|fault| saved.error(fault))
+        self.told_of(saved, done)
+    }
+
+    /// The saver of a table that threads work on, in a thread of its own. It saves, sleeps until a call is recorded, and begins again, until
+    /// [`Shared::end_saving`]. Each turn ends with `sync`, as `File::sync_data`, so one sync serves all that wait: only behind it a turn's calls
+    /// count as saved. Where `keep` is not 0, it cuts the history whenever that has so many entries: all others wait while the last entries are
+    /// written and the table is copied.
+    ///
+    /// ```
+    /// use pidtab::{Calls, Error, Saved, Shared};
+    /// use std::thread;
+    ///
+    /// let shared = Shared::open(32768, 8)?;
+    /// let (mut saved, mut bytes) = (Saved::new(), Vec::new());
+    /// shared.bound_unsaved(4096);
+    /// thread::scope(|scope| {
+    ///     let saver = scope.spawn(|| shared.serve(&mut saved, &mut bytes, 0, || Ok(())));
+    ///     let mut seat = shared.seat()?;
+    ///     let child = seat.fork(1, false)?;
+    ///     // Here it is saved.
+    ///     shared.wait_saved(0)?;
+    ///     assert_eq!(child.number, 2);
+    ///     shared.end_saving();
+    ///     saver.join().expect("no panic")?;
+    ///     Ok::<(), std::io::Error>(())
+    /// })?;
+    /// assert_eq!(saved.calls(), 1);
+    /// # Ok::<(), std::io::Error>(())
+    /// ```
+    ///
+    /// # Errors
+    /// Those of [`Shared::save`], and `Io` of the sync. Who waits has them too. It may be called again; but behind a sync of a `File` that failed,
+    /// nobody knows what the disk has: load it.
+    pub fn serve<W: Write>(
+        &self,
+        saved: &mut Saved,
+        mut to: W,
+        keep: u64,
+        mut sync: impl FnMut() -> io::Result<()>,
+    ) -> Result<(), SavedError> {
+        let (mut has_ended, mut is_last) = (false, false);
+        // One turn more behind the end, for what was recorded before it.
+        while !is_last {
+            is_last = has_ended;
+            let mut done = self.save_on(saved, &mut to);
+            done = done.and_then(|()| self.cut_saved(saved, &mut to, keep));
+            done = done.and_then(|()| Ok(sync()?));
+            self.told_of(saved, done)?;
+            let ended = self.sleep_until_call(saved.calls);
+            has_ended = ended.map_err(|error| saved.error(error.into()))?;
+        }
+        Ok(())
+    }
+
+    /// Waits until the call with the ordinal is saved: behind the [`Shared::save`], the load or the turn of [`Shared::serve`] that has it. Each of
+    /// these wakes all that wait. It costs a lock, and a sleep where the call is not saved yet.
+    ///
+    /// # Errors
+    /// Those of the saver's last turn, at once until a turn does better: whether the call is saved is not known. `Ended`. Before the first turn it
+    /// waits.
+    pub fn wait_saved(&self, ordinal: u64) -> Result<(), SavedError> {
+        self.wait_told(ordinal)
+    }
+
+    /// From now on at most so many calls are recorded and not saved; 0, as at first, is any number. A call of a [`Seat`](crate::Seat) that would be
+    /// one more waits for the saver, as [`Shared::wait_saved`] does. Where the saver's last turn failed, or it has ended, it is not made, and is
+    /// [`Error::Unsaved`]. The thread that saves makes no call then, and calls under a lock wait for nobody.
+    pub fn bound_unsaved(&self, most: u64) {
+        self.tell(|saving| saving.most = most);
+    }
+
+    /// Ends the saver, for good: [`Shared::serve`] saves what was recorded, and returns. What waits, or comes to wait, for a call that is not saved
+    /// is `Ended`. So it is called when no thread waits any more.
+    pub fn end_saving(&self) {
+        self.tell(|saving| {
+            saving.has_ended = true;
+            saving.fault = Some(Saved::new().error(SavedFault::Ended));
+        });
+        self.wake_saver();
     }
 
     /// Makes a table of a saved history, which is read to its end. It is opened with the settings of the head, no seat is given, and each call
@@ -183,12 +291,40 @@ impl Shared {
         if saved.bytes == 0 {
             saved.write_head(&self.head, to)?;
         }
-        while saved.calls < counts.recorded {
-            let mut entries = [raw::Entry::blank(); BATCH];
-            let read = self.lock().read_numbers(saved.calls, &mut entries)?;
-            saved.write_entries(&entries[..read], to)?;
+        let read = |from, room: &mut [raw::Entry]| self.lock().read_numbers(from, room);
+        saved.write_up_to(counts.recorded, to, read)
+    }
+
+    /// Cuts the history where it is long enough, behind its last entries. Where there is no memory for that, it grows on.
+    fn cut_saved(
+        &self,
+        saved: &mut Saved,
+        to: &mut impl Write,
+        keep: u64,
+    ) -> Result<(), SavedFault> {
+        let mut record = self.lock();
+        let counts = record.counts()?;
+        if keep == 0 || counts.recorded - counts.first_kept < keep {
+            return Ok(());
         }
-        Ok(to.flush()?)
+        let read = |from, room: &mut [raw::Entry]| record.read_numbers(from, room);
+        saved.write_up_to(counts.recorded, to, read)?;
+        let _ = record.checkpoint();
+        Ok(())
+    }
+
+    /// Tells all that wait how far the saver is. What ended is not taken back.
+    fn told_of(&self, saved: &Saved, done: Result<(), SavedFault>) -> Result<(), SavedError> {
+        let done = done.map_err(|fault| saved.error(fault));
+        self.tell(|saving| {
+            if done.is_ok() {
+                saving.saved = saved.calls;
+            }
+            if !saving.has_ended {
+                saving.fault = done.as_ref().err().map(SavedError::again);
+            }
+        });
+        done
     }
 }
 
@@ -252,6 +388,7 @@ fn load_into(saved: &mut Saved, from: impl Read, keep: u64) -> Result<Shared, Sa
         saved.bytes += size as u64;
     }
     record.never_cut();
+    record.saving.saved = saved.calls;
     drop(record);
     Ok(shared)
 }
@@ -361,6 +498,16 @@ pub struct SavedError {
     pub fault: SavedFault,
 }
 
+impl SavedError {
+    /// The same for another thread.
+    pub(crate) fn again(&self) -> SavedError {
+        SavedError {
+            fault: self.fault.again(),
+            ..*self
+        }
+    }
+}
+
 /// What is the matter with a saved history. More faults may come.
 #[derive(Debug)]
 #[non_exhaustive]
@@ -379,6 +526,8 @@ pub enum SavedFault {
     Settings,
     /// The [`Saved`] is that of another table.
     OtherTable,
+    /// The saver has ended, and whether the call is saved is not known.
+    Ended,
     /// Of a load: `Differs` where the reply is not the saved one; `OutOfRange` where there is no such call or worker, `Spent`, `NoMemory`. Of
     /// a save: `NotKept` where the call was cut away before it was saved. `Busy`.
     Table(Error),
@@ -393,6 +542,24 @@ impl SavedFault {
             raw::WRONG_BYTE => SavedFault::WrongByte,
             raw::OUT_OF_RANGE => SavedFault::Settings,
             _ => unreachable!("the library answers the status {status}"),
+        }
+    }
+
+    /// The same for another thread. An error of the device is one of its number, or else of its kind and its words.
+    fn again(&self) -> SavedFault {
+        match self {
+            SavedFault::Io(error) => SavedFault::Io(match error.raw_os_error() {
+                Some(errno) => io::Error::from_raw_os_error(errno),
+                None => io::Error::new(error.kind(), error.to_string()),
+            }),
+            SavedFault::Torn => SavedFault::Torn,
+            SavedFault::NotSaved => SavedFault::NotSaved,
+            SavedFault::OtherVersion => SavedFault::OtherVersion,
+            SavedFault::WrongByte => SavedFault::WrongByte,
+            SavedFault::Settings => SavedFault::Settings,
+            SavedFault::OtherTable => SavedFault::OtherTable,
+            SavedFault::Ended => SavedFault::Ended,
+            SavedFault::Table(error) => SavedFault::Table(*error),
         }
     }
 }
@@ -419,6 +586,7 @@ impl fmt::Display for SavedFault {
             SavedFault::WrongByte => to.write_str("a byte is not the one that was written"),
             SavedFault::Settings => to.write_str("no table has the settings of the head"),
             SavedFault::OtherTable => to.write_str("what is saved is of another table"),
+            SavedFault::Ended => to.write_str("the saver has ended"),
             SavedFault::Table(error) => error.fmt(to),
         }
     }
@@ -454,6 +622,7 @@ impl From<SavedError> for io::Error {
             SavedFault::Io(fault) => return fault,
             SavedFault::Torn => io::ErrorKind::UnexpectedEof,
             SavedFault::OtherTable => io::ErrorKind::InvalidInput,
+            SavedFault::Ended => io::ErrorKind::BrokenPipe,
             SavedFault::Table(fault) => io::Error::from(fault).kind(),
             _ => io::ErrorKind::InvalidData,
         };

@@ -3,11 +3,13 @@
 //! The lock is std's and not that of `pidtab_shared.h`. A pthread mutex that its own thread takes again has no defined behaviour, and Rust has
 //! no name for its size.
 use crate::calls::sealed::Sealed;
-use crate::{raw, texts, Call, Calls, Error, LineError, Listing, ReplayError, Reply, TextError};
-use std::fmt;
+use crate::{
+    raw, texts, Call, Calls, Error, LineError, Listing, ReplayError, Reply, SavedError, TextError,
+};
 use std::ops::{Deref, DerefMut};
-use std::sync::atomic::{AtomicU32, AtomicU64, Ordering};
-use std::sync::{Mutex, MutexGuard, PoisonError};
+use std::sync::atomic::{AtomicBool, AtomicU32, AtomicU64, Ordering};
+use std::sync::{Condvar, LockResult, Mutex, MutexGuard, PoisonError};
+use std::{fmt, mem};
 
 /// A recorded call with its reply.
 #[derive(Clone, Debug, PartialEq, Eq, Hash)]
@@ -65,10 +67,7 @@ impl Options {
     /// Where the library that was linked has another interface than this crate is written for.
     pub fn open(self) -> Result<Shared, Error> {
         let raw = raw::Record::open(self.pid_max, self.first_stamp, self.workers);
-        let record = Record {
-            raw: raw.map_err(Error::of)?,
-            keep: self.keep,
-        };
+        let record = Record::of(raw.map_err(Error::of)?, self.keep);
         let head = raw::SavedHead {
             pid_max: self.pid_max,
             workers: self.workers,
@@ -110,6 +109,14 @@ static NEXT_NUMBER: AtomicU64 = AtomicU64::new(1);
 /// A thread that panics harms no other: each function of the record ends first, and the lock is given back.
 pub struct Shared {
     record: Mutex<Record>,
+    /// Who goes before the calls of other threads, and whether that waits for the lock: std's lock is for whoever comes first when it is free,
+    /// which is a busy thread that has just given it back. So each thread makes one more call at most before it waits here too.
+    gate: Mutex<()>,
+    is_awaited: AtomicBool,
+    /// A saver has told how far it is.
+    told: Condvar,
+    /// A call was recorded while a saver slept.
+    recorded: Condvar,
     pub(crate) head: raw::SavedHead,
     /// Whether it was made of the text of another table, so that its history does not begin with the root init alone.
     pub(crate) goes_on: bool,
@@ -122,6 +129,10 @@ impl Shared {
     fn of(record: Record, head: raw::SavedHead, goes_on: bool) -> Shared {
         Shared {
             record: Mutex::new(record),
+            gate: Mutex::new(()),
+            is_awaited: AtomicBool::new(false),
+            told: Condvar::new(),
+            recorded: Condvar::new(),
             head,
             goes_on,
             number: NEXT_NUMBER.fetch_add(1, Ordering::Relaxed),
@@ -168,7 +179,7 @@ impl Shared {
             workers: counts.len() as u32,
             first_stamp: stamp - counts.iter().sum::<u64>(),
         };
-        Ok(Shared::of(Record { raw, keep }, head, true))
+        Ok(Shared::of(Record::of(raw, keep), head, true))
     }
 
     /// As [`Record::dump`]: all that there is to know of the present table, as text.
@@ -236,10 +247,77 @@ impl Shared {
     ///
     /// This thread calls no function of this `Shared` or of its seats meanwhile: it would wait for itself for ever, or panic. [`Seat::lock`]
     /// is the guard with which calls are made.
+    ///
+    /// It goes before the calls of busy threads: each makes one more at most.
     pub fn lock(&self) -> Locked<'_> {
-        // A panic cannot leave a record half written: its functions are the library's, and each ends before this crate goes on.
-        let record = self.record.lock().unwrap_or_else(PoisonError::into_inner);
-        Locked { record }
+        let _first = whole(self.gate.lock());
+        self.is_awaited.store(true, Ordering::Relaxed);
+        let record = whole(self.record.lock());
+        self.is_awaited.store(false, Ordering::Relaxed);
+        self.locked(record)
+    }
+
+    /// The lock for a call or a query, which lets those go before that are no calls.
+    fn lock_for_call(&self) -> Locked<'_> {
+        if self.is_awaited.load(Ordering::Relaxed) {
+            drop(whole(self.gate.lock()));
+        }
+        self.locked(whole(self.record.lock()))
+    }
+
+    fn locked<'a>(&'a self, record: MutexGuard<'a, Record>) -> Locked<'a> {
+        Locked {
+            record: Some(record),
+            shared: self,
+        }
+    }
+
+    /// The lock for a call that keeps the bound: it waits until the saver is near enough.
+    fn lock_in_bound(&self) -> Result<Locked<'_>, Error> {
+        let mut locked = self.lock_for_call();
+        while locked.is_too_far()? {
+            if locked.saving.fault.is_some() {
+                return Err(Error::Unsaved);
+            }
+            locked.wait(&self.told);
+        }
+        Ok(locked)
+    }
+
+    /// Waits until a saver tells that the call with the ordinal is saved, or why not.
+    pub(crate) fn wait_told(&self, ordinal: u64) -> Result<(), SavedError> {
+        let mut locked = self.lock();
+        loop {
+            let saving = &locked.saving;
+            if saving.saved > ordinal {
+                return Ok(());
+            }
+            if let Some(fault) = &saving.fault {
+                return Err(fault.again());
+            }
+            locked.wait(&self.told);
+        }
+    }
+
+    /// Has those that wait for the saver look again at what is changed.
+    pub(crate) fn tell(&self, change: impl FnOnce(&mut Saving)) {
+        change(&mut self.lock().saving);
+        self.told.notify_all();
+    }
+
+    /// Sleeps until a call is recorded that is not among so many. Whether the saver has ended.
+    pub(crate) fn sleep_until_call(&self, calls: u64) -> Result<bool, Error> {
+        let mut locked = self.lock();
+        while !locked.saving.has_ended && locked.counts()?.recorded <= calls {
+            locked.saving.sleeps = true;
+            locked.wait(&self.recorded);
+        }
+        Ok(locked.saving.has_ended)
+    }
+
+    /// Wakes a saver that sleeps.
+    pub(crate) fn wake_saver(&self) {
+        self.recorded.notify_all();
     }
 
     /// As [`Record::ask`]: answers a query, which is no call.
@@ -247,7 +325,7 @@ impl Shared {
     /// # Errors
     /// `OutOfRange` for a call that is no query, `Busy`.
     pub fn ask(&self, query: Call) -> Result<Reply, Error> {
-        self.lock().ask(query)
+        self.lock_for_call().ask(query)
     }
 
     /// As [`Record::counts`]: how far the history goes.
@@ -337,16 +415,52 @@ impl fmt::Debug for Shared {
     }
 }
 
+/// What was locked. A panic cannot leave a record half written: its functions are the library's, and each ends before this crate goes on.
+fn whole<T>(locked: LockResult<T>) -> T {
+    locked.unwrap_or_else(PoisonError::into_inner)
+}
+
+/// How far the saver of a [`Shared`] is, as it has told.
+#[derive(Default)]
+pub(crate) struct Saving {
+    /// So many calls are saved.
+    pub(crate) saved: u64,
+    /// As many may be recorded and not saved; 0: any number.
+    pub(crate) most: u64,
+    /// Why the saver's last turn failed, or that it has ended.
+    pub(crate) fault: Option<SavedError>,
+    pub(crate) has_ended: bool,
+    /// A saver waits for a call.
+    sleeps: bool,
+    /// A call was recorded meanwhile.
+    wakes: bool,
+}
+
 /// A table with its history, while its lock is held: what a [`Locked`] and a [`Turn`] lend.
 pub struct Record {
     raw: raw::Record,
     keep: u64,
+    pub(crate) saving: Saving,
 }
 
 /// How many entries go to the library, or come from it, at a time.
 const BATCH: usize = 64;
 
 impl Record {
+    fn of(raw: raw::Record, keep: u64) -> Record {
+        Record {
+            raw,
+            keep,
+            saving: Saving::default(),
+        }
+    }
+
+    /// Whether as many calls are recorded and not saved as the bound lets there be.
+    fn is_too_far(&mut self) -> Result<bool, Error> {
+        let most = self.saving.most;
+        Ok(most != 0 && self.counts()?.recorded.saturating_sub(self.saving.saved) >= most)
+    }
+
     /// Answers a query as its call would be answered, refusals too. It is no call: nothing changes, and it is not recorded. It takes no memory.
     ///
     /// A query is a `Getpid`, `Getppid`, `Getpgid`, `Getsid`, `Nspid`, `Next` or `Count`.
@@ -500,7 +614,7 @@ impl Record {
     pub(crate) fn make_again(&mut self, saved: &[raw::Entry]) -> Result<(), ReplayError> {
         let mut place = 0;
         let status = self.raw.replay(saved, &mut place);
-        self.cut_where_long();
+        self.after_call();
         Error::unless_done(status).map_err(|error| ReplayError { place, error })
     }
 
@@ -514,7 +628,7 @@ impl Record {
         let mut reply = raw::Reply::BLANK;
         let made = self.raw.call(worker, &call.numbers(), &mut reply);
         let ordinal = made.map_err(Error::of)?;
-        self.cut_where_long();
+        self.after_call();
         Ok((Reply::of(&reply), ordinal))
     }
 
@@ -523,8 +637,14 @@ impl Record {
         let mut ordinal = 0;
         let answer =
             texts::answer(|room, size| self.raw.line(worker, line, room, size, &mut ordinal))?;
-        self.cut_where_long();
+        self.after_call();
         Ok((answer, ordinal))
+    }
+
+    /// A saver that sleeps is woken when the lock is given back.
+    fn after_call(&mut self) {
+        self.saving.wakes |= mem::take(&mut self.saving.sleeps);
+        self.cut_where_long();
     }
 
     /// Cuts a history that is to cut itself, where it is long enough. A cut that finds no memory is tried again behind the next call.
@@ -556,20 +676,39 @@ impl fmt::Debug for Record {
 /// ```
 #[derive(Debug)]
 pub struct Locked<'a> {
-    record: MutexGuard<'a, Record>,
+    // None only while this thread waits, and amid the drop.
+    record: Option<MutexGuard<'a, Record>>,
+    shared: &'a Shared,
+}
+
+impl Locked<'_> {
+    /// Gives the lock back until the condition is told.
+    fn wait(&mut self, until: &Condvar) {
+        self.record = self.record.take().map(|it| whole(until.wait(it)));
+    }
+}
+
+impl Drop for Locked<'_> {
+    fn drop(&mut self) {
+        let wakes = mem::take(&mut self.saving.wakes);
+        self.record = None;
+        if wakes {
+            self.shared.wake_saver();
+        }
+    }
 }
 
 impl Deref for Locked<'_> {
     type Target = Record;
 
     fn deref(&self) -> &Record {
-        &self.record
+        self.record.as_ref().expect("the lock")
     }
 }
 
 impl DerefMut for Locked<'_> {
     fn deref_mut(&mut self) -> &mut Record {
-        &mut self.record
+        self.record.as_mut().expect("the lock")
     }
 }
 
@@ -610,18 +749,25 @@ impl Seat<'_> {
     /// As [`Table::line`](crate::Table::line): makes the call on a line of the script language, without its newline.
     ///
     /// # Errors
-    /// `Empty`, `Bad`; `NoMemory` for any call, `Spent`, `Busy`.
+    /// `Empty`, `Bad`; `NoMemory` for any call, `Spent`, `Busy`, `Unsaved`.
     pub fn line(&mut self, line: impl AsRef<[u8]>) -> Result<String, LineError> {
-        self.lock().line(line)
+        let locked = self.shared.lock_in_bound();
+        let locked = locked.map_err(LineError::of_bound)?;
+        self.turn(locked).line(line)
     }
 
     /// The lock, for several calls in one go: none of another worker comes between them. All others wait while the guard lives.
     ///
     /// This thread calls no function of the `Shared` or of another seat meanwhile: it would wait for itself for ever, or panic. The guard has
-    /// the functions of the record.
+    /// the functions of the record. Its calls wait for no saver.
     pub fn lock(&mut self) -> Turn<'_> {
+        let locked = self.shared.lock();
+        self.turn(locked)
+    }
+
+    fn turn<'b>(&'b mut self, locked: Locked<'b>) -> Turn<'b> {
         Turn {
-            locked: self.shared.lock(),
+            locked,
             worker: self.worker,
             ordinal: &mut self.ordinal,
         }
@@ -632,7 +778,8 @@ impl Sealed for Seat<'_> {}
 
 impl Calls for Seat<'_> {
     fn call(&mut self, call: Call) -> Result<Reply, Error> {
-        self.lock().call(call)
+        let locked = self.shared.lock_in_bound()?;
+        self.turn(locked).call(call)
     }
 }
 

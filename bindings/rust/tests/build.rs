@@ -78,8 +78,11 @@ fn warns(copy: &Copy, words: &[&str], lib_dir: &str, folder: &str) {
     let told = said(&done);
     assert!(done.status.success(), "{words:?}: {told}");
     assert!(
-        told.contains("warning: pidtab@0.1.0: no library in ")
-            && told.contains("build it with `make lib`"),
+        told.contains(concat!(
+            "warning: pidtab@",
+            env!("CARGO_PKG_VERSION"),
+            ": no library in "
+        )) && told.contains("build it with `make lib`"),
         "{told}"
     );
     assert!(told.contains(folder), "{told}");

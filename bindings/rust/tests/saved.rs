@@ -532,12 +532,15 @@ fn is_of_the_device(fault: &SavedError) -> bool {
 #[test]
 fn a_writer_that_fails_after_each_byte() {
     let (shared, bytes) = whole();
+    let places = places(&bytes);
     for length in 0..bytes.len() {
         let (mut file, mut saved) = (Vec::new(), Saved::new());
         let failed = shared.save(&mut saved, Device::new(&mut file, length));
         let failed = failed.expect_err("a fault");
         assert!(is_of_the_device(&failed) && failed.bytes == saved.bytes());
         assert_eq!(file, &bytes[..length]);
+        let whole = places.iter().filter(|it| **it <= length).count();
+        assert_eq!(saved.calls() as usize, whole.saturating_sub(1));
         save(&shared, &mut saved, Device::new(&mut file, usize::MAX));
         assert!(file == bytes && facts(&saved).1 == bytes.len() as u64);
     }

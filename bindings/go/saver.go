@@ -1,0 +1,202 @@
+package pidtab
+
+// #include <pidtab_saved.h>
+import "C"
+
+import (
+	"io"
+	"sync"
+	"sync/atomic"
+)
+
+// A turnLock is a mutex of which whoever calls Lock is before those that call LockForCall: each of these has it once more at most. A sync.Mutex alone
+// is for whoever comes first when it is free, which is a goroutine that has just given it back; only after a millisecond it is for one that waits.
+type turnLock struct {
+	lock, gate sync.Mutex
+	isAwaited  atomic.Bool // somebody at the gate waits for the lock
+}
+
+// Lock locks before the calls.
+func (it *turnLock) Lock() {
+	it.gate.Lock()
+	it.isAwaited.Store(true)
+	it.lock.Lock()
+	it.isAwaited.Store(false)
+	it.gate.Unlock()
+}
+
+// LockForCall locks for a call.
+func (it *turnLock) LockForCall() {
+	if it.isAwaited.Load() {
+		it.gate.Lock()
+		it.gate.Unlock()
+	}
+	it.lock.Lock()
+}
+
+// Unlock unlocks.
+func (it *turnLock) Unlock() {
+	it.lock.Unlock()
+}
+
+// A saving is how far the saver of a table is, as it has told. The lock of the record guards it.
+type saving struct {
+	told, recorded sync.Cond // the saver has told; a call was recorded while it slept
+	saved, most    uint64    // so many calls are saved; as many may be recorded and not saved, or 0 for any number
+	fault          error     // of the saver's last turn, or ErrEnded
+	hasEnded       bool
+	sleeps         bool // the saver waits for a call
+}
+
+// Serve is the saver of a table that goroutines work on, in a goroutine of its own. It does what Save does, sleeps until a call is recorded, and
+// begins again, until EndSaving. Each turn ends with sync, as an *os.File's Sync, if it is not nil: so one sync serves all that wait, and only behind
+// it a turn's calls count as saved. Where keep is not 0, it cuts the history whenever that has so many entries: all others wait while the last entries
+// are written and the table is copied.
+//
+// The errors are those of Save, and that of sync in a SavedError. WaitSaved answers them too. Serve may be called again; but behind a Sync of a file
+// that failed, nobody knows what the disk has: load it.
+func (shared *Shared) Serve(to io.Writer, saved *Saved, keep uint64, sync func() error) error {
+	if to == nil || saved == nil {
+		return SavedError{Err: ErrNil}
+	}
+	// One turn more behind the end, for what was recorded before it.
+	for isLast, hasEnded := false, false; !isLast; {
+		isLast = hasEnded
+		err := shared.serveOnce(to, saved, keep, sync)
+		if err == nil {
+			hasEnded, err = shared.held().sleepUntilCall(saved)
+		}
+		if err != nil {
+			return err
+		}
+	}
+	return nil
+}
+
+// WaitSaved waits until the call with the ordinal is saved: behind the Save, the load or the turn of Serve that has it. Each of these wakes all that
+// wait. It costs a lock, and a sleep where the call is not saved yet.
+//
+// An error is that of the saver's last turn, at once until a turn does better: whether the call is saved is not known. ErrEnded behind EndSaving, and
+// ErrClosed behind Close. Before the first turn it waits.
+func (shared *Shared) WaitSaved(ordinal uint64) error {
+	held := shared.held()
+	held.lock.Lock()
+	defer held.lock.Unlock()
+	for held.raw.is_open && held.saving.saved <= ordinal {
+		if held.saving.fault != nil {
+			return held.saving.fault
+		}
+		held.saving.told.Wait()
+	}
+	if !held.raw.is_open {
+		return ErrClosed
+	}
+	return nil
+}
+
+// BoundUnsaved has at most so many calls be recorded and not saved from now on; 0, as at first, is any number. A call of a seat that would be one
+// more waits for the saver, as WaitSaved does. Where the saver's last turn failed, or it has ended, it is not made, and answers ErrUnsaved. The
+// goroutine that saves makes no call then.
+func (shared *Shared) BoundUnsaved(most uint64) {
+	shared.held().change(func(saving *saving) { saving.most = most })
+}
+
+// EndSaving ends the saver, for good: Serve saves what was recorded, and returns. What waits, or comes to wait, for a call that is not saved is
+// ErrEnded. So it is called when nobody waits any more.
+func (shared *Shared) EndSaving() {
+	shared.held().change(func(saving *saving) { saving.hasEnded, saving.fault = true, ErrEnded })
+}
+
+// serveOnce is one turn of the saver.
+func (shared *Shared) serveOnce(to io.Writer, saved *Saved, keep uint64, sync func() error) error {
+	saved.lock.Lock()
+	defer saved.lock.Unlock()
+	err := shared.save(to, saved)
+	if err == nil {
+		err = shared.held().cutSaved(to, saved, keep)
+	}
+	if err == nil && sync != nil {
+		err = sync()
+	}
+	return shared.held().tell(saved, err)
+}
+
+// cutSaved cuts the history where it is long enough, behind its last entries. Where there is no memory for that, it grows on.
+func (held *heldRecord) cutSaved(to io.Writer, saved *Saved, keep uint64) error {
+	held.lock.Lock()
+	defer held.lock.Unlock()
+	counts, err := held.counts()
+	if err != nil || keep == 0 || counts.Recorded-counts.FirstKept < keep {
+		return err
+	}
+	if err := saved.writeUpTo(counts.Recorded, to, held.read); err != nil {
+		return err
+	}
+	C.pidtab_record_checkpoint(held.raw)
+	return nil
+}
+
+// tell tells all that wait how far the saver is, and answers its fault. What ended is not taken back.
+func (held *heldRecord) tell(saved *Saved, err error) error {
+	fault := saved.at(err)
+	held.change(func(saving *saving) {
+		if fault == nil {
+			saving.saved = saved.calls
+		}
+		if !saving.hasEnded {
+			saving.fault = fault
+		}
+	})
+	return fault
+}
+
+// change changes what all that wait, and the saver, look at again then.
+func (held *heldRecord) change(do func(*saving)) {
+	held.lock.Lock()
+	defer held.lock.Unlock()
+	do(&held.saving)
+	held.saving.told.Broadcast()
+	held.saving.recorded.Broadcast()
+}
+
+// sleepUntilCall sleeps until a call is recorded that is not saved. Whether the saver has ended.
+func (held *heldRecord) sleepUntilCall(saved *Saved) (bool, error) {
+	calls, bytes := saved.Calls(), saved.Bytes()
+	held.lock.Lock()
+	defer held.lock.Unlock()
+	for !held.saving.hasEnded {
+		counts, err := held.counts()
+		if err != nil {
+			return false, SavedError{calls, bytes, err}
+		}
+		if counts.Recorded > calls {
+			return false, nil
+		}
+		held.saving.sleeps = true
+		held.saving.recorded.Wait()
+	}
+	return true, nil
+}
+
+// wakeSaver has a saver that sleeps look at what was recorded. The lock is held.
+func (held *heldRecord) wakeSaver() {
+	if held.saving.sleeps {
+		held.saving.sleeps = false
+		held.saving.recorded.Broadcast()
+	}
+}
+
+// waitForSaver waits until the saver is near enough, where there is a bound: the status of a call that is not to be made. The lock is held.
+func (held *heldRecord) waitForSaver() C.uint32_t {
+	for held.saving.most != 0 {
+		counts, err := held.counts()
+		if err != nil || counts.Recorded < held.saving.saved || counts.Recorded-held.saving.saved < held.saving.most {
+			break
+		}
+		if held.saving.fault != nil {
+			return C.PIDTAB_ENDED
+		}
+		held.saving.told.Wait()
+	}
+	return C.PIDTAB_DONE
+}

@@ -1,0 +1,204 @@
+package pidtab
+
+import (
+	"bytes"
+	"errors"
+	"runtime"
+	"sync"
+	"sync/atomic"
+	"syscall"
+	"testing"
+)
+
+const (
+	savers    = 8
+	savedEach = 300
+)
+
+// A disk counts the bytes that it was given, and those that were there at the last sync.
+type disk struct{ given, synced atomic.Uint64 }
+
+func (it *disk) Write(from []byte) (int, error) {
+	it.given.Add(uint64(len(from)))
+	return len(from), nil
+}
+
+func (it *disk) sync() error {
+	it.synced.Store(it.given.Load())
+	return nil
+}
+
+// calls is how many calls survive: each of them is one block.
+func (it *disk) calls() uint64 {
+	if blocks := it.synced.Load() / blockSize; blocks > 0 {
+		return blocks - 1
+	}
+	return 0
+}
+
+// A brokenDisk takes nothing.
+type brokenDisk struct{}
+
+func (brokenDisk) Write([]byte) (int, error) { return 0, syscall.ENOSPC }
+
+// ask makes a call that is one block: its ordinal.
+func ask(t *testing.T, seat *Seat) uint64 {
+	t.Helper()
+	if _, err := seat.Getpid(1); err != nil {
+		t.Error(err)
+	}
+	ordinal, _ := seat.Ordinal()
+	return ordinal
+}
+
+// besideTheSaver has goroutines do it at once, and the saver end behind them: how many calls are saved.
+func besideTheSaver(t *testing.T, shared *Shared, to *disk, keep uint64, does func(*Seat)) uint64 {
+	t.Helper()
+	saved, ended, busy := new(Saved), make(chan error, 1), new(sync.WaitGroup)
+	go func() { ended <- shared.Serve(to, saved, keep, to.sync) }()
+	for i := 0; i < savers; i++ {
+		seat := seatOf(t, shared)
+		busy.Add(1)
+		go func() {
+			defer busy.Done()
+			for i := 0; i < savedEach; i++ {
+				does(seat)
+			}
+		}()
+	}
+	busy.Wait()
+	shared.EndSaving()
+	want(t, "the saver", only(<-ended), nil, nil)
+	return saved.Calls()
+}
+
+// Each call is behind a sync when it is answered. No goroutine has more than one that is not, so a cut leaves as many as there are goroutines.
+func TestEachAnswerIsOnTheDisk(t *testing.T) {
+	const keep = 256
+	shared, to := openShared(t, Settings{PidMax: 32768, Workers: savers}), new(disk)
+	calls := besideTheSaver(t, shared, to, keep, func(seat *Seat) {
+		ordinal := ask(t, seat)
+		if err := shared.WaitSaved(ordinal); err != nil || to.calls() <= ordinal {
+			t.Error(ordinal, to.calls(), err)
+		}
+	})
+	counts, _ := shared.Counts()
+	if calls != savers*savedEach || counts.Recorded != calls || counts.Recorded-counts.FirstKept >= keep+savers {
+		t.Error(calls, counts)
+	}
+}
+
+// A call was made when at most so many were not saved; by now more may be.
+func TestNeverTooFar(t *testing.T) {
+	const bound = 16
+	shared, to := openShared(t, Settings{PidMax: 32768, Workers: savers}), new(disk)
+	shared.BoundUnsaved(bound)
+	calls := besideTheSaver(t, shared, to, 0, func(seat *Seat) {
+		if ordinal := ask(t, seat); ordinal >= to.calls()+bound {
+			t.Error(ordinal, to.calls())
+		}
+	})
+	if calls != savers*savedEach {
+		t.Error(calls)
+	}
+}
+
+// What was loaded is saved.
+func TestWhatWasLoadedIsSaved(t *testing.T) {
+	again, _ := load(t, bytesOf(t, example(t)))
+	want(t, "the last", only(again.WaitSaved(2)), nil, nil)
+}
+
+// Who waits has the fault of the saver, at once, until a save does better; and what is too far is not made.
+func TestASaverThatFails(t *testing.T) {
+	shared, saved, to := openShared(t, Settings{PidMax: 32768, Workers: 1}), new(Saved), new(disk)
+	seat, waiter := seatOf(t, shared), make(chan error, 1)
+	shared.BoundUnsaved(1)
+	ask(t, seat)
+	go func() { waiter <- shared.WaitSaved(0) }()
+	for _, err := range []error{shared.Serve(brokenDisk{}, saved, 0, nil), <-waiter, shared.WaitSaved(0)} {
+		if fault := new(SavedError); !errors.Is(err, syscall.ENOSPC) || !errors.As(err, fault) {
+			t.Error(err)
+		}
+	}
+	want(t, "too far", of(seat.Getpid(1)), uint32(0), ErrUnsaved)
+	want(t, "too far", of(seat.Line("getpid 1")), "", ErrUnsaved)
+	want(t, "counts", of(shared.Counts()), Counts{0, 1}, nil)
+	// A sync that fails: the call is given to the disk, and counts as not saved.
+	err := shared.Serve(to, saved, 0, func() error { return syscall.EIO })
+	if !errors.Is(err, syscall.EIO) || saved.Calls() != 1 || !errors.Is(shared.WaitSaved(0), syscall.EIO) {
+		t.Error(err, saved.Calls())
+	}
+	save(t, shared, to, saved)
+	want(t, "saved", only(shared.WaitSaved(0)), nil, nil)
+	want(t, "the next", of(ask(t, seat), nil), uint64(1), nil)
+}
+
+// A saver that has ended has a turn yet, and then nobody waits for it.
+func TestASaverThatHasEnded(t *testing.T) {
+	shared, saved, file := openShared(t, Settings{PidMax: 32768, Workers: 1}), new(Saved), new(bytes.Buffer)
+	seat, waiter := seatOf(t, shared), make(chan error, 1)
+	shared.BoundUnsaved(1)
+	ask(t, seat)
+	go func() { waiter <- shared.WaitSaved(0) }()
+	shared.EndSaving()
+	want(t, "the waiter", only(<-waiter), nil, ErrEnded)
+	want(t, "too far", of(seat.Getpid(1)), uint32(0), ErrUnsaved)
+	want(t, "a turn", only(shared.Serve(file, saved, 0, nil)), nil, nil)
+	if saved.Calls() != 1 || file.Len() != 2*blockSize {
+		t.Error(saved.Calls(), file.Len())
+	}
+	want(t, "saved", only(shared.WaitSaved(0)), nil, nil)
+	want(t, "the next", only(shared.WaitSaved(1)), nil, ErrEnded)
+}
+
+// A table that is closed lets nobody wait.
+func TestASaverOfAClosedTable(t *testing.T) {
+	shared, ended, waiter := openShared(t, Settings{PidMax: 32768, Workers: 1}), make(chan error, 1), make(chan error, 1)
+	go func() { ended <- shared.Serve(new(disk), new(Saved), 0, nil) }()
+	go func() { waiter <- shared.WaitSaved(0) }()
+	shared.Close()
+	if err := <-ended; !errors.Is(err, ErrClosed) {
+		t.Error(err)
+	}
+	want(t, "the waiter", only(<-waiter), nil, ErrClosed)
+	want(t, "none", only(new(Shared).WaitSaved(0)), nil, ErrClosed)
+	want(t, "nil", only(shared.Serve(nil, nil, 0, nil)), nil, SavedError{Err: ErrNil})
+}
+
+// Each of the busy goroutines has the lock once more at most, and then waits until the other has had it.
+func TestBusyGoroutinesGiveWay(t *testing.T) {
+	var lock turnLock
+	var count int
+	var isOver atomic.Bool
+	var busy sync.WaitGroup
+	for i := 0; i < savers; i++ {
+		busy.Add(1)
+		go func() {
+			defer busy.Done()
+			for !isOver.Load() {
+				lock.LockForCall()
+				count++
+				lock.Unlock()
+			}
+		}()
+	}
+	for i := 0; i < 200; i++ {
+		lock.Lock()
+		before, found := count, make(chan int)
+		go func() {
+			lock.Lock()
+			defer lock.Unlock()
+			found <- count
+		}()
+		for !lock.isAwaited.Load() {
+			runtime.Gosched()
+		}
+		lock.Unlock()
+		if calls := <-found - before; calls > savers {
+			t.Errorf("%d calls came before", calls)
+		}
+	}
+	isOver.Store(true)
+	busy.Wait()
+}

@@ -1,0 +1,246 @@
+//! The saver of a table that threads work on: who waits for it, whom it holds up, and that busy threads let it have the lock.
+use pidtab::{Calls, Error, LineError, Saved, SavedFault, Seat, Shared};
+use std::fs;
+use std::io::{self, Write};
+use std::sync::atomic::{AtomicBool, AtomicU32, AtomicU64, Ordering};
+use std::thread;
+
+const THREADS: u32 = 8;
+const EACH: u64 = 300;
+const KEEP: u64 = 256;
+const BOUND: u64 = 16;
+const BLOCK: u64 = 48;
+
+/// A disk that counts what it was given, and what of that was there at the last sync.
+#[derive(Default)]
+struct Disk {
+    given: AtomicU64,
+    synced: AtomicU64,
+}
+
+impl Disk {
+    fn sync(&self) -> io::Result<()> {
+        let given = self.given.load(Ordering::SeqCst);
+        self.synced.store(given, Ordering::SeqCst);
+        Ok(())
+    }
+
+    /// How many calls survive: each of them is one block.
+    fn calls(&self) -> u64 {
+        (self.synced.load(Ordering::SeqCst) / BLOCK).saturating_sub(1)
+    }
+}
+
+impl Write for &Disk {
+    fn write(&mut self, bytes: &[u8]) -> io::Result<usize> {
+        self.given.fetch_add(bytes.len() as u64, Ordering::SeqCst);
+        Ok(bytes.len())
+    }
+
+    fn flush(&mut self) -> io::Result<()> {
+        Ok(())
+    }
+}
+
+/// A writer, or a sync, that fails.
+struct Broken;
+
+impl Write for Broken {
+    fn write(&mut self, _: &[u8]) -> io::Result<usize> {
+        Err(io::Error::from_raw_os_error(28))
+    }
+
+    fn flush(&mut self) -> io::Result<()> {
+        Ok(())
+    }
+}
+
+fn open() -> Shared {
+    Shared::open(32768, THREADS).expect("a table")
+}
+
+/// Makes a call that is one block: its ordinal.
+fn ask(seat: &mut Seat<'_>) -> u64 {
+    assert_eq!(seat.getpid(1), Ok(1));
+    seat.ordinal().expect("an ordinal")
+}
+
+/// The threads do it at once beside the saver, which ends behind them: how many calls are saved.
+fn beside_the_saver(shared: &Shared, disk: &Disk, keep: u64, does: impl Fn() + Sync) -> u64 {
+    let mut saved = Saved::new();
+    thread::scope(|scope| {
+        let saver = scope.spawn(|| shared.serve(&mut saved, disk, keep, || disk.sync()));
+        let works: Vec<_> = (0..THREADS).map(|_| scope.spawn(&does)).collect();
+        works
+            .into_iter()
+            .for_each(|it| it.join().expect("no panic"));
+        shared.end_saving();
+        saver.join().expect("no panic").expect("saved");
+    });
+    saved.calls()
+}
+
+/// Each call is behind a sync when it is answered. No thread has more than one that is not, so a cut leaves as many as there are threads.
+#[test]
+fn each_answer_is_on_the_disk() {
+    let (shared, disk) = (open(), Disk::default());
+    let calls = beside_the_saver(&shared, &disk, KEEP, || {
+        let mut seat = shared.seat().expect("a seat");
+        for _ in 0..EACH {
+            let ordinal = ask(&mut seat);
+            shared.wait_saved(ordinal).expect("saved");
+            assert!(disk.calls() > ordinal);
+        }
+    });
+    let counts = shared.counts().expect("counts");
+    assert_eq!((calls, counts.recorded), (u64::from(THREADS) * EACH, calls));
+    assert!(counts.recorded - counts.first_kept < KEEP + u64::from(THREADS));
+}
+
+/// A call was made when at most so many were not saved; by now more may be.
+#[test]
+fn never_too_far() {
+    let (shared, disk) = (open(), Disk::default());
+    shared.bound_unsaved(BOUND);
+    let calls = beside_the_saver(&shared, &disk, 0, || {
+        let mut seat = shared.seat().expect("a seat");
+        for _ in 0..EACH {
+            assert!(ask(&mut seat) < disk.calls() + BOUND);
+        }
+    });
+    assert_eq!(calls, u64::from(THREADS) * EACH);
+}
+
+/// What was loaded is saved.
+#[test]
+fn what_was_loaded() {
+    let (shared, mut bytes) = (open(), Vec::new());
+    ask(&mut shared.seat().expect("a seat"));
+    shared.save(&mut Saved::new(), &mut bytes).expect("saved");
+    let (again, _) = Shared::load(&bytes[..], 0).expect("a table");
+    again.wait_saved(0).expect("saved");
+}
+
+/// Who waits has the fault of the saver, at once, until a save does better; and what is too far is not made.
+#[test]
+fn a_saver_that_fails() {
+    let (shared, mut saved) = (open(), Saved::new());
+    let mut seat = shared.seat().expect("a seat");
+    shared.bound_unsaved(1);
+    ask(&mut seat);
+    let is_full =
+        |fault: &SavedFault| matches!(fault, SavedFault::Io(it) if it.raw_os_error() == Some(28));
+    thread::scope(|scope| {
+        let waiter = scope.spawn(|| shared.wait_saved(0));
+        let failed = shared.serve(&mut saved, Broken, 0, || Ok(()));
+        assert!(is_full(&failed.expect_err("a fault").fault));
+        assert!(is_full(
+            &waiter.join().expect("no panic").expect_err("a fault").fault
+        ));
+    });
+    assert!(is_full(&shared.wait_saved(0).expect_err("a fault").fault));
+    assert_eq!(seat.getpid(1), Err(Error::Unsaved));
+    assert_eq!(seat.line("getpid 1"), Err(LineError::Unsaved));
+    assert_eq!(
+        io::Error::from(Error::Unsaved).kind(),
+        io::ErrorKind::BrokenPipe
+    );
+    assert_eq!(shared.counts().expect("counts").recorded, 1);
+    // A sync that fails: the call is given to the disk, and counts as not saved.
+    let lost = || Err(io::Error::from_raw_os_error(5));
+    let disk = Disk::default();
+    assert!(shared.serve(&mut saved, &disk, 0, lost).is_err() && saved.calls() == 1);
+    assert!(shared.wait_saved(0).is_err() && disk.calls() == 0);
+    shared.save(&mut saved, &disk).expect("saved");
+    shared.wait_saved(0).expect("saved");
+    assert_eq!(ask(&mut seat), 1);
+}
+
+/// A saver that has ended has a turn yet, and then nobody waits for it.
+#[test]
+fn a_saver_that_has_ended() {
+    let (shared, mut saved, mut bytes) = (open(), Saved::new(), Vec::new());
+    let mut seat = shared.seat().expect("a seat");
+    shared.bound_unsaved(1);
+    ask(&mut seat);
+    thread::scope(|scope| {
+        let waiter = scope.spawn(|| shared.wait_saved(0));
+        shared.end_saving();
+        let ended = waiter.join().expect("no panic").expect_err("a fault");
+        assert!(matches!(ended.fault, SavedFault::Ended));
+        assert_eq!(io::Error::from(ended).kind(), io::ErrorKind::BrokenPipe);
+    });
+    assert_eq!(seat.getpid(1), Err(Error::Unsaved));
+    shared
+        .serve(&mut saved, &mut bytes, 0, || Ok(()))
+        .expect("saved");
+    assert_eq!((saved.calls(), bytes.len() as u64), (1, 2 * BLOCK));
+    shared.wait_saved(0).expect("saved");
+    assert!(matches!(
+        shared.wait_saved(1).expect_err("a fault").fault,
+        SavedFault::Ended
+    ));
+}
+
+/// Whether a thread sleeps, as /proc says; 0 is that of none yet.
+fn is_asleep(task: &AtomicU32) -> bool {
+    let path = format!("/proc/self/task/{}/stat", task.load(Ordering::SeqCst));
+    let state = |stat: String| stat.rsplit(") ").next().map(|it| it.starts_with('S'));
+    task.load(Ordering::SeqCst) != 0 && fs::read_to_string(path).ok().and_then(state) == Some(true)
+}
+
+/// Tells the number of this thread.
+fn tell_task(task: &AtomicU32) {
+    let stat = fs::read_to_string("/proc/thread-self/stat").expect("a thread");
+    let number = stat.split(' ').next().and_then(|it| it.parse().ok());
+    task.store(number.expect("a number"), Ordering::SeqCst);
+}
+
+fn wait_until(holds: impl Fn() -> bool) {
+    while !holds() {
+        thread::yield_now();
+    }
+}
+
+/// All busy threads wait for the lock, and behind them one that counts: how many calls come before it.
+fn calls_before_the_count(shared: &Shared, busy: &[AtomicU32]) -> u64 {
+    let counting = AtomicU32::new(0);
+    thread::scope(|scope| {
+        let mut record = shared.lock();
+        wait_until(|| busy.iter().all(is_asleep));
+        let before = record.counts().expect("counts").recorded;
+        let counter = scope.spawn(|| {
+            tell_task(&counting);
+            shared.counts().expect("counts").recorded
+        });
+        wait_until(|| is_asleep(&counting));
+        drop(record);
+        counter.join().expect("no panic") - before
+    })
+}
+
+/// Each of the busy threads makes one call at most, and then waits until the other has counted.
+#[test]
+fn goes_before_busy_threads() {
+    let (shared, is_over) = (open(), AtomicBool::new(false));
+    let busy: Vec<_> = (0..THREADS).map(|_| AtomicU32::new(0)).collect();
+    let most = thread::scope(|scope| {
+        for task in &busy {
+            let mut seat = shared.seat().expect("a seat");
+            let is_over = &is_over;
+            scope.spawn(move || {
+                tell_task(task);
+                while !is_over.load(Ordering::SeqCst) {
+                    ask(&mut seat);
+                }
+            });
+        }
+        wait_until(|| busy.iter().all(|it| it.load(Ordering::SeqCst) != 0));
+        let found = (0..50)
+            .map(|_| calls_before_the_count(&shared, &busy))
+            .max();
+        is_over.store(true, Ordering::SeqCst);
+        found
+    });
+    assert!(most <= Some(u64::from(THREADS)), "{most:?}");
+}
