@@ -280,6 +280,13 @@ impl Kept {
         self.table.stat(caller, pid)
     }
 
+    /// The table as it is now, to be read. It costs nothing.
+    pub fn present(&self) -> &PidTable
+        ensures { result.now ≡ self.now.present }
+    {
+        &self.table
+    }
+
     /// The present state. It costs a copy of the whole table.
     pub fn snapshot(&self) -> Result<Plain, AllocError>
         ensures { IfOk result (Shows self.now.present) }

@@ -201,6 +201,13 @@ impl<L: Ledger, const N: usize> Record<L, N> {
         self.kept.controls()
     }
 
+    /// The table as it is now, to be read. It costs nothing.
+    pub fn present(&self) -> &PidTable
+        ensures { result.now ≡ self.now.present }
+    {
+        self.kept.present()
+    }
+
     /// The present state. It costs a copy of the whole table.
     pub fn snapshot(&self) -> Result<Plain, AllocError>
         ensures { IfOk result (Shows self.now.present) }

@@ -5,11 +5,9 @@ use Rattle.std.specs.List.{flat_map}
 use Rattle.pid_types.specs.Settings.{Settings}
 use Rattle.pid_types.specs.State.{State, root_state}
 use Rattle.pid_types.specs.Step.{may_grow}
-use Rattle.pid_types.specs.Shown.{Shows}
 use Rattle.pid_types.specs.declared.call.Call.{Call}
 use Rattle.pid_types.specs.declared.entry.Receipt.{Receipt}
 use Rattle.pid_types.specs.declared.reply.Reply.{Reply}
-use Rattle.pid_types.specs.declared.plain.Plain.{Plain}
 use Rattle.kept_table.specs.Chronicle.{Chronicle}
 use Rattle.kept_table.specs.Promise.{KeepsPromise}
 use Rattle.pid_workers.specs.Job.{Fulfils}
@@ -23,7 +21,7 @@ use Rattle.pid_commands.specs.declared.fault.Fault.TheVariants.{NoMemory}
 use Rattle.pid_commands.specs.Faults.{of_script}
 use Rattle.pid_script.specs.declared.tally.Tally.{Tally}
 use Rattle.pid_script.specs.Answers.{reply_text}
-use Rattle.pid_script.specs.Lists.{list_of}
+use Rattle.table_lines.specs.Listed.{list_of_state}
 
 -- the line of a receipt: its place among all recorded calls, and the answer
 abbrev pub receipt_line : Receipt → List ℕ
@@ -47,7 +45,6 @@ works_text first (work ∷ works) = work_lines first work ++ works_text (first +
 pub record ShowsRun (settings : Settings) (jobs : List (Vec Call Global)) (text : List ℕ) : Type 0 where
   pub kept : Chronicle
   pub works : List Work
-  pub plain : Plain
   pub made : kept.config ≡ settings
   pub promised : KeepsPromise kept
   pub whole : kept.first_kept ≡ 0
@@ -56,8 +53,7 @@ pub record ShowsRun (settings : Settings) (jobs : List (Vec Call Global)) (text 
   pub done : (w : ℕ) (d : Work) (j : Vec Call Global) → w < length jobs
       → Fulfils (slice_index_or jobs w j).items (slice_index_or works w d).receipts.items (slice_index_or works w d).refused
   pub audited : IsAudited (length jobs) kept works
-  pub shown : Shows kept.present plain
-  pub told : text ≡ works_text 0 works ++ list_of plain
+  pub told : text ≡ works_text 0 works ++ list_of_state kept.present
 
 -- the source is at its end, no call of its script found no memory, and the list is that of the state to which it leads
 pub record ListsScript (settings : Settings) (from to : Option (List ℕ)) (list : List ℕ) : Type 0 where
@@ -66,11 +62,9 @@ pub record ListsScript (settings : Settings) (from to : Option (List ℕ)) (list
   pub tally : Tally
   pub text : List ℕ
   pub calls : List (Call × Reply)
-  pub plain : Plain
   pub finished : Finishes may_grow (start_of settings) (ended_at present stamp tally text calls) from to None None
   pub all : tally.starved ≡ 0
-  pub shown : Shows present plain
-  pub listed : list ≡ list_of plain
+  pub listed : list ≡ list_of_state present
 
 -- there was no memory for the list or a call, or the script stopped short of its end, after at most so many reads
 abbrev pub FailsToList : ℕ → Settings → Option (List ℕ) → Option (List ℕ) → Bool → Fault → Type 0

@@ -22,7 +22,7 @@ use pid_types::config::Config;
 use pid_types::device::{Discard, FromReader, Source, ToWriter};
 use pid_words::{Command, WordsFault};
 use pid_workers::{
-    Finished, JobFiles, MOST_READS, OpenGate, list_record, run, run_for_table, run_workers,
+    Finished, JobFiles, MOST_READS, OpenGate, run, run_for_table, run_workers,
 };
 use std::alloc::Global;
 use std::io;
@@ -33,6 +33,7 @@ use std::sync::Wait;
 use std::sync::ledger::{Blank, Ledger};
 use std::thread::Threads;
 use std::time::Clock;
+use table_lines::list::list_table;
 
 /// Runs the command that the words after the program's name were read as, by [`read_words`]: reads the
 /// script from the input, writes the output, flushes it, and writes the line of a fault or the usage
@@ -188,7 +189,7 @@ fn list_of_script<L: Ledger, R: Threads + AllocGlobal, S: Source>(
     if tally.starved > 0 {
         return Err(Fault::NoMemory);
     }
-    Ok(list_record(rt, rt.alloc(), &record)?)
+    Ok(list_table(rt.alloc(), record.present())?)
 }
 
 /// Reads the job files, runs a worker for each, and writes what they had. Its text is held whole, so
@@ -275,7 +276,7 @@ fn run_all<L: Ledger + Send + Sync, R: Threads + Wait + Clock + Sync + AllocGlob
     let Finished { kept, works } = finished;
     // What the record promises is the contract of its total.
     let _total = kept.total();
-    match finished_text(rt, &kept, works) {
+    match finished_text(rt.alloc(), &kept, works) {
         Ok(text) => Ok(text),
         Err(_) => Err(Fault::NoMemory),
     }

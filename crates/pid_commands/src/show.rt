@@ -2,35 +2,33 @@
 ghost use Rattle.std.specs.Prelude.{◌≡◌, ◌++◌, OnOk, IfOk};
 ghost use Rattle.std.specs.List.{flat_map};
 ghost use Rattle.std.specs.Io.KnownBytes.{Appends};
-ghost use Rattle.pid_types.specs.Shown.{Shows};
-ghost use Rattle.pid_types.specs.declared.plain.Plain.{Plain};
 ghost use Rattle.pid_script.specs.Answers.{reply_text};
-ghost use Rattle.pid_script.specs.Lists.{list_of};
 ghost use Rattle.pid_script.specs.Script.{with_newline};
 ghost use Rattle.pid_commands.specs.Output.{receipt_line, work_lines, works_text};
+ghost use Rattle.table_lines.specs.Listed.{list_of_state};
 
 use locked_table::Record;
 use pid_script::answer::answer_text;
 use pid_types::entry::Receipt;
-use pid_workers::{Work, list_record};
-use std::alloc::AllocError;
+use pid_workers::Work;
+use std::alloc::{AllocError, Global};
 use std::io;
 use std::io::Write;
 use std::sync::ledger::Ledger;
-use std::thread::Threads;
+use table_lines::list::list_table;
 
 /// The text of what the workers had, in their order, and then the list of the table that they leave.
 /// It is held whole, beside the list. The only error is want of memory.
-pub(crate) fn finished_text<L: Ledger, R: Threads + AllocGlobal, const N: usize>(
-    rt: &R,
+pub(crate) fn finished_text<L: Ledger, const N: usize>(
+    alloc: Global,
     kept: &Record<L, N>,
     works: Vec<Work>,
 ) -> Result<Vec<u8>, AllocError>
-    ensures { IfOk result (λ text. (plain : Plain) × Shows kept.now.present plain
-        × (text.items ≡ works_text 0 works.items ++ list_of plain)) }
+    ensures { IfOk result (λ text. text.items
+        ≡ works_text 0 works.items ++ list_of_state kept.now.present) }
 {
-    let list = list_record(rt, rt.alloc(), kept)?;
-    let mut text = Vec::new(rt.alloc());
+    let list = list_table(alloc, kept.present())?;
+    let mut text = Vec::new(alloc);
     match write_shown(&mut text, works, list.as_slice()) {
         Ok(()) => Ok(text),
         Err(_) => Err(AllocError),

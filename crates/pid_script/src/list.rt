@@ -124,8 +124,8 @@ fn push_marks(text: &mut Vec<u8>, row: &Row) -> Result<(), AllocError>
     push_mark(text, row.subreaper, b" subreaper")
 }
 
-/// Appends a task's line.
-fn push_task(text: &mut Vec<u8>, row: &Row) -> Result<(), AllocError>
+/// Appends a task's line. After an `Err` the text has some of its bytes.
+pub fn push_task(text: &mut Vec<u8>, row: &Row) -> Result<(), AllocError>
     ensures { OnOk result (text.new.items ≡ text.old.items ++ task_line row.now) }
 {
     push_name(text, row)?;

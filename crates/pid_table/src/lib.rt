@@ -4,14 +4,15 @@
 //! state.
 #![tactic(auto)]
 
-ghost use Rattle.std.specs.Prelude.{◌≡◌, IfOk, IfSome, OnOk, is_some, length};
+ghost use Rattle.std.specs.Prelude.{◌≡◌, ◌+◌, ◌<◌, ◌≤◌, IfOk, IfSome, OnOk, None, [], ◌∷◌, is_some, length, map};
 ghost use Rattle.pid_types.specs.Controls.{control_at, count as count_of};
 ghost use Rattle.pid_types.specs.Settings.{HasGoodPidMax};
-ghost use Rattle.pid_types.specs.Shown.{Shows};
+ghost use Rattle.pid_types.specs.Shown.{Shows, with_count};
 ghost use Rattle.pid_types.specs.Sound.{IsSound};
 ghost use Rattle.pid_types.specs.State.{root_state};
 ghost use Rattle.task_table.specs.View.{state_of};
 ghost use Rattle.task_table.specs.Whole.{IsWhole};
+ghost use Rattle.translate.specs.From.{rows_from};
 ghost use Rattle.translate.specs.Stat.{stat_at, glimpse_in, IsSeen};
 ghost use Rattle.pid_table.specs.Bare.{IsBare};
 
@@ -21,7 +22,7 @@ mod step;
 use model_laws::soundness::root_state_is_sound;
 use pid_types::config::Config;
 use pid_types::keys::Pid;
-use pid_types::plain::{Life, Plain};
+use pid_types::plain::{ControlRow, Life, Plain, Row, Space};
 use pid_types::reply::Refusal;
 use std::alloc::{AllocError, Global};
 use std::marker::Model;
@@ -153,5 +154,30 @@ impl PidTable {
         ensures { IfOk result (Shows self.now) }
     {
         shown::snapshot(&self.store)
+    }
+
+    /// Writes the row of the first task from a number in the root namespace on over another, and answers the task's
+    /// number there: [`shown::next_row`]. Where there is no such task, nothing is written. It takes no memory.
+    pub fn next_row(&self, from: Pid, row: &mut Row) -> Option<Pid>
+        ensures next { IfSome result (λ n. rows_from self.now.rows from ≡ row.new ∷ rows_from self.now.rows (n + 1)) }
+        ensures above { IfSome result (λ n. (from ≤ n) × (n < self.now.pid_max)) }
+        ensures good { HasGoodPidMax self.now.pid_max }
+        ensures none { result ≡ None → rows_from self.now.rows from ≡ [] }
+    {
+        shown::next_row(&self.store, from, row)
+    }
+
+    /// The namespaces by their ids: [`shown::all_spaces`]. The error is want of memory.
+    pub fn spaces(&self) -> Result<Vec<Space>, AllocError>
+        ensures { IfOk result (λ spaces. spaces.items ≡ self.now.spaces) }
+    {
+        shown::all_spaces(&self.store)
+    }
+
+    /// The control groups by their ids, each with its count: [`shown::all_controls`]. The error is want of memory.
+    pub fn control_rows(&self) -> Result<Vec<ControlRow>, AllocError>
+        ensures { IfOk result (λ rows. rows.items ≡ map (with_count self.now) self.now.controls) }
+    {
+        shown::all_controls(&self.store)
     }
 }

@@ -1,6 +1,5 @@
 pub mod Stamped
 pub mod Owned
-pub mod Listed
 pub mod Numbers
 pub mod CallNumbers
 pub mod Lines

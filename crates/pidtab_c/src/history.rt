@@ -5,7 +5,7 @@ ghost use Rattle.std.specs.Option.{option_copied};
 ghost use Rattle.kept_table.specs.Chronicle.{total, recorded, recorded_by_all, kept_entry};
 ghost use Rattle.kept_table.specs.Promise.{KeepsPromise};
 ghost use Rattle.pidtab_c.specs.Entries.{IsEntry};
-ghost use Rattle.pidtab_c.specs.Listed.{list_of_state};
+ghost use Rattle.table_lines.specs.Listed.{list_of_state};
 ghost use Rattle.pidtab_c.specs.Records.{Has, IsCut, Cuts};
 
 use crate::call_numbers::tell_call;
@@ -16,6 +16,7 @@ use crate::texts::write_text;
 use kept_table::Kept;
 use pid_script::list::list_text;
 use std::alloc::{AllocError, Global};
+use table_lines::list::list_table;
 
 /// Tells the ordinal of the first kept entry, and how many calls were recorded, the cut ones among them: so the kept
 /// entries have the ordinals from the first number up to below the second.
@@ -197,8 +198,7 @@ pub extern "C" fn pidtab_record_checkpoint_at(
 fn present_text(alloc: Global, held: &Kept) -> Result<Vec<u8>, AllocError>
     ensures { IfOk result (λ text. text.items ≡ list_of_state held.now.present) }
 {
-    let plain = held.snapshot()?;
-    list_text(alloc, &plain)
+    list_table(alloc, held.present())
 }
 
 /// The text of the list of the state that the kept history begins in. The error is want of memory.
@@ -213,7 +213,7 @@ fn opening_text(alloc: Global, held: &Kept) -> Result<Vec<u8>, AllocError>
 /// in bytes. Bytes of the room behind it stay as they are.
 ///
 /// `CLOSED` where there is no open record; `NO_MEMORY`; `NO_ROOM` where the list is longer than the room, and then too
-/// `size` is the list's length. It costs a copy of the whole table, and the text.
+/// `size` is the list's length. It costs the text, which is held whole before it is put.
 #[unsafe(no_mangle)]
 pub extern "C" fn pidtab_record_list(
     alloc: Global,
@@ -246,7 +246,7 @@ pub extern "C" fn pidtab_record_list(
 }
 
 /// Puts the list of the state that the kept history begins in at the front of the room, as [`pidtab_record_list`] does
-/// with the present state, with the same statuses and at the same cost.
+/// with the present state, with the same statuses. It costs a copy of that whole state, and the text.
 #[unsafe(no_mangle)]
 pub extern "C" fn pidtab_record_opening(
     alloc: Global,

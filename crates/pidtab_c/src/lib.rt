@@ -20,7 +20,7 @@ ghost use Rattle.pid_types.specs.declared.reply.CallFault.TheVariants as fault;
 ghost use Rattle.pid_script.specs.Answers.{reply_text};
 ghost use Rattle.pid_script.specs.Reading.{parsed};
 ghost use Rattle.pid_script.specs.declared.line.Line.TheVariants as says;
-ghost use Rattle.pidtab_c.specs.Listed.{list_of_state};
+ghost use Rattle.table_lines.specs.Listed.{list_of_state};
 ghost use Rattle.pidtab_c.specs.Numbers.{call_of, numbers_of};
 ghost use Rattle.pidtab_c.specs.Lines.{IsCall};
 ghost use Rattle.pidtab_c.specs.Records.{Has};
@@ -246,7 +246,7 @@ pub extern "C" fn pidtab_line(
 /// Puts the list of the table at the front of the room, each line with its newline; `size` is the list's length.
 ///
 /// `CLOSED` where there is no open table; `NO_MEMORY`; `NO_ROOM` where the list is longer than the room, and then too
-/// `size` is the list's length. It costs a copy of the whole table, and the text. Its contract tells too what is true
+/// `size` is the list's length. It costs the text, which is held whole before it is put. Its contract tells too what is true
 /// of a table between any two calls: its state is sound, and the ids in it are below the stamp of the next call.
 #[unsafe(no_mangle)]
 pub extern "C" fn pidtab_list(

@@ -14,10 +14,10 @@ use crate::status::{BAD_TEXT, BUSY, CLOSED, DONE, NO_MEMORY, NO_ROOM, OUT_OF_RAN
 use crate::texts::write_text;
 use kept_table::Kept;
 use std::alloc::{AllocError, Global};
+use table_lines::dump::dump_table;
 use table_load::load::{Loaded, table_of};
 use table_plan::fault::RestoreFault;
-use table_text::dump::dump_text;
-use table_text::laws::{snapshots_have_their_state, texts_tell_states, what_fits_is_of_words};
+use table_text::laws::{texts_tell_states, what_fits_is_of_words};
 use table_text::read::read_text;
 
 /// The stamp of the next call; where the stamps are used up, the one that no call has.
@@ -34,9 +34,7 @@ fn stamp_of(held: &Kept) -> u64
 fn present_dump(alloc: Global, held: &Kept) -> Result<Vec<u8>, AllocError>
     ensures { IfOk result (λ text. text.items ≡ text_of (next_stamp held.now) held.now.present) }
 {
-    snapshots_have_their_state();
-    let plain = held.snapshot()?;
-    dump_text(alloc, &plain, stamp_of(held))
+    dump_table(alloc, held.present(), stamp_of(held))
 }
 
 /// A record on the heap that goes on from what was loaded. The error is want of memory.
@@ -57,7 +55,7 @@ fn boxed_resume(alloc: Global, loaded: Loaded, counts: &[u64]) -> Result<Box<Kep
 /// length. Bytes of the room behind it stay as they are. [`pidtab_record_load`] opens a record that goes on from there.
 ///
 /// `CLOSED` where there is no open record; `NO_MEMORY`; `NO_ROOM` where the text is longer than the room, and then too
-/// `size` is the text's length. It costs a copy of the whole table, and the text.
+/// `size` is the text's length. It costs the text, which is held whole before it is put.
 #[unsafe(no_mangle)]
 pub extern "C" fn pidtab_record_dump(
     alloc: Global,

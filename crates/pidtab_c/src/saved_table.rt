@@ -81,7 +81,7 @@ fn boxed_load(alloc: Global, text: &[u8]) -> Result<Box<StampedTable>, RestoreFa
 /// Bytes of the room behind it stay as they are. [`pidtab_load`] opens a table as the text says.
 ///
 /// `CLOSED` where there is no open table; `NO_MEMORY`; `NO_ROOM` where the text is longer than the room, and then too
-/// `size` is the text's length. It costs a copy of the whole table, and the text.
+/// `size` is the text's length. It costs the text, which is held whole before it is put.
 #[unsafe(no_mangle)]
 pub extern "C" fn pidtab_dump(
     alloc: Global,

@@ -7,19 +7,18 @@ ghost use Rattle.kept_table.specs.Queries.{is_query};
 ghost use Rattle.pidtab_c.specs.Stamped.{IsInOrder, after_call, reply_to};
 ghost use Rattle.pid_types.specs.Sound.{IsSound, IsBelow};
 ghost use Rattle.table_text.specs.Texts.{text_of};
-ghost use Rattle.pidtab_c.specs.Listed.{list_of_state};
+ghost use Rattle.table_lines.specs.Listed.{list_of_state};
 
 use model_laws::soundness::{root_state_is_sound, soundness_is_kept};
-use pid_script::list::list_text;
 use pid_table::PidTable;
 use pid_types::call::Call;
 use pid_types::config::Config;
 use pid_types::reply::{CallFault, Refusal, Reply};
 use std::alloc::{AllocError, Global};
 use std::marker::Model;
+use table_lines::dump::dump_table;
+use table_lines::list::list_table;
 use table_load::load::Loaded;
-use table_text::dump::dump_text;
-use table_text::laws::snapshots_have_their_state;
 use translate::stat::Stat;
 
 /// A table and the stamp of its next call. Between two calls its state is sound, and the ids in it are below the stamp.
@@ -99,16 +98,14 @@ impl StampedTable {
         ensures text { IfOk result (λ text. text.items ≡ list_of_state self.now.state) }
         ensures sound { IsInOrder self.now }
     {
-        let plain = self.table.snapshot()?;
-        list_text(alloc, &plain)
+        list_table(alloc, &self.table)
     }
+
     /// The text of the table, with the stamp of its next call. The error is want of memory.
     pub(crate) fn dump(&self, alloc: Global) -> Result<Vec<u8>, AllocError>
         ensures { IfOk result (λ text. text.items ≡ text_of self.now.stamp self.now.state) }
     {
-        snapshots_have_their_state();
-        let plain = self.table.snapshot()?;
-        dump_text(alloc, &plain, self.stamp)
+        dump_table(alloc, &self.table, self.stamp)
     }
 
     /// The table that was loaded from a text.

@@ -13,7 +13,8 @@ use Rattle.table_text.specs.Ranges.{IsWord, IsRowOfWords, IsSpaceOfWords, IsCont
 use Rattle.table_text.proofs.Fronts.{IsApart, GoesOnBut}
 use Rattle.table_text.proofs.Lines.{task_told, space_told, control_told, head_told, task_begins, space_begins, control_begins, lines_front, lines_told}
 
-uncounted : (state : State) (controls : List Control) → map without_count (map (with_count state) controls) ≡ controls
+-- the control groups of a snapshot, without their counts
+pub uncounted : (state : State) (controls : List Control) → map without_count (map (with_count state) controls) ≡ controls
 uncounted state [] = refl
 uncounted state (c ∷ controls) = ap (λ rest. c ∷ rest) (uncounted state controls)
 

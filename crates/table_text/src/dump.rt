@@ -67,9 +67,9 @@ fn push_marks(text: &mut Vec<u8>, row: &Row) -> Result<(), AllocError>
     push_mark(text, row.subreaper, b" subreaper")
 }
 
-/// Appends a task's line.
+/// Appends a task's line. After an `Err` the text has some of its bytes.
 #[tactic(auto, unfolding(crate::specs::Texts::task_line))]
-fn push_task(text: &mut Vec<u8>, row: &Row) -> Result<(), AllocError>
+pub fn push_task(text: &mut Vec<u8>, row: &Row) -> Result<(), AllocError>
     ensures { OnOk result (text.new.items ≡ text.old.items ++ task_line row.now) }
 {
     push_names(text, row)?;
@@ -99,8 +99,8 @@ fn push_tasks(text: &mut Vec<u8>, rows: &[Row]) -> Result<(), AllocError>
     Ok(())
 }
 
-/// Appends the lines of the control groups.
-fn push_controls(text: &mut Vec<u8>, controls: &[ControlRow]) -> Result<(), AllocError>
+/// Appends the lines of the control groups, without their counts. After an `Err` the text has some of their bytes.
+pub fn push_controls(text: &mut Vec<u8>, controls: &[ControlRow]) -> Result<(), AllocError>
     ensures { OnOk result (text.new.items ≡ text.old.items ++ flat_map control_line (map without_count controls.now)) }
 {
     for control in controls {
@@ -118,9 +118,9 @@ fn push_settings(text: &mut Vec<u8>, pid_max: u32, stamp: u64) -> Result<(), All
     push_field(text, b" stamp ", stamp)
 }
 
-/// Appends the first line.
+/// Appends the first line. After an `Err` the text has some of its bytes.
 #[tactic(auto, unfolding(crate::specs::Texts::head_line))]
-fn push_head(text: &mut Vec<u8>, pid_max: u32, stamp: u64) -> Result<(), AllocError>
+pub fn push_head(text: &mut Vec<u8>, pid_max: u32, stamp: u64) -> Result<(), AllocError>
     ensures { OnOk result (text.new.items ≡ text.old.items ++ head_line pid_max stamp) }
 {
     text.extend_from_slice(b"pidtab table 1")?;
@@ -142,7 +142,7 @@ fn push_said(text: &mut Vec<u8>, plain: &Plain, stamp: u64) -> Result<(), AllocE
 
 /// The last line of a text: the digest of what it says.
 #[tactic(auto, unfolding(crate::specs::Texts::end_line))]
-pub(crate) fn end_of(alloc: Global, said: &[u8]) -> Result<Vec<u8>, AllocError>
+pub fn end_of(alloc: Global, said: &[u8]) -> Result<Vec<u8>, AllocError>
     ensures { IfOk result (λ end. end.items ≡ end_line said.now) }
 {
     let digest = encode(alloc, Sha256::digest(said))?;

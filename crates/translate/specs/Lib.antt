@@ -1,3 +1,4 @@
 pub mod ById
+pub mod From
 pub mod Seen
 pub mod Stat

@@ -1,7 +1,9 @@
 //! The plain state of a store: what a snapshot shows.
 
-ghost use Rattle.std.specs.Prelude.{◌≡◌, Some, true, IsSome, IfOk, OnOk, map, option_map, ◌++◌, ◌∷◌, []};
+ghost use Rattle.std.specs.Prelude.{◌≡◌, ◌+◌, ◌<◌, ◌≤◌, Some, None, true, IsSome, IfSome, IfOk, OnOk, map, option_map};
+ghost use Rattle.std.specs.Prelude.{◌++◌, ◌∷◌, []};
 ghost use Rattle.pid_types.specs.Controls.{parent_control};
+ghost use Rattle.pid_types.specs.Settings.{HasGoodPidMax};
 ghost use Rattle.pid_types.specs.Shown.{Shows, with_count};
 ghost use Rattle.pid_numbers.specs.Numbering.{id_at, identifier_at};
 ghost use Rattle.task_tree.specs.Tree.{task_at, parent_of};
@@ -9,10 +11,11 @@ ghost use Rattle.pids_charge.specs.Charges.{stands, id_at as home_id};
 ghost use Rattle.task_table.specs.View.{name_at, row_of, parent_id, space_of, state_of};
 ghost use Rattle.task_table.specs.Whole.{IsWhole, HasParents};
 ghost use Rattle.translate.specs.ById.{control_row_of};
+ghost use Rattle.translate.specs.From.{rows_from};
 
 use arrayvec::ArrayVec;
 use pid_types::call::Kind;
-use pid_types::keys::{ControlKey, IdentKey, SpaceKey, TaskKey};
+use pid_types::keys::{ControlKey, IdentKey, Pid, SpaceKey, TaskKey};
 use pid_types::plain::{ControlRow, Life, Name, Plain, Row, Space};
 use std::alloc::AllocError;
 use task_table::Tasks;
@@ -70,7 +73,7 @@ fn write_row(store: &Tasks, found: &Found, row: &mut Row)
 }
 
 /// A row to be written over.
-fn no_row() -> Row {
+pub fn blank_row() -> Row {
     Row {
         name: no_name(),
         parent: Some(no_name()),
@@ -91,10 +94,49 @@ fn push_row(store: &Tasks, found: &Found, rows: &mut Vec<Row>) -> Result<(), All
     requires there { task_at store.now.tree found.now.key ≡ Some found.now.task }
     ensures { OnOk result (rows.new.items ≡ rows.old.items ++ row_of store.now found.now.key found.now.task ∷ []) }
 {
-    rows.push(no_row())?;
+    rows.push(blank_row())?;
     let last = rows.len() - 1;
     write_row(store, found, &mut rows[last]);
     Ok(())
+}
+
+/// The first task from a number in the root namespace on, with its number there.
+fn task_from(store: &Tasks, from: Pid) -> Option<(Pid, Found)>
+    ensures there { IfSome result (λ f. task_at store.now.tree f.1.key ≡ Some f.1.task) }
+    ensures next { IfSome result (λ f. rows_from (state_of store.now).rows from
+        ≡ row_of store.now f.1.key f.1.task ∷ rows_from (state_of store.now).rows (f.0 + 1)) }
+    ensures above { IfSome result (λ f. (from ≤ f.0) × (f.0 < store.now.numbering.pid_max)) }
+    ensures good { HasGoodPidMax store.now.numbering.pid_max }
+    ensures none { result ≡ None → rows_from (state_of store.now).rows from ≡ [] }
+{
+    laws(store);
+    let Some(number) = store.numbers().next_used(0, Kind::Task, from) else {
+        return None;
+    };
+    let Some(found) = find_task(store, 0, number) else {
+        unreachable!()
+    };
+    Some((number, found))
+}
+
+/// Writes the row of the first task from a number in the root namespace on over another, and answers the task's number
+/// there. Where there is no such task, nothing is written.
+///
+/// So a walk over all tasks in their order begins at 0 and goes on behind each answer. A step costs two searches in the
+/// root's tree of numbers and a few reads; a name has a number for each level, 33 at most. It takes no memory.
+pub fn next_row(store: &Tasks, from: Pid, row: &mut Row) -> Option<Pid>
+    requires { HasParents store.now }
+    ensures next { IfSome result (λ n. rows_from (state_of store.now).rows from
+        ≡ row.new ∷ rows_from (state_of store.now).rows (n + 1)) }
+    ensures above { IfSome result (λ n. (from ≤ n) × (n < store.now.numbering.pid_max)) }
+    ensures good { HasGoodPidMax store.now.numbering.pid_max }
+    ensures none { result ≡ None → rows_from (state_of store.now).rows from ≡ [] }
+{
+    let Some((number, found)) = task_from(store, from) else {
+        return None;
+    };
+    write_row(store, &found, row);
+    Some(number)
 }
 
 /// The tasks by their numbers in the root namespace.
@@ -102,13 +144,9 @@ fn all_rows(store: &Tasks) -> Result<Vec<Row>, AllocError>
     requires { HasParents store.now }
     ensures { IfOk result (λ rows. rows.items ≡ (state_of store.now).rows) }
 {
-    laws(store);
     let mut rows = Vec::new(store.numbers().allocator());
     let mut from = 0u32;
-    while let Some(number) = store.numbers().next_used(0, Kind::Task, from) {
-        let Some(found) = find_task(store, 0, number) else {
-            unreachable!()
-        };
+    while let Some((number, found)) = task_from(store, from) {
         push_row(store, &found, &mut rows)?;
         from = number + 1;
     }
@@ -137,8 +175,8 @@ fn space_row(store: &Tasks, id: u64, key: SpaceKey) -> Space
     }
 }
 
-/// The namespaces by their ids.
-fn all_spaces(store: &Tasks) -> Result<Vec<Space>, AllocError>
+/// The namespaces by their ids. It costs a few reads for each. The error is want of memory.
+pub fn all_spaces(store: &Tasks) -> Result<Vec<Space>, AllocError>
     ensures { IfOk result (λ spaces. spaces.items ≡ (state_of store.now).spaces) }
 {
     let mut spaces = Vec::new(store.numbers().allocator());
@@ -174,8 +212,8 @@ fn control_row(store: &Tasks, id: u64, key: ControlKey) -> ControlRow
     }
 }
 
-/// The control groups by their ids, each with its count.
-fn all_controls(store: &Tasks) -> Result<Vec<ControlRow>, AllocError>
+/// The control groups by their ids, each with its count. It costs a few reads for each. The error is want of memory.
+pub fn all_controls(store: &Tasks) -> Result<Vec<ControlRow>, AllocError>
     requires { IsWhole store.now }
     ensures { IfOk result (λ rows. rows.items ≡ map (with_count (state_of store.now)) (state_of store.now).controls) }
 {

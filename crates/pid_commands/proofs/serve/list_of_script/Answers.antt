@@ -1,26 +1,25 @@
-use Rattle.std.proofs.Common.{inl, refl, arith}
+use Rattle.std.proofs.Common.{inl, refl, ap, ◌∙◌, arith}
 use Rattle.std.proofs.lemmas.Result.{err_from_is_err_and}
+use Rattle.table_lines.specs.Listed.{list_of_state}
 use Rattle.pid_commands.proofs.serve.list_of_script.Goals as goal
 
--- the state that the script leaves, and the snapshot that the list shows
+-- the state that the script leaves
 pub returns-clause-ok : goal.returns-clause-ok
 returns-clause-ok g c =
     let ran = c.in_ok-tally.ensures.ok in
-    let listed = c.in_ok-list_record.ensures in record {
+    record {
       present = c.in_ok-tally.record.present;
       stamp = ran.0;
       tally = c.in_ok-tally.tally;
       text = ran.1;
       calls = ran.2;
-      plain = listed.0;
       finished = ran.3;
       all = omega (arith, c.if-tally-gt0.false);
-      shown = listed.1;
-      listed = listed.2;
+      listed = c.in_ok-list_table.ensures ∙ ap list_of_state c.present.ensures;
     }
 
 -- want of memory for the list
-pub returns-in_err-list_record-clause-fault : goal.returns-in_err-list_record-clause-fault
-returns-in_err-list_record-clause-fault g c =
-    let p = err_from_is_err_and c.from_residual-in_err-list_record.result c.from_residual-in_err-list_record.ensures.1 in
+pub returns-in_err-list_table-clause-fault : goal.returns-in_err-list_table-clause-fault
+returns-in_err-list_table-clause-fault g c =
+    let p = err_from_is_err_and c.from_residual-in_err-list_table.result c.from_residual-in_err-list_table.ensures.1 in
     rw (p.1, p.2) (inl refl)

@@ -3,7 +3,7 @@ use Rattle.pid_types.specs.State.{root_state}
 use Rattle.pid_workers.specs.Receipts.{IsAudited}
 use Rattle.pid_commands.proofs.serve.run_all.Goals as goal
 
--- what the workers had, and the snapshot that the list shows
+-- what the workers had, and the list
 pub returns-in-Ok-clause-ok : goal.returns-in-Ok-clause-ok
 returns-in-Ok-clause-ok g c =
     let finished = c.in_ok-finished.finished in
@@ -12,7 +12,6 @@ returns-in-Ok-clause-ok g c =
     record {
       kept = finished.kept;
       works = finished.works.items;
-      plain = written.0;
       made = ran.config;
       promised = c.total-total.ensures.promise;
       whole = ran.kept;
@@ -20,6 +19,5 @@ returns-in-Ok-clause-ok g c =
       many = omega (arith, ran.works, finished.works.ok.0, c.requires.jobs);
       done = λ w d j lt. ran.jobs w d j (omega (arith, lt, c.requires.jobs));
       audited = subst (λ n. IsAudited n finished.kept finished.works.items) (sym c.requires.jobs) ran.audited;
-      shown = written.1;
-      told = written.2;
+      told = written;
     }
