@@ -12,7 +12,7 @@ use pid_types::call::Call;
 use pid_types::config::Config;
 use pid_types::device::{FromReader, ToWriter};
 use pid_workers::{
-    OpenGate, RunFault, SeatDesk, Work, list_record, run, run_limited, run_state, run_workers, work,
+    OpenGate, RunFault, SeatDesk, Work, run, run_limited, run_state, run_workers, work,
 };
 use std::alloc::{AllocError, Global};
 use std::marker::Brand;
@@ -20,6 +20,7 @@ use std::sync::Wait;
 use std::sync::ledger::{Blank, Ledger};
 use std::thread::Threads;
 use std::time::Clock;
+use table_lines::list::list_table;
 
 /// The most bytes that a run of these steps answers.
 const MOST_ANSWERS: usize = 4096;
@@ -150,7 +151,7 @@ fn answer_few<R: Print + AllocGlobal>(
 }
 
 /// Runs a script, and lists the table that it leaves.
-fn answer_and_list<L: Ledger, R: Print + Threads + AllocGlobal>(
+fn answer_and_list<L: Ledger, R: Print + AllocGlobal>(
     rt: &R,
     blank: Blank,
     heading: &[u8],
@@ -167,7 +168,7 @@ fn answer_and_list<L: Ledger, R: Print + Threads + AllocGlobal>(
     match run_state::<L, _, _>(rt.alloc(), blank, &mut source, &mut sink, config) {
         Ok((tally, record)) => {
             let is_whole = tell_answers(rt, text.as_slice(), Ok(tally))?;
-            tell(rt, &[list_record(rt, rt.alloc(), &record)?.as_slice()])?;
+            tell(rt, &[list_table(rt.alloc(), record.present())?.as_slice()])?;
             Ok(is_whole)
         }
         Err(fault) => tell_answers(rt, text.as_slice(), Err(fault)),

@@ -12,10 +12,10 @@ use pid_script::list::list_text;
 use pid_types::config::Config;
 use pid_types::plain::Plain;
 use pid_types::reply::CallFault;
-use pid_workers::list_text_split;
 use std::alloc::{AllocError, Global};
 use std::sync::ledger::{Blank, Ledger};
-use std::thread::Threads;
+use table_lines::dump::dump_table;
+use table_lines::list::list_table;
 
 /// A table and its one seat.
 #[derive(Drop)]
@@ -43,7 +43,8 @@ enum Made {
     Nothing,
     Counts(Counts),
     Snapshot(Plain),
-    Text(Vec<u8>),
+    List(Vec<u8>),
+    Dump(Vec<u8>),
 }
 
 /// Opens a table. It is none where there was no memory for one.
@@ -69,17 +70,16 @@ pub fn open<L: Ledger, R: Print + AllocGlobal>(
 
 impl<L: Ledger> Seated<L> {
     /// Makes a step until there is memory for it, and tells what it answers.
-    pub fn play<R: Print + Threads + AllocGlobal>(
+    pub fn play<R: Print + AllocGlobal>(
         &mut self,
         rt: &R,
         heading: &[u8],
         step: &SeatedStep,
     ) -> Result<()> {
-        let plain = self.record.snapshot()?;
         let before = self.picture(rt.alloc())?;
         for _ in 0..MOST_TRIES {
             tell(rt, &[heading])?;
-            match self.make(rt, step, &plain) {
+            match self.make(rt.alloc(), step) {
                 Ok(made) => return self.show(rt, &made),
                 Err(AllocError) => tell(rt, &[b"- no memory\n"])?,
             }
@@ -91,12 +91,7 @@ impl<L: Ledger> Seated<L> {
     }
 
     /// Makes a step.
-    fn make<R: Threads + AllocGlobal>(
-        &mut self,
-        rt: &R,
-        step: &SeatedStep,
-        plain: &Plain,
-    ) -> Result<Made, AllocError> {
+    fn make(&mut self, alloc: Global, step: &SeatedStep) -> Result<Made, AllocError> {
         match step {
             SeatedStep::Call(call) => match self.record.act(&mut self.seat, *call) {
                 Err(CallFault::NoMemory) => Err(AllocError),
@@ -113,8 +108,11 @@ impl<L: Ledger> Seated<L> {
             SeatedStep::Opening => Ok(Made::Snapshot(self.record.opening()?)),
             SeatedStep::Look => Ok(Made::Counts(self.counts())),
             SeatedStep::Snapshot => Ok(Made::Snapshot(self.record.snapshot()?)),
-            SeatedStep::List => Ok(Made::Text(list_text(rt.alloc(), plain)?)),
-            SeatedStep::Split => Ok(Made::Text(list_text_split(rt, rt.alloc(), plain)?)),
+            SeatedStep::List => Ok(Made::List(list_table(alloc, self.record.present())?)),
+            SeatedStep::Dump => {
+                let stamp = self.record.next_stamp().unwrap_or(u64::MAX);
+                Ok(Made::Dump(dump_table(alloc, self.record.present(), stamp)?))
+            }
         }
     }
 
@@ -127,7 +125,8 @@ impl<L: Ledger> Seated<L> {
                 tell(rt, &[b"= "])?;
                 tell(rt, &[count_line(rt.alloc(), counts)?.as_bytes()])
             }
-            Made::Text(text) => tell(rt, &[b"= list\n", text.as_slice()]),
+            Made::List(text) => tell(rt, &[b"= list\n", text.as_slice()]),
+            Made::Dump(text) => tell(rt, &[b"= dump\n", text.as_slice()]),
             Made::Snapshot(plain) => {
                 tell(rt, &[b"= snapshot\n"])?;
                 tell(rt, &[list_text(rt.alloc(), plain)?.as_slice()])
@@ -151,7 +150,7 @@ impl<L: Ledger> Seated<L> {
     /// All that can be read of the table now: its list, the counts, and the last entry of its history.
     fn picture(&self, alloc: Global) -> Result<Vec<u8>> {
         let counts = self.counts();
-        let mut picture = list_text(alloc, &self.record.snapshot()?)?;
+        let mut picture = list_table(alloc, self.record.present())?;
         picture.extend_from_slice(count_line(alloc, &counts)?.as_bytes())?;
         let last = self.record.entry(counts.total.saturating_sub(1));
         picture.extend_from_slice(format!(in alloc; "{last:?}")?.as_bytes())?;

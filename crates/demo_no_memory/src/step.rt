@@ -40,10 +40,10 @@ pub enum SeatedStep {
     Look,
     /// `snapshot`.
     Snapshot,
-    /// `list`: the list of a snapshot, by one thread.
+    /// `list`: the list of the table.
     List,
-    /// `split`: the same by two threads.
-    Split,
+    /// `dump`: the text that the table is saved in.
+    Dump,
 }
 
 /// A step on a table of its own. Scripts have `;` in the place of a newline.
@@ -81,7 +81,7 @@ pub fn parse_step(alloc: Global, line: &str) -> Result<Step> {
         "look" => SeatedStep::Look,
         "snapshot" => SeatedStep::Snapshot,
         "list" => SeatedStep::List,
-        "split" => SeatedStep::Split,
+        "dump" => SeatedStep::Dump,
         _ => match parse_line(line.as_bytes()) {
             Line::Call(call) => SeatedStep::Call(call),
             _ => bail!("no step: {line}"),
