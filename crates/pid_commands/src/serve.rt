@@ -21,9 +21,7 @@ use pid_types::call::Call;
 use pid_types::config::Config;
 use pid_types::device::{Discard, FromReader, Source, ToWriter};
 use pid_words::{Command, WordsFault};
-use pid_workers::{
-    Finished, JobFiles, MOST_READS, OpenGate, run, run_for_table, run_workers,
-};
+use pid_workers::{Finished, JobFiles, MOST_READS, OpenGate, run, run_for_table, run_workers};
 use std::alloc::Global;
 use std::io;
 use std::io::{Read, Write};

@@ -1,5 +1,5 @@
 -- The root init's fork in a bare store leaves the root state.
-use Rattle.std.proofs.Common.{◌≡◌, ◌≢◌, inl, inr, ℕ, zero, suc, ◌+◌, true, false, List, [], ◌∷◌, map, filter_map, find, slice_get, Option, Some, None, is_none, if◌then◌else◌, refl, sym, ap, subst, ◌∙◌, option_map, option_and_then, unwrap_or}
+use Rattle.std.proofs.Common.{◌≡◌, ◌≢◌, inl, inr, ℕ, zero, suc, ◌+◌, false, List, [], ◌∷◌, map, filter_map, find, slice_get, Option, Some, None, is_none, if◌then◌else◌, refl, sym, ap, subst, ◌∙◌, option_map, option_and_then, unwrap_or}
 use Rattle.std.specs.Prelude.{reverse, slice_index_or}
 use Rattle.std.specs.Option.{option_map_or}
 use Rattle.std.proofs.lemmas.Bool.{cases_eq}

@@ -1,7 +1,7 @@
 -- What an address in C is to the prover: the machine values of a loose box and of a handle. Assumes `Logic`.
 use Rattle.std.proofs.Common.{◌≡◌, ℕ, List, [], ◌∷◌, ◌++◌, refl, subst}
-use mathlib.Core.Bool.{Bool, true, ◌&&◌, not}
-use Rattle.std.specs.Prelude.{Option, Some, None, is_some}
+use mathlib.Core.Bool.{true, ◌&&◌}
+use Rattle.std.specs.Prelude.{Option, Some, None}
 use lib.Dec.{T}
 use seplogic.Ra.Ura.{Ura}
 use mir.Raw.{raw as bare}
@@ -30,7 +30,6 @@ use Rattle.pidtab_c.specs.contracts.loose.Loose as loose
 use Rattle.pidtab_c.specs.contracts.stamped.StampedTable as table
 use Rattle.std.specs.contracts.alloc.Global as heap
 use Rattle.std.specs.contracts.impls.GlobalAllocator.TheImpl.{ghosts}
-use Rattle.pid_types.proofs.General.{held}
 
 -- an address and a handle to an allocator
 abbrev pub beside : ℕ → ℕ → Val → Val

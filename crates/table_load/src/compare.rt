@@ -1,24 +1,45 @@
-//! Whether a snapshot is as a text says.
-ghost use Rattle.std.specs.Prelude.{◌≡◌, IsTrue, map};
-ghost use Rattle.table_text.specs.Texts.{without_count, state_in};
+//! Whether a table is as a text says.
+ghost use Rattle.std.specs.Prelude.{◌≡◌, IfOk, IsTrue, map};
+ghost use Rattle.table_text.specs.Texts.{without_count};
 ghost use Rattle.table_text.specs.Reading.{saved_state};
 
+use pid_table::PidTable;
 use pid_types::plain::{Control, ControlRow, Plain, Row, Space};
+use std::alloc::AllocError;
 use table_plan::lines::{control_line, space_line, task_line};
 use table_text::read::Saved;
+use translate::shown::blank_row;
 
-/// Whether the tasks are the same.
-fn have_same_rows(plain: &Plain, saved: &Saved) -> bool
-    ensures { IsTrue result → plain.now.rows.items ≡ saved.now.rows.items }
+/// Whether two tasks are the same.
+fn is_same_row(shown: &Row, said: &Row) -> bool
+    ensures { IsTrue result → shown.now ≡ said.now }
 {
-    plain.rows == saved.rows
+    shown == said
+}
+
+/// Whether the tasks of the table are these, in this order.
+fn have_same_rows(table: &PidTable, rows: &[Row]) -> bool
+    ensures { IsTrue result → table.now.rows ≡ rows.now }
+{
+    let mut row = blank_row();
+    let mut from = 0u32;
+    for index in 0..rows.len() {
+        let Some(number) = table.next_row(from, &mut row) else {
+            return false;
+        };
+        if !is_same_row(&row, &rows[index]) {
+            return false;
+        }
+        from = number + 1;
+    }
+    table.next_row(from, &mut row).is_none()
 }
 
 /// Whether the namespaces are the same.
-fn have_same_spaces(plain: &Plain, saved: &Saved) -> bool
-    ensures { IsTrue result → plain.now.spaces.items ≡ saved.now.spaces.items }
+fn have_same_spaces(shown: &[Space], said: &[Space]) -> bool
+    ensures { IsTrue result → shown.now ≡ said.now }
 {
-    plain.spaces == saved.spaces
+    shown == said
 }
 
 /// Whether two control groups are the same, but for the count.
@@ -43,14 +64,19 @@ fn have_same_controls(rows: &[ControlRow], controls: &[Control]) -> bool
     true
 }
 
-/// Whether a snapshot shows the state that a text says.
-pub fn is_same(plain: &Plain, saved: &Saved) -> bool
-    ensures { IsTrue result → state_in plain.now ≡ saved_state saved.now }
+/// Whether the table has the state that a text says. The tasks are compared one by one. The error is want of memory.
+pub fn is_same(table: &PidTable, saved: &Saved) -> Result<bool, AllocError>
+    ensures { IfOk result (λ same. IsTrue same → table.now ≡ saved_state saved.now) }
 {
-    plain.pid_max == saved.pid_max
-        && have_same_rows(plain, saved)
-        && have_same_spaces(plain, saved)
-        && have_same_controls(&plain.controls, &saved.controls)
+    let spaces = table.spaces()?;
+    if table.pid_max() != saved.pid_max || !have_same_spaces(&spaces, &saved.spaces) {
+        return Ok(false);
+    }
+    let controls = table.control_rows()?;
+    if !have_same_controls(&controls, &saved.controls) {
+        return Ok(false);
+    }
+    Ok(have_same_rows(table, &saved.rows))
 }
 
 /// The place of the first task that differs.

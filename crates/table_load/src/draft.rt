@@ -16,7 +16,6 @@ use pid_types::reply::Reply;
 use std::alloc::{AllocError, Global};
 use std::marker::Model;
 use table_plan::fault::RestoreFault;
-use table_text::laws::snapshots_have_their_state;
 use table_text::read::Saved;
 
 /// A table in the making, and the least stamp that is above all its ids. Contracts see the table.
@@ -148,10 +147,9 @@ impl Draft {
         if next > saved.stamp {
             return Err(RestoreFault::BadSettings(1));
         }
-        snapshots_have_their_state();
         table.laws();
-        let plain = table.snapshot()?;
-        if !is_same(&plain, saved) {
+        if !is_same(&table, saved)? {
+            let plain = table.snapshot()?;
             return Err(RestoreFault::Impossible(first_unlike(&plain, saved)));
         }
         Ok(Loaded {

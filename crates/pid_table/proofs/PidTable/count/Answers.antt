@@ -1,9 +1,7 @@
-use Rattle.std.proofs.Common.{◌∙◌, sym, ap, is_some, is_none}
-use Rattle.pid_types.specs.Controls.{control_at}
+use Rattle.std.proofs.Common.{◌∙◌, sym, ap}
 use Rattle.pid_types.specs.State.{State}
 use Rattle.pid_types.specs.Controls.{count as count_of}
 use Rattle.pids_charge.specs.Charges.{Charges, count, id_at}
-use Rattle.task_table.specs.View.{state_of}
 use Rattle.task_table.proofs.Counts.{count-is}
 use Rattle.pid_table.proofs.PidTable.count.Goals as goal
 

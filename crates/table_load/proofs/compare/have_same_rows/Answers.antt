@@ -1,6 +1,6 @@
-use Rattle.std.proofs.lemmas.Slice.Eq.{slice_eq-Decides}
-use Rattle.pid_types.proofs.Equal.{row_Decides}
+use Rattle.std.proofs.Common.{arith}
+use Rattle.translate.proofs.Walks.{all-from}
 use Rattle.table_load.proofs.compare.have_same_rows.Goals as goal
 
-pub returns : goal.returns
-returns c = (slice_eq-Decides row_Decides _ _ _ c.eq.ensures).0
+pub loop-index-init : goal.loop-index-init
+loop-index-init c = record { walk = all-from c.args.table.now.rows; below = omega arith }
