@@ -14,7 +14,7 @@ returns-clause-ok g c =
       calls = ran.2;
       plain = listed.0;
       finished = ran.3;
-      all = omega (arith, c.if-tally-gt0.false);
+      all = omega arith;
       shown = listed.1;
       listed = listed.2;
     }
