@@ -2,17 +2,17 @@
 
 ghost use Rattle.std.specs.Prelude.{◌≡◌};
 
-use crate::step::AloneStep;
+use crate::step::{AloneKind, AloneStep};
 use crate::tell::{MOST_TRIES, tell, tell_answers};
 use anyhow::{Context, Result, bail, ensure};
-use locked_table::{Receipt, Shared};
+use locked_table::{Receipt, Record, Shared};
 use pid_script::answer::answer_text;
 use pid_script::job::{JobFault, read_job};
 use pid_types::call::Call;
 use pid_types::config::Config;
 use pid_types::device::{FromReader, ToWriter};
 use pid_workers::{
-    OpenGate, RunFault, SeatDesk, Work, run, run_limited, run_state, run_workers, work,
+    OpenGate, RunFault, SeatDesk, Tally, Work, run, run_limited, run_state, run_workers, work,
 };
 use std::alloc::{AllocError, Global};
 use std::marker::Brand;
@@ -50,24 +50,31 @@ fn play_once<R: Print + Threads + Wait + Clock + Sync + AllocGlobal>(
     config: &Config,
     step: &AloneStep,
 ) -> Result<bool> {
-    match step {
-        AloneStep::Open => open::<Brand, R>(rt, Blank::new(1), heading, config),
-        AloneStep::Job(script) => read(rt, heading, script.as_bytes()),
-        AloneStep::Run(script) => answer_all(rt, heading, config, script.as_bytes()),
-        AloneStep::Limited(script) => answer_few(rt, heading, config, script.as_bytes()),
-        AloneStep::State(script) => {
+    let script = step.script.as_str();
+    match step.kind {
+        AloneKind::Open => open::<Brand, R>(rt, Blank::new(1), heading, config),
+        AloneKind::Job => read(rt, heading, script.as_bytes()),
+        AloneKind::Run => answer_all(rt, heading, config, script.as_bytes()),
+        AloneKind::Limited => answer_few(rt, heading, config, script.as_bytes()),
+        AloneKind::State => {
             answer_and_list::<Brand, R>(rt, Blank::new(1), heading, config, script.as_bytes())
         }
-        AloneStep::Work(script) => {
+        AloneKind::Work => {
             let calls = parse_job(rt.alloc(), script.as_bytes())?;
             serve::<Brand, R>(rt, Blank::new(1), heading, config, calls.as_slice())
         }
-        AloneStep::Workers(first, second) => {
-            let first = parse_job(rt.alloc(), first.as_bytes())?;
-            let second = parse_job(rt.alloc(), second.as_bytes())?;
-            serve_two::<Brand, R>(rt, Blank::new(2), heading, config, &[first, second])
+        AloneKind::Workers => {
+            let jobs = parse_two(rt.alloc(), script)?;
+            serve_two::<Brand, R>(rt, Blank::new(2), heading, config, &jobs)
         }
     }
+}
+
+/// The calls of two jobs, with a bar between them.
+fn parse_two(alloc: Global, script: &str) -> Result<[Vec<Call>; 2]> {
+    let (first, second) = script.split_once('|').context("one job alone")?;
+    let first = parse_job(alloc, first.as_bytes())?;
+    Ok([first, parse_job(alloc, second.as_bytes())?])
 }
 
 /// The calls of a job.
@@ -90,7 +97,16 @@ fn open<L: Ledger, R: Print + Wait + Clock + AllocGlobal>(
         tell(rt, &[b"- no memory\n"])?;
         return Ok(false);
     };
-    println!(rt; "= seats {} calls {}", seats.len(), shared.lock(rt).total())?;
+    tell_opened(rt, &shared, seats.len())
+}
+
+/// Tells how many seats there are, and how many calls were recorded.
+fn tell_opened<L: Ledger, R: Print + Wait>(
+    rt: &R,
+    shared: &Shared<L, 1>,
+    seats: usize,
+) -> Result<bool> {
+    println!(rt; "= seats {seats} calls {}", shared.lock(rt).total())?;
     Ok(true)
 }
 
@@ -166,13 +182,21 @@ fn answer_and_list<L: Ledger, R: Print + AllocGlobal>(
     let mut sink = ToWriter::new(&mut text);
     tell(rt, &[heading])?;
     match run_state::<L, _, _>(rt.alloc(), blank, &mut source, &mut sink, config) {
-        Ok((tally, record)) => {
-            let is_whole = tell_answers(rt, text.as_slice(), Ok(tally))?;
-            tell(rt, &[list_table(rt.alloc(), record.present())?.as_slice()])?;
-            Ok(is_whole)
-        }
+        Ok((tally, record)) => list_behind(rt, text.as_slice(), tally, &record),
         Err(fault) => tell_answers(rt, text.as_slice(), Err(fault)),
     }
+}
+
+/// Tells the answers of a run, and the list of the table that it left.
+fn list_behind<L: Ledger, R: Print + AllocGlobal>(
+    rt: &R,
+    text: &[u8],
+    tally: Tally,
+    record: &Record<L, 1>,
+) -> Result<bool> {
+    let is_whole = tell_answers(rt, text, Ok(tally))?;
+    tell(rt, &[list_table(rt.alloc(), record.present())?.as_slice()])?;
+    Ok(is_whole)
 }
 
 /// Has one worker make the calls, at a desk of its own.
@@ -195,12 +219,15 @@ fn serve<L: Ledger, R: Print + Wait + Clock + AllocGlobal>(
     tell(rt, &[heading])?;
     match work(rt, rt.alloc(), &mut desk, &OpenGate, 0, calls) {
         Ok(done) => tell_works(rt, &[done]),
-        Err(AllocError) => {
-            tell(rt, &[b"- no memory\n"])?;
-            ensure!(shared.lock(rt).total() == 0, "a call was recorded");
-            Ok(false)
-        }
+        Err(AllocError) => tell_unmade(rt, &shared),
     }
+}
+
+/// Tells that there was no memory, where no call was recorded.
+fn tell_unmade<L: Ledger, R: Print + Wait>(rt: &R, shared: &Shared<L, 1>) -> Result<bool> {
+    tell(rt, &[b"- no memory\n"])?;
+    ensure!(shared.lock(rt).total() == 0, "a call was recorded");
+    Ok(false)
 }
 
 /// Has two workers make the calls, each in a thread of its own.

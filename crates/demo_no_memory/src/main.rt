@@ -20,16 +20,27 @@ use anyhow::{Context, Result};
 use pid_types::config::Config;
 use script::play_script;
 use std::io;
+use std::sync::Wait;
+use std::thread::Threads;
+use std::time::Clock;
 use tell::tell;
 
 fn main(rt: HostRuntime) -> Result<()> {
     let text = io::read_to_string(rt.alloc(), rt.reader())?;
     for script in text.as_str().split("# ").skip(1) {
-        let (head, lines) = script.split_once('\n').context("no script below a name")?;
-        tell(&rt, &[b"# ", head.as_bytes(), b"\n"])?;
-        play_script(&rt, &read_config(head)?, lines)?;
+        play_part(&rt, script)?;
     }
     Ok(())
+}
+
+/// Plays a script below its name.
+fn play_part<R: Print + Threads + Wait + Clock + Sync + AllocGlobal>(
+    rt: &R,
+    script: &str,
+) -> Result<()> {
+    let (head, lines) = script.split_once('\n').context("no script below a name")?;
+    tell(rt, &[b"# ", head.as_bytes(), b"\n"])?;
+    play_script(rt, &read_config(head)?, lines)
 }
 
 /// The configuration with the bound that stands behind the name.

@@ -29,16 +29,22 @@ pub fn play_script<R: Print + Threads + Wait + Clock + Sync + AllocGlobal>(
     config: &Config,
     lines: &str,
 ) -> Result<()> {
-    let mut steps = Vec::new(rt.alloc());
-    for line in lines.lines() {
-        steps.push(parse_told(rt.alloc(), line)?)?;
-    }
+    let steps = parse_steps(rt.alloc(), lines)?;
     for _ in 0..MOST_TRIES {
         if play_once(rt, config, steps.as_slice())? {
             return Ok(());
         }
     }
     bail!("no table after {MOST_TRIES} tries")
+}
+
+/// The steps of the lines.
+fn parse_steps(alloc: Global, lines: &str) -> Result<Vec<Told>> {
+    let mut steps = Vec::new(alloc);
+    for line in lines.lines() {
+        steps.push(parse_told(alloc, line)?)?;
+    }
+    Ok(steps)
 }
 
 /// The step of a line.

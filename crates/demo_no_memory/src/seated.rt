@@ -78,16 +78,31 @@ impl<L: Ledger> Seated<L> {
     ) -> Result<()> {
         let before = self.picture(rt.alloc())?;
         for _ in 0..MOST_TRIES {
-            tell(rt, &[heading])?;
-            match self.make(rt.alloc(), step) {
-                Ok(made) => return self.show(rt, &made),
-                Err(AllocError) => tell(rt, &[b"- no memory\n"])?,
-            }
-            if self.picture(rt.alloc())?.as_slice() != before.as_slice() {
-                bail!("something has changed");
+            if self.try_once(rt, heading, step, before.as_slice())? {
+                return Ok(());
             }
         }
         bail!("no memory after {MOST_TRIES} tries")
+    }
+
+    /// Makes a step, and tells what it answers. It answers whether there was memory for it.
+    fn try_once<R: Print + AllocGlobal>(
+        &mut self,
+        rt: &R,
+        heading: &[u8],
+        step: &SeatedStep,
+        before: &[u8],
+    ) -> Result<bool> {
+        tell(rt, &[heading])?;
+        if let Ok(made) = self.make(rt.alloc(), step) {
+            self.show(rt, &made)?;
+            return Ok(true);
+        }
+        tell(rt, &[b"- no memory\n"])?;
+        if self.picture(rt.alloc())?.as_slice() != before {
+            bail!("something has changed");
+        }
+        Ok(false)
     }
 
     /// Makes a step.

@@ -1,6 +1,6 @@
 //! The steps: what a line of a script asks for.
 
-use anyhow::{Context, Result, bail};
+use anyhow::{Result, bail};
 use pid_script::line::{Line, parse_line};
 use pid_types::call::Call;
 use std::alloc::Global;
@@ -48,33 +48,47 @@ pub enum SeatedStep {
 
 /// A step on a table of its own. Scripts have `;` in the place of a newline.
 #[derive(Drop)]
-pub enum AloneStep {
+pub struct AloneStep {
+    pub kind: AloneKind,
+    /// What stands behind the word, with newlines.
+    pub script: String,
+}
+
+/// What a step on a table of its own does.
+#[derive(Clone, Copy)]
+pub enum AloneKind {
     /// `open`: a table behind its lock.
     Open,
     /// `job SCRIPT`: the calls of a job.
-    Job(String),
+    Job,
     /// `run SCRIPT`.
-    Run(String),
+    Run,
     /// `limited SCRIPT`: a run of at most two reads.
-    Limited(String),
+    Limited,
     /// `state SCRIPT`: a run that hands back its record.
-    State(String),
+    State,
     /// `work SCRIPT`: one worker's job, at a desk.
-    Work(String),
+    Work,
     /// `workers SCRIPT|SCRIPT`: two workers.
-    Workers(String, String),
+    Workers,
 }
 
 /// The step of a line.
 pub fn parse_step(alloc: Global, line: &str) -> Result<Step> {
     let (word, rest) = line.split_once(' ').unwrap_or((line, ""));
-    if let Some(kind) = parse_alone(alloc, word, rest)? {
-        return Ok(Step::Alone(kind));
+    if let Some(kind) = parse_alone(word) {
+        let script = rest.replace(alloc, ";", "\n")?;
+        return Ok(Step::Alone(AloneStep { kind, script }));
     }
     if let Some(layer) = parse_layer(word) {
         return Ok(Step::Layer(layer));
     }
-    let kind = match word {
+    Ok(Step::Seated(parse_seated(line, word, rest)?))
+}
+
+/// The step on the script's table.
+fn parse_seated(line: &str, word: &str, rest: &str) -> Result<SeatedStep> {
+    Ok(match word {
         "reserve" => SeatedStep::Reserve(rest.parse::<usize>()?),
         "checkpoint" => SeatedStep::Checkpoint,
         "opening" => SeatedStep::Opening,
@@ -86,8 +100,7 @@ pub fn parse_step(alloc: Global, line: &str) -> Result<Step> {
             Line::Call(call) => SeatedStep::Call(call),
             _ => bail!("no step: {line}"),
         },
-    };
-    Ok(Step::Seated(kind))
+    })
 }
 
 /// The layer that the word names, if it names one.
@@ -104,23 +117,15 @@ fn parse_layer(word: &str) -> Option<Layer> {
 }
 
 /// The step on a table of its own, if the word names one.
-fn parse_alone(alloc: Global, word: &str, rest: &str) -> Result<Option<AloneStep>> {
-    Ok(Some(match word {
-        "open" => AloneStep::Open,
-        "job" => AloneStep::Job(script(alloc, rest)?),
-        "run" => AloneStep::Run(script(alloc, rest)?),
-        "limited" => AloneStep::Limited(script(alloc, rest)?),
-        "state" => AloneStep::State(script(alloc, rest)?),
-        "work" => AloneStep::Work(script(alloc, rest)?),
-        "workers" => {
-            let (first, second) = rest.split_once('|').context("one job alone")?;
-            AloneStep::Workers(script(alloc, first)?, script(alloc, second)?)
-        }
-        _ => return Ok(None),
-    }))
-}
-
-/// The lines that stand behind one another.
-fn script(alloc: Global, text: &str) -> Result<String> {
-    Ok(text.replace(alloc, ";", "\n")?)
+fn parse_alone(word: &str) -> Option<AloneKind> {
+    Some(match word {
+        "open" => AloneKind::Open,
+        "job" => AloneKind::Job,
+        "run" => AloneKind::Run,
+        "limited" => AloneKind::Limited,
+        "state" => AloneKind::State,
+        "work" => AloneKind::Work,
+        "workers" => AloneKind::Workers,
+        _ => return None,
+    })
 }

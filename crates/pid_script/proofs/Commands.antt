@@ -28,20 +28,9 @@ unfolding command_of
 as_long n command words is =
     ap (option_and_then (λ read. read words)) (named-as_long commands command ∙ ap (λ n. named (rows_of n commands) command) is)
 
-pub of_two : AsLong 2
-of_two = as_long 2
-
-pub of_four : AsLong 4
-of_four = as_long 4
-
-pub of_five : AsLong 5
-of_five = as_long 5
-
 -- no command has another length
 pub no_command : (command words : List ℕ) → length command ≢ 2 → length command ≢ 4 → length command ≢ 5 → length command ≢ 6
     → length command ≢ 7 → length command ≢ 9 → command_of command words ≡ None
 no_command command words a b c d e f =
     as_long (length command) command words refl
     ∙ (rw (ne_eqb _ 2 a, ne_eqb _ 4 b, ne_eqb _ 5 c, ne_eqb _ 6 d, ne_eqb _ 7 e, ne_eqb _ 9 f))
-
-pub ruleset letters = (of_two, of_four, of_five)

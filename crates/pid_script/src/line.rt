@@ -215,7 +215,7 @@ fn read_subreaper(words: &[u8]) -> Option<Call>
 }
 
 /// The call of a command of two letters and the words behind it.
-#[tactic(auto, using(crate::proofs::Commands::letters), unfolding(crate::specs::Reading::command_of))]
+#[tactic(auto, unfolding(crate::specs::Reading::command_of))]
 fn read_two_letters(command: &[u8], words: &[u8]) -> Option<Call>
     ensures { length command.now ≡ 2 → result ≡ command_of command.now words.now }
 {
@@ -227,7 +227,7 @@ fn read_two_letters(command: &[u8], words: &[u8]) -> Option<Call>
 }
 
 /// The call of a command of four letters and the words behind it.
-#[tactic(auto, using(crate::proofs::Commands::letters), unfolding(crate::specs::Reading::command_of))]
+#[tactic(auto, unfolding(crate::specs::Reading::command_of))]
 fn read_four_letters(command: &[u8], words: &[u8]) -> Option<Call>
     ensures { length command.now ≡ 4 → result ≡ command_of command.now words.now }
 {
@@ -244,7 +244,7 @@ fn read_four_letters(command: &[u8], words: &[u8]) -> Option<Call>
 }
 
 /// The call of a command of five letters and the words behind it.
-#[tactic(auto, using(crate::proofs::Commands::letters), unfolding(crate::specs::Reading::command_of))]
+#[tactic(auto, unfolding(crate::specs::Reading::command_of))]
 fn read_five_letters(command: &[u8], words: &[u8]) -> Option<Call>
     ensures { length command.now ≡ 5 → result ≡ command_of command.now words.now }
 {

@@ -246,8 +246,8 @@ pub extern "C" fn pidtab_line(
 /// Puts the list of the table at the front of the room, each line with its newline; `size` is the list's length.
 ///
 /// `CLOSED` where there is no open table; `NO_MEMORY`; `NO_ROOM` where the list is longer than the room, and then too
-/// `size` is the list's length. It costs the text, which is held whole before it is put. Its contract tells too what is true
-/// of a table between any two calls: its state is sound, and the ids in it are below the stamp of the next call.
+/// `size` is the list's length. It costs the text, which is held whole before it is put. Its contract tells too what is
+/// true of a table between any two calls: its state is sound, and the ids in it are below the stamp of the next call.
 #[unsafe(no_mangle)]
 pub extern "C" fn pidtab_list(
     alloc: Global,

@@ -14,7 +14,7 @@ returns-clause-ok g c =
       text = ran.1;
       calls = ran.2;
       finished = ran.3;
-      all = omega (arith, c.if-tally-gt0.false);
+      all = omega arith;
       listed = c.in_ok-list_table.ensures ∙ ap list_of_state c.present.ensures;
     }
 

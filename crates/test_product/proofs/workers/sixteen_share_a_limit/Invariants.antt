@@ -1,0 +1,5 @@
+use Rattle.test_product.proofs.workers.sixteen_share_a_limit.Given as goal
+
+-- the table's one ledger is the one that the blank names
+abbrev pub ghosts-run_sixteen : goal.ghosts-run_sixteen
+ghosts-run_sixteen g a = record { name = a.blank.name; parts = a.blank.parts }

@@ -1,0 +1,140 @@
+//! A record that goes on from a saved text.
+ghost use Rattle.std.specs.Prelude.{◌≡◌};
+
+use crate::records::{
+    FORK, MAKE, act_all, are_in_order, call_all, counts_of, recorded_of_second, sizes_of, want,
+};
+use kept_table::Kept;
+use locked_table::{Receipt, Record, Seat, Shared};
+use pid_types::call::Call;
+use pid_types::reply::Reply;
+use std::alloc::Global;
+use std::marker::Brand;
+use std::process::Abort;
+use std::sync::Wait;
+use std::sync::ledger::{Blank, Ledger};
+use std::test::Fail;
+use table_load::load::load;
+
+/// The text of `docs/SCRIPT.md`, after six calls.
+const TEXT: &[u8] = b"pidtab table 1 pid-max 32768 stamp 7
+task 1@0 parent - group 1@0 session 1@0 control 0 children 0 live
+task 2@0 parent 1@0 group 3,1@2 session 1@0 control 0 children 0 live
+space 0 parent - cursor 4
+space 2 parent 0 cursor 2 fallen
+control 0 parent - limit max
+end sha256 43e4b011666adfc0327747421276975e151ed4aaf6d8c75e33dcc6843cccb951
+";
+
+/// What is called behind it, by two workers. The stamps go on from 7, and the ordinals from `first`.
+fn behind(first: u64) -> [Receipt; 3] {
+    let group = Call::GetPgid { caller: 2, pid: 0 };
+    let child = Reply::Forked { child: 4, root: 4 };
+    [
+        want(first, 0, group, Reply::Number(3)),
+        want(first.saturating_add(1), 1, MAKE, Reply::Control(8)),
+        want(first.saturating_add(2), 1, FORK, child),
+    ]
+}
+
+/// What a record has that was resumed with these counts, before its first call.
+fn assert_resumed<L: Ledger>(
+    rt: &impl Abort,
+    record: &Record<L, 2>,
+    seats: &[Seat<L, 2>],
+    counts: &[u64; 2],
+) {
+    let all = counts[0].saturating_add(counts[1]);
+    assert_eq!(rt; counts_of(record), [all, all, counts[0]]);
+    assert_eq!(rt; begun_with(record), (Some(7), 32768));
+    assert_eq!(rt; sizes_of(record), (2, 1));
+    assert!(rt; goes_on(record));
+    for (seat, count) in seats.iter().zip(counts) {
+        assert_eq!(rt; seat.calls(), *count);
+    }
+}
+
+/// The next stamp, and the bound of numbers. The callers know nothing more of them.
+fn begun_with<L: Ledger>(record: &Record<L, 2>) -> (Option<u64>, u32) {
+    (record.next_stamp(), record.config().pid_max())
+}
+
+/// Whether the record was resumed.
+fn goes_on<L: Ledger>(record: &Record<L, 2>) -> bool {
+    record.is_resumed()
+}
+
+/// The record goes on with calls that are told from the ordinal on.
+fn go_on<L: Ledger>(
+    rt: &impl Abort,
+    alloc: Global,
+    blank: Blank,
+    counts: &[u64; 2],
+    first: u64,
+) -> Result<(), Fail>
+    requires name { blank.name ≡ L.name }
+    requires parts { (blank.parts ≡ L.parts) × (L.parts ≡ 2) }
+{
+    let loaded = load(alloc, TEXT).expect(rt, "a table");
+    assert!(rt; Kept::can_resume(loaded.stamp, counts));
+    let resumed = Record::<L, 2>::resume(alloc, blank, loaded.table, loaded.stamp, counts);
+    let (mut record, mut seats) = resumed?;
+    assert_resumed(rt, &record, &seats, counts);
+    act_all(rt, &mut record, &mut seats, &behind(first));
+    Ok(())
+}
+
+#[test]
+fn goes_on_with_ordinals(rt: HostRuntime) -> Result<(), Fail> {
+    go_on::<Brand>(&rt, rt.alloc(), Blank::new(2), &[4, 2], 6)
+}
+
+#[test]
+fn begins_to_count(rt: HostRuntime) -> Result<(), Fail> {
+    go_on::<Brand>(&rt, rt.alloc(), Blank::new(2), &[0, 0], 0)
+}
+
+/// The table goes on under the lock, and is closed.
+fn go_on_under_lock<L: Ledger, R: Wait + Abort>(
+    rt: &R,
+    alloc: Global,
+    blank: Blank,
+) -> Result<(), Fail>
+    requires name { blank.name ≡ L.name }
+    requires parts { (blank.parts ≡ L.parts) × (L.parts ≡ 2) }
+{
+    let loaded = load(alloc, TEXT).expect(rt, "a table");
+    let counts = [4, 2];
+    assert!(rt; Kept::can_resume(loaded.stamp, &counts));
+    let resumed = Record::<L, 2>::resume(alloc, blank, loaded.table, loaded.stamp, &counts);
+    let (record, mut seats) = resumed?;
+    let shared = Shared::of(record);
+    assert_resumed(rt, &shared.lock(rt), seats.as_slice(), &counts);
+    call_all(rt, &shared, &mut seats, &behind(6));
+    assert!(rt; are_in_order(seats.as_slice()));
+    let record = shared.close(seats);
+    assert_eq!(rt; counts_of(&record), [6, 9, 5]);
+    assert_eq!(rt; recorded_of_second(&record), 4);
+    Ok(())
+}
+
+#[test]
+fn goes_on_under_the_lock(rt: HostRuntime) -> Result<(), Fail> {
+    go_on_under_lock::<Brand, HostRuntime>(&rt, rt.alloc(), Blank::new(2))
+}
+
+#[test]
+fn refuses_counts_without_a_stamp(rt: HostRuntime) {
+    let counts = [
+        ([6, 0], true),
+        ([0, 6], true),
+        ([6, 1], false),
+        ([7, 0], false),
+        ([u64::MAX, u64::MAX], false),
+    ];
+    for (count, can) in counts {
+        assert_eq!(rt; Kept::can_resume(7, &count), can);
+    }
+    assert!(rt; !Kept::can_resume(0, &[]));
+    assert!(rt; Kept::can_resume(1, &[]));
+}

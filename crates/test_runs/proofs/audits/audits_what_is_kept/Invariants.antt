@@ -1,4 +1,0 @@
-use Rattle.test_runs.proofs.audits.audits_what_is_kept.Given as goal
-
-abbrev pub ghosts-audit_after_checkpoint : goal.ghosts-audit_after_checkpoint
-ghosts-audit_after_checkpoint g a = record { name = a.blank.name; parts = a.blank.parts }
