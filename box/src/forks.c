@@ -8,6 +8,7 @@
 #include <stdlib.h>
 #include <sys/ptrace.h>
 #include <sys/syscall.h>
+#include <unistd.h>
 
 /* Where clone(2) has its arguments. */
 enum { FLAGS = 0, PARENT_TID = 2, CHILD_TID = MACHINE == 0 ? 3 : 4 };
@@ -182,14 +183,16 @@ int64_t leave_unshare(struct thread *thread, int64_t result)
 
 /* ---- children whose parent was killed before it could say whose they are ---- */
 
-static void kill_one(struct thread *thread)
+/* A process alone, which leads its threads: a new thread is claimed by the event of its process, which lives. */
+static void kill_process(struct thread *thread)
 {
-	kill(thread->tid, SIGKILL);
+	if (!syscall(SYS_tgkill, thread->tid, thread->tid, 0))
+		kill(thread->tid, SIGKILL);
 }
 
 /* A thread has ended. Where it was within a fork and no other one is, nobody will claim the children that wait: they are nobody's. */
 void unclaimed_end(void)
 {
 	if (forking == 0)
-		each_unclaimed(kill_one);
+		each_unclaimed(kill_process);
 }

@@ -159,22 +159,20 @@ void process_free(struct process *process)
 enum { CLOCK_BITS = 3, CLOCK_OF_FILE = 3 };
 
 /* A pair without a process lives as long as a group or a session uses it: then the kernel gives the number to nobody else. */
-static struct name *in_use(struct name *name)
+static bool is_in_use(const struct name *name)
 {
-	if (!name || name->process || name->root == SUPERVISOR || table_uses(name->root))
-		return name;
-	name_drop(name);
-	return NULL;
+	return name && (name->process || name->root == SUPERVISOR || table_uses(name->root));
 }
 
 /* A process that is gone is nobody, though a group may have its number. */
 static pid_t real_seen(const struct process *caller, enum kind kind, int64_t number)
 {
-	const struct name *name = in_use(name_seen(caller, (uint32_t)number));
+	const struct name *name = name_seen(caller, (uint32_t)number);
+	bool is_process = kind == PROCESS || kind == TASK;
 
-	if (name && !name->process && name->root != SUPERVISOR && (kind == PROCESS || kind == TASK))
+	if (!is_in_use(name) || (is_process && !name->process && name->root != SUPERVISOR))
 		return NOBODY;
-	return name ? name->real : NOBODY;
+	return name->real;
 }
 
 static pid_t real_task(const struct process *caller, int64_t number)
@@ -192,7 +190,7 @@ static int64_t number_of_task(const struct process *caller, int64_t real)
 
 	if (thread && thread->process && thread->number)
 		return number_of(thread->process->name, caller) ? thread->number : 0;
-	return number_of(in_use(name_of_real((pid_t)real)), caller);
+	return number_of(name_of_real((pid_t)real), caller);
 }
 
 /* The kernel's number for one of the caller's; NOBODY where it names nobody. 0 and what is negative is the caller's own affair. */
@@ -209,12 +207,12 @@ int64_t to_real(const struct process *caller, enum kind kind, int64_t number)
 	return kind == TASK ? real_task(caller, number) : real_seen(caller, kind, number);
 }
 
-/* The caller's number for one of the kernel's; 0 where the caller cannot see it. */
+/* The caller's number for one of the kernel's; 0 where the caller cannot see it. A signal may still name a process that is gone. */
 int64_t to_number(const struct process *caller, enum kind kind, int64_t real)
 {
 	if (kind == PROCESS_OR_GROUP && real < -1)
-		return -(int64_t)number_of(in_use(name_of_real((pid_t)-real)), caller);
+		return -(int64_t)number_of(name_of_real((pid_t)-real), caller);
 	if (real <= 0)
 		return real;
-	return kind == TASK ? number_of_task(caller, real) : number_of(in_use(name_of_real((pid_t)real)), caller);
+	return kind == TASK ? number_of_task(caller, real) : number_of(name_of_real((pid_t)real), caller);
 }
