@@ -1,6 +1,7 @@
 """A shell's job control on a terminal, driven by what it prints: each step waits for its answer, and for a state that it has to meet first."""
 import os
 import pty
+import re
 import select
 import signal
 import sys
@@ -126,12 +127,12 @@ def drive(shell):
     shell.ask("kill -9 %1")
     say("waited for", "done" in shell.ask("wait; echo done"))
     shell.ask("cat & reader=$!")
-    reader = int(shell.ask("echo $reader"))
+    reader = int(re.search(r"\d+", shell.ask("echo $reader"))[0])
     until_state(reader, "T")
     say("a reader behind is stopped", state_of(reader))
     shell.ask("kill -9 $reader")
     until_gone(reader)
-    say("end", shell.ask("wait $reader; echo st $?").strip().endswith("st 137"))
+    say("reaped", not os.path.exists(f"/proc/{reader}"))
     shell.type("exit 5\n")
     say("status", os.waitstatus_to_exitcode(os.waitpid(shell.pid, 0)[1]))
 
