@@ -1,4 +1,5 @@
 """Suites of others: Python's own tests of processes, and stressors of stress-ng, in the kernel's namespace and in the box."""
+import concurrent.futures
 import re
 import shutil
 import subprocess
@@ -8,6 +9,8 @@ from rig import in_box, in_kernel
 PYTHON = "/usr/bin/python3"
 SUITES = ("fork1 wait3 wait4 popen pty posix os subprocess signal threading multiprocessing_main_handling multiprocessing_fork asyncio "
           "concurrent_futures faulthandler").split()
+LONG = ("concurrent_futures", "asyncio", "multiprocessing_fork", "signal", "subprocess")
+AT_ONCE = 4
 SUITE_SECONDS = 900
 STRESSORS = ("fork vfork clone daemon exec kill session sigchld spawn zombie wait pidfd affinity vforkmany sigq sigfd sigsuspend schedpolicy get nice "
              "switch pty fault forkheavy").split()
@@ -33,25 +36,27 @@ def is_there():
     return asked.returncode == 0
 
 
+def run_both(suite):
+    words = ["tini", "-s", "--", PYTHON, "-m", "test.regrtest", "-v", "-u", "none", f"test_{suite}"]
+    return suite, in_kernel(words, SUITE_SECONDS), in_box(words, f"python-{suite}", SUITE_SECONDS)
+
+
 def python(tell):
-    """Each suite: a failure is a test whose outcome in the box is another one."""
+    """Each suite: a failure is a test whose outcome in the box is another one. Most of them sleep, so several run at once."""
     if not is_there():
         return tell.skip("python", "no test.test_fork1 of /usr/bin/python3 (Debian: libpython3.11-testsuite)")
-    total = {"ok": 0, "calls": 0}
-    for suite in SUITES:
-        words = ["tini", "-s", "--", PYTHON, "-m", "test.regrtest", "-v", "-u", "none", f"test_{suite}"]
-        kernel = in_kernel(words, SUITE_SECONDS)
-        box = in_box(words, f"python-{suite}", SUITE_SECONDS)
-        one, other = outcomes(kernel.output), outcomes(box.output)
-        for test in sorted(set(one) | set(other)):
-            if one.get(test) != other.get(test):
-                tell.fault(f"python {suite} {test}", f"kernel {one.get(test)}, box {other.get(test)}")
-        ok = sum(it == "ok" for it in other.values())
-        total["ok"] += ok
-        total["calls"] += box.calls
-        tell.say(f"python {suite}", f"{ok} of {sum(it == 'ok' for it in one.values())} ok, {box.calls} calls")
-        tell.differences(f"python {suite}", box)
-    return tell.say("python", f"{total['ok']} ok in the box, {total['calls']} calls")
+    ok = calls = 0
+    with concurrent.futures.ThreadPoolExecutor(AT_ONCE) as pool:
+        for suite, kernel, box in pool.map(run_both, sorted(SUITES, key=lambda it: it not in LONG)):
+            one, other = outcomes(kernel.output), outcomes(box.output)
+            for test in sorted(set(one) | set(other)):
+                if one.get(test) != other.get(test):
+                    tell.fault(f"python {suite} {test}", f"kernel {one.get(test)}, box {other.get(test)}")
+            here = sum(it == "ok" for it in other.values())
+            ok, calls = ok + here, calls + box.calls
+            tell.say(f"python {suite}", f"{here} of {sum(it == 'ok' for it in one.values())} ok, {box.calls} calls")
+            tell.differences(f"python {suite}", box)
+    return tell.say("python", f"{ok} ok in the box, {calls} calls")
 
 
 def stress(tell):

@@ -94,13 +94,13 @@ def until_state(pid, wanted):
         time.sleep(0.01)
 
 
-def until_gone(pid):
-    """Until the shell has reaped it: else its wait tells that the job is stopped, and an exit is refused for that."""
+def until_gone(shell, pid):
+    """Until the shell has reaped it: else an exit is refused, as for a stopped job. Some shells look only where they are asked."""
     end = time.monotonic() + PATIENCE
     while os.path.exists(f"/proc/{pid}"):
         if time.monotonic() > end:
             raise Late(f"the end of {pid}")
-        time.sleep(0.01)
+        shell.ask("jobs")
 
 
 def say(what, *words):
@@ -131,7 +131,7 @@ def drive(shell):
     until_state(reader, "T")
     say("a reader behind is stopped", state_of(reader))
     shell.ask("kill -9 $reader")
-    until_gone(reader)
+    until_gone(shell, reader)
     say("reaped", not os.path.exists(f"/proc/{reader}"))
     shell.type("exit 5\n")
     say("status", os.waitstatus_to_exitcode(os.waitpid(shell.pid, 0)[1]))
