@@ -174,7 +174,6 @@ enum onward answer_with(const struct thread *thread, int64_t result);
 enum onward watch(struct thread *thread, const struct registers *registers);
 enum onward answer_or_check(struct thread *thread, int64_t told, const struct registers *registers);
 enum onward translate(struct thread *thread, struct registers *registers);
-enum onward refuse(struct thread *thread);
 void lend(struct thread *thread, uint64_t at, enum kind kind);
 void show(const struct thread *thread, uint64_t at, enum kind kind);
 int64_t call_argument(const struct thread *thread, int index);
@@ -188,11 +187,9 @@ void unclaimed_end(void);
 /* ---- groups.c ---- */
 
 void setpgid_over(struct thread *thread, int64_t result);
-int64_t ask_parent(const struct process *caller);
 
 /* ---- signals.c ---- */
 
-bool is_from_a_process(int signal, int code);
 int signal_arrives(const struct thread *thread, int signal);
 
 /* ---- life.c: what ends a process in the table and in the kernel ---- */

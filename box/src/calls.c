@@ -334,7 +334,7 @@ static void print_carried(const struct carried carried[CARRIED], const char *bef
 static void print_row(const struct call *call)
 {
 	static const char *const who[] = {
-		[PLAIN] = "kernel", [KERNEL] = "kernel", [TABLE] = "table", [BOX] = "box", [REFUSED] = "refused", [ABSENT] = "refused, unseen"
+		[PLAIN] = "kernel", [KERNEL] = "kernel", [TABLE] = "table", [REFUSED] = "refused", [ABSENT] = "refused, unseen"
 	};
 
 	printf("| `%s` | %d | ", call->name, call->number[0]);

@@ -9,7 +9,6 @@ enum decides {
 	PLAIN,   /* the kernel; the call carries no identifier and does not stop */
 	KERNEL,  /* the kernel, by translated identifiers */
 	TABLE,   /* the table; the kernel is asked too where it has to do the same */
-	BOX,     /* this program */
 	REFUSED, /* nobody: ENOSYS, and the report names it */
 	ABSENT   /* nobody: ENOSYS of the filter, without a stop */
 };

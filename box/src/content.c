@@ -62,14 +62,14 @@ static void write_status_line(FILE *to, const struct process *caller, const char
 	fputs(line, to);
 }
 
-/* The depth of the process that a status is of: by its line Pid, which comes before all lists. */
+/* The depth of the process that a status is of is that of its line Tgid, which comes before all lists. */
 static void write_status(FILE *to, const struct process *caller, FILE *from, pid_t real)
 {
 	char line[4096];
 	uint32_t depth = 0;
 
 	while (fgets(line, sizeof line, from)) {
-		const struct name *name = strncmp(line, "Tgid:", 5) && strncmp(line, "Pid:", 4) ? NULL : name_of_real((pid_t)strtol(strchr(line, ':') + 1, NULL, 10));
+		const struct name *name = strncmp(line, "Tgid:", 5) ? NULL : name_of_real((pid_t)strtol(line + 5, NULL, 10));
 
 		if (name)
 			depth = name->space->depth;

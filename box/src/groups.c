@@ -8,7 +8,7 @@
 /* ---- queries ---- */
 
 /* The kernel gives an orphan a new parent before the old one's end is reported: so that end is fetched first. */
-int64_t ask_parent(const struct process *caller)
+static int64_t ask_parent(const struct process *caller)
 {
 	const struct process *parent = parent_of(caller);
 

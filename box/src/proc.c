@@ -116,16 +116,19 @@ static bool begins(const char *text, size_t size, const char *with)
 	return !strncmp(text, with, size < strlen(with) ? size : strlen(with));
 }
 
-/* A look at the first bytes, which nearly all paths end with: below /proc, or relative and as an entry of it. */
+/* A look at the first bytes, which nearly all paths end with: below /proc, or relative and an entry of it that has numbers. */
 static bool may_be_in_proc(pid_t tid, uint64_t at)
 {
+	static const char *const entries[] = { "/proc", "self", "thread", "task", "stat", "childr", "fdinfo" };
 	char head[6];
 	size_t size = PAGE - at % PAGE < sizeof head ? PAGE - at % PAGE : sizeof head;
 
 	if (!at || !read_memory(tid, at, head, size))
 		return false;
-	return head[0] == '/' ? begins(head, size, "/proc") : isdigit((unsigned char)head[0]) || begins(head, size, "stat") ||
-	       begins(head, size, "task") || begins(head, size, "self") || begins(head, size, "thread") || begins(head, size, "childr") || begins(head, size, "fdinfo");
+	for (size_t i = 0; i < sizeof entries / sizeof entries[0]; i++)
+		if (begins(head, size, entries[i]))
+			return true;
+	return isdigit((unsigned char)head[0]);
 }
 
 static bool read_path(pid_t tid, uint64_t at, char *path)

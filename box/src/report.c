@@ -33,7 +33,8 @@ void report_difference(const char *what, uint32_t root, int64_t kernel, int64_t 
 {
 	differences++;
 	if (checking)
-		fprintf(file ? file : stderr, "pidtab-box: difference: log line %lu: %s of %u: kernel %ld, table %ld\n", log_line, what, root, kernel, table);
+		fprintf(file ? file : stderr, "pidtab-box: difference: log line %lu: %s of %u: kernel %ld, table %ld\n",
+		        log_line, what, root, kernel, table);
 }
 
 /* A call that the table of calls has not has no row. */
@@ -55,7 +56,8 @@ void report_stop(void)
 	for (int i = 0; i < MOST_UNKNOWN; i++)
 		if (refused_unknown[i])
 			fprintf(file, "pidtab-box: refused: call %d (not in the table): %lu\n", i, refused_unknown[i]);
-	fprintf(file, "pidtab-box: calls %lu stops %lu checks %lu differences %lu hidden %lu\n", log_line, stops, checks, differences, hidden_waits);
+	fprintf(file, "pidtab-box: calls %lu stops %lu checks %lu differences %lu hidden %lu\n",
+	        log_line, stops, checks, differences, hidden_waits);
 	if (fclose(file))
 		die("the report");
 }

@@ -81,7 +81,7 @@ enum onward enter_sigaction(struct thread *thread, struct registers *registers)
 /* ---- who has sent a signal ---- */
 
 /* The kernel has put in a number. That of a sigqueue(3) is what its caller says: SI_QUEUE stays as it is. */
-bool is_from_a_process(int signal, int code)
+static bool is_from_a_process(int signal, int code)
 {
 	return code == SI_USER || code == SI_TKILL || code == SI_MESGQ || (signal == SIGCHLD && code > 0 && code <= CLD_CONTINUED);
 }

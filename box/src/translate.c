@@ -20,7 +20,7 @@ enum onward answer_with(const struct thread *thread, int64_t result)
 	return GO;
 }
 
-enum onward refuse(struct thread *thread)
+static enum onward refuse(struct thread *thread)
 {
 	report_refused(thread->call, registers_call(&thread->made));
 	return answer_with(thread, -ENOSYS);
