@@ -139,7 +139,7 @@ install: built $(if $(BUILT_LIBRARY),install-library) ## installs what is built 
 	sed -i 's|^FOLDERS = (\(.*\))$$|FOLDERS = (\1, Path("$(PYTHONDIR)"))|' $(PROGRAMS:%='$(BINARIES)/%')
 	$(INSTALL) -m 644 bindings/python/pidtab/*.py bindings/python/pidtab/py.typed '$(DESTDIR)$(PYTHONDIR)/pidtab'
 	$(INSTALL) -m 644 LICENSE '$(SHARED_FILES)'
-	$(INSTALL) -m 644 man/*.1 '$(DESTDIR)$(MANDIR)/man1'
+	$(INSTALL) -m 644 $(filter-out man/pidtab-box.1,$(wildcard man/*.1)) '$(DESTDIR)$(MANDIR)/man1'
 	$(INSTALL) -m 644 man/*.5 '$(DESTDIR)$(MANDIR)/man5'
 
 install-library: ## installs the library alone, with its headers and its manual pages
@@ -206,6 +206,27 @@ out/libpidtab.a: out/pidtab.o
 
 out/libpidtab.so.1: out/pidtab.o bindings/c/pidtab.map
 	$(CC) -shared -pthread -Wl,-soname,libpidtab.so.1 -Wl,--version-script=bindings/c/pidtab.map -Wl,-z,noexecstack -o $@ out/pidtab.o
+
+.PHONY: box box-test box-bench
+
+# A test rig that runs real programs on a table. What the compiler says is in out/box.log.
+BOX_WANTS = linux/seccomp.h linux/filter.h linux/audit.h sys/ptrace.h
+box: ## builds out/pidtab-box, which runs a program on a table, over what `make lib` has built; Linux on x86-64 (or aarch64, not tried)
+	@test -e out/libpidtab.a || { echo 'no library out/libpidtab.a: build it with `make lib`' >&2; exit 1; }
+	@command -v '$(firstword $(CC))' > /dev/null || { echo 'no C compiler $(firstword $(CC)): install one, or name it by CC=..' >&2; exit 1; }
+	@for it in $(BOX_WANTS); do echo "#include <$$it>" | $(CC) -E - > /dev/null 2>&1 \
+		|| { echo "no header $$it: install those of the C library and of Linux (Debian: libc6-dev)" >&2; exit 1; }; done
+	@$(CC) -std=c11 -O2 -g -Wall -Wextra -Werror -Ibindings/c -o out/pidtab-box box/src/*.c out/libpidtab.a -pthread > out/box.log 2>&1 \
+		|| { echo 'make box failed: see out/box.log' >&2; exit 1; }
+	@out/pidtab-box true || { echo 'out/pidtab-box is built, and this machine does not let it run' >&2; exit 1; }
+	@echo out/pidtab-box
+
+# As nobody, where root runs it. What is missing is told, and skipped.
+box-test: box ## runs real programs in the box and in the kernel's namespaces, and compares (some 8 minutes); BOX_TEST='PART ..' takes some parts
+	@PIDTAB='$(abspath $(PIDTAB))' box/tests/run $(BOX_TEST)
+
+box-bench: box ## times builds and single calls natively, in the box, under strace and under proot (a minute)
+	@box/tests/bench
 
 .PHONY: bindings bindings-python bindings-c bindings-rust bindings-go
 

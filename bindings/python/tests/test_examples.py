@@ -38,7 +38,7 @@ class Examples(unittest.TestCase):
 
     def test_each_script_has_answers_and_a_list(self) -> None:
         names = {file.stem for file in EXAMPLES.glob("*.script")} - JOBS
-        self.assertEqual(len(names), 8)
+        self.assertEqual(len(names), 9)
         for kind in ("answers", "list"):
             self.assertEqual({file.stem for file in EXAMPLES.glob(f"*.{kind}")}, names)
 

@@ -1,0 +1,232 @@
+/* box.h - what the files of pidtab-box share. */
+#ifndef BOX_H
+#define BOX_H
+
+#include "registers.h"
+
+#include <pidtab.h>
+
+#include <stdbool.h>
+#include <stdint.h>
+#include <stdio.h>
+#include <sys/types.h>
+
+enum {
+	MOST_REAL = 4194304,        /* the kernel's own limit of pid_max */
+	NOBODY = 0x3fffffff,        /* no process of the kernel has this number */
+	FIRST_THREAD = MOST_REAL,   /* threads beside the main one: above every number of the table and of the kernel */
+	SUPERVISOR = 1,             /* the table's process 1 is this program; the program in the box is its child, 2 */
+	BOX_INIT = 2,
+	FIRST_RESTART = 512         /* results from -512 downwards mean that the kernel makes the call again */
+};
+
+struct call;
+struct thread;
+
+/* ---- names.c: numbers of the kernel and names of the table ---- */
+
+/* A namespace of the table. */
+struct space {
+	uint64_t id;
+	uint32_t depth;
+	struct space *around;
+	struct name **by_number; /* what each number of this namespace names */
+	struct space *next;
+};
+
+/* A number of the kernel with the name in the table that goes with it. It stays when its process is gone, since a group or a session may
+ * still use both. */
+struct name {
+	pid_t real;
+	uint32_t root;
+	struct space *space; /* its own, of depth d: it has d + 1 numbers */
+	uint32_t levels[PIDTAB_LEVELS_MAX];
+	struct process *process; /* none once it has been reaped */
+};
+
+/* A process as the table has it and as the kernel has it, which differ for a moment at times. */
+struct process {
+	struct name *name; /* none where it is gone */
+	pid_t real;
+	uint32_t root;
+	int threads;             /* real ones that the tracer knows */
+	int leaving;             /* those of an init that are at their end */
+	bool ended;              /* in the table */
+	bool dead;               /* in the kernel: the tracer has seen its end */
+	bool gone;               /* the table has no such task any more; the kernel may have */
+	bool is_init;            /* of a namespace */
+	bool unshared;           /* its next fork makes a namespace, as unshare(2) says */
+	bool joined;             /* its children go into another namespace than its own */
+	bool ignores_children;   /* SIGCHLD is ignored: its children leave no zombies */
+	bool wants_no_zombies;   /* the same by SA_NOCLDWAIT, which an exec ends */
+	pid_t held;              /* the thread of an init that waits for its namespace's members to die */
+	struct process *killer;  /* the init with which it fell */
+	uint32_t spare, spare_root; /* a child of the table whose real fork a signal put off */
+	int asked;               /* how many setpgid on it are under way in the kernel */
+	bool exec_waits;         /* its execve is over in the kernel, and not yet told to the table */
+	uint64_t died;           /* when its end was reported, in events */
+	int suspect;             /* how often in a row its state differed */
+	struct process *next, *previous;
+};
+
+extern struct process *processes;
+
+void *need(void *memory);
+struct name *name_make(pid_t real, uint32_t root);
+void name_outside(pid_t real);
+struct name *name_of_real(pid_t real);
+struct name *name_of_root(uint32_t root);
+struct name *name_seen(const struct process *caller, uint32_t number);
+uint32_t number_of(const struct name *name, const struct process *caller);
+struct process *process_new(struct name *name);
+void process_free(struct process *process);
+
+/* What an identifier names, by which it is translated. */
+enum kind { NO_KIND, PROCESS, TASK, GROUP, PROCESS_OR_GROUP, CLOCK, PATH, DIRECTORY };
+
+int64_t to_real(const struct process *caller, enum kind kind, int64_t number);
+int64_t to_number(const struct process *caller, enum kind kind, int64_t real);
+
+/* ---- threads.c ---- */
+
+/* What it does: its own business; a call whose exit is seen; a call of ours that it is about to make; or is making. */
+enum phase { FREE, IN_CALL, INJECTED, IN_INJECTED };
+
+enum { MOST_LENT = 8 };
+
+/* A number in the program's memory in whose place the kernel's stands during a call. */
+struct lent {
+	uint64_t at;
+	int32_t number;
+};
+
+struct thread {
+	pid_t tid;
+	uint32_t number;         /* as the program sees it; 0 for a main thread, whose number is its process's */
+	struct process *process; /* none where it came before its parent's event */
+	bool is_begun;           /* its first stop was seen */
+	enum phase phase;
+	const struct call *call; /* what it makes, in the table of calls */
+	struct registers made;   /* the call as the program made it */
+	struct registers behind; /* how it goes on behind an injected call */
+	uint64_t entered;        /* when, in events */
+	int64_t told;            /* what the table says of it */
+	struct lent lent[MOST_LENT];
+	int lent_count;
+	bool has_call_of_parent;      /* it has not begun yet, and its registers are those of a fork that this program has changed */
+	uint64_t tid_at;              /* where the kernel has written its number before it ran */
+	uint32_t child, child_root;   /* of a fork: its number to the caller */
+	uint64_t flags;               /* of that fork */
+	bool is_made;                 /* the real child is there */
+	bool makes_space;
+	uint32_t target;              /* of a setpgid that the kernel decides first */
+	bool lists_tasks;             /* the directory that it reads is that of threads */
+	bool is_at_rest;              /* it is stopped by a signal */
+	bool once_more;               /* the call is made again, unseen by the program */
+	int behind_reads;             /* a signalfd, from which reads are to stop behind the call; -1 for none */
+	int content;                  /* a file of /proc that is given in place of the kernel's; -1 for none */
+};
+
+struct thread *thread_new(pid_t tid, struct process *process);
+void thread_free(struct thread *thread);
+struct thread *thread_of_real(pid_t tid);
+struct thread *thread_numbered(uint32_t number);
+void thread_number(struct thread *thread);
+uint32_t thread_seen(const struct thread *thread);
+void each_unclaimed(void (*act)(struct thread *thread));
+
+/* ---- table.c: the table and its log ---- */
+
+extern uint64_t log_line;
+extern struct pidtab_reply reply; /* of the last call */
+
+void table_start(uint32_t pid_max, const char *log, const char *answers);
+void table_stop(void);
+int64_t table_do(uint32_t operation, uint32_t caller, uint32_t number, uint32_t choice);
+int64_t table_setpgid(uint32_t caller, int32_t pid, int32_t pgid);
+int64_t table_control(uint32_t operation, uint32_t caller, uint64_t id, uint32_t number, uint32_t choice);
+struct pidtab_task table_stat(uint32_t caller, uint32_t number);
+bool table_uses(uint32_t root);
+
+/* ---- report.c ---- */
+
+extern bool checking;
+extern uint64_t checks, differences, stops, hidden_waits;
+
+_Noreturn void die(const char *what);
+void report_start(const char *file);
+void report_difference(const char *what, uint32_t root, int64_t kernel, int64_t table);
+void report_refused(const struct call *call, int64_t number);
+void report_stop(void);
+
+/* ---- filter.c ---- */
+
+void filter_install(void);
+bool filter_for_reads(struct thread *thread, struct registers *registers, int file);
+
+/* ---- translate.c: every call that stops ---- */
+
+enum onward { GO, SEE_EXIT };
+
+enum onward call_enter(struct thread *thread);
+enum onward call_leave(struct thread *thread);
+enum onward answer_with(const struct thread *thread, int64_t result);
+enum onward watch(struct thread *thread, const struct registers *registers);
+enum onward answer_or_check(struct thread *thread, int64_t told, const struct registers *registers);
+enum onward translate(struct thread *thread, struct registers *registers);
+void lend(struct thread *thread, uint64_t at, enum kind kind);
+void show(const struct thread *thread, uint64_t at, enum kind kind);
+int64_t call_argument(const struct thread *thread, int index);
+
+/* ---- forks.c ---- */
+
+void forked(struct thread *thread, pid_t real);
+void fork_failed(struct thread *thread, bool again);
+void unclaimed_end(void);
+
+/* ---- groups.c ---- */
+
+void setpgid_over(struct thread *thread, int64_t result);
+
+/* ---- signals.c ---- */
+
+int signal_arrives(const struct thread *thread, int signal);
+
+/* ---- life.c: what ends a process in the table and in the kernel ---- */
+
+void process_ended(struct process *process, int status);
+void process_dead(struct process *process);
+struct process *parent_of(const struct process *child);
+bool settle_parent(const struct process *parent, const struct process *child);
+void reap(struct process *parent, struct process *child);
+void reap_vanished(struct process *parent);
+bool has_fallen_with(const struct process *init);
+
+/* ---- tracer.c ---- */
+
+extern uint64_t events;
+
+void trace(int request, pid_t tid, long data);
+void begin(struct thread *thread);
+void exec_told(struct process *process);
+void catch_up(const struct process *process, int flags);
+int supervise(pid_t init);
+void trace_first(pid_t init, struct process *process);
+bool read_memory(pid_t tid, uint64_t at, void *to, size_t size);
+bool write_memory(pid_t tid, uint64_t at, const void *from, size_t size);
+
+/* ---- check.c: what the kernel answered, beside what the table did ---- */
+
+void compare(const char *what, int64_t kernel, int64_t table);
+void compare_wait(const struct thread *thread, const struct process *child);
+void compare_no_child(const struct thread *thread, int64_t result);
+void compare_state(void);
+
+/* ---- proc.c: paths and listings of /proc; content.c: its files ---- */
+
+extern bool shows_proc;
+
+int content_open(const struct thread *thread, const char *path, const char *file, pid_t real);
+void content_done(struct thread *thread);
+
+#endif

@@ -1,0 +1,158 @@
+/* content.c - files of /proc that have numbers, as this program writes them: it reads the kernel's, and the program opens a copy. */
+#define _GNU_SOURCE
+#include "box.h"
+
+#include <fcntl.h>
+#include <stdlib.h>
+#include <string.h>
+#include <sys/mman.h>
+#include <sys/stat.h>
+#include <unistd.h>
+
+/* The state of a thread that this program has stopped: to the program it runs, or is stopped by a signal. */
+static const char *state_of(pid_t real, const char *kernel)
+{
+	const struct thread *thread = real > 0 && real < MOST_REAL ? thread_of_real(real) : NULL;
+
+	if (*kernel != 't')
+		return kernel;
+	return thread && thread->is_at_rest ? "T (stopped)\n" : "R (running)\n";
+}
+
+/* Numbers behind a word, of the kinds of which the kernel says one, or one for each namespace. */
+struct line {
+	const char *word;
+	enum kind kind;
+	bool is_list;
+};
+
+static const struct line lines[] = {
+	{ "Tgid:", PROCESS, false }, { "Ngid:", NO_KIND, false }, { "Pid:", TASK, false }, { "PPid:", PROCESS, false },
+	{ "TracerPid:", NO_KIND, false }, { "NStgid:", PROCESS, true }, { "NSpid:", TASK, true }, { "NSpgid:", GROUP, true },
+	{ "NSsid:", GROUP, true }
+};
+
+/* The numbers in each namespace from the caller's inwards to that of the process, whose depth it is. */
+static void write_list(FILE *to, const struct process *caller, enum kind kind, pid_t real, uint32_t depth)
+{
+	const struct name *name = name_of_real(real);
+
+	fprintf(to, "\t%ld", to_number(caller, kind, real));
+	for (uint32_t i = caller->name->space->depth + 1; i <= depth; i++)
+		fprintf(to, "\t%u", name && i <= name->space->depth ? name->levels[i] : 0);
+}
+
+static void write_status_line(FILE *to, const struct process *caller, const char *line, uint32_t depth)
+{
+	for (size_t i = 0; i < sizeof lines / sizeof lines[0]; i++) {
+		size_t length = strlen(lines[i].word);
+
+		if (strncmp(line, lines[i].word, length))
+			continue;
+		fputs(lines[i].word, to);
+		if (lines[i].is_list)
+			write_list(to, caller, lines[i].kind, (pid_t)strtol(line + length, NULL, 10), depth);
+		else if (lines[i].kind)
+			fprintf(to, "\t%ld", to_number(caller, lines[i].kind, strtol(line + length, NULL, 10)));
+		else
+			fputs("\t0", to);
+		fputc('\n', to);
+		return;
+	}
+	fputs(line, to);
+}
+
+/* The depth of the process that a status is of is that of its line Tgid, which comes before all lists. */
+static void write_status(FILE *to, const struct process *caller, FILE *from, pid_t real)
+{
+	char line[4096];
+	uint32_t depth = 0;
+
+	while (fgets(line, sizeof line, from)) {
+		const struct name *name = strncmp(line, "Tgid:", 5) ? NULL : name_of_real((pid_t)strtol(line + 5, NULL, 10));
+
+		if (name)
+			depth = name->space->depth;
+		if (strncmp(line, "State:\t", 7))
+			write_status_line(to, caller, line, depth);
+		else
+			fprintf(to, "State:\t%s", state_of(real, line + 7));
+	}
+}
+
+/* proc_pid_stat(5): the number, the name in brackets, the state, parent, group, session, terminal, and the terminal's group. */
+static void write_stat(FILE *to, const struct process *caller, FILE *from)
+{
+	char text[4096], state;
+	size_t size = fread(text, 1, sizeof text - 1, from);
+	int parent, group, session, terminal, foreground, rest = 0;
+	pid_t real;
+	char *open, *close;
+
+	text[size] = 0;
+	open = strchr(text, '(');
+	close = strrchr(text, ')');
+	if (!open || !close || sscanf(close + 1, " %c %d %d %d %d %d%n", &state, &parent, &group, &session, &terminal, &foreground, &rest) != 6) {
+		fputs(text, to);
+		return;
+	}
+	real = (pid_t)strtol(text, NULL, 10);
+	fprintf(to, "%ld %.*s %c %ld %ld %ld %d %ld%s", to_number(caller, TASK, real), (int)(close + 1 - open), open, *state_of(real, &state),
+	        to_number(caller, PROCESS, parent), to_number(caller, GROUP, group), to_number(caller, GROUP, session), terminal,
+	        to_number(caller, GROUP, foreground), close + 1 + rest);
+}
+
+static void write_children(FILE *to, const struct process *caller, FILE *from)
+{
+	long real;
+
+	while (fscanf(from, "%ld", &real) == 1) {
+		int64_t number = to_number(caller, PROCESS, real);
+
+		if (number)
+			fprintf(to, "%ld ", number);
+	}
+}
+
+static void write_content(FILE *to, const struct process *caller, FILE *from, const char *file, pid_t real)
+{
+	if (!strcmp(file, "/stat"))
+		write_stat(to, caller, from);
+	else if (!strcmp(file, "/children"))
+		write_children(to, caller, from);
+	else
+		write_status(to, caller, from, real);
+}
+
+/* A descriptor of this program with the file as the thread is to see it; -1 where the kernel is to answer. */
+int content_open(const struct thread *thread, const char *path, const char *file, pid_t real)
+{
+	FILE *from = fopen(path, "re"), *to = NULL;
+	char *text = NULL;
+	size_t size = 0;
+	int made = -1;
+
+	if (from)
+		to = open_memstream(&text, &size);
+	if (to) {
+		write_content(to, thread->process, from, file, real);
+		fclose(to);
+		made = memfd_create(file + 1, MFD_CLOEXEC);
+	}
+	if (made >= 0 && (write(made, text, size) != (ssize_t)size || fchmod(made, 0444))) {
+		close(made);
+		made = -1;
+	}
+	free(text);
+	if (from)
+		fclose(from);
+	return made;
+}
+
+/* The program has opened it, or could not. */
+void content_done(struct thread *thread)
+{
+	if (thread->content >= 0)
+		close(thread->content);
+	thread->content = -1;
+}

@@ -1,0 +1,172 @@
+/* filter.c - the seccomp filter, made of the table of calls: what carries an identifier stops for the supervisor or is refused, what is plain
+ * runs at full speed, and a call that the table has not stops too, to be refused by name. */
+#define _GNU_SOURCE
+#include "calls.h"
+
+#include <errno.h>
+#include <linux/audit.h>
+#include <linux/filter.h>
+#include <linux/seccomp.h>
+#include <stddef.h>
+#include <string.h>
+#include <sys/prctl.h>
+#include <sys/syscall.h>
+
+enum { MOST_CODE = 4096, MOST_CALLS = 512, LONGEST_JUMP = 255 };
+
+#define FIELD(name) (struct sock_filter)BPF_STMT(BPF_LD | BPF_W | BPF_ABS, offsetof(struct seccomp_data, name))
+#define GIVE(what) (struct sock_filter)BPF_STMT(BPF_RET | BPF_K, (what))
+#define STEP(code, value, yes, no) (struct sock_filter)BPF_JUMP((code) | BPF_K, (value), (yes), (no))
+
+/* The code grows from its end, so that each jump knows how far it is. */
+struct program {
+	struct sock_filter code[MOST_CODE];
+	int first; /* the code begins here */
+};
+
+/* The calls from a number on, up to that of the next one, are treated alike. */
+struct range {
+	int64_t from;
+	const struct call *call; /* none: unknown to the table */
+};
+
+static void put(struct program *program, struct sock_filter step)
+{
+	if (program->first == 0)
+		die("the filter is too long");
+	program->code[--program->first] = step;
+}
+
+/* A jump over more than a conditional one reaches. */
+static void put_branch(struct program *program, uint16_t code, uint32_t value, int over)
+{
+	if (over <= LONGEST_JUMP) {
+		put(program, STEP(BPF_JMP | code, value, (uint8_t)over, 0));
+		return;
+	}
+	put(program, STEP(BPF_JMP | BPF_JA, (uint32_t)over, 0, 0));
+	put(program, STEP(BPF_JMP | code, value, 0, 1));
+}
+
+static bool is_about_proc(const struct call *call)
+{
+	return call->in[0].kind == PATH || call->in[0].kind == DIRECTORY;
+}
+
+static uint32_t verdict(const struct call *call)
+{
+	switch (call ? call->decides : REFUSED) {
+	case PLAIN:
+		return SECCOMP_RET_ALLOW;
+	case ABSENT:
+		return SECCOMP_RET_ERRNO | ENOSYS;
+	default:
+		return call && is_about_proc(call) && !shows_proc ? SECCOMP_RET_ALLOW : SECCOMP_RET_TRACE;
+	}
+}
+
+/* What is done with one call: its rows in order, and where none fits it is plain. It is written from its last row to its first. */
+static void put_call(struct program *program, const struct call *call)
+{
+	const struct call *last = call;
+
+	if (!call || call->test.how == ALWAYS) {
+		put(program, GIVE(verdict(call)));
+		return;
+	}
+	while (last + 1 < calls + call_count && last[1].number[MACHINE] == call->number[MACHINE])
+		last++;
+	if (last->test.how != ALWAYS)
+		put(program, GIVE(SECCOMP_RET_ALLOW));
+	for (; last >= call; last--) {
+		const struct test *test = &last->test;
+
+		if (test->how == NEVER)
+			continue;
+		put(program, GIVE(verdict(last)));
+		if (test->how == ALWAYS)
+			continue;
+		put(program, STEP(BPF_JMP | BPF_JEQ, test->value, test->how == WHEN ? 0 : 1, test->how == WHEN ? 1 : 0));
+		if (test->mask != UINT32_MAX)
+			put(program, (struct sock_filter)BPF_STMT(BPF_ALU | BPF_AND | BPF_K, test->mask));
+		put(program, FIELD(args[test->argument]));
+	}
+}
+
+/* A tree of comparisons over the ranges. */
+static void put_ranges(struct program *program, const struct range *ranges, int count)
+{
+	int half = count / 2, before;
+
+	if (count == 1) {
+		put_call(program, ranges->call);
+		return;
+	}
+	put_ranges(program, ranges + half, count - half);
+	before = program->first;
+	put_ranges(program, ranges, half);
+	put_branch(program, BPF_JGE, (uint32_t)ranges[half].from, before - program->first);
+}
+
+/* Calls beside each other that are plain, or unknown, are one range. */
+static int make_ranges(struct range *ranges)
+{
+	int count = 0;
+
+	for (int64_t number = 0; number <= MOST_CALLS; number++) {
+		const struct call *call = number < MOST_CALLS ? call_first(number) : NULL;
+		bool is_simple = !call || (call->decides == PLAIN && call->test.how == ALWAYS);
+
+		if (count && is_simple) {
+			const struct call *last = ranges[count - 1].call;
+			if (call ? last && last->decides == PLAIN && last->test.how == ALWAYS : !last)
+				continue;
+		}
+		ranges[count++] = (struct range){ number, call };
+	}
+	return count;
+}
+
+void filter_install(void)
+{
+	static struct program program = { .first = MOST_CODE };
+	static struct range ranges[MOST_CALLS + 1];
+	struct sock_fprog made;
+
+	put_ranges(&program, ranges, make_ranges(ranges));
+	put(&program, FIELD(nr));
+	put(&program, GIVE(SECCOMP_RET_ERRNO | ENOSYS)); /* a 32-bit program's */
+	put(&program, STEP(BPF_JMP | BPF_JEQ, MACHINE_AUDIT, 1, 0));
+	put(&program, FIELD(arch));
+	made = (struct sock_fprog){ .len = (unsigned short)(MOST_CODE - program.first), .filter = program.code + program.first };
+	if (prctl(PR_SET_NO_NEW_PRIVS, 1, 0, 0, 0) || prctl(PR_SET_SECCOMP, SECCOMP_MODE_FILTER, &made, 0, 0))
+		die("seccomp");
+}
+
+/* Has the thread install one more filter, by which reads of the descriptor stop. Its code is lent room below the stack. */
+bool filter_for_reads(struct thread *thread, struct registers *registers, int file)
+{
+	struct { struct sock_fprog made; struct sock_filter code[7]; } lent = {
+		.code = {
+			FIELD(nr),
+			STEP(BPF_JMP | BPF_JEQ, SYS_read, 1, 0),
+			STEP(BPF_JMP | BPF_JEQ, SYS_readv, 0, 3),
+			FIELD(args[0]),
+			STEP(BPF_JMP | BPF_JEQ, (uint32_t)file, 0, 1),
+			GIVE(SECCOMP_RET_TRACE),
+			GIVE(SECCOMP_RET_ALLOW)
+		}
+	};
+	uint64_t at = (registers_stack(registers) - 1024) & ~(uint64_t)15;
+
+	lent.made = (struct sock_fprog){ .len = 7, .filter = (struct sock_filter *)(at + offsetof(__typeof__(lent), code)) };
+	if (!write_memory(thread->tid, at, &lent, sizeof lent))
+		return false;
+	thread->behind = *registers;
+	registers_repeat(registers, SYS_seccomp);
+	registers_set_argument(registers, 0, SECCOMP_SET_MODE_FILTER);
+	registers_set_argument(registers, 1, 0);
+	registers_set_argument(registers, 2, at);
+	thread->phase = INJECTED;
+	return registers_write(thread->tid, registers);
+}

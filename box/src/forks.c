@@ -1,0 +1,198 @@
+/* forks.c - new processes and threads, in the table and in the kernel. */
+#define _GNU_SOURCE
+#include "calls.h"
+
+#include <errno.h>
+#include <sched.h>
+#include <signal.h>
+#include <stdlib.h>
+#include <sys/ptrace.h>
+#include <sys/syscall.h>
+#include <unistd.h>
+
+/* Where clone(2) has its arguments. */
+enum { FLAGS = 0, PARENT_TID = 2, CHILD_TID = MACHINE == 0 ? 3 : 4 };
+
+static int forking; /* threads whose child is not claimed yet */
+
+/* The flags by which clone(2) would do what the call does. */
+static uint64_t flags_of(const struct registers *registers)
+{
+	int64_t call = registers_call(registers);
+
+#ifdef SYS_fork
+	if (call == SYS_fork)
+		return SIGCHLD;
+	if (call == SYS_vfork)
+		return CLONE_VFORK | CLONE_VM | SIGCHLD;
+#endif
+	(void)call;
+	return registers_argument(registers, FLAGS);
+}
+
+/* A child that is traced by the flag costs a stop less than one by an option of the tracer. A parent in vfork(2) is only heard of by an
+ * event, and a child that ends by another signal has one. */
+static enum onward make_child(struct thread *thread, struct registers *registers)
+{
+	bool is_clone = registers_call(registers) == SYS_clone, sleeps = thread->flags & CLONE_VFORK;
+	uint64_t flags = thread->flags & ~(uint64_t)CLONE_NEWPID;
+
+	if (sleeps && !is_clone)
+		return watch(thread, registers);
+	if (!sleeps && (flags & CSIGNAL) == SIGCHLD)
+		flags |= CLONE_PTRACE;
+	registers_set_argument(registers, FLAGS, flags);
+	for (int i = 1; i < 5 && !is_clone; i++)
+		registers_set_argument(registers, i, 0);
+	if (!is_clone)
+		registers_make_other(thread->tid, registers, SYS_clone);
+	return watch(thread, registers);
+}
+
+/* The table forks first: its refusal is the program's. */
+enum onward enter_fork(struct thread *thread, struct registers *registers)
+{
+	struct process *caller = thread->process;
+	int64_t child = caller->spare;
+
+	thread->flags = flags_of(registers);
+	thread->makes_space = (thread->flags & CLONE_NEWPID) || caller->unshared;
+	if (child) {
+		thread->child_root = caller->spare_root;
+		caller->spare = 0;
+	} else {
+		child = table_do(PIDTAB_FORK, caller->root, 0, thread->makes_space);
+		thread->child_root = (uint32_t)reply.second;
+	}
+	if (child < 0)
+		return answer_with(thread, child);
+	thread->child = (uint32_t)child;
+	thread->is_made = false;
+	forking++;
+	return make_child(thread, registers);
+}
+
+/* A fork of the table without one of the kernel: it is kept for the call that comes again, or is ended and reaped. */
+void fork_failed(struct thread *thread, bool again)
+{
+	struct process *caller = thread->process;
+
+	if (!thread->child || thread->is_made)
+		return;
+	forking--;
+	if (again && !caller->spare) {
+		caller->spare = thread->child;
+		caller->spare_root = thread->child_root;
+	} else {
+		table_do(PIDTAB_EXIT, thread->child_root, 0, 0);
+		table_do(PIDTAB_WAIT, caller->root, thread->child, PIDTAB_CHILD);
+	}
+	thread->child = 0;
+}
+
+/* The numbers that the kernel writes for a new process or thread are its own: in the parent's memory now, in the child's as it begins. */
+static void tell_numbers(const struct thread *parent, struct thread *child)
+{
+	struct registers registers;
+	uint64_t flags;
+
+	if (!registers_read(parent->tid, &registers))
+		return;
+	flags = child->number ? registers_argument(&registers, FLAGS) : parent->flags;
+	if (flags & (CLONE_PARENT_SETTID | CLONE_CHILD_SETTID) && parent->phase == IN_CALL)
+		registers = parent->made;
+	if (flags & CLONE_PARENT_SETTID)
+		show(parent, registers_argument(&registers, PARENT_TID), TASK);
+	if (flags & CLONE_CHILD_SETTID)
+		child->tid_at = registers_argument(&registers, CHILD_TID);
+}
+
+/* The child begins with the registers of its parent, in which the call is ours. */
+static void inherit_call(const struct thread *parent, struct thread *child)
+{
+	child->has_call_of_parent = parent->phase == IN_CALL;
+	child->made = parent->made;
+}
+
+/* The kernel has made a process or a thread. */
+void forked(struct thread *thread, pid_t real)
+{
+	struct process *process = thread->process;
+	struct thread *child = thread_of_real(real);
+	bool has_stopped = child;
+
+	if (thread->phase == IN_CALL && thread->child) {
+		process = process_new(name_make(real, thread->child_root));
+		process->ignores_children = thread->process->ignores_children;
+		process->wants_no_zombies = thread->process->wants_no_zombies;
+		process->is_init = thread->makes_space;
+		thread->is_made = true;
+		forking--;
+	}
+	process->threads++;
+	if (!child)
+		child = thread_new(real, process);
+	child->process = process;
+	thread_number(child);
+	tell_numbers(thread, child);
+	inherit_call(thread, child);
+	if (has_stopped)
+		begin(child);
+}
+
+int64_t leave_fork(struct thread *thread, int64_t result)
+{
+	struct process *caller = thread->process;
+
+	thread->phase = IN_CALL;
+	if (result > 0 && !thread->is_made)
+		forked(thread, (pid_t)result);
+	thread->phase = FREE;
+	if (result > 0) {
+		if (caller->unshared)
+			caller->joined = table_do(PIDTAB_JOIN, caller->root, thread->child, 0) == 0;
+		caller->unshared = false;
+		result = number_of(name_of_root(thread->child_root), caller);
+	} else {
+		fork_failed(thread, result <= -FIRST_RESTART);
+	}
+	thread->child = 0;
+	return result;
+}
+
+/* unshare(2) with CLONE_NEWPID: the next fork is the table's `fork C new`, and a join behind it. */
+enum onward enter_unshare(struct thread *thread, struct registers *registers)
+{
+	uint64_t flags = registers_argument(registers, FLAGS) & ~(uint64_t)CLONE_NEWPID;
+
+	if (thread->process->unshared || thread->process->joined)
+		return answer_with(thread, -EINVAL);
+	if (!flags) {
+		thread->process->unshared = true;
+		return answer_with(thread, 0);
+	}
+	registers_set_argument(registers, FLAGS, flags);
+	return watch(thread, registers);
+}
+
+int64_t leave_unshare(struct thread *thread, int64_t result)
+{
+	thread->process->unshared = result == 0;
+	return result;
+}
+
+/* ---- children whose parent was killed before it could say whose they are ---- */
+
+/* A process alone, which leads its threads: a new thread is claimed by the event of its process, which lives. */
+static void kill_process(struct thread *thread)
+{
+	if (!syscall(SYS_tgkill, thread->tid, thread->tid, 0))
+		kill(thread->tid, SIGKILL);
+}
+
+/* A thread has ended. Where it was within a fork and no other one is, nobody will claim the children that wait: they are nobody's. */
+void unclaimed_end(void)
+{
+	if (forking == 0)
+		each_unclaimed(kill_process);
+}

@@ -1,0 +1,99 @@
+/* messages.c - identifiers that descriptors carry: the owner of a descriptor, the other end of a socket, and credentials in messages. */
+#define _GNU_SOURCE
+#include "calls.h"
+
+#include <errno.h>
+#include <fcntl.h>
+#include <stddef.h>
+#include <sys/socket.h>
+
+/* ---- F_SETOWN_EX and F_GETOWN_EX ---- */
+
+static enum kind kind_of_owner(const struct thread *thread)
+{
+	static const enum kind kinds[] = { [F_OWNER_TID] = TASK, [F_OWNER_PID] = PROCESS, [F_OWNER_PGRP] = GROUP };
+	struct f_owner_ex owner;
+	bool is_read = read_memory(thread->tid, registers_argument(&thread->made, 2), &owner, sizeof owner);
+
+	return is_read && (unsigned)owner.type < sizeof kinds / sizeof kinds[0] ? kinds[owner.type] : PROCESS;
+}
+
+enum onward enter_owner(struct thread *thread, struct registers *registers)
+{
+	lend(thread, registers_argument(registers, 2) + offsetof(struct f_owner_ex, pid), kind_of_owner(thread));
+	return watch(thread, registers);
+}
+
+int64_t leave_owner(struct thread *thread, int64_t result)
+{
+	if (result == 0)
+		show(thread, registers_argument(&thread->made, 2) + offsetof(struct f_owner_ex, pid), kind_of_owner(thread));
+	return result;
+}
+
+/* ---- SO_PEERCRED, which other levels of options may have too ---- */
+
+int64_t leave_peer(struct thread *thread, int64_t result)
+{
+	if (result == 0 && call_argument(thread, 1) == SOL_SOCKET)
+		show(thread, registers_argument(&thread->made, 3) + offsetof(struct ucred, pid), PROCESS);
+	return result;
+}
+
+/* ---- SCM_CREDENTIALS ---- */
+
+enum { MOST_CONTROL = 65536 };
+
+typedef void act(struct thread *thread, uint64_t at, enum kind kind);
+
+static void show_it(struct thread *thread, uint64_t at, enum kind kind)
+{
+	show(thread, at, kind);
+}
+
+/* Each credentials in the control data of a message. */
+static void each_credentials(struct thread *thread, uint64_t message, act *act)
+{
+	struct msghdr head;
+	struct cmsghdr control;
+	size_t size = 0;
+
+	if (!read_memory(thread->tid, message, &head, sizeof head) || !head.msg_control || head.msg_controllen > MOST_CONTROL)
+		return;
+	for (size_t at = 0; at + sizeof control <= head.msg_controllen; at += CMSG_ALIGN(size)) {
+		uint64_t here = (uint64_t)head.msg_control + at;
+
+		if (!read_memory(thread->tid, here, &control, sizeof control) || control.cmsg_len < sizeof control)
+			return;
+		size = control.cmsg_len;
+		if (size >= CMSG_LEN(sizeof(struct ucred)) && control.cmsg_level == SOL_SOCKET && control.cmsg_type == SCM_CREDENTIALS)
+			act(thread, here + CMSG_LEN(offsetof(struct ucred, pid)), PROCESS);
+	}
+}
+
+enum onward enter_send(struct thread *thread, struct registers *registers)
+{
+	each_credentials(thread, registers_argument(registers, 1), lend);
+	return thread->lent_count ? watch(thread, registers) : GO;
+}
+
+enum onward enter_send_many(struct thread *thread, struct registers *registers)
+{
+	for (uint64_t i = 0; i < registers_argument(registers, 2) && i < MOST_LENT; i++)
+		each_credentials(thread, registers_argument(registers, 1) + i * sizeof(struct mmsghdr), lend);
+	return thread->lent_count ? watch(thread, registers) : GO;
+}
+
+int64_t leave_receive(struct thread *thread, int64_t result)
+{
+	if (result >= 0)
+		each_credentials(thread, registers_argument(&thread->made, 1), show_it);
+	return result;
+}
+
+int64_t leave_receive_many(struct thread *thread, int64_t result)
+{
+	for (int64_t i = 0; i < result; i++)
+		each_credentials(thread, registers_argument(&thread->made, 1) + (uint64_t)i * sizeof(struct mmsghdr), show_it);
+	return result;
+}

@@ -1,0 +1,173 @@
+/* signals.c - who may send what to whom, and who is said to have sent it. */
+#define _GNU_SOURCE
+#include "calls.h"
+
+#include <errno.h>
+#include <signal.h>
+#include <stddef.h>
+#include <stdio.h>
+#include <sys/ptrace.h>
+#include <sys/signalfd.h>
+#include <sys/syscall.h>
+
+/* ---- kill ---- */
+
+/* Whether the name is that of the init of the caller's own namespace, which no signal without a handler ends from inside. */
+static bool is_own_init(const struct process *caller, const struct name *target)
+{
+	return target->space == caller->name->space && target->levels[target->space->depth] == 1;
+}
+
+/* kill(-1, signal) of this program, since the kernel's -1 reaches beyond the box. */
+static int64_t kill_all(const struct process *caller, int signal)
+{
+	int64_t result = -ESRCH;
+
+	for (struct process *process = processes; process; process = process->next) {
+		if (process == caller || process->gone || process->dead || number_of(process->name, caller) <= 1)
+			continue;
+		if (!kill(process->real, signal))
+			result = 0;
+		else if (result == -ESRCH)
+			result = -errno;
+	}
+	return result;
+}
+
+enum onward enter_kill(struct thread *thread, struct registers *registers)
+{
+	const struct process *caller = thread->process;
+	int32_t pid = (int32_t)call_argument(thread, 0);
+	int signal = (int)call_argument(thread, 1);
+	const struct name *name = pid > 0 ? name_seen(caller, (uint32_t)pid) : NULL;
+
+	if (pid == -1)
+		return answer_with(thread, kill_all(caller, signal));
+	if (pid == 0)
+		return GO;
+	if (pid > 0 && signal == 0)
+		thread->told = table_do(PIDTAB_GETPGID, caller->root, (uint32_t)pid, 0);
+	if (name && name->process && is_own_init(caller, name) && (signal == SIGKILL || signal == SIGSTOP))
+		return answer_with(thread, 0);
+	return translate(thread, registers);
+}
+
+/* Whether somebody is there is a question that the table has too. */
+int64_t leave_kill(struct thread *thread, int64_t result)
+{
+	uint32_t pid = (uint32_t)call_argument(thread, 0);
+
+	if (!checking || call_argument(thread, 1) != 0 || (int32_t)pid <= 0 || result <= -FIRST_RESTART || result == -EPERM)
+		return result;
+	if (result != (thread->told < 0 ? thread->told : 0))
+		thread->told = table_do(PIDTAB_GETPGID, thread->process->root, pid, 0);
+	compare("kill 0", result, thread->told < 0 ? thread->told : 0);
+	return result;
+}
+
+/* A parent that ignores SIGCHLD, or says so by a flag, has no zombies. */
+enum onward enter_sigaction(struct thread *thread, struct registers *registers)
+{
+	uint64_t at = registers_argument(registers, 1);
+	uint64_t action[2]; /* the handler and the flags, as the kernel has them */
+
+	if (at && read_memory(thread->tid, at, action, sizeof action)) {
+		thread->process->ignores_children = action[0] == (uint64_t)SIG_IGN;
+		thread->process->wants_no_zombies = action[1] & SA_NOCLDWAIT;
+	}
+	return GO;
+}
+
+/* ---- who has sent a signal ---- */
+
+/* The kernel has put in a number. That of a sigqueue(3) is what its caller says: SI_QUEUE stays as it is. */
+static bool is_from_a_process(int signal, int code)
+{
+	return code == SI_USER || code == SI_TKILL || code == SI_MESGQ || (signal == SIGCHLD && code > 0 && code <= CLD_CONTINUED);
+}
+
+/* Whether the process has a handler for the signal. */
+static bool is_caught(pid_t real, int signal)
+{
+	char name[32], line[256];
+	unsigned long long caught = 0;
+	FILE *file;
+
+	snprintf(name, sizeof name, "/proc/%d/status", real);
+	file = fopen(name, "re");
+	while (file && fgets(line, sizeof line, file))
+		if (sscanf(line, "SigCgt: %llx", &caught) == 1)
+			break;
+	if (file)
+		fclose(file);
+	return caught >> (signal - 1) & 1;
+}
+
+static bool is_fault(int signal, int code)
+{
+	return code > 0 && (signal == SIGSEGV || signal == SIGBUS || signal == SIGFPE || signal == SIGILL || signal == SIGTRAP || signal == SIGSYS);
+}
+
+/* A signal is about to be delivered: its sender's number is translated. An init gets none without a handler, but those of its own faults. */
+int signal_arrives(const struct thread *thread, int signal)
+{
+	siginfo_t info;
+	bool is_harmless = signal == SIGCHLD || signal == SIGCONT || signal == SIGURG || signal == SIGWINCH;
+
+	if (ptrace(PTRACE_GETSIGINFO, thread->tid, 0, &info))
+		return signal;
+	if (thread->process->is_init && !is_harmless && !is_fault(signal, info.si_code) && !is_caught(thread->tid, signal))
+		return 0;
+	if (is_from_a_process(signal, info.si_code) && info.si_pid > 0) {
+		info.si_pid = (pid_t)to_number(thread->process, PROCESS, info.si_pid);
+		ptrace(PTRACE_SETSIGINFO, thread->tid, 0, &info);
+	}
+	return signal;
+}
+
+int64_t leave_sigtimedwait(struct thread *thread, int64_t result)
+{
+	uint64_t at = registers_argument(&thread->made, 1);
+	siginfo_t info;
+
+	if (result > 0 && at && read_memory(thread->tid, at, &info, offsetof(siginfo_t, si_pid)) && is_from_a_process(info.si_signo, info.si_code))
+		show(thread, at + offsetof(siginfo_t, si_pid), PROCESS);
+	return result;
+}
+
+/* ---- signalfd: what is read of it has the sender, and reads do not stop. So reads of a new descriptor are made to. ---- */
+
+int64_t leave_signalfd(struct thread *thread, int64_t result)
+{
+	bool is_new = call_argument(thread, 0) == -1;
+
+	if (result >= 0 && is_new)
+		thread->behind_reads = (int)result;
+	return result;
+}
+
+int64_t leave_signalfd_read(struct thread *thread, int64_t result)
+{
+	uint64_t at = registers_argument(&thread->made, 1);
+	struct signalfd_siginfo info;
+
+	for (int64_t done = 0; done + (int64_t)sizeof info <= result; done += (int64_t)sizeof info)
+		if (read_memory(thread->tid, at + (uint64_t)done, &info, sizeof info) && is_from_a_process((int)info.ssi_signo, info.ssi_code))
+			show(thread, at + (uint64_t)done + offsetof(struct signalfd_siginfo, ssi_pid), PROCESS);
+	return result;
+}
+
+/* ---- timers ---- */
+
+/* Only a timer that notifies a thread names one. */
+enum onward enter_timer(struct thread *thread, struct registers *registers)
+{
+	const struct carried *clock = &thread->call->in[0], *notified = &thread->call->in[1];
+	uint64_t at = registers_argument(registers, notified->argument);
+	struct sigevent event;
+
+	registers_set_argument(registers, clock->argument, (uint64_t)to_real(thread->process, clock->kind, call_argument(thread, clock->argument)));
+	if (at && read_memory(thread->tid, at, &event, sizeof event) && event.sigev_notify & SIGEV_THREAD_ID)
+		lend(thread, at + (uint64_t)notified->offset, notified->kind);
+	return watch(thread, registers);
+}

@@ -1,0 +1,78 @@
+/* threads.c - the threads that are traced, and the numbers of those that the table does not have. */
+#include "box.h"
+
+#include <stdlib.h>
+
+static struct thread *by_real[MOST_REAL];
+static struct thread *by_number[MOST_REAL]; /* from FIRST_THREAD on */
+static struct thread *unclaimed[64];        /* they stopped before their parent's event; more than a few are never there */
+
+struct thread *thread_of_real(pid_t tid)
+{
+	return by_real[tid];
+}
+
+static void claim(const struct thread *thread, struct thread *in_place)
+{
+	for (size_t i = 0; i < sizeof unclaimed / sizeof unclaimed[0]; i++)
+		if (unclaimed[i] == thread) {
+			unclaimed[i] = in_place;
+			return;
+		}
+	if (!thread)
+		die("too many new threads at once");
+}
+
+struct thread *thread_new(pid_t tid, struct process *process)
+{
+	struct thread *thread = need(calloc(1, sizeof *thread));
+
+	*thread = (struct thread){ .tid = tid, .process = process, .phase = FREE, .behind_reads = -1, .content = -1 };
+	if (!process)
+		claim(NULL, thread);
+	return by_real[tid] = thread;
+}
+
+/* Its parent's event came: it is no more unclaimed. Where it is a thread beside the main one, it gets a number as the kernel gives them:
+ * the next one that is free. */
+void thread_number(struct thread *thread)
+{
+	static uint32_t cursor;
+
+	claim(thread, NULL);
+	if (thread->tid == thread->process->real)
+		return;
+	while (by_number[cursor])
+		cursor = (cursor + 1) % MOST_REAL;
+	by_number[cursor] = thread;
+	thread->number = FIRST_THREAD + cursor;
+	cursor = (cursor + 1) % MOST_REAL;
+}
+
+void thread_free(struct thread *thread)
+{
+	claim(thread, NULL);
+	if (thread->number)
+		by_number[thread->number - FIRST_THREAD] = NULL;
+	by_real[thread->tid] = NULL;
+	content_done(thread);
+	free(thread);
+}
+
+struct thread *thread_numbered(uint32_t number)
+{
+	return number >= FIRST_THREAD && number - FIRST_THREAD < MOST_REAL ? by_number[number - FIRST_THREAD] : NULL;
+}
+
+/* The number by which it sees itself. */
+uint32_t thread_seen(const struct thread *thread)
+{
+	return thread->number ? thread->number : number_of(thread->process->name, thread->process);
+}
+
+void each_unclaimed(void (*act)(struct thread *thread))
+{
+	for (size_t i = 0; i < sizeof unclaimed / sizeof unclaimed[0]; i++)
+		if (unclaimed[i])
+			act(unclaimed[i]);
+}

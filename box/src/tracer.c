@@ -1,0 +1,304 @@
+/* tracer.c - the stops and ends of the threads in the box, as ptrace(2) reports them. */
+#define _GNU_SOURCE
+#include "box.h"
+
+#include <errno.h>
+#include <signal.h>
+#include <stdlib.h>
+#include <sys/prctl.h>
+#include <sys/ptrace.h>
+#include <sys/syscall.h>
+#include <sys/uio.h>
+#include <sys/wait.h>
+#include <time.h>
+
+uint64_t events;
+
+enum { SYSCALL_STOP = SIGTRAP | 0x80, CHECK_EVERY = 10000000 /* ns */ };
+
+/* A fork is heard of by CLONE_PTRACE (forks.c), but where its parent sleeps in vfork(2). */
+static const long options = PTRACE_O_TRACEVFORK | PTRACE_O_TRACECLONE | PTRACE_O_TRACEEXEC | PTRACE_O_TRACESECCOMP |
+                            PTRACE_O_TRACESYSGOOD | PTRACE_O_EXITKILL;
+
+/* A thread may have been killed since it stopped: its end is reported next, so a failure says nothing. */
+void trace(int request, pid_t tid, long data)
+{
+	ptrace(request, tid, 0, data);
+}
+
+bool read_memory(pid_t tid, uint64_t at, void *to, size_t size)
+{
+	struct iovec here = { to, size }, there = { (void *)at, size };
+
+	return process_vm_readv(tid, &here, 1, &there, 1, 0) == (ssize_t)size;
+}
+
+bool write_memory(pid_t tid, uint64_t at, const void *from, size_t size)
+{
+	struct iovec here = { (void *)from, size }, there = { (void *)at, size };
+
+	return process_vm_writev(tid, &here, 1, &there, 1, 0) == (ssize_t)size;
+}
+
+void trace_first(pid_t init, struct process *process)
+{
+	if (ptrace(PTRACE_SEIZE, init, 0, options | PTRACE_O_TRACEEXIT))
+		die("ptrace");
+	process->threads = 1;
+	thread_new(init, process)->is_begun = true;
+	thread_number(thread_of_real(init));
+}
+
+/* An init takes the orphans of its namespace, in the kernel too: it is made a subreaper by a call that it does not know of. The box's own is
+ * one before its exec. */
+static bool make_subreaper(struct thread *thread)
+{
+	struct registers registers;
+
+	if (!registers_read(thread->tid, &registers))
+		return false;
+	thread->behind = registers;
+	registers_repeat(&registers, SYS_prctl);
+	registers_set_argument(&registers, 0, PR_SET_CHILD_SUBREAPER);
+	registers_set_argument(&registers, 1, 1);
+	thread->phase = INJECTED;
+	return registers_write(thread->tid, &registers);
+}
+
+static void give_registers_back(struct thread *thread)
+{
+	struct registers registers;
+
+	thread->has_call_of_parent = false;
+	if (!registers_read(thread->tid, &registers))
+		return;
+	registers_restore(&registers, &thread->made);
+	registers_set_result(&registers, 0);
+	registers_write(thread->tid, &registers);
+}
+
+/* The first stop of a process or a thread. Options are inherited, and those of an init are its own. */
+void begin(struct thread *thread)
+{
+	const struct process *process = thread->process;
+	int32_t number = (int32_t)thread_seen(thread);
+	bool is_main = thread->tid == process->real, is_nested = process->is_init && is_main;
+
+	thread->is_begun = true;
+	if (is_main)
+		trace(PTRACE_SETOPTIONS, thread->tid, options | (process->is_init ? PTRACE_O_TRACEEXIT : 0));
+	if (thread->has_call_of_parent)
+		give_registers_back(thread);
+	if (thread->tid_at)
+		write_memory(thread->tid, thread->tid_at, &number, sizeof number);
+	trace(is_nested && make_subreaper(thread) ? PTRACE_SYSCALL : PTRACE_CONT, thread->tid, 0);
+}
+
+/* The thread that executes takes the number of the main one, and all others are over. */
+static void executed(struct thread *thread)
+{
+	struct process *process = thread->process;
+	unsigned long former = 0;
+
+	trace(PTRACE_GETEVENTMSG, thread->tid, (long)&former);
+	if (former != (unsigned long)thread->tid && former < MOST_REAL && thread_of_real((pid_t)former)) {
+		thread_free(thread_of_real((pid_t)former));
+		process->threads--;
+	}
+	thread->phase = FREE;
+	thread->lent_count = 0;
+	process->wants_no_zombies = false;
+	process->exec_waits = true;
+	if (!process->asked)
+		exec_told(process);
+}
+
+/* The table is told of an execve, and the process goes on. */
+void exec_told(struct process *process)
+{
+	if (!process->exec_waits)
+		return;
+	process->exec_waits = false;
+	if (!process->ended)
+		table_do(PIDTAB_EXEC, process->root, 0, 0);
+	trace(PTRACE_CONT, process->real, 0);
+}
+
+/* A thread of an init is at its end: with the last one its namespace falls, and it is held until all the others are dead. */
+static void leaving(struct thread *thread)
+{
+	struct process *process = thread->process;
+	unsigned long status = 0;
+
+	trace(PTRACE_GETEVENTMSG, thread->tid, (long)&status);
+	fork_failed(thread, false);
+	if (++process->leaving == process->threads && !process->ended) {
+		process_ended(process, (int)status);
+		if (has_fallen_with(process))
+			process->held = thread->tid;
+	}
+	if (!process->held)
+		trace(PTRACE_CONT, thread->tid, 0);
+}
+
+static void thread_ended(struct thread *thread, int status)
+{
+	struct process *process = thread->process;
+	pid_t tid = thread->tid;
+
+	if (process && !process->ended) {
+		fork_failed(thread, false);
+		setpgid_over(thread, -1);
+	}
+	thread_free(thread);
+	unclaimed_end();
+	if (!process)
+		return;
+	process->threads--;
+	if (process->leaving)
+		process->leaving--;
+	if (tid != process->real)
+		return;
+	process->dead = true;
+	process->died = events;
+	process_ended(process, status);
+	if (process->root == BOX_INIT) {
+		compare("wait of the supervisor", BOX_INIT, table_do(PIDTAB_WAIT, SUPERVISOR, BOX_INIT, PIDTAB_CHILD));
+		process->gone = true;
+	}
+	process_dead(process);
+}
+
+/* The filter stopped a call. What is injected is the program's business no more than its own. */
+static void call_stopped(struct thread *thread)
+{
+	bool is_ours = thread->phase == INJECTED || thread->phase == IN_INJECTED;
+	bool is_seen = is_ours || (!thread->process->ended && call_enter(thread) == SEE_EXIT);
+
+	trace(is_seen ? PTRACE_SYSCALL : PTRACE_CONT, thread->tid, 0);
+}
+
+/* A stop at the entry or the exit of a call that is watched. */
+static void watched_stopped(struct thread *thread)
+{
+	int request = PTRACE_CONT;
+
+	switch (thread->phase) {
+	case INJECTED:
+		thread->phase = IN_INJECTED;
+		request = PTRACE_SYSCALL;
+		break;
+	case IN_INJECTED:
+		registers_write(thread->tid, &thread->behind);
+		thread->phase = FREE;
+		break;
+	case IN_CALL:
+		if (!thread->process->ended && call_leave(thread) == SEE_EXIT)
+			request = PTRACE_SYSCALL;
+		break;
+	case FREE:
+		break;
+	}
+	trace(request, thread->tid, 0);
+}
+
+static void event_stopped(struct thread *thread, int event, int signal)
+{
+	unsigned long real;
+
+	switch (event) {
+	case PTRACE_EVENT_SECCOMP:
+		call_stopped(thread);
+		break;
+	case PTRACE_EVENT_VFORK:
+	case PTRACE_EVENT_CLONE:
+		if (!ptrace(PTRACE_GETEVENTMSG, thread->tid, 0, &real))
+			forked(thread, (pid_t)real);
+		trace(thread->phase == IN_CALL ? PTRACE_SYSCALL : PTRACE_CONT, thread->tid, 0);
+		break;
+	case PTRACE_EVENT_EXEC:
+		executed(thread);
+		break;
+	case PTRACE_EVENT_EXIT:
+		leaving(thread);
+		break;
+	default: /* PTRACE_EVENT_STOP: by SIGTRAP it is a new thread's, or its going on; by others that of a stopped process */
+		thread->is_at_rest = signal != SIGTRAP;
+		trace(signal == SIGTRAP ? PTRACE_CONT : PTRACE_LISTEN, thread->tid, 0);
+	}
+}
+
+static void stopped(struct thread *thread, int status)
+{
+	int event = status >> 16, signal = WSTOPSIG(status);
+
+	stops++;
+	if (event)
+		event_stopped(thread, event, signal);
+	else if (signal == SYSCALL_STOP)
+		watched_stopped(thread);
+	else
+		trace(PTRACE_CONT, thread->tid, signal_arrives(thread, signal));
+}
+
+static void handle(pid_t tid, int status)
+{
+	struct thread *thread = thread_of_real(tid);
+
+	events++;
+	if (!WIFSTOPPED(status)) {
+		if (thread)
+			thread_ended(thread, status);
+	} else if (!thread) {
+		thread_new(tid, NULL); /* it waits for its parent's event */
+	} else if (thread->process && !thread->is_begun) {
+		begin(thread);
+	} else if (thread->process) {
+		stopped(thread, status);
+	}
+}
+
+/* The end of the process is fetched now, out of turn. */
+void catch_up(const struct process *process, int flags)
+{
+	pid_t real = process->real;
+	int status;
+
+	if (!process->dead && waitpid(real, &status, __WALL | flags) == real)
+		handle(real, status);
+}
+
+/* In check mode the state is compared where nothing is reported, at most a hundred times a second. */
+static pid_t next_report(int *status)
+{
+	static struct timespec last;
+	struct timespec now;
+	pid_t tid;
+
+	if (!checking)
+		return waitpid(-1, status, __WALL);
+	tid = waitpid(-1, status, __WALL | WNOHANG);
+	if (tid != 0)
+		return tid;
+	clock_gettime(CLOCK_MONOTONIC, &now);
+	if ((now.tv_sec - last.tv_sec) * 1000000000L + now.tv_nsec - last.tv_nsec > CHECK_EVERY) {
+		last = now;
+		compare_state();
+	}
+	return waitpid(-1, status, __WALL);
+}
+
+/* Until nobody is left. The exit status of the init, as a shell has it. */
+int supervise(pid_t init)
+{
+	int status, result = 1;
+	pid_t tid;
+
+	while ((tid = next_report(&status)) > 0 || errno == EINTR) {
+		if (tid > 0)
+			handle(tid, status);
+		if (tid == init && !WIFSTOPPED(status))
+			result = WIFSIGNALED(status) ? 128 + WTERMSIG(status) : WEXITSTATUS(status);
+	}
+	return result;
+}

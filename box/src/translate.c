@@ -1,0 +1,146 @@
+/* translate.c - a call that stops: numbers of the table become the kernel's before it, and the kernel's become the table's behind it. */
+#define _GNU_SOURCE
+#include "calls.h"
+
+#include <errno.h>
+#include <string.h>
+
+int64_t call_argument(const struct thread *thread, int index)
+{
+	return (int32_t)registers_argument(&thread->made, index);
+}
+
+/* The kernel does not make the call. */
+enum onward answer_with(const struct thread *thread, int64_t result)
+{
+	struct registers registers = thread->made;
+
+	registers_set_result(&registers, result);
+	registers_make_none(thread->tid, &registers);
+	return GO;
+}
+
+static enum onward refuse(struct thread *thread)
+{
+	report_refused(thread->call, registers_call(&thread->made));
+	return answer_with(thread, -ENOSYS);
+}
+
+/* The kernel makes the call, perhaps with other arguments, and its exit is seen. */
+enum onward watch(struct thread *thread, const struct registers *registers)
+{
+	if (memcmp(registers, &thread->made, sizeof *registers))
+		registers_write(thread->tid, registers);
+	thread->phase = IN_CALL;
+	thread->entered = events;
+	return SEE_EXIT;
+}
+
+/* The table has the answer; the kernel is asked too where both are compared. */
+enum onward answer_or_check(struct thread *thread, int64_t told, const struct registers *registers)
+{
+	thread->told = told;
+	return checking ? watch(thread, registers) : answer_with(thread, told);
+}
+
+/* Puts the kernel's number in the place of one in the program's memory, until the call is over. */
+void lend(struct thread *thread, uint64_t at, enum kind kind)
+{
+	struct lent *lent = &thread->lent[thread->lent_count];
+	int32_t real;
+
+	if (thread->lent_count == MOST_LENT || !read_memory(thread->tid, at, &lent->number, sizeof lent->number))
+		return;
+	real = (int32_t)to_real(thread->process, kind, lent->number);
+	lent->at = at;
+	if (real != lent->number && write_memory(thread->tid, at, &real, sizeof real))
+		thread->lent_count++;
+}
+
+static void give_back(struct thread *thread)
+{
+	while (thread->lent_count > 0) {
+		const struct lent *lent = &thread->lent[--thread->lent_count];
+		write_memory(thread->tid, lent->at, &lent->number, sizeof lent->number);
+	}
+}
+
+/* Translates a number that the kernel has put into the program's memory. */
+void show(const struct thread *thread, uint64_t at, enum kind kind)
+{
+	int32_t real, number;
+
+	if (!read_memory(thread->tid, at, &real, sizeof real))
+		return;
+	number = (int32_t)to_number(thread->process, kind, real);
+	if (number != real)
+		write_memory(thread->tid, at, &number, sizeof number);
+}
+
+/* Translates what the row says that the call carries. */
+enum onward translate(struct thread *thread, struct registers *registers)
+{
+	const struct call *call = thread->call;
+
+	for (int i = 0; i < CARRIED && call->in[i].kind; i++) {
+		const struct carried *in = &call->in[i];
+		uint64_t value = registers_argument(registers, in->argument);
+
+		if (in->place == IN_MEMORY)
+			lend(thread, value + (uint64_t)in->offset, in->kind);
+		else
+			registers_set_argument(registers, in->argument, (uint64_t)to_real(thread->process, in->kind, (int32_t)value));
+	}
+	return watch(thread, registers);
+}
+
+static int64_t translate_back(const struct thread *thread, int64_t result)
+{
+	const struct call *call = thread->call;
+
+	for (int i = 0; i < CARRIED && call->out[i].kind && result >= 0; i++) {
+		const struct carried *out = &call->out[i];
+
+		if (out->place == IN_MEMORY)
+			show(thread, registers_argument(&thread->made, out->argument) + (uint64_t)out->offset, out->kind);
+	}
+	if (call->out[0].kind && call->out[0].place == IN_RESULT && (result > 0 || call->out[0].kind == PROCESS_OR_GROUP))
+		result = to_number(thread->process, call->out[0].kind, result);
+	return result;
+}
+
+enum onward call_enter(struct thread *thread)
+{
+	struct registers registers;
+
+	if (!registers_read(thread->tid, &thread->made))
+		return GO;
+	registers = thread->made;
+	thread->call = call_row(&registers);
+	if (!thread->call || thread->call->decides == REFUSED)
+		return refuse(thread);
+	return thread->call->enter ? thread->call->enter(thread, &registers) : translate(thread, &registers);
+}
+
+/* The exit of a call. The program finds its arguments as it passed them. */
+enum onward call_leave(struct thread *thread)
+{
+	struct registers registers;
+	int64_t result;
+
+	thread->phase = FREE;
+	if (!registers_read(thread->tid, &registers))
+		return GO;
+	result = registers_result(&registers);
+	give_back(thread);
+	result = thread->call->leave ? thread->call->leave(thread, result) : translate_back(thread, result);
+	registers_restore(&registers, &thread->made);
+	registers_set_result(&registers, result);
+	if (thread->once_more)
+		registers_repeat(&registers, registers_call(&thread->made));
+	thread->once_more = false;
+	if (thread->behind_reads >= 0)
+		return filter_for_reads(thread, &registers, thread->behind_reads) ? SEE_EXIT : GO;
+	registers_write(thread->tid, &registers);
+	return GO;
+}

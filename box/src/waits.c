@@ -1,0 +1,91 @@
+/* waits.c - wait4(2) and waitid(2): the kernel chooses and reaps, and the table's `wait C pid N` follows. */
+#define _GNU_SOURCE
+#include "calls.h"
+
+#include <errno.h>
+#include <signal.h>
+#include <stddef.h>
+#include <sys/wait.h>
+
+/* The kernel reaped, or showed, the child with the number. Its number to the caller; 0 where the table knows no such child: then it is a
+ * zombie that the table reaped with its namespace, and the kernel gave to an outer subreaper. */
+static int64_t waited(struct thread *thread, int64_t real, bool is_end)
+{
+	struct name *name = name_of_real((pid_t)real);
+	int64_t number;
+
+	if (!name || !name->process)
+		return 0;
+	number = number_of(name, thread->process);
+	if (is_end) {
+		if (!settle_parent(thread->process, name->process) && checking)
+			compare_wait(thread, name->process);
+		reap(thread->process, name->process);
+	}
+	return number;
+}
+
+/* The call is made again, and the program sees nothing of the child. */
+static void hide(struct thread *thread)
+{
+	hidden_waits++;
+	thread->once_more = true;
+}
+
+/* Whether a wait4 reaped the child, and did not only show that it stopped or went on. */
+static bool is_wait4_end(const struct thread *thread, pid_t real)
+{
+	uint64_t at = registers_argument(&thread->made, 1);
+	int status;
+
+	if (!(call_argument(thread, 2) & (WUNTRACED | WCONTINUED)))
+		return true;
+	if (at && read_memory(thread->tid, at, &status, sizeof status))
+		return WIFEXITED(status) || WIFSIGNALED(status);
+	return kill(real, 0) && errno == ESRCH;
+}
+
+int64_t leave_wait4(struct thread *thread, int64_t result)
+{
+	int64_t number;
+
+	if (result <= 0) {
+		if (checking && (result == 0 || result == -ECHILD))
+			compare_no_child(thread, result);
+		return result;
+	}
+	number = waited(thread, result, is_wait4_end(thread, (pid_t)result));
+	if (number == 0)
+		hide(thread);
+	return number;
+}
+
+/* A waitid answers by the siginfo_t; without one, who was reaped is found by who is no more there. */
+int64_t leave_waitid(struct thread *thread, int64_t result)
+{
+	uint64_t at = registers_argument(&thread->made, 2);
+	bool is_comparable = checking && call_argument(thread, 0) != P_PIDFD;
+	siginfo_t info;
+	int32_t number;
+	bool is_end;
+
+	if (is_comparable && result == -ECHILD)
+		compare_no_child(thread, result);
+	if (result != 0)
+		return result;
+	if (!at || !read_memory(thread->tid, at, &info, offsetof(siginfo_t, si_pid) + sizeof info.si_pid)) {
+		reap_vanished(thread->process);
+		return result;
+	}
+	if (info.si_pid == 0) {
+		if (is_comparable)
+			compare_no_child(thread, 0);
+		return result;
+	}
+	is_end = info.si_code >= CLD_EXITED && info.si_code <= CLD_DUMPED && !(call_argument(thread, 3) & WNOWAIT);
+	number = (int32_t)waited(thread, info.si_pid, is_end);
+	if (number == 0 && is_end)
+		hide(thread);
+	write_memory(thread->tid, at + offsetof(siginfo_t, si_pid), &number, sizeof number);
+	return result;
+}
