@@ -199,8 +199,8 @@ func (shared *Shared) CheckpointAt(seen uint64) error {
 	})
 }
 
-// List is the list of the present state, as `pidtab list` writes it. It costs a copy of the whole table, and two where it is longer than 4,096
-// bytes. ErrNoMemory.
+// List is the list of the present state, as `pidtab list` writes it. It costs the text, and twice that where it is longer than 4,096 bytes.
+// ErrNoMemory.
 func (shared *Shared) List() (string, error) {
 	held := shared.held()
 	held.lock.Lock()

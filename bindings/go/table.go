@@ -80,7 +80,7 @@ func (table *Table) Line(line string) (string, error) {
 	})
 }
 
-// List is the list of the table, as `pidtab list` writes it. It costs a copy of the whole table, and two where it is longer than 4,096 bytes.
+// List is the list of the table, as `pidtab list` writes it. It costs the text, and twice that where it is longer than 4,096 bytes.
 // ErrClosed, ErrNoMemory, ErrBusy.
 func (table *Table) List() (string, error) {
 	held := table.held()

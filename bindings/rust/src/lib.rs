@@ -242,7 +242,7 @@ impl Table {
         texts::answer(|room, size| self.raw.line(line.as_ref(), room, size))
     }
 
-    /// The list of the table, as `pidtab list` writes it. It costs a copy of the whole table, and two where it is longer than 4,096 bytes.
+    /// The list of the table, as `pidtab list` writes it. It costs the text, and twice that where it is longer than 4,096 bytes.
     ///
     /// # Errors
     /// `NoMemory`, `Busy`.

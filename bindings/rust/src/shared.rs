@@ -553,8 +553,7 @@ impl Record {
         Error::unless_done(self.raw.checkpoint_at(seen))
     }
 
-    /// The list of the present state, as `pidtab list` writes it. It costs a copy of the whole table, and two where it is longer than 4,096
-    /// bytes.
+    /// The list of the present state, as `pidtab list` writes it. It costs the text, and twice that where it is longer than 4,096 bytes.
     ///
     /// # Errors
     /// `NoMemory`, `Busy`.
