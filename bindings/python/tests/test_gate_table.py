@@ -182,9 +182,26 @@ class Checkout(unittest.TestCase):
             self.table.write_text(TABLE + row)
             self.assertEqual(self.run_gate("--budget", "1000"), (1, "", said))
 
+    def keep(self, name: str, second: int) -> None:
+        """Puts a file into what a check of the crate keeps, as of a second."""
+        file = self.top / "crates/low/out/incremental/antt-1" / name
+        file.parent.mkdir(parents=True, exist_ok=True)
+        file.touch()
+        os.utime(file, (second, second))
+
+    def test_what_is_slow(self) -> None:
+        said = "tools/gate: nothing is kept of low: run rt check in its folder\n"
+        self.assertEqual(self.run_gate("slow", "low"), (1, "", said))
+        for name, second in (("Words", 1000), ("a.f.Lts", 1002), ("a.f.Proof", 1021), ("a.f.Tie", 1022), ("a.g.Met", 1030), ("g.Answers", 1033), ("h.Lts", 1333)):
+            self.keep(f"Rattle-low-proofs.{name}.oantt", second)
+        told = ["  19.0 s  a::f: goals without an answer", "   3.0 s  g: stored answers", "   2.0 s  a::f: borrow checker"]
+        self.assertEqual(self.run_gate("slow", "low"), (0, "\n".join([*told, ""]), ""))
+        self.assertEqual(self.run_gate("slow", "low", "10"), (0, told[0] + "\n", ""))
+        self.assertEqual(self.run_gate("slow", "none")[0], 1)
+
     def test_the_words_of_the_command_line(self) -> None:
         self.assertEqual(self.run_gate("measure", "none"), (2, "", "tools/gate: no crate none\n"))
-        for words in ((), ("check",), ("write", "low"), ("--budget",), ("--budget", "2.5"), ("--budget", "2", "3")):
+        for words in ((), ("check",), ("write", "low"), ("--budget",), ("--budget", "2.5"), ("--budget", "2", "3"), ("slow",), ("slow", "low", "x")):
             status, _, said = self.run_gate(*words)
             self.assertEqual((status, said.splitlines()[0]), (2, "What the gate costs, by crate: measures it, and writes the table of docs/GATE.md."))
 
