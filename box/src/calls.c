@@ -276,13 +276,24 @@ const struct call calls[] = {
 
 const int call_count = sizeof calls / sizeof calls[0];
 
-/* The first row of a call of this machine. */
+/* The first row of each call of this machine, by its number. */
+static const struct call *first_rows[MOST_CALLS];
+
+static void index_rows(void)
+{
+	for (const struct call *call = calls + call_count - 1; call >= calls; call--)
+		if (call->number[MACHINE] >= 0)
+			first_rows[call->number[MACHINE]] = call;
+}
+
 const struct call *call_first(int64_t number)
 {
-	for (const struct call *call = calls; number >= 0 && call < calls + call_count; call++)
-		if (call->number[MACHINE] == number)
-			return call;
-	return NULL;
+	static bool is_indexed;
+
+	if (!is_indexed)
+		index_rows();
+	is_indexed = true;
+	return number >= 0 && number < MOST_CALLS ? first_rows[number] : NULL;
 }
 
 static bool holds(const struct test *test, const struct registers *registers)
