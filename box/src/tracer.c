@@ -245,7 +245,7 @@ static void event_stopped(struct thread *thread, int event, int signal)
 		break;
 	default: /* PTRACE_EVENT_STOP: by SIGTRAP it is a new thread's, or its going on; by others that of a stopped process */
 		thread->is_at_rest = signal != SIGTRAP;
-		trace(signal == SIGTRAP ? PTRACE_CONT : PTRACE_LISTEN, thread->tid, 0);
+		trace(thread->is_at_rest ? PTRACE_LISTEN : thread->phase == INJECTED ? PTRACE_SYSCALL : PTRACE_CONT, thread->tid, 0);
 	}
 }
 
