@@ -400,11 +400,11 @@ void calls_print(void)
 	for (const struct call *call = calls; call < calls + call_count; call++)
 		if (call->decides != PLAIN)
 			print_row(call);
-	printf("\nAll other uses of these are plain, and so are:\n");
+	printf("\nAll other uses of these are plain, and so are:\n\n```text");
 	for (const struct call *call = calls; call < calls + call_count; call++)
 		if (call->decides == PLAIN) {
 			width = width > 110 ? 0 : width;
-			width += printf("%s`%s`", width ? " " : "\n", call->name);
+			width += printf("%s%s", width ? " " : "\n", call->name);
 		}
-	printf(".\n");
+	printf("\n```\n");
 }
