@@ -109,6 +109,7 @@ struct thread {
 	const struct call *call; /* what it makes, in the table of calls */
 	struct registers made;   /* the call as the program made it */
 	struct registers behind; /* how it goes on behind an injected call */
+	uint64_t put_off;        /* signals that came before such a call, a bit each */
 	uint64_t entered;        /* when, in events */
 	int64_t told;            /* what the table says of it */
 	struct lent lent[MOST_LENT];

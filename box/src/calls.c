@@ -61,7 +61,8 @@ const struct call calls[] = {
 	/* What the table answers. */
 	{ "getpid", { 39, 172 }, TABLE, RESULT(PROCESS), QUERY(PIDTAB_GETPID) },
 	{ "getppid", { 110, 173 }, TABLE, RESULT(PROCESS), QUERY(PIDTAB_GETPPID) },
-	{ "gettid", { 186, 178 }, TABLE, RESULT(TASK), .enter = enter_gettid, .leave = leave_query, .operation = PIDTAB_GETPID, .note = "the box numbers the threads beside the main one" },
+	{ "gettid", { 186, 178 }, TABLE, RESULT(TASK), .enter = enter_gettid, .leave = leave_query, .operation = PIDTAB_GETPID,
+		.note = "the box numbers the threads beside the main one" },
 	{ "getpgrp", { 111, -1 }, TABLE, RESULT(GROUP), QUERY(PIDTAB_GETPGID) },
 	{ "getpgid", { 121, 155 }, TABLE, .in = { VALUE(0, PROCESS) }, RESULT(GROUP), QUERY(PIDTAB_GETPGID) },
 	{ "getsid", { 124, 156 }, TABLE, .in = { VALUE(0, PROCESS) }, RESULT(GROUP), QUERY(PIDTAB_GETSID) },
@@ -72,50 +73,69 @@ const struct call calls[] = {
 	{ "fork", { 57, -1 }, TABLE, RESULT(PROCESS), .enter = enter_fork, .leave = leave_fork },
 	{ "vfork", { 58, -1 }, TABLE, RESULT(PROCESS), .enter = enter_fork, .leave = leave_fork },
 	{ "clone", { 56, 220 }, REFUSED, .test = UNLESS_HAS(0, CLONE_UNTRACED, 0), .note = "`CLONE_UNTRACED`: nobody would see what it does" },
-	{ "clone", { 56, 220 }, REFUSED, .test = WHEN_HAS(0, CLONE_THREAD | CLONE_PARENT, CLONE_PARENT), .note = "`CLONE_PARENT`: the table has no such fork" },
-	{ "clone", { 56, 220 }, TABLE, .test = WHEN_HAS(0, CLONE_THREAD, 0), RESULT(PROCESS), .enter = enter_fork, .leave = leave_fork, .note = "a process; a new thread does not stop here, and the box numbers it" },
+	{ "clone", { 56, 220 }, REFUSED, .test = WHEN_HAS(0, CLONE_THREAD | CLONE_PARENT, CLONE_PARENT),
+		.note = "`CLONE_PARENT`: the table has no such fork" },
+	{ "clone", { 56, 220 }, TABLE, .test = WHEN_HAS(0, CLONE_THREAD, 0), RESULT(PROCESS), .enter = enter_fork, .leave = leave_fork,
+		.note = "a process; a new thread does not stop here, and the box numbers it" },
 	{ "clone3", { 435, 435 }, ABSENT, .note = "a filter cannot read its flags; programs take `clone`" },
-	{ "unshare", { 272, 97 }, TABLE, .test = UNLESS_HAS(0, CLONE_NEWPID, 0), .enter = enter_unshare, .leave = leave_unshare, .note = "`CLONE_NEWPID`" },
+	{ "unshare", { 272, 97 }, TABLE, .test = UNLESS_HAS(0, CLONE_NEWPID, 0), .enter = enter_unshare, .leave = leave_unshare,
+		.note = "`CLONE_NEWPID`" },
 	{ "setns", { 308, 268 }, REFUSED, .test = WHEN_IS(1, 0), .note = "of any type: it may be a PID namespace" },
-	{ "setns", { 308, 268 }, REFUSED, .test = UNLESS_HAS(1, CLONE_NEWPID, 0), .note = "`CLONE_NEWPID`: the namespaces are those of the table" },
-	{ "prctl", { 157, 167 }, TABLE, .test = WHEN_IS(0, PR_SET_CHILD_SUBREAPER), .enter = enter_subreaper, .note = "`PR_SET_CHILD_SUBREAPER`" },
-	{ "prctl", { 157, 167 }, TABLE, .test = WHEN_IS(0, PR_GET_CHILD_SUBREAPER), .enter = enter_is_subreaper, .note = "`PR_GET_CHILD_SUBREAPER`" },
+	{ "setns", { 308, 268 }, REFUSED, .test = UNLESS_HAS(1, CLONE_NEWPID, 0),
+		.note = "`CLONE_NEWPID`: the namespaces are those of the table" },
+	{ "prctl", { 157, 167 }, TABLE, .test = WHEN_IS(0, PR_SET_CHILD_SUBREAPER), .enter = enter_subreaper,
+		.note = "`PR_SET_CHILD_SUBREAPER`" },
+	{ "prctl", { 157, 167 }, TABLE, .test = WHEN_IS(0, PR_GET_CHILD_SUBREAPER), .enter = enter_is_subreaper,
+		.note = "`PR_GET_CHILD_SUBREAPER`" },
 	{ "prctl", { 157, 167 }, KERNEL, .test = WHEN_IS(0, PR_SET_PTRACER), .in = { VALUE(1, PROCESS) }, .note = "`PR_SET_PTRACER`" },
 	{ "prctl", { 157, 167 }, REFUSED, .test = WHEN_IS(0, PR_SCHED_CORE), .note = "`PR_SCHED_CORE`" },
 
 	/* Waits: the kernel reaps, and the table is told. */
 	{ "wait4", { 61, 260 }, KERNEL, .in = { VALUE(0, PROCESS_OR_GROUP) }, RESULT(PROCESS), .leave = leave_wait4 },
-	{ "waitid", { 247, 95 }, KERNEL, .test = WHEN_IS(0, P_PID), .in = { VALUE(1, PROCESS) }, .out = { MEMORY(2, AT_SENDER, PROCESS) }, .leave = leave_waitid, .note = "`P_PID`" },
-	{ "waitid", { 247, 95 }, KERNEL, .test = WHEN_IS(0, P_PGID), .in = { VALUE(1, GROUP) }, .out = { MEMORY(2, AT_SENDER, PROCESS) }, .leave = leave_waitid, .note = "`P_PGID`" },
+	{ "waitid", { 247, 95 }, KERNEL, .test = WHEN_IS(0, P_PID), .in = { VALUE(1, PROCESS) }, .out = { MEMORY(2, AT_SENDER, PROCESS) }, .leave = leave_waitid,
+		.note = "`P_PID`" },
+	{ "waitid", { 247, 95 }, KERNEL, .test = WHEN_IS(0, P_PGID), .in = { VALUE(1, GROUP) }, .out = { MEMORY(2, AT_SENDER, PROCESS) }, .leave = leave_waitid,
+		.note = "`P_PGID`" },
 	{ "waitid", { 247, 95 }, KERNEL, .out = { MEMORY(2, AT_SENDER, PROCESS) }, .leave = leave_waitid, .note = "all others" },
 
 	/* Signals. */
-	{ "kill", { 62, 129 }, KERNEL, .in = { VALUE(0, PROCESS_OR_GROUP) }, .enter = enter_kill, .leave = leave_kill, .note = "the box itself where it is to all" },
+	{ "kill", { 62, 129 }, KERNEL, .in = { VALUE(0, PROCESS_OR_GROUP) }, .enter = enter_kill, .leave = leave_kill,
+		.note = "the box itself where it is to all" },
 	{ "tkill", { 200, 130 }, KERNEL, .in = { VALUE(0, TASK) } },
 	{ "tgkill", { 234, 131 }, KERNEL, .in = { VALUE(0, PROCESS), VALUE(1, TASK) } },
 	{ "rt_sigqueueinfo", { 129, 138 }, KERNEL, .in = { VALUE(0, PROCESS) } },
 	{ "rt_tgsigqueueinfo", { 297, 240 }, KERNEL, .in = { VALUE(0, PROCESS), VALUE(1, TASK) } },
-	{ "rt_sigaction", { 13, 134 }, KERNEL, .test = WHEN_IS(0, SIGCHLD), .enter = enter_sigaction, .note = "of `SIGCHLD`, which may say that children leave no zombies" },
+	{ "rt_sigaction", { 13, 134 }, KERNEL, .test = WHEN_IS(0, SIGCHLD), .enter = enter_sigaction,
+		.note = "of `SIGCHLD`, which may say that children leave no zombies" },
 	{ "rt_sigtimedwait", { 128, 137 }, KERNEL, .out = { MEMORY(1, AT_SENDER, PROCESS) }, .leave = leave_sigtimedwait },
 	{ "signalfd", { 282, -1 }, KERNEL, .leave = leave_signalfd, .note = "what is read of it has the sender" },
 	{ "signalfd4", { 289, 74 }, KERNEL, .leave = leave_signalfd, .note = "what is read of it has the sender" },
-	{ "read", { 0, 63 }, KERNEL, .test = UNSEEN, .out = { MEMORY(1, AT_SIGNALFD_SENDER, PROCESS) }, .leave = leave_signalfd_read, .note = "of a `signalfd`: it stops by a filter of its own" },
+	{ "read", { 0, 63 }, KERNEL, .test = UNSEEN, .out = { MEMORY(1, AT_SIGNALFD_SENDER, PROCESS) }, .leave = leave_signalfd_read,
+		.note = "of a `signalfd`: it stops by a filter of its own" },
 	{ "readv", { 19, 65 }, REFUSED, .test = UNSEEN, .note = "of a `signalfd`" },
-	{ "timer_create", { 222, 107 }, KERNEL, .in = { VALUE(0, CLOCK), MEMORY(1, AT_NOTIFIED, TASK) }, .enter = enter_timer, .note = "a thread with `SIGEV_THREAD_ID`" },
-	{ "clock_gettime", { 228, 113 }, KERNEL, .test = UNLESS_HAS(0, 1u << 31, 0), .in = { VALUE(0, CLOCK) }, .note = "the clock of a process or a thread" },
-	{ "clock_settime", { 227, 112 }, KERNEL, .test = UNLESS_HAS(0, 1u << 31, 0), .in = { VALUE(0, CLOCK) }, .note = "the clock of a process or a thread" },
-	{ "clock_getres", { 229, 114 }, KERNEL, .test = UNLESS_HAS(0, 1u << 31, 0), .in = { VALUE(0, CLOCK) }, .note = "the clock of a process or a thread" },
-	{ "clock_adjtime", { 305, 266 }, KERNEL, .test = UNLESS_HAS(0, 1u << 31, 0), .in = { VALUE(0, CLOCK) }, .note = "the clock of a process or a thread" },
-	{ "clock_nanosleep", { 230, 115 }, KERNEL, .test = UNLESS_HAS(0, 1u << 31, 0), .in = { VALUE(0, CLOCK) }, .note = "the clock of a process or a thread" },
+	{ "timer_create", { 222, 107 }, KERNEL, .in = { VALUE(0, CLOCK), MEMORY(1, AT_NOTIFIED, TASK) }, .enter = enter_timer,
+		.note = "a thread with `SIGEV_THREAD_ID`" },
+	{ "clock_gettime", { 228, 113 }, KERNEL, .test = UNLESS_HAS(0, 1u << 31, 0), .in = { VALUE(0, CLOCK) },
+		.note = "the clock of a process or a thread" },
+	{ "clock_settime", { 227, 112 }, KERNEL, .test = UNLESS_HAS(0, 1u << 31, 0), .in = { VALUE(0, CLOCK) },
+		.note = "the clock of a process or a thread" },
+	{ "clock_getres", { 229, 114 }, KERNEL, .test = UNLESS_HAS(0, 1u << 31, 0), .in = { VALUE(0, CLOCK) },
+		.note = "the clock of a process or a thread" },
+	{ "clock_adjtime", { 305, 266 }, KERNEL, .test = UNLESS_HAS(0, 1u << 31, 0), .in = { VALUE(0, CLOCK) },
+		.note = "the clock of a process or a thread" },
+	{ "clock_nanosleep", { 230, 115 }, KERNEL, .test = UNLESS_HAS(0, 1u << 31, 0), .in = { VALUE(0, CLOCK) },
+		.note = "the clock of a process or a thread" },
 
 	/* Whom a call is about. */
 	{ "getpriority", { 140, 141 }, KERNEL, .test = WHEN_IS(0, PRIO_PROCESS), .in = { VALUE(1, TASK) }, .note = "`PRIO_PROCESS`" },
 	{ "getpriority", { 140, 141 }, KERNEL, .test = WHEN_IS(0, PRIO_PGRP), .in = { VALUE(1, GROUP) }, .note = "`PRIO_PGRP`" },
 	{ "setpriority", { 141, 140 }, KERNEL, .test = WHEN_IS(0, PRIO_PROCESS), .in = { VALUE(1, TASK) }, .note = "`PRIO_PROCESS`" },
 	{ "setpriority", { 141, 140 }, KERNEL, .test = WHEN_IS(0, PRIO_PGRP), .in = { VALUE(1, GROUP) }, .note = "`PRIO_PGRP`" },
-	{ "ioprio_get", { 252, 31 }, KERNEL, .test = WHEN_IS(0, IOPRIO_WHO_PROCESS), .in = { VALUE(1, TASK) }, .note = "`IOPRIO_WHO_PROCESS`" },
+	{ "ioprio_get", { 252, 31 }, KERNEL, .test = WHEN_IS(0, IOPRIO_WHO_PROCESS), .in = { VALUE(1, TASK) },
+		.note = "`IOPRIO_WHO_PROCESS`" },
 	{ "ioprio_get", { 252, 31 }, KERNEL, .test = WHEN_IS(0, IOPRIO_WHO_PGRP), .in = { VALUE(1, GROUP) }, .note = "`IOPRIO_WHO_PGRP`" },
-	{ "ioprio_set", { 251, 30 }, KERNEL, .test = WHEN_IS(0, IOPRIO_WHO_PROCESS), .in = { VALUE(1, TASK) }, .note = "`IOPRIO_WHO_PROCESS`" },
+	{ "ioprio_set", { 251, 30 }, KERNEL, .test = WHEN_IS(0, IOPRIO_WHO_PROCESS), .in = { VALUE(1, TASK) },
+		.note = "`IOPRIO_WHO_PROCESS`" },
 	{ "ioprio_set", { 251, 30 }, KERNEL, .test = WHEN_IS(0, IOPRIO_WHO_PGRP), .in = { VALUE(1, GROUP) }, .note = "`IOPRIO_WHO_PGRP`" },
 	{ "sched_setparam", { 142, 118 }, KERNEL, .test = UNLESS_IS(0, 0), .in = { VALUE(0, TASK) } },
 	{ "sched_getparam", { 143, 121 }, KERNEL, .test = UNLESS_IS(0, 0), .in = { VALUE(0, TASK) } },
@@ -136,14 +156,21 @@ const struct call calls[] = {
 	{ "capset", { 126, 91 }, KERNEL, .in = { MEMORY(0, AT_CAPABLE, TASK) } },
 	{ "pidfd_open", { 434, 434 }, KERNEL, .in = { VALUE(0, TASK) } },
 	{ "set_tid_address", { 218, 96 }, KERNEL, RESULT(TASK) },
-	{ "set_robust_list", { 273, 99 }, ABSENT, .note = "the kernel compares the words of the list with its own numbers; no robust mutexes" },
+	{ "set_robust_list", { 273, 99 }, ABSENT,
+		.note = "the kernel compares the words of the list with its own numbers; no robust mutexes" },
 	{ "get_robust_list", { 274, 100 }, REFUSED, .note = "as `set_robust_list`" },
-	{ "futex", { 202, 98 }, REFUSED, .test = WHEN_HAS(1, FUTEX_CMD_MASK, FUTEX_LOCK_PI), .note = "`FUTEX_LOCK_PI`: the kernel compares the word with its own numbers" },
-	{ "futex", { 202, 98 }, REFUSED, .test = WHEN_HAS(1, FUTEX_CMD_MASK, FUTEX_UNLOCK_PI), .note = "`FUTEX_UNLOCK_PI`: the kernel compares the word with its own numbers" },
-	{ "futex", { 202, 98 }, REFUSED, .test = WHEN_HAS(1, FUTEX_CMD_MASK, FUTEX_TRYLOCK_PI), .note = "`FUTEX_TRYLOCK_PI`: the kernel compares the word with its own numbers" },
-	{ "futex", { 202, 98 }, REFUSED, .test = WHEN_HAS(1, FUTEX_CMD_MASK, FUTEX_WAIT_REQUEUE_PI), .note = "`FUTEX_WAIT_REQUEUE_PI`: the kernel compares the word with its own numbers" },
-	{ "futex", { 202, 98 }, REFUSED, .test = WHEN_HAS(1, FUTEX_CMD_MASK, FUTEX_CMP_REQUEUE_PI), .note = "`FUTEX_CMP_REQUEUE_PI`: the kernel compares the word with its own numbers" },
-	{ "futex", { 202, 98 }, REFUSED, .test = WHEN_HAS(1, FUTEX_CMD_MASK, FUTEX_LOCK_PI2), .note = "`FUTEX_LOCK_PI2`: the kernel compares the word with its own numbers" },
+	{ "futex", { 202, 98 }, REFUSED, .test = WHEN_HAS(1, FUTEX_CMD_MASK, FUTEX_LOCK_PI),
+		.note = "`FUTEX_LOCK_PI`: the kernel compares the word with its own numbers" },
+	{ "futex", { 202, 98 }, REFUSED, .test = WHEN_HAS(1, FUTEX_CMD_MASK, FUTEX_UNLOCK_PI),
+		.note = "`FUTEX_UNLOCK_PI`: the kernel compares the word with its own numbers" },
+	{ "futex", { 202, 98 }, REFUSED, .test = WHEN_HAS(1, FUTEX_CMD_MASK, FUTEX_TRYLOCK_PI),
+		.note = "`FUTEX_TRYLOCK_PI`: the kernel compares the word with its own numbers" },
+	{ "futex", { 202, 98 }, REFUSED, .test = WHEN_HAS(1, FUTEX_CMD_MASK, FUTEX_WAIT_REQUEUE_PI),
+		.note = "`FUTEX_WAIT_REQUEUE_PI`: the kernel compares the word with its own numbers" },
+	{ "futex", { 202, 98 }, REFUSED, .test = WHEN_HAS(1, FUTEX_CMD_MASK, FUTEX_CMP_REQUEUE_PI),
+		.note = "`FUTEX_CMP_REQUEUE_PI`: the kernel compares the word with its own numbers" },
+	{ "futex", { 202, 98 }, REFUSED, .test = WHEN_HAS(1, FUTEX_CMD_MASK, FUTEX_LOCK_PI2),
+		.note = "`FUTEX_LOCK_PI2`: the kernel compares the word with its own numbers" },
 
 	/* Descriptors and memory that have identifiers. */
 	{ "ioctl", { 16, 29 }, KERNEL, .test = WHEN_IS(1, TIOCGPGRP), .out = { MEMORY(2, 0, GROUP) }, .note = "`TIOCGPGRP`" },
@@ -158,15 +185,21 @@ const struct call calls[] = {
 	{ "fcntl", { 72, 25 }, KERNEL, .test = WHEN_IS(1, F_GETLK), .out = { MEMORY(2, AT_LOCKER, PROCESS) }, .note = "`F_GETLK`" },
 	{ "fcntl", { 72, 25 }, KERNEL, .test = WHEN_IS(1, F_SETOWN), .in = { VALUE(2, PROCESS_OR_GROUP) }, .note = "`F_SETOWN`" },
 	{ "fcntl", { 72, 25 }, KERNEL, .test = WHEN_IS(1, F_GETOWN), RESULT(PROCESS_OR_GROUP), .note = "`F_GETOWN`" },
-	{ "fcntl", { 72, 25 }, KERNEL, .test = WHEN_IS(1, F_SETOWN_EX), .in = { MEMORY(2, AT_OWNER, TASK) }, .enter = enter_owner, .note = "`F_SETOWN_EX`: by its type a thread, a process or a group" },
-	{ "fcntl", { 72, 25 }, KERNEL, .test = WHEN_IS(1, F_GETOWN_EX), .out = { MEMORY(2, AT_OWNER, TASK) }, .leave = leave_owner, .note = "`F_GETOWN_EX`" },
-	{ "getsockopt", { 55, 209 }, KERNEL, .test = WHEN_IS(2, SO_PEERCRED), .out = { MEMORY(3, 0, PROCESS) }, .leave = leave_peer, .note = "`SO_PEERCRED`" },
-	{ "sendmsg", { 46, 211 }, KERNEL, .in = { MEMORY(1, 0, PROCESS) }, .enter = enter_send, .note = "`SCM_CREDENTIALS` in its control data" },
+	{ "fcntl", { 72, 25 }, KERNEL, .test = WHEN_IS(1, F_SETOWN_EX), .in = { MEMORY(2, AT_OWNER, TASK) }, .enter = enter_owner,
+		.note = "`F_SETOWN_EX`: by its type a thread, a process or a group" },
+	{ "fcntl", { 72, 25 }, KERNEL, .test = WHEN_IS(1, F_GETOWN_EX), .out = { MEMORY(2, AT_OWNER, TASK) }, .leave = leave_owner,
+		.note = "`F_GETOWN_EX`" },
+	{ "getsockopt", { 55, 209 }, KERNEL, .test = WHEN_IS(2, SO_PEERCRED), .out = { MEMORY(3, 0, PROCESS) }, .leave = leave_peer,
+		.note = "`SO_PEERCRED`" },
+	{ "sendmsg", { 46, 211 }, KERNEL, .in = { MEMORY(1, 0, PROCESS) }, .enter = enter_send,
+		.note = "`SCM_CREDENTIALS` in its control data" },
 	{ "sendmmsg", { 307, 269 }, KERNEL, .in = { MEMORY(1, 0, PROCESS) }, .enter = enter_send_many, .note = "the same" },
 	{ "recvmsg", { 47, 212 }, KERNEL, .out = { MEMORY(1, 0, PROCESS) }, .leave = leave_receive, .note = "the same" },
 	{ "recvmmsg", { 299, 243 }, KERNEL, .out = { MEMORY(1, 0, PROCESS) }, .leave = leave_receive_many, .note = "the same" },
-	{ "msgctl", { 71, 187 }, KERNEL, .test = WHEN_IS(1, IPC_STAT), .out = { MEMORY(2, AT_SENT, PROCESS), MEMORY(2, AT_SENT + 4, PROCESS) }, .note = "`IPC_STAT`" },
-	{ "shmctl", { 31, 195 }, KERNEL, .test = WHEN_IS(1, IPC_STAT), .out = { MEMORY(2, AT_ATTACHED, PROCESS), MEMORY(2, AT_ATTACHED + 4, PROCESS) }, .note = "`IPC_STAT`" },
+	{ "msgctl", { 71, 187 }, KERNEL, .test = WHEN_IS(1, IPC_STAT), .out = { MEMORY(2, AT_SENT, PROCESS), MEMORY(2, AT_SENT + 4, PROCESS) },
+		.note = "`IPC_STAT`" },
+	{ "shmctl", { 31, 195 }, KERNEL, .test = WHEN_IS(1, IPC_STAT), .out = { MEMORY(2, AT_ATTACHED, PROCESS), MEMORY(2, AT_ATTACHED + 4, PROCESS) },
+		.note = "`IPC_STAT`" },
 	{ "semctl", { 66, 191 }, KERNEL, .test = WHEN_IS(2, GETPID), RESULT(PROCESS), .note = "`GETPID`" },
 
 	/* /proc. */
@@ -182,9 +215,11 @@ const struct call calls[] = {
 	{ "statx", { 332, 291 }, KERNEL, .in = { VALUE(1, PATH) }, .enter = enter_path_at, .leave = leave_path },
 	{ "faccessat", { 269, 48 }, KERNEL, .in = { VALUE(1, PATH) }, .enter = enter_path_at, .leave = leave_path },
 	{ "faccessat2", { 439, 439 }, KERNEL, .in = { VALUE(1, PATH) }, .enter = enter_path_at, .leave = leave_path },
-	{ "readlink", { 89, -1 }, KERNEL, .in = { VALUE(0, PATH) }, .enter = enter_readlink, .leave = leave_path, .note = "`/proc/self` is answered by the box" },
+	{ "readlink", { 89, -1 }, KERNEL, .in = { VALUE(0, PATH) }, .enter = enter_readlink, .leave = leave_path,
+		.note = "`/proc/self` is answered by the box" },
 	{ "readlinkat", { 267, 78 }, KERNEL, .in = { VALUE(1, PATH) }, .enter = enter_readlink_at, .leave = leave_path, .note = "the same" },
-	{ "getdents64", { 217, 61 }, KERNEL, .in = { VALUE(0, DIRECTORY) }, .enter = enter_listing, .leave = leave_listing, .note = "of `/proc` and of `/proc/N/task`" },
+	{ "getdents64", { 217, 61 }, KERNEL, .in = { VALUE(0, DIRECTORY) }, .enter = enter_listing, .leave = leave_listing,
+		.note = "of `/proc` and of `/proc/N/task`" },
 	{ "getdents", { 78, -1 }, REFUSED, .note = "the old form of `getdents64`" },
 
 	/* What has identifiers that are not translated. */
@@ -276,13 +311,24 @@ const struct call calls[] = {
 
 const int call_count = sizeof calls / sizeof calls[0];
 
-/* The first row of a call of this machine. */
+/* The first row of each call of this machine, by its number. */
+static const struct call *first_rows[MOST_CALLS];
+
+static void index_rows(void)
+{
+	for (const struct call *call = calls + call_count - 1; call >= calls; call--)
+		if (call->number[MACHINE] >= 0)
+			first_rows[call->number[MACHINE]] = call;
+}
+
 const struct call *call_first(int64_t number)
 {
-	for (const struct call *call = calls; number >= 0 && call < calls + call_count; call++)
-		if (call->number[MACHINE] == number)
-			return call;
-	return NULL;
+	static bool is_indexed;
+
+	if (!is_indexed)
+		index_rows();
+	is_indexed = true;
+	return number >= 0 && number < MOST_CALLS ? first_rows[number] : NULL;
 }
 
 static bool holds(const struct test *test, const struct registers *registers)
@@ -354,11 +400,11 @@ void calls_print(void)
 	for (const struct call *call = calls; call < calls + call_count; call++)
 		if (call->decides != PLAIN)
 			print_row(call);
-	printf("\nAll other uses of these are plain, and so are:\n");
+	printf("\nAll other uses of these are plain, and so are:\n\n```text");
 	for (const struct call *call = calls; call < calls + call_count; call++)
 		if (call->decides == PLAIN) {
 			width = width > 110 ? 0 : width;
-			width += printf("%s`%s`", width ? " " : "\n", call->name);
+			width += printf("%s%s", width ? " " : "\n", call->name);
 		}
-	printf(".\n");
+	printf("\n```\n");
 }

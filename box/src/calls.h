@@ -28,7 +28,7 @@ struct carried {
 	int offset; /* in the memory that the argument points to */
 };
 
-enum { CARRIED = 2 };
+enum { CARRIED = 2, MOST_CALLS = 512 /* above every number of a call */ };
 
 struct call {
 	const char *name;

@@ -155,14 +155,23 @@ static void report_state(const struct process *process, const struct state *stat
 		report_difference("session", process->root, root_of(state->session), task->session);
 }
 
-/* Every process's parent, group and session, at a moment when nothing is under way. */
+/* Whether a call that changes the group or the session is under way: the table and the kernel make it one after the other. */
+static bool is_changing(const struct process *process)
+{
+	const struct thread *thread = thread_of_real(process->real);
+	bool is_in_call = thread && thread->phase == IN_CALL;
+
+	return process->asked || (is_in_call && (thread->call->enter == enter_setsid || thread->call->enter == enter_setpgid));
+}
+
+/* Every process's parent, group and session, at a moment when nothing is reported. */
 void compare_state(void)
 {
 	for (struct process *process = processes; process; process = process->next) {
 		struct pidtab_task task;
 		struct state state;
 
-		if (process->ended || !read_state(process->real, &state))
+		if (process->ended || is_changing(process) || !read_state(process->real, &state))
 			continue;
 		task = table_stat(SUPERVISOR, process->root);
 		checks++;

@@ -12,7 +12,7 @@
 #include <sys/prctl.h>
 #include <sys/syscall.h>
 
-enum { MOST_CODE = 4096, MOST_CALLS = 512, LONGEST_JUMP = 255 };
+enum { MOST_CODE = 4096, LONGEST_JUMP = 255 };
 
 #define FIELD(name) (struct sock_filter)BPF_STMT(BPF_LD | BPF_W | BPF_ABS, offsetof(struct seccomp_data, name))
 #define GIVE(what) (struct sock_filter)BPF_STMT(BPF_RET | BPF_K, (what))

@@ -90,17 +90,18 @@ void fork_failed(struct thread *thread, bool again)
 	thread->child = 0;
 }
 
-/* The numbers that the kernel writes for a new process or thread are its own: in the parent's memory now, in the child's as it begins. */
+/* The numbers that the kernel writes for a new process or thread are its own: in the parent's memory now, in the child's as it begins. A
+ * thread's call did not stop before, so its arguments are read here. */
 static void tell_numbers(const struct thread *parent, struct thread *child)
 {
 	struct registers registers;
 	uint64_t flags;
 
-	if (!registers_read(parent->tid, &registers))
-		return;
-	flags = child->number ? registers_argument(&registers, FLAGS) : parent->flags;
-	if (flags & (CLONE_PARENT_SETTID | CLONE_CHILD_SETTID) && parent->phase == IN_CALL)
+	if (parent->phase == IN_CALL)
 		registers = parent->made;
+	else if (!registers_read(parent->tid, &registers))
+		return;
+	flags = parent->phase == IN_CALL ? parent->flags : registers_argument(&registers, FLAGS);
 	if (flags & CLONE_PARENT_SETTID)
 		show(parent, registers_argument(&registers, PARENT_TID), TASK);
 	if (flags & CLONE_CHILD_SETTID)

@@ -68,11 +68,25 @@ static void step_from_proc(struct place *place, const struct thread *caller, con
 	}
 }
 
+/* Up from a folder; below one there may be links, so the kernel has to go. */
+static void step_up(struct place *place)
+{
+	static const int above[] = { [ELSEWHERE] = ELSEWHERE, [IN_PROC] = ELSEWHERE, [IN_PROCESS] = IN_PROC, [IN_TASKS] = IN_PROCESS, [IN_TASK] = IN_TASKS };
+
+	if (place->where == BELOW) {
+		go_below(place, "..");
+		return;
+	}
+	place->where = above[place->where];
+	place->process = place->where == IN_PROC ? 0 : place->process;
+	place->task = 0;
+}
+
 static void step(struct place *place, const struct thread *caller, const char *word)
 {
 	place->is_self = false;
-	if (place->where == IN_PROC && !strcmp(word, "..")) {
-		place->where = ELSEWHERE;
+	if (!strcmp(word, "..")) {
+		step_up(place);
 	} else if (place->where == IN_PROC) {
 		step_from_proc(place, caller, word);
 	} else if (place->where == IN_PROCESS && !strcmp(word, "task")) {

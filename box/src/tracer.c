@@ -11,6 +11,7 @@
 #include <sys/uio.h>
 #include <sys/wait.h>
 #include <time.h>
+#include <unistd.h>
 
 uint64_t events;
 
@@ -178,6 +179,25 @@ static void call_stopped(struct thread *thread)
 	trace(is_seen ? PTRACE_SYSCALL : PTRACE_CONT, thread->tid, 0);
 }
 
+/* The signals that came while the registers were those of an injected call. */
+static void send_put_off(struct thread *thread)
+{
+	for (int signal = 1; signal < 64; signal++)
+		if (thread->put_off >> signal & 1)
+			syscall(SYS_tgkill, thread->process->real, thread->tid, signal);
+	thread->put_off = 0;
+}
+
+static void signal_stopped(struct thread *thread, int signal)
+{
+	if (thread->phase == INJECTED) {
+		thread->put_off |= (uint64_t)1 << signal;
+		trace(PTRACE_SYSCALL, thread->tid, 0);
+	} else {
+		trace(PTRACE_CONT, thread->tid, signal_arrives(thread, signal));
+	}
+}
+
 /* A stop at the entry or the exit of a call that is watched. */
 static void watched_stopped(struct thread *thread)
 {
@@ -191,6 +211,7 @@ static void watched_stopped(struct thread *thread)
 	case IN_INJECTED:
 		registers_write(thread->tid, &thread->behind);
 		thread->phase = FREE;
+		send_put_off(thread);
 		break;
 	case IN_CALL:
 		if (!thread->process->ended && call_leave(thread) == SEE_EXIT)
@@ -224,7 +245,7 @@ static void event_stopped(struct thread *thread, int event, int signal)
 		break;
 	default: /* PTRACE_EVENT_STOP: by SIGTRAP it is a new thread's, or its going on; by others that of a stopped process */
 		thread->is_at_rest = signal != SIGTRAP;
-		trace(signal == SIGTRAP ? PTRACE_CONT : PTRACE_LISTEN, thread->tid, 0);
+		trace(thread->is_at_rest ? PTRACE_LISTEN : thread->phase == INJECTED ? PTRACE_SYSCALL : PTRACE_CONT, thread->tid, 0);
 	}
 }
 
@@ -238,7 +259,7 @@ static void stopped(struct thread *thread, int status)
 	else if (signal == SYSCALL_STOP)
 		watched_stopped(thread);
 	else
-		trace(PTRACE_CONT, thread->tid, signal_arrives(thread, signal));
+		signal_stopped(thread, signal);
 }
 
 static void handle(pid_t tid, int status)

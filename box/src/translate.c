@@ -122,6 +122,15 @@ enum onward call_enter(struct thread *thread)
 	return thread->call->enter ? thread->call->enter(thread, &registers) : translate(thread, &registers);
 }
 
+/* Behind a signalfd(2) reads of the new descriptor are to stop. */
+static enum onward add_filter(struct thread *thread, struct registers *registers)
+{
+	int file = thread->behind_reads;
+
+	thread->behind_reads = -1;
+	return filter_for_reads(thread, registers, file) ? SEE_EXIT : GO;
+}
+
 /* The exit of a call. The program finds its arguments as it passed them. */
 enum onward call_leave(struct thread *thread)
 {
@@ -140,7 +149,7 @@ enum onward call_leave(struct thread *thread)
 		registers_repeat(&registers, registers_call(&thread->made));
 	thread->once_more = false;
 	if (thread->behind_reads >= 0)
-		return filter_for_reads(thread, &registers, thread->behind_reads) ? SEE_EXIT : GO;
+		return add_filter(thread, &registers);
 	registers_write(thread->tid, &registers);
 	return GO;
 }

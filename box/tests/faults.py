@@ -13,7 +13,7 @@ FAULTS = (
      "|| registers ? answer_with(thread, thread->told) : GO", "groups"),
     ("an exec is not told", "tracer.c", "table_do(PIDTAB_EXEC, process->root, 0, 0);", "(void)0;", "executed"),
     ("a wait reaps another", "life.c", "(uint32_t)number, PIDTAB_CHILD)", "(uint32_t)number, PIDTAB_ANY)", "waits"),
-    ("an orphan's subreaper is not told", "groups.c", "table_do(PIDTAB_SUBREAPER, thread->process->root, 0, registers_argument(registers, 1) != 0);",
+    ("a subreaper is not told", "groups.c", "table_do(PIDTAB_SUBREAPER, thread->process->root, 0, registers_argument(registers, 1) != 0);",
      "(void)0;", "orphan"),
     ("a number is another one", "names.c", "return space ? name->levels[space->depth] : 0;",
      "return space ? name->levels[name->space->depth] + (name->levels[space->depth] == 4) : 0;", "groups"),

@@ -3,7 +3,6 @@ import os
 import pathlib
 import re
 import shutil
-import signal
 import subprocess
 import time
 
@@ -104,14 +103,32 @@ def misuse(tell):
         done = subprocess.run([BOX, *words], capture_output=True, text=True, timeout=30, check=False)
         if done.returncode != status or text not in done.stderr:
             tell.fault(f"misuse {' '.join(words)}", f"status {done.returncode}, {done.stderr}")
-    box = subprocess.Popen([BOX, "sh", "-c", "sleep 100 & sleep 100"])
-    time.sleep(0.5)
+    killed_box(tell)
+    tell.say("misuse", f"{len(asked)} uses")
+
+
+def sleepers(seconds):
+    """How many processes of this machine sleep for just so long."""
+    return subprocess.run(["pgrep", "-c", "-f", f"^sleep {seconds}$"], capture_output=True, text=True, check=False).stdout.strip()
+
+
+def killed_box(tell):
+    """Nobody of a box that is killed lives on."""
+    seconds = f"4321.{os.getpid()}"
+    box = subprocess.Popen([BOX, "sh", "-c", f"sleep {seconds} & sleep {seconds}"])
+    wait_for(lambda: sleepers(seconds) == "2")
+    before = sleepers(seconds)
     box.kill()
     box.wait()
-    time.sleep(0.3)
-    if box.returncode != -signal.SIGKILL:
-        tell.fault("misuse", "a killed box")
-    tell.say("misuse", f"{len(asked)} uses")
+    wait_for(lambda: sleepers(seconds) == "0")
+    if (before, sleepers(seconds)) != ("2", "0"):
+        tell.fault("misuse", f"a killed box: {before} before, {sleepers(seconds)} behind")
+
+
+def wait_for(is_so, seconds=10):
+    end = time.monotonic() + seconds
+    while not is_so() and time.monotonic() < end:
+        time.sleep(0.05)
 
 
 def header_numbers(compiler, headers):

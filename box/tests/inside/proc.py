@@ -51,6 +51,7 @@ def main():
     say("stat of a folder", os.stat(f"/proc/{child}").st_mode, of(os.stat, "/proc/999"), of(os.readlink, "/proc/999/exe"))
     say("links", os.path.basename(os.readlink(f"/proc/{child}/exe")), os.readlink(f"/proc/{child}/cwd") == os.getcwd())
     say("access", os.access(f"/proc/{child}/stat", os.R_OK), os.access("/proc/999", os.F_OK))
+    say("up", of(os.stat, f"/proc/{me}/../999"), stat(f"/proc/{me}/task/../../{child}/stat")[0] == str(child))
     folder = os.open("/proc", os.O_RDONLY)
     for name in (str(child), f"{child}/status", "self/stat", "999"):
         say("by a folder", of(lambda: os.stat(name, dir_fd=folder).st_size))
