@@ -155,23 +155,41 @@ impl Recovery {
 
     /// A directory that was copied while it was in use may lack its newest log.
     fn compare_current(&self, last: Option<u64>) -> Result<(), Fault> {
-        let current = self.directory.current()?.unwrap_or(0);
-        if current <= last.unwrap_or(0).max(self.snapshot) {
+        let Some(current) = self.directory.current()? else { return Ok(()) };
+        if last.is_some_and(|it| it >= current) || current < self.snapshot {
             return Ok(());
         }
         let path = self.directory.log(current);
         Err(fault_at(&path)("is missing, and `current` names it as the newest log: the directory was not copied whole"))
     }
 
-    /// Goes on to a place of the log with that first ordinal, which is written meanwhile.
+    /// Goes on to a place of the log with that first ordinal, which is written meanwhile. The logs before it are closed.
     pub fn go_on(&mut self, base: u64, bytes: u64) -> Result<(), Fault> {
         if self.input.as_ref().is_none_or(|it| it.base != base) {
+            self.finish_closed(base)?;
             self.open(base)?;
         }
         if let Some(input) = &mut self.input {
             input.end = bytes;
         }
         self.replay_all(false)
+    }
+
+    /// The log that is in hand, to its end, and all that are between it and that one.
+    fn finish_closed(&mut self, below: u64) -> Result<(), Fault> {
+        if let Some(input) = &mut self.input {
+            let path = self.directory.log(input.base);
+            input.end = input.file.metadata().map_err(fault_at(&path))?.len();
+            self.replay_all(false)?;
+        }
+        let logs = self.directory.files()?.logs;
+        for base in logs.into_iter().filter(|it| *it < below) {
+            if base >= self.made {
+                self.open(base)?;
+                self.replay_all(false)?;
+            }
+        }
+        Ok(())
     }
 
     fn open(&mut self, base: u64) -> Result<(), Fault> {
