@@ -99,7 +99,7 @@ impl Engine {
         let (made, pid_max) = (opened.made, opened.pid_max);
         let left_out = opened.end.as_ref().map_or(0, |it| it.left_out);
         let (log, blocks, source) = match &directory {
-            None => (None, loose_blocks(pid_max).map_err(|it| it.to_string())?, Source::Nothing { pid_max }),
+            None => (None, loose_blocks(pid_max).map_err(|it| it.to_string())?, Source::Nothing { pid_max, text: None }),
             Some(directory) => {
                 let (log, blocks) = Log::open(
                     directory.again()?,
@@ -297,7 +297,12 @@ impl Engine {
     }
 
     fn keep_adopted(&mut self, text: &[u8], wake: impl Fn() + Clone + Send + 'static) -> Result<(), Fault> {
-        let Some(directory) = &self.directory else { return Ok(()) };
+        let Some(directory) = &self.directory else {
+            self.blocks = loose_blocks(self.pid_max).map_err(|error| error.to_string())?;
+            let source = Source::Nothing { pid_max: self.pid_max, text: Some(text.to_vec()) };
+            self.replica = Replica::start(source, wake);
+            return Ok(());
+        };
         let path = directory.snapshot(self.made);
         let kept = directory.write(&path, &[text]).and_then(|_| directory.put_away(self.made, self.keep.archive));
         kept.map_err(crate::directory::fault_at(&path))?;

@@ -205,6 +205,7 @@ impl Leases {
         file.write_all(&text)?;
         file.sync_all()?;
         fs::rename(&new, path)?;
+        File::open(path.parent().unwrap_or(path))?.sync_all()?;
         self.count = self.facts();
         Ok(file)
     }

@@ -33,7 +33,8 @@ pub enum Report {
 /// Where the calls come from.
 pub enum Source {
     Directory { directory: Directory, archive: bool },
-    Nothing { pid_max: u32 },
+    /// Calls behind a new table, or behind that of a text.
+    Nothing { pid_max: u32, text: Option<Vec<u8>> },
 }
 
 pub struct Replica {
@@ -119,8 +120,8 @@ impl Copy {
     }
 
     fn replay(&mut self, bytes: &[u8]) {
-        if let (State::Unread, Source::Nothing { pid_max }) = (&self.state, &self.source) {
-            self.state = begin_loose(*pid_max);
+        if let (State::Unread, Source::Nothing { pid_max, text }) = (&self.state, &mut self.source) {
+            self.state = begin_loose(*pid_max, text.take());
         }
         let State::Loose { table, blocks } = &mut self.state else { return };
         let mut at = 0;
@@ -171,9 +172,14 @@ pub fn loose_blocks(pid_max: u32) -> Result<Blocks, pidtab::Error> {
     Blocks::begin(&head, &mut Vec::new())
 }
 
-fn begin_loose(pid_max: u32) -> State {
-    match (Table::open(pid_max), loose_blocks(pid_max)) {
+fn begin_loose(pid_max: u32, text: Option<Vec<u8>>) -> State {
+    let table = match text {
+        Some(text) => Table::from_dump(text).map_err(|fault| fault.to_string()),
+        None => Table::open(pid_max).map_err(|error| error.to_string()),
+    };
+    match (table, loose_blocks(pid_max)) {
         (Ok(table), Ok(blocks)) => State::Loose { table, blocks },
-        (Err(error), _) | (_, Err(error)) => State::Failed(error.to_string()),
+        (Err(fault), _) => State::Failed(fault),
+        (_, Err(error)) => State::Failed(error.to_string()),
     }
 }
