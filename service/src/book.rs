@@ -290,19 +290,29 @@ impl Book {
     fn note_exit(&mut self, table: &mut Table, task: u32, status: u8) {
         let space = self.tasks.get(&task).map_or(0, |it| it.space);
         let fallen = self.falls_with(task);
+        self.tell_ends(task, status);
+        self.stirred.push(task);
         let mut changed: Vec<u32> = self.children(task).map(|it| it.0).collect();
+        if fallen.is_empty() {
+            self.become_zombie(task);
+        }
         for it in &fallen {
             changed.extend(self.children(*it).map(|it| it.0));
         }
         changed.extend(&fallen);
-        self.tell_ends(task, status);
-        self.refresh(table, task);
         changed.iter().for_each(|it| self.refresh(table, *it));
-        self.stirred.push(task);
         if !fallen.is_empty() {
             let gone: Vec<_> = self.spaces.keys().copied().filter(|it| self.is_inside(*it, space)).collect();
             gone.iter().for_each(|it| drop(self.spaces.remove(it)));
         }
+    }
+
+    /// Who is no init stays his parent's until he is waited for.
+    fn become_zombie(&mut self, task: u32) {
+        let Some(kin) = self.tasks.get_mut(&task) else { return };
+        kin.is_zombie = true;
+        self.zombies.insert((kin.parent, kin.number), task);
+        self.stirred.push(kin.parent);
     }
 
     /// The events of those that have ended; a namespace falls behind its init.

@@ -67,6 +67,8 @@ pub struct Conn {
     pub is_half: bool,
     /// The peer takes no more.
     pub is_hung: bool,
+    /// The socket takes no more for now.
+    pub is_full: bool,
     /// It is closed at the end of the turn.
     pub is_gone: bool,
     /// It is closed when all was sent.
@@ -97,6 +99,7 @@ impl Conn {
             is_readable: false,
             is_half: false,
             is_hung: false,
+            is_full: false,
             is_gone: false,
             ends: false,
             is_queued: false,

@@ -99,7 +99,9 @@ impl Engine {
         let (made, pid_max) = (opened.made, opened.pid_max);
         let left_out = opened.end.as_ref().map_or(0, |it| it.left_out);
         let (log, blocks, source) = match &directory {
-            None => (None, loose_blocks(pid_max).map_err(|it| it.to_string())?, Source::Nothing { pid_max, text: None }),
+            None => {
+                (None, loose_blocks(pid_max).map_err(|it| it.to_string())?, Source::Nothing { pid_max, text: None })
+            }
             Some(directory) => {
                 let (log, blocks) = Log::open(
                     directory.again()?,

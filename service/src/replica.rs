@@ -32,9 +32,15 @@ pub enum Report {
 
 /// Where the calls come from.
 pub enum Source {
-    Directory { directory: Directory, archive: bool },
+    Directory {
+        directory: Directory,
+        archive: bool,
+    },
     /// Calls behind a new table, or behind that of a text.
-    Nothing { pid_max: u32, text: Option<Vec<u8>> },
+    Nothing {
+        pid_max: u32,
+        text: Option<Vec<u8>>,
+    },
 }
 
 pub struct Replica {

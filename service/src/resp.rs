@@ -15,6 +15,9 @@ pub const LONGEST_REQUEST: usize = MOST_WORDS * (LONGEST_WORD + 16) + 16;
 /// No number of a header has more digits.
 const MOST_DIGITS: usize = 10;
 
+/// A kind, twenty digits and a line end.
+const LONGEST_HEAD: usize = 23;
+
 /// Where a word begins and ends.
 type Span = (u32, u32);
 
@@ -200,9 +203,7 @@ pub trait Answer {
         self.head(b'*', count as u64);
     }
 
-    fn ok(&mut self) {
-        self.line("+OK");
-    }
+    fn ok(&mut self);
 }
 
 impl Answer for Vec<u8> {
@@ -211,11 +212,18 @@ impl Answer for Vec<u8> {
         self.extend_from_slice(b"\r\n");
     }
 
+    /// In one piece, as each answer has some.
     fn head(&mut self, kind: u8, number: u64) {
-        self.push(kind);
-        // Numbers above those of an integer of RESP are ids of cgroups that nobody has met: 2^63 calls.
-        self.extend_from_slice(itoa::Buffer::new().format(number).as_bytes());
-        self.extend_from_slice(b"\r\n");
+        let (mut line, mut digits) = ([kind; LONGEST_HEAD], itoa::Buffer::new());
+        let digits = digits.format(number).as_bytes();
+        let end = 1 + digits.len();
+        line[1..end].copy_from_slice(digits);
+        line[end..end + 2].copy_from_slice(b"\r\n");
+        self.extend_from_slice(&line[..end + 2]);
+    }
+
+    fn ok(&mut self) {
+        self.extend_from_slice(b"+OK\r\n");
     }
 
     fn bulk(&mut self, bytes: &[u8]) {

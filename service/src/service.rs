@@ -79,6 +79,7 @@ pub struct Service {
     pub reader: Reader,
     spare: Option<File>,
     texts: Texts,
+    pub followers: usize,
 }
 
 /// The last text of each kind, and all that are being sent.
@@ -137,6 +138,7 @@ impl Service {
             reader: Reader::default(),
             spare: File::open("/dev/null").ok(),
             texts: Texts::default(),
+            followers: 0,
             options,
         };
         service.watch().map_err(fault)?;
@@ -331,6 +333,7 @@ impl Service {
         let Some(conn) = self.conns[token].as_deref_mut() else { return };
         conn.is_touched = false;
         let goes_on = conn.send(now);
+        watch_output(self.poll.registry(), conn);
         if conn.is_gone || (conn.ends && conn.unsent() == 0 && !goes_on) {
             return self.end(token);
         }
@@ -351,6 +354,7 @@ impl Service {
         self.sleepers.forget(token);
         self.figures.clients -= 1;
         self.figures.seated[conn.seat as usize] -= 1;
+        self.followers -= usize::from(conn.follower.is_some());
         if let Some(key) = &conn.lease {
             self.leases.let_go(key, self.now);
         }
@@ -407,8 +411,7 @@ impl Service {
             return self.turn_away(&socket, "-NOPERM this user may not connect\r\n");
         };
         let token = self.free.pop().unwrap_or(self.conns.len());
-        let interests = Interest::READABLE | Interest::WRITABLE;
-        if self.poll.registry().register(&mut socket, Token(CLIENTS + token), interests).is_err() {
+        if self.poll.registry().register(&mut socket, Token(CLIENTS + token), Interest::READABLE).is_err() {
             self.freed.push(token);
             return;
         }
@@ -506,6 +509,9 @@ impl Service {
     /// Followers get what was written in this turn, and the head of a new log.
     fn stream(&mut self) {
         let (blocks, head) = self.engine.take_written();
+        if self.followers == 0 {
+            return self.engine.give_back(blocks);
+        }
         let mut told = Vec::new();
         for conn in self.conns.iter_mut().flatten().filter(|it| it.follower.is_some()) {
             let parts = [&blocks[..], &head[..]];
@@ -614,6 +620,18 @@ impl Service {
         }
         self.engine.close()
     }
+}
+
+/// Whether the socket takes more is asked while it has not taken all: else each answer that is read would wake the loop.
+fn watch_output(registry: &mio::Registry, conn: &mut Conn) {
+    let is_full = conn.unsent() > 0 && !conn.is_gone;
+    if is_full == conn.is_full {
+        return;
+    }
+    let interests = if is_full { Interest::READABLE | Interest::WRITABLE } else { Interest::READABLE };
+    let token = Token(CLIENTS + conn.token);
+    conn.is_gone |= registry.reregister(&mut conn.socket, token, interests).is_err();
+    conn.is_full = is_full;
 }
 
 fn tell(conn: &mut Conn, event: &crate::book::Event) {

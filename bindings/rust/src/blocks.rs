@@ -110,11 +110,10 @@ impl Blocks {
             call: call.numbers(),
             reply: reply.numbers(),
         };
-        let at = to.len();
-        to.resize(at + raw::SAVED_LONGEST, 0);
-        let put = raw::put_entry(&entry, &mut to[at..], &mut self.sum);
-        to.truncate(at + put.unwrap_or(0));
-        put.map_err(Error::of).map(|_| ())
+        let mut room = [0; raw::SAVED_LONGEST];
+        let size = raw::put_entry(&entry, &mut room, &mut self.sum).map_err(Error::of)?;
+        to.extend_from_slice(&room[..size]);
+        Ok(())
     }
 
     /// The running checksum.
