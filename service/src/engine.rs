@@ -88,6 +88,24 @@ fn new_table(keep: &Keep) -> Result<Opened, Fault> {
     Ok(Opened { table, pid_max: keep.pid_max, made: 0, snapshot: 0, replayed: 0, born, end: None })
 }
 
+/// The log, the checksum that it goes on from, and where the second table has its calls from.
+fn begin_log(
+    directory: Option<&Directory>,
+    keep: &Keep,
+    opened: &mut Opened,
+    wake: impl Fn() + Send + 'static,
+) -> Result<(Option<Log>, Blocks, Source), Fault> {
+    let (made, pid_max) = (opened.made, opened.pid_max);
+    let Some(directory) = directory else {
+        let blocks = loose_blocks(pid_max).map_err(|error| error.to_string())?;
+        return Ok((None, blocks, Source::Nothing { pid_max, text: None }));
+    };
+    let (again, end) = (directory.again()?, opened.end.take());
+    let (log, blocks) = Log::open(again, keep.sync, keep.segment, end, made, pid_max, wake)?;
+    let source = Source::Directory { directory: directory.again()?, archive: keep.archive };
+    Ok((Some(log), blocks, source))
+}
+
 impl Engine {
     /// Opens what is kept. `wake` wakes the loop from other threads.
     pub fn open(keep: Keep, wake: impl Fn() + Clone + Send + 'static) -> Result<Engine, Fault> {
@@ -98,24 +116,7 @@ impl Engine {
         };
         let (made, pid_max) = (opened.made, opened.pid_max);
         let left_out = opened.end.as_ref().map_or(0, |it| it.left_out);
-        let (log, blocks, source) = match &directory {
-            None => {
-                (None, loose_blocks(pid_max).map_err(|it| it.to_string())?, Source::Nothing { pid_max, text: None })
-            }
-            Some(directory) => {
-                let (log, blocks) = Log::open(
-                    directory.again()?,
-                    keep.sync,
-                    keep.segment,
-                    opened.end.take(),
-                    made,
-                    pid_max,
-                    wake.clone(),
-                )?;
-                let source = Source::Directory { directory: directory.again()?, archive: keep.archive };
-                (Some(log), blocks, source)
-            }
-        };
+        let (log, blocks, source) = begin_log(directory.as_ref(), &keep, &mut opened, wake.clone())?;
         let mut engine = Engine {
             book: Book::default(),
             table: opened.table,
