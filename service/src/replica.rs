@@ -101,11 +101,23 @@ impl Copy {
                 self.replay(&bytes);
                 None
             }
-            Order::Snapshot => Some(Report::Snapshot(self.snapshot())),
+            Order::Snapshot => {
+                let done = self.snapshot();
+                self.begin_anew();
+                Some(Report::Snapshot(done))
+            }
             Order::Text { is_dump, ordinal } => {
                 let text = self.text(is_dump).map(|it| Arc::new(it.into_bytes()));
+                self.begin_anew();
                 Some(Report::Text { is_dump, ordinal, text })
             }
+        }
+    }
+
+    /// A second table that has failed, and has said so, is made again of the files.
+    fn begin_anew(&mut self) {
+        if let (State::Failed(_), Source::Directory { .. }) = (&self.state, &self.source) {
+            self.state = State::Unread;
         }
     }
 
@@ -156,12 +168,8 @@ impl Copy {
         text.map_err(|error| error.to_string())
     }
 
-    /// A second table that has failed is made again of the files for the next one.
     fn snapshot(&mut self) -> Result<u64, Fault> {
         let text = self.text(true);
-        if matches!(self.state, State::Failed(_)) {
-            self.state = State::Unread;
-        }
         let (State::Kept(recovery), Source::Directory { directory, archive }) = (&self.state, &self.source) else {
             return text.and(Err("nothing is kept".to_owned()));
         };

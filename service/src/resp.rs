@@ -288,6 +288,52 @@ mod tests {
         }
     }
 
+    /// A request with some bytes changed, dropped or added, by xorshift64.
+    fn mutated(seed: &mut u64) -> Vec<u8> {
+        let mut draw = |below: usize| {
+            *seed ^= *seed << 13;
+            *seed ^= *seed >> 7;
+            *seed ^= *seed << 17;
+            (*seed % below as u64) as usize
+        };
+        let alphabet = b"*$-0123456789\r\n FORKforkNEW\0\xff";
+        let mut bytes = format!("*{}\r\n", draw(5)).into_bytes();
+        for _ in 0..draw(5) {
+            let word = "FORK 1 NEW".repeat(draw(4));
+            bytes.extend(format!("${}\r\n{word}\r\n", word.len()).bytes());
+        }
+        for _ in 0..draw(6) {
+            let place = draw(bytes.len());
+            let added: Vec<_> = (0..draw(3)).map(|_| alphabet[draw(alphabet.len())]).collect();
+            let end = bytes.len().min(place + draw(3));
+            bytes.splice(place..end, added);
+            bytes.push(alphabet[draw(alphabet.len())]);
+        }
+        bytes
+    }
+
+    /// A fifth of a million inputs, or as many as there are in PARSER_SECONDS: no request is longer than its bytes, each word is within it, and each
+    /// front of a whole request is not whole, so that pieces make no difference.
+    #[test]
+    fn mutated_requests() {
+        let seconds = std::env::var("PARSER_SECONDS").ok().and_then(|it| it.parse().ok()).unwrap_or(0);
+        let (began, mut seed, mut count, mut whole) = (std::time::Instant::now(), 0x9e37_79b9_7f4a_7c15, 0u64, 0u64);
+        let mut reader = Reader::default();
+        while count < 200_000 || began.elapsed().as_secs() < seconds {
+            let bytes = mutated(&mut seed);
+            count += 1;
+            let Ok(Some(size)) = reader.take(&bytes) else { continue };
+            whole += 1;
+            assert!(size <= bytes.len() && reader.spans.len() <= MOST_WORDS);
+            let is_within = |it: &Span| it.0 <= it.1 && it.1 as usize <= size && (it.1 - it.0) as usize <= LONGEST_WORD;
+            assert!(reader.spans.iter().all(is_within), "{bytes:?}");
+            let front = seed as usize % size;
+            assert_eq!(reader.take(&bytes[..front]), Ok(None), "{front} of {bytes:?}");
+        }
+        println!("{count} inputs, {whole} whole");
+        assert!(whole > count / 10);
+    }
+
     #[test]
     fn numbers_as_scripts_have_them() {
         assert_eq!(number(b"0", 9), Some(0));

@@ -92,6 +92,13 @@ struct Texts {
 }
 
 impl Texts {
+    /// Those that are not of now.
+    fn forget(&mut self, made: u64) {
+        for last in &mut self.last {
+            last.take_if(|it| it.0 != made);
+        }
+    }
+
     fn bytes(&mut self) -> usize {
         self.alive.retain(|it| it.strong_count() > 0);
         self.alive.iter().filter_map(|it| it.upgrade()).map(|it| it.len()).sum()
@@ -358,15 +365,6 @@ impl Service {
         if let Some(key) = &conn.lease {
             self.leases.let_go(key, self.now);
         }
-        if !conn.channels.is_empty() {
-            self.count_watchers();
-        }
-    }
-
-    /// Events are kept while somebody wants them.
-    pub fn count_watchers(&mut self) {
-        let is_watched = self.conns.iter().flatten().any(|it| !it.channels.is_empty());
-        self.engine.book.is_watched = is_watched;
     }
 
     /// Some at a time. Where there is no descriptor left, the spare one takes a client and turns it away, or the loop would spin.
@@ -449,6 +447,7 @@ impl Service {
         self.engine.tick()?;
         if self.now - self.ticked >= TICK {
             self.ticked = self.now;
+            self.texts.forget(self.engine.made);
             self.end_leases();
             self.close_stalled();
         }
@@ -496,6 +495,8 @@ impl Service {
             return;
         }
         let mut told = Vec::new();
+        // Events are kept while somebody wants them.
+        self.engine.book.is_watched = self.conns.iter().flatten().any(|it| !it.channels.is_empty());
         for conn in self.conns.iter_mut().flatten().filter(|it| !it.channels.is_empty()) {
             let before = conn.out.len();
             events.iter().for_each(|it| tell(conn, it));
