@@ -380,18 +380,23 @@ impl Service {
     fn accept(&mut self, place: usize) -> bool {
         match self.listeners[place].accept() {
             Ok((socket, _)) => self.adopt(socket),
-            Err(error) if is_no_descriptor(&error) => self.turn_one_away(place),
+            Err(error) if is_no_descriptor(&error) => return self.turn_one_away(place),
             Err(error) => return error.kind() == io::ErrorKind::Interrupted,
         }
         true
     }
 
-    fn turn_one_away(&mut self, place: usize) {
+    /// Whether there was one: without a descriptor an accept fails also where nobody waits.
+    fn turn_one_away(&mut self, place: usize) -> bool {
         self.spare = None;
-        if let Ok((socket, _)) = self.listeners[place].accept() {
-            self.turn_away(&socket, "-ERR max number of clients reached\r\n");
+        let caller = self.listeners[place].accept();
+        if let Ok((socket, _)) = &caller {
+            self.turn_away(socket, "-ERR max number of clients reached\r\n");
         }
+        let was_there = caller.is_ok();
+        drop(caller);
         self.spare = File::open("/dev/null").ok();
+        was_there
     }
 
     fn turn_away(&mut self, mut socket: &UnixStream, why: &str) {

@@ -130,10 +130,14 @@ class Fuzzed(Case):
         memory = 0
         words = [b"FORK", b"1", b"NEW", b"WAIT", b"ANY", b"PID", b"CALL", b"MULTI", b"EXEC", b"2", b"LIST", b"WAITCHILD", b"TIMEOUT", b"0", b"STAT",
                  b"SUBSCRIBE", b"exit", b"LEASE", b"x", b"COMMAND", b"DOCS", b"\xff\x00", b"18446744073709551616", b"-1", b"PIDTAB.MK", b"HELLO", b"EXIT"]
+        texts = ["FORK 1", "FORK 2 NEW", "EXIT 3 1", "EXIT 2 0", "WAIT 1 ANY", "WAITCHILD 1 ANY TIMEOUT 1", "MK 0", "MOVE 4 1", "LIMIT 1 5", "RM 1"]
+        texts += ["SETSID 5", "SETPGID 4 0 0", "JOIN 1 2", "CALL getpid 1", "MULTI", "EXEC", "LIST", "DUMP", "STAT 1 2", "LEASE x 1", "SUBSCRIBE exit"]
+        lines = [text.split() for text in texts]
         client = one.client()
         for number in range(100_000 * LONG):
-            data = bytearray(request(dice.choices(words, k=dice.randrange(1, 6))))
-            for _ in range(dice.randrange(3)):
+            line = dice.choice(lines) if dice.random() < 0.5 else dice.choices(words, k=dice.randrange(1, 6))
+            data = bytearray(request(line))
+            for _ in range(dice.choice([0, 0, 1, 2])):
                 place = dice.randrange(len(data))
                 data[place:place + dice.randrange(3)] = dice.randbytes(dice.randrange(3))
             client = self.try_input(one, client, bytes(data), dice)
