@@ -3,6 +3,7 @@ import os
 import random
 import re
 import subprocess
+import textwrap
 import threading
 import time
 import unittest
@@ -81,7 +82,7 @@ class Commands(Case):
             syntax, summary = line.split(" - ", 1)
             cell = syntax.replace("|", "\\|")
             self.assertIn(f"| `{cell}` | {summary} |", page)
-            self.assertIn(f".It Li \"{syntax}\"\n{summary}\n", manual)
+            self.assertIn(f".It Li \"{syntax}\"\n{textwrap.fill(summary, 78)}\n", manual)
 
     def test_arity(self):
         """Each command, with or without its prefix, refuses one word too few and one too many, and COMMAND tells how many it has."""
