@@ -4,7 +4,7 @@ use crate::directory::{Directory, Fault, SEATS};
 use crate::log::{Closed, Log, Sync};
 use crate::recover::{End, Recovery};
 use crate::replica::{loose_blocks, Order, Replica, Report, Source};
-use pidtab::{Blocks, Call, Calls, Error, Head, Reply, Stat, Table};
+use pidtab::{Blocks, Call, Error, Head, Made, Reply, Stat, Table};
 use std::path::PathBuf;
 use std::sync::Arc;
 
@@ -49,6 +49,7 @@ pub struct Engine {
     directory: Option<Directory>,
     blocks: Blocks,
     batch: Vec<u8>,
+    last: Made,
     /// What of it was written, for the followers.
     written: Vec<u8>,
     head: Vec<u8>,
@@ -134,6 +135,7 @@ impl Engine {
             directory,
             blocks,
             batch: Vec::new(),
+            last: Made::default(),
             written: Vec::new(),
             head: Vec::new(),
             loose: Vec::new(),
@@ -170,18 +172,19 @@ impl Engine {
             return Err(Refused::TooManyControls);
         }
         self.book.foresee(&mut self.table, call);
-        let reply = self.table.call(call).map_err(Refused::Table)?;
-        self.record(seat, call, &reply);
+        self.table.make(seat, call, &mut self.last).map_err(Refused::Table)?;
+        let reply = self.last.reply();
+        let put = self.blocks.put_made(&self.last, &mut self.batch);
+        put.expect("each call that was made, and its reply, have a place in the form");
+        self.note(seat, call, &reply);
         Ok(reply)
     }
 
-    /// A call that was made, with its reply.
-    fn record(&mut self, seat: u32, call: Call, reply: &Reply) {
+    /// A call that was made and is in the batch.
+    fn note(&mut self, seat: u32, call: Call, reply: &Reply) {
         self.made += 1;
         self.counts[seat as usize % SEATS as usize] += 1;
         self.book.note(&mut self.table, call, reply, self.made);
-        let put = self.blocks.put(seat, call, reply, &mut self.batch);
-        put.expect("each call that was made, and its reply, have a place in the form");
     }
 
     /// Answers a query, which is not recorded.
@@ -284,7 +287,9 @@ impl Engine {
     /// Makes the call at the front of a leader's blocks again, and records it: how many bytes it has.
     pub fn follow(&mut self, blocks: &mut Blocks, bytes: &[u8]) -> Result<usize, Fault> {
         let made = self.table.replay(blocks, bytes).map_err(|fault| fault.to_string())?;
-        self.record(made.worker, made.call, &made.reply);
+        let put = self.blocks.put(made.worker, made.call, &made.reply, &mut self.batch);
+        put.map_err(|error| error.to_string())?;
+        self.note(made.worker, made.call, &made.reply);
         Ok(made.size)
     }
 

@@ -51,6 +51,27 @@ pub struct Replayed {
     pub size: usize,
 }
 
+/// A call that a table has made, with its reply, as the library has both: what [`Table::make`] fills and [`Blocks::put_made`] writes. It is
+/// used again and again, so that nothing is copied.
+#[derive(Clone, Debug, PartialEq)]
+pub struct Made {
+    entry: raw::Entry,
+}
+
+impl Default for Made {
+    fn default() -> Made {
+        let entry = raw::Entry::blank();
+        Made { entry }
+    }
+}
+
+impl Made {
+    /// What the call was answered.
+    pub fn reply(&self) -> Reply {
+        Reply::of(&self.entry.reply)
+    }
+}
+
 impl Blocks {
     /// How many bytes the head has.
     pub const HEAD: usize = raw::SAVED_BLOCK;
@@ -110,8 +131,16 @@ impl Blocks {
             call: call.numbers(),
             reply: reply.numbers(),
         };
+        self.put_made(&Made { entry }, to)
+    }
+
+    /// The same of a call as the library has it.
+    ///
+    /// # Errors
+    /// As [`Blocks::put`].
+    pub fn put_made(&mut self, made: &Made, to: &mut Vec<u8>) -> Result<(), Error> {
         let mut room = [0; raw::SAVED_LONGEST];
-        let size = raw::put_entry(&entry, &mut room, &mut self.sum).map_err(Error::of)?;
+        let size = raw::put_entry(&made.entry, &mut room, &mut self.sum).map_err(Error::of)?;
         to.extend_from_slice(&room[..size]);
         Ok(())
     }
@@ -128,6 +157,16 @@ impl Blocks {
 }
 
 impl Table {
+    /// Makes a call of a worker, whose number is only written down, with its reply in the place of the last one.
+    ///
+    /// # Errors
+    /// Those of [`Calls::call`](crate::Calls::call); then what was made is that call, without a reply.
+    pub fn make(&mut self, worker: u32, call: Call, made: &mut Made) -> Result<(), Error> {
+        made.entry.worker = u64::from(worker);
+        made.entry.call = call.numbers();
+        Error::unless_done(self.raw.call(&made.entry.call, &mut made.entry.reply))
+    }
+
     /// Makes the saved call at the front of the bytes again, and compares the reply with the saved one.
     ///
     /// # Errors

@@ -35,7 +35,7 @@ mod shared;
 mod stat;
 mod texts;
 
-pub use blocks::{Blocks, Head, Replayed};
+pub use blocks::{Blocks, Head, Made, Replayed};
 pub use calls::{Call, Calls, Kind, Reply, Which};
 pub use fault::{Error, LineError, Refusal, ReplayError, TextError, TextFault};
 pub use listing::{BadList, Control, Listing, Space, Task};
