@@ -390,7 +390,8 @@ class Users(Case):
 
     def as_enemy(self, one, lines):
         """The answers to the lines, by a process of the other user."""
-        code = ("import socket, sys; it = socket.socket(socket.AF_UNIX); it.connect(sys.argv[1]); it.send(sys.stdin.buffer.read(), socket.MSG_NOSIGNAL);"
+        code = ("import socket, sys; it = socket.socket(socket.AF_UNIX); it.connect(sys.argv[1]); given = sys.stdin.buffer.read();"
+                "given and it.sendall(given);"
                 "sys.stdout.buffer.write(b''.join(iter(lambda: it.recv(65536), b'')))")
         given = "".join(f"{line}\r\n" for line in [*lines, *["QUIT"] * bool(lines)]).encode()
         done = subprocess.run(["python3", "-c", code, str(one.socket)], input=given, capture_output=True, user=self.ENEMY, group=self.ENEMY, check=True)
