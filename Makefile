@@ -99,6 +99,7 @@ loads: built ## what a call costs, by instructions; with valgrind (some 10 minut
 
 clean: ## removes all that was built, and what the checker has kept
 	rm -rf crates/*/out out
+	rm -rf service/target
 	@$(MAKE) -s -C linux clean
 	@$(MAKE) -s -C hostile clean
 
@@ -153,7 +154,8 @@ install-library: ## installs the library alone, with its headers and its manual 
 	for page in man/*.3; do for it in $$($(NAMED) $$page); do \
 		echo ".so man3/$${page#man/}" > '$(DESTDIR)$(MANDIR)/man3/'$$it.3 || exit 1; done; done
 
-uninstall: ## removes what both have installed, with the same variables
+uninstall: ## removes what these have installed, with the same variables
+	rm -f '$(DESTDIR)$(PREFIX)/sbin/pidtabd' '$(DESTDIR)$(UNITS)/pidtabd.socket' '$(DESTDIR)$(UNITS)/pidtabd.service' $(call MANUALS,8)
 	rm -f '$(BINARIES)/pidtab' $(PROGRAMS:%='$(BINARIES)/%')
 	rm -f '$(DESTDIR)$(LIBDIR)/libpidtab.a' '$(DESTDIR)$(LIBDIR)/libpidtab.so' '$(DESTDIR)$(LIBDIR)/libpidtab.so.1'
 	rm -f '$(DESTDIR)$(LIBDIR)/pkgconfig/pidtab.pc' $(HEADERS:%='$(DESTDIR)$(INCLUDEDIR)/%')
@@ -296,6 +298,41 @@ replicated: ## * tests one table on many hosts (some 8 minutes); where there is 
 	@command -v etcd > /dev/null || echo '$@: etcd is skipped: no etcd on PATH (Debian: etcd-server)'
 	$(call tested,python3,bindings/python/cluster,PIDTAB='$(PIDTAB)' PIDTAB_LIBRARY='$(SHARED)' \
 		python3 -B -m unittest discover -v -s bindings/python/cluster -t bindings/python)
+
+.PHONY: service service-test install-service
+
+# The daemon is in Rust. Its crates are those of Debian's packages, and nothing is fetched. What cargo says is in out/service.log.
+SERVICE = service/target/release/pidtabd
+CRATES_FROM = /usr/share/cargo/registry
+CRATES = itoa lexopt listenfd mio nix sd-notify signal-hook
+service: ## builds pidtabd, one table for all processes of a host, over what `make lib` has built (a minute; needs cargo and Debian's crates)
+	@command -v cargo > /dev/null || { echo 'no cargo: the service needs Rust 1.89 or later' >&2; exit 1; }
+	@for it in $(CRATES); do ls -d $(CRATES_FROM)/$$it-[0-9]* > /dev/null 2>&1 \
+		|| { echo "no crate $$it: on Debian, apt-get install librust-$$it-dev" >&2; exit 1; }; done
+	@test -e out/libpidtab.a || { echo 'no library out/libpidtab.a: build it with `make lib`' >&2; exit 1; }
+	@mkdir -p out/service
+	@cd service && cargo build --release --offline --quiet > ../out/service.log 2>&1 || { echo 'make service failed: see out/service.log' >&2; exit 1; }
+	@tools/report out/service.txt $(SERVICE)
+	@echo $(SERVICE)
+
+# Its parts by cargo, and the daemon by Python. LONG=10 has ten times the sizes. What is not there is skipped.
+service-test: service built ## tests pidtabd: kills, losses of power, damage, planted faults, clients of Redis (some 10 minutes)
+	@$(CC) -std=c11 -O2 -Wall -Wextra -Werror -Ibindings/c -o out/service/check service/tests/check.c out/libpidtab.a
+	@$(CC) -std=gnu11 -O2 -Wall -Wextra -Werror -shared -fPIC -o out/service/power.so service/tests/power.c -ldl
+	@{ (cd service && cargo test --release --offline --quiet) && cd service/tests && \
+		PIDTAB='$(abspath $(PIDTAB))' python3 -W ignore -B -m unittest discover -v -s . -t . && ./planted; } > out/service-test.log 2>&1 \
+		|| { echo 'make service-test failed: see out/service-test.log' >&2; exit 1; }
+	@grep -E '^Ran |skipped|: found' out/service-test.log
+
+# For Debian's package, and for a host without it. It builds nothing.
+UNITS = $(PREFIX)/lib/systemd/system
+install-service: ## installs the built pidtabd with its units and its manual page below PREFIX (/usr/local)
+	@test -x '$(SERVICE)' || { echo 'no program $(SERVICE): build it with `make service`' >&2; exit 1; }
+	$(INSTALL) -d '$(DESTDIR)$(PREFIX)/sbin' '$(DESTDIR)$(UNITS)' '$(DESTDIR)$(MANDIR)/man8'
+	$(INSTALL) -m 755 '$(SERVICE)' '$(DESTDIR)$(PREFIX)/sbin/pidtabd'
+	$(INSTALL) -m 644 packaging/pidtabd/pidtabd.socket packaging/pidtabd/pidtabd.service '$(DESTDIR)$(UNITS)'
+	sed -i 's|^ExecStart=/usr/sbin/|ExecStart=$(PREFIX)/sbin/|' '$(DESTDIR)$(UNITS)/pidtabd.service'
+	$(INSTALL) -m 644 man/*.8 '$(DESTDIR)$(MANDIR)/man8'
 
 .PHONY: page page-test
 

@@ -48,11 +48,12 @@ def check_headers(source, library):
 
 @dataclasses.dataclass
 class Built:
-    """The program, the folder of the library, the page if there is one, and the text of GATE.txt."""
+    """The program, the folder of the library, the page and the daemon if there are these, and the text of GATE.txt."""
 
     program: pathlib.Path
     library: pathlib.Path
     page: pathlib.Path | None
+    daemon: pathlib.Path | None
     gate: str
 
     @classmethod
@@ -65,9 +66,11 @@ class Built:
                 raise Fault(f"no {path}: `make {target}` builds it")
         check_headers(source, library)
         page = given.page.resolve() if given.page.is_file() else None
+        daemon = given.daemon.resolve() if given.daemon.is_file() else None
         reports = [("gate.txt", "test", [program]), ("library.txt", "lib", libraries)]
         reports += [("page.txt", "page", [page])] if page else []
-        return cls(program, library, page, gate_text(source, given, reports))
+        reports += [("service.txt", "service", [daemon])] if daemon else []
+        return cls(program, library, page, daemon, gate_text(source, given, reports))
 
     @property
     def shared(self):
@@ -96,12 +99,12 @@ def gate_text(source, given, reports):
     return "What was proved and built.\n\n" + "\n".join(texts)
 
 
-def install(source, built, folder, **variables):
-    """Does what `make install` does, below a folder."""
+def install(source, built, folder, target="install", **variables):
+    """Does what `make install` does, below a folder, or another target."""
     link = source.folder / "out"
     link.unlink(missing_ok=True)
     link.symlink_to(built.library)
     # Without the flags of a make that runs this.
     clean = {name: value for name, value in os.environ.items() if not name.startswith(("MAKE", "MFLAGS"))}
-    words = [f"{name}={value}" for name, value in {"DESTDIR": folder, "PIDTAB": built.program, **variables}.items()]
-    run(["make", "-s", "-C", source.folder, "install", *words], env=clean)
+    words = [f"{name}={value}" for name, value in {"DESTDIR": folder, "PIDTAB": built.program, "SERVICE": built.daemon, **variables}.items()]
+    run(["make", "-s", "-C", source.folder, target, *words], env=clean)

@@ -1,4 +1,4 @@
-"""The Debian packages: what `make install` installs below /usr, in four parts. Their words are in packaging/debian."""
+"""The Debian packages: what `make install` installs below /usr, in four parts, and the service if it is built. Their words are in packaging/debian."""
 
 import fnmatch
 import os
@@ -14,6 +14,7 @@ from release.files import compress, files_below, settle, write_text
 from release.tarball import add_pages
 
 PACKAGES = ("pidtab", "libpidtab1", "libpidtab-dev", "python3-pidtab")
+SERVICE = "pidtabd"
 # Whose documents are those for users.
 MAIN = "pidtab"
 # Without an address, as long as there is none that is read.
@@ -33,6 +34,10 @@ class Maker:
         self.words = source.folder / "packaging/debian"
         self.values = {"VERSION": source.debian_version, "MAINTAINER": MAINTAINER, "NEEDED": built.packages(built.program)}
         self.values["LIBRARYNEEDS"] = built.packages(built.shared)
+        self.names = PACKAGES
+        if built.daemon:
+            self.names += (SERVICE,)
+            self.values["DAEMONNEEDS"] = built.packages(built.daemon)
 
     def filled(self, name, **more):
         """The text of a file of packaging/debian with its values, and nothing where there is no such file."""
@@ -45,10 +50,12 @@ class Maker:
         """Installs, and gives each file to the one package whose patterns it has."""
         stage = self.work / "all"
         install(self.source, self.built, stage, **FOLDERS)
-        patterns = {name: self.filled(f"{name}.files").split() for name in PACKAGES}
+        if self.built.daemon:
+            install(self.source, self.built, stage, "install-service", **FOLDERS)
+        patterns = {name: self.filled(f"{name}.files").split() for name in self.names}
         for file in files_below(stage):
             place = file.relative_to(stage)
-            owners = [name for name in PACKAGES if any(fnmatch.fnmatch(str(place), it) for it in patterns[name])]
+            owners = [name for name in self.names if any(fnmatch.fnmatch(str(place), it) for it in patterns[name])]
             if len(owners) != 1 and str(place) not in ELSEWHERE:
                 raise Fault(f"packaging/debian: {place} is in {' and '.join(owners) or 'no package'}")
             for owner in owners:
@@ -147,5 +154,5 @@ def make(source, built, parts):
     work.mkdir()
     maker = Maker(source, built, work)
     maker.split()
-    for name in PACKAGES:
+    for name in maker.names:
         maker.make_package(name, parts)

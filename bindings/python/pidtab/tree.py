@@ -3,6 +3,7 @@
 import argparse
 import gc
 import re
+import socket
 import sys
 from collections import Counter
 from collections.abc import Mapping, Sequence
@@ -267,21 +268,44 @@ def read_command_line() -> argparse.Namespace:
     parser.add_argument("--ascii", action="store_true", help="with lines of ASCII characters for branches")
     parser.add_argument("--counts", action="store_true", help="with the tasks and the zombies of each namespace")
     parser.add_argument("--labels", metavar="FILE", help="with labels of tasks, from lines NUMBER WORD ..")
+    parser.add_argument("--socket", metavar="PATH", help="the table of the service there, in the place of standard input")
     given = parser.parse_args()
     if given.counts and given.root is not None:
         parser.error("--counts is of namespaces, which --root leaves out")
     return given
 
 
+def ask_service(path: str) -> str:
+    """The list of the service with that socket, by one bulk string of Redis's protocol."""
+    with socket.socket(socket.AF_UNIX) as service:
+        service.connect(path)
+        service.sendall(b"*1\r\n$11\r\nPIDTAB.LIST\r\n")
+        with service.makefile("rb") as answers:
+            head = answers.readline()
+            if not re.fullmatch(rb"\$[0-9]+\r\n", head):
+                raise BadList(f"{path}: the service says {head[1:].strip().decode('latin-1') or 'nothing'}")
+            return answers.read(int(head[1:])).decode("latin-1")
+
+
+def read_text(path: str | None) -> str:
+    """The list that is to be drawn: of a service, or of standard input."""
+    if path is None:
+        return sys.stdin.buffer.read().decode("latin-1")
+    try:
+        return ask_service(path)
+    except OSError as fault:
+        raise BadList(f"{path}: {fault.strerror or fault}") from None
+
+
 def run() -> int:
-    """Draws standard input."""
+    """Draws standard input, or the table of a service."""
     given = read_command_line()
     # All that is made here is kept to the end.
     gc.disable()
     try:
         labels = read_labels(given.labels) if given.labels else {}
         wishes = Wishes(ASCII if given.ascii else INDENTED, given.depth, given.root, given.counts, labels)
-        lines = draw_trees(read_trees(sys.stdin.buffer.read().decode("latin-1")), wishes)
+        lines = draw_trees(read_trees(read_text(given.socket)), wishes)
     except OSError as fault:
         return complain(f"pidtab-tree: cannot read {given.labels}: {fault.strerror}", STATUS_USAGE)
     except BadLabels as fault:

@@ -11,6 +11,7 @@ VERSION = r"(\d+\.\d+\.\d+(?:-dev)?)"
 VERSIONS = {
     "bindings/python/pyproject.toml": r'^version = "(.*)"$',
     "bindings/rust/Cargo.toml": rf'^version = "{VERSION}"$',
+    "service/Cargo.toml": rf'^version = "{VERSION}"$',
     "README.md": rf"\bversion {VERSION}[ ,]",
 }
 

@@ -189,6 +189,12 @@ fn the_structs_are_those_of_the_header() {
         "pidtab_reply",
         "uint32_t kind; uint32_t error; uint32_t refusal; uint32_t count; uint64_t first; uint64_t second; uint32_t levels[PIDTAB_LEVELS_MAX];",
     );
+    same_struct(
+        &header,
+        "pidtab_task",
+        "uint32_t error; uint32_t refusal; uint32_t count; uint32_t parent; uint32_t group; uint32_t session; uint32_t ended; \
+         uint32_t status; uint32_t executed; uint32_t subreaper; uint64_t space; uint64_t control; uint32_t levels[PIDTAB_LEVELS_MAX];",
+    );
     same_struct(&header, "pidtab_fault", "uint64_t line; uint32_t kind;");
     let entry = "uint64_t worker; struct pidtab_call call; struct pidtab_reply reply;";
     same_struct(&header, "pidtab_entry", entry);
@@ -224,6 +230,10 @@ fn the_functions_are_those_of_the_header() {
         (
             "ask",
             ", const struct pidtab_call *call, struct pidtab_reply *reply",
+        ),
+        (
+            "stat",
+            ", uint32_t caller, uint32_t number, struct pidtab_task *task",
         ),
     ] {
         same_function(&header, name, "pidtab *table", others);

@@ -22,6 +22,7 @@
 //! `pidtab.h`, which the library leaves to its callers.
 #![deny(missing_docs, unsafe_code, unsafe_op_in_unsafe_fn)]
 
+mod blocks;
 mod calls;
 mod fault;
 #[cfg(test)]
@@ -31,13 +32,16 @@ mod numbers;
 mod raw;
 mod saved;
 mod shared;
+mod stat;
 mod texts;
 
+pub use blocks::{Blocks, Head, Made, Replayed};
 pub use calls::{Call, Calls, Kind, Reply, Which};
 pub use fault::{Error, LineError, Refusal, ReplayError, TextError, TextFault};
 pub use listing::{BadList, Control, Listing, Space, Task};
 pub use saved::{Saved, SavedError, SavedFault};
 pub use shared::{Counts, Entry, Locked, Options, Record, Seat, Shared, Turn};
+pub use stat::Stat;
 
 use std::fmt;
 

@@ -141,6 +141,36 @@ impl Reply {
     };
 }
 
+/// A task as the caller's namespace sees it, as numbers.
+#[repr(C)]
+#[derive(Clone, Copy, Debug, Default, PartialEq)]
+pub(crate) struct Task {
+    pub(crate) error: u32,
+    pub(crate) refusal: u32,
+    pub(crate) count: u32,
+    pub(crate) parent: u32,
+    pub(crate) group: u32,
+    pub(crate) session: u32,
+    pub(crate) ended: u32,
+    pub(crate) status: u32,
+    pub(crate) executed: u32,
+    pub(crate) subreaper: u32,
+    pub(crate) space: u64,
+    pub(crate) control: u64,
+    pub(crate) levels: Levels,
+}
+
+/// The room for a task's numbers.
+#[repr(transparent)]
+#[derive(Clone, Copy, Debug, PartialEq)]
+pub(crate) struct Levels(pub(crate) [u32; LEVELS_MAX]);
+
+impl Default for Levels {
+    fn default() -> Levels {
+        Levels([0; LEVELS_MAX])
+    }
+}
+
 /// A recorded call with its worker and its reply, as numbers.
 #[repr(C)]
 #[derive(Clone, Copy, Debug, PartialEq)]
@@ -184,6 +214,13 @@ const _: () = {
     assert!(offset_of!(Reply, refusal) == 8 && offset_of!(Reply, count) == 12);
     assert!(offset_of!(Reply, first) == 16 && offset_of!(Reply, second) == 24);
     assert!(offset_of!(Reply, levels) == 32);
+    assert!(size_of::<Task>() == 192 && offset_of!(Task, error) == 0);
+    assert!(offset_of!(Task, refusal) == 4 && offset_of!(Task, count) == 8);
+    assert!(offset_of!(Task, parent) == 12 && offset_of!(Task, group) == 16);
+    assert!(offset_of!(Task, session) == 20 && offset_of!(Task, ended) == 24);
+    assert!(offset_of!(Task, status) == 28 && offset_of!(Task, executed) == 32);
+    assert!(offset_of!(Task, subreaper) == 36 && offset_of!(Task, space) == 40);
+    assert!(offset_of!(Task, control) == 48 && offset_of!(Task, levels) == 56);
     assert!(size_of::<Entry>() == 208 && offset_of!(Entry, worker) == 0);
     assert!(offset_of!(Entry, call) == 8 && offset_of!(Entry, reply) == 40);
     assert!(size_of::<SavedHead>() == 16 && offset_of!(SavedHead, pid_max) == 0);
@@ -207,6 +244,7 @@ extern "C" {
     fn pidtab_load(table: *mut Held, text: *const c_void, length: usize, fault: *mut Fault) -> u32;
     fn pidtab_call(table: *mut Held, call: *const Call, reply: *mut Reply) -> u32;
     fn pidtab_ask(table: *mut Held, call: *const Call, reply: *mut Reply) -> u32;
+    fn pidtab_stat(table: *mut Held, caller: u32, number: u32, task: *mut Task) -> u32;
     fn pidtab_record_open(record: *mut Held, pid_max: u32, first_stamp: u64, workers: u32) -> u32;
     fn pidtab_record_dump(
         record: *mut Held,
@@ -373,6 +411,11 @@ impl Table {
     pub(crate) fn ask(&mut self, call: &Call, reply: &mut Reply) -> u32 {
         // SAFETY: as above.
         unsafe { pidtab_ask(&mut *self.held, call, reply) }
+    }
+
+    pub(crate) fn stat(&mut self, caller: u32, number: u32, task: &mut Task) -> u32 {
+        // SAFETY: as above.
+        unsafe { pidtab_stat(&mut *self.held, caller, number, task) }
     }
 
     pub(crate) fn line(&mut self, line: &[u8], answer: &mut [u8], size: &mut usize) -> u32 {

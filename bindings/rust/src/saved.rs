@@ -535,8 +535,9 @@ pub enum SavedFault {
 
 impl SavedFault {
     /// What a status says other than that it was done.
-    fn of(status: u32) -> SavedFault {
+    pub(crate) fn of(status: u32) -> SavedFault {
         match status {
+            raw::TORN => SavedFault::Torn,
             raw::NOT_SAVED => SavedFault::NotSaved,
             raw::OTHER_VERSION => SavedFault::OtherVersion,
             raw::WRONG_BYTE => SavedFault::WrongByte,
@@ -591,6 +592,8 @@ impl fmt::Display for SavedFault {
         }
     }
 }
+
+impl std::error::Error for SavedFault {}
 
 impl fmt::Display for SavedError {
     fn fmt(&self, to: &mut fmt::Formatter<'_>) -> fmt::Result {

@@ -1,0 +1,309 @@
+//! Blocks of a saved history in memory, a call at a time: for a program that keeps the calls of a [`Table`] itself. `docs/SAVED.md` has their
+//! form.
+use crate::{raw, Call, Error, Reply, SavedFault, Table};
+
+/// The settings at the head of a saved history.
+#[derive(Clone, Copy, Debug, PartialEq, Eq, Hash)]
+pub struct Head {
+    /// No number of a process is as great: 301 to 4194304.
+    pub pid_max: u32,
+    /// How many workers there are: 1 to 16.
+    pub workers: u32,
+    /// The stamp of the first call behind the head, from 1 on.
+    pub first_stamp: u64,
+}
+
+/// How far the blocks go that were written or read: their running checksum.
+///
+/// ```
+/// use pidtab::{Blocks, Call, Calls, Head, Table};
+///
+/// let head = Head { pid_max: 32768, workers: 1, first_stamp: 1 };
+/// let (mut table, mut bytes) = (Table::open(head.pid_max)?, Vec::new());
+/// let mut blocks = Blocks::begin(&head, &mut bytes)?;
+/// let call = Call::Fork { caller: 1, new_space: true };
+/// let reply = table.call(call)?;
+/// blocks.put(0, call, &reply, &mut bytes)?;
+///
+/// let (read, mut blocks) = Blocks::read_head(&bytes)?;
+/// let mut again = Table::open(read.pid_max)?;
+/// let made = again.replay(&mut blocks, &bytes[Blocks::HEAD..])?;
+/// assert_eq!((made.call, made.reply, made.size), (call, reply, 48));
+/// # Ok::<(), Box<dyn std::error::Error>>(())
+/// ```
+#[derive(Clone, Copy, Debug, Default, PartialEq, Eq)]
+pub struct Blocks {
+    sum: u64,
+    wrong: usize,
+}
+
+/// A saved call that a table has made again, with the saved reply.
+#[derive(Clone, Debug, PartialEq, Eq, Hash)]
+#[non_exhaustive]
+pub struct Replayed {
+    /// The number of the worker whose call it was.
+    pub worker: u32,
+    /// The call.
+    pub call: Call,
+    /// What it was answered.
+    pub reply: Reply,
+    /// How many bytes it has.
+    pub size: usize,
+}
+
+/// A call that a table has made, with its reply, as the library has both: what [`Table::make`] fills and [`Blocks::put_made`] writes. It is
+/// used again and again, so that nothing is copied.
+#[derive(Clone, Debug, PartialEq)]
+pub struct Made {
+    entry: raw::Entry,
+}
+
+impl Default for Made {
+    fn default() -> Made {
+        let entry = raw::Entry::blank();
+        Made { entry }
+    }
+}
+
+impl Made {
+    /// What the call was answered.
+    pub fn reply(&self) -> Reply {
+        Reply::of(&self.entry.reply)
+    }
+}
+
+impl Blocks {
+    /// How many bytes the head has.
+    pub const HEAD: usize = raw::SAVED_BLOCK;
+
+    /// No entry has more bytes.
+    pub const LONGEST: usize = raw::SAVED_LONGEST;
+
+    /// Blocks that go on behind those with this checksum, which [`Blocks::sum`] has told.
+    pub fn behind(sum: u64) -> Blocks {
+        Blocks { sum, wrong: 0 }
+    }
+
+    /// Writes the head behind the bytes.
+    ///
+    /// # Errors
+    /// `OutOfRange` for settings outside their ranges.
+    pub fn begin(head: &Head, to: &mut Vec<u8>) -> Result<Blocks, Error> {
+        let numbers = raw::SavedHead {
+            pid_max: head.pid_max,
+            workers: head.workers,
+            first_stamp: head.first_stamp,
+        };
+        let (mut block, mut sum) = ([0; raw::SAVED_BLOCK], 0);
+        raw::put_head(&numbers, &mut block, &mut sum).map_err(Error::of)?;
+        to.extend_from_slice(&block);
+        Ok(Blocks::behind(sum))
+    }
+
+    /// Reads the head at the front of the bytes, which has [`Blocks::HEAD`] bytes.
+    ///
+    /// # Errors
+    /// `Torn` where there are fewer; `NotSaved`, `OtherVersion`, `WrongByte`, `Settings`.
+    pub fn read_head(bytes: &[u8]) -> Result<(Head, Blocks), SavedFault> {
+        let (mut size, mut sum) = (0, 0);
+        let head = raw::take_head(bytes, &mut size, &mut sum).map_err(SavedFault::of)?;
+        let read = Head {
+            pid_max: head.pid_max,
+            workers: head.workers,
+            first_stamp: head.first_stamp,
+        };
+        Ok((read, Blocks::behind(sum)))
+    }
+
+    /// Writes a call of a worker with its reply behind the bytes.
+    ///
+    /// # Errors
+    /// `OutOfRange` for a worker from 256 on, or a reply with more numbers than a task has; then nothing is written.
+    pub fn put(
+        &mut self,
+        worker: u32,
+        call: Call,
+        reply: &Reply,
+        to: &mut Vec<u8>,
+    ) -> Result<(), Error> {
+        let entry = raw::Entry {
+            worker: u64::from(worker),
+            call: call.numbers(),
+            reply: reply.numbers(),
+        };
+        self.put_made(&Made { entry }, to)
+    }
+
+    /// The same of a call as the library has it.
+    ///
+    /// # Errors
+    /// As [`Blocks::put`].
+    pub fn put_made(&mut self, made: &Made, to: &mut Vec<u8>) -> Result<(), Error> {
+        let mut room = [0; raw::SAVED_LONGEST];
+        let size = raw::put_entry(&made.entry, &mut room, &mut self.sum).map_err(Error::of)?;
+        to.extend_from_slice(&room[..size]);
+        Ok(())
+    }
+
+    /// The running checksum.
+    pub fn sum(&self) -> u64 {
+        self.sum
+    }
+
+    /// Behind a `WrongByte` of a replay: where, in its bytes, the first block begins that is not as it was written.
+    pub fn wrong(&self) -> usize {
+        self.wrong
+    }
+}
+
+impl Table {
+    /// Makes a call of a worker, whose number is only written down, with its reply in the place of the last one.
+    ///
+    /// # Errors
+    /// Those of [`Calls::call`](crate::Calls::call); then what was made is that call, without a reply.
+    pub fn make(&mut self, worker: u32, call: Call, made: &mut Made) -> Result<(), Error> {
+        made.entry.worker = u64::from(worker);
+        made.entry.call = call.numbers();
+        Error::unless_done(self.raw.call(&made.entry.call, &mut made.entry.reply))
+    }
+
+    /// Makes the saved call at the front of the bytes again, and compares the reply with the saved one.
+    ///
+    /// # Errors
+    /// `Torn` where the bytes end within it; `WrongByte`, and [`Blocks::wrong`] says where. Behind these the table and the blocks are as they
+    /// were. `Table(Differs)`: the call was made, and has another reply. `Table(OutOfRange)` where there is no such call, `Table(NoMemory)`,
+    /// `Table(Spent)`, `Table(Busy)`.
+    pub fn replay(&mut self, blocks: &mut Blocks, bytes: &[u8]) -> Result<Replayed, SavedFault> {
+        let mut size = 0;
+        let taken = raw::take_entry(bytes, &mut size, &mut blocks.sum);
+        blocks.wrong = usize::from(taken == Err(raw::WRONG_BYTE)) * size;
+        let entry = taken.map_err(SavedFault::of)?;
+        let mut reply = raw::Reply::BLANK;
+        Error::unless_done(self.raw.call(&entry.call, &mut reply))?;
+        if reply != entry.reply {
+            return Err(Error::Differs.into());
+        }
+        Ok(Replayed {
+            worker: entry.worker as u32,
+            call: Call::of(&entry.call),
+            reply: Reply::of(&reply),
+            size,
+        })
+    }
+}
+
+#[cfg(test)]
+mod tests {
+    use super::*;
+    use crate::Calls;
+
+    /// The worked example of docs/SAVED.md, without the first block.
+    fn example() -> (Vec<u8>, Vec<Call>) {
+        let head = Head {
+            pid_max: 32768,
+            workers: 2,
+            first_stamp: 1,
+        };
+        let (caller, new_space) = (1, true);
+        let calls = vec![
+            Call::Fork { caller, new_space },
+            Call::Nspid { caller, number: 2 },
+            Call::Setpgid {
+                caller,
+                pid: 0,
+                pgid: -1,
+            },
+        ];
+        let mut table = Table::open(head.pid_max).expect("a table");
+        let mut bytes = Vec::new();
+        let mut blocks = Blocks::begin(&head, &mut bytes).expect("a head");
+        for (place, call) in calls.iter().enumerate() {
+            let reply = table.call(*call).expect("a reply");
+            let worker = u32::from(place > 0);
+            blocks.put(worker, *call, &reply, &mut bytes).expect("room");
+        }
+        (bytes, calls)
+    }
+
+    /// The checksums of the four blocks, from the page.
+    #[test]
+    fn the_worked_example() {
+        let (bytes, _) = example();
+        let sums = [
+            "a8e445c4df20f536",
+            "a8a50ff3ad53913a",
+            "476560d94e6de33b",
+            "9de0f75d8af720e0",
+        ];
+        let hex = |block: &[u8]| {
+            block
+                .iter()
+                .map(|it| format!("{it:02x}"))
+                .collect::<String>()
+        };
+        let found: Vec<_> = bytes.chunks(48).map(|block| hex(&block[40..])).collect();
+        assert_eq!(found, sums);
+    }
+
+    #[test]
+    fn each_call_again_and_each_end() {
+        let (bytes, calls) = example();
+        let (_, mut blocks) = Blocks::read_head(&bytes).expect("a head");
+        let (mut table, mut at) = (Table::open(32768).expect("a table"), Blocks::HEAD);
+        for call in calls {
+            let torn = table.replay(&mut blocks, &bytes[at..at + 47]);
+            assert!(matches!(torn, Err(SavedFault::Torn)));
+            let made = table.replay(&mut blocks, &bytes[at..]).expect("a call");
+            assert_eq!(made.call, call);
+            at += made.size;
+        }
+        assert_eq!(at, bytes.len());
+    }
+
+    #[test]
+    fn each_byte_changed() {
+        let (bytes, _) = example();
+        for place in 0..Blocks::HEAD {
+            let mut bytes = bytes.clone();
+            bytes[place] ^= 1;
+            assert!(Blocks::read_head(&bytes).is_err(), "{place}");
+        }
+        let (_, begun) = Blocks::read_head(&bytes).expect("a head");
+        for place in 0..48 {
+            let mut entry = bytes[Blocks::HEAD..].to_vec();
+            entry[place] ^= 1;
+            let (mut table, mut blocks) = (Table::open(32768).expect("a table"), begun);
+            let wrong = table.replay(&mut blocks, &entry);
+            assert!(matches!(wrong, Err(SavedFault::WrongByte)), "{place}");
+            assert_eq!((blocks.wrong(), blocks.sum()), (0, begun.sum()));
+        }
+    }
+
+    #[test]
+    fn another_reply() {
+        let (bytes, _) = example();
+        let (_, mut blocks) = Blocks::read_head(&bytes).expect("a head");
+        let mut table = Table::open(32768).expect("a table");
+        table.getpid(1).expect("a number");
+        let differs = table.replay(&mut blocks, &bytes[Blocks::HEAD..]);
+        // The namespace's id is another, and the reply is the same; a task's number is another behind one more fork.
+        assert!(differs.is_ok());
+        let (_, mut blocks) = Blocks::read_head(&bytes).expect("a head");
+        let mut table = Table::open(32768).expect("a table");
+        table.fork(1, false).expect("a child");
+        let differs = table.replay(&mut blocks, &bytes[Blocks::HEAD..]);
+        assert!(matches!(differs, Err(SavedFault::Table(Error::Differs))));
+    }
+
+    #[test]
+    fn what_has_no_place_in_the_form() {
+        let mut bytes = vec![7];
+        let call = Call::Getpid { caller: 1 };
+        let many = Reply::Levels(vec![1; 34]);
+        let mut blocks = Blocks::behind(5);
+        let (worker, out) = (256, Err(Error::OutOfRange));
+        assert_eq!(blocks.put(worker, call, &Reply::Done, &mut bytes), out);
+        assert_eq!(blocks.put(0, call, &many, &mut bytes), out);
+        assert_eq!((bytes, blocks.sum()), (vec![7], 5));
+    }
+}

@@ -1,0 +1,509 @@
+//! What the service must know of the table and cannot ask it: who is whose child, who has ended and was not waited for, which namespaces and
+//! cgroups stand in which. Each call is noted with its reply, and the table is asked for the tasks that the call may have changed.
+use pidtab::{Call, Ended, Listing, Reply, Table};
+use std::collections::{BTreeMap, BTreeSet, HashMap};
+use std::hash::{BuildHasherDefault, Hasher};
+
+/// The root init, which never ends, and so may always ask.
+const INIT: u32 = 1;
+
+/// Numbers are the table's own, so that nobody chooses those that collide.
+#[derive(Default)]
+pub struct NumberHasher(u64);
+
+impl Hasher for NumberHasher {
+    fn finish(&self) -> u64 {
+        self.0
+    }
+
+    fn write(&mut self, bytes: &[u8]) {
+        bytes.iter().for_each(|it| self.write_u64(u64::from(*it)));
+    }
+
+    fn write_u32(&mut self, number: u32) {
+        self.write_u64(u64::from(number));
+    }
+
+    fn write_u64(&mut self, number: u64) {
+        self.0 = (self.0 ^ number).wrapping_mul(0x9e37_79b9_7f4a_7c15);
+        self.0 ^= self.0 >> 32;
+    }
+}
+
+type Numbers<K, V> = HashMap<K, V, BuildHasherDefault<NumberHasher>>;
+
+/// A task. The numbers of others are root numbers, 0 for none.
+#[derive(Clone, Copy, Debug, PartialEq)]
+pub struct Kin {
+    pub parent: u32,
+    /// Its number in its parent's namespace.
+    pub number: u32,
+    pub space: u64,
+    /// The namespace that its children go into.
+    children: u64,
+    pub is_zombie: bool,
+    /// The stamp of the fork that made it, 0 where that is not known.
+    pub born: u64,
+    first_child: u32,
+    before: u32,
+    after: u32,
+}
+
+/// A namespace but the root's.
+#[derive(Clone, Debug, PartialEq)]
+struct Space {
+    parent: u64,
+    init: u32,
+    members: BTreeSet<u32>,
+}
+
+/// What has happened, for those who wait for it.
+#[derive(Clone, Copy, Debug, PartialEq)]
+pub enum What {
+    Forked { parent: u32, child: u32 },
+    Ended { task: u32, ended: Ended },
+    Fell,
+}
+
+/// With the namespace and the cgroup, each with all around it, the innermost first.
+#[derive(Clone, Debug, PartialEq)]
+pub struct Event {
+    pub what: What,
+    pub spaces: Vec<u64>,
+    pub controls: Vec<u64>,
+}
+
+/// Who may end by an exit, and where.
+struct Doomed {
+    task: u32,
+    space: u64,
+    controls: Vec<u64>,
+}
+
+#[derive(Default)]
+pub struct Book {
+    tasks: Numbers<u32, Kin>,
+    /// Those that have ended, by their parents and their numbers there.
+    zombies: BTreeMap<(u32, u32), u32>,
+    spaces: Numbers<u64, Space>,
+    /// Each cgroup but the root's, and the one above it.
+    controls: Numbers<u64, u64>,
+    /// Whether events are kept.
+    pub is_watched: bool,
+    pub events: Vec<Event>,
+    /// Whose children, or who himself, may be another.
+    pub stirred: Vec<u32>,
+    /// Whether it is told who has gone: whose number may be another task's soon.
+    pub tells_gone: bool,
+    pub gone: Vec<u32>,
+    /// Of an exit that is about to be made.
+    doomed: Vec<Doomed>,
+}
+
+impl Book {
+    /// The book of a table, by its list.
+    pub fn of(listing: &Listing) -> Book {
+        let mut book = Book::default();
+        for space in &listing.spaces {
+            let Some(parent) = space.parent.filter(|_| !space.fallen) else { continue };
+            let (init, members) = (0, BTreeSet::new());
+            book.spaces.insert(space.id, Space { parent, init, members });
+        }
+        for control in &listing.controls {
+            if let Some(parent) = control.parent {
+                book.controls.insert(control.id, parent);
+            }
+        }
+        let depths: Numbers<u32, usize> = listing.tasks.iter().map(|it| (it.root(), it.numbers.len())).collect();
+        for task in &listing.tasks {
+            let depth = depths.get(&task.parent).copied().unwrap_or(1);
+            let kin = Kin {
+                parent: task.parent,
+                number: task.numbers[depth - 1],
+                space: task.space,
+                children: task.children.unwrap_or(task.space),
+                is_zombie: task.ended.is_some(),
+                born: 0,
+                first_child: 0,
+                before: 0,
+                after: 0,
+            };
+            book.add(task.root(), kin, task.numbers.last() == Some(&1));
+        }
+        let all: Vec<_> = book.tasks.iter().map(|it| (*it.0, it.1.parent)).collect();
+        all.iter().for_each(|(task, parent)| book.link(*task, *parent));
+        book.stirred.clear();
+        book
+    }
+
+    pub fn tasks(&self) -> usize {
+        self.tasks.len()
+    }
+
+    pub fn controls(&self) -> usize {
+        self.controls.len()
+    }
+
+    pub fn kin(&self, task: u32) -> Option<&Kin> {
+        self.tasks.get(&task)
+    }
+
+    pub fn kin_mut(&mut self, task: u32) -> Option<&mut Kin> {
+        self.tasks.get_mut(&task)
+    }
+
+    /// The cgroup and those above it, to the root's.
+    fn controls_above(&self, control: u64) -> Vec<u64> {
+        let next = |it: &u64| self.controls.get(it).copied();
+        std::iter::successors(Some(control), next).collect()
+    }
+
+    /// The namespace and those around it, to the root's.
+    fn spaces_around(&self, space: u64) -> Vec<u64> {
+        let next = |it: &u64| self.spaces.get(it).map(|it| it.parent);
+        std::iter::successors(Some(space), next).collect()
+    }
+
+    /// Whether the cgroup is that one, or stands below it.
+    pub fn is_within(&self, control: u64, top: u64) -> bool {
+        let next = |it: &u64| self.controls.get(it).copied();
+        std::iter::successors(Some(control), next).any(|it| it == top)
+    }
+
+    /// Whether the namespace is that one, or stands within it.
+    fn is_inside(&self, space: u64, around: u64) -> bool {
+        let next = |it: &u64| self.spaces.get(it).map(|it| it.parent);
+        std::iter::successors(Some(space), next).any(|it| it == around)
+    }
+
+    /// The children of a task, live or ended.
+    pub fn children(&self, task: u32) -> impl Iterator<Item = (u32, &Kin)> {
+        let mut at = self.tasks.get(&task).map_or(0, |it| it.first_child);
+        std::iter::from_fn(move || {
+            let (this, kin) = (at, self.tasks.get(&at)?);
+            at = kin.after;
+            Some((this, kin))
+        })
+    }
+
+    /// The ended children of a task, by their numbers in its namespace.
+    pub fn zombies(&self, task: u32) -> impl Iterator<Item = u32> + '_ {
+        let those = self.zombies.range((task, 0)..=(task, u32::MAX));
+        those.map(|it| it.0 .1)
+    }
+
+    /// Who goes if the task ends: the members of its namespace and of those inside, where it is the init there.
+    pub fn falls_with(&self, task: u32) -> Vec<u32> {
+        let Some(space) = self.tasks.get(&task).map(|it| it.space) else { return Vec::new() };
+        if self.spaces.get(&space).is_none_or(|it| it.init != task) {
+            return Vec::new();
+        }
+        let inside = self.spaces.iter().filter(|it| self.is_inside(*it.0, space));
+        inside.flat_map(|it| it.1.members.iter().copied()).collect()
+    }
+
+    /// Before a call: what will not be known behind it.
+    pub fn foresee(&mut self, table: &mut Table, call: Call) {
+        let Call::Exit { caller, .. } = call else { return };
+        self.doomed.clear();
+        if !self.is_watched || self.tasks.get(&caller).is_none_or(|it| it.is_zombie) {
+            return;
+        }
+        let mut those = self.falls_with(caller);
+        those.retain(|it| *it != caller && self.tasks.get(it).is_some_and(|it| !it.is_zombie));
+        those.push(caller);
+        for task in those {
+            let control = table.stat(INIT, task).map_or(0, |it| it.control());
+            let space = self.tasks.get(&task).map_or(0, |it| it.space);
+            let controls = self.controls_above(control);
+            self.doomed.push(Doomed { task, space, controls });
+        }
+    }
+
+    /// Behind a call: what has changed.
+    pub fn note(&mut self, table: &mut Table, call: Call, reply: &Reply, stamp: u64) {
+        match (call, reply) {
+            (Call::Fork { caller, new_space }, Reply::Forked(child)) => {
+                self.note_fork(caller, new_space, child, stamp);
+                self.tell_fork(table, caller, child.root);
+            }
+            (Call::Exit { caller, status }, Reply::Done) => self.note_exit(table, caller, status),
+            (Call::Wait { caller, .. }, Reply::Reaped(it)) => {
+                if let Some(task) = self.zombies.get(&(caller, it.child)).copied() {
+                    self.remove(task);
+                }
+            }
+            (Call::Join { caller, number }, Reply::Done) => {
+                let space = table.stat(caller, number).map_or(0, |it| it.space());
+                if let Some(kin) = self.tasks.get_mut(&caller) {
+                    kin.children = space;
+                }
+            }
+            (Call::Mk { parent }, Reply::Control(id)) => {
+                self.controls.insert(*id, parent);
+            }
+            (Call::Rm { id }, Reply::Done) => {
+                self.controls.remove(&id);
+            }
+            (Call::Setpgid { caller, .. }, Reply::Done) => self.stir(caller),
+            (Call::Setsid { caller }, Reply::Number(_)) => self.stir(caller),
+            _ => {}
+        }
+    }
+
+    /// Another group: of the task, or of a child of it.
+    fn stir(&mut self, task: u32) {
+        self.stirred.push(task);
+        self.stirred.extend(self.tasks.get(&task).map(|it| it.parent));
+    }
+
+    fn note_fork(&mut self, caller: u32, new_space: bool, child: &pidtab::Child, stamp: u64) {
+        let around = self.tasks.get(&caller).map_or(0, |it| it.children);
+        let space = if new_space { stamp } else { around };
+        if new_space {
+            let (parent, init, members) = (around, child.root, BTreeSet::new());
+            self.spaces.insert(space, Space { parent, init, members });
+        }
+        let kin = Kin {
+            parent: caller,
+            number: child.number,
+            space,
+            children: space,
+            is_zombie: false,
+            born: stamp,
+            first_child: 0,
+            before: 0,
+            after: 0,
+        };
+        self.add(child.root, kin, new_space);
+        self.link(child.root, caller);
+    }
+
+    fn tell_fork(&mut self, table: &mut Table, parent: u32, child: u32) {
+        let Some(space) = self.tasks.get(&child).map(|it| it.space).filter(|_| self.is_watched) else { return };
+        let control = table.stat(INIT, child).map_or(0, |it| it.control());
+        let (spaces, controls) = (self.spaces_around(space), self.controls_above(control));
+        self.events.push(Event { what: What::Forked { parent, child }, spaces, controls });
+    }
+
+    /// The task ends; its children have another parent; if it is an init, its namespace falls.
+    fn note_exit(&mut self, table: &mut Table, task: u32, status: u8) {
+        let space = self.tasks.get(&task).map_or(0, |it| it.space);
+        let fallen = self.falls_with(task);
+        self.tell_ends(task, status);
+        self.stirred.push(task);
+        let mut changed: Vec<u32> = self.children(task).map(|it| it.0).collect();
+        if fallen.is_empty() {
+            self.become_zombie(task);
+        }
+        for it in &fallen {
+            changed.extend(self.children(*it).map(|it| it.0));
+        }
+        changed.extend(&fallen);
+        changed.iter().for_each(|it| self.refresh(table, *it));
+        if !fallen.is_empty() {
+            let gone: Vec<_> = self.spaces.keys().copied().filter(|it| self.is_inside(*it, space)).collect();
+            gone.iter().for_each(|it| drop(self.spaces.remove(it)));
+        }
+    }
+
+    /// Who is no init stays his parent's until he is waited for.
+    fn become_zombie(&mut self, task: u32) {
+        let Some(kin) = self.tasks.get_mut(&task) else { return };
+        kin.is_zombie = true;
+        self.zombies.insert((kin.parent, kin.number), task);
+        self.stirred.push(kin.parent);
+    }
+
+    /// The events of those that have ended; a namespace falls behind its init.
+    fn tell_ends(&mut self, task: u32, status: u8) {
+        for Doomed { task: it, space, controls } in std::mem::take(&mut self.doomed) {
+            let ended = if it == task { Ended::Exited(status) } else { Ended::Killed };
+            let spaces = self.spaces_around(space);
+            let is_init = self.spaces.get(&space).is_some_and(|around| around.init == it);
+            let fell = Event { what: What::Fell, spaces: spaces.clone(), controls: controls.clone() };
+            self.events.push(Event { what: What::Ended { task: it, ended }, spaces, controls });
+            self.events.extend(is_init.then_some(fell));
+        }
+    }
+
+    /// The task as the table has it now.
+    fn refresh(&mut self, table: &mut Table, task: u32) {
+        if !self.tasks.contains_key(&task) {
+            return;
+        }
+        let Ok(stat) = table.stat(INIT, task) else { return self.remove(task) };
+        let depth = table.stat(INIT, stat.parent()).map_or(1, |it| it.numbers().len());
+        self.unlink(task);
+        if let Some(kin) = self.tasks.get_mut(&task) {
+            kin.is_zombie = stat.ended().is_some();
+            kin.number = stat.numbers()[depth - 1];
+        }
+        self.link(task, stat.parent());
+    }
+
+    fn add(&mut self, task: u32, kin: Kin, is_init: bool) {
+        if let Some(space) = self.spaces.get_mut(&kin.space) {
+            space.members.insert(task);
+            if is_init {
+                space.init = task;
+            }
+        }
+        self.tasks.insert(task, kin);
+    }
+
+    fn remove(&mut self, task: u32) {
+        self.unlink(task);
+        let Some(kin) = self.tasks.remove(&task) else { return };
+        if self.tells_gone {
+            self.gone.push(task);
+        }
+        if let Some(space) = self.spaces.get_mut(&kin.space) {
+            space.members.remove(&task);
+        }
+    }
+
+    /// Makes the task a child of the parent: the first one, and a zombie where it is one.
+    fn link(&mut self, task: u32, parent: u32) {
+        let first = self.tasks.get(&parent).map_or(0, |it| it.first_child);
+        if let Some(it) = self.tasks.get_mut(&first) {
+            it.before = task;
+        }
+        if let Some(it) = self.tasks.get_mut(&parent) {
+            it.first_child = task;
+        }
+        let Some(kin) = self.tasks.get_mut(&task) else { return };
+        (kin.parent, kin.before, kin.after) = (parent, 0, first);
+        if kin.is_zombie {
+            self.zombies.insert((parent, kin.number), task);
+            self.stirred.push(parent);
+        }
+    }
+
+    fn unlink(&mut self, task: u32) {
+        let Some(kin) = self.tasks.get(&task).copied() else { return };
+        if let Some(it) = self.tasks.get_mut(&kin.after) {
+            it.before = kin.before;
+        }
+        if let Some(it) = self.tasks.get_mut(&kin.before) {
+            it.after = kin.after;
+        } else if let Some(it) = self.tasks.get_mut(&kin.parent) {
+            it.first_child = kin.after;
+        }
+        if kin.is_zombie {
+            self.zombies.remove(&(kin.parent, kin.number));
+            self.stirred.push(kin.parent);
+        }
+    }
+}
+
+#[cfg(test)]
+mod tests {
+    use super::*;
+    use pidtab::{Calls, Which};
+
+    /// What two books of one table must agree on.
+    type Facts = (
+        Vec<(u32, u32, u32, u64, u64, bool)>,
+        BTreeMap<(u32, u32), u32>,
+        BTreeMap<u64, (u64, u32, BTreeSet<u32>)>,
+        BTreeMap<u64, u64>,
+    );
+
+    fn facts(book: &Book) -> Facts {
+        let facts = |it: (&u32, &Kin)| (*it.0, it.1.parent, it.1.number, it.1.space, it.1.children, it.1.is_zombie);
+        let mut tasks: Vec<_> = book.tasks.iter().map(facts).collect();
+        tasks.sort_unstable();
+        let spaces = book.spaces.iter().map(|it| (*it.0, (it.1.parent, it.1.init, it.1.members.clone())));
+        let controls = book.controls.iter().map(|it| (*it.0, *it.1));
+        (tasks, book.zombies.clone(), spaces.collect(), controls.collect())
+    }
+
+    /// Numbers that look random: those of xorshift64.
+    struct Dice(u64);
+
+    impl Dice {
+        fn below(&mut self, most: u64) -> u64 {
+            self.0 ^= self.0 << 13;
+            self.0 ^= self.0 >> 7;
+            self.0 ^= self.0 << 17;
+            self.0 % most
+        }
+    }
+
+    fn random_call(dice: &mut Dice, tasks: &[u32], controls: &[u64]) -> Call {
+        let caller = tasks[dice.below(tasks.len() as u64) as usize];
+        let id = controls[dice.below(controls.len() as u64) as usize];
+        let number = dice.below(12) as u32;
+        match dice.below(20) {
+            0..=6 => Call::Fork { caller, new_space: dice.below(3) == 0 },
+            7..=9 => Call::Exit { caller, status: 3 },
+            10..=12 => Call::Wait { caller, which: Which::Any },
+            13 => Call::Wait { caller, which: Which::Pid(number) },
+            14 => Call::Join { caller, number },
+            15 => Call::Subreaper { caller, on: dice.below(2) == 0 },
+            16 => Call::Mk { parent: id },
+            17 => Call::Rm { id },
+            18 => Call::Move { task: caller, id },
+            _ => Call::Setsid { caller },
+        }
+    }
+
+    /// Behind each of many random calls the book is the one that the list tells, and each child of it has it as its parent.
+    #[test]
+    fn the_book_is_that_of_the_list() {
+        for seed in 1..40 {
+            let (mut dice, mut table) = (Dice(seed), Table::open(400).expect("a table"));
+            let mut book = Book::of(&table.listing().expect("a list"));
+            for stamp in 1..600 {
+                let listing = table.listing().expect("a list");
+                let tasks: Vec<_> = listing.tasks.iter().map(|it| it.root()).collect();
+                let controls: Vec<_> = listing.controls.iter().map(|it| it.id).collect();
+                let call = random_call(&mut dice, &tasks, &controls);
+                book.foresee(&mut table, call);
+                let reply = table.call(call).expect("a reply");
+                book.note(&mut table, call, &reply, stamp);
+                let wanted = facts(&Book::of(&table.listing().expect("a list")));
+                assert_eq!(facts(&book), wanted, "seed {seed}, call {stamp}: {call:?} {reply:?}");
+                assert!(tasks.iter().all(|it| book.children(*it).all(|child| child.1.parent == *it)));
+                let children: usize = tasks.iter().map(|it| book.children(*it).count()).sum();
+                assert_eq!(children + 1, book.tasks().max(1));
+            }
+        }
+    }
+
+    #[test]
+    fn events_of_a_fall() {
+        let mut table = Table::open(400).expect("a table");
+        let mut book = Book::of(&table.listing().expect("a list"));
+        book.is_watched = true;
+        let calls = [
+            Call::Fork { caller: 1, new_space: true },
+            Call::Fork { caller: 2, new_space: false },
+            Call::Exit { caller: 2, status: 7 },
+        ];
+        for (place, call) in calls.into_iter().enumerate() {
+            book.foresee(&mut table, call);
+            let reply = table.call(call).expect("a reply");
+            book.note(&mut table, call, &reply, place as u64 + 1);
+        }
+        let wanted = [
+            What::Forked { parent: 1, child: 2 },
+            What::Forked { parent: 2, child: 3 },
+            What::Ended { task: 3, ended: Ended::Killed },
+            What::Ended { task: 2, ended: Ended::Exited(7) },
+            What::Fell,
+        ];
+        let wanted = wanted.map(|what| Event { what, spaces: vec![1, 0], controls: vec![0] });
+        assert_eq!(book.events, wanted);
+        assert_eq!(book.zombies(1).collect::<Vec<_>>(), [2]);
+    }
+
+    #[test]
+    fn cgroups_and_namespaces_in_one_another() {
+        let mut book = Book::default();
+        book.controls.extend([(5, 0), (6, 5), (7, 6)]);
+        assert!(book.is_within(7, 5) && book.is_within(7, 0) && book.is_within(5, 5) && book.is_within(0, 0));
+        assert!(!book.is_within(5, 7) && !book.is_within(0, 5) && !book.is_within(9, 5));
+    }
+}

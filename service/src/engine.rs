@@ -1,0 +1,333 @@
+//! The table, its book, and the calls that are recorded and not written yet.
+use crate::book::Book;
+use crate::directory::{Directory, Fault, SEATS};
+use crate::log::{Closed, Log, Sync};
+use crate::recover::{End, Recovery};
+use crate::replica::{loose_blocks, Order, Replica, Report, Source};
+use pidtab::{Blocks, Call, Error, Head, Made, Reply, Stat, Table};
+use std::path::PathBuf;
+use std::sync::Arc;
+
+/// So many bytes of calls are kept in memory, where nothing is kept on the disk, before the second table makes them.
+const LOOSE: usize = 1 << 20;
+
+/// What is kept, and how.
+#[derive(Clone, Debug)]
+pub struct Keep {
+    /// None: nothing is kept.
+    pub path: Option<PathBuf>,
+    pub sync: Sync,
+    pub segment: u64,
+    pub archive: bool,
+    /// Of a new table.
+    pub pid_max: u32,
+    pub most_controls: usize,
+}
+
+/// What a call has in the place of a reply.
+#[derive(Debug, PartialEq)]
+pub enum Refused {
+    TooManyControls,
+    Table(Error),
+}
+
+pub struct Engine {
+    pub table: Table,
+    pub book: Book,
+    pub pid_max: u32,
+    /// So many calls are recorded: the ordinal of the next one.
+    pub made: u64,
+    pub counts: [u64; SEATS as usize],
+    pub asked: u64,
+    pub log: Option<Log>,
+    pub replica: Replica,
+    pub keep: Keep,
+    pub snapshot: u64,
+    pub replayed: u64,
+    pub left_out: u64,
+    pub is_compacting: bool,
+    directory: Option<Directory>,
+    blocks: Blocks,
+    batch: Vec<u8>,
+    last: Made,
+    /// What of it was written, for the followers.
+    written: Vec<u8>,
+    head: Vec<u8>,
+    loose: Vec<u8>,
+}
+
+/// What the directory has, or a new table.
+struct Opened {
+    table: Table,
+    pid_max: u32,
+    made: u64,
+    snapshot: u64,
+    replayed: u64,
+    born: std::collections::HashMap<u32, u64>,
+    end: Option<End>,
+}
+
+fn read_directory(directory: &Directory, keep: &Keep) -> Result<Opened, Fault> {
+    let Some(mut recovery) = Recovery::begin(directory.again()?)? else {
+        return new_table(keep);
+    };
+    let end = recovery.finish()?;
+    Ok(Opened {
+        pid_max: recovery.pid_max,
+        made: recovery.made,
+        snapshot: recovery.snapshot,
+        replayed: recovery.replayed,
+        born: recovery.born,
+        table: recovery.table,
+        end,
+    })
+}
+
+fn new_table(keep: &Keep) -> Result<Opened, Fault> {
+    let table = Table::open(keep.pid_max).map_err(|error| error.to_string())?;
+    let born = std::collections::HashMap::new();
+    Ok(Opened { table, pid_max: keep.pid_max, made: 0, snapshot: 0, replayed: 0, born, end: None })
+}
+
+/// The log, the checksum that it goes on from, and where the second table has its calls from.
+fn begin_log(
+    directory: Option<&Directory>,
+    keep: &Keep,
+    opened: &mut Opened,
+    wake: impl Fn() + Send + 'static,
+) -> Result<(Option<Log>, Blocks, Source), Fault> {
+    let (made, pid_max) = (opened.made, opened.pid_max);
+    let Some(directory) = directory else {
+        let blocks = loose_blocks(pid_max).map_err(|error| error.to_string())?;
+        return Ok((None, blocks, Source::Nothing { pid_max, text: None }));
+    };
+    let (again, end) = (directory.again()?, opened.end.take());
+    let (log, blocks) = Log::open(again, keep.sync, keep.segment, end, made, pid_max, wake)?;
+    let source = Source::Directory { directory: directory.again()?, archive: keep.archive };
+    Ok((Some(log), blocks, source))
+}
+
+impl Engine {
+    /// Opens what is kept. `wake` wakes the loop from other threads.
+    pub fn open(keep: Keep, wake: impl Fn() + Clone + Send + 'static) -> Result<Engine, Fault> {
+        let directory = keep.path.as_deref().map(Directory::take).transpose()?;
+        let mut opened = match &directory {
+            Some(directory) => read_directory(directory, &keep)?,
+            None => new_table(&keep)?,
+        };
+        let (made, pid_max) = (opened.made, opened.pid_max);
+        let left_out = opened.end.as_ref().map_or(0, |it| it.left_out);
+        let (log, blocks, source) = begin_log(directory.as_ref(), &keep, &mut opened, wake.clone())?;
+        let mut engine = Engine {
+            book: Book::default(),
+            table: opened.table,
+            pid_max,
+            made,
+            counts: [0; SEATS as usize],
+            asked: 0,
+            log,
+            replica: Replica::start(source, wake),
+            keep,
+            snapshot: opened.snapshot,
+            replayed: opened.replayed,
+            left_out,
+            is_compacting: false,
+            directory,
+            blocks,
+            batch: Vec::new(),
+            last: Made::default(),
+            written: Vec::new(),
+            head: Vec::new(),
+            loose: Vec::new(),
+        };
+        engine.read_book(&opened.born)?;
+        engine.snapshot_if_long();
+        Ok(engine)
+    }
+
+    fn read_book(&mut self, born: &std::collections::HashMap<u32, u64>) -> Result<(), Fault> {
+        let listing = self.table.listing().map_err(|error| error.to_string())?;
+        let (is_watched, tells_gone) = (self.book.is_watched, self.book.tells_gone);
+        self.book = Book::of(&listing);
+        (self.book.is_watched, self.book.tells_gone) = (is_watched, tells_gone);
+        for (task, ordinal) in born {
+            if let Some(kin) = self.book.kin_mut(*task) {
+                kin.born = ordinal + 1;
+            }
+        }
+        Ok(())
+    }
+
+    /// One that lives too briefly for a snapshot would start ever later.
+    fn snapshot_if_long(&mut self) {
+        let size = self.replayed * Blocks::HEAD as u64;
+        if let Some(log) = self.log.as_mut().filter(|it| size >= self.keep.segment || it.bytes >= self.keep.segment) {
+            log.want_turn();
+        }
+    }
+
+    /// Makes a call, and records it.
+    pub fn make(&mut self, seat: u32, call: Call) -> Result<Reply, Refused> {
+        if matches!(call, Call::Mk { .. }) && self.book.controls() >= self.keep.most_controls {
+            return Err(Refused::TooManyControls);
+        }
+        self.book.foresee(&mut self.table, call);
+        self.table.make(seat, call, &mut self.last).map_err(Refused::Table)?;
+        let reply = self.last.reply();
+        let put = self.blocks.put_made(&self.last, &mut self.batch);
+        put.expect("each call that was made, and its reply, have a place in the form");
+        self.note(seat, call, &reply);
+        Ok(reply)
+    }
+
+    /// A call that was made and is in the batch.
+    fn note(&mut self, seat: u32, call: Call, reply: &Reply) {
+        self.made += 1;
+        self.counts[seat as usize % SEATS as usize] += 1;
+        self.book.note(&mut self.table, call, reply, self.made);
+    }
+
+    /// Answers a query, which is not recorded.
+    pub fn ask(&mut self, call: Call) -> Result<Reply, Error> {
+        self.asked += 1;
+        self.table.ask(call)
+    }
+
+    pub fn stat(&mut self, caller: u32, number: u32) -> Result<Stat, Error> {
+        self.asked += 1;
+        self.table.stat(caller, number)
+    }
+
+    /// Writes what was recorded. `Ok(false)`: the disk does not take it now.
+    pub fn commit(&mut self) -> Result<bool, Fault> {
+        if let Some(log) = self.log.as_mut().filter(|_| !self.batch.is_empty()) {
+            if !log.commit(&self.batch)? {
+                return Ok(false);
+            }
+        }
+        std::mem::swap(&mut self.batch, &mut self.written);
+        if self.log.is_none() {
+            self.commit_loose();
+        }
+        self.turn_over_when_due()?;
+        Ok(true)
+    }
+
+    fn commit_loose(&mut self) {
+        self.loose.extend_from_slice(&self.written);
+        if self.loose.len() >= LOOSE {
+            self.replica.order(Order::Blocks(std::mem::take(&mut self.loose)));
+        }
+    }
+
+    /// What a commit has written, and the head of the log that goes on behind it, if that is a new one. The first is given back.
+    pub fn take_written(&mut self) -> (Vec<u8>, Vec<u8>) {
+        (std::mem::take(&mut self.written), std::mem::take(&mut self.head))
+    }
+
+    /// The room for what is written next.
+    pub fn give_back(&mut self, mut written: Vec<u8>) {
+        written.clear();
+        written.shrink_to(LOOSE);
+        self.written = written;
+    }
+
+    fn turn_over_when_due(&mut self) -> Result<(), Fault> {
+        let Some(log) = self.log.as_mut().filter(|it| it.is_to_turn() && !self.is_compacting) else { return Ok(()) };
+        if let Some((Closed { base, bytes }, blocks)) = log.turn_over(self.made, self.pid_max)? {
+            self.blocks = blocks;
+            self.head = head_bytes(self.pid_max, self.made);
+            self.is_compacting = true;
+            self.replica.order(Order::File { base, bytes });
+            self.replica.order(Order::Snapshot);
+        }
+        Ok(())
+    }
+
+    /// What is due by the clock.
+    pub fn tick(&mut self) -> Result<(), Fault> {
+        self.log.as_mut().map_or(Ok(()), Log::tick)
+    }
+
+    /// The second table goes on to here, and tells its text. All that was recorded is written.
+    pub fn order_text(&mut self, is_dump: bool) {
+        match &self.log {
+            Some(log) => self.replica.order(Order::File { base: log.base, bytes: log.bytes }),
+            None => self.replica.order(Order::Blocks(std::mem::take(&mut self.loose))),
+        }
+        self.replica.order(Order::Text { is_dump, ordinal: self.made });
+    }
+
+    /// What the second table has done; a text is given back.
+    pub fn take_report(&mut self) -> Option<Report> {
+        let report = self.replica.reports.try_recv().ok()?;
+        if let Report::Snapshot(done) = &report {
+            self.is_compacting = false;
+            match done {
+                Ok(ordinal) => self.snapshot = *ordinal,
+                Err(fault) => eprintln!("pidtabd: no snapshot was made, and the log goes on: {fault}"),
+            }
+        }
+        Some(report)
+    }
+
+    /// All that was recorded is on the disk.
+    pub fn close(&mut self) -> Result<(), Fault> {
+        if !self.commit()? {
+            return Err("the log cannot be written: ending, with unsaved calls unanswered".to_owned());
+        }
+        self.log.as_ref().map_or(Ok(()), Log::close)
+    }
+
+    /// The checksum behind all that was recorded, which a follower goes on from.
+    pub fn sum(&self) -> u64 {
+        self.blocks.sum()
+    }
+
+    /// Makes the call at the front of a leader's blocks again, and records it: how many bytes it has.
+    pub fn follow(&mut self, blocks: &mut Blocks, bytes: &[u8]) -> Result<usize, Fault> {
+        let made = self.table.replay(blocks, bytes).map_err(|fault| fault.to_string())?;
+        let put = self.blocks.put(made.worker, made.call, &made.reply, &mut self.batch);
+        put.map_err(|error| error.to_string())?;
+        self.note(made.worker, made.call, &made.reply);
+        Ok(made.size)
+    }
+
+    /// The table is that of a text from now on, and what was kept before goes away.
+    pub fn adopt(&mut self, text: &[u8], wake: impl Fn() + Clone + Send + 'static) -> Result<(), Fault> {
+        let table = Table::from_dump(text).map_err(|fault| fault.to_string())?;
+        let (pid_max, stamp) = crate::recover::settings_of(text).ok_or("the text has no settings")?;
+        (self.table, self.pid_max, self.made) = (table, pid_max, stamp - 1);
+        self.batch.clear();
+        self.loose.clear();
+        self.read_book(&std::collections::HashMap::new())?;
+        self.keep_adopted(text, wake)
+    }
+
+    fn keep_adopted(&mut self, text: &[u8], wake: impl Fn() + Clone + Send + 'static) -> Result<(), Fault> {
+        let Some(directory) = &self.directory else {
+            self.blocks = loose_blocks(self.pid_max).map_err(|error| error.to_string())?;
+            let source = Source::Nothing { pid_max: self.pid_max, text: Some(text.to_vec()) };
+            self.replica = Replica::start(source, wake);
+            return Ok(());
+        };
+        let path = directory.snapshot(self.made);
+        let kept = directory.write(&path, &[text]).and_then(|_| directory.put_away(self.made, self.keep.archive));
+        kept.map_err(crate::directory::fault_at(&path))?;
+        let (again, keep) = (directory.again()?, &self.keep);
+        let (log, blocks) = Log::open(again, keep.sync, keep.segment, None, self.made, self.pid_max, wake.clone())?;
+        (self.log, self.blocks, self.snapshot, self.is_compacting) = (Some(log), blocks, self.made, false);
+        let source = Source::Directory { directory: directory.again()?, archive: keep.archive };
+        self.replica = Replica::start(source, wake);
+        Ok(())
+    }
+}
+
+fn head_bytes(pid_max: u32, made: u64) -> Vec<u8> {
+    let (head, mut bytes) = (Head { pid_max, workers: SEATS, first_stamp: made + 1 }, Vec::new());
+    Blocks::begin(&head, &mut bytes).expect("the settings are those of a table");
+    bytes
+}
+
+/// A text that is told to many.
+pub type Text = Arc<Vec<u8>>;

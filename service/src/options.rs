@@ -1,0 +1,193 @@
+//! The command line.
+use crate::engine::Keep;
+use crate::log::Sync;
+use lexopt::prelude::*;
+use lexopt::Parser;
+use std::ffi::OsString;
+use std::path::PathBuf;
+
+pub const USAGE: &str = "\
+usage: pidtabd [OPTION ..]
+  --socket PATH       a Unix socket; without it those that systemd passes
+  --mode OCTAL        the socket's mode (0600)
+  --allow WHO,..      who may connect: UID; UID:ro, who may only ask; UID:below=CGROUP, who makes and ends
+                      tasks below that cgroup alone (whoever the mode lets)
+  --dir DIR           where the log and the snapshots are (nothing is kept)
+  --fsync WHEN        no, everysec, always (everysec)
+  --segment BYTES     of the log, before a snapshot is made: 4096 or more (67108864)
+  --archive           what a snapshot makes needless is renamed, not removed
+  --pid-max N         of a new table: 301 to 4194304 (32768)
+  --follow SOCKET     has the table of the service there, until TAKEOVER
+  --max-clients N     1 to 100000 (1000)
+  --max-controls N    how many cgroups there may be (65536)
+  --max-output BYTES  of LIST and DUMP that wait to be taken (268435456)
+  --stall SECONDS     who takes no answer for so long is closed: 1 to 86400 (60)
+  --commands          writes the table of commands, and ends
+  --version, --help
+";
+
+/// What a user may do.
+#[derive(Clone, Copy, Debug, PartialEq)]
+pub enum Rights {
+    All,
+    /// He may ask, and make no call.
+    Asks,
+    /// He may ask, and make calls by tasks in the cgroup and those below it.
+    Below(u64),
+}
+
+#[derive(Clone, Debug)]
+pub struct Options {
+    pub socket: Option<PathBuf>,
+    pub mode: u32,
+    pub allowed: Vec<(u32, Rights)>,
+    pub keep: Keep,
+    pub follow: Option<PathBuf>,
+    pub most_clients: usize,
+    pub most_output: usize,
+    pub stall: u64,
+}
+
+/// What the command line asks for.
+pub enum Wanted {
+    Serve(Box<Options>),
+    Help,
+    Version,
+    Commands,
+}
+
+impl Default for Options {
+    fn default() -> Options {
+        let (path, sync, segment, archive) = (None, Sync::EverySecond, 64 << 20, false);
+        Options {
+            socket: None,
+            mode: 0o600,
+            allowed: Vec::new(),
+            keep: Keep { path, sync, segment, archive, pid_max: 32768, most_controls: 65536 },
+            follow: None,
+            most_clients: 1000,
+            most_output: 256 << 20,
+            stall: 60,
+        }
+    }
+}
+
+/// Reads the command line. What is wrong with it is a sentence.
+pub fn read(words: impl IntoIterator<Item = OsString> + 'static) -> Result<Wanted, String> {
+    let mut parser = Parser::from_args(words);
+    let mut options = Options::default();
+    while let Some(word) = parser.next().map_err(|fault| fault.to_string())? {
+        match word {
+            Long("help") => return Ok(Wanted::Help),
+            Long("version") => return Ok(Wanted::Version),
+            Long("commands") => return Ok(Wanted::Commands),
+            Long("archive") => options.keep.archive = true,
+            Long(name) => {
+                let name = name.to_owned();
+                let value = parser.value().map_err(|fault| fault.to_string())?;
+                take(&mut options, &name, value)?;
+            }
+            other => return Err(other.unexpected().to_string()),
+        }
+    }
+    Ok(Wanted::Serve(Box::new(options)))
+}
+
+fn take(options: &mut Options, name: &str, value: OsString) -> Result<(), String> {
+    let path = PathBuf::from(&value);
+    let word = value.to_string_lossy();
+    let number = |least, most| number(name, &word, least, most);
+    match name {
+        "socket" => options.socket = Some(path),
+        "follow" => options.follow = Some(path),
+        "dir" => options.keep.path = Some(path),
+        "mode" => {
+            options.mode =
+                u32::from_str_radix(&word, 8).ok().filter(|it| *it <= 0o777).ok_or("--mode is three octal digits")?
+        }
+        "allow" => options.allowed = word.split(',').map(allowed).collect::<Result<_, _>>()?,
+        "fsync" => options.keep.sync = sync(&word)?,
+        "segment" => options.keep.segment = number(4096, u64::MAX)?,
+        "pid-max" => options.keep.pid_max = number(301, 4_194_304)? as u32,
+        "max-clients" => options.most_clients = number(1, 100_000)? as usize,
+        "max-controls" => options.keep.most_controls = number(0, u64::MAX)? as usize,
+        "max-output" => options.most_output = number(1, u64::MAX)? as usize,
+        "stall" => options.stall = number(1, 86_400)?,
+        _ => return Err(format!("there is no option --{name}")),
+    }
+    Ok(())
+}
+
+fn number(name: &str, word: &str, least: u64, most: u64) -> Result<u64, String> {
+    let read = crate::resp::number(word.as_bytes(), most).filter(|it| *it >= least);
+    read.ok_or_else(|| format!("--{name} is a number from {least} to {most}"))
+}
+
+fn sync(word: &str) -> Result<Sync, String> {
+    let all = [Sync::Never, Sync::EverySecond, Sync::Always];
+    let found = all.into_iter().find(|it| it.word() == word);
+    found.ok_or_else(|| "--fsync is no, everysec or always".to_owned())
+}
+
+/// `1000`, `1000:ro` or `1000:below=5`.
+fn allowed(word: &str) -> Result<(u32, Rights), String> {
+    let fault = || format!("--allow has {word:?}, and takes UID, UID:ro or UID:below=CGROUP");
+    let (user, rights) = word.split_once(':').unwrap_or((word, ""));
+    let user = crate::resp::number(user.as_bytes(), u64::from(u32::MAX)).ok_or_else(fault)?;
+    let rights = match rights.strip_prefix("below=") {
+        Some(control) => Rights::Below(crate::resp::number(control.as_bytes(), u64::MAX).ok_or_else(fault)?),
+        None if rights == "ro" => Rights::Asks,
+        None if word.contains(':') => return Err(fault()),
+        None => Rights::All,
+    };
+    Ok((user as u32, rights))
+}
+
+#[cfg(test)]
+mod tests {
+    use super::*;
+
+    fn options(words: &[&str]) -> Result<Options, String> {
+        match read(words.iter().map(OsString::from).collect::<Vec<_>>())? {
+            Wanted::Serve(options) => Ok(*options),
+            _ => Err("not served".to_owned()),
+        }
+    }
+
+    #[test]
+    fn they_are_read() {
+        let read = options(&[
+            "--dir",
+            "/d",
+            "--fsync=always",
+            "--allow",
+            "0,7:ro,8:below=5",
+            "--segment",
+            "4096",
+            "--archive",
+        ])
+        .expect("options");
+        assert_eq!((read.keep.sync, read.keep.segment, read.keep.archive), (Sync::Always, 4096, true));
+        assert_eq!(read.allowed, [(0, Rights::All), (7, Rights::Asks), (8, Rights::Below(5))]);
+        assert_eq!((read.mode, read.keep.pid_max, read.stall), (0o600, 32768, 60));
+    }
+
+    #[test]
+    fn what_is_wrong_is_said() {
+        let wrong: [&[&str]; 12] = [
+            &["--nothing", "x"],
+            &["--pid-max", "300"],
+            &["--fsync", "often"],
+            &["--allow", "x"],
+            &["--allow", "1:rw"],
+            &["--allow", "1:"],
+            &["--allow", "1:below="],
+            &["--mode", "888"],
+            &["--mode", "7777"],
+            &["--segment", "4095"],
+            &["word"],
+            &["--stall"],
+        ];
+        assert_eq!(wrong.iter().find(|it| options(it).is_ok()), None);
+    }
+}

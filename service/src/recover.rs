@@ -1,0 +1,287 @@
+//! Reads a directory: the newest snapshot, and the logs behind it, in parts.
+use crate::directory::{fault_at, Directory, Fault, SEATS};
+use pidtab::{Blocks, Call, Head, Replayed, Reply, SavedFault, Table};
+use std::collections::HashMap;
+use std::fs::{self, File};
+use std::io::{self, Read, Seek, SeekFrom};
+use std::path::Path;
+
+/// How many bytes are read at a time.
+const PART: usize = 1 << 16;
+
+/// A log as far as it was read.
+struct Input {
+    file: File,
+    base: u64,
+    blocks: Blocks,
+    /// So many bytes of the file were taken.
+    taken: u64,
+    bytes: Vec<u8>,
+    at: usize,
+    /// No byte of the file is read from there on.
+    end: u64,
+}
+
+impl Input {
+    fn rest(&self) -> &[u8] {
+        &self.bytes[self.at..]
+    }
+
+    /// Reads on where less than the longest entry is in hand.
+    fn fill(&mut self) -> io::Result<()> {
+        if self.rest().len() >= Blocks::LONGEST {
+            return Ok(());
+        }
+        self.bytes.drain(..self.at);
+        self.at = 0;
+        let room = PART.min((self.end - self.taken) as usize - self.bytes.len());
+        self.file.by_ref().take(room as u64).read_to_end(&mut self.bytes)?;
+        Ok(())
+    }
+
+    fn count(&mut self, size: usize) {
+        self.at += size;
+        self.taken += size as u64;
+    }
+
+    /// Whether all to the end of the file is 0, from the checksum of the wrong block on: a file may have its length before its bytes.
+    fn ends_in_zeroes(&mut self) -> io::Result<bool> {
+        self.file.seek(SeekFrom::Start(self.taken + self.blocks.wrong() as u64 + 40))?;
+        let mut part = vec![0; PART];
+        loop {
+            match self.file.read(&mut part)? {
+                0 => return Ok(true),
+                count if part[..count].iter().any(|it| *it != 0) => return Ok(false),
+                _ => {}
+            }
+        }
+    }
+}
+
+/// A table that is made of the files of a directory.
+pub struct Recovery {
+    directory: Directory,
+    pub table: Table,
+    pub pid_max: u32,
+    /// So many calls were made.
+    pub made: u64,
+    /// The ordinal of the snapshot, 0 for none.
+    pub snapshot: u64,
+    /// So many were replayed.
+    pub replayed: u64,
+    /// The ordinals of the forks that were replayed, by the children's root numbers.
+    pub born: HashMap<u32, u64>,
+    input: Option<Input>,
+}
+
+/// Where the log goes on: a file, how long it is, and its checksum.
+pub struct End {
+    pub base: u64,
+    pub bytes: u64,
+    pub blocks: Blocks,
+    /// So many bytes of a torn end are behind.
+    pub left_out: u64,
+}
+
+impl Recovery {
+    /// The newest snapshot, or else a table of the first log's settings; none where the directory has neither.
+    pub fn begin(directory: Directory) -> Result<Option<Recovery>, Fault> {
+        let files = directory.files()?;
+        let Some(snapshot) = files.snapshots.last().copied() else {
+            return Recovery::begin_with_log(directory, &files.logs);
+        };
+        let path = directory.snapshot(snapshot);
+        let text = fs::read(&path).map_err(fault_at(&path))?;
+        let table = Table::from_dump(&text).map_err(|why| {
+            fault_at(&path)(format!(
+                "{why}: the snapshot is damaged, or was not copied whole; restore the directory from a copy"
+            ))
+        })?;
+        let (pid_max, stamp) = settings_of(&text).ok_or_else(|| fault_at(&path)("has no settings"))?;
+        if stamp != snapshot + 1 {
+            return Err(fault_at(&path)(format!(
+                "is the text after {} calls, and its name says {snapshot}",
+                stamp - 1
+            )));
+        }
+        Ok(Some(Recovery::of(directory, table, pid_max, snapshot)))
+    }
+
+    fn begin_with_log(directory: Directory, logs: &[u64]) -> Result<Option<Recovery>, Fault> {
+        match logs.first() {
+            None => return Ok(None),
+            Some(0) => {}
+            Some(first) => {
+                let path = directory.log(*first);
+                return Err(fault_at(&path)(format!(
+                    "begins at call {first}, and no snapshot or log comes before: the directory was not copied whole"
+                )));
+            }
+        }
+        let path = directory.log(0);
+        let mut head = [0; Blocks::HEAD];
+        let read = File::open(&path).and_then(|mut it| read_up_to(&mut it, &mut head)).map_err(fault_at(&path))?;
+        let pid_max = match Blocks::read_head(&head[..read]) {
+            Ok((head, _)) => head.pid_max,
+            Err(SavedFault::Torn) if logs.len() == 1 => return Ok(None),
+            Err(fault) => return Err(fault_at(&path)(fault)),
+        };
+        let table = Table::open(pid_max).map_err(fault_at(&path))?;
+        Ok(Some(Recovery::of(directory, table, pid_max, 0)))
+    }
+
+    fn of(directory: Directory, table: Table, pid_max: u32, snapshot: u64) -> Recovery {
+        let (born, input) = (HashMap::new(), None);
+        Recovery { directory, table, pid_max, made: snapshot, snapshot, replayed: 0, born, input }
+    }
+
+    /// Makes all calls to the end of the last log. None: there is no log to go on with.
+    pub fn finish(&mut self) -> Result<Option<End>, Fault> {
+        let logs: Vec<_> = self.directory.files()?.logs.into_iter().filter(|it| *it >= self.snapshot).collect();
+        self.compare_current(logs.last().copied())?;
+        let Some((last, closed)) = logs.split_last() else { return Ok(None) };
+        for base in closed {
+            self.open(*base)?;
+            self.replay_all(false)?;
+        }
+        if !self.open_last(*last)? {
+            return Ok(None);
+        }
+        self.replay_all(true)?;
+        let Some(input) = self.input.as_ref() else { return Ok(None) };
+        let (base, bytes, blocks) = (input.base, input.taken, input.blocks);
+        Ok(Some(End { base, bytes, blocks, left_out: input.end - input.taken }))
+    }
+
+    /// A directory that was copied while it was in use may lack its newest log.
+    fn compare_current(&self, last: Option<u64>) -> Result<(), Fault> {
+        let Some(current) = self.directory.current()? else { return Ok(()) };
+        if last.is_some_and(|it| it >= current) || current < self.snapshot {
+            return Ok(());
+        }
+        let path = self.directory.log(current);
+        Err(fault_at(&path)("is missing, and `current` names it as the newest log: the directory was not copied whole"))
+    }
+
+    /// Goes on to a place of the log with that first ordinal, which is written meanwhile. The logs before it are closed.
+    pub fn go_on(&mut self, base: u64, bytes: u64) -> Result<(), Fault> {
+        if self.input.as_ref().is_none_or(|it| it.base != base) {
+            self.finish_closed(base)?;
+            self.open(base)?;
+        }
+        if let Some(input) = &mut self.input {
+            input.end = bytes;
+        }
+        self.replay_all(false)
+    }
+
+    /// The log that is in hand, to its end, and all that are between it and that one.
+    fn finish_closed(&mut self, below: u64) -> Result<(), Fault> {
+        if let Some(input) = &mut self.input {
+            let path = self.directory.log(input.base);
+            input.end = input.file.metadata().map_err(fault_at(&path))?.len();
+            self.replay_all(false)?;
+        }
+        let logs = self.directory.files()?.logs;
+        for base in logs.into_iter().filter(|it| *it < below) {
+            if base >= self.made {
+                self.open(base)?;
+                self.replay_all(false)?;
+            }
+        }
+        Ok(())
+    }
+
+    fn open(&mut self, base: u64) -> Result<(), Fault> {
+        let path = self.directory.log(base);
+        if base != self.made {
+            return Err(fault_at(&path)(format!(
+                "begins at call {base}, and the log before ends at call {}: a file is missing or was cut",
+                self.made
+            )));
+        }
+        let mut file = File::open(&path).map_err(fault_at(&path))?;
+        let mut block = [0; Blocks::HEAD];
+        let read = read_up_to(&mut file, &mut block).map_err(fault_at(&path))?;
+        let (head, blocks) = Blocks::read_head(&block[..read]).map_err(fault_at(&path))?;
+        if head != (Head { pid_max: self.pid_max, workers: SEATS, first_stamp: base + 1 }) {
+            return Err(fault_at(&path)("has the head of another table"));
+        }
+        let (taken, end) = (read as u64, file.metadata().map_err(fault_at(&path))?.len());
+        self.input = Some(Input { file, base, blocks, taken, bytes: Vec::with_capacity(PART), at: 0, end });
+        Ok(())
+    }
+
+    /// The last log, which may end within its head: then it is begun anew.
+    fn open_last(&mut self, base: u64) -> Result<bool, Fault> {
+        let path = self.directory.log(base);
+        let bytes = fs::metadata(&path).map(|it| it.len()).map_err(fault_at(&path));
+        if base == self.made && bytes? < Blocks::HEAD as u64 {
+            return Ok(false);
+        }
+        self.open(base).map(|_| true)
+    }
+
+    /// Makes the calls of the log again, and compares their replies. The last log may have a torn end.
+    fn replay_all(&mut self, may_be_torn: bool) -> Result<(), Fault> {
+        let Some(mut input) = self.input.take() else { return Ok(()) };
+        let path = self.directory.log(input.base);
+        loop {
+            input.fill().map_err(fault_at(&path))?;
+            if input.rest().is_empty() {
+                break;
+            }
+            let (blocks, bytes) = (&mut input.blocks, &input.bytes[input.at..]);
+            let made = self.table.replay(blocks, bytes);
+            let is_torn = match &made {
+                Err(SavedFault::Torn) => true,
+                Err(SavedFault::WrongByte) => input.ends_in_zeroes().map_err(fault_at(&path))?,
+                _ => false,
+            };
+            if is_torn && may_be_torn {
+                break;
+            }
+            let made = made.map_err(|fault| self.damaged(&path, &input, fault))?;
+            input.count(made.size);
+            self.count(&made);
+        }
+        self.input = Some(input);
+        Ok(())
+    }
+
+    fn count(&mut self, made: &Replayed) {
+        if let (Call::Fork { .. }, Reply::Forked(child)) = (made.call, &made.reply) {
+            self.born.insert(child.root, self.made);
+        }
+        self.made += 1;
+        self.replayed += 1;
+    }
+
+    fn damaged(&self, path: &Path, input: &Input, fault: SavedFault) -> Fault {
+        let (bytes, call) = (input.taken, self.made);
+        fault_at(path)(format!(
+            "call {call}, at byte {bytes}: {fault}; restore the directory from a copy, or, to lose this call and all behind it, \
+             move the later files away and cut this one with `truncate -s {bytes}`"
+        ))
+    }
+}
+
+/// Reads until the room is full, or the file ends: how many bytes.
+fn read_up_to(file: &mut File, room: &mut [u8]) -> io::Result<usize> {
+    let mut all = Vec::new();
+    let count = file.by_ref().take(room.len() as u64).read_to_end(&mut all)?;
+    room[..count].copy_from_slice(&all);
+    Ok(count)
+}
+
+/// The pid_max and the stamp of the first line of a table's text.
+pub fn settings_of(text: &[u8]) -> Option<(u32, u64)> {
+    let line = text.split(|it| *it == b'\n').next()?;
+    let words: Vec<_> = std::str::from_utf8(line).ok()?.split(' ').collect();
+    match words[..] {
+        ["pidtab", "table", "1", "pid-max", pid_max, "stamp", stamp] => {
+            Some((pid_max.parse().ok()?, stamp.parse().ok()?))
+        }
+        _ => None,
+    }
+}

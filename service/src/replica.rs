@@ -1,0 +1,199 @@
+//! A second table in a thread of its own, which makes the calls again that the log has. Its text is a snapshot, or the answer to LIST or DUMP:
+//! so the table that serves is never copied, and each log is seen to replay, reply for reply, before it is taken away.
+use crate::directory::{fault_at, Directory, Fault, SEATS};
+use crate::recover::Recovery;
+use pidtab::{Blocks, Head, Table};
+use std::sync::mpsc::{channel, Receiver, Sender};
+use std::sync::Arc;
+use std::thread;
+
+/// What the thread is told to do, in this order.
+pub enum Order {
+    /// Goes on to a place of the log.
+    File { base: u64, bytes: u64 },
+    /// Goes on with these blocks, where nothing is kept.
+    Blocks(Vec<u8>),
+    /// Writes the snapshot, and takes away what it makes needless.
+    Snapshot,
+    /// Tells its text, or its list.
+    Text { is_dump: bool, ordinal: u64 },
+}
+
+/// What the thread has done.
+pub enum Report {
+    /// The ordinal of the new snapshot.
+    Snapshot(Result<u64, Fault>),
+    Text {
+        is_dump: bool,
+        ordinal: u64,
+        text: Result<Arc<Vec<u8>>, Fault>,
+    },
+}
+
+/// Where the calls come from.
+pub enum Source {
+    Directory {
+        directory: Directory,
+        archive: bool,
+    },
+    /// Calls behind a new table, or behind that of a text.
+    Nothing {
+        pid_max: u32,
+        text: Option<Vec<u8>>,
+    },
+}
+
+pub struct Replica {
+    orders: Sender<Order>,
+    pub reports: Receiver<Report>,
+}
+
+impl Replica {
+    /// Starts the thread. `wake` is called behind each report.
+    pub fn start(source: Source, wake: impl Fn() + Send + 'static) -> Replica {
+        let (orders, taken) = channel();
+        let (tell, reports) = channel();
+        thread::spawn(move || {
+            let mut copy = Copy { source, state: State::Unread };
+            for order in taken {
+                if let Some(report) = copy.follow(order) {
+                    if tell.send(report).is_err() {
+                        break;
+                    }
+                    wake();
+                }
+            }
+        });
+        Replica { orders, reports }
+    }
+
+    /// The thread lives as long as this does, so each order is taken.
+    pub fn order(&self, order: Order) {
+        let _ = self.orders.send(order);
+    }
+}
+
+/// The second table.
+enum State {
+    Unread,
+    Kept(Box<Recovery>),
+    Loose {
+        table: Table,
+        blocks: Blocks,
+    },
+    /// It cannot go on, and says why each time.
+    Failed(Fault),
+}
+
+struct Copy {
+    source: Source,
+    state: State,
+}
+
+impl Copy {
+    fn follow(&mut self, order: Order) -> Option<Report> {
+        match order {
+            Order::File { base, bytes } => {
+                self.go_on(|it| it.go_on(base, bytes));
+                None
+            }
+            Order::Blocks(bytes) => {
+                self.replay(&bytes);
+                None
+            }
+            Order::Snapshot => {
+                let done = self.snapshot();
+                self.begin_anew();
+                Some(Report::Snapshot(done))
+            }
+            Order::Text { is_dump, ordinal } => {
+                let text = self.text(is_dump).map(|it| Arc::new(it.into_bytes()));
+                self.begin_anew();
+                Some(Report::Text { is_dump, ordinal, text })
+            }
+        }
+    }
+
+    /// A second table that has failed, and has said so, is made again of the files.
+    fn begin_anew(&mut self) {
+        if let (State::Failed(_), Source::Directory { .. }) = (&self.state, &self.source) {
+            self.state = State::Unread;
+        }
+    }
+
+    /// The table, which is first made of the newest snapshot.
+    fn go_on(&mut self, work: impl FnOnce(&mut Recovery) -> Result<(), Fault>) {
+        if let (State::Unread, Source::Directory { directory, .. }) = (&self.state, &self.source) {
+            let begun = directory.again().and_then(Recovery::begin);
+            self.state = match begun {
+                Ok(Some(recovery)) => State::Kept(Box::new(recovery)),
+                Ok(None) => State::Failed("there is nothing to replay".to_owned()),
+                Err(fault) => State::Failed(fault),
+            };
+        }
+        let State::Kept(recovery) = &mut self.state else { return };
+        if let Err(fault) = work(recovery) {
+            self.state = State::Failed(fault);
+        }
+    }
+
+    fn replay(&mut self, bytes: &[u8]) {
+        if let (State::Unread, Source::Nothing { pid_max, text }) = (&self.state, &mut self.source) {
+            self.state = begin_loose(*pid_max, text.take());
+        }
+        let State::Loose { table, blocks } = &mut self.state else { return };
+        let mut at = 0;
+        while at < bytes.len() {
+            match table.replay(blocks, &bytes[at..]) {
+                Ok(made) => at += made.size,
+                Err(fault) => {
+                    self.state = State::Failed(fault.to_string());
+                    return;
+                }
+            }
+        }
+    }
+
+    fn text(&mut self, is_dump: bool) -> Result<String, Fault> {
+        if matches!(self.state, State::Unread) {
+            self.replay(b"");
+        }
+        let table = match &mut self.state {
+            State::Kept(recovery) => &mut recovery.table,
+            State::Loose { table, .. } => table,
+            State::Failed(fault) => return Err(fault.clone()),
+            State::Unread => return Err("there is no second table".to_owned()),
+        };
+        let text = if is_dump { table.dump() } else { table.list() };
+        text.map_err(|error| error.to_string())
+    }
+
+    fn snapshot(&mut self) -> Result<u64, Fault> {
+        let text = self.text(true);
+        let (State::Kept(recovery), Source::Directory { directory, archive }) = (&self.state, &self.source) else {
+            return text.and(Err("nothing is kept".to_owned()));
+        };
+        let path = directory.snapshot(recovery.made);
+        directory.write(&path, &[text?.as_bytes()]).map_err(fault_at(&path))?;
+        directory.put_away(recovery.made, *archive).map_err(fault_at(&directory.path))?;
+        Ok(recovery.made)
+    }
+}
+
+/// The head of what is not kept, for its checksum alone.
+pub fn loose_blocks(pid_max: u32) -> Result<Blocks, pidtab::Error> {
+    let head = Head { pid_max, workers: SEATS, first_stamp: 1 };
+    Blocks::begin(&head, &mut Vec::new())
+}
+
+fn begin_loose(pid_max: u32, text: Option<Vec<u8>>) -> State {
+    let table = match text {
+        Some(text) => Table::from_dump(text).map_err(|fault| fault.to_string()),
+        None => Table::open(pid_max).map_err(|error| error.to_string()),
+    };
+    match (table, loose_blocks(pid_max)) {
+        (Ok(table), Ok(blocks)) => State::Loose { table, blocks },
+        (Err(fault), _) => State::Failed(fault),
+        (_, Err(error)) => State::Failed(error.to_string()),
+    }
+}

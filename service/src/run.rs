@@ -1,0 +1,472 @@
+//! What each command does.
+use crate::commands::{find, without_prefix, Action, Command, Values, Verb, COMMANDS};
+use crate::conn::{Conn, Follower, Multi, Pause};
+use crate::directory::SEATS;
+use crate::events::{self, Channel, MOST_CHANNELS};
+use crate::leases::{is_name, read_ttl};
+use crate::options::Rights;
+use crate::resp::{is_word, number, Answer, Words};
+use crate::rights::may_make;
+use crate::say;
+use crate::service::Service;
+use crate::sleepers::{must_sleep, no_permission, Sleeper};
+use pidtab::{Call, Reply};
+
+/// No MULTI has more calls.
+const MOST_QUEUED: usize = 1024;
+
+/// What a task that a lease has ended leaves as its status: that of a shell for one that SIGKILL has ended.
+const KILLED: u8 = 137;
+
+/// The longest sleep of WAITCHILD, in ms: a day.
+const LONGEST_SLEEP: u64 = 86_400_000;
+
+impl Service {
+    pub fn run_command(&mut self, conn: &mut Conn, words: Words) {
+        let Some(command) = find(words.at(0)) else {
+            return self.run_unknown(conn, words.at(0));
+        };
+        let is_end =
+            command.action == Action::Call(Verb::Exec) && words.len() == 1 && without_prefix(words.at(0)).is_none();
+        if is_end {
+            return self.end_multi(conn);
+        }
+        let Some(values) = command.read(words) else {
+            return self.misused(conn, command);
+        };
+        if conn.multi.is_some() && !command.is_call() && !is_of_multi(command.action) {
+            fail_multi(conn);
+            return conn.out.line("-ERR only calls may come in a MULTI");
+        }
+        if !conn.channels.is_empty() && !is_of_subscriber(command.action) {
+            return conn.out.line("-ERR only (P)SUBSCRIBE / (P)UNSUBSCRIBE / PING / QUIT are allowed in this context");
+        }
+        match command.action {
+            Action::Call(verb) => self.run_call(conn, verb.call(&values), verb.asks()),
+            Action::Line => self.run_line(conn, command, words.from(1)),
+            Action::WaitChild => self.run_wait_child(conn, command, &values, words),
+            Action::Stat => self.run_stat(conn, &values),
+            _ => self.run_other(conn, command, words),
+        }
+    }
+
+    /// A browser that is sent here by a page ends.
+    fn run_unknown(&mut self, conn: &mut Conn, word: &[u8]) {
+        conn.ends = is_word(word, "POST") || is_word(word, "HOST:");
+        self.figures.faults += 1;
+        fail_multi(conn);
+        say::unknown(&mut conn.out, word);
+    }
+
+    fn misused(&mut self, conn: &mut Conn, command: &Command) {
+        self.figures.faults += 1;
+        fail_multi(conn);
+        say::syntax(&mut conn.out, command);
+    }
+
+    /// A call, or a query that is not recorded.
+    fn run_call(&mut self, conn: &mut Conn, call: Call, asks: bool) {
+        if conn.multi.is_some() {
+            return queue_call(conn, call, asks);
+        }
+        if asks {
+            return match self.engine.ask(call) {
+                Ok(reply) => say::reply(&mut conn.out, &reply),
+                Err(error) => say::error(&mut conn.out, &error),
+            };
+        }
+        self.make(conn, call);
+    }
+
+    /// Makes the call, if the client may.
+    fn make(&mut self, conn: &mut Conn, call: Call) {
+        if let Some(why) = self.refusal(conn.rights, Some(call)) {
+            return conn.out.line(&why);
+        }
+        match self.engine.make(conn.seat, call) {
+            Ok(reply) => {
+                self.figures.calls += 1;
+                self.figures.refused += u64::from(matches!(reply, Reply::Refused { .. }));
+                if let (Reply::Forked(child), Some(key)) = (&reply, &conn.lease) {
+                    self.leases.bind(key, child.root, self.engine.made);
+                }
+                say::reply(&mut conn.out, &reply);
+            }
+            Err(why) => say::refused(&mut conn.out, &why),
+        }
+    }
+
+    /// Why the client may not make the call, or what changes the service, if he may not.
+    fn refusal(&mut self, rights: Rights, call: Option<Call>) -> Option<String> {
+        if let Some(leader) = &self.leader {
+            return Some(format!("-READONLY this follows {}: call there, or say TAKEOVER", leader.path.display()));
+        }
+        let may = match call {
+            Some(call) => may_make(&mut self.engine, rights, call),
+            None => rights == Rights::All,
+        };
+        (!may).then(|| no_permission(rights).to_owned())
+    }
+
+    /// A line of the script language: each is recorded, the queries too.
+    fn run_line(&mut self, conn: &mut Conn, line: &Command, words: Words) {
+        let named = find(words.at(0)).filter(|_| without_prefix(words.at(0)).is_none());
+        let Some((command, verb)) = named.and_then(|it| Some((it, verb_of(it)?))) else {
+            return self.misused(conn, line);
+        };
+        match command.read(words) {
+            Some(values) => self.run_call(conn, verb.call(&values), false),
+            None => self.misused(conn, command),
+        }
+    }
+
+    fn run_wait_child(&mut self, conn: &mut Conn, command: &Command, values: &Values, words: Words) {
+        let (caller, which) = (values.caller, values.which);
+        let Ok(timeout) = read_timeout(words) else { return self.misused(conn, command) };
+        let call = Call::Wait { caller, which };
+        if self.leader.is_none()
+            && may_make(&mut self.engine, conn.rights, call)
+            && must_sleep(&mut self.engine, caller, which)
+        {
+            let (token, deadline) = (conn.token, timeout.map(|it| self.now + it));
+            conn.pause = Pause::Sleeps;
+            return self.sleepers.add(Sleeper { token, caller, which, deadline });
+        }
+        self.make(conn, call);
+    }
+
+    fn run_stat(&mut self, conn: &mut Conn, values: &Values) {
+        match self.engine.stat(values.caller, values.number) {
+            Ok(task) => say::stat(&mut conn.out, &task),
+            Err(error) => say::error(&mut conn.out, &error),
+        }
+    }
+
+    /// What a service needs besides, and what is for the libraries of clients.
+    fn run_other(&mut self, conn: &mut Conn, command: &Command, words: Words) {
+        match command.action {
+            Action::Multi if conn.multi.is_some() => conn.out.line("-ERR MULTI calls can not be nested"),
+            Action::Multi => {
+                conn.multi = Some(Multi::default());
+                conn.out.ok();
+            }
+            Action::Discard => match conn.multi.take() {
+                Some(_) => conn.out.ok(),
+                None => conn.out.line("-ERR DISCARD without MULTI"),
+            },
+            Action::List => self.want_text(conn, false),
+            Action::Dump => self.want_text(conn, true),
+            Action::Position => conn.out.number(self.engine.made),
+            Action::Ping => ping(conn, words),
+            Action::Echo => conn.out.bulk(words.at(1)),
+            Action::Info => {
+                let text = crate::info::text(self);
+                conn.out.bulk(text.as_bytes());
+            }
+            Action::Help => say::help(&mut conn.out),
+            Action::Command => run_command_of_commands(conn, words),
+            Action::Config => conn.out.array(0),
+            Action::Select => conn.out.ok(),
+            Action::Auth => conn.out.line(
+                "-ERR AUTH called without any password configured: the socket's mode and --allow say who may connect",
+            ),
+            Action::Quit => {
+                conn.ends = true;
+                conn.out.ok();
+            }
+            _ => self.run_on_service(conn, command, words),
+        }
+    }
+
+    fn run_on_service(&mut self, conn: &mut Conn, command: &Command, words: Words) {
+        match command.action {
+            Action::Seat => self.run_seat(conn, command, words),
+            Action::Client => self.run_client(conn, command, words),
+            Action::Hello => self.run_hello(conn, words),
+            Action::Subscribe => self.run_subscribe(conn, words.from(1)),
+            Action::Unsubscribe => self.run_unsubscribe(conn, words.from(1)),
+            Action::Lease => self.run_lease(conn, command, words),
+            Action::Leases => self.run_leases(conn),
+            Action::Release => self.run_release(conn, words.at(1)),
+            Action::Save => self.run_save(conn),
+            Action::Follow => self.run_follow(conn),
+            Action::Takeover => self.run_takeover(conn, command, words),
+            Action::Shutdown => self.run_shutdown(conn),
+            _ => self.misused(conn, command),
+        }
+    }
+
+    /// EXEC with no caller ends a MULTI; EXEC C is execve(2). The calls come together, and no other client's between.
+    fn end_multi(&mut self, conn: &mut Conn) {
+        let Some(multi) = conn.multi.take() else {
+            return conn.out.line("-ERR EXEC without MULTI");
+        };
+        if multi.has_failed {
+            return conn.out.line("-EXECABORT Transaction discarded because of previous errors.");
+        }
+        conn.out.array(multi.calls.len());
+        for (call, asks) in multi.calls {
+            self.run_call(conn, call, asks);
+        }
+    }
+
+    fn run_seat(&mut self, conn: &mut Conn, command: &Command, words: Words) {
+        if words.len() == 2 {
+            let Some(seat) = number(words.at(1), u64::from(SEATS) - 1) else { return self.misused(conn, command) };
+            self.figures.seated[conn.seat as usize] -= 1;
+            conn.seat = seat as u32;
+            self.figures.seated[conn.seat as usize] += 1;
+        }
+        conn.out.number(u64::from(conn.seat));
+    }
+
+    fn run_client(&mut self, conn: &mut Conn, command: &Command, words: Words) {
+        match words.at(1).to_ascii_uppercase().as_slice() {
+            b"ID" => conn.out.number(conn.id),
+            b"SETINFO" | b"SETNAME" => conn.out.ok(),
+            b"GETNAME" => conn.out.line("$-1"),
+            _ => self.misused(conn, command),
+        }
+    }
+
+    fn run_hello(&mut self, conn: &mut Conn, words: Words) {
+        if words.len() > 1 && words.at(1) != b"2" {
+            return conn.out.line("-NOPROTO unsupported protocol version");
+        }
+        conn.out.array(8);
+        for (name, value) in [("server", "pidtabd"), ("version", env!("CARGO_PKG_VERSION"))] {
+            conn.out.bulk(name.as_bytes());
+            conn.out.bulk(value.as_bytes());
+        }
+        for (name, value) in [("proto", 2), ("id", conn.id)] {
+            conn.out.bulk(name.as_bytes());
+            conn.out.number(value);
+        }
+    }
+
+    fn run_subscribe(&mut self, conn: &mut Conn, names: Words) {
+        for place in 0..names.len() {
+            let name = names.at(place);
+            let Some(channel) = Channel::read(name) else {
+                conn.out.line("-ERR a channel is exit, fork or fall, alone or with :space:ID or :control:ID behind");
+                continue;
+            };
+            if conn.channels.len() == MOST_CHANNELS {
+                conn.out.line("-ERR too many channels");
+                continue;
+            }
+            if !conn.channels.contains(&channel) {
+                conn.channels.push(channel);
+            }
+            events::say(&mut conn.out, "subscribe", Some(name));
+            conn.out.number(conn.channels.len() as u64);
+            self.engine.book.is_watched = true;
+        }
+    }
+
+    fn run_unsubscribe(&mut self, conn: &mut Conn, names: Words) {
+        let named: Vec<Vec<u8>> = (0..names.len()).map(|it| names.at(it).to_vec()).collect();
+        let all = conn.channels.iter().map(|it| it.name.clone()).collect();
+        let those: Vec<Vec<u8>> = if named.is_empty() { all } else { named };
+        for name in &those {
+            conn.channels.retain(|it| it.name != *name);
+            events::say(&mut conn.out, "unsubscribe", Some(name));
+            conn.out.number(conn.channels.len() as u64);
+        }
+        if those.is_empty() {
+            events::say(&mut conn.out, "unsubscribe", None);
+            conn.out.number(0);
+        }
+    }
+
+    /// What this connection forks from now on is bound to the lease.
+    fn run_lease(&mut self, conn: &mut Conn, command: &Command, words: Words) {
+        let (name, ttl) = (words.at(1), read_ttl(words.at(2)));
+        let Some(ttl) = ttl.filter(|_| is_name(name)) else { return self.misused(conn, command) };
+        if let Some(why) = self.refusal_of_lease(conn.rights) {
+            return conn.out.line(&why);
+        }
+        if let Some(before) = conn.lease.take() {
+            self.leases.let_go(&before, self.now);
+        }
+        let key = (conn.user, name.to_vec());
+        self.leases.hold(&key, ttl);
+        conn.lease = Some(key);
+        self.engine.book.tells_gone = true;
+        conn.out.ok();
+    }
+
+    /// Who may make calls may bind those that he makes.
+    fn refusal_of_lease(&mut self, rights: Rights) -> Option<String> {
+        let rights = if let Rights::Below(_) = rights { Rights::All } else { rights };
+        self.refusal(rights, None)
+    }
+
+    fn run_leases(&mut self, conn: &mut Conn) {
+        let user = conn.user;
+        let those: Vec<_> = self.leases.all.iter().filter(|it| it.0 .0 == user || conn.rights == Rights::All).collect();
+        conn.out.array(those.len());
+        for ((_, name), lease) in those {
+            conn.out.array(4);
+            conn.out.bulk(name);
+            conn.out.number(lease.ttl);
+            conn.out.number(lease.holders as u64);
+            conn.out.array(lease.tasks.len());
+            lease.tasks.keys().for_each(|it| conn.out.number(u64::from(*it)));
+        }
+    }
+
+    fn run_release(&mut self, conn: &mut Conn, name: &[u8]) {
+        if let Some(why) = self.refusal_of_lease(conn.rights) {
+            return conn.out.line(&why);
+        }
+        let key = (conn.user, name.to_vec());
+        let was_there = self.leases.release(&key);
+        if conn.lease.as_ref() == Some(&key) {
+            conn.lease = None;
+        }
+        conn.out.number(u64::from(was_there));
+    }
+
+    fn run_save(&mut self, conn: &mut Conn) {
+        if conn.rights != Rights::All {
+            return conn.out.line(no_permission(conn.rights));
+        }
+        match &mut self.engine.log {
+            None => conn.out.line("-ERR nothing is kept: there is no --dir"),
+            Some(_) if self.engine.is_compacting => conn.out.line("-BUSY a snapshot is in work"),
+            Some(log) => {
+                log.want_turn();
+                conn.out.line("+Background saving started");
+            }
+        }
+    }
+
+    /// The text, then the checksum to go on from, then blocks. A follower may only listen then.
+    fn run_follow(&mut self, conn: &mut Conn) {
+        if conn.rights != Rights::All && conn.rights != Rights::Asks {
+            return conn.out.line(no_permission(conn.rights));
+        }
+        if conn.follower.is_some() {
+            return conn.out.line("-ERR this connection follows already");
+        }
+        self.want_text(conn, true);
+        if matches!(conn.pause, Pause::Awaits { .. }) {
+            conn.follower = Some(Follower::default());
+            self.followers += 1;
+        }
+    }
+
+    fn run_takeover(&mut self, conn: &mut Conn, command: &Command, words: Words) {
+        let forced = is_word(words.at(1), "FORCE");
+        if words.len() == 2 && !forced {
+            return self.misused(conn, command);
+        }
+        if conn.rights != Rights::All {
+            return conn.out.line(no_permission(conn.rights));
+        }
+        match &self.leader {
+            None => conn.out.line("-ERR this follows nobody"),
+            Some(it) if !it.has_text => conn.out.line("-ERR this has not got the leader's table yet"),
+            Some(it) if it.is_up() && !forced => {
+                conn.out.line("-ERR the leader still serves: end it first, or say TAKEOVER FORCE")
+            }
+            Some(_) => {
+                self.leader = None;
+                conn.out.ok();
+            }
+        }
+    }
+
+    fn run_shutdown(&mut self, conn: &mut Conn) {
+        if conn.rights != Rights::All {
+            return conn.out.line(no_permission(conn.rights));
+        }
+        self.is_ending = true;
+        conn.ends = true;
+    }
+
+    /// Ends a task of a lease.
+    pub fn kill(&mut self, task: u32) {
+        if self.engine.book.kin(task).is_none_or(|it| it.is_zombie) {
+            return;
+        }
+        let call = Call::Exit { caller: task, status: KILLED };
+        if self.engine.make(0, call).is_ok() {
+            self.figures.calls += 1;
+        }
+    }
+}
+
+fn is_of_multi(action: Action) -> bool {
+    matches!(action, Action::Multi | Action::Discard | Action::Quit)
+}
+
+fn is_of_subscriber(action: Action) -> bool {
+    matches!(action, Action::Subscribe | Action::Unsubscribe | Action::Ping | Action::Quit)
+}
+
+fn verb_of(command: &Command) -> Option<Verb> {
+    match command.action {
+        Action::Call(verb) => Some(verb),
+        _ => None,
+    }
+}
+
+fn fail_multi(conn: &mut Conn) {
+    if let Some(multi) = &mut conn.multi {
+        multi.has_failed = true;
+    }
+}
+
+fn queue_call(conn: &mut Conn, call: Call, asks: bool) {
+    let Some(multi) = &mut conn.multi else { return };
+    if multi.calls.len() == MOST_QUEUED {
+        multi.has_failed = true;
+        return conn.out.line("-OOM too-many-queued");
+    }
+    multi.calls.push((call, asks));
+    conn.out.line("+QUEUED");
+}
+
+/// Of a subscriber the answer has another form, as Redis has it.
+fn ping(conn: &mut Conn, words: Words) {
+    if !conn.channels.is_empty() {
+        conn.out.array(2);
+        conn.out.bulk(b"pong");
+        return conn.out.bulk(words.at(1));
+    }
+    match words.len() {
+        1 => conn.out.line("+PONG"),
+        _ => conn.out.bulk(words.at(1)),
+    }
+}
+
+fn run_command_of_commands(conn: &mut Conn, words: Words) {
+    match words.at(1).to_ascii_uppercase().as_slice() {
+        b"COUNT" => conn.out.number(COMMANDS.len() as u64),
+        b"DOCS" => say::command_docs(&mut conn.out),
+        b"LIST" => {
+            conn.out.array(COMMANDS.len());
+            COMMANDS.iter().for_each(|it| conn.out.bulk(it.name.as_bytes()));
+        }
+        b"INFO" | b"" => say::commands(&mut conn.out),
+        _ => conn.out.array(0),
+    }
+}
+
+/// `TIMEOUT MS` behind the rest; none: for ever.
+fn read_timeout(words: Words) -> Result<Option<u64>, ()> {
+    let count = words.len();
+    let place = if is_word(words.at(2), "PID") || is_word(words.at(2), "GROUP") { 4 } else { 3 };
+    if count == place {
+        return Ok(None);
+    }
+    let is_timeout = count == place + 2 && is_word(words.at(place), "TIMEOUT");
+    number(words.at(place + 1), LONGEST_SLEEP).filter(|_| is_timeout).map(Some).ok_or(())
+}
+
+/// The identifier of this process, for INFO.
+pub fn own_pid() -> u32 {
+    std::process::id()
+}

@@ -1,0 +1,666 @@
+//! The sockets, in one thread. A turn: what has come is read and done, what was recorded is written in one go, and then the answers go out.
+use crate::conn::{Conn, Pause, MUCH_OUTPUT};
+use crate::directory::Fault;
+use crate::engine::{Engine, Text};
+use crate::leader::Leader;
+use crate::leases::Leases;
+use crate::options::{Options, Rights};
+use crate::replica::Report;
+use crate::resp::{Answer, Reader, LONGEST_REQUEST};
+use crate::sleepers::Sleepers;
+use mio::event::Event;
+use mio::net::{UnixListener, UnixStream};
+use mio::{Events, Interest, Poll, Token, Waker};
+use nix::sys::socket::{getsockopt, sockopt::PeerCredentials};
+use std::fs::File;
+use std::io::{self, Write};
+use std::os::fd::AsRawFd;
+use std::sync::{Arc, Weak};
+use std::time::{Duration, Instant};
+
+/// So many bytes are read of a client in a turn.
+const READ_AT_ONCE: usize = 16 << 10;
+
+/// The first tokens are not those of clients.
+const SIGNAL: Token = Token(0);
+const WAKE: Token = Token(1);
+pub const LEADER: Token = Token(2);
+const LISTENERS: usize = 3;
+const CLIENTS: usize = 16;
+
+/// So often it is looked at the clock, in ms.
+const TICK: u64 = 100;
+
+/// A table with so few tasks is copied in the loop, some 0.2 ms, as no other client notices.
+const FEW_TASKS: usize = 200;
+
+/// A follower that is so many bytes behind is closed.
+const FAR_BEHIND: usize = 256 << 20;
+
+/// So long a disk that is full is waited for at the end.
+const LAST_WAIT: Duration = Duration::from_secs(5);
+
+#[derive(Default)]
+pub struct Figures {
+    pub accepted: u64,
+    pub turned_away: u64,
+    pub calls: u64,
+    pub refused: u64,
+    pub faults: u64,
+    pub stalled: u64,
+    pub clients: usize,
+    pub seated: [usize; crate::directory::SEATS as usize],
+}
+
+pub struct Service {
+    pub options: Options,
+    pub engine: Engine,
+    pub figures: Figures,
+    pub leases: Leases,
+    pub sleepers: Sleepers,
+    pub leader: Option<Leader>,
+    pub is_ending: bool,
+    pub now: u64,
+    started: Instant,
+    poll: Poll,
+    waker: Arc<Waker>,
+    signals: UnixStream,
+    listeners: Vec<UnixListener>,
+    is_calling: bool,
+    conns: Vec<Option<Box<Conn>>>,
+    free: Vec<usize>,
+    freed: Vec<usize>,
+    ready: Vec<usize>,
+    touched: Vec<usize>,
+    is_stuck: bool,
+    next_id: u64,
+    ticked: u64,
+    input: Vec<u8>,
+    pub reader: Reader,
+    spare: Option<File>,
+    texts: Texts,
+    pub followers: usize,
+}
+
+/// The last text of each kind, and all that are being sent.
+#[derive(Default)]
+struct Texts {
+    last: [Option<(u64, Text)>; 2],
+    alive: Vec<Weak<Vec<u8>>>,
+    /// Whether one is wanted that was not ordered yet.
+    wanted: [bool; 2],
+}
+
+impl Texts {
+    /// Those that are not of now.
+    fn forget(&mut self, made: u64) {
+        for last in &mut self.last {
+            last.take_if(|it| it.0 != made);
+        }
+    }
+
+    fn bytes(&mut self) -> usize {
+        self.alive.retain(|it| it.strong_count() > 0);
+        self.alive.iter().filter_map(|it| it.upgrade()).map(|it| it.len()).sum()
+    }
+}
+
+/// What wakes the loop from another thread.
+pub fn wake_by(waker: &Arc<Waker>) -> impl Fn() + Clone + Send + 'static {
+    let waker = Arc::clone(waker);
+    move || drop(waker.wake())
+}
+
+impl Service {
+    /// The signals come as bytes of that stream.
+    pub fn begin(options: Options, listeners: Vec<UnixListener>, signals: UnixStream) -> Result<Service, Fault> {
+        let fault = |error: io::Error| format!("the loop cannot begin: {error}");
+        let poll = Poll::new().map_err(fault)?;
+        let waker = Arc::new(Waker::new(poll.registry(), WAKE).map_err(fault)?);
+        let engine = Engine::open(options.keep.clone(), wake_by(&waker))?;
+        let leases = read_leases(&engine)?;
+        let mut service = Service {
+            engine,
+            figures: Figures::default(),
+            leases,
+            sleepers: Sleepers::default(),
+            leader: options.follow.clone().map(Leader::of),
+            is_ending: false,
+            now: 0,
+            started: Instant::now(),
+            poll,
+            waker,
+            signals,
+            listeners,
+            is_calling: false,
+            conns: Vec::new(),
+            free: Vec::new(),
+            freed: Vec::new(),
+            ready: Vec::new(),
+            touched: Vec::new(),
+            is_stuck: false,
+            next_id: 1,
+            ticked: 0,
+            input: vec![0; LONGEST_REQUEST + READ_AT_ONCE],
+            reader: Reader::default(),
+            spare: File::open("/dev/null").ok(),
+            texts: Texts::default(),
+            followers: 0,
+            options,
+        };
+        service.watch().map_err(fault)?;
+        service.engine.book.tells_gone = !service.leases.all.is_empty();
+        Ok(service)
+    }
+
+    fn watch(&mut self) -> io::Result<()> {
+        let registry = self.poll.registry();
+        registry.register(&mut self.signals, SIGNAL, Interest::READABLE)?;
+        for (place, listener) in self.listeners.iter_mut().enumerate() {
+            registry.register(listener, Token(LISTENERS + place), Interest::READABLE)?;
+        }
+        Ok(())
+    }
+
+    /// Serves until a signal or SHUTDOWN.
+    pub fn run(&mut self) -> Result<(), Fault> {
+        let mut events = Events::with_capacity(256);
+        while !self.is_ending {
+            self.turn(&mut events)?;
+        }
+        self.finish()
+    }
+
+    fn turn(&mut self, events: &mut Events) -> Result<(), Fault> {
+        let is_busy = !self.is_stuck && (self.is_calling || !self.ready.is_empty());
+        let wait = if is_busy { 0 } else { self.wait() };
+        match self.poll.poll(events, Some(Duration::from_millis(wait))) {
+            Err(error) if error.kind() != io::ErrorKind::Interrupted => {
+                return Err(format!("the loop cannot wait: {error}"))
+            }
+            _ => {}
+        }
+        self.now = self.started.elapsed().as_millis() as u64;
+        for event in events.iter() {
+            self.take_event(event);
+        }
+        self.tick()?;
+        if !self.is_stuck {
+            self.work();
+        }
+        self.settle()?;
+        if self.is_calling {
+            self.accept_some();
+        }
+        self.free.append(&mut self.freed);
+        Ok(())
+    }
+
+    /// How long nothing is due, in ms.
+    fn wait(&self) -> u64 {
+        let next = self.sleepers.next_deadline().map_or(TICK, |it| it.saturating_sub(self.now));
+        next.min(TICK)
+    }
+
+    fn take_event(&mut self, event: &Event) {
+        match event.token() {
+            SIGNAL => self.is_ending = true,
+            WAKE => {}
+            LEADER => {
+                if let Some(leader) = &mut self.leader {
+                    leader.is_stirred = true;
+                }
+            }
+            Token(it) if it < CLIENTS => self.is_calling = true,
+            Token(it) => self.take_client_event(it - CLIENTS, event),
+        }
+    }
+
+    fn take_client_event(&mut self, token: usize, event: &Event) {
+        let Some(conn) = self.conns.get_mut(token).and_then(|it| it.as_mut()) else { return };
+        conn.is_readable |= event.is_readable() || event.is_read_closed();
+        conn.is_half |= event.is_read_closed();
+        conn.is_hung |= event.is_error() || event.is_write_closed();
+        if event.is_writable() && conn.waiting() > 0 {
+            self.touch(token);
+        }
+        self.queue(token);
+    }
+
+    /// The client is looked at in this turn, or the next.
+    pub fn queue(&mut self, token: usize) {
+        if let Some(conn) = self.conns[token].as_mut().filter(|it| !it.is_queued) {
+            conn.is_queued = true;
+            self.ready.push(token);
+        }
+    }
+
+    /// It is sent what it has.
+    pub fn touch(&mut self, token: usize) {
+        if let Some(conn) = self.conns[token].as_mut().filter(|it| !it.is_touched) {
+            conn.is_touched = true;
+            self.touched.push(token);
+        }
+    }
+
+    pub fn conn(&mut self, token: usize) -> Option<&mut Conn> {
+        self.conns.get_mut(token)?.as_deref_mut()
+    }
+
+    /// Each client that is ready is read from once, and its requests are done.
+    fn work(&mut self) {
+        for token in std::mem::take(&mut self.ready) {
+            let Some(mut conn) = self.conns[token].take() else { continue };
+            conn.is_queued = false;
+            self.serve(&mut conn);
+            let goes_on = conn.is_free() && conn.is_readable && !conn.is_gone;
+            let is_touched = conn.waiting() > 0 || conn.ends || conn.is_gone;
+            self.conns[token] = Some(conn);
+            if goes_on {
+                self.queue(token);
+            }
+            if is_touched {
+                self.touch(token);
+            }
+        }
+    }
+
+    fn serve(&mut self, conn: &mut Conn) {
+        // Who is gone gets no answer, and so makes no call by WAITCHILD; what he has sent before is done.
+        conn.is_gone |= conn.is_hung && !matches!(conn.pause, Pause::None);
+        if conn.is_gone || !conn.is_free() {
+            return;
+        }
+        let mut input = std::mem::take(&mut self.input);
+        let mut have = conn.rest.len();
+        input[..have].copy_from_slice(&conn.rest);
+        if conn.is_readable {
+            let room = (have + READ_AT_ONCE).min(input.len());
+            have += conn.read(&mut input[have..room]);
+        }
+        let had_ended = std::mem::replace(&mut conn.ends, false);
+        let used = self.run_requests(conn, &input[..have]);
+        conn.rest.clear();
+        conn.rest.extend_from_slice(&input[used..have]);
+        conn.rest.shrink_to(READ_AT_ONCE);
+        // Who says no more still gets the answers to what he has said, also behind a pause.
+        conn.is_readable |= had_ended && !conn.is_free();
+        conn.ends |= had_ended && conn.is_free();
+        self.input = input;
+    }
+
+    /// The requests of the bytes, while the client is free: how many bytes were taken.
+    fn run_requests(&mut self, conn: &mut Conn, bytes: &[u8]) -> usize {
+        let mut reader = std::mem::take(&mut self.reader);
+        let mut at = 0;
+        while at < bytes.len() && conn.is_free() {
+            match reader.take(&bytes[at..]) {
+                Ok(None) => break,
+                Ok(Some(size)) => {
+                    let words = reader.words(&bytes[at..]);
+                    if words.len() > 0 {
+                        self.run_command(conn, words);
+                    }
+                    at += size;
+                }
+                Err(fault) => {
+                    conn.out.line(&format!("-ERR Protocol error: {fault}"));
+                    self.figures.faults += 1;
+                    (conn.ends, conn.is_readable) = (true, false);
+                    at = bytes.len();
+                }
+            }
+        }
+        self.reader = reader;
+        if conn.ends {
+            return bytes.len();
+        }
+        at
+    }
+
+    /// What was recorded is written, and the answers go out. Where the disk does not take it, nobody is told anything.
+    fn settle(&mut self) -> Result<(), Fault> {
+        self.wake_sleepers();
+        self.free_gone();
+        self.publish();
+        self.is_stuck = !self.engine.commit()? || !self.leases.commit()?;
+        if self.is_stuck {
+            return Ok(());
+        }
+        self.stream();
+        self.order_texts();
+        for token in std::mem::take(&mut self.touched) {
+            self.send_to(token);
+        }
+        Ok(())
+    }
+
+    fn send_to(&mut self, token: usize) {
+        let now = self.now;
+        let Some(conn) = self.conns[token].as_deref_mut() else { return };
+        conn.is_touched = false;
+        let goes_on = conn.send(now);
+        watch_output(self.poll.registry(), conn);
+        if conn.is_gone || (conn.ends && conn.unsent() == 0 && !goes_on) {
+            return self.end(token);
+        }
+        let is_free = conn.is_free() && (conn.is_readable || !conn.rest.is_empty());
+        if goes_on {
+            self.touch(token);
+        }
+        if goes_on || is_free {
+            self.queue(token);
+        }
+    }
+
+    /// The client is gone: its place is free in the next turn, since events of it may be in hand.
+    fn end(&mut self, token: usize) {
+        let Some(mut conn) = self.conns[token].take() else { return };
+        let _ = self.poll.registry().deregister(&mut conn.socket);
+        self.freed.push(token);
+        self.sleepers.forget(token);
+        self.figures.clients -= 1;
+        self.figures.seated[conn.seat as usize] -= 1;
+        self.followers -= usize::from(conn.follower.is_some());
+        if let Some(key) = &conn.lease {
+            self.leases.let_go(key, self.now);
+        }
+    }
+
+    /// Some at a time. Where there is no descriptor left, the spare one takes a client and turns it away, or the loop would spin.
+    fn accept_some(&mut self) {
+        self.is_calling = false;
+        for place in 0..self.listeners.len() {
+            let was_last = (0..64).any(|_| !self.accept(place));
+            self.is_calling |= !was_last;
+        }
+    }
+
+    /// Whether there may be more.
+    fn accept(&mut self, place: usize) -> bool {
+        match self.listeners[place].accept() {
+            Ok((socket, _)) => self.adopt(socket),
+            Err(error) if is_no_descriptor(&error) => return self.turn_one_away(place),
+            Err(error) => return error.kind() == io::ErrorKind::Interrupted,
+        }
+        true
+    }
+
+    /// Whether there was one: without a descriptor an accept fails also where nobody waits.
+    fn turn_one_away(&mut self, place: usize) -> bool {
+        self.spare = None;
+        let caller = self.listeners[place].accept();
+        if let Ok((socket, _)) = &caller {
+            self.turn_away(socket, "-ERR max number of clients reached\r\n");
+        }
+        let was_there = caller.is_ok();
+        drop(caller);
+        self.spare = File::open("/dev/null").ok();
+        was_there
+    }
+
+    fn turn_away(&mut self, mut socket: &UnixStream, why: &str) {
+        self.figures.turned_away += 1;
+        let _ = socket.write(why.as_bytes());
+    }
+
+    /// A new client, if there is room and he may come.
+    fn adopt(&mut self, mut socket: UnixStream) {
+        if self.figures.clients >= self.options.most_clients {
+            return self.turn_away(&socket, "-ERR max number of clients reached\r\n");
+        }
+        let user = getsockopt(socket.as_raw_fd(), PeerCredentials).map(|it| it.uid());
+        let Some((user, rights)) = user.ok().and_then(|it| Some((it, self.rights_of(it)?))) else {
+            return self.turn_away(&socket, "-NOPERM this user may not connect\r\n");
+        };
+        let token = self.free.pop().unwrap_or(self.conns.len());
+        if self.poll.registry().register(&mut socket, Token(CLIENTS + token), Interest::READABLE).is_err() {
+            self.freed.push(token);
+            return;
+        }
+        let seat = self.emptiest_seat();
+        let conn = Box::new(Conn::new(socket, token, self.next_id, seat, user, rights, self.now));
+        self.next_id += 1;
+        self.figures.seated[seat as usize] += 1;
+        self.figures.clients += 1;
+        self.figures.accepted += 1;
+        match self.conns.get_mut(token) {
+            Some(place) => *place = Some(conn),
+            None => self.conns.push(Some(conn)),
+        }
+    }
+
+    fn rights_of(&self, user: u32) -> Option<Rights> {
+        let allowed = &self.options.allowed;
+        let found = allowed.iter().find(|it| it.0 == user).map(|it| it.1);
+        found.or(allowed.is_empty().then_some(Rights::All))
+    }
+
+    fn emptiest_seat(&self) -> u32 {
+        let seats = self.figures.seated.iter().enumerate();
+        seats.min_by_key(|it| it.1).map_or(0, |it| it.0 as u32)
+    }
+
+    /// What is due by the clock, and what other threads have done.
+    fn tick(&mut self) -> Result<(), Fault> {
+        while let Some(report) = self.engine.take_report() {
+            if let Report::Text { is_dump, ordinal, text } = report {
+                self.deliver(is_dump, ordinal, text);
+            }
+        }
+        self.follow_leader()?;
+        self.engine.tick()?;
+        if self.now - self.ticked >= TICK {
+            self.ticked = self.now;
+            self.texts.forget(self.engine.made);
+            self.end_leases();
+            self.close_stalled();
+        }
+        Ok(())
+    }
+
+    /// Who has not taken an answer for long is closed; who is silent is not.
+    fn close_stalled(&mut self) {
+        let (now, stall) = (self.now, self.options.stall * 1000);
+        let mut stalled = Vec::new();
+        for conn in self.conns.iter_mut().flatten() {
+            if conn.unsent() == 0 || self.is_stuck {
+                conn.moved = now;
+            } else if now - conn.moved > stall || conn.waiting() > FAR_BEHIND {
+                stalled.push(conn.token);
+            }
+        }
+        self.figures.stalled += stalled.len() as u64;
+        stalled.into_iter().for_each(|it| self.end(it));
+    }
+
+    /// The tasks of leases whose time is over end, as if killed.
+    fn end_leases(&mut self) {
+        if self.leader.is_some() || self.is_stuck {
+            return;
+        }
+        for (key, tasks) in self.leases.ended(self.now) {
+            for task in tasks {
+                self.kill(task);
+            }
+            self.leases.release(&key);
+        }
+    }
+
+    fn free_gone(&mut self) {
+        for task in std::mem::take(&mut self.engine.book.gone) {
+            self.leases.free(task);
+        }
+    }
+
+    /// Events go to those who have subscribed.
+    fn publish(&mut self) {
+        let events = std::mem::take(&mut self.engine.book.events);
+        if events.is_empty() {
+            return;
+        }
+        let mut told = Vec::new();
+        // Events are kept while somebody wants them.
+        self.engine.book.is_watched = self.conns.iter().flatten().any(|it| !it.channels.is_empty());
+        for conn in self.conns.iter_mut().flatten().filter(|it| !it.channels.is_empty()) {
+            let before = conn.out.len();
+            events.iter().for_each(|it| tell(conn, it));
+            if conn.out.len() > before {
+                told.push(conn.token);
+            }
+        }
+        told.into_iter().for_each(|it| self.touch(it));
+    }
+
+    /// Followers get what was written in this turn, and the head of a new log.
+    fn stream(&mut self) {
+        let (blocks, head) = self.engine.take_written();
+        if self.followers == 0 {
+            return self.engine.give_back(blocks);
+        }
+        let mut told = Vec::new();
+        for conn in self.conns.iter_mut().flatten().filter(|it| it.follower.is_some()) {
+            let parts = [&blocks[..], &head[..]];
+            parts.iter().filter(|it| !it.is_empty()).for_each(|it| conn.stream(it));
+            told.push(conn.token);
+        }
+        told.into_iter().for_each(|it| self.touch(it));
+        self.engine.give_back(blocks);
+    }
+
+    /// LIST, DUMP and FOLLOW: the text of now. A client waits for it, and nobody else does.
+    pub fn want_text(&mut self, conn: &mut Conn, is_dump: bool) {
+        if self.texts.bytes() > self.options.most_output {
+            return conn.out.line("-BUSY too much output is waiting");
+        }
+        let ordinal = self.engine.made;
+        conn.pause = Pause::Awaits { is_dump, ordinal };
+        self.texts.wanted[usize::from(is_dump)] = true;
+    }
+
+    /// All that was recorded is written: the texts that are wanted are those of now.
+    fn order_texts(&mut self) {
+        for is_dump in [false, true] {
+            if !std::mem::take(&mut self.texts.wanted[usize::from(is_dump)]) {
+                continue;
+            }
+            self.begin_followers(is_dump);
+            let made = self.engine.made;
+            let last = self.texts.last[usize::from(is_dump)].take().filter(|it| it.0 == made);
+            if let Some((ordinal, text)) = last {
+                self.deliver(is_dump, ordinal, Ok(text));
+            } else if self.engine.book.tasks() <= FEW_TASKS {
+                let table = &mut self.engine.table;
+                let text = if is_dump { table.dump() } else { table.list() };
+                let text = text.map(|it| Arc::new(it.into_bytes()));
+                self.deliver(is_dump, made, text.map_err(|error| error.to_string()));
+            } else {
+                self.engine.order_text(is_dump);
+            }
+        }
+    }
+
+    /// A follower gets what is recorded behind its text.
+    fn begin_followers(&mut self, is_dump: bool) {
+        let (sum, ordinal) = (self.engine.sum(), self.engine.made);
+        for conn in self.conns.iter_mut().flatten().filter(|_| is_dump) {
+            if let Some(follower) = conn.follower.as_mut().filter(|it| !it.is_begun) {
+                follower.is_begun = true;
+                conn.pause = Pause::Awaits { is_dump, ordinal };
+                follower.held.bulk(format!("{sum:016x}").as_bytes());
+            }
+        }
+    }
+
+    /// The text goes to those who wait for it. One that was asked for behind its ordinal waits for the next.
+    fn deliver(&mut self, is_dump: bool, ordinal: u64, text: Result<Text, Fault>) {
+        if let Ok(text) = &text {
+            self.texts.alive.push(Arc::downgrade(text));
+            self.texts.last[usize::from(is_dump)] = Some((ordinal, Arc::clone(text)));
+        }
+        let mut told = Vec::new();
+        for conn in self.conns.iter_mut().flatten() {
+            match conn.pause {
+                Pause::Awaits { is_dump: it, ordinal: wanted } if it == is_dump && wanted <= ordinal => {}
+                _ => continue,
+            }
+            match &text {
+                Ok(text) => conn.begin_text(Arc::clone(text)),
+                Err(fault) => {
+                    conn.pause = Pause::None;
+                    conn.out.line(&format!("-ERR no text: {}", fault.replace(['\r', '\n'], " ")));
+                    conn.ends |= conn.follower.is_some();
+                }
+            }
+            told.push(conn.token);
+        }
+        for token in told {
+            self.touch(token);
+            self.queue(token);
+        }
+    }
+
+    pub fn waker(&self) -> &Arc<Waker> {
+        &self.waker
+    }
+
+    pub fn registry(&self) -> &mio::Registry {
+        self.poll.registry()
+    }
+
+    pub fn uptime(&self) -> u64 {
+        self.started.elapsed().as_secs()
+    }
+
+    pub fn is_stuck(&self) -> bool {
+        self.is_stuck
+    }
+
+    /// What was recorded is saved, and its clients are told, if they read. A disk that is full is waited for a while.
+    fn finish(&mut self) -> Result<(), Fault> {
+        let began = Instant::now();
+        self.settle()?;
+        while self.is_stuck && began.elapsed() < LAST_WAIT {
+            std::thread::sleep(Duration::from_millis(TICK));
+            self.settle()?;
+        }
+        self.engine.close()
+    }
+}
+
+/// Whether the socket takes more is asked while it has not taken all: else each answer that is read would wake the loop.
+fn watch_output(registry: &mio::Registry, conn: &mut Conn) {
+    let is_full = conn.unsent() > 0 && !conn.is_gone;
+    if is_full == conn.is_full {
+        return;
+    }
+    let interests = if is_full { Interest::READABLE | Interest::WRITABLE } else { Interest::READABLE };
+    let token = Token(CLIENTS + conn.token);
+    conn.is_gone |= registry.reregister(&mut conn.socket, token, interests).is_err();
+    conn.is_full = is_full;
+}
+
+fn tell(conn: &mut Conn, event: &crate::book::Event) {
+    for channel in conn.channels.iter().filter(|it| it.has(event)) {
+        crate::events::say(&mut conn.out, "message", Some(&channel.name));
+        conn.out.bulk(crate::events::payload(event).as_bytes());
+    }
+}
+
+fn is_no_descriptor(error: &io::Error) -> bool {
+    use nix::errno::Errno;
+    let errnos = [Errno::EMFILE, Errno::ENFILE].map(|it| it as i32);
+    error.raw_os_error().is_some_and(|it| errnos.contains(&it))
+}
+
+fn read_leases(engine: &Engine) -> Result<Leases, Fault> {
+    let path = engine.keep.path.as_ref().map(|it| it.join("leases"));
+    let is_synced = engine.keep.sync == crate::log::Sync::Always;
+    Leases::open(path, is_synced, 0, |task, born| {
+        let kin = engine.book.kin(task);
+        kin.is_some_and(|it| it.born == born || it.born == 0)
+    })
+}
+
+/// A client with more output than that is not read from, so few answers are lost with it.
+const _: () = assert!(MUCH_OUTPUT > READ_AT_ONCE);

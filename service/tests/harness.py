@@ -1,0 +1,197 @@
+"""A daemon in a folder of its own, and a client of RESP2 that shares no code with it."""
+import os
+import pathlib
+import resource
+import shutil
+import signal
+import socket
+import subprocess
+import tempfile
+import time
+import unittest
+
+HERE = pathlib.Path(__file__).resolve().parent
+TOP = HERE.parent.parent
+DAEMON = os.environ.get("PIDTABD", str(HERE.parent / "target/release/pidtabd"))
+PIDTAB = os.environ.get("PIDTAB", str(TOP / "crates/pidtab/out/pidtab"))
+BUILT = pathlib.Path(os.environ.get("SERVICE_TOOLS", str(TOP / "out/service")))
+
+# How much longer than usual the tests take: 1 is some minutes.
+LONG = int(os.environ.get("LONG", "1"))
+
+
+class Refused(Exception):
+    """An answer that begins with a minus."""
+
+
+class Client:
+    """One connection."""
+
+    def __init__(self, path, wait=10.0):
+        end = time.monotonic() + wait
+        while True:
+            self.socket = socket.socket(socket.AF_UNIX)
+            try:
+                self.socket.connect(str(path))
+                break
+            except OSError:
+                self.socket.close()
+                if time.monotonic() > end:
+                    raise
+                time.sleep(0.01)
+        self.socket.settimeout(60)
+        self.bytes = b""
+
+    def close(self):
+        self.socket.close()
+
+    def send(self, *words):
+        """A request as an array of bulk strings."""
+        self.socket.sendall(request(words))
+
+    def line(self):
+        while b"\r\n" not in self.bytes:
+            self._more()
+        line, self.bytes = self.bytes.split(b"\r\n", 1)
+        return line.decode()
+
+    def _more(self):
+        more = self.socket.recv(1 << 20)
+        if not more:
+            raise EOFError
+        self.bytes += more
+
+    def answer(self):
+        """The next answer: a number, a text, a list, nothing for nil, or a Refused."""
+        line = self.line()
+        kind, rest = line[0], line[1:]
+        if kind == "*":
+            return None if rest == "-1" else [self.answer() for _ in range(int(rest))]
+        if kind == "$":
+            return None if rest == "-1" else self._bulk(int(rest))
+        if kind == ":":
+            return int(rest)
+        if kind not in "+-":
+            raise AssertionError(f"no answer: {line!r}")
+        return Refused(rest) if kind == "-" else rest
+
+    def _bulk(self, size):
+        parts, have = [self.bytes], len(self.bytes)
+        while have < size + 2:
+            parts.append(self.socket.recv(1 << 20))
+            have += len(parts[-1])
+            if not parts[-1]:
+                raise EOFError
+        whole = b"".join(parts)
+        self.bytes = whole[size + 2:]
+        return whole[:size].decode()
+
+    def say(self, words):
+        """The answer to one request, of which the words have spaces between; a refusal is raised."""
+        self.send(*words.split())
+        answer = self.answer()
+        if isinstance(answer, Refused):
+            raise answer
+        return answer
+
+
+def request(words):
+    """The bytes of a request."""
+    parts = [word if isinstance(word, bytes) else str(word).encode() for word in words]
+    return b"*%d\r\n" % len(parts) + b"".join(b"$%d\r\n%s\r\n" % (len(part), part) for part in parts)
+
+
+class Daemon:
+    """A process of the daemon in a folder, which may be killed and started again."""
+
+    def __init__(self, folder, *options, kept=True, variables=None):
+        self.folder = pathlib.Path(folder)
+        self.socket, self.kept = self.folder / "socket", self.folder / "kept"
+        self.options = [*(["--dir", str(self.kept)] if kept else []), *options]
+        self.variables = variables or {}
+        self.kept.mkdir(mode=0o700, exist_ok=True)
+        self.process, self.command = None, []
+
+    def start(self, is_up=True):
+        words = [*self.command, DAEMON, "--socket", str(self.socket), *self.options]
+        errors = open(self.folder / "errors", "ab")
+        self.process = subprocess.Popen(words, stderr=errors, env={**os.environ, **self.variables})
+        errors.close()
+        if is_up:
+            self.client().close()
+        return self
+
+    def client(self):
+        end = time.monotonic() + 30
+        while True:
+            try:
+                return Client(self.socket, wait=0)
+            except OSError:
+                if self.process.poll() is not None or time.monotonic() > end:
+                    raise AssertionError(f"the daemon does not serve: {self.said()}") from None
+                time.sleep(0.01)
+
+    def kill(self):
+        self.process.send_signal(signal.SIGKILL)
+        self.process.wait()
+
+    def end(self):
+        """Ends it by SIGTERM: its status."""
+        if self.process and self.process.poll() is None:
+            self.process.terminate()
+        return self.process.wait(timeout=30) if self.process else 0
+
+    def said(self):
+        return (self.folder / "errors").read_text(encoding="utf-8", errors="replace")
+
+    def memory(self):
+        """Resident memory in kB."""
+        status = pathlib.Path(f"/proc/{self.process.pid}/status").read_text(encoding="ascii")
+        return int(status.split("VmRSS:")[1].split()[0])
+
+    def time(self):
+        """Processor seconds."""
+        fields = pathlib.Path(f"/proc/{self.process.pid}/stat").read_text(encoding="ascii").rsplit(")", 1)[1].split()
+        return (int(fields[11]) + int(fields[12])) / os.sysconf("SC_CLK_TCK")
+
+
+class Case(unittest.TestCase):
+    """A test with a folder of its own."""
+
+    def setUp(self):
+        self.folder = pathlib.Path(tempfile.mkdtemp(prefix="pidtabd-"))
+        os.chmod(self.folder, 0o755)
+        self.addCleanup(shutil.rmtree, self.folder, ignore_errors=True)
+        self.daemons = []
+        self.addCleanup(self.end_all)
+
+    def end_all(self):
+        for daemon in self.daemons:
+            if daemon.process and daemon.process.poll() is None:
+                daemon.kill()
+
+    def daemon(self, *options, name="one", **others):
+        """A daemon that is not started yet."""
+        folder = self.folder / name
+        folder.mkdir(exist_ok=True)
+        os.chmod(folder, 0o755)
+        self.daemons.append(Daemon(folder, *options, **others))
+        return self.daemons[-1]
+
+    def refused(self, client, words, front):
+        """The request is refused with an answer that begins so."""
+        with self.assertRaises(Refused) as caught:
+            client.say(words)
+        self.assertTrue(str(caught.exception).startswith(front), f"{words}: {caught.exception}")
+
+
+def need(*commands):
+    """Skips what needs a command that is not there."""
+    for command in commands:
+        if not shutil.which(command):
+            raise unittest.SkipTest(f"no {command}")
+
+
+def files_limit(count):
+    """What a child may have open."""
+    return lambda: resource.setrlimit(resource.RLIMIT_NOFILE, (count, count))

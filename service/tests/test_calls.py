@@ -1,0 +1,447 @@
+"""What each command answers: by docs/SCRIPT.md, by Redis's own words, and by what the service promises besides."""
+import os
+import random
+import re
+import subprocess
+import textwrap
+import threading
+import time
+import unittest
+
+from harness import Case, Client, DAEMON, LONG, PIDTAB, Refused, TOP, need
+
+
+def shown(line, answer):
+    """An answer as `pidtab run` writes it."""
+    verb = line.split(" ")[0]
+    if isinstance(answer, Refused):
+        return "bad line" if str(answer).startswith("ERR syntax") else str(answer)
+    if verb == "fork":
+        return "child {} root {}".format(*answer)
+    if verb == "wait":
+        return "none" if answer is None else "reaped {} {}".format(answer[0], "killed" if answer[1] == "killed" else f"exit {answer[1]}")
+    if verb == "mk":
+        return f"control {answer}"
+    if answer is None:
+        return "end"
+    return " ".join(map(str, answer)) if isinstance(answer, list) else str(answer).lower()
+
+
+def random_line(dice, number):
+    """A line of any of the calls, good or bad. `exit` is rarer, so that there are tasks."""
+    caller = dice.randrange(max(3, min(400, number // 10))) if dice.random() < 0.7 else 1
+    process, group = dice.randrange(12), dice.randrange(-1, 8)
+    control = dice.choice([0, 0, dice.randrange(60), dice.randrange(max(1, number))])
+    limit = dice.choice([0, 5, 30, 4194304, 4194305])
+    lines = [f"fork {caller}"] * 5 + [f"fork {caller} new", f"fork {dice.randrange(6)} new", f"exec {caller}"]
+    lines += [f"wait {caller} any", f"wait {caller} pid {process}", f"wait {caller} own", f"wait {caller} group {process}"]
+    lines += [f"setpgid {caller} {process} {group}", f"setsid {caller}", f"getpid {caller}", f"getppid {caller}"]
+    lines += [f"{verb} {caller} {process}" for verb in ("getpgid", "getsid", "nspid", "join")]
+    lines += [f"next {caller} {kind} {process}" for kind in ("task", "group", "session")]
+    lines += [f"subreaper {caller} on", f"subreaper {caller} off", f"mk {control}", "mk 0", f"rm {control}"]
+    lines += [f"limit {control} {limit}", f"limit {control} max", f"move {caller} {control}", f"count {control}"]
+    lines += [f"fork 0{caller}", f"wait {caller} pid", f"next {caller} tasks 1", f"setpgid {caller} {process} -0", f"limit {control} 4294967296"]
+    if number % 3 == 0:
+        lines += [f"exit {caller} {dice.randrange(256)}", f"exit {caller} 256"]
+    return dice.choice(lines)
+
+
+class Conformance(Case):
+    def test_random_lines(self):
+        """20,000 lines three times, by CALL and by the proved program: each answer the same, and the list."""
+        need(PIDTAB)
+        for seed in range(1, 3 * LONG + 1):
+            dice = random.Random(seed)
+            lines = [random_line(dice, number) for number in range(20000)]
+            script = "\n".join(lines) + "\n"
+            wanted = subprocess.run([PIDTAB, "run"], input=script, capture_output=True, text=True, check=True).stdout.splitlines()
+            listed = subprocess.run([PIDTAB, "list"], input=script, capture_output=True, text=True, check=True).stdout
+            client = self.daemon(name=f"seed{seed}", kept=seed % 2 == 0).start().client()
+            for at in range(0, len(lines), 50):
+                some = lines[at:at + 50]
+                client.socket.sendall("".join(f"CALL {line}\r\n" for line in some).encode())
+                told = [shown(line, client.answer()) for line in some]
+                self.assertEqual(told, wanted[at:at + 50])
+            self.assertEqual(client.say("LIST"), listed)
+            self.assertEqual(client.say("POSITION"), sum(line != "bad line" for line in wanted))
+
+
+class Commands(Case):
+    def setUp(self):
+        super().setUp()
+        self.client = self.daemon(kept=False).start().client()
+
+    def test_the_tables_of_the_pages(self):
+        """HELP is the table of the manual page and of docs/SERVICE.md, and `--commands` writes it."""
+        lines = self.client.say("HELP")
+        written = subprocess.run([DAEMON, "--commands"], capture_output=True, text=True, check=True).stdout
+        self.assertEqual(written.splitlines(), lines)
+        page = (TOP / "docs/SERVICE.md").read_text(encoding="utf-8")
+        manual = (TOP / "man/pidtabd.8").read_text(encoding="utf-8")
+        for line in lines:
+            syntax, summary = line.split(" - ", 1)
+            cell = syntax.replace("|", "\\|")
+            self.assertIn(f"| `{cell}` | {summary} |", page)
+            self.assertIn(f".It Li \"{syntax}\"\n{textwrap.fill(summary, 78)}\n", manual)
+
+    def test_arity(self):
+        """Each command, with or without its prefix, refuses one word too few and one too many, and COMMAND tells how many it has."""
+        told = {row[0]: row[1] for row in self.client.say("COMMAND")}
+        self.assertEqual(len(told), self.client.say("COMMAND COUNT"))
+        for line in self.client.say("HELP"):
+            words = line.split(" - ")[0].split()
+            name, count = words[0], told[words[0]]
+            for prefix in ("", "PIDTAB."):
+                if abs(count) > 1 and not (name == "EXEC" and not prefix):
+                    self.refused(self.client, " ".join([prefix + name] + ["1"] * (abs(count) - 2)), "ERR syntax: " + name)
+                if count > 0 or name in ("FORK", "WAIT"):
+                    self.refused(self.client, " ".join([prefix + name] + ["1"] * (max(count, 4) + (count < 0))), "ERR syntax: " + name)
+
+    def test_answers(self):
+        say = self.client.say
+        self.assertEqual(say("FORK 1 NEW"), [2, 2])
+        self.assertEqual(say("PIDTAB.FORK 2"), [2, 3])
+        self.assertEqual((say("GETPID 2"), say("GETPPID 3"), say("getpgid 3 0")), (1, 1, 0))
+        self.assertEqual((say("NSPID 1 3"), say("NEXT 1 TASK 3"), say("NEXT 1 TASK 4")), ([3, 2], 3, None))
+        self.assertEqual((say("MK 0"), say("MOVE 3 3"), say("COUNT 3"), say("LIMIT 3 1")), (3, "OK", 1, "OK"))
+        self.refused(self.client, "FORK 3", "EAGAIN pids-limit 3")
+        self.refused(self.client, "GETPID 99", "ESRCH no-caller")
+        self.refused(self.client, "EXIT 1 0", "EBUSY root-init")
+        self.assertEqual((say("END 3 7"), say("WAIT 2 PID 2"), say("EXEC 2"), say("EXIT 2 0")), ("OK", [2, 7], "OK", "OK"))
+        self.assertEqual((say("WAIT 1 ANY"), say("POSITION")), ([2, 0], 12))
+        self.refused(self.client, "WAIT 1 ANY", "ECHILD no-child")
+
+    def test_stat(self):
+        self.client.say("FORK 1 NEW")
+        told = self.client.say("STAT 1 2")
+        wanted = {"numbers": [2, 1], "state": "live", "parent": 1, "group": 1, "session": 1, "space": 1, "control": 0, "executed": 0, "subreaper": 0}
+        self.assertEqual(dict(zip(told[::2], told[1::2])), wanted)
+        self.refused(self.client, "STAT 1 9", "ESRCH no-task")
+
+    def test_multi(self):
+        say = self.client.say
+        self.refused(self.client, "EXEC", "ERR EXEC without MULTI")
+        self.assertEqual([say("MULTI"), say("FORK 1"), say("GETPID 2"), say("CALL getpid 9")], ["OK"] + ["QUEUED"] * 3)
+        self.client.send("EXEC")
+        forked, pid, refused = self.client.answer()
+        self.assertEqual((forked, pid, str(refused)), ([2, 2], 2, "ESRCH no-caller"))
+        say("MULTI")
+        self.refused(self.client, "FORK", "ERR syntax")
+        self.refused(self.client, "EXEC", "EXECABORT")
+        self.assertEqual([say("MULTI"), say("FORK 1"), say("DISCARD"), say("POSITION")], ["OK", "QUEUED", "OK", 2])
+        say("MULTI")
+        self.refused(self.client, "LIST", "ERR only calls")
+        self.refused(self.client, "MULTI", "ERR MULTI calls can not be nested")
+        self.assertEqual(say("DISCARD"), "OK")
+        self.refused(self.client, "PIDTAB.EXEC", "ERR syntax: EXEC C")
+
+    def test_what_is_no_command(self):
+        self.refused(self.client, "NOTHING", "ERR unknown command 'NOTHING'")
+        self.refused(self.client, "AUTH x", "ERR AUTH")
+        self.refused(self.client, "HELLO 3", "NOPROTO")
+        self.assertEqual(self.client.say("HELLO 2")[0], "server")
+        self.assertEqual(self.client.say("PING x"), "x")
+        self.client.socket.sendall(b"*1\r\n$x\r\n")
+        self.assertTrue(str(self.client.answer()).startswith("ERR Protocol error"))
+        self.assertRaises(EOFError, self.client.answer)
+
+    def test_seats(self):
+        self.assertEqual([self.client.say("SEAT 5"), self.client.say("SEAT")], [5, 5])
+        self.refused(self.client, "SEAT 16", "ERR syntax")
+
+    def test_list_of_many(self):
+        """LIST and DUMP of more tasks than are copied in the loop, and of none that changed since."""
+        self.client.socket.sendall(b"FORK 1\r\n" * 5000)
+        self.assertEqual([self.client.answer() for _ in range(5000)][-1], [5001, 5001])
+        self.client.socket.sendall(b"LIST\r\nFORK 1\r\nDUMP\r\nPOSITION\r\n")
+        listed, forked, dumped, position = [self.client.answer() for _ in range(4)]
+        self.assertEqual((listed.count("task "), forked, dumped.count("\ntask "), position), (5001, [5002, 5002], 5002, 5001))
+        script = "fork 1\n" * 5000
+        if os.access(PIDTAB, os.X_OK):
+            self.assertEqual(listed, subprocess.run([PIDTAB, "list"], input=script, capture_output=True, text=True, check=True).stdout)
+
+
+class Waits(Case):
+    def setUp(self):
+        super().setUp()
+        self.one = self.daemon().start()
+        self.client, self.other = self.one.client(), self.one.client()
+
+    def test_sleeps_until_a_child_ends(self):
+        self.client.say("FORK 1")
+        position = self.client.say("POSITION")
+        self.other.send(*"WAITCHILD 1 ANY".split())
+        time.sleep(0.1)
+        self.assertEqual(self.client.say("POSITION"), position)
+        self.client.say("EXIT 2 9")
+        self.assertEqual(self.other.answer(), [2, 9])
+        self.assertEqual(self.client.say("POSITION"), position + 2)
+
+    def test_at_once_or_refused(self):
+        self.refused(self.other, "WAITCHILD 1 ANY", "ECHILD no-child")
+        self.refused(self.other, "WAITCHILD 7 ANY", "ESRCH no-caller")
+        self.client.say("FORK 1")
+        self.client.say("END 2 0")
+        self.assertEqual(self.other.say("WAITCHILD 1 PID 2"), [2, 0])
+
+    def test_a_timeout_makes_no_call(self):
+        self.client.say("FORK 1")
+        began = time.monotonic()
+        self.assertIsNone(self.other.say("WAITCHILD 1 ANY TIMEOUT 150"))
+        self.assertGreater(time.monotonic() - began, 0.14)
+        self.assertEqual(self.client.say("POSITION"), 1)
+
+    def test_a_client_that_goes_away_makes_no_call(self):
+        self.client.say("FORK 1")
+        self.other.send(*"WAITCHILD 1 ANY".split())
+        time.sleep(0.1)
+        self.other.close()
+        time.sleep(0.1)
+        self.client.say("EXIT 2 0")
+        self.assertEqual(self.client.say("POSITION"), 2)
+        self.assertEqual(self.client.say("WAIT 1 ANY"), [2, 0])
+
+    def test_two_wait_for_one(self):
+        """Each child goes to one of them, the longest sleeper first; the last is told that there is none."""
+        self.client.say("FORK 1")
+        third = self.one.client()
+        self.other.send(*"WAITCHILD 1 ANY".split())
+        time.sleep(0.1)
+        third.send(*"WAITCHILD 1 ANY".split())
+        time.sleep(0.1)
+        self.client.say("EXIT 2 4")
+        self.assertEqual(self.other.answer(), [2, 4])
+        self.assertEqual(str(third.answer()), "ECHILD no-child")
+
+    def test_whose_caller_ends(self):
+        self.client.say("FORK 1")
+        self.client.say("FORK 2")
+        self.other.send(*"WAITCHILD 2 ANY".split())
+        time.sleep(0.1)
+        self.client.say("EXIT 2 0")
+        self.assertEqual(str(self.other.answer()), "ESRCH no-caller")
+
+    def test_an_orphan_comes(self):
+        """The child of a child comes to the init, as a zombie."""
+        self.client.say("FORK 1")
+        self.client.say("FORK 2")
+        self.other.send(*"WAITCHILD 1 PID 3".split())
+        self.assertEqual(str(self.other.answer()), "ECHILD no-child")
+        self.client.say("FORK 1")
+        self.client.say("EXIT 3 5")
+        self.other.send(*"WAITCHILD 1 ANY".split())
+        time.sleep(0.1)
+        self.client.say("EXIT 2 0")
+        self.assertEqual(sorted([self.other.answer(), self.other.say("WAITCHILD 1 ANY")]), [[2, 0], [3, 5]])
+
+    def test_groups(self):
+        self.client.say("FORK 1")
+        self.client.say("FORK 1")
+        self.client.say("SETPGID 2 0 0")
+        self.other.send(*"WAITCHILD 1 GROUP 2".split())
+        time.sleep(0.05)
+        self.client.say("EXIT 3 1")
+        time.sleep(0.05)
+        self.client.say("EXIT 2 2")
+        self.assertEqual(self.other.answer(), [2, 2])
+
+    def test_what_comes_behind(self):
+        """A pipeline waits behind a wait that sleeps."""
+        self.client.say("FORK 1")
+        self.other.socket.sendall(b"WAITCHILD 1 ANY\r\nPING\r\n")
+        time.sleep(0.1)
+        self.client.say("EXIT 2 0")
+        self.assertEqual([self.other.answer(), self.other.answer()], [[2, 0], "PONG"])
+
+    def test_not_in_a_multi(self):
+        self.client.say("MULTI")
+        self.refused(self.client, "WAITCHILD 1 ANY", "ERR only calls")
+
+    def test_a_hundred_sleepers(self):
+        children = [self.client.say("FORK 1")[1] for _ in range(100)]
+        told = []
+
+        def wait():
+            client = self.one.client()
+            told.append(client.say("WAITCHILD 1 ANY")[0])
+            client.close()
+
+        threads = [threading.Thread(target=wait) for _ in children]
+        for thread in threads:
+            thread.start()
+        time.sleep(0.3)
+        for child in children:
+            self.client.say(f"EXIT {child} 0")
+        for thread in threads:
+            thread.join()
+        self.assertEqual(sorted(told), sorted(children))
+
+
+class Events(Case):
+    def setUp(self):
+        super().setUp()
+        self.one = self.daemon(kept=False).start()
+        self.client, self.other = self.one.client(), self.one.client()
+
+    def test_messages(self):
+        control = self.client.say("MK 0")
+        self.client.say("FORK 1")
+        self.client.say(f"MOVE 2 {control}")
+        names = ["fork", "exit", "fall", f"exit:control:{control}", "exit:space:999"]
+        self.other.send("SUBSCRIBE", *names)
+        self.assertEqual([self.other.answer() for _ in names], [["subscribe", name, place + 1] for place, name in enumerate(names)])
+        for line in ("FORK 2 NEW", "FORK 3", "EXIT 3 9"):
+            self.client.say(line)
+        tail = f"space 4 control {control}"
+        wanted = [["fork", f"2 3 {tail}"], ["fork", f"3 4 {tail}"], ["exit", f"4 killed {tail}"], [f"exit:control:{control}", f"4 killed {tail}"]]
+        wanted += [["exit", f"3 9 {tail}"], [f"exit:control:{control}", f"3 9 {tail}"], ["fall", "4"]]
+        self.assertEqual([self.other.answer() for _ in wanted], [["message", *it] for it in wanted])
+        self.assertEqual(self.other.say("PING"), ["pong", ""])
+        self.refused(self.other, "FORK 1", "ERR only (P)SUBSCRIBE")
+        self.other.send("UNSUBSCRIBE")
+        self.assertEqual([self.other.answer()[0] for _ in names], ["unsubscribe"] * len(names))
+        self.assertEqual(self.other.say("FORK 1"), [5, 5])
+
+    def test_what_is_no_channel(self):
+        self.refused(self.other, "SUBSCRIBE nothing", "ERR a channel is")
+
+    def test_one_that_never_reads(self):
+        """A subscriber that does not read is closed, and nobody else is held up."""
+        self.one.end()
+        one = self.daemon("--stall", "1", name="two", kept=False).start()
+        client, other = one.client(), one.client()
+        other.say("SUBSCRIBE fork")
+        for _ in range(400):
+            client.socket.sendall(b"FORK 1\r\nEXIT 2 0\r\nWAIT 1 ANY\r\n" * 30)
+            for _ in range(90):
+                client.answer()
+        end = time.monotonic() + 15
+        while "closed_as_stalled:1" not in client.say("INFO") and time.monotonic() < end:
+            time.sleep(0.1)
+        self.assertIn("closed_as_stalled:1", client.say("INFO"))
+
+
+class Leases(Case):
+    def test_tasks_end_when_the_client_is_gone(self):
+        one = self.daemon().start()
+        client, other = one.client(), one.client()
+        client.say("LEASE rig 300")
+        self.assertEqual(client.say("FORK 1"), [2, 2])
+        self.assertEqual(client.say("FORK 2"), [3, 3])
+        other.say("FORK 1")
+        self.assertEqual(other.say("LEASES"), [["rig", 300, 1, [2, 3]]])
+        client.close()
+        time.sleep(0.15)
+        self.assertEqual(other.say("LEASES"), [["rig", 300, 0, [2, 3]]])
+        self.assertEqual(other.say("WAITCHILD 1 ANY TIMEOUT 5000"), [2, 137])
+        self.assertEqual(other.say("WAITCHILD 1 ANY TIMEOUT 5000"), [3, 137])
+        self.assertEqual((other.say("LEASES"), other.say("GETPID 4")), ([], 4))
+
+    def test_another_client_keeps_it(self):
+        one = self.daemon().start()
+        client, other = one.client(), one.client()
+        client.say("LEASE rig 200")
+        client.say("FORK 1")
+        other.say("LEASE rig 200")
+        client.close()
+        time.sleep(0.5)
+        self.assertEqual(other.say("GETPID 2"), 2)
+        self.assertEqual(other.say("RELEASE rig"), 1)
+        other.close()
+        time.sleep(0.4)
+        self.assertEqual(one.client().say("GETPID 2"), 2)
+
+    def test_a_number_that_is_another_task_s(self):
+        """What was waited for is bound no more, so another task with its number stays."""
+        one = self.daemon("--pid-max", "301").start()
+        client, other = one.client(), one.client()
+        # Of 301 numbers, 300 alone is given again (docs/MODEL.md): so the leased task is to have it.
+        for number in range(2, 300):
+            other.say("FORK 1")
+        client.say("LEASE rig 100")
+        self.assertEqual(client.say("FORK 1"), [300, 300])
+        other.say("EXIT 300 0")
+        other.say("WAIT 1 ANY")
+        self.assertEqual(other.say("FORK 1"), [300, 300])
+        client.close()
+        time.sleep(0.4)
+        self.assertEqual((other.say("LEASES"), other.say("GETPID 300")), ([], 300))
+
+    def test_they_outlive_the_daemon(self):
+        one = self.daemon("--fsync", "always").start()
+        client = one.client()
+        client.say("LEASE rig 400")
+        client.say("FORK 1")
+        one.kill()
+        other = one.start().client()
+        self.assertEqual(other.say("LEASES"), [["rig", 400, 0, [2]]])
+        self.assertEqual(other.say("WAITCHILD 1 ANY TIMEOUT 5000"), [2, 137])
+
+
+class Users(Case):
+    """An enemy who is another user: what he may not do, he does not do. It needs root, to be another user."""
+
+    ENEMY = 65534
+
+    def setUp(self):
+        super().setUp()
+        if os.geteuid() != 0:
+            self.skipTest("not root")
+
+    def as_enemy(self, one, lines):
+        """The answers to the lines, by a process of the other user."""
+        code = ("import socket, sys; it = socket.socket(socket.AF_UNIX); it.connect(sys.argv[1]); given = sys.stdin.buffer.read();"
+                "given and it.sendall(given);"
+                "sys.stdout.buffer.write(b''.join(iter(lambda: it.recv(65536), b'')))")
+        given = "".join(f"{line}\r\n" for line in [*lines, *["QUIT"] * bool(lines)]).encode()
+        done = subprocess.run(["python3", "-c", code, str(one.socket)], input=given, capture_output=True, user=self.ENEMY, group=self.ENEMY, check=True)
+        return done.stdout.decode().removesuffix("+OK\r\n" if lines else "")
+
+    def test_below_a_cgroup(self):
+        one = self.daemon("--mode", "666", "--allow", f"0,{self.ENEMY}:below=1").start()
+        client = one.client()
+        for line in ("MK 0", "FORK 1", "FORK 1", "MOVE 2 1", "MK 1", "MK 0", "FORK 1 NEW"):
+            client.say(line)
+        # 1 is his, 5 below it, 6 beside it; task 2 is his, 3 and 4 are not.
+        listed = client.say("LIST")
+        forbidden = ["FORK 1", "FORK 3", "EXIT 3 0", "EXIT 4 0", "EXEC 3", "WAIT 1 ANY", "WAITCHILD 1 ANY", "SETSID 3", "SUBREAPER 3 ON"]
+        forbidden += ["SETPGID 2 3 2", "SETPGID 3 0 0", "JOIN 2 4", "JOIN 3 2", "MOVE 3 1", "MOVE 2 0", "MOVE 2 6", "MK 0", "MK 6", "RM 1", "RM 6"]
+        forbidden += ["LIMIT 1 MAX", "LIMIT 6 3", "LIMIT 0 3", "CALL fork 1", "CALL getpid 1", "CALL count 0", "FORK 99", "PIDTAB.EXIT 3 0"]
+        forbidden += ["BGSAVE", "SHUTDOWN", "FOLLOW", "TAKEOVER"]
+        told = self.as_enemy(one, forbidden)
+        self.assertEqual(re.findall("^-NOPERM", told, re.MULTILINE), ["-NOPERM"] * len(forbidden), told)
+        self.assertEqual(client.say("LIST"), listed)
+        queued = self.as_enemy(one, ["MULTI", "EXIT 3 0", "FORK 2", "EXEC"])
+        self.assertEqual(queued, "+OK\r\n+QUEUED\r\n+QUEUED\r\n*2\r\n-NOPERM this user may call by tasks below his cgroup alone\r\n*2\r\n:5\r\n:5\r\n")
+        told = self.as_enemy(one, ["GETPID 3", "MK 1", "LIMIT 5 7", "MOVE 5 5", "EXEC 5", "EXIT 5 3", "WAIT 2 ANY", "RM 5"])
+        self.assertEqual(told, ":3\r\n:9\r\n+OK\r\n+OK\r\n+OK\r\n+OK\r\n*2\r\n:5\r\n:3\r\n+OK\r\n")
+
+    def test_an_init_takes_nobody_else_with_it(self):
+        one = self.daemon("--mode", "666", "--allow", f"0,{self.ENEMY}:below=1").start()
+        client = one.client()
+        for line in ("MK 0", "FORK 1", "MOVE 2 1"):
+            client.say(line)
+        self.as_enemy(one, ["FORK 2 NEW", "FORK 3"])
+        self.assertEqual(client.say("MOVE 4 0"), "OK")
+        self.assertIn("-NOPERM", self.as_enemy(one, ["EXIT 3 0"]))
+        self.assertEqual(client.say("GETPID 4"), 2)
+        client.say("EXIT 4 0")
+        client.say("WAIT 3 ANY")
+        self.assertEqual(self.as_enemy(one, ["EXIT 3 0"]), "+OK\r\n")
+
+    def test_who_may_only_ask(self):
+        one = self.daemon("--mode", "666", "--allow", f"0,{self.ENEMY}:ro").start()
+        told = self.as_enemy(one, ["GETPID 1", "FORK 1", "CALL getpid 1", "LEASE x 1", "SHUTDOWN", "BGSAVE", "WAITCHILD 1 ANY"])
+        self.assertEqual(told, ":1\r\n" + "-NOPERM this user may only ask\r\n" * 6)
+        self.assertEqual(one.client().say("POSITION"), 0)
+
+    def test_who_may_not_come(self):
+        one = self.daemon("--mode", "666", "--allow", "0").start()
+        self.assertEqual(self.as_enemy(one, []), "-NOPERM this user may not connect\r\n")
+        two = self.daemon(name="two").start()
+        self.assertEqual(two.socket.stat().st_mode & 0o777, 0o600)
+        self.assertRaises(subprocess.CalledProcessError, self.as_enemy, two, [])
+
+
+if __name__ == "__main__":
+    unittest.main()

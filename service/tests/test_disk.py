@@ -1,0 +1,333 @@
+"""What is on the disk: kills, losses of power, damage, a full disk, wrong directories. `check` replays the log, and shares no code with the daemon."""
+import os
+import pathlib
+import random
+import shutil
+import subprocess
+import threading
+import time
+import unittest
+
+from harness import BUILT, Case, LONG, Refused, need, request
+
+NUMBERS = {"EPERM": 1, "ENOENT": 2, "ESRCH": 3, "ECHILD": 10, "EAGAIN": 11, "ENOMEM": 12, "EACCES": 13, "EBUSY": 16, "EINVAL": 22, "ENOSPC": 28}
+
+
+def shown(answer):
+    """An answer as `check` writes it."""
+    if isinstance(answer, Refused):
+        name, words = str(answer).split(" ", 1)
+        return f"-{NUMBERS[name]} {words}"
+    if answer is None:
+        return "nil"
+    return ",".join(map(str, answer)) if isinstance(answer, list) else str(answer)
+
+
+class Caller(threading.Thread):
+    """Sends batches and reads the answers, by turns, until the daemon is gone: what it has asked, and what it was answered."""
+
+    def __init__(self, daemon, seat, seed):
+        super().__init__()
+        self.daemon_process, self.seat, self.dice, self.asked, self.answered = daemon, seat, random.Random(seed), [], []
+        self.own, self.controls = [], [0]
+
+    def draw(self):
+        dice = self.dice
+        if dice.random() < 0.40 or not self.own:
+            caller = dice.choice(self.own) if self.own and dice.random() < 0.3 else 1
+            return f"FORK {caller}{' NEW' if dice.random() < 0.2 else ''}"
+        task, control = dice.choice(self.own), dice.choice(self.controls)
+        rare = f"JOIN 1 {task}" if dice.random() < 0.05 else "COUNT 0"
+        return dice.choice([f"EXIT {task} {dice.randrange(256)}", f"EXIT {task} 0", "WAIT 1 ANY", f"WAIT 1 PID {task}", f"SETPGID {task} 0 0",
+                            f"SETSID {task}", "MK 0", f"MOVE {task} {control}", f"RM {control}", f"LIMIT {control} {dice.randrange(60)}",
+                            f"EXEC {task}", f"SUBREAPER {task} ON", rare, f"NSPID 1 {task}"])
+
+    def run(self):
+        try:
+            client = self.daemon_process.client()
+            client.say(f"SEAT {self.seat}")
+            while True:
+                self.turn(client)
+        except (OSError, EOFError, AssertionError):
+            pass
+
+    def turn(self, client):
+        batch = [self.draw() for _ in range(self.dice.choice([1, 1, 4, 16, 64]))]
+        self.asked += batch
+        client.socket.sendall(b"".join(request(["CALL", *line.split()]) for line in batch))
+        for line in batch:
+            answer = client.answer()
+            self.answered.append(shown(answer))
+            if line.startswith("FORK") and isinstance(answer, list):
+                self.own = self.own[-40:] + [answer[1]]
+            if line.startswith("MK") and isinstance(answer, int):
+                self.controls = self.controls[-10:] + [answer]
+
+
+class Killed(Case):
+    """In each round six clients send calls, and the daemon is killed. All that was answered is in the log, with its answers, and in its order;
+    behind that, of each client, some of what it had sent. The log replays to the very text that the daemon has behind its next start."""
+
+    def play(self, mode, rounds, loses_power=False, seed=1):
+        need(BUILT / "check")
+        dice = random.Random(seed)
+        synced = self.folder / "synced"
+        synced.touch()
+        variables = {"LD_PRELOAD": str(BUILT / "power.so"), "SYNCED": str(synced)} if loses_power else {}
+        one = self.daemon("--fsync", mode, "--segment", "150000", "--archive", name=mode, variables=variables).start()
+        total = before = 0
+        for number in range(rounds):
+            callers = [Caller(one, seat, dice.random()) for seat in range(1, 7)]
+            for caller in callers:
+                caller.start()
+            time.sleep(dice.uniform(0.03, 0.4))
+            one.kill()
+            for caller in callers:
+                caller.join()
+            if loses_power:
+                lose_power(one.kept, synced)
+            tear(one.kept, dice)
+            entries = self.compare(one.start())
+            for caller in callers:
+                self.compare_caller(caller, entries[before:], number)
+                total += len(caller.answered)
+            before = len(entries)
+        self.assertEqual(one.end(), 0)
+        self.assertGreater(total, 50 * rounds)
+        snapshots = sum("snap-" in name for name in os.listdir(one.kept))
+        print(f"{mode}{', power lost' if loses_power else ''}: {rounds} kills, {total} answered calls, {before} in the log, {snapshots} snapshots")
+
+    def compare(self, one):
+        client = one.client()
+        client.socket.sendall(b"POSITION\r\nDUMP\r\n")
+        position, dump = client.answer(), client.answer()
+        client.close()
+        to = self.folder / "dump"
+        done = self.check(one.kept, to)
+        self.assertEqual((done.returncode, done.stderr), (0, ""))
+        entries = [line.split(" ", 1)[1] for line in done.stdout.splitlines()]
+        self.assertEqual(position, len(entries))
+        self.assertTrue(dump == to.read_text(encoding="ascii"), "the table is not that of the log")
+        return entries
+
+    def check(self, kept, to):
+        """A snapshot that is in work may rename a log meanwhile: then once more."""
+        for _ in range(5):
+            done = subprocess.run([BUILT / "check", kept, to], capture_output=True, text=True, check=False)
+            if "cannot be read" not in done.stderr and "a gap" not in done.stderr:
+                break
+            time.sleep(0.2)
+        return done
+
+    def compare_caller(self, caller, entries, number):
+        front = f"{caller.seat}|"
+        mine = [entry.removeprefix(front) for entry in entries if entry.startswith(front)]
+        told = [f"{call}|{answer}" for call, answer in zip(caller.asked, caller.answered)]
+        self.assertTrue(mine[:len(told)] == told, f"round {number}: an answered call is not in the log as it was answered")
+        rest = [entry.split("|")[0] for entry in mine[len(told):]]
+        self.assertEqual(rest, caller.asked[len(told):len(told) + len(rest)])
+
+    def test_everysec(self):
+        self.play("everysec", 50 * LONG, seed=int(os.environ.get("SEED", "1")))
+
+    def test_always(self):
+        self.play("always", 50 * LONG)
+
+    def test_no(self):
+        self.play("no", 50 * LONG)
+
+    def test_always_and_the_power_is_lost(self):
+        self.play("always", 50 * LONG, loses_power=True, seed=int(os.environ.get("SEED", "1")))
+
+    def test_everysec_and_the_power_is_lost(self):
+        """What everysec does not promise: this test sees that the loss is one that the tests above would find."""
+        with self.assertRaises(AssertionError):
+            self.play("everysec", 10, loses_power=True)
+
+
+def lose_power(kept, synced):
+    """The directory as it was when it was synced last, each file as long as it was when that was."""
+    names, sizes = {}, {}
+    for line in synced.read_text(encoding="ascii").splitlines():
+        kind, *rest = line.split(" ")
+        if kind == "file" and len(rest) == 2:
+            sizes[int(rest[0])] = int(rest[1])
+        elif kind == "dir":
+            names = {int(pair.split("=")[0]): pair.split("=")[1] for pair in rest if "=" in pair}
+    now = {path.stat().st_ino: path for path in kept.iterdir()}
+    moved = {}
+    for inode, path in now.items():
+        if inode not in names:
+            path.unlink()
+            continue
+        moved[inode] = path.rename(kept / f"moved.{inode}")
+    for inode, path in moved.items():
+        os.truncate(path, min(path.stat().st_size, sizes.get(inode, 0)))
+        path.rename(kept / names[inode])
+
+
+def tear(kept, dice):
+    """What a write that was cut off leaves behind the last whole entry, or a file whose length came before its bytes."""
+    last = max((path for path in kept.iterdir() if path.name.startswith("log-")), default=None)
+    if last:
+        ends = [b"", dice.randbytes(dice.randrange(1, 48)), bytes(dice.randrange(48, 5000)), bytes(17)]
+        with open(last, "ab") as file:
+            file.write(dice.choice(ends))
+
+
+class Damaged(Case):
+    def test_changed_files(self):
+        """500 directories with changed, lost or added bytes: a front of the calls, or status 3 and a sentence that names the file."""
+        dice = random.Random(2)
+        one = self.daemon(name="whole").start()
+        client = one.client()
+        client.socket.sendall(b"FORK 1 NEW\r\nFORK 2\r\nMK 0\r\nCALL NSPID 1 3\r\n" * 20)
+        [client.answer() for _ in range(80)]
+        client.say("BGSAVE")
+        while "snapshot:80\r" not in client.say("INFO"):
+            time.sleep(0.02)
+        client.socket.sendall(b"FORK 1\r\nCALL NSPID 1 3\r\nEXIT 2 3\r\n" * 20)
+        [client.answer() for _ in range(60)]
+        self.assertEqual(one.end(), 0)
+        whole = {path.name: path.read_bytes() for path in one.kept.iterdir()}
+        names = [name for name in whole if name[:4] in ("snap", "log-")]
+        statuses = {0: 0, 3: 0}
+        for number in range(500 * LONG):
+            name = names[number % len(names)]
+            two = self.daemon(name="damaged")
+            shutil.rmtree(two.folder)
+            two.folder.mkdir()
+            two.kept.mkdir(mode=0o700)
+            for each, data in whole.items():
+                (two.kept / each).write_bytes(damaged(data, dice) if each == name else data)
+            two.start(is_up=False)
+            status = self.status_of(two)
+            statuses[status] += 1
+            if status == 3:
+                self.assertIn("pidtabd: ", two.said())
+                self.assertRegex(two.said(), f"{name}|log-|current")
+        self.assertGreater(min(statuses.values()), 50)
+        print(f"damaged: {statuses[0]} went on with a front of the calls, {statuses[3]} were refused")
+
+    def status_of(self, daemon):
+        """0: it serves a front of the calls, and ends. 3: it has refused."""
+        end = time.monotonic() + 20
+        while daemon.process.poll() is None and time.monotonic() < end:
+            if daemon.socket.exists():
+                try:
+                    position = daemon.client().say("POSITION")
+                except (AssertionError, OSError, EOFError):
+                    continue
+                self.assertTrue(80 <= position <= 140, position)
+                self.assertEqual(daemon.end(), 0)
+                return 0
+            time.sleep(0.002)
+        self.assertEqual(daemon.process.wait(timeout=5), 3, daemon.said())
+        return 3
+
+    def refusal(self, daemon):
+        daemon.start(is_up=False)
+        self.assertEqual(daemon.process.wait(timeout=20), 3)
+        return daemon.said()
+
+    def made(self, name, calls=200, options=()):
+        """The directory of a daemon that has ended, with two logs and a snapshot."""
+        one = self.daemon("--segment", "4096", "--archive", *options, name=name).start()
+        client = one.client()
+        for _ in range(calls):
+            client.say("FORK 1")
+        while "snapshot:0\r" in client.say("INFO"):
+            time.sleep(0.02)
+        self.assertEqual(one.end(), 0)
+        return one
+
+    def test_another_s_directory(self):
+        one = self.daemon()
+        (one.kept / "passwd").touch()
+        self.assertIn('has "passwd", which is no file of pidtabd', self.refusal(one))
+
+    def test_a_log_is_missing(self):
+        one = self.made("one")
+        last = max(path for path in one.kept.iterdir() if path.name.startswith("log-"))
+        last.unlink()
+        self.assertIn(f"{last}: is missing", self.refusal(one))
+
+    def test_the_snapshot_is_missing(self):
+        one = self.made("one")
+        for path in one.kept.iterdir():
+            if path.name.startswith("snap-"):
+                path.unlink()
+        self.assertIn("no snapshot or log comes before", self.refusal(one))
+
+    def test_two_daemons(self):
+        one = self.daemon().start()
+        two = self.daemon(name="two")
+        two.kept.rmdir()
+        two.kept.symlink_to(one.kept)
+        self.assertIn("another pidtabd has this directory", self.refusal(two))
+
+    def test_one_socket(self):
+        one = self.daemon(kept=False).start()
+        two = self.daemon(kept=False)
+        two.start(is_up=False)
+        self.assertEqual(two.process.wait(timeout=10), 1)
+        self.assertIn("in use", two.said())
+        self.assertEqual(one.client().say("PING"), "PONG")
+
+    def test_another_user_s_directory(self):
+        if os.geteuid() != 0:
+            self.skipTest("not root")
+        one = self.daemon()
+        os.chown(one.kept, 65534, 65534)
+        self.assertIn("belongs to the user 65534", self.refusal(one))
+
+
+def damaged(data, dice):
+    data = bytearray(data)
+    kind, place = dice.randrange(6), dice.randrange(len(data))
+    if kind == 0:
+        data[place] = dice.randrange(256)
+    elif kind == 1:
+        data[place] ^= 1 << dice.randrange(8)
+    elif kind == 2:
+        del data[place:]
+    elif kind == 3:
+        data += dice.randbytes(dice.randrange(200))
+    elif kind == 4:
+        data[place:] = bytes(len(data) - place)
+    else:
+        del data[place:place + dice.randrange(100)]
+    return bytes(data)
+
+
+class Full(Case):
+    def test_answers_wait_for_room(self):
+        """A file system of 200 KB fills up: the answers are held back, and all come when there is room."""
+        if os.geteuid() != 0:
+            self.skipTest("not root")
+        one = self.daemon("--fsync", "always")
+        mounted = subprocess.run(["mount", "-t", "tmpfs", "-o", "size=200k,mode=700", "none", one.kept], check=False, capture_output=True)
+        if mounted.returncode:
+            self.skipTest("no mount")
+        self.addCleanup(subprocess.run, ["umount", "-l", one.kept], check=False)
+        client = one.start().client()
+        client.socket.sendall(b"EXEC 1\r\n" * 10000)
+        client.socket.settimeout(1)
+        answered = 0
+        with self.assertRaises(TimeoutError):
+            while client.answer() == "OK":
+                answered += 1
+        self.assertTrue(0 < answered < 5000, answered)
+        before = one.time()
+        time.sleep(1)
+        self.assertLess(one.time() - before, 0.2)
+        subprocess.run(["mount", "-o", "remount,size=4m", one.kept], check=True)
+        client.socket.settimeout(30)
+        self.assertEqual([client.answer() for _ in range(10000 - answered)], ["OK"] * (10000 - answered))
+        self.assertEqual(client.say("POSITION"), 10000)
+        self.assertEqual(one.end(), 0)
+        self.assertEqual(one.start().client().say("POSITION"), 10000)
+
+
+if __name__ == "__main__":
+    unittest.main()
