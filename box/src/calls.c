@@ -7,6 +7,7 @@
 #include <linux/capability.h>
 #include <linux/futex.h>
 #include <linux/ioprio.h>
+#include <linux/seccomp.h>
 #include <linux/sockios.h>
 #include <sched.h>
 #include <signal.h>
@@ -226,6 +227,7 @@ const struct call calls[] = {
 	{ "ptrace", { 101, 117 }, REFUSED, .note = "the box is the tracer" },
 	{ "perf_event_open", { 298, 241 }, REFUSED, .note = "samples have the kernel's numbers" },
 	{ "bpf", { 321, 280 }, REFUSED, .note = "programs see the kernel's numbers" },
+	{ "seccomp", { 317, 277 }, REFUSED, .test = UNLESS_HAS(1, SECCOMP_FILTER_FLAG_NEW_LISTENER, 0), .note = "with a listener, whose messages have processes" },
 	{ "userfaultfd", { 323, 282 }, REFUSED, .note = "its messages have threads" },
 	{ "fanotify_init", { 300, 262 }, REFUSED, .note = "its events have processes" },
 	{ "io_uring_setup", { 425, 425 }, REFUSED, .note = "it would make calls that do not stop" },
@@ -291,7 +293,7 @@ const struct call calls[] = {
 	NONE(dup3, 292, 24), NONE(pipe2, 293, 59), NONE(inotify_init1, 294, 26), NONE(preadv, 295, 69),
 	NONE(pwritev, 296, 70), NONE(fanotify_mark, 301, 263), NONE(name_to_handle_at, 303, 264),
 	NONE(open_by_handle_at, 304, 265), NONE(syncfs, 306, 267), NONE(getcpu, 309, 168), NONE(finit_module, 313, 273),
-	NONE(renameat2, 316, 276), NONE(seccomp, 317, 277), NONE(getrandom, 318, 278), NONE(memfd_create, 319, 279),
+	NONE(renameat2, 316, 276), NONE(getrandom, 318, 278), NONE(memfd_create, 319, 279),
 	NONE(kexec_file_load, 320, 294), NONE(execveat, 322, 281), NONE(membarrier, 324, 283), NONE(mlock2, 325, 284),
 	NONE(copy_file_range, 326, 285), NONE(preadv2, 327, 286), NONE(pwritev2, 328, 287), NONE(pkey_mprotect, 329, 288),
 	NONE(pkey_alloc, 330, 289), NONE(pkey_free, 331, 290), NONE(io_pgetevents, 333, 292), NONE(rseq, 334, 293),
