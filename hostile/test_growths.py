@@ -18,7 +18,7 @@ UNDISTURBED = (CRATE / "stdout").read_text()
 COUNTS = (1, 2, ALL)
 
 # What is to be refused at some growth or other, by the first word of its step; `getpid` grows the history alone.
-TAKE_MEMORY = set("new open opening fork mk reserve checkpoint snapshot list split job run limited state work workers".split())
+TAKE_MEMORY = set("new open opening fork mk reserve checkpoint snapshot list dump job run limited state work workers".split())
 
 # The layers make a call once more on the spot, so it takes two refusals to have one filled from the start.
 LAYERS = set("numbers controls groups tree array ids".split())
@@ -164,9 +164,8 @@ class Growths(unittest.TestCase):
     def test_each_growth_of_a_step_in_turn(self):
         for program in builds_of("demo_no_memory"):
             refused = self.assert_undisturbed_but_for_refusals(self.play(program, REFUSE_IN_TURN=1))
-            # A list that one thread writes shows no refusal.
             self.assertLessEqual(len(refused), self.report.refused())
-            self.assertLessEqual(TAKE_MEMORY - {"split"}, {it.kind() for it in refused})
+            self.assertLessEqual(TAKE_MEMORY, {it.kind() for it in refused})
             self.assertIn("? fork 4", [it.heading for it in refused])
             self.assertIn("? fork 33", [it.heading for it in refused])
 
