@@ -130,7 +130,7 @@ enum pidtab_fault_kind {
 	PIDTAB_FAULT_BAD_NAME,          /* a name has too few numbers, too many, or one out of range */
 	PIDTAB_FAULT_TAKEN_NUMBER,      /* two names have one number */
 	PIDTAB_FAULT_NO_INIT,           /* no task is the init of a namespace that has not fallen */
-	PIDTAB_FAULT_NO_NUMBER,         /* no number is free for the init that a namespace once had */
+	PIDTAB_FAULT_NO_NUMBER,         /* comes no more */
 	PIDTAB_FAULT_IMPOSSIBLE         /* in no table is this line beside the others */
 };
 

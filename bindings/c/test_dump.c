@@ -172,8 +172,8 @@ static const struct {
 	{ PIDTAB_FAULT_IMPOSSIBLE, "impossible line", 4, HEAD INIT SPACE "control 0 parent - limit 7\n" }
 };
 
-/* All numbers are in use, and the root's children go into a namespace that is gone. */
-static void no_number_left(void)
+/* All numbers are in use, and the root's children go into a namespace that is gone. It was once a fault, and is loaded. */
+static void full_namespace(void)
 {
 	static char said[1 << 15] = HEAD "task 1@0 parent - group 1@0 session 1@0 control 0 children 7 live\n";
 	size_t size = strlen(said);
@@ -182,7 +182,12 @@ static void no_number_left(void)
 		size += (size_t)snprintf(said + size, sizeof said - size,
 			"task %d@0 parent 1@0 group 1@0 session 1@0 control 0 children 0 live\n", number);
 	size += (size_t)snprintf(said + size, sizeof said - size, SPACE GROUP);
-	is_fault(said, size, PIDTAB_FAULT_NO_NUMBER, 2);
+	struct text text = sealed(said, size);
+	struct pidtab table = PIDTAB_INIT;
+	struct pidtab_fault fault;
+
+	CHECK(pidtab_load(&table, text.bytes, text.size, &fault) == PIDTAB_DONE && pidtab_close(&table) == PIDTAB_DONE);
+	free(text.bytes);
 }
 
 /* A digest that is right but for its last digit. */
@@ -204,7 +209,7 @@ static void each_fault(void)
 	for (uint32_t i = 0; i < sizeof faults / sizeof faults[0]; i++) {
 		CHECK(faults[i].kind == i + 1 && strcmp(pidtab_fault_text(i + 1), faults[i].words) == 0);
 		if (faults[i].kind == PIDTAB_FAULT_NO_NUMBER)
-			no_number_left();
+			full_namespace();
 		else if (faults[i].kind == PIDTAB_FAULT_WRONG_DIGEST)
 			wrong_digest(faults[i].said, faults[i].line);
 		else

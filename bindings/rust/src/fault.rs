@@ -361,9 +361,9 @@ pub enum TextFault {
     TakenNumber,
     /// No task is the init of a namespace that has not fallen.
     NoInit,
-    /// No number is free for the init that a namespace once had.
+    /// Comes no more.
     NoNumber,
-    /// In no table is this line beside the others.
+    /// In no sound state is this line beside the others.
     Impossible,
 }
 

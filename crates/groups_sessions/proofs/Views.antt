@@ -1,11 +1,11 @@
 -- What each task is in, by the groups of tasks and the sessions of groups.
-use Rattle.std.proofs.Common.{◌≡◌, ◌≢◌, inl, inr, ℕ, ◌<◌, List, length, set, Bool, true, false, IsTrue, Option, Some, None, option_map, refl, sym, ap, subst, ◌∙◌, arith}
+use Rattle.std.proofs.Common.{◌≡◌, ◌≢◌, inl, inr, ℕ, ◌<◌, List, length, get_or, set, Bool, true, false, IsTrue, Option, Some, None, option_map, refl, sym, ap, subst, ◌∙◌, arith}
 use Rattle.std.specs.Prelude.{slice_index}
 use Rattle.std.proofs.lemmas.Bool.{cases_eq}
-use Rattle.std.proofs.lemmas.List.{ext_get_or, get_or-set_same, get_or-set_other, length-map, map-set}
+use Rattle.std.proofs.lemmas.List.{ext_get_or, get_or-set_same, get_or-set_other, length-map, length-set}
 use Rattle.std.proofs.Math.ListN.{get_or-map}
 use Rattle.member_lists.specs.Owners.{owner_of}
-use Rattle.groups_sessions.specs.Membership.{Membership, membership_at, group_of, session_of, groups_of, AreInSession, membership_in, memberships_of, IsKept}
+use Rattle.groups_sessions.specs.Membership.{Membership, membership_at, group_of, session_of, groups_of, AreInSession, AreOthersInSession, membership_in, memberships_of, IsKept}
 
 module _ (groups : List (Option ℕ)) (sessions : List ℕ) where
   pub membership_at-is : (k : ℕ) → membership_at (memberships_of groups sessions) k ≡ option_map (membership_in sessions) (owner_of groups k)
@@ -31,34 +31,47 @@ module _ (groups : List (Option ℕ)) (sessions : List ℕ) where
       go None e same = absurd (cc)
       go (Some g) e same = let at : membership_in sessions g ≡ m = cc in (e ∙ ap (λ (x : Membership). Some x.group) at, ap (λ (x : Membership). slice_index sessions x.group) (sym at) ∙ ap (λ (x : Membership). x.session) at)
 
-  module _ (t g s : ℕ) (inside : g < length sessions) (together : AreInSession (memberships_of groups sessions) g s) where
-    -- the group's session is what it was, if somebody is in it
-    session_kept : (k h : ℕ) → owner_of groups k ≡ Some h → slice_index (set sessions g s) h ≡ slice_index sessions h
-    session_kept k h mine = elim (cases_eq h g) [
+  module _ (t g s : ℕ) (inside : g < length sessions) (together : AreOthersInSession (memberships_of groups sessions) t g s) where
+    -- the group's session is what it was, if somebody else is in it
+    session_kept : (k h : ℕ) → k ≢ t → owner_of groups k ≡ Some h → slice_index (set sessions g s) h ≡ slice_index sessions h
+    session_kept k h another mine = elim (cases_eq h g) [
       | inl same ↦
           let at : group_of (memberships_of groups sessions) k ≡ Some g = group_of-is k ∙ mine ∙ ap Some same in
           let is : Some (slice_index sessions h) ≡ Some s =
-          sym (ap (option_map (λ (m : Membership). m.session)) (membership_at-is k ∙ ap (option_map (membership_in sessions)) mine)) ∙ together k at in
+          sym (ap (option_map (λ (m : Membership). m.session)) (membership_at-is k ∙ ap (option_map (membership_in sessions)) mine)) ∙ together k another at in
           let e : slice_index sessions h ≡ s = cc in
           ap (λ i. slice_index (set sessions g s) i) same ∙ get_or-set_same sessions g s 0 inside ∙ sym e
       | inr other ↦ get_or-set_other sessions g h s 0 other
     ]
 
-    kept : (k : ℕ) (o : Option ℕ) → owner_of groups k ≡ o → option_map (membership_in (set sessions g s)) o ≡ option_map (membership_in sessions) o
-    kept k None e = refl
-    kept k (Some h) e = ap (λ (i : ℕ). Some (record { group = h; session = i })) (session_kept k h e)
-
-    others : memberships_of groups (set sessions g s) ≡ memberships_of groups sessions
-    others =
-        ext_get_or None _ _ (length-map groups (option_map (membership_in (set sessions g s))) ∙ sym (length-map groups (option_map (membership_in sessions))))
-        (λ k _. get_or-map (option_map (membership_in (set sessions g s))) groups k None ∙ kept k (owner_of groups k) refl ∙ sym (membership_at-is k))
+    kept : (k : ℕ) → k ≢ t → (o : Option ℕ) → owner_of groups k ≡ o → option_map (membership_in (set sessions g s)) o ≡ option_map (membership_in sessions) o
+    kept k another None e = refl
+    kept k another (Some h) e = ap (λ (i : ℕ). Some (record { group = h; session = i })) (session_kept k h another e)
 
     -- one task goes into a group, which has its session
     pub memberships_of-put : memberships_of (set groups t (Some g)) (set sessions g s) ≡ set (memberships_of groups sessions) t (Some (record { group = g; session = s }))
     memberships_of-put =
-        map-set (option_map (membership_in (set sessions g s))) groups t (Some g)
-        ∙ ap (λ i. set (memberships_of groups (set sessions g s)) t (Some (record { group = g; session = i }))) (get_or-set_same sessions g s 0 inside)
-        ∙ ap (λ v. set v t (Some (record { group = g; session = s }))) others
+        ext_get_or None _ _
+        (length-map (set groups t (Some g)) (option_map (membership_in (set sessions g s))) ∙ length-set groups t (Some g)
+        ∙ sym (length-set (memberships_of groups sessions) t (Some (record { group = g; session = s })) ∙ length-map groups (option_map (membership_in sessions))))
+        (λ k low. get_or-map (option_map (membership_in (set sessions g s))) (set groups t (Some g)) k None ∙ at k (let l = length-map (set groups t (Some g)) (option_map (membership_in (set sessions g s))) in let m = length-set groups t (Some g) in omega (arith, low, l, m)))
+      where
+        at : (k : ℕ) → k < length groups
+            → option_map (membership_in (set sessions g s)) (get_or (set groups t (Some g)) k None) ≡ get_or (set (memberships_of groups sessions) t (Some (record { group = g; session = s }))) k None
+        at k low = elim (cases_eq k t) [
+          | inl same ↦
+              let here : t < length groups = subst (λ (j : ℕ). j < length groups) same low in
+              let there : t < length (memberships_of groups sessions) = (let l = length-map groups (option_map (membership_in sessions)) in omega (arith, here, l)) in
+              ap (λ j. option_map (membership_in (set sessions g s)) (get_or (set groups t (Some g)) j None)) same
+              ∙ ap (option_map (membership_in (set sessions g s))) (get_or-set_same groups t (Some g) None here)
+              ∙ ap (λ i. Some (record { group = g; session = i })) (get_or-set_same sessions g s 0 inside)
+              ∙ sym (ap (λ j. get_or (set (memberships_of groups sessions) t (Some (record { group = g; session = s }))) j None) same ∙ get_or-set_same (memberships_of groups sessions) t (Some (record { group = g; session = s })) None there)
+          | inr another ↦
+              ap (option_map (membership_in (set sessions g s))) (get_or-set_other groups t k (Some g) None another)
+              ∙ kept k another (owner_of groups k) refl
+              ∙ sym (membership_at-is k)
+              ∙ sym (get_or-set_other (memberships_of groups sessions) t k (Some (record { group = g; session = s })) None another)
+        ]
 
 -- at each key the group is what the lists say
 pub groups_of-is : (groups : List (Option ℕ)) (sessions : List ℕ) → groups_of (memberships_of groups sessions) ≡ groups
@@ -76,10 +89,10 @@ with_group v t g s is = go (membership_at v t) is
 
 -- the same, of a value seen from outside
 pub entered : (groups : List (Option ℕ)) (sessions : List ℕ) (v : List (Option Membership)) → memberships_of groups sessions ≡ v → IsKept groups sessions
-    → (t g s : ℕ) → g < length v → AreInSession v g s → memberships_of (set groups t (Some g)) (set sessions g s) ≡ set v t (Some (record { group = g; session = s }))
+    → (t g s : ℕ) → g < length v → AreOthersInSession v t g s → memberships_of (set groups t (Some g)) (set sessions g s) ≡ set v t (Some (record { group = g; session = s }))
 entered groups sessions v is kept t g s room together =
     let long = ap length is in
-    memberships_of-put groups sessions t g s (omega (arith, kept.room, long, length-map groups (option_map (membership_in sessions)))) (subst (λ (w : List (Option Membership)). AreInSession w g s) (sym is) together)
+    memberships_of-put groups sessions t g s (omega (arith, kept.room, long, length-map groups (option_map (membership_in sessions)))) (subst (λ (w : List (Option Membership)). AreOthersInSession w t g s) (sym is) together)
     ∙ ap (λ (w : List (Option Membership)). set w t (Some (record { group = g; session = s }))) is
 
 -- who is in no list is in no group

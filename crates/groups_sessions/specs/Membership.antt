@@ -31,6 +31,10 @@ HasMembers members group = (k : ℕ) × (group_of members k ≡ Some group)
 abbrev pub AreInSession : List (Option Membership) → ℕ → ℕ → Type 0
 AreInSession members group session = (k : ℕ) → group_of members k ≡ Some group → session_of members k ≡ Some session
 
+-- whoever else is in the group is in the session
+abbrev pub AreOthersInSession : List (Option Membership) → ℕ → ℕ → ℕ → Type 0
+AreOthersInSession members task group session = (k : ℕ) → k ≢ task → group_of members k ≡ Some group → session_of members k ≡ Some session
+
 -- the session of those who are in the group; none where nobody is
 abbrev pub IsSessionOf : List (Option Membership) → ℕ → Option ℕ → Type 0
 IsSessionOf members group session =

@@ -9,7 +9,7 @@ ghost use Rattle.std.specs.Prelude.{◌≡◌, ◌≢◌, ℕ, ◌<◌, ◌≤�
 ghost use Rattle.std.specs.Prelude.{IsTrue, OnOk, MatchResult, slice_set};
 ghost use Rattle.member_lists.specs.Owners.{AreMembers};
 ghost use Rattle.groups_sessions.specs.Membership.{Membership, membership_at, group_of, session_of, groups_of};
-ghost use Rattle.groups_sessions.specs.Membership.{HasMembers, AreInSession, IsSessionOf};
+ghost use Rattle.groups_sessions.specs.Membership.{HasMembers, AreInSession, AreOthersInSession, IsSessionOf};
 ghost use Rattle.groups_sessions.specs.Setpgid.{session_group as session_group_of, group_for as group_for_of};
 ghost use Rattle.groups_sessions.specs.Setpgid.{setpgid_answer};
 
@@ -109,11 +109,11 @@ impl Members {
         self.groups.move_to(task, ident);
     }
 
-    /// A task goes to a group in a session, whichever it was in. Whoever is in the group must be in that session.
+    /// A task goes to a group in a session, whichever it was in. Whoever else is in the group must be in that session.
     pub fn move_to(&mut self, task: TaskKey, group: IdentKey, session: IdentKey)
         requires group { group < length self.old }
         requires there { IsSome (membership_at self.old task) }
-        requires together { AreInSession self.old group session }
+        requires together { AreOthersInSession self.old task group session }
         ensures { self.new ≡ slice_set self.old task (Some (record { group = group; session = session })) }
     {
         self.sessions[group as usize] = session;

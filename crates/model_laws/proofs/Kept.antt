@@ -2,7 +2,7 @@
 use Rattle.model_laws.proofs.Words.{◌≡◌, ℕ, ℤ, pos, negsuc, ◌+◌, ◌<◌, true, false, ◌&&◌, ◌||◌, not, Some, refl, sym, ap, ◌∙◌, subst, ◌⊎◌, inl, inr, arith, if◌then◌else◌, cases_Bool, Name, Row, State, is_live, path_up, same_name, is_parent, task_at, names_in_use, on_row, with_row, sweep, target_of, set_group, group_for, has_members, set_children_space, IsIn, IsCoherent, IsSound, IsBelow, not_from_Decides}
 use Rattle.model_laws.proofs.Ground.{on_row-keeps, on_row-both, same_name-true, same_name-refl, own_name_in_use, group_in_use, session_in_use, number-within, space_at-Some, same_row, path_first}
 use Rattle.model_laws.specs.Refusals.{IsGroupFor}
-use Rattle.model_laws.specs.RestoreLaws.{StaysSound}
+use Rattle.model_laws.specs.StepLaws.{StaysSound}
 use Rattle.model_laws.proofs.Refusals.{group_found, task_found, target_found, Decides-members}
 use Rattle.model_laws.proofs.Sweeps.{from_kept, IsSound-sweep}
 use Rattle.model_laws.proofs.Survivors.{IsSettled, settled, Leaves, map_leaves, IsOwn, own_leaves}

@@ -20,7 +20,6 @@ pub mod ExitKept
 pub mod Inserts
 pub mod ForkKept
 pub mod StepKept
-pub mod Restored
 pub mod Bounds
 pub mod Limits
 pub mod Reuse

@@ -4,7 +4,7 @@ use Rattle.model_laws.proofs.Ground.{only, space_at-Some, live_row-Some, is_numb
 use Rattle.model_laws.specs.Script.{EndsSound}
 use Rattle.model_laws.proofs.Kept.{IsBelow-next, swept, swept_below, row_leaves, placed_leaves, join_leaves, grouped_leaves, IsOpen-new}
 use Rattle.model_laws.proofs.Survivors.{settled}
-use Rattle.model_laws.specs.RestoreLaws.{StaysSound}
+use Rattle.model_laws.specs.StepLaws.{StaysSound}
 use Rattle.model_laws.specs.StepLaws.{PlainCallsMakeNoId}
 use Rattle.model_laws.proofs.ControlsKept.{make_control_keeps, remove_control_leaves, set_limit_leaves}
 use Rattle.model_laws.proofs.EndsKept.{reaped_row, wait_leaves, fall_leaves}

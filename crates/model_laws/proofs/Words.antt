@@ -58,8 +58,6 @@ pub use Rattle.pid_types.specs.declared.plain.Life.TheVariants.{Zombie}
 pub use Rattle.pid_types.specs.declared.call.Kind.{Kind}
 pub use Rattle.pid_types.specs.declared.entry.Entry.{Entry}
 pub use Rattle.pid_types.specs.Limits.{ForkedWithinLimits, ForksStayWithinLimits}
-pub use Rattle.pid_types.specs.Restore.{enlist, may_enlist, put_cursor}
-unfoldable pub use Rattle.pid_types.specs.Restore.{enlisted, with_cursor}
 pub use Rattle.pid_types.specs.Settings.{HasGoodPidMax}
 pub use Rattle.pid_types.specs.declared.plain.ControlRow.{ControlRow}
 pub use Rattle.pid_types.specs.Shown.{with_count}

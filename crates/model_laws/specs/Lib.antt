@@ -7,7 +7,6 @@ pub mod NumberLaws
 pub mod ReuseLaws
 pub mod LimitLaws
 pub mod StepLaws
-pub mod RestoreLaws
 pub mod Draws
 pub mod Refusals
 pub mod WaitLaws

@@ -15,6 +15,10 @@ abbrev pub RootStateIsSound : Type 0
 RootStateIsSound =
     (pid_max first : ℕ) → HasGoodPidMax pid_max → 0 < first → IsSound (root_state pid_max) × IsBelow first (root_state pid_max)
 
+-- the new state is sound, and each stamp that is above all ids of the old one is above all of its own
+abbrev pub StaysSound : State → State → Type 0
+StaysSound old new = IsSound new × ((stamp : ℕ) → IsBelow stamp old → IsBelow stamp new)
+
 -- every call leaves a sound state, whose ids are below the next stamp
 abbrev pub StepKeepsSoundness : Type 0
 StepKeepsSoundness =

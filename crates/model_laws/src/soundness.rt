@@ -1,5 +1,4 @@
 //! Every call leaves a sound state.
-ghost use Rattle.model_laws.specs.RestoreLaws.{EnlistingKeepsSoundness, CursorsKeepSoundness};
 ghost use Rattle.model_laws.specs.StepLaws.{PlainCallsMakeNoId};
 ghost use Rattle.model_laws.specs.StepLaws.{BoundStays, RootInitLives, RootNeverFalls, RootStateIsSound};
 ghost use Rattle.model_laws.specs.StepLaws.{RunsKeepSoundness, StepKeepsSoundness};
@@ -15,13 +14,6 @@ pub fn soundness_is_kept()
     ensures step { StepKeepsSoundness }
     ensures plain { PlainCallsMakeNoId }
     ensures run { RunsKeepSoundness }
-{}
-
-/// What makes a saved table again leaves a sound state with no new id: a task that goes to another's group and session,
-/// and a cursor that is put elsewhere.
-pub fn soundness_is_restored()
-    ensures enlisting { EnlistingKeepsSoundness }
-    ensures cursors { CursorsKeepSoundness }
 {}
 
 /// No run of calls changes the bound of all numbers.

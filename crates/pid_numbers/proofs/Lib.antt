@@ -9,5 +9,6 @@ pub mod Climbs
 pub mod Drops
 pub mod Begins
 pub mod Inwards
+pub mod Marks
 pub mod Model
 pub mod Falling

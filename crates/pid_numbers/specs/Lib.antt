@@ -1,4 +1,5 @@
 pub mod Numbering
+pub mod Restore
 pub mod Blocks
 pub mod Table
 pub mod Slabs

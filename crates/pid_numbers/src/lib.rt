@@ -18,6 +18,7 @@ ghost use Rattle.pid_numbers.specs.Numbering.{Identifier, is_there, id_at, names
 ghost use Rattle.pid_numbers.specs.Numbering.{path_at, draw_in, moved, more, less, left_of, uses, is_used, is_used_as};
 ghost use Rattle.pid_numbers.specs.Numbering.{swept_at, new_namespace, new_identifier, levels_of, fallen_within};
 ghost use Rattle.pid_numbers.specs.Numbering.{taken_in, has_fallen_at, cursor_put, HasOwnTask, IsNextUsed, IsPlanFault};
+ghost use Rattle.pid_numbers.specs.Restore.{MayFall, is_flagged, fallen_if};
 ghost use Rattle.pid_types.specs.Bounds.{deepest_space};
 ghost use Rattle.pid_types.specs.Chains.{contains};
 ghost use Rattle.std.specs.Option.{option_map_or};
@@ -28,6 +29,7 @@ mod idents;
 mod levels;
 mod names;
 mod plan;
+mod restore;
 mod spaces;
 
 use arrayvec::ArrayVec;
@@ -42,6 +44,7 @@ use pid_types::call::Kind;
 use pid_types::keys::{IdentKey, Pid, SpaceKey};
 use pid_types::plain::{DEEPEST_SPACE, LEVELS, Name};
 pub use plan::PlanFault;
+use restore::{mark_all, may_all_fall};
 use spaces::{
     first_ids, give_path, look, next_at, plan_at, plan_path, prepare_path, put_cursor, put_ids,
     release_path, sweep,
@@ -491,6 +494,54 @@ impl Numbers {
             sessions: 0,
         });
         Ok((ident, key))
+    }
+
+    /// Makes a namespace inside the parent, in which no number is in use and none was drawn: a saved table has its
+    /// namespaces again. The error is want of memory, and then nothing has changed.
+    pub fn add_space(&mut self, parent: SpaceKey, id: u64) -> Result<SpaceKey, AllocError>
+        requires stands { option_map_or (λ t. t.fallen) (namespace_at self.old parent) true ≡ false }
+        requires shallow { length (path_at self.old parent) ≤ deepest_space }
+        requires above { AreBelow self.old.order id }
+        ensures fresh { IfOk result (λ key. namespace_at self.old key ≡ None) }
+        ensures made { IfOk result (λ key. namespace_at self.new key
+            ≡ Some (new_namespace id (key ∷ path_at self.old parent))) }
+        ensures others { IfOk result (λ key. (s : ℕ) → s ≢ key → namespace_at self.new s ≡ namespace_at self.old s) }
+        ensures order { IfOk result (λ key. self.new.order ≡ self.old.order ++ (id, key) ∷ []) }
+        ensures names { self.new.names ≡ self.old.names }
+        ensures next { self.new.next ≡ self.old.next }
+        ensures pid_max { self.new.pid_max ≡ self.old.pid_max }
+        ensures err { OnErr result (self.new ≡ self.old) }
+    {
+        let ids = CyclicIds::new(self.alloc, self.pid_max);
+        self.ids.try_reserve(1)?;
+        let key = self.tree.add(parent, id)?;
+        self.tree.laws();
+        put_ids(&mut self.ids, key, ids);
+        Ok(key)
+    }
+
+    /// Whether the namespaces with a flag, each flag at its key, may fall at once:
+    /// [`set_fallen`](Numbers::set_fallen). It costs a step for each namespace that is there.
+    pub fn may_fall(&self, flags: &[bool]) -> bool
+        ensures { IsTrue result → MayFall self.now flags.now }
+    {
+        may_all_fall(&self.tree, &self.ids, flags)
+    }
+
+    /// The namespaces with a flag have fallen, all at once: a saved table has its fallen namespaces again. It costs a
+    /// step for each flag.
+    pub fn set_fallen(&mut self, flags: &[bool])
+        requires may { MayFall self.old flags.now }
+        requires few { length flags.now < 2 ^ 32 }
+        ensures names { self.new.names ≡ self.old.names }
+        ensures namespaces { (s : ℕ) → namespace_at self.new s
+            ≡ option_map (fallen_if (is_flagged flags.now s)) (namespace_at self.old s) }
+        ensures order { self.new.order ≡ self.old.order }
+        ensures next { self.new.next ≡ self.old.next }
+        ensures pid_max { self.new.pid_max ≡ self.old.pid_max }
+    {
+        mark_all(&mut self.tree, flags);
+        self.tree.laws();
     }
 
     /// The namespace and all inside it have fallen. It costs a step for each namespace that is there, where these are

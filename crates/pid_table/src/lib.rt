@@ -16,7 +16,6 @@ ghost use Rattle.translate.specs.From.{rows_from};
 ghost use Rattle.translate.specs.Stat.{stat_at, glimpse_in, IsSeen};
 ghost use Rattle.pid_table.specs.Bare.{IsBare};
 
-mod restore;
 mod step;
 
 use model_laws::soundness::root_state_is_sound;
@@ -90,6 +89,14 @@ impl PidTable {
         let mut store = Tasks::new(alloc, config.pid_max())?;
         begin_root_init(&mut store)?;
         Ok(PidTable { store })
+    }
+
+    /// A table of a store whose state is sound: that of a saved text, say.
+    pub fn of(store: Tasks) -> PidTable
+        requires { IsWhole store }
+        ensures { result ≡ state_of store }
+    {
+        PidTable { store }
     }
 
     /// What is true at any time; the call does nothing. The state is sound.

@@ -16,7 +16,6 @@ pub mod Queries
 pub mod Changes
 pub mod Step
 pub mod Replay
-pub mod Restore
 pub mod Limits
 pub mod Sound
 pub mod Sight

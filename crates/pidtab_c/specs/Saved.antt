@@ -4,8 +4,8 @@ use Rattle.pid_types.specs.State.{State}
 use Rattle.table_text.specs.Texts.{text_of}
 use Rattle.table_text.specs.Ranges.{IsWord}
 use Rattle.table_text.specs.Reading.{IsHeldState}
-use Rattle.table_plan.specs.declared.fault.RestoreFault.{RestoreFault}
-use Rattle.table_plan.specs.declared.fault.RestoreFault.TheVariants as why
+use Rattle.table_load.specs.declared.fault.RestoreFault.{RestoreFault}
+use Rattle.table_load.specs.declared.fault.RestoreFault.TheVariants as why
 use Rattle.kept_table.specs.Calls.{resumed}
 use Rattle.kept_table.specs.Chronicle.{Chronicle, next_stamp}
 use Rattle.pidtab_c.specs.declared.saved_table.FaultNumbers.{FaultNumbers}
@@ -14,7 +14,7 @@ use Rattle.pidtab_c.specs.declared.saved_table.FaultNumbers.{FaultNumbers}
 abbrev pub no_fault : FaultNumbers
 no_fault = record { line = 0; kind = 0 }
 
--- the line of the fault, and its kind, which is its place among the faults of a text, from 1 on
+-- the line of the fault, and its kind, a number from 1 to 12 without 11, which once was a fault
 abbrev pub fault_numbers : RestoreFault → FaultNumbers
 fault_numbers why.NoMemory = no_fault
 fault_numbers (why.BadLine n) = record { line = n; kind = 1 }
@@ -27,7 +27,6 @@ fault_numbers (why.UnknownGroup n) = record { line = n; kind = 7 }
 fault_numbers (why.BadName n) = record { line = n; kind = 8 }
 fault_numbers (why.TakenNumber n) = record { line = n; kind = 9 }
 fault_numbers (why.NoInit n) = record { line = n; kind = 10 }
-fault_numbers (why.NoNumber n) = record { line = n; kind = 11 }
 fault_numbers (why.Impossible n) = record { line = n; kind = 12 }
 
 -- a count for each worker of a record

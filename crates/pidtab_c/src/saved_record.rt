@@ -16,7 +16,7 @@ use kept_table::Kept;
 use std::alloc::{AllocError, Global};
 use table_lines::dump::dump_table;
 use table_load::load::{Loaded, table_of};
-use table_plan::fault::RestoreFault;
+use table_load::fault::RestoreFault;
 use table_text::laws::{texts_tell_states, what_fits_is_of_words};
 use table_text::read::read_text;
 

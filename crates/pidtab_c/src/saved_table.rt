@@ -1,8 +1,8 @@
 //! A table as a text, for C: the text is written, and a table is opened as such a text says.
 ghost use Rattle.std.specs.Prelude.{◌≡◌, ◌≢◌, ◌<◌, ◌≤◌, ◌↔◌, ◌⊎◌, IsSome, None, IfOk};
 ghost use Rattle.std.specs.Prelude.{length, take, drop, IfErr};
-ghost use Rattle.table_plan.specs.declared.fault.RestoreFault.TheVariants.{NoMemory};
-ghost use Rattle.table_plan.specs.Faults.{IsOfForm};
+ghost use Rattle.table_load.specs.declared.fault.RestoreFault.TheVariants.{NoMemory};
+ghost use Rattle.table_load.specs.Faults.{IsOfForm};
 ghost use Rattle.table_text.specs.Reading.{IsNoText};
 ghost use Rattle.table_text.specs.Texts.{text_of};
 ghost use Rattle.pidtab_c.specs.Records.{Has};
@@ -15,10 +15,10 @@ use crate::status::{BAD_TEXT, BUSY, CLOSED, DONE, NO_MEMORY, NO_ROOM};
 use crate::texts::write_text;
 use std::alloc::Global;
 use table_load::load::load;
-use table_plan::fault::RestoreFault;
+use table_load::fault::RestoreFault;
 
-/// Why no table is loaded from a text: the fault's line, counted from 1, and its kind, which is its place among the
-/// faults of a text in [`RestoreFault`], from 1 on. Both are 0 where the text has no fault.
+/// Why no table is loaded from a text: the fault's line, counted from 1, and its kind, a number from 1 to 12 but
+/// 11, which once was a fault. Both are 0 where the text has no fault.
 #[repr(C)]
 #[derive(Clone, Copy)]
 pub struct FaultNumbers {
@@ -42,7 +42,6 @@ pub(crate) fn tell_fault(fault: RestoreFault) -> FaultNumbers
         RestoreFault::BadName(line) => (line, 8),
         RestoreFault::TakenNumber(line) => (line, 9),
         RestoreFault::NoInit(line) => (line, 10),
-        RestoreFault::NoNumber(line) => (line, 11),
         RestoreFault::Impossible(line) => (line, 12),
     };
     FaultNumbers { line, kind }

@@ -6,5 +6,3 @@ pub mod InSession
 pub mod Asked
 pub mod Regrouped
 pub mod Led
-pub mod Enlisted
-pub mod Cursors

@@ -7,5 +7,4 @@
 
 pub mod controls;
 pub mod groups;
-pub mod restore;
 pub mod tasks;

@@ -1,3 +1,5 @@
-pub mod Below
-pub mod Controls
+pub mod LowIds
+pub mod SameControls
 pub mod States
+pub mod Puts
+pub mod Youth

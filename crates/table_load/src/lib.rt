@@ -1,17 +1,21 @@
 //! Saved texts to tables: [`load::load`] makes the table that a text was written of.
 //!
-//! The table is made by its own calls, and by the two changes beside them that make a saved table again. These keep it
-//! sound at every step. Then its snapshot is compared with the text. So a loaded table is sound because it is a
-//! [`PidTable`](pid_table::PidTable), and it is what the text says because it was compared.
-//!
-//! All that lives or has left its name is made first, as live tasks. Then it gets its marks, groups and sessions, and
-//! at last what has ended ends. The cost is that of as many forks as there are tasks, with a few searches for each.
-//! Besides the table it needs room for what the text says, twice over.
+//! What the text says is put into an empty store, part by part: control groups, namespaces, the names of the tasks, the
+//! groups and sessions, parents and ends, falls and cursors. No call is made, so nothing has to be sound on the way. At
+//! the end it is decided whether the store is sound ([`sound_store`]), and its state is compared with the text. So a
+//! loaded table is sound because that was decided, and it is what the text says because it was compared.
 #![tactic(auto)]
 
+mod begin;
+mod below;
+mod build;
 mod compare;
-mod draft;
-mod ends;
-mod groups;
+mod controls;
+pub mod fault;
+mod falls;
+mod flaws;
+pub mod lines;
 pub mod load;
-mod make;
+mod names;
+mod settle;
+mod spaces;

@@ -1,14 +1,18 @@
 //! The way from a text to a table: [`load`].
 ghost use Rattle.std.specs.Prelude.{◌≡◌, IfOk, IfErr};
 ghost use Rattle.pid_types.specs.Sound.{IsSound, IsBelow};
-ghost use Rattle.table_plan.specs.Faults.{IsOfForm};
+ghost use Rattle.table_load.specs.Faults.{IsOfForm};
 ghost use Rattle.table_text.specs.Reading.{IsNoText, saved_state};
 ghost use Rattle.table_text.specs.Texts.{text_of};
 
-use crate::make::make_table;
+use crate::below::is_below;
+use crate::build::build;
+use crate::compare::{first_unlike, is_same};
+use crate::fault::RestoreFault;
+use crate::flaws::fault_of;
 use pid_table::PidTable;
+use sound_store::check_sound;
 use std::alloc::Global;
-use table_plan::fault::RestoreFault;
 use table_text::read::{Saved, read_text};
 
 /// A table that was loaded from a text.
@@ -23,12 +27,12 @@ pub struct Loaded {
 /// The table that a text was written of, and the stamp of its next call. `docs/SCRIPT.md` has the form.
 ///
 /// The error is the first that is met: a fault of the text with its line, or want of memory. Then nothing is kept. That
-/// a line is bad, or the digest wrong, is said of a text that is that of no state alone. A
-/// text that a table wrote is refused in one case, with [`RestoreFault::NoNumber`]: where a namespace without an init
-/// has to be made again in one whose numbers are all in use.
+/// a line is bad, or the digest wrong, is said of a text that is that of no state alone. The form is looked at first,
+/// then the settings, the control groups, the namespaces, the names of the tasks, the groups and sessions, parents and
+/// ends, falls, and at last what makes the state sound.
 ///
-/// For each task it costs a reading of its line, a fork, and a comparison of its row. A search by number is added where
-/// a parent, a group or a session is not the one of the line before, and for each cursor that is to be put.
+/// For each task it costs a reading of its line, a fork, and a comparison of its row, and a search by number for its
+/// group, its session and its parent; for each namespace and each control group a few searches by id.
 pub fn load(alloc: Global, text: &[u8]) -> Result<Loaded, RestoreFault>
     ensures text { IfOk result (λ l. text.now ≡ text_of l.stamp l.table) }
     ensures sound { IfOk result (λ l. IsSound l.table × IsBelow l.stamp l.table) }
@@ -52,14 +56,29 @@ pub fn table_of(alloc: Global, saved: &Saved) -> Result<Loaded, RestoreFault>
     }
 }
 
-/// The table is made, and compared with what the text says.
+/// The store is made, found to be sound, and compared with what the text says.
 fn make_as_said(alloc: Global, saved: &Saved) -> Result<Loaded, RestoreFault>
     ensures state { IfOk result (λ l. l.table ≡ saved_state saved.now) }
     ensures stamp { IfOk result (λ l. l.stamp ≡ saved.now.stamp) }
     ensures sound { IfOk result (λ l. IsSound l.table × IsBelow l.stamp l.table) }
 {
-    let draft = make_table(alloc, saved)?;
-    draft.finish(saved)
+    if !is_below(saved) {
+        return Err(RestoreFault::BadSettings(1));
+    }
+    let store = build(alloc, saved)?;
+    if let Err(flaw) = check_sound(alloc, &store) {
+        return Err(fault_of(saved, flaw));
+    }
+    let table = PidTable::of(store);
+    table.laws();
+    if !is_same(&table, saved)? {
+        let plain = table.snapshot()?;
+        return Err(RestoreFault::Impossible(first_unlike(&plain, saved)));
+    }
+    Ok(Loaded {
+        table,
+        stamp: saved.stamp,
+    })
 }
 
 /// A fault of what a text says. It is none of the text's form, which was read.
@@ -68,7 +87,7 @@ fn beside_form(fault: RestoreFault) -> RestoreFault
     ensures other { (IsOfForm fault → ⊥) → result ≡ fault }
 {
     match fault {
-        // Never so: no plan says this.
+        // Never so: nothing behind the reading says this.
         RestoreFault::BadLine(line) | RestoreFault::WrongDigest(line) => {
             RestoreFault::Impossible(line)
         }

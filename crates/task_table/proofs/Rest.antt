@@ -56,9 +56,10 @@ handed-over s charges w from to homes all =
     (λ c. ap (λ o. option_map_or (λ h. h.zombies) o 0) (homes c) ∙ handed-zombies from to (home_at s.charges c))
     all
 
--- the identifiers and the paths are the same
-pub renumbered : (s : Store) (b : Numbering) → IsStore s → b.names ≡ s.numbering.names → ((p : ℕ) → path_at b p ≡ path_at s.numbering p) → IsStore (record s { numbering = b })
-renumbered s b w names paths = record {
+-- the identifiers are the same, and so are the paths of their namespaces
+pub renumbered-where : (s : Store) (b : Numbering) → IsStore s → b.names ≡ s.numbering.names
+    → ((i : ℕ) (u : Identifier) → identifier_at s.numbering i ≡ Some u → path_at b u.space ≡ path_at s.numbering u.space) → IsStore (record s { numbering = b })
+renumbered-where s b w names paths = record {
   members = w.members;
   live = w.live;
   zombies = w.zombies;
@@ -76,11 +77,15 @@ renumbered s b w names paths = record {
     same kind i = ap (λ o. option_map_or (uses kind) o 0) (at i)
 
     number : (k t : ℕ) → number_of b k t ≡ number_of s.numbering k t
-    number k t = ap (number_in (path_at b) t) (at k) ∙ through (identifier_at s.numbering k)
+    number k t = ap (number_in (path_at b) t) (at k) ∙ through (identifier_at s.numbering k) refl
       where
-        through : (o : Option Identifier) → number_in (path_at b) t o ≡ number_in (path_at s.numbering) t o
-        through None = refl
-        through (Some u) = ap (λ p. beside t p u.numbers) (paths u.space)
+        through : (o : Option Identifier) → identifier_at s.numbering k ≡ o → number_in (path_at b) t o ≡ number_in (path_at s.numbering) t o
+        through None is = refl
+        through (Some u) is = ap (λ p. beside t p u.numbers) (paths k u is)
+
+-- the identifiers and the paths are the same
+pub renumbered : (s : Store) (b : Numbering) → IsStore s → b.names ≡ s.numbering.names → ((p : ℕ) → path_at b p ≡ path_at s.numbering p) → IsStore (record s { numbering = b })
+renumbered s b w names paths = renumbered-where s b w names (λ i u is. paths u.space)
 
 -- lists of which one is longer by nothing count alike
 pub count-pointwise : {X : Type 0} (p : Option X → Bool) → p None ≡ false → (xs ys : List (Option X)) → ((i : ℕ) → get_or xs i None ≡ get_or ys i None) → count_by p xs ≡ count_by p ys

@@ -23,10 +23,12 @@ ghost use Rattle.pid_types.specs.declared.plain.Life.{Life};
 ghost use Rattle.pid_numbers.specs.Numbering.{namespace_at, identifier_at, number_of, path_at, has_fallen_at};
 ghost use Rattle.pid_numbers.specs.Numbering.{HasOwnTask, fallen_within, draw_in, moved as cursor_moved, new_namespace};
 ghost use Rattle.pid_numbers.specs.Numbering.{new_identifier, Identifier, cursor_put};
+ghost use Rattle.pid_numbers.specs.Restore.{MayFall, is_flagged, fallen_if};
 ghost use Rattle.pids_charge.specs.Charges.{Charges, Home, home_at, id_at, stands, kept, moved, handed_on};
 ghost use Rattle.pids_charge.specs.Charges.{remove_refusal, limit_refusal, ChangesHome};
 ghost use Rattle.task_tree.specs.Tree.{task_at, parent_of, rank_of, lives, handed};
 ghost use Rattle.groups_sessions.specs.Membership.{Membership, membership_at, group_of, session_of, AreInSession};
+ghost use Rattle.groups_sessions.specs.Membership.{AreOthersInSession};
 ghost use Rattle.task_table.specs.Store.{IsStore, IsLess, IsSame, Begins, home_without};
 
 mod homes;
@@ -201,6 +203,21 @@ impl Tasks {
         }
     }
 
+    /// A live task without a parent becomes a child of one: [`TaskTree::adopt`].
+    pub fn adopt(&mut self, key: TaskKey, parent: TaskKey)
+        requires live { option_map lives (task_at self.old.tree key) ≡ Some true }
+        requires orphan { parent_of self.old.tree key ≡ None }
+        requires parent { IsSome (task_at self.old.tree parent) }
+        ensures tasks { self.new.tree.tasks ≡ self.old.tree.tasks }
+        ensures parent { parent_of self.new.tree key ≡ Some parent }
+        ensures others { (k : ℕ) → k ≢ key → parent_of self.new.tree k ≡ parent_of self.old.tree k }
+        ensures ranks { self.new.tree.ended ≡ self.old.tree.ended }
+        ensures rest { self.new ≡ record self.old { tree = self.new.tree } }
+    {
+        self.tree.laws();
+        self.tree.adopt(key, parent);
+    }
+
     /// All children of the one task become the other's, whose own namespace is the same.
     pub fn hand_on(&mut self, from: TaskKey, to: TaskKey)
         requires differ { from ≢ to }
@@ -237,13 +254,13 @@ impl Tasks {
         take_use(&mut self.numbers, old, Kind::Group);
     }
 
-    /// A task goes to a group in a session, whichever it was in. All members of the group are in that session.
+    /// A task goes to a group in a session, whichever it was in. All others in the group are in that session.
     pub fn move_to(&mut self, key: TaskKey, group: IdentKey, session: IdentKey)
         requires there { IsSome (membership_at self.old.members key) }
         requires group { IsSome (identifier_at self.old.numbering group) }
         requires session { IsSome (identifier_at self.old.numbering session) }
         requires room { group < length self.old.members }
-        requires together { AreInSession self.old.members group session }
+        requires together { AreOthersInSession self.old.members key group session }
         ensures members { self.new.members ≡ slice_set self.old.members key
             (Some (record { group = group; session = session })) }
         ensures numbers { IsLess self.old.numbering self.new.numbering }
@@ -367,6 +384,40 @@ impl Tasks {
         ensures rest { self.new ≡ record self.old { numbering = self.new.numbering } }
     {
         self.numbers.fell(space);
+    }
+
+    /// Makes a namespace in which no number is in use yet: [`Numbers::add_space`].
+    pub fn add_space(&mut self, parent: SpaceKey, id: u64) -> Result<SpaceKey, AllocError>
+        requires stands { option_map_or (λ t. t.fallen) (namespace_at self.old.numbering parent) true ≡ false }
+        requires shallow { length (path_at self.old.numbering parent) ≤ deepest_space }
+        requires above { AreBelow self.old.numbering.order id }
+        ensures fresh { IfOk result (λ key. namespace_at self.old.numbering key ≡ None) }
+        ensures made { IfOk result (λ key. namespace_at self.new.numbering key
+            ≡ Some (new_namespace id (key ∷ path_at self.old.numbering parent))) }
+        ensures others { IfOk result (λ key. (s : ℕ) → s ≢ key
+            → namespace_at self.new.numbering s ≡ namespace_at self.old.numbering s) }
+        ensures order { IfOk result (λ key. self.new.numbering.order ≡ self.old.numbering.order ++ (id, key) ∷ []) }
+        ensures names { self.new.numbering.names ≡ self.old.numbering.names }
+        ensures bound { self.new.numbering.pid_max ≡ self.old.numbering.pid_max }
+        ensures rest { self.new ≡ record self.old { numbering = self.new.numbering } }
+        ensures err { OnErr result (self.new ≡ self.old) }
+    {
+        self.numbers.laws();
+        self.numbers.add_space(parent, id)
+    }
+
+    /// The namespaces with a flag have fallen, all at once: [`Numbers::set_fallen`].
+    pub fn set_fallen(&mut self, flags: &[bool])
+        requires may { MayFall self.old.numbering flags.now }
+        requires few { length flags.now < 2 ^ 32 }
+        ensures names { self.new.numbering.names ≡ self.old.numbering.names }
+        ensures order { self.new.numbering.order ≡ self.old.numbering.order }
+        ensures namespaces { (s : ℕ) → namespace_at self.new.numbering s
+            ≡ option_map (fallen_if (is_flagged flags.now s)) (namespace_at self.old.numbering s) }
+        ensures bound { self.new.numbering.pid_max ≡ self.old.numbering.pid_max }
+        ensures rest { self.new ≡ record self.old { numbering = self.new.numbering } }
+    {
+        self.numbers.set_fallen(flags);
     }
 
     /// The next draw in the namespace begins at the number: [`Numbers::put_cursor`].

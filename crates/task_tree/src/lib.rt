@@ -204,6 +204,20 @@ impl TaskTree {
         }
     }
 
+    /// A live task without a parent becomes a child of one. A saved table has its parents again by this; no system call
+    /// does it.
+    pub fn adopt(&mut self, key: TaskKey, parent: TaskKey)
+        requires live { option_map lives (task_at self.old key) ≡ Some true }
+        requires orphan { parent_of self.old key ≡ None }
+        requires parent { parent < length self.old.tasks }
+        ensures tasks { self.new.tasks ≡ self.old.tasks }
+        ensures parent { parent_of self.new key ≡ Some parent }
+        ensures others { (k : ℕ) → k ≢ key → parent_of self.new k ≡ parent_of self.old k }
+        ensures ranks { self.new.ended ≡ self.old.ended }
+    {
+        self.children.add(key, parent);
+    }
+
     /// The task becomes another one in the same place, with the same life.
     pub fn update(&mut self, key: TaskKey, task: Task)
         requires { option_map (λ (t : Task). t.life) (task_at self.old key) ≡ Some task.life }

@@ -4,8 +4,8 @@ use hex::encode;
 use sha2::{Digest, Sha256};
 use std::alloc::{AllocError, Global};
 use std::test::Fail;
+use table_load::fault::RestoreFault;
 use table_load::load::load;
-use table_plan::fault::RestoreFault;
 
 /// The text with its last line.
 fn with_end(alloc: Global, said: &[u8]) -> Result<Vec<u8>, AllocError> {
@@ -47,7 +47,7 @@ fn loads_the_first_state(rt: HostRuntime) -> Result<(), Fail> {
 
 #[test]
 fn refuses_bad_tasks(rt: HostRuntime) -> Result<(), Fail> {
-    let cases: [(&[u8], RestoreFault); 11] = [
+    let cases: [(&[u8], RestoreFault); 10] = [
         (
             b"task 2@0 parent 7@0 group 1@0 session 1@0 control 0 children 0 live\n",
             RestoreFault::UnknownParent(3),
@@ -83,10 +83,6 @@ fn refuses_bad_tasks(rt: HostRuntime) -> Result<(), Fail> {
         (
             b"task 2@0 parent 1@0 group 1@0 session 1@0 control 0 children 9 live\n",
             RestoreFault::BadSettings(1),
-        ),
-        (
-            b"task 2@0 parent 1@0 group 1@0 session 1@0 control 0 children 0 killed\n",
-            RestoreFault::Impossible(3),
         ),
         (
             b"task 1@0 parent - group 1@0 session 1@0 control 0 children 0 live\n",
@@ -200,7 +196,7 @@ control 0 parent - limit max
 ";
     assert_eq!(rt;
         fault_of(rt.alloc(), said)?,
-        Some(RestoreFault::Impossible(5))
+        Some(RestoreFault::TakenNumber(5))
     );
     let bare: &[u8] = b"pidtab table 1 pid-max 301 stamp 9
 task 1@0 parent - group 1@0 session 1@0 control 0 children 0 live
@@ -216,9 +212,9 @@ control 0 parent - limit max
     Ok(())
 }
 
-/// All numbers are in use, and the root's children go into a namespace that has gone: its init has none.
+/// All numbers are in use, and the root's children go into a namespace that has gone.
 #[test]
-fn finds_no_number_for_an_init(rt: HostRuntime) -> Result<(), Fail> {
+fn takes_a_full_namespace(rt: HostRuntime) -> Result<(), Fail> {
     let alloc = rt.alloc();
     let mut said = String::from_str(
         alloc,
@@ -233,10 +229,7 @@ task 1@0 parent - group 1@0 session 1@0 control 0 children 7 live
         said.push_str(line.as_str())?;
     }
     said.push_str("space 0 parent - cursor 2\ncontrol 0 parent - limit max\n")?;
-    assert_eq!(rt;
-        fault_of(alloc, said.as_bytes())?,
-        Some(RestoreFault::NoNumber(2))
-    );
+    assert_eq!(rt; fault_of(alloc, said.as_bytes())?, None);
     Ok(())
 }
 

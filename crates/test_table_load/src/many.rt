@@ -52,16 +52,7 @@ fn keeps_many(alloc: Global) -> Result<(), Wrong> {
     for _space in 0..TASKS / IN_SPACE {
         make_space(&mut table)?;
     }
-    let text = table.text(alloc)?;
-    match Running::from_text(alloc, text.as_slice()) {
-        Ok(loaded) => {
-            if loaded.text(alloc)?.as_slice() == text.as_slice() {
-                return Ok(());
-            }
-            Err(Wrong::OtherText(0))
-        }
-        Err(fault) => Err(Wrong::NotLoaded(0, fault)),
-    }
+    table.comes_back(alloc)
 }
 
 #[test]

@@ -8,8 +8,8 @@ use pid_types::plain::Plain;
 use pid_types::reply::Reply;
 use std::alloc::{AllocError, Global};
 use std::marker::Model;
+use table_load::fault::RestoreFault;
 use table_load::load::load;
-use table_plan::fault::RestoreFault;
 use table_text::dump::dump_text;
 use thiserror::Error;
 
@@ -88,6 +88,19 @@ impl Running {
     /// What the table shows.
     pub fn look(&self) -> Result<Plain, AllocError> {
         self.table.snapshot()
+    }
+
+    /// Saves the table and loads it, which is to be as it was.
+    pub fn comes_back(&self, alloc: Global) -> Result<(), Wrong> {
+        let text = self.text(alloc)?;
+        let loaded = match Running::from_text(alloc, text.as_slice()) {
+            Ok(loaded) => loaded,
+            Err(fault) => return Err(Wrong::NotLoaded(0, fault)),
+        };
+        if loaded.text(alloc)?.as_slice() == text.as_slice() {
+            return Ok(());
+        }
+        Err(Wrong::OtherText(0))
     }
 
     /// The text of the table.

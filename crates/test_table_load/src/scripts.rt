@@ -15,16 +15,7 @@ fn keeps(alloc: Global, lines: &[&[u8]]) -> Result<(), Wrong> {
             let _reply = table.call(call)?;
         }
     }
-    let text = table.text(alloc)?;
-    match Running::from_text(alloc, text.as_slice()) {
-        Ok(loaded) => {
-            if loaded.text(alloc)?.as_slice() == text.as_slice() {
-                return Ok(());
-            }
-            Err(Wrong::OtherText(0))
-        }
-        Err(fault) => Err(Wrong::NotLoaded(0, fault)),
-    }
+    table.comes_back(alloc)
 }
 
 /// Children that go into namespaces which have gone, one inside the other.

@@ -1,5 +1,5 @@
 use Rattle.std.proofs.Common.{arith}
-use Rattle.table_load.proofs.Controls.{same-next, same-all}
+use Rattle.table_load.proofs.SameControls.{same-next, same-all}
 use Rattle.table_load.proofs.compare.have_same_controls.Goals as goal
 
 pub loop-index-preserved : goal.loop-index-preserved

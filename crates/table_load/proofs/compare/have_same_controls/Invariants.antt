@@ -1,4 +1,4 @@
-use Rattle.table_load.proofs.Controls.{AreSame}
+use Rattle.table_load.proofs.SameControls.{AreSame}
 use Rattle.table_load.proofs.compare.have_same_controls.Given as goal
 
 abbrev pub invariant-loop-index : goal.invariant-loop-index

@@ -1,0 +1,27 @@
+use Rattle.pid_numbers.proofs.Words.{◌≡◌, ◌≢◌, ◌∙◌, ◌<◌, ◌≤◌, ◌+◌, ℕ, ap, arith, sym, length, option_map, cases_eq, cases_lt, get_or_past, false, node_in}
+use Rattle.std.proofs.Common.{inl, inr, ◌⊎◌}
+use Rattle.pid_numbers.specs.Restore.{is_flagged, felled_if}
+use Rattle.pid_numbers.proofs.Marks.{unmarked}
+use Rattle.pid_numbers.proofs.restore.mark_all.Goals as goal
+
+pub loop-key-preserved : goal.loop-key-preserved
+loop-key-preserved c = record {
+  done = λ s low. elim (cases_eq s c.loop-key.key) [
+    | inl same ↦
+        ap (node_in c.mark_one.new.tree.nodes) same ∙ c.mark_one.ensures.here
+        ∙ ap (option_map (felled_if (is_flagged c.args.flags.now c.loop-key.key))) (c.loop-key.invariant.left c.loop-key.key (omega arith))
+        ∙ sym (ap (λ k. option_map (felled_if (is_flagged c.args.flags.now k)) (node_in c.args.tree.now.nodes k)) same)
+    | inr another ↦ c.mark_one.ensures.others s another ∙ c.loop-key.invariant.done s (grind (arith, low, another))
+  ];
+  left = λ s high. c.mark_one.ensures.others s (λ e. omega (arith, high, e)) ∙ c.loop-key.invariant.left s (omega (arith, high));
+  count = c.mark_one.ensures.count ∙ c.loop-key.invariant.count;
+  order = c.mark_one.ensures.order ∙ c.loop-key.invariant.order;
+}
+
+pub returns-clause-nodes : goal.returns-clause-nodes
+returns-clause-nodes c s = elim (cases_lt s c.loop-key.key) [
+  | inl low ↦ c.loop-key.invariant.done s low
+  | inr high ↦
+      c.loop-key.invariant.left s high
+      ∙ sym (unmarked (is_flagged c.args.flags.now s) (get_or_past c.args.flags.now s false (let end = c.loop-key-test.false in omega (arith, high, end))) (node_in c.args.tree.now.nodes s))
+]

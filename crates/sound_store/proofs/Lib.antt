@@ -1,0 +1,9 @@
+pub mod Results
+pub mod Places
+pub mod Groups
+pub mod Around
+pub mod Ways
+pub mod Made
+pub mod Told
+pub mod Walks
+pub mod Marks

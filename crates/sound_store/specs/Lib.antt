@@ -1,0 +1,6 @@
+pub mod Tasks
+pub mod Next
+pub mod Spaces
+pub mod Groups
+pub mod Ways
+pub mod Flaws

@@ -1,0 +1,45 @@
+//! Whether all ids of a text are below its stamp.
+ghost use Rattle.std.specs.Prelude.{◌≡◌, IsTrue, nat_lt};
+ghost use Rattle.std.specs.List.{list_all};
+ghost use Rattle.pid_types.specs.Sound.{IsBelow};
+ghost use Rattle.pid_types.specs.declared.plain.Control.{Control};
+ghost use Rattle.pid_types.specs.declared.plain.Row.{Row};
+ghost use Rattle.pid_types.specs.declared.plain.Space.{Space};
+ghost use Rattle.table_text.specs.Reading.{saved_state};
+
+use pid_types::plain::{Control, Row, Space};
+use table_text::read::Saved;
+
+/// Whether the namespaces' ids are below the stamp.
+fn are_spaces_below(spaces: &[Space], stamp: u64) -> bool
+    ensures { result ≡ list_all (λ (s : Space). nat_lt s.id stamp) spaces.now }
+{
+    spaces.iter().all(|space| space.id < stamp)
+}
+
+/// Whether the control groups' ids are below the stamp.
+fn are_controls_below(controls: &[Control], stamp: u64) -> bool
+    ensures { result ≡ list_all (λ (c : Control). nat_lt c.id stamp) controls.now }
+{
+    controls.iter().all(|control| control.id < stamp)
+}
+
+/// Whether the ids of the namespaces that children go into are below the stamp.
+fn are_children_below(rows: &[Row], stamp: u64) -> bool
+    ensures { result ≡ list_all (λ (r : Row). nat_lt r.children_space stamp) rows.now }
+{
+    rows.iter().all(|row| row.children_space < stamp)
+}
+
+/// Whether all ids of the text are below its stamp.
+pub fn is_below(saved: &Saved) -> bool
+    ensures { IsTrue result → IsBelow saved.now.stamp (saved_state saved.now) }
+{
+    if !are_spaces_below(&saved.spaces, saved.stamp) {
+        return false;
+    }
+    if !are_controls_below(&saved.controls, saved.stamp) {
+        return false;
+    }
+    are_children_below(&saved.rows, saved.stamp)
+}

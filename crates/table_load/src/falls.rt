@@ -1,0 +1,72 @@
+//! The namespaces of a text fall, and their cursors are put.
+ghost use Rattle.std.specs.Prelude.{◌<◌, ◌^◌, length, OnOk, IfOk};
+
+use crate::fault::RestoreFault;
+use crate::lines::space_line;
+use pid_types::keys::SpaceKey;
+use std::alloc::{AllocError, Global};
+use table_text::read::Saved;
+use task_table::Tasks;
+
+/// Sets the flag of a key.
+fn set_flag(flags: &mut Vec<bool>, key: SpaceKey) -> Result<(), AllocError> {
+    let place = key as usize;
+    if place >= flags.len() {
+        flags.resize(place.saturating_add(1), false)?;
+    }
+    if let Some(flag) = flags.get_mut(place) {
+        *flag = true;
+    }
+    Ok(())
+}
+
+/// At the key of each namespace whether it has fallen by its line.
+fn fallen_flags(
+    alloc: Global,
+    store: &Tasks,
+    saved: &Saved,
+) -> Result<Vec<bool>, RestoreFault> {
+    let mut flags = Vec::new(alloc);
+    for (index, space) in saved.spaces.iter().enumerate() {
+        let Some(key) = store.numbers().find_space(space.id) else {
+            return Err(RestoreFault::UnknownNamespace(space_line(saved, index)));
+        };
+        if space.fallen {
+            set_flag(&mut flags, key)?;
+        }
+    }
+    Ok(flags)
+}
+
+/// The line of the first namespace that has fallen.
+fn first_fallen(saved: &Saved) -> u64 {
+    for (index, space) in saved.spaces.iter().enumerate() {
+        if space.fallen {
+            return space_line(saved, index);
+        }
+    }
+    space_line(saved, 0)
+}
+
+/// The namespaces fall that have fallen by their lines: in each a number is in use, and all in one have fallen too.
+pub fn put_falls(
+    alloc: Global,
+    store: &mut Tasks,
+    saved: &Saved,
+) -> Result<(), RestoreFault> {
+    let flags = fallen_flags(alloc, store, saved)?;
+    if u32::try_from(flags.len()).is_err() || !store.numbers().may_fall(&flags) {
+        return Err(RestoreFault::Impossible(first_fallen(saved)));
+    }
+    store.set_fallen(&flags);
+    Ok(())
+}
+
+/// Each namespace has its cursor again.
+pub fn put_cursors(store: &mut Tasks, saved: &Saved) {
+    for space in &saved.spaces {
+        if let Some(key) = store.numbers().find_space(space.id) {
+            store.put_cursor(key, space.cursor);
+        }
+    }
+}

@@ -1,0 +1,67 @@
+//! Why no table is loaded from a text.
+
+use std::alloc::AllocError;
+use table_text::fault::LoadFault;
+use thiserror::Error;
+
+/// Why no table is loaded from a text. Each fault but want of memory names a line, counted from 1.
+#[derive(Clone, Copy, Debug, PartialEq, Eq, Error)]
+pub enum RestoreFault {
+    /// There was no memory for the table.
+    #[error("no memory")]
+    NoMemory,
+    /// The line is none of those that the form has there.
+    #[error("line {0}: bad line")]
+    BadLine(u64),
+    /// The last line is not that of the text before it.
+    #[error("line {0}: wrong digest")]
+    WrongDigest(u64),
+    /// The bound of all numbers is outside 301 to 4194304, or some id of the text is not below the stamp.
+    #[error("line {0}: bad settings")]
+    BadSettings(u64),
+    /// The line's number or id is not above that of the line before.
+    #[error("line {0}: out of order")]
+    Unsorted(u64),
+    /// No line has the task's parent, or the namespace around the namespace.
+    #[error("line {0}: unknown parent")]
+    UnknownParent(u64),
+    /// No line has the namespace.
+    #[error("line {0}: unknown namespace")]
+    UnknownNamespace(u64),
+    /// No line has the control group.
+    #[error("line {0}: unknown control group")]
+    UnknownGroup(u64),
+    /// A name has too few numbers for its namespace, too many, or one out of range.
+    #[error("line {0}: bad name")]
+    BadName(u64),
+    /// Two names have one number.
+    #[error("line {0}: number in use twice")]
+    TakenNumber(u64),
+    /// No task is the init of the namespace, which has not fallen.
+    #[error("line {0}: namespace without an init")]
+    NoInit(u64),
+    /// In no sound state is this line beside the others.
+    #[error("line {0}: impossible line")]
+    Impossible(u64),
+}
+
+impl From<AllocError> for RestoreFault {
+    fn from(_refused: AllocError) -> RestoreFault {
+        RestoreFault::NoMemory
+    }
+}
+
+impl From<LoadFault> for RestoreFault {
+    ghost use Rattle.std.specs.Prelude.{◌≡◌};
+    ghost use Rattle.table_load.specs.Faults.{of_load};
+
+    ghost from_gives = { λ fault given. given ≡ of_load fault };
+
+    fn from(fault: LoadFault) -> RestoreFault {
+        match fault {
+            LoadFault::NoMemory => RestoreFault::NoMemory,
+            LoadFault::BadLine(line) => RestoreFault::BadLine(line),
+            LoadFault::WrongDigest(line) => RestoreFault::WrongDigest(line),
+        }
+    }
+}

@@ -1,0 +1,102 @@
+//! Names of a text: each gets its numbers by a task that bears it.
+ghost use Rattle.std.specs.Prelude.{◌≡◌, ℕ, true, OnOk, IsSome, is_some};
+ghost use Rattle.pid_numbers.specs.Numbering.{namespace_at};
+ghost use Rattle.pids_charge.specs.Charges.{stands};
+ghost use Rattle.task_tree.specs.Tree.{lives};
+ghost use Rattle.table_load.specs.Young.{IsYoung};
+
+use crate::fault::RestoreFault;
+use arrayvec::ArrayVec;
+use pid_types::keys::{Pid, SpaceKey, TaskKey};
+use pid_types::plain::{LEVELS, Name};
+use task_table::Tasks;
+use task_tree::Task;
+
+/// The next draws begin at the numbers: the first one in the namespace, the others in those around it.
+fn put_cursors(store: &mut Tasks, space: SpaceKey, numbers: &[Pid])
+    requires young { IsYoung store.old }
+    ensures young { IsYoung store.new }
+    ensures charges { store.new.charges ≡ store.old.charges }
+    ensures there { (s : ℕ) → is_some (namespace_at store.new.numbering s)
+        ≡ is_some (namespace_at store.old.numbering s) }
+{
+    let mut next = Some(space);
+    for number in numbers {
+        let Some(key) = next else {
+            return;
+        };
+        if store.numbers().id(key).is_none() {
+            return;
+        }
+        store.put_cursor(key, *number);
+        next = store.numbers().parent(key);
+    }
+}
+
+/// Why the name cannot have its numbers: there are too few or too many, one is out of range, or one is in use.
+fn name_fault(store: &Tasks, space: SpaceKey, name: &Name, line: u64) -> RestoreFault
+    requires { IsSome (namespace_at store.now.numbering space) }
+{
+    let bound = store.numbers().pid_max();
+    for number in name.numbers.as_slice() {
+        if *number == 0 || *number >= bound {
+            return RestoreFault::BadName(line);
+        }
+    }
+    if name.numbers.is_empty() || name.numbers.len() - 1 != store.numbers().level(space) {
+        return RestoreFault::BadName(line);
+    }
+    RestoreFault::TakenNumber(line)
+}
+
+/// Gives the name its numbers: a live task begins that bears it, without a parent, in a group and a session of its own.
+/// Its key is answered.
+pub fn put_name(
+    store: &mut Tasks,
+    name: &Name,
+    task: Task,
+    line: u64,
+) -> Result<TaskKey, RestoreFault>
+    requires young { IsYoung store.old }
+    requires live { lives task ≡ true }
+    requires home { stands store.old.charges task.home ≡ true }
+    ensures young { OnOk result (IsYoung store.new) }
+{
+    let Some(space) = store.numbers().find_space(name.space) else {
+        return Err(RestoreFault::UnknownNamespace(line));
+    };
+    let mut wanted = name.numbers.clone()?;
+    wanted.reverse();
+    let fault = name_fault(store, space, name, line);
+    put_cursors(store, space, wanted.as_slice());
+    let mut planned = ArrayVec::<Pid, LEVELS>::new();
+    if store.numbers().plan_into(space, &mut planned).is_err() {
+        return Err(fault);
+    }
+    if planned.as_slice() != wanted.as_slice() {
+        return Err(fault);
+    }
+    Ok(store.fork(None, space, planned.as_slice(), task)?)
+}
+
+/// The identifier that has the name; none where its number in the root namespace is free. Another name with that number
+/// is a fault. The name that is there is written over `there`.
+pub fn find_name(
+    store: &Tasks,
+    name: &Name,
+    there: &mut Name,
+    line: u64,
+) -> Result<Option<TaskKey>, RestoreFault> {
+    let Some(root) = name.numbers.first() else {
+        return Err(RestoreFault::BadName(line));
+    };
+    let Some(key) = store.numbers().find(0, *root) else {
+        return Ok(None);
+    };
+    store.numbers().write_name(key, there);
+    if &*there == name {
+        Ok(Some(key))
+    } else {
+        Err(RestoreFault::TakenNumber(line))
+    }
+}
