@@ -1,10 +1,9 @@
 -- Namespaces that are marked as fallen, all at once.
-use Rattle.std.proofs.Common.{◌⊎◌, inl, inr, suc, zero}
-use Rattle.pid_numbers.proofs.Words.{◌≡◌, ◌≢◌, ◌∙◌, ◌<◌, ◌+◌, ◌||◌, ℕ, Bool, true, false, List, [], ◌∷◌, Option, Some, None, IsSome, is_some, ap, arith, refl, sym, subst, length, get_or, option_map, slice_get}
-use Rattle.pid_numbers.proofs.Words.{option_map_or, or_cases, or_left, or_right, slice_get_past, slice_get_within}
-use Rattle.pid_numbers.proofs.Words.{Node, IsTree, IsPath, fell, node_in, way, Entry, AreFallen, IsTied, Ids, leads, entry_on, namespace_of}
+use Rattle.std.proofs.Common.{inl, inr, suc, zero}
+use Rattle.pid_numbers.proofs.Words.{◌≡◌, ◌∙◌, ◌<◌, ◌||◌, ℕ, Bool, true, false, List, [], ◌∷◌, Option, Some, None, IsSome, ap, arith, refl, sym, length, get_or, option_map, slice_get}
+use Rattle.pid_numbers.proofs.Words.{option_map_or, or_cases, or_left, or_right}
+use Rattle.pid_numbers.proofs.Words.{Node, IsTree, IsPath, Entry, AreFallen, leads, namespace_of}
 use Rattle.pid_numbers.specs.Restore.{is_flagged, felled_if, fallen_if}
-use Rattle.ns_tree.proofs.Paths as paths
 
 or_false : (b : Bool) → (b || false) ≡ b
 or_false true = refl

@@ -15,8 +15,8 @@ use crate::texts::write_text;
 use kept_table::Kept;
 use std::alloc::{AllocError, Global};
 use table_lines::dump::dump_table;
-use table_load::load::{Loaded, table_of};
 use table_load::fault::RestoreFault;
+use table_load::load::{Loaded, table_of};
 use table_text::laws::{texts_tell_states, what_fits_is_of_words};
 use table_text::read::read_text;
 

@@ -14,8 +14,8 @@ use crate::stamped::StampedTable;
 use crate::status::{BAD_TEXT, BUSY, CLOSED, DONE, NO_MEMORY, NO_ROOM};
 use crate::texts::write_text;
 use std::alloc::Global;
-use table_load::load::load;
 use table_load::fault::RestoreFault;
+use table_load::load::load;
 
 /// Why no table is loaded from a text: the fault's line, counted from 1, and its kind, a number from 1 to 12 but
 /// 11, which once was a fault. Both are 0 where the text has no fault.

@@ -1,5 +1,4 @@
 pub mod LowIds
 pub mod SameControls
 pub mod States
-pub mod Puts
 pub mod Youth

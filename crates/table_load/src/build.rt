@@ -1,10 +1,11 @@
 //! A store with all that a text says.
 ghost use Rattle.std.specs.Prelude.{◌≡◌};
 
-use crate::begin::{begin_tasks, seat_tasks};
+use crate::begin::begin_tasks;
 use crate::controls::put_controls;
 use crate::falls::{put_cursors, put_falls};
 use crate::fault::RestoreFault;
+use crate::seats::seat_tasks;
 use crate::settle::{remove_extras, settle_tasks};
 use crate::spaces::put_spaces;
 use pid_types::config::Config;

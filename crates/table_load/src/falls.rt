@@ -1,8 +1,8 @@
 //! The namespaces of a text fall, and their cursors are put.
-ghost use Rattle.std.specs.Prelude.{◌<◌, ◌^◌, length, OnOk, IfOk};
 
 use crate::fault::RestoreFault;
 use crate::lines::space_line;
+use pid_types::call::Kind;
 use pid_types::keys::SpaceKey;
 use std::alloc::{AllocError, Global};
 use table_text::read::Saved;
@@ -21,11 +21,7 @@ fn set_flag(flags: &mut Vec<bool>, key: SpaceKey) -> Result<(), AllocError> {
 }
 
 /// At the key of each namespace whether it has fallen by its line.
-fn fallen_flags(
-    alloc: Global,
-    store: &Tasks,
-    saved: &Saved,
-) -> Result<Vec<bool>, RestoreFault> {
+fn fallen_flags(alloc: Global, store: &Tasks, saved: &Saved) -> Result<Vec<bool>, RestoreFault> {
     let mut flags = Vec::new(alloc);
     for (index, space) in saved.spaces.iter().enumerate() {
         let Some(key) = store.numbers().find_space(space.id) else {
@@ -38,10 +34,34 @@ fn fallen_flags(
     Ok(flags)
 }
 
-/// The line of the first namespace that has fallen.
-fn first_fallen(saved: &Saved) -> u64 {
+/// Whether a number of the namespace is in use.
+fn has_numbers(store: &Tasks, key: SpaceKey) -> bool {
+    let numbers = store.numbers();
+    numbers.next_used(key, Kind::Task, 0).is_some()
+        || numbers.next_used(key, Kind::Group, 0).is_some()
+        || numbers.next_used(key, Kind::Session, 0).is_some()
+}
+
+/// Whether the namespace around the one with the key has a flag.
+fn is_in_fallen(store: &Tasks, flags: &[bool], key: SpaceKey) -> bool {
+    match store.numbers().parent(key) {
+        Some(outer) => flags.get(outer as usize) == Some(&true),
+        None => false,
+    }
+}
+
+/// The line of the first namespace that has fallen without a number in use, or that has not, in one that has.
+fn wrong_fall(store: &Tasks, flags: &[bool], saved: &Saved) -> u64 {
     for (index, space) in saved.spaces.iter().enumerate() {
-        if space.fallen {
+        let Some(key) = store.numbers().find_space(space.id) else {
+            return space_line(saved, index);
+        };
+        let is_wrong = if space.fallen {
+            !has_numbers(store, key)
+        } else {
+            is_in_fallen(store, flags, key)
+        };
+        if is_wrong {
             return space_line(saved, index);
         }
     }
@@ -49,14 +69,10 @@ fn first_fallen(saved: &Saved) -> u64 {
 }
 
 /// The namespaces fall that have fallen by their lines: in each a number is in use, and all in one have fallen too.
-pub fn put_falls(
-    alloc: Global,
-    store: &mut Tasks,
-    saved: &Saved,
-) -> Result<(), RestoreFault> {
+pub fn put_falls(alloc: Global, store: &mut Tasks, saved: &Saved) -> Result<(), RestoreFault> {
     let flags = fallen_flags(alloc, store, saved)?;
     if u32::try_from(flags.len()).is_err() || !store.numbers().may_fall(&flags) {
-        return Err(RestoreFault::Impossible(first_fallen(saved)));
+        return Err(RestoreFault::Impossible(wrong_fall(store, &flags, saved)));
     }
     store.set_fallen(&flags);
     Ok(())

@@ -9,13 +9,15 @@
 mod begin;
 mod below;
 mod build;
+mod cast;
 mod compare;
 mod controls;
-pub mod fault;
 mod falls;
+pub mod fault;
 mod flaws;
 pub mod lines;
 pub mod load;
 mod names;
+mod seats;
 mod settle;
 mod spaces;

@@ -11,6 +11,7 @@ use pid_types::keys::{Pid, SpaceKey, TaskKey};
 use pid_types::plain::{LEVELS, Name};
 use task_table::Tasks;
 use task_tree::Task;
+use translate::shown::blank_row;
 
 /// The next draws begin at the numbers: the first one in the namespace, the others in those around it.
 fn put_cursors(store: &mut Tasks, space: SpaceKey, numbers: &[Pid])
@@ -79,24 +80,45 @@ pub fn put_name(
     Ok(store.fork(None, space, planned.as_slice(), task)?)
 }
 
+/// The name that was found last, and who has it.
+#[derive(Drop)]
+pub struct LastName {
+    name: Name,
+    key: Option<TaskKey>,
+}
+
+impl LastName {
+    /// None was found yet.
+    pub fn none() -> LastName {
+        LastName {
+            name: blank_row().name,
+            key: None,
+        }
+    }
+}
+
 /// The identifier that has the name; none where its number in the root namespace is free. Another name with that number
-/// is a fault. The name that is there is written over `there`.
+/// is a fault. Where it is the name that was found last, no search is made.
 pub fn find_name(
     store: &Tasks,
     name: &Name,
-    there: &mut Name,
+    last: &mut LastName,
     line: u64,
 ) -> Result<Option<TaskKey>, RestoreFault> {
+    if last.key.is_some() && last.name == *name {
+        return Ok(last.key);
+    }
     let Some(root) = name.numbers.first() else {
         return Err(RestoreFault::BadName(line));
     };
     let Some(key) = store.numbers().find(0, *root) else {
         return Ok(None);
     };
-    store.numbers().write_name(key, there);
-    if &*there == name {
-        Ok(Some(key))
-    } else {
-        Err(RestoreFault::TakenNumber(line))
+    last.key = None;
+    store.numbers().write_name(key, &mut last.name);
+    if last.name != *name {
+        return Err(RestoreFault::TakenNumber(line));
     }
+    last.key = Some(key);
+    Ok(Some(key))
 }

@@ -3,16 +3,15 @@ ghost use Rattle.std.specs.Prelude.{◌≡◌, ℕ, ◌<◌, length, Some, IsSom
 ghost use Rattle.pid_numbers.specs.Numbering.{Identifier, identifier_at, number_of};
 ghost use Rattle.task_tree.specs.Tree.{parent_of};
 
-use crate::begin::Cast;
+use crate::cast::Cast;
 use crate::fault::RestoreFault;
 use crate::lines::task_line;
-use crate::names::find_name;
+use crate::names::{LastName, find_name};
 use pid_types::keys::TaskKey;
 use pid_types::plain::{Ended, Life, Name, Row};
 use table_text::read::Saved;
 use task_table::Tasks;
 use task_table::view::is_live;
-use translate::shown::blank_row;
 
 /// The task goes to its group, all of whose members are in its session.
 fn join_group(
@@ -35,16 +34,14 @@ fn join_group(
 }
 
 /// The task becomes a child of its parent.
-fn adopt(
-    store: &mut Tasks,
-    key: TaskKey,
-    parent: TaskKey,
-    line: u64,
-) -> Result<(), RestoreFault> {
+fn adopt(store: &mut Tasks, key: TaskKey, parent: TaskKey, line: u64) -> Result<(), RestoreFault> {
     let Some(task) = store.tree().task(key) else {
         return Err(RestoreFault::Impossible(line));
     };
-    if !is_live(&task) || store.tree().parent(key).is_some() || store.tree().task(parent).is_none() {
+    if !is_live(&task)
+        || store.tree().parent(key).is_some()
+        || store.tree().task(parent).is_none()
+    {
         return Err(RestoreFault::Impossible(line));
     }
     store.adopt(key, parent);
@@ -68,12 +65,7 @@ fn is_seen_by_parent(store: &Tasks, key: TaskKey) -> bool
 }
 
 /// The task ends, and waits for its parent.
-fn end_task(
-    store: &mut Tasks,
-    key: TaskKey,
-    end: Ended,
-    line: u64,
-) -> Result<(), RestoreFault> {
+fn end_task(store: &mut Tasks, key: TaskKey, end: Ended, line: u64) -> Result<(), RestoreFault> {
     let Some(task) = store.tree().task(key) else {
         return Err(RestoreFault::Impossible(line));
     };
@@ -89,31 +81,27 @@ fn named_parent(
     store: &Tasks,
     cast: &Cast,
     name: &Name,
-    there: &mut Name,
+    last: &mut LastName,
     line: u64,
 ) -> Result<TaskKey, RestoreFault> {
-    match find_name(store, name, there, line)? {
+    match find_name(store, name, last, line)? {
         Some(key) if !cast.is_extra(key) => Ok(key),
         _ => Err(RestoreFault::UnknownParent(line)),
     }
 }
 
-/// The task of a line gets its group and its parent, and ends if it has ended. Number 1 alone has no parent.
+/// The task of a line gets its parent, and ends if it has ended. Number 1 alone has no parent.
 fn settle_task(
     store: &mut Tasks,
     cast: &Cast,
     key: TaskKey,
     row: &Row,
-    there: &mut Name,
+    last: &mut LastName,
     line: u64,
 ) -> Result<(), RestoreFault> {
-    let Some(group) = find_name(store, &row.group, there, line)? else {
-        return Err(RestoreFault::Impossible(line));
-    };
-    join_group(store, key, group, line)?;
     match &row.parent {
         Some(name) => {
-            let parent = named_parent(store, cast, name, there, line)?;
+            let parent = named_parent(store, cast, name, last, line)?;
             adopt(store, key, parent, line)?;
         }
         None if row.name.numbers.first() == Some(&1) => {}
@@ -125,15 +113,16 @@ fn settle_task(
     }
 }
 
-/// All tasks of lines are settled.
+/// All tasks of lines go to their groups, get their parents, and end if they have ended.
 pub fn settle_tasks(store: &mut Tasks, cast: &Cast, saved: &Saved) -> Result<(), RestoreFault> {
-    let mut there = blank_row().name;
+    let mut last = LastName::none();
     for (index, row) in saved.rows.iter().enumerate() {
         let line = task_line(index);
-        let Some(key) = cast.keys.get(index) else {
+        let (Some(key), Some(group)) = (cast.keys.get(index), cast.groups.get(index)) else {
             return Err(RestoreFault::Impossible(line));
         };
-        settle_task(store, cast, *key, row, &mut there, line)?;
+        join_group(store, *key, *group, line)?;
+        settle_task(store, cast, *key, row, &mut last, line)?;
     }
     Ok(())
 }

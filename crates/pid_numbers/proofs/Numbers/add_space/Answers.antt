@@ -1,6 +1,6 @@
 -- The namespace takes a key that none had, and no number in it is in use
-use Rattle.pid_numbers.proofs.Words.{◌≡◌, ◌≢◌, ◌∙◌, ◌∷◌, ◌<◌, ℕ, sym, ap, arith, length, None, Some, IsSome, Option, true, false, option_map, option_and_then, refl, [], List}
-use Rattle.pid_numbers.proofs.Words.{cases_eq, slice_get, option_map_or, grown, new_node, node_in, way, fell, Entry, entry_at, Namespace, namespace_at, namespace_of, Ids, cursor_on, entry_on, bound_on, leads, name_at, IsNumbering}
+use Rattle.pid_numbers.proofs.Words.{◌≡◌, ◌≢◌, ◌∙◌, ◌∷◌, ℕ, sym, ap, arith, length, Some, IsSome, Option, true, false, option_map, option_and_then, refl, []}
+use Rattle.pid_numbers.proofs.Words.{cases_eq, slice_get, option_map_or, grown, new_node, node_in, way, fell, Entry, entry_at, Namespace, namespace_at, namespace_of, cursor_on, entry_on, bound_on, name_at}
 use Rattle.std.proofs.Common.{inl, inr}
 use Rattle.pid_numbers.proofs.Views as views
 use Rattle.pid_numbers.proofs.Ties as ties

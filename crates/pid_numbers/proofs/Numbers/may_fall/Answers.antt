@@ -1,6 +1,6 @@
-use Rattle.pid_numbers.proofs.Words.{List, ◌≡◌, ◌∙◌, ◌<◌, ℕ, Bool, true, false, sym, ap, arith, subst, length, Some, IsSome, Option, option_map, is_some, slice_get, [], ◌∷◌, option_map_or}
-use Rattle.pid_numbers.proofs.Words.{Node, Entry, node_in, way, both_ways, true_from_ne_false, namespace_at, number_of, path_at, entry_on, leads, numbering_of}
-use Rattle.pid_numbers.specs.Restore.{is_flagged, MayFall, MayFallAt}
+use Rattle.pid_numbers.proofs.Words.{List, ◌≡◌, ◌∙◌, ◌<◌, ℕ, sym, ap, arith, subst, length, Some, option_map, slice_get, [], ◌∷◌}
+use Rattle.pid_numbers.proofs.Words.{Entry, way, both_ways, true_from_ne_false, number_of, entry_on}
+use Rattle.pid_numbers.specs.Restore.{is_flagged}
 use Rattle.pid_numbers.proofs.Views as views
 use Rattle.pid_numbers.proofs.Numbers.may_fall.Goals as goal
 
@@ -26,7 +26,10 @@ returns c h =
       held = λ s there on.
           let node = views.there c.self.inside c.self.view_is s there in
           let u = (each s (low s (k.some s node))).used on node in
-          let e = views.held (entry_on ids s u.0) u.1 in
-          (e.0.value, u.0, subst (λ b. number_of b e.0.value s ≡ Some u.0) c.self.view_is
-          (views.one_found c.self.inside.pid_max c.self.inside.tree ids c.self.inside.idents k.whole.numbering s u.0 e.0.value (ap (option_map (λ (e : Entry ℕ). e.value)) e.1)));
+          let e = views.held (entry_on ids s u.0) u.1 in (
+            e.0.value,
+            u.0,
+            subst (λ b. number_of b e.0.value s ≡ Some u.0) c.self.view_is
+                (views.one_found c.self.inside.pid_max c.self.inside.tree ids c.self.inside.idents k.whole.numbering s u.0 e.0.value (ap (option_map (λ (e : Entry ℕ). e.value)) e.1)),
+          );
     }

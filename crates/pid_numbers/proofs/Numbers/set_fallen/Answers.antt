@@ -1,7 +1,7 @@
 -- What falls has a number in use, and all in it has a flag too
-use Rattle.pid_numbers.proofs.Words.{Bool, List, Option, Some, [], ap, arith, false, option_map, refl, subst, sym, true, ℕ, ◌<◌, ◌||◌, ◌∙◌, ◌≡◌, length, option_map_or, slice_get}
-use Rattle.pid_numbers.proofs.Words.{Entry, IsTree, Node, fell, node_in, way, number_of, number_in, path_at, bound_on, cursor_on, entry_on, leads, namespace_of, name_at, IsSome, is_some}
-use Rattle.pid_numbers.specs.Restore.{is_flagged, felled_if, fallen_if}
+use Rattle.pid_numbers.proofs.Words.{Some, [], ap, false, option_map, refl, subst, sym, true, ℕ, ◌<◌, ◌||◌, ◌∙◌, ◌≡◌, length, option_map_or, slice_get}
+use Rattle.pid_numbers.proofs.Words.{IsTree, fell, node_in, way, number_of, number_in, bound_on, cursor_on, entry_on, leads, namespace_of, name_at, is_some}
+use Rattle.pid_numbers.specs.Restore.{is_flagged, fallen_if}
 use Rattle.pid_numbers.proofs.Views as views
 use Rattle.pid_numbers.proofs.Ties as ties
 use Rattle.pid_numbers.proofs.Sweeps as sweeps

@@ -1,5 +1,5 @@
-use Rattle.pid_numbers.proofs.Words.{◌≡◌, ◌≢◌, ◌∙◌, ◌<◌, ◌≤◌, ◌+◌, ℕ, ap, arith, sym, length, option_map, cases_eq, cases_lt, get_or_past, false, node_in}
-use Rattle.std.proofs.Common.{inl, inr, ◌⊎◌}
+use Rattle.pid_numbers.proofs.Words.{◌∙◌, ap, arith, sym, option_map, cases_eq, cases_lt, get_or_past, false, node_in}
+use Rattle.std.proofs.Common.{inl, inr}
 use Rattle.pid_numbers.specs.Restore.{is_flagged, felled_if}
 use Rattle.pid_numbers.proofs.Marks.{unmarked}
 use Rattle.pid_numbers.proofs.restore.mark_all.Goals as goal

@@ -1,5 +1,5 @@
-use Rattle.pid_numbers.proofs.Words.{◌≡◌, ◌≢◌, ◌∙◌, ◌<◌, ℕ, arith, sym, subst, length, cases_eq}
-use Rattle.std.proofs.Common.{inl, inr, ◌⊎◌, rules}
+use Rattle.pid_numbers.proofs.Words.{◌≡◌, ◌∙◌, arith, sym, subst, cases_eq}
+use Rattle.std.proofs.Common.{inl, inr, rules}
 use Rattle.pid_numbers.specs.Restore.{MayFallAt}
 use Rattle.pid_numbers.proofs.restore.may_all_fall.Goals as goal
 

@@ -1,5 +1,4 @@
-use Rattle.std.proofs.Common.{◌≡◌, ℕ, ◌<◌, false}
-use Rattle.pid_numbers.specs.Restore.{is_flagged, MayFallBelow}
+use Rattle.pid_numbers.specs.Restore.{MayFallBelow}
 use Rattle.pid_numbers.proofs.restore.may_all_fall.Given as goal
 
 abbrev pub invariant-loop-key : goal.invariant-loop-key

@@ -1,7 +1,7 @@
 -- The new namespace takes a key that none had, so it is on no identifier's path
-use Rattle.std.proofs.Common.{◌≡◌, ◌≢◌, ◌<◌, ℕ, [], length, Option, Some, None, Result, Ok, Err, IfOk, OnErr, ap, arith, ◌∙◌}
+use Rattle.std.proofs.Common.{◌≡◌, ◌≢◌, ◌<◌, ℕ, [], length, None, Result, Ok, Err, IfOk, OnErr, ap, arith, ◌∙◌}
 use Rattle.std.specs.Option.{option_map_or}
-use Rattle.pid_numbers.specs.Numbering.{Numbering, Identifier, identifier_at, namespace_at, path_at}
+use Rattle.pid_numbers.specs.Numbering.{Numbering, namespace_at, path_at}
 use Rattle.task_table.specs.Store.{Store}
 use Rattle.task_table.proofs.Rest as rest
 use Rattle.task_table.proofs.Tasks.add_space.Goals as goal

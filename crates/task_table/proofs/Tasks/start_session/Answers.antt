@@ -1,2 +1,0 @@
-use Rattle.std.proofs.Common.{ap}
-use Rattle.task_table.proofs.Tasks.start_session.Goals as goal

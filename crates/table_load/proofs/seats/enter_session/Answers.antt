@@ -1,11 +1,9 @@
-use Rattle.std.proofs.Common.{◌≡◌, ap, sym, subst, ◌∙◌, is_some, Some, true, arith}
-use Rattle.pid_types.proofs.General.{held}
-use Rattle.task_table.specs.Store.{Store}
+use Rattle.std.proofs.Common.{◌≡◌, ap, sym, ◌∙◌, is_some, true}
 use Rattle.task_table.proofs.Changes.{in_range}
 use Rattle.task_tree.specs.Tree.{task_at, parent_of}
 use Rattle.groups_sessions.specs.Membership.{membership_at, group_of}
 use Rattle.table_load.proofs.Youth.{still_alone}
-use Rattle.table_load.proofs.begin.enter_session.Goals as goal
+use Rattle.table_load.proofs.seats.enter_session.Goals as goal
 
 pub returns : goal.returns
 returns c =
