@@ -1,4 +1,4 @@
 pub mod LowIds
 pub mod SameControls
 pub mod States
-pub mod Youth
+pub mod Alone

@@ -1,2 +1,2 @@
 pub mod Faults
-pub mod Young
+pub mod Ungrouped

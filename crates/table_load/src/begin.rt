@@ -1,11 +1,11 @@
 //! The tasks of a text begin. Each is live, without a parent, and in a group and a session of its own name.
 ghost use Rattle.std.specs.Prelude.{◌≡◌, ◌<◌, length, OnOk};
-ghost use Rattle.table_load.specs.Young.{IsYoung};
+ghost use Rattle.table_load.specs.Ungrouped.{IsUngrouped};
 
-use crate::cast::Cast;
 use crate::fault::RestoreFault;
 use crate::lines::task_line;
 use crate::names::put_name;
+use crate::placed::Placed;
 use pid_types::keys::TaskKey;
 use pid_types::plain::{Life, Row};
 use std::alloc::Global;
@@ -25,8 +25,8 @@ fn is_unsorted(saved: &Saved, index: usize) -> bool
 
 /// The task of a line begins.
 fn begin_task(store: &mut Tasks, row: &Row, line: u64) -> Result<TaskKey, RestoreFault>
-    requires young { IsYoung store.old }
-    ensures young { OnOk result (IsYoung store.new) }
+    requires ungrouped { IsUngrouped store.old }
+    ensures ungrouped { OnOk result (IsUngrouped store.new) }
 {
     let Some(home) = store.controls().find(row.home) else {
         return Err(RestoreFault::UnknownGroup(line));
@@ -42,17 +42,17 @@ fn begin_task(store: &mut Tasks, row: &Row, line: u64) -> Result<TaskKey, Restor
 }
 
 /// The tasks of all lines begin.
-pub fn begin_tasks(alloc: Global, store: &mut Tasks, saved: &Saved) -> Result<Cast, RestoreFault>
-    requires young { IsYoung store.old }
-    ensures young { OnOk result (IsYoung store.new) }
+pub fn begin_tasks(alloc: Global, store: &mut Tasks, saved: &Saved) -> Result<Placed, RestoreFault>
+    requires ungrouped { IsUngrouped store.old }
+    ensures ungrouped { OnOk result (IsUngrouped store.new) }
 {
-    let mut cast = Cast::new(alloc);
+    let mut placed = Placed::new(alloc);
     for index in 0..saved.rows.len() {
         if is_unsorted(saved, index) {
             return Err(RestoreFault::Unsorted(task_line(index)));
         }
         let key = begin_task(store, &saved.rows[index], task_line(index))?;
-        cast.add_key(key)?;
+        placed.add_key(key)?;
     }
-    Ok(cast)
+    Ok(placed)
 }

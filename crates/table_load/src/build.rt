@@ -5,8 +5,8 @@ use crate::begin::begin_tasks;
 use crate::controls::put_controls;
 use crate::falls::{put_cursors, put_falls};
 use crate::fault::RestoreFault;
-use crate::seats::seat_tasks;
-use crate::settle::{remove_extras, settle_tasks};
+use crate::sessions::enter_sessions;
+use crate::settle::{remove_placeholders, settle_tasks};
 use crate::spaces::put_spaces;
 use pid_types::config::Config;
 use std::alloc::Global;
@@ -23,10 +23,10 @@ pub fn build(alloc: Global, saved: &Saved) -> Result<Tasks, RestoreFault> {
     laws(&store);
     put_controls(&mut store, saved)?;
     put_spaces(&mut store, saved)?;
-    let mut cast = begin_tasks(alloc, &mut store, saved)?;
-    seat_tasks(&mut store, &mut cast, saved)?;
-    settle_tasks(&mut store, &cast, saved)?;
-    remove_extras(&mut store, &cast);
+    let mut placed = begin_tasks(alloc, &mut store, saved)?;
+    enter_sessions(&mut store, &mut placed, saved)?;
+    settle_tasks(&mut store, &placed, saved)?;
+    remove_placeholders(&mut store, &placed);
     put_falls(alloc, &mut store, saved)?;
     put_cursors(&mut store, saved);
     Ok(store)

@@ -1,7 +1,7 @@
 //! The control groups of a text, put into a store.
 ghost use Rattle.std.specs.Prelude.{◌≡◌, ◌≤◌, OnOk};
 ghost use Rattle.std.specs.List.{AllByRecursion};
-ghost use Rattle.table_load.specs.Young.{IsYoung};
+ghost use Rattle.table_load.specs.Ungrouped.{IsUngrouped};
 
 use crate::fault::RestoreFault;
 use crate::lines::control_line;
@@ -22,9 +22,9 @@ fn put_control(
     last: u64,
     line: u64,
 ) -> Result<(), RestoreFault>
-    requires young { IsYoung store.old }
+    requires ungrouped { IsUngrouped store.old }
     requires below { AllByRecursion (λ g. g.id ≤ last) store.old.charges.controls }
-    ensures young { OnOk result (IsYoung store.new) }
+    ensures ungrouped { OnOk result (IsUngrouped store.new) }
     ensures below { OnOk result (AllByRecursion (λ g. g.id ≤ control.now.id) store.new.charges.controls) }
 {
     let Some(around) = control.parent else {
@@ -45,8 +45,8 @@ fn put_control(
 
 /// Sets the limit of a control group that is there.
 fn put_limit(store: &mut Tasks, control: &Control, line: u64) -> Result<(), RestoreFault>
-    requires young { IsYoung store.old }
-    ensures young { OnOk result (IsYoung store.new) }
+    requires ungrouped { IsUngrouped store.old }
+    ensures ungrouped { OnOk result (IsUngrouped store.new) }
 {
     let Some(key) = store.controls().find(control.id) else {
         return Err(RestoreFault::UnknownGroup(line));
@@ -59,9 +59,9 @@ fn put_limit(store: &mut Tasks, control: &Control, line: u64) -> Result<(), Rest
 
 /// Puts all control groups, without their limits.
 fn put_groups(store: &mut Tasks, saved: &Saved) -> Result<(), RestoreFault>
-    requires young { IsYoung store.old }
+    requires ungrouped { IsUngrouped store.old }
     requires root { AllByRecursion (λ g. g.id ≤ 0) store.old.charges.controls }
-    ensures young { OnOk result (IsYoung store.new) }
+    ensures ungrouped { OnOk result (IsUngrouped store.new) }
 {
     let mut last = 0;
     for index in 1..saved.controls.len() {
@@ -74,9 +74,9 @@ fn put_groups(store: &mut Tasks, saved: &Saved) -> Result<(), RestoreFault>
 
 /// Puts all control groups: the first line is that of the root, and the ids rise.
 pub fn put_controls(store: &mut Tasks, saved: &Saved) -> Result<(), RestoreFault>
-    requires young { IsYoung store.old }
+    requires ungrouped { IsUngrouped store.old }
     requires root { AllByRecursion (λ g. g.id ≤ 0) store.old.charges.controls }
-    ensures young { OnOk result (IsYoung store.new) }
+    ensures ungrouped { OnOk result (IsUngrouped store.new) }
 {
     match saved.controls.first() {
         Some(root) if is_root(root) => {}

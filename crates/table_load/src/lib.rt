@@ -9,7 +9,6 @@
 mod begin;
 mod below;
 mod build;
-mod cast;
 mod compare;
 mod controls;
 mod falls;
@@ -18,6 +17,7 @@ mod flaws;
 pub mod lines;
 pub mod load;
 mod names;
-mod seats;
+mod placed;
+mod sessions;
 mod settle;
 mod spaces;

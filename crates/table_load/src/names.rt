@@ -3,7 +3,7 @@ ghost use Rattle.std.specs.Prelude.{◌≡◌, ℕ, true, OnOk, IsSome, is_some}
 ghost use Rattle.pid_numbers.specs.Numbering.{namespace_at};
 ghost use Rattle.pids_charge.specs.Charges.{stands};
 ghost use Rattle.task_tree.specs.Tree.{lives};
-ghost use Rattle.table_load.specs.Young.{IsYoung};
+ghost use Rattle.table_load.specs.Ungrouped.{IsUngrouped};
 
 use crate::fault::RestoreFault;
 use arrayvec::ArrayVec;
@@ -15,8 +15,8 @@ use translate::shown::blank_row;
 
 /// The next draws begin at the numbers: the first one in the namespace, the others in those around it.
 fn put_cursors(store: &mut Tasks, space: SpaceKey, numbers: &[Pid])
-    requires young { IsYoung store.old }
-    ensures young { IsYoung store.new }
+    requires ungrouped { IsUngrouped store.old }
+    ensures ungrouped { IsUngrouped store.new }
     ensures charges { store.new.charges ≡ store.old.charges }
     ensures there { (s : ℕ) → is_some (namespace_at store.new.numbering s)
         ≡ is_some (namespace_at store.old.numbering s) }
@@ -58,10 +58,10 @@ pub fn put_name(
     task: Task,
     line: u64,
 ) -> Result<TaskKey, RestoreFault>
-    requires young { IsYoung store.old }
+    requires ungrouped { IsUngrouped store.old }
     requires live { lives task ≡ true }
     requires home { stands store.old.charges task.home ≡ true }
-    ensures young { OnOk result (IsYoung store.new) }
+    ensures ungrouped { OnOk result (IsUngrouped store.new) }
 {
     let Some(space) = store.numbers().find_space(name.space) else {
         return Err(RestoreFault::UnknownNamespace(line));
@@ -82,15 +82,15 @@ pub fn put_name(
 
 /// The name that was found last, and who has it.
 #[derive(Drop)]
-pub struct LastName {
+pub struct RecentName {
     name: Name,
     key: Option<TaskKey>,
 }
 
-impl LastName {
+impl RecentName {
     /// None was found yet.
-    pub fn none() -> LastName {
-        LastName {
+    pub fn none() -> RecentName {
+        RecentName {
             name: blank_row().name,
             key: None,
         }
@@ -102,7 +102,7 @@ impl LastName {
 pub fn find_name(
     store: &Tasks,
     name: &Name,
-    last: &mut LastName,
+    last: &mut RecentName,
     line: u64,
 ) -> Result<Option<TaskKey>, RestoreFault> {
     if last.key.is_some() && last.name == *name {

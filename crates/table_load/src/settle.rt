@@ -1,12 +1,12 @@
-//! The tasks of a text get their groups and parents, those that have ended end, and those without a line go.
+//! The tasks of a text get their groups and parents, those that have ended end, and the placeholders go.
 ghost use Rattle.std.specs.Prelude.{◌≡◌, ℕ, ◌<◌, length, Some, IsSome, IsTrue};
 ghost use Rattle.pid_numbers.specs.Numbering.{Identifier, identifier_at, number_of};
 ghost use Rattle.task_tree.specs.Tree.{parent_of};
 
-use crate::cast::Cast;
 use crate::fault::RestoreFault;
 use crate::lines::task_line;
-use crate::names::{LastName, find_name};
+use crate::names::{RecentName, find_name};
+use crate::placed::Placed;
 use pid_types::keys::TaskKey;
 use pid_types::plain::{Ended, Life, Name, Row};
 use table_text::read::Saved;
@@ -79,13 +79,13 @@ fn end_task(store: &mut Tasks, key: TaskKey, end: Ended, line: u64) -> Result<()
 /// The task that the line names as a parent.
 fn named_parent(
     store: &Tasks,
-    cast: &Cast,
+    placed: &Placed,
     name: &Name,
-    last: &mut LastName,
+    last: &mut RecentName,
     line: u64,
 ) -> Result<TaskKey, RestoreFault> {
     match find_name(store, name, last, line)? {
-        Some(key) if !cast.is_extra(key) => Ok(key),
+        Some(key) if !placed.is_placeholder(key) => Ok(key),
         _ => Err(RestoreFault::UnknownParent(line)),
     }
 }
@@ -93,15 +93,15 @@ fn named_parent(
 /// The task of a line gets its parent, and ends if it has ended. Number 1 alone has no parent.
 fn settle_task(
     store: &mut Tasks,
-    cast: &Cast,
+    placed: &Placed,
     key: TaskKey,
     row: &Row,
-    last: &mut LastName,
+    last: &mut RecentName,
     line: u64,
 ) -> Result<(), RestoreFault> {
     match &row.parent {
         Some(name) => {
-            let parent = named_parent(store, cast, name, last, line)?;
+            let parent = named_parent(store, placed, name, last, line)?;
             adopt(store, key, parent, line)?;
         }
         None if row.name.numbers.first() == Some(&1) => {}
@@ -114,26 +114,26 @@ fn settle_task(
 }
 
 /// All tasks of lines go to their groups, get their parents, and end if they have ended.
-pub fn settle_tasks(store: &mut Tasks, cast: &Cast, saved: &Saved) -> Result<(), RestoreFault> {
-    let mut last = LastName::none();
+pub fn settle_tasks(store: &mut Tasks, placed: &Placed, saved: &Saved) -> Result<(), RestoreFault> {
+    let mut last = RecentName::none();
     for (index, row) in saved.rows.iter().enumerate() {
         let line = task_line(index);
-        let (Some(key), Some(group)) = (cast.keys.get(index), cast.groups.get(index)) else {
+        let (Some(key), Some(group)) = (placed.keys.get(index), placed.groups.get(index)) else {
             return Err(RestoreFault::Impossible(line));
         };
         join_group(store, *key, *group, line)?;
-        settle_task(store, cast, *key, row, &mut last, line)?;
+        settle_task(store, placed, *key, row, &mut last, line)?;
     }
     Ok(())
 }
 
-/// The tasks without a line go. Their names stay, as groups and sessions.
-pub fn remove_extras(store: &mut Tasks, cast: &Cast) {
-    for (place, extra) in cast.extras.iter().enumerate() {
+/// The placeholders go. Their names stay, as groups and sessions.
+pub fn remove_placeholders(store: &mut Tasks, placed: &Placed) {
+    for (place, flag) in placed.placeholders.iter().enumerate() {
         let Ok(key) = u32::try_from(place) else {
             return;
         };
-        if !*extra {
+        if !*flag {
             continue;
         }
         if let Some(task) = store.tree().task(key) {

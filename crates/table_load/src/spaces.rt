@@ -1,6 +1,6 @@
 //! The namespaces of a text, put into a store: all stand, and no number was drawn.
 ghost use Rattle.std.specs.Prelude.{◌≡◌, OnOk};
-ghost use Rattle.table_load.specs.Young.{IsYoung};
+ghost use Rattle.table_load.specs.Ungrouped.{IsUngrouped};
 
 use crate::fault::RestoreFault;
 use crate::lines::space_line;
@@ -15,8 +15,8 @@ fn is_root(space: &Space) -> bool {
 
 /// Puts a namespace behind those that are there.
 fn put_space(store: &mut Tasks, space: &Space, line: u64) -> Result<(), RestoreFault>
-    requires young { IsYoung store.old }
-    ensures young { OnOk result (IsYoung store.new) }
+    requires ungrouped { IsUngrouped store.old }
+    ensures ungrouped { OnOk result (IsUngrouped store.new) }
 {
     let Some(around) = space.parent else {
         return Err(RestoreFault::UnknownParent(line));
@@ -36,8 +36,8 @@ fn put_space(store: &mut Tasks, space: &Space, line: u64) -> Result<(), RestoreF
 
 /// Puts all namespaces: the first line is that of the root, and the ids rise.
 pub fn put_spaces(store: &mut Tasks, saved: &Saved) -> Result<(), RestoreFault>
-    requires young { IsYoung store.old }
-    ensures young { OnOk result (IsYoung store.new) }
+    requires ungrouped { IsUngrouped store.old }
+    ensures ungrouped { OnOk result (IsUngrouped store.new) }
 {
     match saved.spaces.first() {
         Some(root) if is_root(root) => {}

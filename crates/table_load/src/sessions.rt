@@ -1,12 +1,12 @@
 //! The tasks of a text go to their sessions, each still in the group of its own name. Names of groups and sessions that
-//! no line has are borne by extra tasks.
+//! no line has are borne by placeholders.
 ghost use Rattle.std.specs.Prelude.{◌≡◌, OnOk};
-ghost use Rattle.table_load.specs.Young.{IsYoung};
+ghost use Rattle.table_load.specs.Ungrouped.{IsUngrouped};
 
-use crate::cast::Cast;
 use crate::fault::RestoreFault;
 use crate::lines::task_line;
-use crate::names::{LastName, find_name, put_name};
+use crate::names::{RecentName, find_name, put_name};
+use crate::placed::Placed;
 use pid_types::keys::TaskKey;
 use pid_types::plain::{Life, Name, Row};
 use table_text::read::Saved;
@@ -14,14 +14,14 @@ use task_table::Tasks;
 use task_tree::Task;
 
 /// A task that bears a name which no line has.
-fn begin_extra(
+fn begin_placeholder(
     store: &mut Tasks,
-    cast: &mut Cast,
+    placed: &mut Placed,
     name: &Name,
     line: u64,
 ) -> Result<TaskKey, RestoreFault>
-    requires young { IsYoung store.old }
-    ensures young { OnOk result (IsYoung store.new) }
+    requires ungrouped { IsUngrouped store.old }
+    ensures ungrouped { OnOk result (IsUngrouped store.new) }
 {
     let Some(home) = store.controls().find(0) else {
         return Err(RestoreFault::UnknownGroup(line));
@@ -34,24 +34,24 @@ fn begin_extra(
         life: Life::Live,
     };
     let key = put_name(store, name, task, line)?;
-    cast.add_extra(key)?;
+    placed.add_placeholder(key)?;
     Ok(key)
 }
 
-/// The task that bears the name of a group or a session: one of a line, or else an extra one.
+/// The task that bears the name of a group or a session: one of a line, or else a placeholder.
 fn bearer(
     store: &mut Tasks,
-    cast: &mut Cast,
+    placed: &mut Placed,
     name: &Name,
-    last: &mut LastName,
+    last: &mut RecentName,
     line: u64,
 ) -> Result<TaskKey, RestoreFault>
-    requires young { IsYoung store.old }
-    ensures young { OnOk result (IsYoung store.new) }
+    requires ungrouped { IsUngrouped store.old }
+    ensures ungrouped { OnOk result (IsUngrouped store.new) }
 {
     match find_name(store, name, last, line)? {
         Some(key) => Ok(key),
-        None => begin_extra(store, cast, name, line),
+        None => begin_placeholder(store, placed, name, line),
     }
 }
 
@@ -62,8 +62,8 @@ fn enter_session(
     session: TaskKey,
     line: u64,
 ) -> Result<(), RestoreFault>
-    requires young { IsYoung store.old }
-    ensures young { OnOk result (IsYoung store.new) }
+    requires ungrouped { IsUngrouped store.old }
+    ensures ungrouped { OnOk result (IsUngrouped store.new) }
 {
     if store.tree().task(key).is_none() || store.tree().task(session).is_none() {
         return Err(RestoreFault::Impossible(line));
@@ -75,48 +75,52 @@ fn enter_session(
 
 /// The names of a session and of a group that were found last.
 #[derive(Drop)]
-struct LastNames {
-    session: LastName,
-    group: LastName,
+struct RecentNames {
+    session: RecentName,
+    group: RecentName,
 }
 
 /// The task of a line goes to its session, and so does who bears its group's name without a line.
-fn seat_task(
+fn put_in_session(
     store: &mut Tasks,
-    cast: &mut Cast,
+    placed: &mut Placed,
     key: TaskKey,
     row: &Row,
-    last: &mut LastNames,
+    last: &mut RecentNames,
     line: u64,
 ) -> Result<(), RestoreFault>
-    requires young { IsYoung store.old }
-    ensures young { OnOk result (IsYoung store.new) }
+    requires ungrouped { IsUngrouped store.old }
+    ensures ungrouped { OnOk result (IsUngrouped store.new) }
 {
-    let session = bearer(store, cast, &row.session, &mut last.session, line)?;
+    let session = bearer(store, placed, &row.session, &mut last.session, line)?;
     enter_session(store, key, session, line)?;
-    let group = bearer(store, cast, &row.group, &mut last.group, line)?;
-    if cast.is_extra(group) {
+    let group = bearer(store, placed, &row.group, &mut last.group, line)?;
+    if placed.is_placeholder(group) {
         enter_session(store, group, session, line)?;
     }
-    cast.add_group(group)?;
+    placed.add_group(group)?;
     Ok(())
 }
 
 /// All names of groups and sessions are put, and all tasks go to their sessions.
-pub fn seat_tasks(store: &mut Tasks, cast: &mut Cast, saved: &Saved) -> Result<(), RestoreFault>
-    requires young { IsYoung store.old }
+pub fn enter_sessions(
+    store: &mut Tasks,
+    placed: &mut Placed,
+    saved: &Saved,
+) -> Result<(), RestoreFault>
+    requires ungrouped { IsUngrouped store.old }
 {
-    let mut last = LastNames {
-        session: LastName::none(),
-        group: LastName::none(),
+    let mut last = RecentNames {
+        session: RecentName::none(),
+        group: RecentName::none(),
     };
     for (index, row) in saved.rows.iter().enumerate() {
         let line = task_line(index);
-        let Some(key) = cast.keys.get(index) else {
+        let Some(key) = placed.keys.get(index) else {
             return Err(RestoreFault::Impossible(line));
         };
         let key = *key;
-        seat_task(store, cast, key, row, &mut last, line)?;
+        put_in_session(store, placed, key, row, &mut last, line)?;
     }
     Ok(())
 }

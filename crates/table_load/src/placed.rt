@@ -1,26 +1,26 @@
-//! Which tasks there are in a store that is made of a text.
+//! Which tasks were placed in a store that is made of a text.
 
 use pid_types::keys::TaskKey;
 use std::alloc::{AllocError, Global};
 
-/// Which tasks there are: those of the lines, and those that only bear the name of a group or a session.
+/// The tasks of the lines, and the placeholders: tasks that only bear the name of a group or a session, and go again.
 #[derive(Drop)]
-pub struct Cast {
+pub struct Placed {
     /// The key of each line's task.
     pub keys: Vec<TaskKey>,
     /// The key of who bears the name of each line's group.
     pub groups: Vec<TaskKey>,
-    /// At each key whether its task has no line.
-    pub extras: Vec<bool>,
+    /// At each key whether its task is a placeholder.
+    pub placeholders: Vec<bool>,
 }
 
-impl Cast {
+impl Placed {
     /// Nobody.
-    pub fn new(alloc: Global) -> Cast {
-        Cast {
+    pub fn new(alloc: Global) -> Placed {
+        Placed {
             keys: Vec::new(alloc),
             groups: Vec::new(alloc),
-            extras: Vec::new(alloc),
+            placeholders: Vec::new(alloc),
         }
     }
 
@@ -40,22 +40,22 @@ impl Cast {
         }
     }
 
-    /// A task has no line.
-    pub fn add_extra(&mut self, key: TaskKey) -> Result<(), AllocError> {
+    /// A task is a placeholder.
+    pub fn add_placeholder(&mut self, key: TaskKey) -> Result<(), AllocError> {
         let place = key as usize;
-        if place >= self.extras.len() {
-            self.extras.resize(place.saturating_add(1), false)?;
+        if place >= self.placeholders.len() {
+            self.placeholders.resize(place.saturating_add(1), false)?;
         }
-        if let Some(extra) = self.extras.get_mut(place) {
-            *extra = true;
+        if let Some(flag) = self.placeholders.get_mut(place) {
+            *flag = true;
         }
         Ok(())
     }
 
-    /// Whether the task has no line.
-    pub fn is_extra(&self, key: TaskKey) -> bool {
-        match self.extras.get(key as usize) {
-            Some(extra) => *extra,
+    /// Whether the task is a placeholder.
+    pub fn is_placeholder(&self, key: TaskKey) -> bool {
+        match self.placeholders.get(key as usize) {
+            Some(flag) => *flag,
             None => false,
         }
     }
