@@ -30,7 +30,7 @@ from pidtab.faults import (
 )
 from pidtab.history import Counts, Entry
 from pidtab.library import find_library
-from pidtab.listing import BadList, Control, Listing, Space, Task, read_list
+from pidtab.listing import BadList, Changes, Control, Listing, Space, Task, read_list, write_list
 from pidtab.log import Following, Log, Progress
 from pidtab.memory_log import MemoryLog
 from pidtab.native import Ask, Askable, AskableCalls
@@ -54,6 +54,7 @@ __all__ = [
     "BadList",
     "BadText",
     "Calls",
+    "Changes",
     "Control",
     "Counts",
     "Diverged",
@@ -97,4 +98,5 @@ __all__ = [
     "find_library",
     "find_program",
     "read_list",
+    "write_list",
 ]

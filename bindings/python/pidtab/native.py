@@ -6,16 +6,18 @@ from abc import abstractmethod
 from collections.abc import Callable, Sequence
 from typing import TYPE_CHECKING, NoReturn, Protocol, SupportsIndex, TypeVar
 
-from pidtab.answers import Form, Stat, tell_stat
+from pidtab.answers import Forked, Form, Stat, tell_stat
 from pidtab.bounds import check_range
 from pidtab.calls import Call, Calls, Queries
 from pidtab.faults import LibraryFault, TableClosed, bad_text, read_fault, refusal_of, say_why
+from pidtab.labels import Labelled
 from pidtab.raw import (
     BAD_LINE,
     BAD_TEXT,
     CALL_FIELDS,
     CLOSED,
     DONE,
+    FORK,
     NO_MEMORY,
     NO_ROOM,
     OUT_OF_RANGE,
@@ -32,6 +34,9 @@ from pidtab.raw import (
 SHORT_TEXT = 4096
 
 GREATEST_PID = 2**32 - 1
+
+# It always lives, and sees all tasks by their root numbers.
+ROOT_INIT = 1
 
 # What the program answers where the library has a status.
 ANSWERS = {BAD_LINE: "bad line", OUT_OF_RANGE: "bad line", NO_MEMORY: "no memory", SPENT: "spent"}
@@ -179,7 +184,7 @@ class AskableCalls(Calls, Askable):
     """A table with its calls and with queries that are no calls: `Table`, `Seat` and `Replicated`, but no `Process`."""
 
 
-class NumberCalls(AskableCalls):
+class NumberCalls(Labelled, AskableCalls):
     """Calls by functions of the library, each of which answers a status."""
 
     @abstractmethod
@@ -194,9 +199,16 @@ class NumberCalls(AskableCalls):
     def _list(self, room: "ctypes.Array[ctypes.c_char]", size: ctypes.c_size_t) -> int:
         """The status of the function that writes the list."""
 
+    @abstractmethod
+    def _forked(self, root: int) -> None:
+        """Sees to it that a new task has no label of another."""
+
     def _make(self, call: Call, form: Form[T]) -> T:
         self._check_owner()
-        return make_call(call, form, self._call)
+        told = make_call(call, form, self._call)
+        if call.operation == FORK and self._labels and isinstance(told, Forked):
+            self._forked(told.root)
+        return told
 
     def _answers(self, lines: Sequence[bytes]) -> tuple[str, ...]:
         self._check_owner()
@@ -206,8 +218,16 @@ class NumberCalls(AskableCalls):
     def _answer(self, line: bytes) -> str:
         room, size = Answer(), ctypes.c_size_t()
         status = self._line(line, room, size)
-        return ctypes.string_at(room, size.value).decode("ascii") if status == DONE else answer_of(status)
+        if status != DONE:
+            return answer_of(status)
+        answer = ctypes.string_at(room, size.value).decode("ascii")
+        if answer.startswith("child ") and self._labels:
+            self._forked(int(answer.split(" ")[3]))
+        return answer
 
     def _list_text(self) -> str:
         self._check_owner()
         return read_written(self._list, "list")
+
+    def _look(self, task: int) -> Stat:
+        return self.ask.stat(ROOT_INIT, task)

@@ -4,6 +4,7 @@ import ctypes
 import os
 
 from pidtab.bounds import DEFAULT_PID_MAX, check_pid_max
+from pidtab.labels import Labels
 from pidtab.library import call_later, find_library, load_library
 from pidtab.native import Ask, NumberCalls, check_loaded, fault_of, head_of, read_written, text_bytes
 from pidtab.raw import DONE, Pidtab, PidtabCall, PidtabFault, PidtabReply, PidtabTask
@@ -19,7 +20,7 @@ class Table(NumberCalls):
         self.pid_max = check_pid_max(pid_max)
         self.library = find_library(library)
         self._functions = load_library(self.library)
-        self._table = Pidtab()
+        self._table, self._names = Pidtab(), Labels()
         status = self._functions.pidtab_open(self._table, self.pid_max)
         if status != DONE:
             raise fault_of(status, "open")
@@ -35,7 +36,7 @@ class Table(NumberCalls):
         table = cls.__new__(cls)
         table.library = find_library(library)
         table._functions = load_library(table.library)
-        table._table, fault = Pidtab(), PidtabFault()
+        table._table, table._names, fault = Pidtab(), Labels(), PidtabFault()
         # Before it is open, so that no interrupt loses it.
         table._keep(table._functions.pidtab_close, table._table)
         check_loaded(table._later("pidtab_load", written, len(written), fault), fault)
@@ -50,6 +51,12 @@ class Table(NumberCalls):
         self._check_owner()
         return read_written(lambda room, size: self._later("pidtab_dump", room, len(room), size), "dump")
 
+    def copy(self) -> "Table":
+        """Another table that stands as this one does, labels too, and goes its own way from here on. It costs what a dump and a load do."""
+        copied = Table.from_dump(self.dump(), self.library)
+        copied._names = self._names.copy()
+        return copied
+
     def close(self) -> None:
         """Frees the table. A second time nothing is done."""
         if self._finish is not None:
@@ -59,6 +66,17 @@ class Table(NumberCalls):
     def ask(self) -> Ask:
         """Queries that are no calls: `table.ask.getpid(1)` answers as `table.getpid(1)` does, and shifts no later id."""
         return Ask(self)
+
+    @property
+    def _labels(self) -> Labels:
+        return self._names
+
+    def _place(self) -> int:
+        # One call is made at a time, and each fork is seen here.
+        return 0
+
+    def _forked(self, root: int) -> None:
+        self._names.fork(root)
 
     def _ask(self, call: PidtabCall, reply: PidtabReply) -> int:
         return self._later("pidtab_ask", call, reply)

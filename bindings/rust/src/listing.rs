@@ -77,6 +77,16 @@ pub struct Listing {
 }
 
 impl Listing {
+    /// The list as JSON, in one line, as docs/list.schema.json has it.
+    pub fn to_json(&self) -> String {
+        format!(
+            r#"{{"tasks":{},"spaces":{},"controls":{}}}"#,
+            array(&self.tasks, task_object),
+            array(&self.spaces, space_object),
+            array(&self.controls, control_object),
+        )
+    }
+
     /// What a list of the library says.
     pub(crate) fn of(list: &str) -> Listing {
         list.parse().expect("what the library lists is a list")
@@ -219,4 +229,59 @@ fn read_control(words: &[&str]) -> Option<Control> {
         limit: number_unless(limit, "max")?,
         count: number(count)?,
     })
+}
+
+/// The items of an array of JSON.
+fn array<T>(items: &[T], object: fn(&T) -> String) -> String {
+    let objects: Vec<_> = items.iter().map(object).collect();
+    format!("[{}]", objects.join(","))
+}
+
+/// A number of JSON, or its word for none.
+fn or_null<T: fmt::Display>(number: Option<T>) -> String {
+    number.map_or_else(|| "null".into(), |it| it.to_string())
+}
+
+/// The fields of a task, as docs/list.schema.json has them. No text in them needs an escape.
+fn task_object(task: &Task) -> String {
+    let (state, status) = match task.ended {
+        None => ("live", None),
+        Some(Ended::Killed) => ("killed", None),
+        Some(Ended::Exited(status)) => ("exited", Some(status)),
+    };
+    format!(
+        r#"{{"numbers":{},"space":{},"parent":{},"group":{},"session":{},"control":{},"state":"{state}","status":{},"executed":{},"children":{},"subreaper":{}}}"#,
+        array(&task.numbers, u32::to_string),
+        task.space,
+        task.parent,
+        task.group,
+        task.session,
+        task.control,
+        or_null(status),
+        task.executed,
+        or_null(task.children),
+        task.subreaper,
+    )
+}
+
+/// The fields of a namespace.
+fn space_object(space: &Space) -> String {
+    format!(
+        r#"{{"id":{},"parent":{},"cursor":{},"fallen":{}}}"#,
+        space.id,
+        or_null(space.parent),
+        space.cursor,
+        space.fallen,
+    )
+}
+
+/// The fields of a control group.
+fn control_object(control: &Control) -> String {
+    format!(
+        r#"{{"id":{},"parent":{},"limit":{},"count":{}}}"#,
+        control.id,
+        or_null(control.parent),
+        or_null(control.limit),
+        control.count,
+    )
 }

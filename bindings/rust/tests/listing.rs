@@ -22,6 +22,18 @@ fn read(text: &str) -> Listing {
 }
 
 #[test]
+fn json() {
+    let bindings = Path::new(env!("CARGO_MANIFEST_DIR"))
+        .parent()
+        .expect("the folder of all packages");
+    let text = |name| fs::read_to_string(bindings.join(name)).expect(name);
+    assert_eq!(
+        format!("{}\n", read(&text("example.list")).to_json()),
+        text("example.json")
+    );
+}
+
+#[test]
 fn each_field() {
     let listing = read(WIDE);
     let (first, wide) = (&listing.tasks[0], &listing.tasks[3]);
