@@ -6,6 +6,7 @@ import sys
 if sys.version_info < (3, 10):
     raise ImportError("pidtab needs Python 3.10 or later, and this is Python %d.%d" % sys.version_info[:2])
 
+from pidtab.accounts import Accounts
 from pidtab.answers import Forked, Reaped, Stat
 from pidtab.bounds import DEFAULT_PID_MAX, GREATEST_PID_MAX, LEAST_PID_MAX
 from pidtab.calls import Calls, Kind, Queries
@@ -47,6 +48,7 @@ __all__ = [
     "DEFAULT_PID_MAX",
     "GREATEST_PID_MAX",
     "LEAST_PID_MAX",
+    "Accounts",
     "Ask",
     "Askable",
     "AskableCalls",

@@ -255,6 +255,8 @@ SAVED_FUNCTIONS: dict[str, Function] = {
     "pidtab_saved_append_shared": (U32, [SAVED, SHARED]),
     "pidtab_saved_load_shared": (U32, [SAVED, ctypes.c_int, SHARED, U64]),
     "pidtab_saved_trim": (U32, [SAVED]),
+    "pidtab_saved_take_head": (U32, [ctypes.c_char_p, SIZE_T, SAVED_HEAD, SIZE, NUMBER_64]),
+    "pidtab_saved_take": (U32, [ctypes.c_char_p, SIZE_T, ENTRIES, SIZE, NUMBER_64]),
     "pidtab_saved_resume_shared": (U32, [SAVED, ctypes.c_int, SAVED_HEAD, SHARED, U64]),
     "pidtab_saved_serve": (U32, [SAVED, SHARED, U64, ctypes.c_bool]),
     "pidtab_saved_wait": (U32, [SHARED, U64]),

@@ -4,7 +4,9 @@ import json
 import unittest
 
 from pidtab import Refusal, Shared, Table, TableClosed, read_list
+from pidtab.accounts import Accounts
 from pidtab.calls import Calls
+from pidtab.tree import draw_list
 from tests.ways import need_library, need_shared
 
 TREE = """\
@@ -126,6 +128,23 @@ class SharedLabels(unittest.TestCase):
         self.assertEqual(labels_of(self.shared), {2: "web"})
         self.shared._labels.fork(2, 1)
         self.assertEqual(labels_of(self.shared), {})
+
+
+class Keys(unittest.TestCase):
+    def test_beside_each_number(self) -> None:
+        need_shared()
+        with Shared(1) as shared:
+            seat = shared.seat()
+            seat.answers(["mk 0", "fork 1", "fork 2"])
+            accounts = Accounts(Table())
+            self.addCleanup(accounts.table.close)
+            accounts.add(shared.entries())
+            shared.label(3, "job")
+            listing = shared.list().with_names({}, accounts.keys)
+        # The stamps of the forks are their places among all calls, from 1 on.
+        self.assertEqual([(task.root, task.key, task.label) for task in listing.tasks], [(1, None, None), (2, 2, None), (3, 3, "job")])
+        self.assertIn("        3 #3 (job) group 1", draw_list(listing))
+        self.assertEqual([it.get("key") for it in listing.to_object()["tasks"]], [None, 2, 3])
 
 
 if __name__ == "__main__":
