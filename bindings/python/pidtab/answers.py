@@ -4,7 +4,7 @@ import errno
 import re
 from collections.abc import Callable
 from dataclasses import dataclass
-from typing import Generic, TypeVar
+from typing import Any, Generic, TypeVar
 
 from pidtab.faults import ProgramFault, say_why, shorten
 from pidtab.raw import CONTROL, COUNTED, END, FORKED, KILLED, LEVELS, NONE_YET, NUMBER, OK, REAPED, REFUSED, PidtabReply, PidtabTask
@@ -55,6 +55,11 @@ class Stat:
     def killed(self) -> bool:
         """Whether the fall of its namespace ended it."""
         return not self.live and self.status is None
+
+    def to_object(self) -> dict[str, Any]:
+        """Its fields as docs/list.schema.json has them, for `json`."""
+        fields = vars(self) | {"numbers": list(self.numbers), "live": "live" if self.live else "killed" if self.killed else "exited"}
+        return {"state" if name == "live" else name: value for name, value in fields.items()}
 
 
 def match(pattern: str, answer: str) -> "re.Match[str]":

@@ -14,6 +14,7 @@ from pidtab.language import FORMS, KINDS
 from pidtab.listing import write_list
 from pidtab.process import Process
 from pidtab.prompt import COMMANDS, begin
+from pidtab.serve import serve
 from pidtab.session import Mistake, Session, read_words
 from pidtab.table import Table
 from pidtab.tree import draw_list
@@ -173,13 +174,33 @@ def read_command_line() -> argparse.Namespace:
     ways = parser.add_mutually_exclusive_group()
     ways.add_argument("--program", metavar="PATH", help="have the table by this program")
     ways.add_argument("--library", metavar="PATH", help="have the table by this library")
+    parser.add_argument("--serve", action="store_true", help="answer each line of standard input with one line, also `list`, `dump`, `stat` and `ask`")
     parser.add_argument("file", nargs="*", help="a script; - is standard input")
-    return parser.parse_args()
+    given = parser.parse_args()
+    if given.serve and (given.file or given.strict or given.echo or given.program):
+        parser.error("--serve answers a program on standard input, by the library")
+    return given
+
+
+def run_server(given: argparse.Namespace) -> int:
+    """Serves a table of its own: the exit status."""
+    try:
+        with Table(given.pid_max, given.library) as table:
+            serve(table)
+    except ValueError as fault:
+        return complain(f"pidtab-play: {fault}", STATUS_USAGE)
+    except (LibraryFault, MemoryError) as fault:
+        return complain(f"pidtab-play: no table: {fault}", STATUS_USAGE)
+    except KeyboardInterrupt:
+        return STATUS_INTERRUPTED
+    return STATUS_DONE
 
 
 def run() -> int:
     """Plays what the command line names."""
     given = read_command_line()
+    if given.serve:
+        return run_server(given)
     try:
         session = open_session(given)
     except ValueError as fault:
