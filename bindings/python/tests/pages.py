@@ -15,7 +15,7 @@ def read_page(name: str) -> str:
 
 def section(page: str, title: str) -> str:
     """The text below a title, to the next title."""
-    _, found, behind = page.partition(f"\n{title}\n")
+    _, found, behind = f"\n{page}".partition(f"\n{title}\n")
     if not found:
         raise ValueError(f"no section {title}")
     return re.split(r"\n#+ ", behind)[0]
