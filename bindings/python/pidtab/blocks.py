@@ -121,7 +121,6 @@ class Service:
         except OSError as fault:
             self._socket.close()
             raise OSError(fault.errno, fault.strerror, path) from None
-        self.path = path
 
     def bulk(self) -> bytes:
         """The next bulk string, for which it waits."""
@@ -152,7 +151,7 @@ class Service:
     def _receive(self) -> None:
         part = self._socket.recv(ROOM)
         if not part:
-            raise BadHistory(f"{self.path}: the service has ended")
+            raise BadHistory("the service has ended")
         self._read += part
 
     def _take(self) -> bytes | None:
@@ -161,7 +160,7 @@ class Service:
             return None
         found = re.fullmatch(rb"\$(\d+)", head)
         if found is None:
-            raise BadHistory(f"{self.path}: the service says {head.decode('latin-1')}")
+            raise BadHistory(f"the service says {head.decode('latin-1')}")
         size = int(found[1])
         if len(rest) < size + 2:
             return None

@@ -65,7 +65,7 @@ class Container:
 
 
 class World:
-    """Containers on a table, by name. It has no time: SimPy, or any other loop, may drive it as well as a `Simulation`.
+    """Containers on a table, by name. It has no time: another engine of events may drive it as well as a `Simulation`.
 
     The table is used by nobody else meanwhile. A fork that the table refuses is counted by its word, and is no error.
     """

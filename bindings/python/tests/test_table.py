@@ -37,7 +37,7 @@ TYPES: dict[str, Any] = {
 
 # What is passed for them: for bytes that are read, and that are written, and for the address of what else.
 PASSED: dict[str, type] = {
-    "const void *line": ctypes.c_char_p, "const void *text": ctypes.c_char_p, "void *": raw.BYTES, "struct pidtab *": raw.TABLE, "struct pidtab_shared *": raw.SHARED,
+    "const void *line": ctypes.c_char_p, "const void *text": ctypes.c_char_p, "const void *bytes": ctypes.c_char_p, "void *": raw.BYTES, "struct pidtab *": raw.TABLE, "struct pidtab_shared *": raw.SHARED,
     "struct pidtab_call *": raw.CALL, "struct pidtab_reply *": raw.REPLY, "struct pidtab_task *": raw.TASK, "struct pidtab_fault *": raw.FAULT,
     "struct pidtab_entry *": raw.ENTRIES, "size_t *": raw.SIZE,
     "struct pidtab_saved *": raw.SAVED, "struct pidtab_saved_head *": raw.SAVED_HEAD, "int ": ctypes.c_int, "bool ": ctypes.c_bool,
@@ -122,9 +122,9 @@ class Header(unittest.TestCase):
 
     def test_the_functions(self) -> None:
         # The package has no records but those behind a lock, and takes that lock for one function at a time. It writes lines itself, and
-        # saves to files alone.
+        # saves to files alone, which it also reads as they grow.
         left_out = {"pidtab_shared_lock", "pidtab_shared_unlock", "pidtab_call_line"}
-        left_out |= {f"pidtab_saved_{it}" for it in ("sum", "put", "put_head", "take", "take_head", "append", "load", "resume")}
+        left_out |= {f"pidtab_saved_{it}" for it in ("sum", "put", "put_head", "append", "load", "resume")}
         text = header() + header("pidtab_shared.h") + header("pidtab_saved.h")
         declared = dict(re.findall(r"(?<!inline )(?:uint32_t |uint64_t |void |\*)(pidtab_(?!record_)\w+)\(([^)]*)\);", text))
         known = {**raw.FUNCTIONS, **raw.LATER_FUNCTIONS, **raw.SHARED_FUNCTIONS, **raw.LATER_SHARED_FUNCTIONS, **raw.SAVED_FUNCTIONS}

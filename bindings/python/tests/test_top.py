@@ -201,7 +201,7 @@ class Service(Histories):
     def test_one_that_refuses(self) -> None:
         path = self.serve(b"-NOPERM none of your business\r\n")
         done = launch("--socket", path)
-        self.assertEqual((done.returncode, done.stderr), (1, f"pidtab-top: {path}: {path}: the service says -NOPERM none of your business\n"))
+        self.assertEqual((done.returncode, done.stderr), (1, f"pidtab-top: {path}: the service says -NOPERM none of your business\n"))
 
     def test_none(self) -> None:
         done = launch("--socket", "/no/such")
