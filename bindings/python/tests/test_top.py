@@ -84,6 +84,11 @@ class Counts(Histories):
         self.assertEqual((accounts.peaks, accounts.table.count(3)), ({0: 3, 1: 2, 3: 2}, 1))
         self.assertEqual((accounts.limited, accounts.refused), ({3: 2}, {"pids-limit": 2, "no-caller": 1}))
 
+    def test_a_peak_stays_where_fewer_come_later(self) -> None:
+        ends = [line for task in (2, 3, 4) for line in (f"exit {task} 0", f"wait 1 pid {task}")]
+        accounts = self.accounts("fork 1", "fork 1", "fork 1", *ends, "fork 1")
+        self.assertEqual((accounts.peaks, accounts.table.count()), ({0: 4}, 2))
+
     def test_a_group_that_was_removed(self) -> None:
         self.assertEqual(self.accounts("mk 0", "mk 1", "rm 2", "fork 1").peaks, {0: 2, 1: 0})
 
@@ -197,6 +202,16 @@ class Service(Histories):
             while True:
                 lines += [entry.line for entry in next(followed.calls)]
         self.assertEqual((lines, followed.first_stamp), (["fork 2", "mk 0"], 2))
+
+    def test_a_service_that_has_begun_another_log(self) -> None:
+        text = self.shared.dump().encode()
+        self.save("fork 1")
+        # The checksum goes on from the new head, whatever it was before.
+        path = self.serve(self.bulk(text), self.bulk(b"%016x" % 7), self.bulk(self.path.read_bytes()))
+        followed = follow_service(path)
+        self.addCleanup(followed.table.close)
+        self.assertEqual([entry.answer for entry in next(followed.calls)], ["child 2 root 2"])
+        followed.calls.close()  # type: ignore[attr-defined]
 
     def test_one_that_refuses(self) -> None:
         path = self.serve(b"-NOPERM none of your business\r\n")
