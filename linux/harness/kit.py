@@ -1,12 +1,14 @@
 """The test kit of the Python package on real processes: a difference that is not listed is shrunk to a short script."""
 
 from collections.abc import Callable
+from pathlib import Path
 
 from harness.comparison import MOVED_BY
 from harness.known import DIFFERENCES, Known, Meeting
 from harness.machine import Machine
 from harness.script import DEFAULT_PID_MAX, parse_line
 from harness.world import World
+from pidtab.process import Process
 from pidtab.testing import Met, Tally, compare
 
 GROUP_CALLS = ("mk", "rm", "limit", "move", "count")
@@ -46,8 +48,8 @@ class Kernel:
         self.world.close()
 
 
-def compare_cases(machine: Machine, cases: int) -> Tally:
-    """Compares so many cases. A difference that is not listed is a `Different`."""
+def compare_cases(machine: Machine, program: Path, cases: int) -> Tally:
+    """Compares so many cases with the program. A difference that is not listed is a `Different`."""
     worlds: list[Kernel] = []
 
     def open_world() -> Kernel:
@@ -59,4 +61,4 @@ def compare_cases(machine: Machine, cases: int) -> Tally:
 
     without = () if machine.place else GROUP_CALLS
     declared = {known.name: declare(known) for known in DIFFERENCES}
-    return compare(open_world, declared=declared, without=without, cases=cases)
+    return compare(open_world, open_table=lambda: Process(program=program), declared=declared, without=without, cases=cases)
