@@ -4,7 +4,7 @@ import errno
 import re
 from collections.abc import Callable
 from dataclasses import dataclass
-from typing import Any, Generic, TypeVar
+from typing import Any, Generic, NamedTuple, TypeVar
 
 from pidtab.faults import ProgramFault, say_why, shorten
 from pidtab.raw import CONTROL, COUNTED, END, FORKED, KILLED, LEVELS, NONE_YET, NUMBER, OK, REAPED, REFUSED, PidtabReply, PidtabTask
@@ -12,16 +12,14 @@ from pidtab.raw import CONTROL, COUNTED, END, FORKED, KILLED, LEVELS, NONE_YET, 
 T = TypeVar("T")
 
 
-@dataclass(frozen=True)
-class Forked:
+class Forked(NamedTuple):
     """A new task: its number in the caller's namespace, and in the root namespace."""
 
     child: int
     root: int
 
 
-@dataclass(frozen=True)
-class Reaped:
+class Reaped(NamedTuple):
     """A child that was waited for: its number in the caller's namespace, and its status, None where it was killed."""
 
     child: int

@@ -15,7 +15,7 @@ class Labels:
     """
 
     def __init__(self) -> None:
-        self._labels: dict[int, tuple[str, int]] = {}
+        self.by_root: dict[int, tuple[str, int]] = {}
 
     def put(self, root: int, text: str, place: int = 0) -> None:
         """Labels a task."""
@@ -23,40 +23,34 @@ class Labels:
             raise TypeError(f"a label is a str, not {type(text).__name__}")
         if not text or not text.isprintable():
             raise ValueError(f"a label is some printable text of one line, not {text!r}")
-        self._labels[root] = text, place
+        self.by_root[root] = text, place
 
     def fork(self, root: int, place: int = 0) -> None:
         """Says that a fork at the place has made a task with the number."""
-        _, labelled = self._labels.get(root, ("", place + 1))
+        _, labelled = self.by_root.get(root, ("", place + 1))
         if labelled <= place:
-            self._labels.pop(root, None)
+            self.by_root.pop(root, None)
 
     def drop(self, root: int) -> None:
         """Takes a label away, if there is one."""
-        self._labels.pop(root, None)
+        self.by_root.pop(root, None)
 
     def of(self, roots: Iterable[int]) -> dict[int, str]:
         """The labels of these tasks."""
-        return {root: self._labels[root][0] for root in roots if root in self._labels}
+        return {root: self.by_root[root][0] for root in roots if root in self.by_root}
 
     def copy(self) -> "Labels":
         """The same labels for another table, on which no call was made."""
         copied = Labels()
-        copied._labels = {root: (text, 0) for root, (text, _) in self._labels.items()}
+        copied.by_root = {root: (text, 0) for root, (text, _) in self.by_root.items()}
         return copied
-
-    def __bool__(self) -> bool:
-        """Whether there is any."""
-        return bool(self._labels)
 
 
 class Labelled(Listed):
     """What has a list, whose tasks may have labels."""
 
-    @property
-    @abstractmethod
-    def _labels(self) -> Labels:
-        """The labels of the table."""
+    # The labels of the table.
+    _labels: Labels
 
     @abstractmethod
     def _place(self) -> int:
@@ -81,4 +75,4 @@ class Labelled(Listed):
     def list(self) -> Listing:
         """The table as it stands now, with its labels. It costs a copy of the table."""
         listing = super().list()
-        return listing.with_names(self._labels.of(task.root for task in listing.tasks)) if self._labels else listing
+        return listing.with_names(self._labels.of(task.root for task in listing.tasks)) if self._labels.by_root else listing

@@ -58,14 +58,12 @@ def fault_of(status: int, line: str) -> Exception:
     return read_fault(line, answer_of(status)) or AssertionError(status)
 
 
-def pack(call: Call) -> PidtabCall:
+def pack(call: Call) -> bytes:
     """The numbers of a call, if each fits into its field."""
-    packed = PidtabCall()
     try:
-        CALL_FIELDS.pack_into(packed, 0, *call)
+        return CALL_FIELDS.pack(*call)
     except struct.error:
         raise ValueError(f"bad line: {call.line}") from None
-    return packed
 
 
 def unpack(packed: PidtabCall) -> Call:
@@ -109,15 +107,26 @@ def head_of(text: bytes) -> tuple[int, int]:
     return int(words[4]), int(words[6])
 
 
-def make_call(call: Call, form: Form[T], make: Callable[[PidtabCall, PidtabReply], int]) -> T:
+# Replies that no call has now. A call takes one out and puts it back once it is read, so no other thread and no handler of a signal meets
+# it meanwhile. A call that is interrupted, or raises, leaves its own to the collector.
+UNUSED: list[PidtabReply] = []
+
+
+def make_call(call: Call, form: Form[T], make: Callable[[bytes, PidtabReply], int]) -> T:
     """What a call is answered by a function that takes and tells numbers, and answers a status."""
-    reply = PidtabReply()
-    status = make(pack(call), reply)
+    packed = pack(call)
+    try:
+        reply = UNUSED.pop()
+    except IndexError:
+        reply = PidtabReply()
+    status = make(packed, reply)
     if status != DONE:
         raise fault_of(status, call.line)
     if reply.kind == REFUSED:
         raise refusal_of(reply.error, call.line, say_why(reply.refusal, reply.first))
-    return form.tell(reply)
+    told = form.tell(reply)
+    UNUSED.append(reply)
+    return told
 
 
 def read_task(caller: SupportsIndex, pid: SupportsIndex, read: Callable[[int, int, PidtabTask], int]) -> Stat:
@@ -137,7 +146,7 @@ class Asked(Protocol):
 
     def _check_owner(self) -> None: ...
 
-    def _ask(self, call: PidtabCall, reply: PidtabReply) -> int: ...
+    def _ask(self, call: bytes, reply: PidtabReply) -> int: ...
 
     def _stat(self, caller: int, pid: int, task: PidtabTask) -> int: ...
 
@@ -187,9 +196,8 @@ class AskableCalls(Calls, Askable):
 class NumberCalls(Labelled, AskableCalls):
     """Calls by functions of the library, each of which answers a status."""
 
-    @abstractmethod
-    def _call(self, call: PidtabCall, reply: PidtabReply) -> int:
-        """The status of the function that answers the numbers."""
+    # The function that answers the numbers, which answers a status.
+    _call: Callable[[bytes, PidtabReply], int]
 
     @abstractmethod
     def _line(self, line: bytes, room: "ctypes.Array[ctypes.c_char]", size: ctypes.c_size_t) -> int:
@@ -206,7 +214,7 @@ class NumberCalls(Labelled, AskableCalls):
     def _make(self, call: Call, form: Form[T]) -> T:
         self._check_owner()
         told = make_call(call, form, self._call)
-        if call.operation == FORK and self._labels and isinstance(told, Forked):
+        if call.operation == FORK and self._labels.by_root and isinstance(told, Forked):
             self._forked(told.root)
         return told
 
@@ -221,7 +229,7 @@ class NumberCalls(Labelled, AskableCalls):
         if status != DONE:
             return answer_of(status)
         answer = ctypes.string_at(room, size.value).decode("ascii")
-        if answer.startswith("child ") and self._labels:
+        if answer.startswith("child ") and self._labels.by_root:
             self._forked(int(answer.split(" ")[3]))
         return answer
 

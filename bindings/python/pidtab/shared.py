@@ -85,6 +85,7 @@ class Seat(NumberCalls):
         self.worker = worker
         self.pid_max = shared.pid_max
         self._closed = False
+        self._labels = shared._labels
         # The library writes it, so that no interrupt comes between a call and this.
         self._ordinal = ctypes.c_uint64(NO_ORDINAL)
 
@@ -117,23 +118,19 @@ class Seat(NumberCalls):
         if self._closed:
             raise TableClosed("the seat was closed")
 
-    @property
-    def _labels(self) -> Labels:
-        return self.shared._labels
-
     def _place(self) -> int:
         return self.shared._place()
 
     def _forked(self, root: int) -> None:
         self.shared._labels.fork(root, self._ordinal.value)
 
-    def _ask(self, call: PidtabCall, reply: PidtabReply) -> int:
+    def _ask(self, call: bytes, reply: PidtabReply) -> int:
         return self.shared._ask(call, reply)
 
     def _stat(self, caller: int, pid: int, task: PidtabTask) -> int:
         return self.shared._stat(caller, pid, task)
 
-    def _call(self, call: PidtabCall, reply: PidtabReply) -> int:
+    def _call(self, call: bytes, reply: PidtabReply) -> int:
         return self.shared._bounded("pidtab_shared_call", self.worker, call, reply, self._ordinal)
 
     def _line(self, line: bytes, room: "ctypes.Array[ctypes.c_char]", size: ctypes.c_size_t) -> int:
@@ -278,7 +275,7 @@ class Shared(Labelled, Owner):
         """Has the table."""
         # One thread at a time is at the file. A handler of a signal may come between two steps of a save, and save too.
         self._saving = threading.RLock()
-        self._hold, self._names = hold, Labels()
+        self._hold, self._labels = hold, Labels()
         TABLES.add(self)
 
     def close(self) -> None:
@@ -490,10 +487,6 @@ class Shared(Labelled, Owner):
             check(status, "checkpoint")
         return status != AGAIN
 
-    @property
-    def _labels(self) -> Labels:
-        return self._names
-
     def _place(self) -> int:
         return self.counts().recorded
 
@@ -519,7 +512,7 @@ class Shared(Labelled, Owner):
         hold = self._check_open()
         return int(getattr(hold.functions, name)(hold.at, *arguments))
 
-    def _ask(self, call: PidtabCall, reply: PidtabReply) -> int:
+    def _ask(self, call: bytes, reply: PidtabReply) -> int:
         return self._status("pidtab_shared_ask", call, reply)
 
     def _stat(self, caller: int, pid: int, task: PidtabTask) -> int:

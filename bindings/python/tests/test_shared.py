@@ -485,7 +485,7 @@ class Asking(unittest.TestCase):
             self.shared.ask.getpid(1)
 
     def test_an_earlier_library(self) -> None:
-        functions = SimpleNamespace(pidtab_open=mock.Mock(return_value=0), pidtab_close=mock.Mock())
+        functions = SimpleNamespace(**{name: mock.Mock(return_value=0) for name in raw.FUNCTIONS})
         with mock.patch("pidtab.table.find_library", return_value="early.so"), mock.patch("pidtab.table.load_library", return_value=functions):
             table = Table()
         self.addCleanup(table.close)
