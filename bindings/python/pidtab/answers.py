@@ -18,6 +18,10 @@ class Forked(NamedTuple):
     child: int
     root: int
 
+    def to_object(self) -> dict[str, Any]:
+        """Its fields as docs/list.schema.json has them, for `json`, which would write a list of the tuple."""
+        return self._asdict()
+
 
 class Reaped(NamedTuple):
     """A child that was waited for: its number in the caller's namespace, and its status, None where it was killed."""
@@ -29,6 +33,10 @@ class Reaped(NamedTuple):
     def killed(self) -> bool:
         """Whether it was killed by the fall of its namespace."""
         return self.status is None
+
+    def to_object(self) -> dict[str, Any]:
+        """The same."""
+        return self._asdict()
 
 
 @dataclass(frozen=True)

@@ -118,15 +118,17 @@ class World:
             return 0
         made = 0
         try:
-            for made in range(count):
+            while made < count:
                 forked = self.table.fork(parent)
+                root = forked.root
                 # Its parent is in the namespace, so that number is the one there.
-                tasks[forked.root], parents[forked.root] = forked.child, parent
-            made = count
+                tasks[root], parents[root] = forked.child, parent
+                made += 1
         except Refusal as refusal:
             self._refuse(container, refusal)
         self.forks += made
-        container.peak = max(container.peak, len(tasks))
+        if len(tasks) > container.peak:
+            container.peak = len(tasks)
         return made
 
     def bomb(self, name: str) -> int:
@@ -136,9 +138,10 @@ class World:
     def end(self, name: str, task: int = 0, status: int = 0) -> bool:
         """Ends a task, or the newest one that is not the init, and its parent waits for it. Whether there was one. The end of the init is a stop."""
         container = self.containers[name]
-        if task == 0 and len(container.tasks) > 1:
-            task = next(reversed(container.tasks))
-        if task not in container.tasks:
+        tasks = container.tasks
+        if task == 0 and len(tasks) > 1:
+            task = next(reversed(tasks))
+        if task not in tasks:
             return False
         if task == container.init:
             return self.stop(name, status)
@@ -148,9 +151,10 @@ class World:
     def _end(self, container: Container, task: int, status: int) -> None:
         number, parent = container.tasks.pop(task), container.parents.pop(task)
         self.table.exit(task, status)
-        # An orphan is the init's, or where it has no namespace of its own, the runtime's.
-        heir = container.init if container.description.own_namespace else RUNTIME
-        self.table.wait(parent if parent in container.tasks or parent == RUNTIME else heir, number)
+        if parent not in container.tasks:
+            # An orphan is the init's, or where it has no namespace of its own, the runtime's.
+            parent = container.init if container.description.own_namespace else RUNTIME
+        self.table.wait(parent, number)
 
     def stop(self, name: str, status: int = KILLED) -> bool:
         """Ends the init, and all of the container with it, and the runtime waits for it. Whether it was up.

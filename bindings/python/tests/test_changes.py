@@ -9,8 +9,8 @@ import unittest
 from pathlib import Path
 from typing import Any
 
-from pidtab import Changes, Control, Listing, NotKept, Shared, Table, TableClosed, read_list
-from tests.pages import EXAMPLES, REPOSITORY
+from pidtab import Changes, Control, Listing, NotKept, Refusal, Shared, Table, TableClosed, read_list
+from tests.pages import EXAMPLES, REPOSITORY, quoted, read_page, rows, section
 from tests.test_tree import WIDE_LIST
 from tests.ways import need_library, need_shared
 
@@ -43,13 +43,18 @@ CHANGES = """\
 """
 
 
+def read_schema() -> Any:
+    """The schema of docs/."""
+    return json.loads(read_page("docs/list.schema.json"))
+
+
 def validator() -> Any:
     """What says whether an object is of the schema."""
     if importlib.util.find_spec("jsonschema") is None:
         raise unittest.SkipTest("no jsonschema")
     import jsonschema
 
-    schema = json.loads((REPOSITORY / "docs" / "list.schema.json").read_text(encoding="utf-8"))
+    schema = read_schema()
     jsonschema.Draft202012Validator.check_schema(schema)
     return jsonschema.Draft202012Validator(schema)
 
@@ -138,6 +143,48 @@ class Json(unittest.TestCase):
     def test_the_program(self) -> None:
         done = launch(WIDE_LIST, "--json")
         self.assertEqual((done.returncode, done.stdout, done.stderr), (0, f"{read_list(WIDE_LIST).to_json()}\n", ""))
+
+
+class Replies(unittest.TestCase):
+    """What is answered with fields, as JSON."""
+
+    def replies(self) -> list[dict[str, Any]]:
+        """A fork, two refusals, an exit that is waited for, and a kill that is."""
+        need_library()
+        with Table() as table:
+            found = [table.fork(1, new=True).to_object()]
+            # The third task is forked from outside into the namespace, and is killed by its fall. It may not fork.
+            table.join(1, 2)
+            table.fork(1)
+            table.limit(table.mk(), 0)
+            table.move(3, 4)
+            for caller in (9, 3):
+                with self.assertRaises(Refusal) as fault:
+                    table.fork(caller)
+                found.append(fault.exception.to_object())
+            table.exit(2, 7)
+            found += [reaped.to_object() for reaped in (table.wait(1), table.wait(1)) if reaped is not None]
+        return found
+
+    def test_each_field(self) -> None:
+        self.assertEqual(
+            self.replies(),
+            [{"child": 2, "root": 2}, {"error": "ESRCH", "word": "no-caller", "id": None}, {"error": "EAGAIN", "word": "pids-limit", "id": 4},
+             {"child": 2, "status": 7}, {"child": 3, "status": None}],
+        )  # fmt: skip
+
+    def test_by_the_schema(self) -> None:
+        check = validator()
+        for reply in self.replies():
+            check.validate(json.loads(json.dumps(reply)))
+            for bad in ({**reply, "more": 1}, {**reply, "child": -1}, {**reply, "word": "no-word"}):
+                self.assertFalse(check.is_valid(bad), bad)
+
+    def test_the_words_of_the_schema(self) -> None:
+        said = [quoted(row[0])[0].split(" ") for row in rows(section(read_page("docs/SCRIPT.md"), "## Refusals"))]
+        fields = read_schema()["$defs"]["refusal"]["properties"]
+        self.assertEqual({error for error, *_ in said}, set(fields["error"]["enum"]))
+        self.assertEqual({word for _, word, *_ in said}, set(fields["word"]["enum"]))
 
 
 class Copies(unittest.TestCase):
