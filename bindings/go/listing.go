@@ -22,6 +22,7 @@ type Task struct {
 	Executed  bool     // it has executed
 	Children  *uint64  // the id of the namespace that its children go into, nil where that is its own
 	Subreaper bool     // it takes orphans of its namespace
+	Label     string   // a name from outside of the table, empty for none: WithLabels gives it
 }
 
 // Root is the task's number in the root namespace, by which it is named as a caller.
@@ -63,6 +64,7 @@ type taskObject struct {
 	Executed  bool     `json:"executed"`
 	Children  *uint64  `json:"children"`
 	Subreaper bool     `json:"subreaper"`
+	Label     string   `json:"label,omitempty"`
 }
 
 // MarshalJSON is the task as docs/list.schema.json has it.
@@ -75,7 +77,18 @@ func (task Task) MarshalJSON() ([]byte, error) {
 		state = "live"
 	}
 	return json.Marshal(taskObject{task.Numbers, task.Space, task.Parent, task.Group, task.Session, task.Control,
-		state, status, task.Executed, task.Children, task.Subreaper})
+		state, status, task.Executed, task.Children, task.Subreaper, task.Label})
+}
+
+// WithLabels is the list with names of its tasks, by root number. The list itself stays as it is, and a number that is no task's is left out.
+func (listing Listing) WithLabels(labels map[uint32]string) Listing {
+	listing.Tasks = append([]Task(nil), listing.Tasks...)
+	for at := range listing.Tasks {
+		if label, found := labels[listing.Tasks[at].Root()]; found {
+			listing.Tasks[at].Label = label
+		}
+	}
+	return listing
 }
 
 // MarshalJSON is the list as docs/list.schema.json has it.

@@ -45,6 +45,27 @@ func TestEachFieldOfAList(t *testing.T) {
 	}
 }
 
+func TestLabels(t *testing.T) {
+	listing, err := ReadList(wideList)
+	if err != nil {
+		t.Fatal(err)
+	}
+	named := listing.WithLabels(map[uint32]string{2: "nginx", 9: "nobody"})
+	for at, task := range named.Tasks {
+		wanted := listing.Tasks[at]
+		if task.Root() == 2 {
+			wanted.Label = "nginx"
+		}
+		if !reflect.DeepEqual(task, wanted) || listing.Tasks[at].Label != "" {
+			t.Error(task, listing.Tasks[at])
+		}
+	}
+	got, err := json.Marshal(named)
+	if err != nil || strings.Count(string(got), `"label"`) != 1 || !strings.Contains(string(got), `"subreaper":false,"label":"nginx"}`) {
+		t.Error(string(got), err)
+	}
+}
+
 func TestAListAsJSON(t *testing.T) {
 	list, err := os.ReadFile("../example.list")
 	if err != nil {
