@@ -1,5 +1,6 @@
 //! The list of a table, read.
 use crate::Ended;
+use std::collections::HashMap;
 use std::fmt;
 use std::str::FromStr;
 
@@ -27,6 +28,8 @@ pub struct Task {
     pub children: Option<u64>,
     /// Whether it takes orphans of its namespace.
     pub subreaper: bool,
+    /// A name from outside of the table, which [`Listing::with_labels`] gives.
+    pub label: Option<String>,
 }
 
 impl Task {
@@ -77,6 +80,20 @@ pub struct Listing {
 }
 
 impl Listing {
+    /// The list with names of its tasks, by root number. A number that is no task's is left out, and an empty name is none.
+    pub fn with_labels<L: Into<String>>(
+        mut self,
+        labels: impl IntoIterator<Item = (u32, L)>,
+    ) -> Listing {
+        let mut labels: HashMap<u32, L> = labels.into_iter().collect();
+        for task in &mut self.tasks {
+            if let Some(label) = labels.remove(&task.root()) {
+                task.label = Some(label.into()).filter(|it| !it.is_empty());
+            }
+        }
+        self
+    }
+
     /// The list as JSON, in one line, as docs/list.schema.json has it.
     pub fn to_json(&self) -> String {
         format!(
@@ -180,6 +197,7 @@ fn read_task(words: &[&str]) -> Option<Task> {
         executed,
         children,
         subreaper,
+        label: None,
     })
 }
 
@@ -242,7 +260,17 @@ fn or_null<T: fmt::Display>(number: Option<T>) -> String {
     number.map_or_else(|| "null".into(), |it| it.to_string())
 }
 
-/// The fields of a task, as docs/list.schema.json has them. No text in them needs an escape.
+/// A string of JSON.
+fn quote(text: &str) -> String {
+    let escape = |it| match it {
+        '"' | '\\' => format!("\\{it}"),
+        '\0'..='\x1f' => format!("\\u{:04x}", it as u32),
+        _ => it.to_string(),
+    };
+    format!("\"{}\"", text.chars().map(escape).collect::<String>())
+}
+
+/// The fields of a task, as docs/list.schema.json has them.
 fn task_object(task: &Task) -> String {
     let (state, status) = match task.ended {
         None => ("live", None),
@@ -250,7 +278,7 @@ fn task_object(task: &Task) -> String {
         Some(Ended::Exited(status)) => ("exited", Some(status)),
     };
     format!(
-        r#"{{"numbers":{},"space":{},"parent":{},"group":{},"session":{},"control":{},"state":"{state}","status":{},"executed":{},"children":{},"subreaper":{}}}"#,
+        r#"{{"numbers":{},"space":{},"parent":{},"group":{},"session":{},"control":{},"state":"{state}","status":{},"executed":{},"children":{},"subreaper":{}{}}}"#,
         array(&task.numbers, u32::to_string),
         task.space,
         task.parent,
@@ -261,6 +289,9 @@ fn task_object(task: &Task) -> String {
         task.executed,
         or_null(task.children),
         task.subreaper,
+        task.label
+            .as_deref()
+            .map_or_else(String::new, |it| format!(r#","label":{}"#, quote(it))),
     )
 }
 
