@@ -1,6 +1,7 @@
 package pidtab
 
 import (
+	"encoding/json"
 	"fmt"
 	"regexp"
 	"strconv"
@@ -21,6 +22,7 @@ type Task struct {
 	Executed  bool     // it has executed
 	Children  *uint64  // the id of the namespace that its children go into, nil where that is its own
 	Subreaper bool     // it takes orphans of its namespace
+	Label     string   // a name from outside of the table, empty for none: WithLabels gives it
 }
 
 // Root is the task's number in the root namespace, by which it is named as a caller.
@@ -28,18 +30,18 @@ func (task Task) Root() uint32 { return task.Numbers[0] }
 
 // Space is a namespace of a list.
 type Space struct {
-	ID     uint64  // 0 for the root, or the number of the call that made it
-	Parent *uint64 // the id of the namespace around it, nil for the root
-	Cursor uint32  // where the search for its next number begins
-	Fallen bool    // its init has ended
+	ID     uint64  `json:"id"`     // 0 for the root, or the number of the call that made it
+	Parent *uint64 `json:"parent"` // the id of the namespace around it, nil for the root
+	Cursor uint32  `json:"cursor"` // where the search for its next number begins
+	Fallen bool    `json:"fallen"` // its init has ended
 }
 
 // Control is a control group of a list.
 type Control struct {
-	ID     uint64  // 0 for the root, or the number of the call that made it
-	Parent *uint64 // the id of the control group above it, nil for the root
-	Limit  *uint32 // how many tasks it may have, nil for no limit
-	Count  uint64  // how many tasks it and those below it have
+	ID     uint64  `json:"id"`     // 0 for the root, or the number of the call that made it
+	Parent *uint64 `json:"parent"` // the id of the control group above it, nil for the root
+	Limit  *uint32 `json:"limit"`  // how many tasks it may have, nil for no limit
+	Count  uint64  `json:"count"`  // how many tasks it and those below it have
 }
 
 // Listing is all that stands in a table: tasks by root number, namespaces and control groups by id.
@@ -47,6 +49,63 @@ type Listing struct {
 	Tasks    []Task
 	Spaces   []Space
 	Controls []Control
+}
+
+// A taskObject is a task as docs/list.schema.json has it.
+type taskObject struct {
+	Numbers   []uint32 `json:"numbers"`
+	Space     uint64   `json:"space"`
+	Parent    uint32   `json:"parent"`
+	Group     uint32   `json:"group"`
+	Session   uint32   `json:"session"`
+	Control   uint64   `json:"control"`
+	State     string   `json:"state"`
+	Status    *uint8   `json:"status"`
+	Executed  bool     `json:"executed"`
+	Children  *uint64  `json:"children"`
+	Subreaper bool     `json:"subreaper"`
+	Label     string   `json:"label,omitempty"`
+}
+
+// MarshalJSON is the task as docs/list.schema.json has it.
+func (task Task) MarshalJSON() ([]byte, error) {
+	state, status := "exited", &task.Status
+	if task.Live || task.Killed {
+		state, status = "killed", nil
+	}
+	if task.Live {
+		state = "live"
+	}
+	return json.Marshal(taskObject{task.Numbers, task.Space, task.Parent, task.Group, task.Session, task.Control,
+		state, status, task.Executed, task.Children, task.Subreaper, task.Label})
+}
+
+// WithLabels is the list with names of its tasks, by root number. The list itself stays as it is, and a number that is no task's is left out.
+func (listing Listing) WithLabels(labels map[uint32]string) Listing {
+	listing.Tasks = append([]Task(nil), listing.Tasks...)
+	for at := range listing.Tasks {
+		if label, found := labels[listing.Tasks[at].Root()]; found {
+			listing.Tasks[at].Label = label
+		}
+	}
+	return listing
+}
+
+// MarshalJSON is the list as docs/list.schema.json has it.
+func (listing Listing) MarshalJSON() ([]byte, error) {
+	return json.Marshal(struct {
+		Tasks    []Task    `json:"tasks"`
+		Spaces   []Space   `json:"spaces"`
+		Controls []Control `json:"controls"`
+	}{some(listing.Tasks), some(listing.Spaces), some(listing.Controls)})
+}
+
+// some is the slice, which JSON writes as a list also where it is nil.
+func some[T any](items []T) []T {
+	if items == nil {
+		return []T{}
+	}
+	return items
 }
 
 // BadList is the error of a text that `pidtab list` does not write.

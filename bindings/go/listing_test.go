@@ -1,6 +1,7 @@
 package pidtab
 
 import (
+	"encoding/json"
 	"fmt"
 	"os"
 	"path/filepath"
@@ -41,6 +42,49 @@ func TestEachFieldOfAList(t *testing.T) {
 	want(t, "wide", of(ReadList(wideList)), wanted, nil)
 	if root := wanted.Tasks[1].Root(); root != 2 {
 		t.Error(root)
+	}
+}
+
+func TestLabels(t *testing.T) {
+	listing, err := ReadList(wideList)
+	if err != nil {
+		t.Fatal(err)
+	}
+	named := listing.WithLabels(map[uint32]string{2: "nginx", 9: "nobody"})
+	for at, task := range named.Tasks {
+		wanted := listing.Tasks[at]
+		if task.Root() == 2 {
+			wanted.Label = "nginx"
+		}
+		if !reflect.DeepEqual(task, wanted) || listing.Tasks[at].Label != "" {
+			t.Error(task, listing.Tasks[at])
+		}
+	}
+	got, err := json.Marshal(named)
+	if err != nil || strings.Count(string(got), `"label"`) != 1 || !strings.Contains(string(got), `"subreaper":false,"label":"nginx"}`) {
+		t.Error(string(got), err)
+	}
+}
+
+func TestAListAsJSON(t *testing.T) {
+	list, err := os.ReadFile("../example.list")
+	if err != nil {
+		t.Fatal(err)
+	}
+	wanted, err := os.ReadFile("../example.json")
+	if err != nil {
+		t.Fatal(err)
+	}
+	listing, err := ReadList(string(list))
+	if err != nil {
+		t.Fatal(err)
+	}
+	got, err := json.Marshal(listing)
+	if err != nil || string(got)+"\n" != string(wanted) {
+		t.Errorf("%s, %v", got, err)
+	}
+	if none, err := json.Marshal(Listing{}); string(none) != `{"tasks":[],"spaces":[],"controls":[]}` || err != nil {
+		t.Errorf("%s, %v", none, err)
 	}
 }
 

@@ -6,6 +6,7 @@ import sys
 if sys.version_info < (3, 10):
     raise ImportError("pidtab needs Python 3.10 or later, and this is Python %d.%d" % sys.version_info[:2])
 
+from pidtab.accounts import Accounts
 from pidtab.answers import Forked, Reaped, Stat
 from pidtab.bounds import DEFAULT_PID_MAX, GREATEST_PID_MAX, LEAST_PID_MAX
 from pidtab.calls import Calls, Kind, Queries
@@ -30,7 +31,7 @@ from pidtab.faults import (
 )
 from pidtab.history import Counts, Entry
 from pidtab.library import find_library
-from pidtab.listing import BadList, Control, Listing, Space, Task, read_list
+from pidtab.listing import BadList, Changes, Control, Listing, Space, Task, read_list, write_list
 from pidtab.log import Following, Log, Progress
 from pidtab.memory_log import MemoryLog
 from pidtab.native import Ask, Askable, AskableCalls
@@ -47,6 +48,7 @@ __all__ = [
     "DEFAULT_PID_MAX",
     "GREATEST_PID_MAX",
     "LEAST_PID_MAX",
+    "Accounts",
     "Ask",
     "Askable",
     "AskableCalls",
@@ -54,6 +56,7 @@ __all__ = [
     "BadList",
     "BadText",
     "Calls",
+    "Changes",
     "Control",
     "Counts",
     "Diverged",
@@ -97,4 +100,5 @@ __all__ = [
     "find_library",
     "find_program",
     "read_list",
+    "write_list",
 ]

@@ -4,7 +4,7 @@ import errno
 import re
 from collections.abc import Callable
 from dataclasses import dataclass
-from typing import Generic, TypeVar
+from typing import Any, Generic, NamedTuple, TypeVar
 
 from pidtab.faults import ProgramFault, say_why, shorten
 from pidtab.raw import CONTROL, COUNTED, END, FORKED, KILLED, LEVELS, NONE_YET, NUMBER, OK, REAPED, REFUSED, PidtabReply, PidtabTask
@@ -12,16 +12,18 @@ from pidtab.raw import CONTROL, COUNTED, END, FORKED, KILLED, LEVELS, NONE_YET, 
 T = TypeVar("T")
 
 
-@dataclass(frozen=True)
-class Forked:
+class Forked(NamedTuple):
     """A new task: its number in the caller's namespace, and in the root namespace."""
 
     child: int
     root: int
 
+    def to_object(self) -> dict[str, Any]:
+        """Its fields as docs/list.schema.json has them, for `json`, which would write a list of the tuple."""
+        return self._asdict()
 
-@dataclass(frozen=True)
-class Reaped:
+
+class Reaped(NamedTuple):
     """A child that was waited for: its number in the caller's namespace, and its status, None where it was killed."""
 
     child: int
@@ -31,6 +33,10 @@ class Reaped:
     def killed(self) -> bool:
         """Whether it was killed by the fall of its namespace."""
         return self.status is None
+
+    def to_object(self) -> dict[str, Any]:
+        """The same."""
+        return self._asdict()
 
 
 @dataclass(frozen=True)
@@ -55,6 +61,11 @@ class Stat:
     def killed(self) -> bool:
         """Whether the fall of its namespace ended it."""
         return not self.live and self.status is None
+
+    def to_object(self) -> dict[str, Any]:
+        """Its fields as docs/list.schema.json has them, for `json`."""
+        fields = vars(self) | {"numbers": list(self.numbers), "live": "live" if self.live else "killed" if self.killed else "exited"}
+        return {"state" if name == "live" else name: value for name, value in fields.items()}
 
 
 def match(pattern: str, answer: str) -> "re.Match[str]":

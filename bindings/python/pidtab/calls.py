@@ -60,11 +60,6 @@ class Call(NamedTuple):
         return LINES[self.operation][self.choice].format(**self._asdict())
 
 
-def call_of(operation: int, choice: int = 0, **numbers: SupportsIndex) -> Call:
-    """The call with the numbers. What is no integer is a TypeError."""
-    return Call(operation, choice=choice, **{name: index(number) for name, number in numbers.items()})
-
-
 def as_line(text: str) -> bytes:
     """The bytes of a line, if it has an answer and is only one."""
     if not isinstance(text, str):
@@ -78,13 +73,11 @@ def as_line(text: str) -> bytes:
 
 def select(pid: int | None, own: bool, group: int | None) -> tuple[int, int]:
     """Which children a wait means: the choice with its number."""
-    if (pid is not None) + bool(own) + (group is not None) > 1:
+    if not own and group is None:
+        return (raw.ANY, 0) if pid is None else (raw.CHILD, pid)
+    if pid is not None or (own and group is not None):
         raise ValueError("at most one of pid, own and group")
-    if own:
-        return raw.OWN_GROUP, 0
-    if pid is not None:
-        return raw.CHILD, pid
-    return (raw.ANY, 0) if group is None else (raw.GROUP, group)
+    return (raw.OWN_GROUP, 0) if group is None else (raw.GROUP, group)
 
 
 class Queries(ABC):
@@ -99,33 +92,33 @@ class Queries(ABC):
 
     def getpid(self, caller: int) -> int:
         """getpid(2): the caller's number in its namespace. no-caller."""
-        return self._make(call_of(raw.GETPID, caller=caller), A_NUMBER)
+        return self._make(Call(raw.GETPID, index(caller)), A_NUMBER)
 
     def getppid(self, caller: int) -> int:
         """getppid(2): its parent's number, 0 for one that it cannot see. no-caller."""
-        return self._make(call_of(raw.GETPPID, caller=caller), A_NUMBER)
+        return self._make(Call(raw.GETPPID, index(caller)), A_NUMBER)
 
     def getpgid(self, caller: int, pid: int = 0) -> int:
         """getpgid(2): the group of the task, where 0 is the caller; 0 where it cannot be seen. no-caller, no-task."""
-        return self._make(call_of(raw.GETPGID, caller=caller, number=pid), A_NUMBER)
+        return self._make(Call(raw.GETPGID, index(caller), number=index(pid)), A_NUMBER)
 
     def getsid(self, caller: int, pid: int = 0) -> int:
         """getsid(2): the session of the task, where 0 is the caller; 0 where it cannot be seen. no-caller, no-task."""
-        return self._make(call_of(raw.GETSID, caller=caller, number=pid), A_NUMBER)
+        return self._make(Call(raw.GETSID, index(caller), number=index(pid)), A_NUMBER)
 
     def nspid(self, caller: int, pid: int) -> tuple[int, ...]:
         """NSpid of proc(5): the task's numbers from the caller's namespace inwards, 1 to 33 of them. no-caller, no-task."""
-        return self._make(call_of(raw.NSPID, caller=caller, number=pid), THE_NUMBERS)
+        return self._make(Call(raw.NSPID, index(caller), number=index(pid)), THE_NUMBERS)
 
     def next(self, caller: int, kind: Kind = "task", start: int = 0) -> int | None:
         """The least number from the start on that is in use as that, or None. no-caller."""
         if kind not in KINDS:
             raise ValueError(f"bad line: next {caller} {shorten(str(kind))} {start}")
-        return self._make(call_of(raw.NEXT, KINDS.index(kind), caller=caller, number=start), THE_NEXT)
+        return self._make(Call(raw.NEXT, index(caller), number=index(start), choice=KINDS.index(kind)), THE_NEXT)
 
     def count(self, control: int = 0) -> int:
         """How many tasks the control group and those below it have. no-control."""
-        return self._make(call_of(raw.COUNT, id=control), A_NUMBER)
+        return self._make(Call(raw.COUNT, id=index(control)), A_NUMBER)
 
 
 class Listed(ABC):
@@ -186,15 +179,15 @@ class Calls(Queries, Listed, Owner):
 
         no-caller, too-deep, elsewhere, space-fallen, no-number, pids-limit.
         """
-        return self._make(call_of(raw.FORK, bool(new), caller=caller), A_CHILD)
+        return self._make(Call(raw.FORK, index(caller), choice=bool(new)), A_CHILD)
 
     def exec(self, caller: int) -> None:
         """execve(2): the caller executes a program. no-caller."""
-        self._make(call_of(raw.EXEC, caller=caller), NOTHING)
+        self._make(Call(raw.EXEC, index(caller)), NOTHING)
 
     def exit(self, caller: int, status: int = 0) -> None:
         """_exit(2) with a status of 0 to 255: the caller ends, and its namespace falls if it is the init there. no-caller, root-init."""
-        self._make(call_of(raw.EXIT, caller=caller, number=status), NOTHING)
+        self._make(Call(raw.EXIT, index(caller), number=index(status)), NOTHING)
 
     def wait(
         self, caller: int, pid: int | None = None, *, own: bool = False, group: int | None = None
@@ -204,40 +197,40 @@ class Calls(Queries, Listed, Owner):
         None where children match and none of them has ended. no-caller, no-child.
         """
         choice, number = select(pid, own, group)
-        return self._make(call_of(raw.WAIT, choice, caller=caller, number=number), AN_ENDED_CHILD)
+        return self._make(Call(raw.WAIT, index(caller), number=index(number), choice=choice), AN_ENDED_CHILD)
 
     def setpgid(self, caller: int, pid: int = 0, group: int = 0) -> None:
         """setpgid(2): the task goes into the group; 0 is the caller, and the task.
 
         no-caller, bad-group, no-task, other-session, executed, is-leader, no-group.
         """
-        self._make(call_of(raw.SETPGID, caller=caller, pid=pid, pgid=group), NOTHING)
+        self._make(Call(raw.SETPGID, index(caller), pid=index(pid), pgid=index(group)), NOTHING)
 
     def setsid(self, caller: int) -> int:
         """setsid(2): the caller leads a new session and a new group; the answer is its number. no-caller, is-leader."""
-        return self._make(call_of(raw.SETSID, caller=caller), A_NUMBER)
+        return self._make(Call(raw.SETSID, index(caller)), A_NUMBER)
 
     def join(self, caller: int, pid: int) -> None:
         """setns(2) with CLONE_NEWPID: the caller's later children go into the namespace of the task. no-caller, no-task."""
-        self._make(call_of(raw.JOIN, caller=caller, number=pid), NOTHING)
+        self._make(Call(raw.JOIN, index(caller), number=index(pid)), NOTHING)
 
     def subreaper(self, caller: int, on: bool = True) -> None:
         """PR_SET_CHILD_SUBREAPER of prctl(2): the caller takes orphans of its namespace, or no more. no-caller."""
-        self._make(call_of(raw.SUBREAPER, bool(on), caller=caller), NOTHING)
+        self._make(Call(raw.SUBREAPER, index(caller), choice=bool(on)), NOTHING)
 
     def mk(self, parent: int = 0) -> int:
         """The id of a new control group below the one with the id. no-control, control-depth."""
-        return self._make(call_of(raw.MK, id=parent), A_CONTROL)
+        return self._make(Call(raw.MK, id=index(parent)), A_CONTROL)
 
     def rm(self, control: int) -> None:
         """Removes a control group without live tasks and children. no-control, root-control, control-busy."""
-        self._make(call_of(raw.RM, id=control), NOTHING)
+        self._make(Call(raw.RM, id=index(control)), NOTHING)
 
     def limit(self, control: int, most: int | None = None) -> None:
         """How many tasks a control group may have, 0 to 4194304; None is no limit. no-control, root-control, bad-limit."""
         number = 0 if most is None else most
-        self._make(call_of(raw.LIMIT, most is not None, id=control, number=number), NOTHING)
+        self._make(Call(raw.LIMIT, id=index(control), number=index(number), choice=most is not None), NOTHING)
 
     def move(self, task: int, control: int) -> None:
         """The task, by its root number, goes into the control group. no-task, no-control."""
-        self._make(call_of(raw.MOVE, caller=task, id=control), NOTHING)
+        self._make(Call(raw.MOVE, index(task), id=index(control)), NOTHING)

@@ -1,14 +1,10 @@
 """`pidtab-check`: says which lines of scripts are bad, and what was expected, as a compiler does."""
 
-import sys
 from collections.abc import Iterable
-from contextlib import AbstractContextManager, nullcontext
-from typing import BinaryIO
 
-from pidtab.command import STATUS_DONE, STATUS_FAULT, STATUS_USAGE, complain, finish, parser_of
+from pidtab.command import STANDARD_INPUT, STATUS_DONE, STATUS_FAULT, STATUS_USAGE, complain, finish, open_script, parser_of
 from pidtab.language import judge
 
-STANDARD_INPUT = "-"
 ABOUT = "Says for each bad line of the scripts FILE:LINE:COLUMN and what was expected. Status 1 where there is one."
 
 
@@ -20,13 +16,6 @@ def judge_lines(name: str, lines: Iterable[bytes]) -> list[str]:
         if fault is not None:
             said.append(f"{name}:{place}:{fault.column}: expected {fault.expected}")
     return said
-
-
-def open_script(name: str) -> AbstractContextManager[BinaryIO]:
-    """A file, or standard input, which stays open as it may be named twice."""
-    if name == STANDARD_INPUT:
-        return nullcontext(sys.stdin.buffer)
-    return open(name, "rb")
 
 
 def run() -> int:

@@ -5,15 +5,27 @@ import io
 import os
 import sys
 from collections.abc import Callable
+from contextlib import AbstractContextManager, nullcontext
+from typing import BinaryIO
+
+STANDARD_INPUT = "-"
 
 STATUS_DONE = 0
 STATUS_FAULT = 1
 STATUS_USAGE = 2
+STATUS_INTERRUPTED = 130
 
 
 def parser_of(name: str, about: str) -> argparse.ArgumentParser:
     """Reads the words of a command line; wrong ones end the program with status 2."""
     return argparse.ArgumentParser(prog=name, description=about, allow_abbrev=False)
+
+
+def open_script(name: str) -> AbstractContextManager[BinaryIO]:
+    """A file, or standard input, which stays open as it may be named twice."""
+    if name == STANDARD_INPUT:
+        return nullcontext(sys.stdin.buffer)
+    return open(name, "rb")
 
 
 def complain(text: str, status: int) -> int:

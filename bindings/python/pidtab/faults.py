@@ -1,7 +1,7 @@
 """What is raised: refusals of the table, as the kernel's errors, and faults of the program or the library."""
 
 import errno
-
+from typing import Any
 
 # More of a line is not told.
 MOST_TOLD = 200
@@ -105,6 +105,10 @@ class Refusal(OSError):
     why: str = ""
     word: str = ""
     id: int | None = None
+
+    def to_object(self) -> dict[str, Any]:
+        """The name of its errno, its word and its id as docs/list.schema.json has them, for `json`."""
+        return {"error": errno.errorcode[self.errno or 0], "word": self.word, "id": self.id}
 
 
 class ProcessLookupRefusal(Refusal, ProcessLookupError):

@@ -1,7 +1,10 @@
 """The list of a table, as `pidtab list` writes it."""
 
+import json
 import re
-from dataclasses import dataclass
+from collections.abc import Mapping
+from dataclasses import dataclass, field, replace
+from typing import Any
 
 TASK = re.compile(
     r"task (?P<numbers>\d+(?:,\d+)*) space (?P<space>\d+) parent (?P<parent>\d+) group (?P<group>\d+)"
@@ -15,13 +18,23 @@ CONTROL = re.compile(
 )
 
 
+# The fields of a task in JSON, in their order.
+TASK_FIELDS = ("numbers", "space", "parent", "group", "session", "control", "state", "status", "executed", "children", "subreaper", "label", "key")
+
+# Those that a task may lack.
+OUTSIDE = ("label", "key")
+
+
 class BadList(ValueError):
     """A text that `pidtab list` does not write."""
 
 
 @dataclass(frozen=True)
 class Task:
-    """A task: its numbers, the root's first; root numbers of parent (0 for none), group and session; its end and marks."""
+    """A task: its numbers, the root's first; root numbers of parent (0 for none), group and session; its end and marks.
+
+    Its label and its key are from outside of the table, None where it has none, and are not compared.
+    """
 
     numbers: tuple[int, ...]
     space: int
@@ -34,6 +47,8 @@ class Task:
     executed: bool
     children: int | None
     subreaper: bool
+    label: str | None = field(default=None, compare=False)
+    key: int | None = field(default=None, compare=False)
 
     @property
     def root(self) -> int:
@@ -44,6 +59,16 @@ class Task:
     def killed(self) -> bool:
         """Whether the fall of its namespace ended it."""
         return not self.live and self.status is None
+
+    @property
+    def state(self) -> str:
+        """`live`, `exited` or `killed`."""
+        return "live" if self.live else "killed" if self.killed else "exited"
+
+    def to_object(self) -> dict[str, Any]:
+        """Its fields, as docs/list.schema.json has them."""
+        fields = vars(self) | {"numbers": list(self.numbers), "state": self.state}
+        return {name: fields[name] for name in TASK_FIELDS if name not in OUTSIDE or fields[name] is not None}
 
 
 @dataclass(frozen=True)
@@ -66,6 +91,9 @@ class Control:
     count: int
 
 
+Item = Task | Space | Control
+
+
 @dataclass(frozen=True)
 class Listing:
     """All that stands in a table."""
@@ -73,6 +101,78 @@ class Listing:
     tasks: tuple[Task, ...]
     spaces: tuple[Space, ...]
     controls: tuple[Control, ...]
+
+    def __sub__(self, before: "Listing") -> "Changes":
+        """What has changed since another list of the table. Tasks are known by their root numbers, and the rest by their ids."""
+        return Changes(before, self) if isinstance(before, Listing) else NotImplemented
+
+    def items(self) -> dict[tuple[str, int], Item]:
+        """All that stands here, by its kind and its number."""
+        found: dict[tuple[str, int], Item] = {("task", task.root): task for task in self.tasks}
+        found |= {("space", space.id): space for space in self.spaces}
+        return found | {("control", control.id): control for control in self.controls}
+
+    def with_names(self, labels: Mapping[int, str], keys: Mapping[int, int] | None = None) -> "Listing":
+        """The same list, whose tasks have labels, and perhaps keys, by their root numbers."""
+        known = keys or {}
+        named = [it for it in self.tasks if it.root in labels or it.root in known]
+        if not named:
+            return self
+        tasks = [replace(it, label=labels.get(it.root, it.label), key=known.get(it.root, it.key)) for it in self.tasks]
+        return replace(self, tasks=tuple(tasks))
+
+    def to_object(self) -> dict[str, Any]:
+        """All of it, as docs/list.schema.json has it, for `json`."""
+        parts = {"tasks": [task.to_object() for task in self.tasks], "spaces": [vars(space) for space in self.spaces]}
+        return parts | {"controls": [vars(control) for control in self.controls]}
+
+    def to_json(self) -> str:
+        """The same as JSON, in one line."""
+        return json.dumps(self.to_object(), separators=(",", ":"))
+
+
+@dataclass(frozen=True)
+class Changes:
+    """What is otherwise in one list than in another one before it."""
+
+    before: Listing
+    now: Listing
+
+    @property
+    def came(self) -> tuple[Item, ...]:
+        """What stands only in the later list."""
+        earlier = self.before.items()
+        return tuple(item for name, item in self.now.items().items() if name not in earlier)
+
+    @property
+    def went(self) -> tuple[Item, ...]:
+        """What stands only in the earlier list."""
+        later = self.now.items()
+        return tuple(item for name, item in self.before.items().items() if name not in later)
+
+    @property
+    def changed(self) -> tuple[tuple[Item, Item], ...]:
+        """What stands in both and differs, as it was and as it is."""
+        earlier = self.before.items()
+        return tuple((earlier[name], item) for name, item in self.now.items().items() if earlier.get(name, item) != item)
+
+    def __bool__(self) -> bool:
+        """Whether there is any."""
+        return self.before != self.now
+
+    def __str__(self) -> str:
+        """A line for each: `+` and what came, `-` and what went, `~` and what has changed."""
+        lines = [f"+ {say_item(item)}\n" for item in self.came] + [f"- {say_item(item)}\n" for item in self.went]
+        return "".join(lines + [f"~ {say_change(before, now)}\n" for before, now in self.changed])
+
+    def to_object(self) -> dict[str, Any]:
+        """All of it, as docs/list.schema.json has it, for `json`."""
+        changed = [{"before": item_object(before), "now": item_object(now)} for before, now in self.changed]
+        return {"came": [item_object(it) for it in self.came], "went": [item_object(it) for it in self.went], "changed": changed}
+
+    def to_json(self) -> str:
+        """The same as JSON, in one line."""
+        return json.dumps(self.to_object(), separators=(",", ":"))
 
 
 def number_unless(word: str | None, none: str | None) -> int | None:
@@ -130,3 +230,46 @@ def read_list(text: str) -> Listing:
         tuple(it for it in read if isinstance(it, Space)),
         tuple(it for it in read if isinstance(it, Control)),
     )
+
+
+def say_task(task: Task) -> str:
+    """The line of a task in a list."""
+    numbers = ",".join(str(number) for number in task.numbers)
+    life = f"exit {task.status}" if task.state == "exited" else task.state
+    marks = " executed" * task.executed + ("" if task.children is None else f" children {task.children}") + " subreaper" * task.subreaper
+    places = f"space {task.space} parent {task.parent} group {task.group} session {task.session} control {task.control}"
+    return f"task {numbers} {places} {life}{marks}"
+
+
+def say_item(item: Item) -> str:
+    """The line of what stands in a list."""
+    if isinstance(item, Task):
+        return say_task(item)
+    parent = "-" if item.parent is None else item.parent
+    if isinstance(item, Space):
+        return f"space {item.id} parent {parent} cursor {item.cursor}{' fallen' * item.fallen}"
+    return f"control {item.id} parent {parent} limit {'max' if item.limit is None else item.limit} count {item.count}"
+
+
+def write_list(listing: Listing) -> str:
+    """The text of a list, as `pidtab list` writes it."""
+    return "".join(f"{say_item(item)}\n" for item in listing.items().values())
+
+
+def item_object(item: Item) -> dict[str, Any]:
+    """What stands in a list with its kind, as docs/list.schema.json has it."""
+    kind = type(item).__name__.lower()
+    return {"kind": kind, **(item.to_object() if isinstance(item, Task) else vars(item))}
+
+
+def say_change(before: Item, now: Item) -> str:
+    """The number of what has changed, and each field as it was and as it is."""
+    earlier, later = item_object(before), item_object(now)
+    number = later["numbers"][0] if isinstance(now, Task) else now.id
+    fields = [f"{name} {say_value(earlier[name])} -> {say_value(value)}" for name, value in later.items() if earlier[name] != value]
+    return f"{later['kind']} {number}: {', '.join(fields)}"
+
+
+def say_value(value: Any) -> str:
+    """A field, as in JSON, but without quotation marks."""
+    return json.dumps(value).strip('"')

@@ -6,16 +6,18 @@ from abc import abstractmethod
 from collections.abc import Callable, Sequence
 from typing import TYPE_CHECKING, NoReturn, Protocol, SupportsIndex, TypeVar
 
-from pidtab.answers import Form, Stat, tell_stat
+from pidtab.answers import Forked, Form, Stat, tell_stat
 from pidtab.bounds import check_range
 from pidtab.calls import Call, Calls, Queries
 from pidtab.faults import LibraryFault, TableClosed, bad_text, read_fault, refusal_of, say_why
+from pidtab.labels import Labelled
 from pidtab.raw import (
     BAD_LINE,
     BAD_TEXT,
     CALL_FIELDS,
     CLOSED,
     DONE,
+    FORK,
     NO_MEMORY,
     NO_ROOM,
     OUT_OF_RANGE,
@@ -32,6 +34,9 @@ from pidtab.raw import (
 SHORT_TEXT = 4096
 
 GREATEST_PID = 2**32 - 1
+
+# It always lives, and sees all tasks by their root numbers.
+ROOT_INIT = 1
 
 # What the program answers where the library has a status.
 ANSWERS = {BAD_LINE: "bad line", OUT_OF_RANGE: "bad line", NO_MEMORY: "no memory", SPENT: "spent"}
@@ -53,14 +58,12 @@ def fault_of(status: int, line: str) -> Exception:
     return read_fault(line, answer_of(status)) or AssertionError(status)
 
 
-def pack(call: Call) -> PidtabCall:
+def pack(call: Call) -> bytes:
     """The numbers of a call, if each fits into its field."""
-    packed = PidtabCall()
     try:
-        CALL_FIELDS.pack_into(packed, 0, *call)
+        return CALL_FIELDS.pack(*call)
     except struct.error:
         raise ValueError(f"bad line: {call.line}") from None
-    return packed
 
 
 def unpack(packed: PidtabCall) -> Call:
@@ -104,15 +107,26 @@ def head_of(text: bytes) -> tuple[int, int]:
     return int(words[4]), int(words[6])
 
 
-def make_call(call: Call, form: Form[T], make: Callable[[PidtabCall, PidtabReply], int]) -> T:
+# Replies that no call has now. A call takes one out and puts it back once it is read, so no other thread and no handler of a signal meets
+# it meanwhile. A call that is interrupted, or raises, leaves its own to the collector.
+UNUSED: list[PidtabReply] = []
+
+
+def make_call(call: Call, form: Form[T], make: Callable[[bytes, PidtabReply], int]) -> T:
     """What a call is answered by a function that takes and tells numbers, and answers a status."""
-    reply = PidtabReply()
-    status = make(pack(call), reply)
+    packed = pack(call)
+    try:
+        reply = UNUSED.pop()
+    except IndexError:
+        reply = PidtabReply()
+    status = make(packed, reply)
     if status != DONE:
         raise fault_of(status, call.line)
     if reply.kind == REFUSED:
         raise refusal_of(reply.error, call.line, say_why(reply.refusal, reply.first))
-    return form.tell(reply)
+    told = form.tell(reply)
+    UNUSED.append(reply)
+    return told
 
 
 def read_task(caller: SupportsIndex, pid: SupportsIndex, read: Callable[[int, int, PidtabTask], int]) -> Stat:
@@ -132,7 +146,7 @@ class Asked(Protocol):
 
     def _check_owner(self) -> None: ...
 
-    def _ask(self, call: PidtabCall, reply: PidtabReply) -> int: ...
+    def _ask(self, call: bytes, reply: PidtabReply) -> int: ...
 
     def _stat(self, caller: int, pid: int, task: PidtabTask) -> int: ...
 
@@ -179,12 +193,11 @@ class AskableCalls(Calls, Askable):
     """A table with its calls and with queries that are no calls: `Table`, `Seat` and `Replicated`, but no `Process`."""
 
 
-class NumberCalls(AskableCalls):
+class NumberCalls(Labelled, AskableCalls):
     """Calls by functions of the library, each of which answers a status."""
 
-    @abstractmethod
-    def _call(self, call: PidtabCall, reply: PidtabReply) -> int:
-        """The status of the function that answers the numbers."""
+    # The function that answers the numbers, which answers a status.
+    _call: Callable[[bytes, PidtabReply], int]
 
     @abstractmethod
     def _line(self, line: bytes, room: "ctypes.Array[ctypes.c_char]", size: ctypes.c_size_t) -> int:
@@ -194,9 +207,16 @@ class NumberCalls(AskableCalls):
     def _list(self, room: "ctypes.Array[ctypes.c_char]", size: ctypes.c_size_t) -> int:
         """The status of the function that writes the list."""
 
+    @abstractmethod
+    def _forked(self, root: int) -> None:
+        """Sees to it that a new task has no label of another."""
+
     def _make(self, call: Call, form: Form[T]) -> T:
         self._check_owner()
-        return make_call(call, form, self._call)
+        told = make_call(call, form, self._call)
+        if call.operation == FORK and self._labels.by_root and isinstance(told, Forked):
+            self._forked(told.root)
+        return told
 
     def _answers(self, lines: Sequence[bytes]) -> tuple[str, ...]:
         self._check_owner()
@@ -206,8 +226,16 @@ class NumberCalls(AskableCalls):
     def _answer(self, line: bytes) -> str:
         room, size = Answer(), ctypes.c_size_t()
         status = self._line(line, room, size)
-        return ctypes.string_at(room, size.value).decode("ascii") if status == DONE else answer_of(status)
+        if status != DONE:
+            return answer_of(status)
+        answer = ctypes.string_at(room, size.value).decode("ascii")
+        if answer.startswith("child ") and self._labels.by_root:
+            self._forked(int(answer.split(" ")[3]))
+        return answer
 
     def _list_text(self) -> str:
         self._check_owner()
         return read_written(self._list, "list")
+
+    def _look(self, task: int) -> Stat:
+        return self.ask.stat(ROOT_INIT, task)

@@ -64,7 +64,7 @@ class Owner(ABC):
 
     def _check_owner(self) -> None:
         """Sees to it that the table is one of this process."""
-        if self._is_left():
+        if self._left:
             raise TableClosed("this table is that of the parent process: a forked child opens its own")
 
     @abstractmethod

@@ -8,18 +8,18 @@ from contextlib import contextmanager
 
 from pidtab.bounds import DEFAULT_PID_MAX
 from pidtab.calls import Calls
-from pidtab.check import STANDARD_INPUT, open_script
-from pidtab.command import STATUS_DONE, STATUS_FAULT, STATUS_USAGE, complain, finish, parser_of
+from pidtab.command import STANDARD_INPUT, STATUS_DONE, STATUS_FAULT, STATUS_INTERRUPTED, STATUS_USAGE, complain, finish, open_script, parser_of
 from pidtab.faults import LibraryFault, ProgramFault
 from pidtab.language import FORMS, KINDS
-from pidtab.listing import Listing, Task
+from pidtab.listing import write_list
 from pidtab.process import Process
 from pidtab.prompt import COMMANDS, begin
+from pidtab.serve import serve
 from pidtab.session import Mistake, Session, read_words
 from pidtab.table import Table
+from pidtab.tree import draw_list
 
 PROMPT = "pidtab> "
-STATUS_INTERRUPTED = 130
 ABOUT = "Plays scripts, which may have comments, blank lines and names for numbers. Without a file, standard input; at a terminal with a prompt."
 
 HELP = f"""\
@@ -32,27 +32,6 @@ Callers and tasks are root numbers, and other process numbers those of the calle
 
 class Quit(Exception):
     """The line `quit`."""
-
-
-def say_task(task: Task) -> str:
-    """The line of a task in a list."""
-    numbers = ",".join(str(number) for number in task.numbers)
-    life = "live" if task.live else "killed" if task.killed else f"exit {task.status}"
-    marks = " executed" * task.executed + ("" if task.children is None else f" children {task.children}") + " subreaper" * task.subreaper
-    places = f"space {task.space} parent {task.parent} group {task.group} session {task.session} control {task.control}"
-    return f"task {numbers} {places} {life}{marks}"
-
-
-def say_list(listing: Listing) -> str:
-    """The list of a table, as `pidtab list` writes it."""
-    lines = [say_task(task) for task in listing.tasks]
-    for space in listing.spaces:
-        parent = "-" if space.parent is None else space.parent
-        lines.append(f"space {space.id} parent {parent} cursor {space.cursor}{' fallen' * space.fallen}")
-    for control in listing.controls:
-        parent, limit = ("-" if control.parent is None else control.parent), ("max" if control.limit is None else control.limit)
-        lines.append(f"control {control.id} parent {parent} limit {limit} count {control.count}")
-    return "".join(f"{line}\n" for line in lines)
 
 
 def undo(session: Session) -> str:
@@ -81,7 +60,8 @@ def play_line(session: Session, text: str) -> str:
     if command == "undo":
         return undo(session)
     if command is not None:
-        return session.table.tree() if command == "tree" else say_list(session.table.list())
+        listing = session.table.list()
+        return draw_list(listing.with_names(session.labels)) if command == "tree" else write_list(listing)
     reply = session.ask(text)
     if reply is None:
         return ""
@@ -194,13 +174,33 @@ def read_command_line() -> argparse.Namespace:
     ways = parser.add_mutually_exclusive_group()
     ways.add_argument("--program", metavar="PATH", help="have the table by this program")
     ways.add_argument("--library", metavar="PATH", help="have the table by this library")
+    parser.add_argument("--serve", action="store_true", help="answer each line of standard input with one line, also `list`, `dump`, `stat` and `ask`")
     parser.add_argument("file", nargs="*", help="a script; - is standard input")
-    return parser.parse_args()
+    given = parser.parse_args()
+    if given.serve and (given.file or given.strict or given.echo or given.program):
+        parser.error("--serve answers a program on standard input, by the library")
+    return given
+
+
+def run_server(given: argparse.Namespace) -> int:
+    """Serves a table of its own: the exit status."""
+    try:
+        with Table(given.pid_max, given.library) as table:
+            serve(table)
+    except ValueError as fault:
+        return complain(f"pidtab-play: {fault}", STATUS_USAGE)
+    except (LibraryFault, MemoryError) as fault:
+        return complain(f"pidtab-play: no table: {fault}", STATUS_USAGE)
+    except KeyboardInterrupt:
+        return STATUS_INTERRUPTED
+    return STATUS_DONE
 
 
 def run() -> int:
     """Plays what the command line names."""
     given = read_command_line()
+    if given.serve:
+        return run_server(given)
     try:
         session = open_session(given)
     except ValueError as fault:

@@ -193,6 +193,8 @@ SHARED = ctypes.POINTER(PidtabShared)
 SAVED = ctypes.POINTER(PidtabSaved)
 SAVED_HEAD = ctypes.POINTER(PidtabSavedHead)
 CALL = ctypes.POINTER(PidtabCall)
+# A call that is only read: bytes of CALL_FIELDS, which nobody changes. Their address is a multiple of 8, as that of all bytes.
+CALL_BYTES = ctypes.c_char_p
 REPLY = ctypes.POINTER(PidtabReply)
 TASK = ctypes.POINTER(PidtabTask)
 FAULT = ctypes.POINTER(PidtabFault)
@@ -214,12 +216,12 @@ FUNCTIONS: dict[str, Function] = {
     "pidtab_close": (U32, [TABLE]),
     "pidtab_line": (U32, [TABLE, ctypes.c_char_p, SIZE_T, BYTES, SIZE_T, SIZE]),
     "pidtab_list": (U32, [TABLE, BYTES, SIZE_T, SIZE]),
-    "pidtab_call": (U32, [TABLE, CALL, REPLY]),
+    "pidtab_call": (U32, [TABLE, CALL_BYTES, REPLY]),
 }
 
 # Those that an earlier library may lack.
 LATER_FUNCTIONS: dict[str, Function] = {
-    "pidtab_ask": (U32, [TABLE, CALL, REPLY]),
+    "pidtab_ask": (U32, [TABLE, CALL_BYTES, REPLY]),
     "pidtab_stat": (U32, [TABLE, U32, U32, TASK]),
     "pidtab_dump": (U32, [TABLE, BYTES, SIZE_T, SIZE]),
     "pidtab_load": (U32, [TABLE, ctypes.c_char_p, SIZE_T, FAULT]),
@@ -230,9 +232,9 @@ SHARED_FUNCTIONS: dict[str, Function] = {
     "pidtab_shared_open": (U32, [SHARED, U32, U64, U32, U64]),
     "pidtab_shared_close": (None, [SHARED]),
     "pidtab_shared_seat": (U32, [SHARED, NUMBER_32]),
-    "pidtab_shared_call": (U32, [SHARED, U32, CALL, REPLY, NUMBER_64]),
+    "pidtab_shared_call": (U32, [SHARED, U32, CALL_BYTES, REPLY, NUMBER_64]),
     "pidtab_shared_line": (U32, [SHARED, U32, ctypes.c_char_p, SIZE_T, BYTES, SIZE_T, SIZE, NUMBER_64]),
-    "pidtab_shared_ask": (U32, [SHARED, CALL, REPLY]),
+    "pidtab_shared_ask": (U32, [SHARED, CALL_BYTES, REPLY]),
     "pidtab_shared_stat": (U32, [SHARED, U32, U32, TASK]),
     "pidtab_shared_counts": (U32, [SHARED, NUMBER_64, NUMBER_64]),
     "pidtab_shared_worker": (U32, [SHARED, U32, NUMBER_64]),
@@ -255,6 +257,8 @@ SAVED_FUNCTIONS: dict[str, Function] = {
     "pidtab_saved_append_shared": (U32, [SAVED, SHARED]),
     "pidtab_saved_load_shared": (U32, [SAVED, ctypes.c_int, SHARED, U64]),
     "pidtab_saved_trim": (U32, [SAVED]),
+    "pidtab_saved_take_head": (U32, [ctypes.c_char_p, SIZE_T, SAVED_HEAD, SIZE, NUMBER_64]),
+    "pidtab_saved_take": (U32, [ctypes.c_char_p, SIZE_T, ENTRIES, SIZE, NUMBER_64]),
     "pidtab_saved_resume_shared": (U32, [SAVED, ctypes.c_int, SAVED_HEAD, SHARED, U64]),
     "pidtab_saved_serve": (U32, [SAVED, SHARED, U64, ctypes.c_bool]),
     "pidtab_saved_wait": (U32, [SHARED, U64]),

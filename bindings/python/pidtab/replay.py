@@ -11,8 +11,7 @@ from collections.abc import Iterable, Iterator
 from typing import NamedTuple
 
 from pidtab.calls import Calls
-from pidtab.check import open_script
-from pidtab.command import STATUS_DONE, STATUS_FAULT, STATUS_USAGE, complain, finish, parser_of
+from pidtab.command import STATUS_DONE, STATUS_FAULT, STATUS_USAGE, complain, finish, open_script, parser_of
 from pidtab.faults import LibraryFault, ProgramFault
 from pidtab.process import Process
 from pidtab.table import Table

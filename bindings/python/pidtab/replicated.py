@@ -11,7 +11,7 @@ from pidtab.calls import Call, Calls, as_line
 from pidtab.faults import LibraryFault, NotKept
 from pidtab.log import Log
 from pidtab.native import Ask, AskableCalls, pack
-from pidtab.raw import PidtabCall, PidtabReply, PidtabTask
+from pidtab.raw import PidtabReply, PidtabTask
 from pidtab.replica import Replica
 from pidtab.submitted import Submitted, deadline_behind
 from pidtab.table import Table
@@ -180,7 +180,7 @@ class Replicated(AskableCalls):
         pack(call)
         return form.read(self.line(call.line))
 
-    def _ask(self, call: PidtabCall, reply: PidtabReply) -> int:
+    def _ask(self, call: bytes, reply: PidtabReply) -> int:
         super()._check_owner()
         return self._replica.read(lambda table: as_table(table)._ask(call, reply))
 

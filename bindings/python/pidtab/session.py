@@ -9,7 +9,7 @@ from typing import Literal
 from pidtab.calls import Calls
 from pidtab.faults import ProgramEnded
 from pidtab.language import FORMS, KINDS, judge
-from pidtab.listing import Listing
+from pidtab.sight import Sight
 
 SIGN = "$"
 ROOT = ".root"
@@ -59,11 +59,12 @@ class Value:
 
 @dataclass(frozen=True)
 class Made:
-    """A call that was made, and the name that it gave."""
+    """A call that was made, the name that it gave, and the root number of a child that it made."""
 
     line: str
     name: str | None = None
     value: Value | None = None
+    child: int = 0
 
 
 @dataclass(frozen=True)
@@ -102,18 +103,6 @@ def read_value(line: str, answer: str, frees: int) -> Value | None:
     if found := CONTROL.fullmatch(answer):
         return Value("control", int(found[1]))
     return Value("number", int(answer)) if NUMBER.fullmatch(answer) else None
-
-
-def number_seen(listing: Listing, root: int, caller: int) -> int | None:
-    """The number that a task has in the namespace of the caller; None where it has none."""
-    tasks = {task.root: task for task in listing.tasks}
-    above = {space.id: space.parent for space in listing.spaces}
-    if root not in tasks or caller not in tasks:
-        return None
-    space: int | None = tasks[root].space
-    while space is not None and space != tasks[caller].space:
-        space = above[space]
-    return None if space is None else tasks[root].numbers[len(tasks[caller].numbers) - 1]
 
 
 class Session:
@@ -155,11 +144,22 @@ class Session:
         if answer in NOT_MADE:
             return Reply(answer, name)
         value = read_value(line, answer, self._frees) if name else None
-        self._made.append(Made(line, name if value else None, value))
+        child = CHILD.fullmatch(answer)
+        self._made.append(Made(line, name if value else None, value, int(child[2]) if child else 0))
         if name and value:
             self.names[name] = value
         self._frees += line.startswith(FREEING)
         return Reply(answer, None if value else name)
+
+    @property
+    def labels(self) -> dict[int, str]:
+        """The names of tasks by their root numbers, where no later fork has drawn the number again."""
+        labels: dict[int, str] = {}
+        for made in self._made:
+            labels.pop(made.child, None)
+            if made.child and made.name:
+                labels[made.child] = made.name
+        return {root: name for root, name in labels.items() if self.names.get(name) and self.names[name].root == root}
 
     def undo(self) -> str | None:
         """Takes the last call back, with the name that it gave: its line, or None where there is none."""
@@ -243,7 +243,7 @@ class Session:
         caller = int(before[1]) if CALLER.fullmatch(before[1]) else 0
         if caller == value.parent and value.frees == self._frees:
             return value.number
-        seen = number_seen(self.table.list(), value.root, caller)
+        seen = Sight(self.table.list()).number(value.root, caller)
         if seen is None:
             raise Mistake(word.column, f"a task with a number in the namespace of {caller}")
         return seen

@@ -5,13 +5,15 @@ import os
 import threading
 import weakref
 from collections.abc import Callable, Iterator, Sequence
+from itertools import islice
 
+from pidtab.answers import Stat
 from pidtab.bounds import DEFAULT_PID_MAX, check_pid_max, check_range
-from pidtab.calls import Listed
 from pidtab.faults import NotKept, SaverEnded, SeatsTaken, TableClosed, Unsaved
 from pidtab.history import Counts, Entry, read_entry
+from pidtab.labels import Labelled, Labels
 from pidtab.library import call_later, find_library, load_shared
-from pidtab.native import Ask, NumberCalls, check_loaded, fault_of, head_of, read_written, text_bytes
+from pidtab.native import ROOT_INIT, Ask, NumberCalls, check_loaded, fault_of, head_of, read_written, text_bytes
 from pidtab.owner import TABLES, Owner
 from pidtab.raw import (
     AGAIN,
@@ -31,6 +33,7 @@ from pidtab.raw import (
     PidtabTask,
 )
 from pidtab.saved import FilePath, Saved, SavedFile
+from pidtab.table import Table
 
 GREATEST_NUMBER = 2**64 - 1
 
@@ -82,6 +85,7 @@ class Seat(NumberCalls):
         self.worker = worker
         self.pid_max = shared.pid_max
         self._closed = False
+        self._labels = shared._labels
         # The library writes it, so that no interrupt comes between a call and this.
         self._ordinal = ctypes.c_uint64(NO_ORDINAL)
 
@@ -114,13 +118,19 @@ class Seat(NumberCalls):
         if self._closed:
             raise TableClosed("the seat was closed")
 
-    def _ask(self, call: PidtabCall, reply: PidtabReply) -> int:
+    def _place(self) -> int:
+        return self.shared._place()
+
+    def _forked(self, root: int) -> None:
+        self.shared._labels.fork(root, self._ordinal.value)
+
+    def _ask(self, call: bytes, reply: PidtabReply) -> int:
         return self.shared._ask(call, reply)
 
     def _stat(self, caller: int, pid: int, task: PidtabTask) -> int:
         return self.shared._stat(caller, pid, task)
 
-    def _call(self, call: PidtabCall, reply: PidtabReply) -> int:
+    def _call(self, call: bytes, reply: PidtabReply) -> int:
         return self.shared._bounded("pidtab_shared_call", self.worker, call, reply, self._ordinal)
 
     def _line(self, line: bytes, room: "ctypes.Array[ctypes.c_char]", size: ctypes.c_size_t) -> int:
@@ -130,7 +140,7 @@ class Seat(NumberCalls):
         return self.shared._list(room, size)
 
 
-class Shared(Listed, Owner):
+class Shared(Labelled, Owner):
     """A table that many threads use at once, with the history of its calls. Each worker makes its calls by a seat of its own.
 
     The library has a lock around the table, and a thread waits for it without the interpreter's lock: so an interpreter without that lock may
@@ -152,8 +162,9 @@ class Shared(Listed, Owner):
     _file: SavedFile | None = None
     # Whether a thread saves, or may wait for one that does.
     _has_saver = False
-    # Whether it was made of the text of another table, so that its history does not begin with the root init.
-    _goes_on = False
+    # The text that it was made of, and the ordinal of its first call then; empty where its history begins with the root init.
+    _opening = b""
+    _first_ordinal = 0
 
     def __init__(
         self,
@@ -245,7 +256,7 @@ class Shared(Listed, Owner):
         written = text_bytes(text)
         before = [0] * check_range("workers", workers, 1, MOST_WORKERS) if recorded is None else check_counts(recorded)
         shared = cls.__new__(cls)
-        shared.workers, shared._goes_on = len(before), True
+        shared.workers, shared._opening, shared._first_ordinal = len(before), written, sum(before)
         shared.keep = check_range("keep", keep, 0, GREATEST_NUMBER)
         shared.library = find_library(library)
         functions = load_shared(shared.library)
@@ -264,7 +275,7 @@ class Shared(Listed, Owner):
         """Has the table."""
         # One thread at a time is at the file. A handler of a signal may come between two steps of a save, and save too.
         self._saving = threading.RLock()
-        self._hold = hold
+        self._hold, self._labels = hold, Labels()
         TABLES.add(self)
 
     def close(self) -> None:
@@ -380,7 +391,7 @@ class Shared(Listed, Owner):
         """The file at the path, which has a head."""
         before = file = self._file
         if file is None or not file.is_at(path):
-            if self._goes_on:
+            if self._opening:
                 raise NotKept(f"the table was made of the text of another one, whose calls it does not have to save to {path}")
             if self.counts().first_kept != 0:
                 raise NotKept(f"call 0 is not kept: it was cut away before it was saved to {path}")
@@ -440,6 +451,30 @@ class Shared(Listed, Owner):
         end = self.counts().recorded
         return self._walk(self._first_block(first), end)
 
+    def at(self, ordinal: int) -> Table:
+        """The table as it was before the call with the ordinal, as one of its own: as many calls were made, of those since it was opened.
+
+        `NotKept` is raised where the history was cut, or where the call before is not reached yet. It costs the calls up to there, and where the
+        table was made by `from_dump`, a load of its text, which is kept for this.
+        """
+        ordinal = check_range("ordinal", ordinal, 0, GREATEST_NUMBER)
+        first = self._first_ordinal
+        entries = self.entries(first)
+        if not first <= ordinal <= self.counts().recorded:
+            raise NotKept(f"the table before call {ordinal} is not kept: the calls of this one begin with {first}, or it is not reached yet")
+        table = Table.from_dump(self._opening or self._as_opened(), self.library)
+        try:
+            table.answers(entry.line for entry in islice(entries, ordinal - first))
+        except BaseException:
+            table.close()
+            raise
+        return table
+
+    def _as_opened(self) -> str:
+        """The text of a table with the root init alone, and the stamp that this one began with."""
+        with Shared(1, pid_max=self.pid_max, first_stamp=self.first_stamp, library=self.library) as opened:
+            return opened.dump()
+
     def checkpoint(self) -> None:
         """Cuts the history: no entry is kept. Ordinals, stamps and counts go on. It costs a copy of the table, while all threads wait."""
         check(self._status("pidtab_shared_checkpoint"), "checkpoint")
@@ -451,6 +486,12 @@ class Shared(Listed, Owner):
         if status != AGAIN:
             check(status, "checkpoint")
         return status != AGAIN
+
+    def _place(self) -> int:
+        return self.counts().recorded
+
+    def _look(self, task: int) -> Stat:
+        return self.ask.stat(ROOT_INIT, task)
 
     def _settings(self) -> str:
         return f"workers={self.workers} pid_max={self.pid_max}"
@@ -471,7 +512,7 @@ class Shared(Listed, Owner):
         hold = self._check_open()
         return int(getattr(hold.functions, name)(hold.at, *arguments))
 
-    def _ask(self, call: PidtabCall, reply: PidtabReply) -> int:
+    def _ask(self, call: bytes, reply: PidtabReply) -> int:
         return self._status("pidtab_shared_ask", call, reply)
 
     def _stat(self, caller: int, pid: int, task: PidtabTask) -> int:

@@ -2,11 +2,13 @@
 
 import ctypes
 import os
+from functools import partial
 
 from pidtab.bounds import DEFAULT_PID_MAX, check_pid_max
+from pidtab.labels import Labels
 from pidtab.library import call_later, find_library, load_library
 from pidtab.native import Ask, NumberCalls, check_loaded, fault_of, head_of, read_written, text_bytes
-from pidtab.raw import DONE, Pidtab, PidtabCall, PidtabFault, PidtabReply, PidtabTask
+from pidtab.raw import DONE, Pidtab, PidtabFault, PidtabReply, PidtabTask
 
 
 class Table(NumberCalls):
@@ -19,11 +21,11 @@ class Table(NumberCalls):
         self.pid_max = check_pid_max(pid_max)
         self.library = find_library(library)
         self._functions = load_library(self.library)
-        self._table = Pidtab()
+        self._table, self._labels = Pidtab(), Labels()
         status = self._functions.pidtab_open(self._table, self.pid_max)
         if status != DONE:
             raise fault_of(status, "open")
-        self._keep(self._functions.pidtab_close, self._table)
+        self._begin()
 
     @classmethod
     def from_dump(cls, text: str | bytes | bytearray | memoryview, library: str | os.PathLike[str] | None = None) -> "Table":
@@ -35,12 +37,18 @@ class Table(NumberCalls):
         table = cls.__new__(cls)
         table.library = find_library(library)
         table._functions = load_library(table.library)
-        table._table, fault = Pidtab(), PidtabFault()
+        table._table, table._labels, fault = Pidtab(), Labels(), PidtabFault()
         # Before it is open, so that no interrupt loses it.
-        table._keep(table._functions.pidtab_close, table._table)
+        table._begin()
         check_loaded(table._later("pidtab_load", written, len(written), fault), fault)
         table.pid_max = head_of(written)[0]
         return table
+
+    def _begin(self) -> None:
+        """Has the table ended once nobody has it, and its calls made."""
+        self._keep(self._functions.pidtab_close, self._table)
+        # With no function of Python around it, since each call goes through here.
+        self._call = partial(self._functions.pidtab_call, self._table)
 
     def dump(self) -> str:
         """All that there is to know of the table, as text (docs/SCRIPT.md), of which `from_dump` makes the table again.
@@ -49,6 +57,12 @@ class Table(NumberCalls):
         """
         self._check_owner()
         return read_written(lambda room, size: self._later("pidtab_dump", room, len(room), size), "dump")
+
+    def copy(self) -> "Table":
+        """Another table that stands as this one does, labels too, and goes its own way from here on. It costs what a dump and a load do."""
+        copied = Table.from_dump(self.dump(), self.library)
+        copied._labels = self._labels.copy()
+        return copied
 
     def close(self) -> None:
         """Frees the table. A second time nothing is done."""
@@ -60,7 +74,14 @@ class Table(NumberCalls):
         """Queries that are no calls: `table.ask.getpid(1)` answers as `table.getpid(1)` does, and shifts no later id."""
         return Ask(self)
 
-    def _ask(self, call: PidtabCall, reply: PidtabReply) -> int:
+    def _place(self) -> int:
+        # One call is made at a time, and each fork is seen here.
+        return 0
+
+    def _forked(self, root: int) -> None:
+        self._labels.fork(root)
+
+    def _ask(self, call: bytes, reply: PidtabReply) -> int:
         return self._later("pidtab_ask", call, reply)
 
     def _stat(self, caller: int, pid: int, task: PidtabTask) -> int:
@@ -69,9 +90,6 @@ class Table(NumberCalls):
     def _later(self, name: str, *arguments: object) -> int:
         """What a function answers that an earlier library may lack."""
         return call_later(self._functions, self.library, name, self._table, *arguments)
-
-    def _call(self, call: PidtabCall, reply: PidtabReply) -> int:
-        return int(self._functions.pidtab_call(self._table, call, reply))
 
     def _line(self, line: bytes, room: "ctypes.Array[ctypes.c_char]", size: ctypes.c_size_t) -> int:
         return int(self._functions.pidtab_line(self._table, line, len(line), room, len(room), size))

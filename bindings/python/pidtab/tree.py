@@ -9,7 +9,7 @@ from collections import Counter
 from collections.abc import Mapping, Sequence
 from dataclasses import dataclass, field
 
-from pidtab.command import STATUS_DONE, STATUS_FAULT, STATUS_USAGE, complain, finish, parser_of
+from pidtab.command import STATUS_DONE, STATUS_FAULT, STATUS_USAGE, complain, finish, open_script, parser_of
 from pidtab.listing import BadList, Control, Listing, Space, Task, read_list
 
 ABOUT = "Reads on standard input what `pidtab list` writes, and draws its processes, namespaces and control groups as trees."
@@ -69,6 +69,8 @@ class Trees:
 def task_node(task: Task) -> Node:
     """A task with its numbers, group, session, control group, end and marks."""
     more = "".join(f",{number}" for number in task.numbers[1:])
+    more += "" if task.key is None else f" #{task.key}"
+    more += "" if task.label is None else f" ({task.label})"
     life = "live" if task.live else "killed" if task.killed else f"exit {task.status}"
     marks = " executed" if task.executed else ""
     marks += "" if task.children is None else f" children {task.children}"
@@ -269,9 +271,17 @@ def read_command_line() -> argparse.Namespace:
     parser.add_argument("--counts", action="store_true", help="with the tasks and the zombies of each namespace")
     parser.add_argument("--labels", metavar="FILE", help="with labels of tasks, from lines NUMBER WORD ..")
     parser.add_argument("--socket", metavar="PATH", help="the table of the service there, in the place of standard input")
+    parser.add_argument("--json", action="store_true", help="write JSON in the place of a drawing")
+    parser.add_argument("--diff", nargs=2, metavar=("BEFORE", "NOW"), help="write what has changed between the lists of two files; - is standard input")
     given = parser.parse_args()
     if given.counts and given.root is not None:
         parser.error("--counts is of namespaces, which --root leaves out")
+    if (given.json or given.diff) and (given.root or given.depth or given.ascii or given.counts):
+        parser.error("--json and --diff draw no tree")
+    if given.diff and given.labels:
+        parser.error("--diff has no labels")
+    if given.diff and given.socket:
+        parser.error("--diff is of two files, and --socket of none")
     return given
 
 
@@ -297,17 +307,37 @@ def read_text(path: str | None) -> str:
         raise BadList(f"{path}: {fault.strerror or fault}") from None
 
 
+def read_file(name: str) -> Listing:
+    """The list of a file, which says its name where it is none."""
+    try:
+        with open_script(name) as file:
+            return read_list(file.read().decode("latin-1"))
+    except BadList as fault:
+        raise BadList(f"{name}: {fault}") from None
+
+
+def written(given: argparse.Namespace) -> list[str]:
+    """The lines that are asked for."""
+    if given.diff:
+        changes = read_file(given.diff[1]) - read_file(given.diff[0])
+        return [f"{changes.to_json()}\n" if given.json else str(changes)]
+    labels = read_labels(given.labels) if given.labels else {}
+    if given.json:
+        named = read_list(read_text(given.socket)).with_names({int(root): label for root, label in labels.items()})
+        return [f"{named.to_json()}\n"]
+    wishes = Wishes(ASCII if given.ascii else INDENTED, given.depth, given.root, given.counts, labels)
+    return draw_trees(read_trees(read_text(given.socket)), wishes)
+
+
 def run() -> int:
     """Draws standard input, or the table of a service."""
     given = read_command_line()
     # All that is made here is kept to the end.
     gc.disable()
     try:
-        labels = read_labels(given.labels) if given.labels else {}
-        wishes = Wishes(ASCII if given.ascii else INDENTED, given.depth, given.root, given.counts, labels)
-        lines = draw_trees(read_trees(read_text(given.socket)), wishes)
+        lines = written(given)
     except OSError as fault:
-        return complain(f"pidtab-tree: cannot read {given.labels}: {fault.strerror}", STATUS_USAGE)
+        return complain(f"pidtab-tree: cannot read {fault.filename}: {fault.strerror}", STATUS_USAGE)
     except BadLabels as fault:
         return complain(f"pidtab-tree: {fault}", STATUS_USAGE)
     except BadList as fault:

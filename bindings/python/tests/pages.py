@@ -7,6 +7,9 @@ REPOSITORY = Path(__file__).resolve().parents[3]
 EXAMPLES = REPOSITORY / "examples"
 STORED = REPOSITORY / "crates" / "demo_scripts"
 
+# Two jobs for `pidtab work`, whose answers depend on the schedule.
+JOBS = {"worker0", "worker1"}
+
 
 def read_page(name: str) -> str:
     """The text of a page of the repository."""
@@ -15,7 +18,7 @@ def read_page(name: str) -> str:
 
 def section(page: str, title: str) -> str:
     """The text below a title, to the next title."""
-    _, found, behind = page.partition(f"\n{title}\n")
+    _, found, behind = f"\n{page}".partition(f"\n{title}\n")
     if not found:
         raise ValueError(f"no section {title}")
     return re.split(r"\n#+ ", behind)[0]
@@ -30,6 +33,12 @@ def rows(text: str) -> list[list[str]]:
 def quoted(cell: str) -> list[str]:
     """What stands between backticks."""
     return re.findall(r"`([^`]*)`", cell)
+
+
+def named_examples() -> set[str]:
+    """The scripts that the page of the examples names, but for those that have no answers of their own."""
+    table = rows(read_page("examples/README.md").split("\n## ")[0])
+    return {name for row in table for name in quoted(row[0])} - JOBS
 
 
 def blocks(text: str) -> list[str]:

@@ -71,14 +71,15 @@ def run_make(*words: str) -> "subprocess.CompletedProcess[str]":
 
 
 def run_shell(code: str, folder: Path) -> str:
-    """A script of the shell, for which `pidtab` is the program."""
-    (folder / "pidtab").symlink_to(find_program())
+    """A script of the shell, for which `pidtab` is the program, and those beside it are those of the repository."""
+    for program in (find_program(), *(BINDINGS / "python" / "bin").iterdir()):
+        (folder / program.name).symlink_to(program)
     return run(["sh", "-c", code], folder, PATH=f"{folder}:{os.environ['PATH']}")
 
 
 def run_python(code: str, folder: Path) -> str:
     """A program in Python, with the package of the repository."""
-    return run([sys.executable, "-c", code], folder, PYTHONPATH=BINDINGS / "python")
+    return run([sys.executable, "-c", code], folder, PYTHONPATH=os.pathsep.join(filter(None, (str(BINDINGS / "python"), os.environ.get("PYTHONPATH")))))
 
 
 def run_c(code: str, folder: Path, flags: Sequence[str] = (f"-I{BUILT}", str(ARCHIVE)), **variables: str | Path) -> str:

@@ -7,7 +7,7 @@ import unittest
 from collections.abc import Callable
 
 from pidtab import Calls, Control, Forked, Reaped, Space, TableClosed, read_list
-from tests.pages import EXAMPLES, StoredScript, blocks, quoted, read_page, rows, script_lines, section, stored_scripts
+from tests.pages import EXAMPLES, StoredScript, blocks, named_examples, quoted, read_page, rows, script_lines, section, stored_scripts
 from tests.ways import ByLibrary, ByProgram, Cases, ask
 
 GREATEST_PROCESS = 2**32 - 1
@@ -358,7 +358,7 @@ class PageCases(Cases):
 
     def test_examples(self) -> None:
         answers = sorted(EXAMPLES.glob("*.answers"))
-        self.assertEqual(len(answers), 8)
+        self.assertEqual({file.stem for file in answers}, named_examples())
         for file in answers:
             with self.subTest(file.name):
                 lines = script_lines(file.with_suffix(".script"))
@@ -367,7 +367,8 @@ class PageCases(Cases):
     def test_table_of_the_first_page(self) -> None:
         table = rows(section(read_page("README.md"), "### A namespace, step by step"))
         lines, answers = ([quoted(row[at])[0] for row in table] for at in (0, 1))
-        self.assertEqual(len(lines), 7)
+        # No other table of the page begins its rows with a line of the language.
+        self.assertEqual(len(lines), read_page("README.md").count("\n| `"))
         self.assertEqual(list(self.open().answers(lines)), answers)
 
     def test_first_block_of_the_language(self) -> None:

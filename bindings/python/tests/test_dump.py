@@ -163,8 +163,7 @@ class Texts(unittest.TestCase):
                 Table.from_dump(TEXT)
 
     def test_no_memory(self) -> None:
-        names = ("pidtab_open", "pidtab_close")
-        poor = SimpleNamespace(**{name: mock.Mock(return_value=raw.DONE) for name in names})
+        poor = SimpleNamespace(**{name: mock.Mock(return_value=raw.DONE) for name in raw.FUNCTIONS})
         poor.pidtab_load = poor.pidtab_dump = mock.Mock(return_value=raw.NO_MEMORY)
         with mock.patch("pidtab.table.load_library", return_value=poor):
             with self.assertRaisesRegex(MemoryError, "load: no memory"):

@@ -8,14 +8,11 @@ import unittest
 from pathlib import Path
 
 from pidtab import Process, Table, find_library, find_program
-from tests.pages import EXAMPLES, REPOSITORY, quoted, rows, script_lines
+from tests.pages import EXAMPLES, JOBS, REPOSITORY, named_examples, quoted, rows, script_lines
 from tests.ways import need_library, need_program
 
 # With this package, wherever a program is started.
 PACKAGE = {**os.environ, "PYTHONPATH": str(REPOSITORY / "bindings" / "python")}
-
-# Two jobs for `pidtab work`, whose answers depend on the schedule.
-JOBS = {"worker0", "worker1"}
 
 
 def page_section(title: str) -> str:
@@ -37,8 +34,8 @@ class Examples(unittest.TestCase):
     """What is stored beside the scripts, and what their page says of them."""
 
     def test_each_script_has_answers_and_a_list(self) -> None:
-        names = {file.stem for file in EXAMPLES.glob("*.script")} - JOBS
-        self.assertEqual(len(names), 9)
+        names = named_examples()
+        self.assertEqual({file.stem for file in EXAMPLES.glob("*.script")}, names | JOBS)
         for kind in ("answers", "list"):
             self.assertEqual({file.stem for file in EXAMPLES.glob(f"*.{kind}")}, names)
 

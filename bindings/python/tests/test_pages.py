@@ -14,7 +14,7 @@ from textwrap import indent
 from pidtab import Process, find_program
 from tests.pages import REPOSITORY, STORED, displays, fenced, read_page, section
 from tests.programs import ARCHIVE, BUILT, STRICT, need_archive, need_tool, run, run_c, run_go, run_python, run_rust, run_shell
-from tests.ways import need_library, need_program, need_shared
+from tests.ways import need_hypothesis, need_library, need_program, need_shared
 
 PACKAGES = REPOSITORY / "bindings" / "python"
 MANUAL = REPOSITORY / "man"
@@ -139,6 +139,38 @@ class Examples(unittest.TestCase):
     def test_go(self) -> None:
         need_archive()
         self.check("go", run_go)
+
+
+class Readers(unittest.TestCase):
+    """The pages for those whom the first page names: each example of a page prints what it says, in one folder for all of the page."""
+
+    RUN = {"python": run_python, "sh": run_shell}
+    MOST_LINES = 60
+
+    def setUp(self) -> None:
+        need_program()
+        need_shared()
+
+    def test_each_page(self) -> None:
+        pages = sorted((REPOSITORY / "docs" / "for").glob("*.md"))
+        self.assertEqual(len(pages), 4)
+        for page in pages:
+            with self.subTest(page.name):
+                text = page.read_text(encoding="utf-8")
+                self.assertIn(f"(docs/for/{page.name})", read_page("README.md"))
+                self.assertLessEqual(len(text.splitlines()), self.MOST_LINES)
+                self.check(text)
+
+    def check(self, text: str) -> None:
+        """Runs the examples of a page."""
+        if "pidtab.testing" in text:
+            need_hypothesis()
+        found = re.findall(r"^```(python|sh)\n(.*?)^```\n```text\n(.*?)^```$", text, re.MULTILINE | re.DOTALL)
+        self.assertEqual(4 * len(found), len(re.findall("^```", text, re.MULTILINE)))
+        self.assertTrue(found)
+        with tempfile.TemporaryDirectory() as folder:
+            for kind, code, printed in found:
+                self.assertEqual(self.RUN[kind](code, Path(folder)), printed)
 
 
 class Manuals(unittest.TestCase):

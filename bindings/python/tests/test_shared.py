@@ -19,6 +19,7 @@ from typing import Any
 from unittest import mock
 
 from pidtab import Ask, Calls, Counts, Entry, LibraryFault, NotKept, Queries, Seat, SeatsTaken, Shared, Stat, Table, TableClosed, raw
+from pidtab.forms import say_answer
 from pidtab.library import load_library, load_shared
 from pidtab.shared import BLOCK
 from tests.alarms import Awaiting, alarms
@@ -27,7 +28,7 @@ from tests.test_arguments import NO_INTEGERS, IntegerCases, LongCases, TypeCases
 from tests.test_calls import CallCases, LineCases, ListCases, NumberCases, PageCases, TableCases
 from tests.test_ends import OTHERS, ForkCases, in_child, say
 from tests.test_refusals import RefusalCases
-from tests.ways import BySeat, ask, need_library, need_shared, say_answer
+from tests.ways import BySeat, ask, need_library, need_shared
 
 PACKAGE = Path(__file__).resolve().parents[1]
 WORKERS = 16
@@ -484,7 +485,7 @@ class Asking(unittest.TestCase):
             self.shared.ask.getpid(1)
 
     def test_an_earlier_library(self) -> None:
-        functions = SimpleNamespace(pidtab_open=mock.Mock(return_value=0), pidtab_close=mock.Mock())
+        functions = SimpleNamespace(**{name: mock.Mock(return_value=0) for name in raw.FUNCTIONS})
         with mock.patch("pidtab.table.find_library", return_value="early.so"), mock.patch("pidtab.table.load_library", return_value=functions):
             table = Table()
         self.addCleanup(table.close)

@@ -21,9 +21,10 @@ from pidtab.calls import KINDS
 from pidtab.faults import TEXT_FAULTS, WORDS
 from pidtab.language import FORMS
 from pidtab.library import load_library
+from tests.alarms import alarms
 from tests.pages import REPOSITORY, quoted, read_page, rows, section
 from tests.programs import need_tool
-from tests.ways import ask, need_library, need_program
+from tests.ways import ask, need_library, need_program, open_stand_in
 
 SEED = 20
 RANDOM_LINES = 3000
@@ -37,7 +38,8 @@ TYPES: dict[str, Any] = {
 
 # What is passed for them: for bytes that are read, and that are written, and for the address of what else.
 PASSED: dict[str, type] = {
-    "const void *line": ctypes.c_char_p, "const void *text": ctypes.c_char_p, "void *": raw.BYTES, "struct pidtab *": raw.TABLE, "struct pidtab_shared *": raw.SHARED,
+    "const void *line": ctypes.c_char_p, "const void *text": ctypes.c_char_p, "const void *bytes": ctypes.c_char_p, "const struct pidtab_call *call": raw.CALL_BYTES,
+    "void *": raw.BYTES, "struct pidtab *": raw.TABLE, "struct pidtab_shared *": raw.SHARED,
     "struct pidtab_call *": raw.CALL, "struct pidtab_reply *": raw.REPLY, "struct pidtab_task *": raw.TASK, "struct pidtab_fault *": raw.FAULT,
     "struct pidtab_entry *": raw.ENTRIES, "size_t *": raw.SIZE,
     "struct pidtab_saved *": raw.SAVED, "struct pidtab_saved_head *": raw.SAVED_HEAD, "int ": ctypes.c_int, "bool ": ctypes.c_bool,
@@ -122,9 +124,9 @@ class Header(unittest.TestCase):
 
     def test_the_functions(self) -> None:
         # The package has no records but those behind a lock, and takes that lock for one function at a time. It writes lines itself, and
-        # saves to files alone.
+        # saves to files alone, which it also reads as they grow.
         left_out = {"pidtab_shared_lock", "pidtab_shared_unlock", "pidtab_call_line"}
-        left_out |= {f"pidtab_saved_{it}" for it in ("sum", "put", "put_head", "take", "take_head", "append", "load", "resume")}
+        left_out |= {f"pidtab_saved_{it}" for it in ("sum", "put", "put_head", "append", "load", "resume")}
         text = header() + header("pidtab_shared.h") + header("pidtab_saved.h")
         declared = dict(re.findall(r"(?<!inline )(?:uint32_t |uint64_t |void |\*)(pidtab_(?!record_)\w+)\(([^)]*)\);", text))
         known = {**raw.FUNCTIONS, **raw.LATER_FUNCTIONS, **raw.SHARED_FUNCTIONS, **raw.LATER_SHARED_FUNCTIONS, **raw.SAVED_FUNCTIONS}
@@ -202,14 +204,9 @@ class Libraries(unittest.TestCase):
 class Statuses(unittest.TestCase):
     """What is raised for each status that a table of a test's size does not come to."""
 
-    @classmethod
-    def setUpClass(cls) -> None:
-        need_library()
-
-    def stub(self, table: Table, status: int) -> None:
-        """Has each function but the end answer with a status from now on."""
-        names = ("pidtab_open", "pidtab_call", "pidtab_line", "pidtab_list")
-        table._functions = SimpleNamespace(**{name: mock.Mock(return_value=status) for name in names})  # type: ignore[assignment]
+    def open(self, status: int) -> Table:
+        """A table whose calls and list answer with the status."""
+        return open_with(mock.Mock(return_value=status))
 
     def test_each(self) -> None:
         faults: list[tuple[int, type[Exception], str]] = [
@@ -226,9 +223,7 @@ class Statuses(unittest.TestCase):
 
     def check(self, status: int, kind: type[Exception], words: str) -> None:
         """A fork raises the kind, by its method and by its line."""
-        table = Table()
-        self.addCleanup(table.close)
-        self.stub(table, status)
+        table = self.open(status)
         with self.assertRaisesRegex(kind, words):
             table.fork(1)
         with self.assertRaisesRegex(kind, words):
@@ -236,20 +231,54 @@ class Statuses(unittest.TestCase):
 
     def test_answers_tell_what_a_line_raises(self) -> None:
         for status, answer in ((raw.NO_MEMORY, "no memory"), (raw.SPENT, "spent"), (raw.BAD_LINE, "bad line")):
-            with Table() as table:
-                self.stub(table, status)
-                self.assertEqual(table.answers(["fork 1"]), (answer,))
+            self.assertEqual(self.open(status).answers(["fork 1"]), (answer,))
 
     def test_no_memory_for_a_list(self) -> None:
-        with Table() as table:
-            self.stub(table, raw.NO_MEMORY)
-            with self.assertRaises(MemoryError):
-                table.list()
+        with self.assertRaises(MemoryError):
+            self.open(raw.NO_MEMORY).list()
 
     def test_no_memory_for_a_table(self) -> None:
         functions = SimpleNamespace(pidtab_open=mock.Mock(return_value=raw.NO_MEMORY))
         with mock.patch("pidtab.table.load_library", return_value=functions), self.assertRaises(MemoryError):
             Table()
+
+
+class Replies(unittest.TestCase):
+    """Each call reads a reply of its own, whoever makes a call meanwhile."""
+
+    def number(self, reply: raw.PidtabReply, number: int) -> int:
+        """Answers a number."""
+        reply.kind, reply.first = raw.NUMBER, number
+        return raw.DONE
+
+    def test_a_call_before_the_reply_is_read(self) -> None:
+        inner = open_with(lambda table, call, reply: self.number(reply, 8))
+        told: list[int] = []
+
+        def call(table: raw.Pidtab, call: bytes, reply: raw.PidtabReply) -> int:
+            status = self.number(reply, 7)
+            told.append(inner.getpid(1))
+            return status
+
+        outer = open_with(call)
+        # The second time, both have replies that others had.
+        self.assertEqual([outer.getpid(1), outer.getpid(1), *told], [7, 7, 8, 8])
+
+    def test_a_handler_of_a_signal(self) -> None:
+        need_library()
+        told: list[tuple[int, ...]] = []
+        with Table() as table, Table() as other:
+            with alarms(lambda number, frame: told.append(other.nspid(1, 1)), 0.001, 0.001):
+                roots = [table.fork(1).root for _ in range(10000)]
+        self.assertEqual(roots, list(range(2, 10002)))
+        self.assertEqual(set(told), {(1,)})
+
+
+def open_with(function: Callable[..., int]) -> Table:
+    """A table whose calls and list are answered by a function."""
+    functions = SimpleNamespace(pidtab_open=mock.Mock(return_value=raw.DONE), pidtab_close=mock.Mock())
+    functions.pidtab_call = functions.pidtab_line = functions.pidtab_list = function
+    return open_stand_in(functions)
 
 
 class Ends(unittest.TestCase):

@@ -1,13 +1,14 @@
 """The two ways to a table, for cases that hold of both; and each call by its method, told as the script language tells it."""
 
 import errno
+import importlib.util
 import unittest
-from collections.abc import Callable
 from types import SimpleNamespace
 from typing import TYPE_CHECKING
 from unittest import mock
 
-from pidtab import Calls, Forked, LibraryFault, Process, ProgramMissing, Reaped, Refusal, Seat, Shared, Table, find_library, find_program
+from pidtab import Calls, LibraryFault, Process, ProgramMissing, Refusal, Seat, Shared, Table, find_library, find_program
+from pidtab.forms import method_of, say_answer
 from pidtab.library import load_library, load_shared
 
 DEFAULT_PID_MAX = 32768
@@ -50,6 +51,12 @@ def need_shared() -> None:
         load_shared(find_library())
     except LibraryFault as fault:
         raise unittest.SkipTest(str(fault)) from fault
+
+
+def need_hypothesis() -> None:
+    """Skips what needs Hypothesis, where it is not there."""
+    if importlib.util.find_spec("hypothesis") is None:
+        raise unittest.SkipTest("no Hypothesis")
 
 
 class ByProgram(Way):
@@ -97,40 +104,9 @@ class BySeat(Way):
         return shared.seat()
 
 
-def make_wait(table: Calls, caller: int, words: list[str]) -> Reaped | None:
-    """The wait that is asked for by `any`, `own`, `pid P` or `group P`."""
-    if words[0] == "pid":
-        return table.wait(caller, int(words[1]))
-    if words[0] == "group":
-        return table.wait(caller, group=int(words[1]))
-    return table.wait(caller, own=words[0] == "own")
-
-
 def make_call(table: Calls, line: str) -> object:
     """Makes the call on a good line by its method."""
-    name, first, *words = line.split(" ")
-    number = int(first)
-    made: dict[str, Callable[[], object]] = {
-        "fork": lambda: table.fork(number, new=bool(words)),
-        "wait": lambda: make_wait(table, number, words),
-        "next": lambda: table.next(number, words[0], int(words[1])),  # type: ignore[arg-type]
-        "subreaper": lambda: table.subreaper(number, on=words[0] == "on"),
-        "limit": lambda: table.limit(number, None if words[0] == "max" else int(words[0])),
-    }
-    return made.get(name, lambda: getattr(table, name)(number, *[int(word) for word in words]))()
-
-
-def say_answer(name: str, told: object) -> str:
-    """What a method tells, in the words of docs/SCRIPT.md."""
-    if isinstance(told, Forked):
-        return f"child {told.child} root {told.root}"
-    if isinstance(told, Reaped):
-        return f"reaped {told.child} killed" if told.killed else f"reaped {told.child} exit {told.status}"
-    if isinstance(told, tuple):
-        return " ".join(str(number) for number in told)
-    if told is None:
-        return {"wait": "none", "next": "end"}.get(name, "ok")
-    return f"control {told}" if name == "mk" else str(told)
+    return method_of(line).call(table)
 
 
 def ask(table: Calls, line: str) -> str:

@@ -33,6 +33,7 @@ mod raw;
 mod saved;
 mod shared;
 mod stat;
+pub mod testing;
 mod texts;
 
 pub use blocks::{Blocks, Head, Made, Replayed};

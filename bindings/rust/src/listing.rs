@@ -1,5 +1,6 @@
 //! The list of a table, read.
 use crate::Ended;
+use std::collections::HashMap;
 use std::fmt;
 use std::str::FromStr;
 
@@ -27,6 +28,8 @@ pub struct Task {
     pub children: Option<u64>,
     /// Whether it takes orphans of its namespace.
     pub subreaper: bool,
+    /// A name from outside of the table, which [`Listing::with_labels`] gives.
+    pub label: Option<String>,
 }
 
 impl Task {
@@ -77,6 +80,30 @@ pub struct Listing {
 }
 
 impl Listing {
+    /// The list with names of its tasks, by root number. A number that is no task's is left out, and an empty name is none.
+    pub fn with_labels<L: Into<String>>(
+        mut self,
+        labels: impl IntoIterator<Item = (u32, L)>,
+    ) -> Listing {
+        let mut labels: HashMap<u32, L> = labels.into_iter().collect();
+        for task in &mut self.tasks {
+            if let Some(label) = labels.remove(&task.root()) {
+                task.label = Some(label.into()).filter(|it| !it.is_empty());
+            }
+        }
+        self
+    }
+
+    /// The list as JSON, in one line, as docs/list.schema.json has it.
+    pub fn to_json(&self) -> String {
+        format!(
+            r#"{{"tasks":{},"spaces":{},"controls":{}}}"#,
+            array(&self.tasks, task_object),
+            array(&self.spaces, space_object),
+            array(&self.controls, control_object),
+        )
+    }
+
     /// What a list of the library says.
     pub(crate) fn of(list: &str) -> Listing {
         list.parse().expect("what the library lists is a list")
@@ -170,6 +197,7 @@ fn read_task(words: &[&str]) -> Option<Task> {
         executed,
         children,
         subreaper,
+        label: None,
     })
 }
 
@@ -219,4 +247,72 @@ fn read_control(words: &[&str]) -> Option<Control> {
         limit: number_unless(limit, "max")?,
         count: number(count)?,
     })
+}
+
+/// The items of an array of JSON.
+fn array<T>(items: &[T], object: fn(&T) -> String) -> String {
+    let objects: Vec<_> = items.iter().map(object).collect();
+    format!("[{}]", objects.join(","))
+}
+
+/// A number of JSON, or its word for none.
+fn or_null<T: fmt::Display>(number: Option<T>) -> String {
+    number.map_or_else(|| "null".into(), |it| it.to_string())
+}
+
+/// A string of JSON.
+fn quote(text: &str) -> String {
+    let escape = |it| match it {
+        '"' | '\\' => format!("\\{it}"),
+        '\0'..='\x1f' => format!("\\u{:04x}", it as u32),
+        _ => it.to_string(),
+    };
+    format!("\"{}\"", text.chars().map(escape).collect::<String>())
+}
+
+/// The fields of a task, as docs/list.schema.json has them.
+fn task_object(task: &Task) -> String {
+    let (state, status) = match task.ended {
+        None => ("live", None),
+        Some(Ended::Killed) => ("killed", None),
+        Some(Ended::Exited(status)) => ("exited", Some(status)),
+    };
+    format!(
+        r#"{{"numbers":{},"space":{},"parent":{},"group":{},"session":{},"control":{},"state":"{state}","status":{},"executed":{},"children":{},"subreaper":{}{}}}"#,
+        array(&task.numbers, u32::to_string),
+        task.space,
+        task.parent,
+        task.group,
+        task.session,
+        task.control,
+        or_null(status),
+        task.executed,
+        or_null(task.children),
+        task.subreaper,
+        task.label
+            .as_deref()
+            .map_or_else(String::new, |it| format!(r#","label":{}"#, quote(it))),
+    )
+}
+
+/// The fields of a namespace.
+fn space_object(space: &Space) -> String {
+    format!(
+        r#"{{"id":{},"parent":{},"cursor":{},"fallen":{}}}"#,
+        space.id,
+        or_null(space.parent),
+        space.cursor,
+        space.fallen,
+    )
+}
+
+/// The fields of a control group.
+fn control_object(control: &Control) -> String {
+    format!(
+        r#"{{"id":{},"parent":{},"limit":{},"count":{}}}"#,
+        control.id,
+        or_null(control.parent),
+        or_null(control.limit),
+        control.count,
+    )
 }

@@ -22,6 +22,40 @@ fn read(text: &str) -> Listing {
 }
 
 #[test]
+fn json() {
+    let bindings = Path::new(env!("CARGO_MANIFEST_DIR"))
+        .parent()
+        .expect("the folder of all packages");
+    let text = |name| fs::read_to_string(bindings.join(name)).expect(name);
+    assert_eq!(
+        format!("{}\n", read(&text("example.list")).to_json()),
+        text("example.json")
+    );
+}
+
+#[test]
+fn labels() {
+    let listing = read(WIDE);
+    assert_eq!(
+        listing.clone().with_labels([(9, "nobody"), (2, "")]),
+        listing
+    );
+    let named = listing.with_labels([(2, "nginx"), (5, "a \"\\\n\u{7}é")]);
+    let labels: Vec<_> = named.tasks.iter().map(|it| it.label.as_deref()).collect();
+    assert_eq!(labels, [None, Some("nginx"), None, Some("a \"\\\n\u{7}é")]);
+    let json = named.to_json();
+    assert!(
+        json.contains(r#""subreaper":false,"label":"nginx"},{"#),
+        "{json}"
+    );
+    assert!(
+        json.contains(r#","label":"a \"\\\u000a\u0007é"}]"#),
+        "{json}"
+    );
+    assert_eq!(json.matches("label").count(), 2);
+}
+
+#[test]
 fn each_field() {
     let listing = read(WIDE);
     let (first, wide) = (&listing.tasks[0], &listing.tasks[3]);

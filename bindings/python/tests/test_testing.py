@@ -1,0 +1,341 @@
+"""The test kit: planted bugs that it finds and shrinks, what is no difference, commands, and misuse."""
+
+from __future__ import annotations
+
+import subprocess
+import sys
+import tempfile
+import time
+import unittest
+from contextlib import suppress
+from pathlib import Path
+from unittest import mock
+
+from pidtab import Table
+from pidtab.forms import ALL_FORMS, method_of, select_forms
+from pidtab.language import FORMS, judge
+from pidtab.listing import Listing, read_list
+from pidtab.peer import CommandPeer, LeftOut, ObjectPeer
+from pidtab.sight import Sight
+from tests.toy import Toy
+from tests.ways import need_hypothesis, need_library
+
+with suppress(ImportError):
+    from hypothesis import given, settings
+
+    from pidtab import testing
+    from pidtab.testing import Aimed, Different, agree, compare, read_declared
+
+PACKAGE = Path(__file__).resolve().parents[1]
+PROGRAM = PACKAGE / "bin" / "pidtab-compare"
+
+# The toy at the other end of a pipe; behind its class stands what it is made with.
+TOY_COMMAND = """\
+import errno, sys
+from tests.toy import Toy
+toy = Toy(*sys.argv[1:])
+for line in sys.stdin:
+    name, *numbers = line.split()
+    try:
+        told = getattr(toy, name)(*map(int, numbers))
+    except OSError as refusal:
+        print(errno.errorcode[refusal.errno], flush=True)
+    else:
+        print(f"child {told}" if name == "fork" else "ok", flush=True)
+"""
+COMMAND_CALLS = ["fork", "exec", "setpgid"]
+TOY_CALLS = ["fork", "exec", "exit", "wait any", "wait pid", "setpgid", "setsid", "getpid", "getppid", "getpgid", "getsid"]
+
+# What the toy does not have of these: another namespace.
+ONE_NAMESPACE = {"calls": TOY_CALLS, "without": ["fork new"]}
+
+# The list of a table as it begins.
+AT_FIRST = "task 1 space 0 parent 0 group 1 session 1 control 0 live\nspace 0 parent - cursor 2\ncontrol 0 parent - limit max count 1\n"
+
+# Of a comparison that takes some seconds.
+WORDS = ["--calls", ",".join(COMMAND_CALLS), "--cases", "40", "--steps", "15", "--seed", "1"]
+
+MOST_SECONDS = 10
+MOST_CALLS = 5
+
+
+def setUpModule() -> None:
+    """Without Hypothesis there is nothing to test here."""
+    need_hypothesis()
+
+
+def toy_command(*words: str) -> list[str]:
+    """The command that is the toy."""
+    return [sys.executable, "-S", "-B", "-c", TOY_COMMAND, *words]
+
+
+def launch(*words: str) -> "subprocess.CompletedProcess[str]":
+    """Runs pidtab-compare, where Python finds what these tests find."""
+    path = {"PYTHONPATH": ":".join([str(PACKAGE), *filter(None, sys.path)])}
+    with mock.patch.dict("os.environ", path):
+        return subprocess.run([sys.executable, "-B", str(PROGRAM), *words], capture_output=True, text=True, check=False)
+
+
+class Found(unittest.TestCase):
+    """Differences that are there."""
+
+    def setUp(self) -> None:
+        need_library()
+        folder = tempfile.TemporaryDirectory()
+        self.addCleanup(folder.cleanup)
+        self.script = Path(folder.name) / "found.script"
+
+    def test_each_planted_bug(self) -> None:
+        for bug in ("grandparent", "executed"):
+            for begin_at in (1, 2):
+                with self.subTest(bug=bug, begin_at=begin_at):
+                    begun = time.process_time()
+                    with self.assertRaises(Different) as found:
+                        compare(lambda: Toy(bug), save=self.script, begin_at=begin_at)
+                    self.assertLess(time.process_time() - begun, MOST_SECONDS)
+                    self.check_script(bug, found.exception)
+
+    def check_script(self, bug: str, found: Different) -> None:
+        """The script that was saved is short, and shows the difference again: by pidtab, and by the toy."""
+        lines = self.script.read_text().splitlines()
+        self.assertEqual((tuple(lines), found.script), (found.lines, self.script.read_text()))
+        self.assertLessEqual(len(lines), MOST_CALLS)
+        with Table() as table:
+            self.assertEqual((lines[-1], table.answers(lines)[-1]), (found.met.line, found.met.pidtab))
+        toy = ObjectPeer(Toy(bug))
+        self.assertEqual([toy.answer(line) for line in lines][-1], found.met.yours)
+        right = ObjectPeer(Toy())
+        self.assertTrue(agree([right.answer(line) for line in lines][-1], found.met.pidtab))
+
+    def test_none_where_there_is_none(self) -> None:
+        tally = compare(Toy, begin_at=1, cases=150)
+        self.assertGreater(tally.calls, 2000)
+        self.assertEqual(tally.declared, {})
+
+    def test_what_breaks_differs_by_that(self) -> None:
+        class Broken(Toy):
+            def getsid(self, caller: int, pid: int = 0) -> int:
+                return self.processes[pid].session
+
+        with self.assertRaises(Different) as found:
+            compare(Broken, calls=["getsid"], begin_at=1)
+        name, caller, number = found.exception.met.line.split(" ")
+        self.assertEqual((name, caller, found.exception.met.yours), ("getsid", "1", f"KeyError: {number}"))
+        self.assertIsInstance(found.exception.__cause__, KeyError)
+
+    def test_the_lists(self) -> None:
+        class Forgetful(Toy):
+            def list(self) -> Listing:
+                return read_list(AT_FIRST)
+
+        with self.assertRaises(Different) as found:
+            compare(Forgetful, calls=["fork"], begin_at=1)
+        self.assertEqual((found.exception.lines, found.exception.met.line), (("fork 1",), "(the list)"))
+
+    def test_an_object_that_answers_lines(self) -> None:
+        class Lines:
+            """The toy, asked by lines."""
+
+            def __init__(self) -> None:
+                self.answer = ObjectPeer(Toy("executed")).answer
+
+        with self.assertRaises(Different) as found:
+            compare(Lines, begin_at=1, **ONE_NAMESPACE)
+        self.assertEqual(found.exception.met[1:], ("ok", "EACCES executed"))
+
+    def test_ids_of_control_groups_are_your_own(self) -> None:
+        class Groups:
+            """Control groups by words in the place of stamps."""
+
+            def __init__(self) -> None:
+                self.parents: dict[object, object] = {0: None}
+
+            def mk(self, parent: object) -> str:
+                if parent not in self.parents:
+                    raise FileNotFoundError(2, "no-control")
+                self.parents[name := f"group-{len(self.parents)}"] = parent
+                return name
+
+            def count(self, control: object) -> int:
+                if control not in self.parents:
+                    raise FileNotFoundError(2, "no-control")
+                return int(control == 0)
+
+        self.assertGreater(compare(Groups, begin_at=1, cases=30).calls, 200)
+
+    def test_a_case_of_unittest(self) -> None:
+        case = testing.machine(lambda: Toy("executed")).TestCase
+        case.settings = settings(case.settings, max_examples=100, database=None)
+        result = unittest.TestResult()
+        case("runTest").run(result)
+        ((_, said),) = [*result.failures, *result.errors]
+        self.assertIn("pidtab EACCES executed", said)
+
+
+class Declared(unittest.TestCase):
+    """Differences that are left out by name."""
+
+    def setUp(self) -> None:
+        need_library()
+
+    def test_by_a_text_and_by_a_function(self) -> None:
+        text = "setpgid * => * | EACCES executed"
+        for declared in (text, lambda met: met.pidtab == "EACCES executed"):
+            with self.subTest(declared):
+                tally = compare(lambda: Toy("executed"), declared={"executed": declared}, begin_at=1, cases=200)
+                self.assertGreater(tally.declared["executed"], 0)
+
+    def test_another_is_still_found(self) -> None:
+        with self.assertRaises(Different):
+            compare(lambda: Toy("grandparent"), declared={"executed": "setpgid * => * | EACCES executed"}, begin_at=1)
+
+    def test_a_text_that_is_none(self) -> None:
+        for text in ("", "fork 1", "fork 1 => ok", "fork 1 | ok", " => ok | no"):
+            with self.subTest(text), self.assertRaisesRegex(ValueError, "a declared difference is `LINE => YOURS"):
+                read_declared(text)
+
+
+class Commands(unittest.TestCase):
+    """Tables at the other end of a pipe."""
+
+    def test_a_bug_by_a_command(self) -> None:
+        need_library()
+        with mock.patch.dict("os.environ", {"PYTHONPATH": str(PACKAGE)}), self.assertRaises(Different) as found:
+            compare(toy_command("executed"), calls=COMMAND_CALLS, cases=40, steps=15, begin_at=1)
+        self.assertEqual((found.exception.met.yours, found.exception.met.pidtab), ("ok", "EACCES executed"))
+        self.assertLessEqual(len(found.exception.lines), MOST_CALLS)
+
+    def answer(self, code: str, line: str = "fork 1") -> str:
+        """What a command of the shell answers to a line."""
+        peer = CommandPeer(["sh", "-c", code])
+        self.addCleanup(peer.close)
+        return peer.answer(line)
+
+    def test_one_that_ends(self) -> None:
+        self.assertEqual(self.answer("read line; echo broken >&2; exit 3"), "ended with status 3: broken")
+        self.assertEqual(self.answer("exit 0"), "ended with status 0")
+
+    def test_one_that_says_nothing(self) -> None:
+        with mock.patch("pidtab.peer.PATIENCE", 0.2):
+            peer = CommandPeer(["sleep", "60"])
+            self.assertEqual(peer.answer("fork 1"), "no answer in 0.2 s")
+            peer.close()
+
+    def test_one_that_is_not_there(self) -> None:
+        with self.assertRaisesRegex(RuntimeError, "^cannot start /no/such: No such file or directory$"):
+            CommandPeer(["/no/such"])
+
+    def test_its_list(self) -> None:
+        peer = CommandPeer(["sh", "-c", "while read line; do echo ok; done"], ["cat"])
+        self.addCleanup(peer.close)
+        peer.answer("exec 1")
+        self.assertEqual(peer.list_text(), "exec 1\n")
+        peer = CommandPeer(["cat"], ["false"])
+        self.addCleanup(peer.close)
+        self.assertEqual(peer.list_text(), "the list ended with status 1\n")
+
+
+class Program(unittest.TestCase):
+    """`pidtab-compare`."""
+
+    def setUp(self) -> None:
+        need_library()
+
+    def test_a_difference(self) -> None:
+        with tempfile.TemporaryDirectory() as folder:
+            done = launch(*WORDS, "--save", f"{folder}/found", "--", *toy_command("executed"))
+            self.assertEqual((done.returncode, done.stderr), (1, ""))
+            script = Path(folder, "found").read_text()
+        self.assertEqual(done.stdout.splitlines()[1:4], ["  yours  ok", "  pidtab EACCES executed", "the script:"])
+        self.assertEqual([line.strip() for line in done.stdout.splitlines()[4:]], script.splitlines())
+
+    def test_none_but_what_is_declared(self) -> None:
+        with tempfile.TemporaryDirectory() as folder:
+            Path(folder, "known").write_text("# mine\n\nexecuted: setpgid * => * | EACCES executed\n")
+            done = launch(*WORDS, "--declared", f"{folder}/known", *toy_command("executed"))
+        self.assertEqual((done.returncode, done.stderr), (0, ""))
+        self.assertRegex(done.stdout, r"\A\d+ cases, \d+ calls: no difference\ndeclared executed: \d+ times\n\Z")
+
+    def test_misuse(self) -> None:
+        with tempfile.NamedTemporaryFile("w") as file:
+            file.write("no colon\n")
+            file.flush()
+            for words, said in [
+                ([], "no COMMAND"),
+                (["--calls", "frok", "cat"], "no call 'frok'"),
+                (["--cases", "0", "cat"], "a number from 1 on, not 0"),
+                (["/no/such"], "pidtab-compare: cannot start /no/such: No such file or directory"),
+                (["--declared", "/no/such", "cat"], "pidtab-compare: /no/such: No such file or directory"),
+                (["--declared", file.name, "cat"], f"{file.name}:1: expected NAME: LINE => YOURS | PIDTAB"),
+            ]:
+                with self.subTest(words):
+                    done = launch(*words)
+                    self.assertEqual((done.returncode, done.stdout), (2, ""))
+                    self.assertIn(said, done.stderr)
+
+    def test_without_hypothesis(self) -> None:
+        code = "import sys; sys.modules['hypothesis'] = None; sys.argv[1:] = ['cat']; from pidtab.compare import main; main()"
+        done = subprocess.run([sys.executable, "-B", "-c", code], cwd=PACKAGE, capture_output=True, text=True, check=False)
+        self.assertEqual((done.returncode, done.stdout), (2, ""))
+        self.assertIn("pidtab.testing needs Hypothesis: ", done.stderr)
+
+
+class Parts(unittest.TestCase):
+    """What the kit is made of."""
+
+    def test_what_agrees(self) -> None:
+        limited, forked = "EAGAIN pids-limit 4", "child 2 root 3"
+        for yours, pidtab in [("ok", "ok"), ("EAGAIN", limited), ("EAGAIN pids-limit", limited), ("child 2", forked)]:
+            self.assertTrue(agree(yours, pidtab), yours)
+        for yours, pidtab in [("3", "3 2"), ("E", limited), ("child", forked), ("reaped 2", "reaped 2 exit 0"), (limited, "EAGAIN")]:
+            self.assertFalse(agree(yours, pidtab), yours)
+
+    def test_each_form_has_a_method_of_pidtab(self) -> None:
+        self.assertEqual([" ".join(form.words) for form in ALL_FORMS.values()], list(FORMS))
+        need_library()
+        with Table() as table:
+            for form in ALL_FORMS.values():
+                self.assertTrue(method_of(form.line([1] * len(form.kinds))).fits(table), form.name)
+
+    def test_the_forms_of_an_object(self) -> None:
+        self.assertEqual([form.name for form in ObjectPeer(Toy()).forms()], TOY_CALLS)
+
+    def test_names_of_calls(self) -> None:
+        self.assertEqual([form.name for form in select_forms(["limit", "subreaper", "wait own"])], ["limit", "subreaper on", "subreaper off", "wait own"])
+        with self.assertRaisesRegex(ValueError, "no call 'frok': the calls are fork, "):
+            select_forms(["frok"])
+        with self.assertRaises(TypeError):
+            select_forms("fork")
+
+    def test_a_call_that_is_left_out(self) -> None:
+        toy = Toy()
+        toy.exec = mock.Mock(side_effect=NotImplementedError)  # type: ignore[method-assign]
+        with self.assertRaises(LeftOut):
+            ObjectPeer(toy).answer("exec 1")
+
+    def test_nothing_to_compare(self) -> None:
+        with self.assertRaisesRegex(ValueError, "^nothing to compare"):
+            testing.machine(object)
+        with self.assertRaisesRegex(TypeError, "what is compared is a class"):
+            testing.machine(5)  # type: ignore[arg-type]
+
+    def test_a_strategy_for_other_machines(self) -> None:
+        need_library()
+        seen: set[str] = set()
+        with Table() as table:
+            table.answers(["fork 1 new", "fork 2", "mk 0"])
+            sight = Sight(table.list())
+
+            @settings(max_examples=300, database=None, derandomize=True)
+            @given(testing.calls())
+            def aim(call: Aimed) -> None:
+                line = call.line(sight)
+                self.assertIsNone(judge(line.encode()), line)
+                seen.add(call.form)
+
+            aim()
+        self.assertEqual(seen, set(ALL_FORMS))
+
+
+if __name__ == "__main__":
+    unittest.main()
