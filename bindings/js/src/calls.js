@@ -111,25 +111,31 @@ export class Ask extends Queries {
 }
 
 export class Calls extends Queries {
-  _answer(text) {
-    const instance = this._open();
+  /** The status of the line, whose answer is in the instance then. */
+  _asked(instance, text) {
     const status = this._line(instance, instance.writeLine(checkLine(text)));
     if (status !== STATUS.DONE && !NOT_MADE[status]) throw faultOf(status, shorten(text));
-    return NOT_MADE[status] ?? instance.answer();
+    return status;
   }
 
   /** The answer, of a call that was made. */
   _answerOfCall(text) {
-    const answer = this._answer(text);
-    const status = Object.keys(NOT_MADE).find((it) => NOT_MADE[it] === answer);
-    if (status) throw faultOf(Number(status), shorten(text));
-    return answer;
+    const instance = this._open();
+    const status = this._asked(instance, text);
+    if (status !== STATUS.DONE) throw faultOf(status, shorten(text));
+    return instance.answer();
+  }
+
+  _answer(text) {
+    const instance = this._open();
+    const status = this._asked(instance, text);
+    return status === STATUS.DONE ? instance.answer() : NOT_MADE[status];
   }
 
   line(text) {
     const answer = this._answerOfCall(text);
-    const refusal = readRefusal(text, answer);
-    if (refusal) throw refusal;
+    // No other answer begins so: all others are lower case or digits.
+    if (answer.startsWith("E")) throw readRefusal(text, answer);
     return answer;
   }
 

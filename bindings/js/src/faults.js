@@ -76,12 +76,11 @@ export function wordOf(number, id) {
   return [word, WITH_ID.includes(word) ? id : null];
 }
 
-/** The refusal that an answer to a line is, or null for any other answer. */
+/** The refusal that an answer to a line is. */
 export function readRefusal(line, answer) {
   const [code, word, id] = answer.split(" ");
-  // No other answer begins so: all others are lower case or digits.
-  const found = Object.entries(ERRNOS).find(([, name]) => name === code);
-  return found ? new Refusal(Number(found[0]), word, id === undefined ? null : BigInt(id), shorten(line)) : null;
+  const [errno] = Object.entries(ERRNOS).find(([, name]) => name === code);
+  return new Refusal(Number(errno), word, id === undefined ? null : BigInt(id), shorten(line));
 }
 
 /** What a status other than done stands for. */

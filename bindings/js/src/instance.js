@@ -5,6 +5,7 @@ import { CALL, STATUS } from "./header.js";
 
 const PLACES = ["call", "reply", "task", "fault", "numbers", "size", "line", "answer"];
 const LINE_ROOM = 208;
+const MOST_ASCII = 127;
 
 /** No answer is longer. */
 export const ANSWER_ROOM = 362;
@@ -31,7 +32,8 @@ function placesOf(exports) {
 export class Instance {
   /** The functions on a record have names that begin with `record_`. */
   constructor(prefix) {
-    this.exports = new WebAssembly.Instance(compiled, {}).exports;
+    // A copy, as it is quicker to look up names in.
+    this.exports = { ...new WebAssembly.Instance(compiled, {}).exports };
     this.memory = this.exports.memory;
     this.at = placesOf(this.exports);
     for (const name of ["load", "ask", "stat", "list", "dump"]) this[name] = this.exports[`${prefix}${name}`];
@@ -87,7 +89,15 @@ export class Instance {
   /** Writes a line: its length. One that is longer than all lines fills more than these have. */
   writeLine(text) {
     this.refresh();
-    return encoder.encodeInto(text, this.bytes.subarray(this.at.line.byte, this.at.line.byte + LINE_ROOM)).written;
+    const { bytes } = this;
+    const at = this.at.line.byte;
+    const length = Math.min(text.length, LINE_ROOM);
+    for (let place = 0; place < length; place++) {
+      const code = text.charCodeAt(place);
+      if (code > MOST_ASCII) return encoder.encodeInto(text, bytes.subarray(at, at + LINE_ROOM)).written;
+      bytes[at + place] = code;
+    }
+    return length;
   }
 
   /** The text at an address, of the size that the module has told last. */
@@ -96,8 +106,14 @@ export class Instance {
     return decoder.decode(this.bytes.subarray(address, address + this.words[this.at.size.word]));
   }
 
+  /** An answer is short, so its letters are put together one by one. */
   answer() {
-    return this.textAt(this.at.answer.byte);
+    this.refresh();
+    const at = this.at.answer.byte;
+    const end = at + this.words[this.at.size.word];
+    let text = "";
+    for (let place = at; place < end; place++) text += String.fromCharCode(this.bytes[place]);
+    return text;
   }
 
   /** The call that was made last, as a line. */

@@ -5,21 +5,31 @@ import { wordOf } from "./faults.js";
 
 const long = (longs, at, field) => longs[(at + field) / 2];
 
+const LIVES = { status: null, killed: false };
+
 /** The status of an ended child or task, which is null where the fall of its namespace killed it. */
 function ending(status) {
   return status === KILLED ? { status: null, killed: true } : { status, killed: false };
+}
+
+/** So many words from a place on. */
+function numbersAt(words, at, count) {
+  const numbers = [];
+  for (let place = 0; place < count; place++) numbers.push(words[at + place]);
+  return numbers;
 }
 
 export const nothing = () => undefined;
 export const aNumber = ({ words }, at) => words[at + REPLY.first];
 export const anId = ({ longs }, at) => long(longs, at, REPLY.first);
 export const aChild = ({ words }, at) => ({ child: words[at + REPLY.first], root: words[at + REPLY.second] });
-export const theNumbers = ({ words }, at) => [...words.subarray(at + REPLY.levels, at + REPLY.levels + words[at + REPLY.count])];
+export const theNumbers = ({ words }, at) => numbersAt(words, at + REPLY.levels, words[at + REPLY.count]);
 export const theNext = ({ words }, at) => (words[at + REPLY.kind] === KIND.END ? null : words[at + REPLY.first]);
 
 export function anEndedChild({ words }, at) {
   if (words[at + REPLY.kind] === KIND.NONE_YET) return null;
-  return { child: words[at + REPLY.first], ...ending(words[at + REPLY.second]) };
+  const { status, killed } = ending(words[at + REPLY.second]);
+  return { child: words[at + REPLY.first], status, killed };
 }
 
 /** The word, and the id that may be behind it, of a reply or of a task that is refused. */
@@ -29,19 +39,20 @@ export function refusalAt({ words, longs }, at) {
 
 /** A task as a namespace sees it. */
 export function aTask({ words, longs }, at) {
-  const word = (field) => words[at + TASK[field]];
-  const live = word("ended") === 0;
+  const live = words[at + TASK.ended] === 0;
+  const { status, killed } = live ? LIVES : ending(words[at + TASK.status]);
   return {
-    numbers: [...words.subarray(at + TASK.levels, at + TASK.levels + word("count"))],
-    parent: word("parent"),
-    group: word("group"),
-    session: word("session"),
+    numbers: numbersAt(words, at + TASK.levels, words[at + TASK.count]),
+    parent: words[at + TASK.parent],
+    group: words[at + TASK.group],
+    session: words[at + TASK.session],
     space: long(longs, at, TASK.space),
     control: long(longs, at, TASK.control),
     live,
-    ...(live ? { status: null, killed: false } : ending(word("status"))),
-    executed: word("executed") === 1,
-    subreaper: word("subreaper") === 1,
+    status,
+    killed,
+    executed: words[at + TASK.executed] === 1,
+    subreaper: words[at + TASK.subreaper] === 1,
   };
 }
 
