@@ -166,6 +166,26 @@ uninstall: ## removes what these have installed, with the same variables
 	rm -f $(call MANUALS,1) $(call MANUALS,3) $(call MANUALS,5) $(foreach it,$(FUNCTIONS),'$(DESTDIR)$(MANDIR)/man3/$(it).3')
 	rm -rf '$(DESTDIR)$(PYTHONDIR)/pidtab' '$(SHARED_FILES)'
 
+.PHONY: machines machines-test
+
+# What the checker proves for each target, which other machines are compiled of. What the tools say is in out/machines.log.
+TARGETS = x86_64-unknown-linux-gnu aarch64-unknown-linux-gnu
+machines: js ## * proves and builds for aarch64, riscv64, and any Linux by musl, into out/machines (15 minutes); what has no compiler here is skipped
+	@mkdir -p out/machines
+	@{ for target in $(TARGETS); do for crate in pidtab pidtab_c; do tools/module $$target $$crate || exit 1; done; done && \
+		for it in $$(packaging/machine names); do \
+			tools/report out/machines/$$it.txt $(foreach file,pidtab libpidtab.a libpidtab.so.1,out/machines/$$it/$(file)) -- packaging/machine build $$it || exit 1; done && \
+		packaging/machine source && \
+		tools/report out/machines/source.txt out/machines/source/pidtab.[Sc] -- grep '^logic=' $(TARGETS:%=out/module/%/pidtab_c.verdict); } > out/machines.log 2>&1 \
+		|| { echo 'make machines failed: see out/machines.log' >&2; exit 1; }
+	@packaging/machine names > /dev/null
+
+# By emulators. A machine that is not built is skipped.
+machines-test: built ## tests what `make machines` has built, by qemu where that is another machine (some 15 minutes)
+	@for it in $$(packaging/machine names 2> /dev/null); do \
+		if test -d out/machines/$$it; then PIDTAB='$(abspath $(PIDTAB))' packaging/machine test $$it || exit 1; else echo "$$it is skipped: it is not built"; fi; done
+	@if test -e out/machines/source/pidtab.c; then PIDTAB='$(abspath $(PIDTAB))' packaging/machine test source; else echo 'pidtab.c is skipped: it is not built'; fi
+
 .PHONY: dist dist-test
 
 # FORCE=1 makes a release of what is not proved, which says so.
@@ -267,9 +287,11 @@ SAVED_FILE_TEST = test_saved_file saved shared guard_record
 SAVED_THREADS_TEST = test_saved_threads saved saved_file shared guard_record heap
 SAVER_TEST = test_saver saved saved_file shared guard_record heap
 DEVICES = -Dread=test_read -Dwrite=test_write
+# What is the same for each machine.
+SAME_EVERYWHERE = bindings/c/test_names && tools/guard --check && bindings/c/test_guard
 bindings-c:
 	$(call tested,$(firstword $(CC)),$(LIBRARY),\
-		bindings/c/test_names && tools/guard --check && bindings/c/test_guard && $(MAKE) -s $(OUT)/proved.a && \
+		$(SAME_EVERYWHERE) && $(MAKE) -s $(OUT)/proved.a && \
 		$(CC) $(CHECKED) $(HELD) -c -o $(OUT)/test_heap.o bindings/c/heap.c && \
 		$(CC) $(CHECKED) -o $(OUT)/test bindings/c/test.c bindings/c/guard.c $(OUT)/test_heap.o $(OUT)/proved.a && $(RUN) $(OUT)/test && \
 		$(CC) $(CHECKED) -o $(OUT)/test_words bindings/c/test_words.c bindings/c/guard.c bindings/c/heap.c $(OUT)/proved.a && $(RUN) $(OUT)/test_words && \
