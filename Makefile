@@ -13,6 +13,10 @@ SCRIPT ?= examples/first.script
 # The built program: where `make build` leaves it, or what the variable PIDTAB names.
 PIDTAB ?= crates/pidtab/out/pidtab
 
+# Where the library is made, and what runs a test of it: packaging/machine has others for other machines.
+OUT = out
+RUN =
+
 # What cannot go on without the toolchain says so.
 define need_rt
 @command -v rt > /dev/null || { echo 'The Rattle toolchain (its command is `rt`) is not on the PATH: it proves and compiles this repository.' \
@@ -162,6 +166,26 @@ uninstall: ## removes what these have installed, with the same variables
 	rm -f $(call MANUALS,1) $(call MANUALS,3) $(call MANUALS,5) $(foreach it,$(FUNCTIONS),'$(DESTDIR)$(MANDIR)/man3/$(it).3')
 	rm -rf '$(DESTDIR)$(PYTHONDIR)/pidtab' '$(SHARED_FILES)'
 
+.PHONY: machines machines-test
+
+# What the checker proves for each target, which other machines are compiled of. What the tools say is in out/machines.log.
+TARGETS = x86_64-unknown-linux-gnu aarch64-unknown-linux-gnu
+machines: js ## * proves and builds for aarch64, riscv64, and any Linux by musl, into out/machines (15 minutes); what has no compiler here is skipped
+	@mkdir -p out/machines
+	@{ for target in $(TARGETS); do for crate in pidtab pidtab_c; do tools/module $$target $$crate || exit 1; done; done && \
+		for it in $$(packaging/machine names); do \
+			tools/report out/machines/$$it.txt $(foreach file,pidtab libpidtab.a libpidtab.so.1,out/machines/$$it/$(file)) -- packaging/machine build $$it || exit 1; done && \
+		packaging/machine source && \
+		tools/report out/machines/source.txt out/machines/source/pidtab.[Sc] -- grep '^logic=' $(TARGETS:%=out/module/%/pidtab_c.verdict); } > out/machines.log 2>&1 \
+		|| { echo 'make machines failed: see out/machines.log' >&2; exit 1; }
+	@packaging/machine names > /dev/null
+
+# By emulators. A machine that is not built is skipped.
+machines-test: built ## tests what `make machines` has built, by qemu where that is another machine (some 15 minutes)
+	@for it in $$(packaging/machine names 2> /dev/null); do \
+		if test -d out/machines/$$it; then PIDTAB='$(abspath $(PIDTAB))' packaging/machine test $$it || exit 1; else echo "$$it is skipped: it is not built"; fi; done
+	@if test -e out/machines/source/pidtab.c; then PIDTAB='$(abspath $(PIDTAB))' packaging/machine test source; else echo 'pidtab.c is skipped: it is not built'; fi
+
 .PHONY: dist dist-test
 
 # FORCE=1 makes a release of what is not proved, which says so.
@@ -192,22 +216,22 @@ lib: ## * proves and builds the library for C, with its header, in out/ (some 40
 	@tools/report out/library.txt out/libpidtab.a out/libpidtab.so.1
 
 # The proved functions by other names, under which guard.c and guard_record.c call them.
-out/proved.a: $(LIBRARY) bindings/c/renamed.syms
+$(OUT)/proved.a: $(LIBRARY) bindings/c/renamed.syms
 	$(OBJCOPY) --redefine-syms=bindings/c/renamed.syms $(LIBRARY) $@
 
 # One object, of whose symbols only pidtab_.. are seen.
 AROUND = heap guard guard_record shared saved saved_file
-out/pidtab.o: out/proved.a $(AROUND:%=bindings/c/%.c) $(HEADERS:%=bindings/c/%)
-	for it in $(AROUND); do $(CC) -std=c11 -O2 -Wall -Wextra -Werror -fPIC -pthread -c -o out/$$it.o bindings/c/$$it.c || exit 1; done
-	$(LD) -r -o $@ --whole-archive out/proved.a --no-whole-archive $(AROUND:%=out/%.o)
+$(OUT)/pidtab.o: $(OUT)/proved.a $(AROUND:%=bindings/c/%.c) $(HEADERS:%=bindings/c/%)
+	for it in $(AROUND); do $(CC) -std=c11 -O2 -Wall -Wextra -Werror -fPIC -pthread -c -o $(OUT)/$$it.o bindings/c/$$it.c || exit 1; done
+	$(LD) -r -o $@ --whole-archive $(OUT)/proved.a --no-whole-archive $(AROUND:%=$(OUT)/%.o)
 	$(OBJCOPY) -w --keep-global-symbol='pidtab_*' $@
 
-out/libpidtab.a: out/pidtab.o
+$(OUT)/libpidtab.a: $(OUT)/pidtab.o
 	rm -f $@
-	$(AR) rcs $@ out/pidtab.o
+	$(AR) rcs $@ $(OUT)/pidtab.o
 
-out/libpidtab.so.1: out/pidtab.o bindings/c/pidtab.map
-	$(CC) -shared -pthread -Wl,-soname,libpidtab.so.1 -Wl,--version-script=bindings/c/pidtab.map -Wl,-z,noexecstack -o $@ out/pidtab.o
+$(OUT)/libpidtab.so.1: $(OUT)/pidtab.o bindings/c/pidtab.map
+	$(CC) -shared -pthread -Wl,-soname,libpidtab.so.1 -Wl,--version-script=bindings/c/pidtab.map -Wl,-z,noexecstack -o $@ $(OUT)/pidtab.o
 
 .PHONY: box box-test box-bench
 
@@ -230,17 +254,17 @@ box-test: box ## runs real programs in the box and in the kernel's namespaces, a
 box-bench: box ## times builds and single calls natively, in the box, under strace and under proot (a minute)
 	@box/tests/bench
 
-.PHONY: bindings bindings-python bindings-c bindings-rust bindings-go
+.PHONY: bindings bindings-python bindings-c bindings-rust bindings-go bindings-js package
 
 # Over what `make build` and `make lib` have built.
-bindings: bindings-python bindings-c bindings-rust bindings-go ## tests the ways in for Python, C, Rust and Go; what is not there is skipped with a word
+bindings: bindings-python bindings-c bindings-rust bindings-go bindings-js ## tests the ways in for Python, C, Rust, Go and JavaScript; what is not there is skipped with a word
 
 # A command's tests, if the command and the file that they need are there. What they say is in a log, which is named where they fail.
 define tested
-@mkdir -p out
+@mkdir -p $(OUT)
 @if ! command -v '$(1)' > /dev/null; then echo '$@: skipped: no $(1)'; \
 elif ! test -e '$(2)'; then echo '$@: skipped: no $(2)'; \
-elif ! { $(3); } > out/$@.log 2>&1; then echo 'make $@ failed: see out/$@.log' >&2; exit 1; fi
+elif ! { $(3); } > $(OUT)/$@.log 2>&1; then echo 'make $@ failed: see $(OUT)/$@.log' >&2; exit 1; fi
 endef
 
 # By the program and by the library; the tests of one that is not there are skipped.
@@ -263,24 +287,26 @@ SAVED_FILE_TEST = test_saved_file saved shared guard_record
 SAVED_THREADS_TEST = test_saved_threads saved saved_file shared guard_record heap
 SAVER_TEST = test_saver saved saved_file shared guard_record heap
 DEVICES = -Dread=test_read -Dwrite=test_write
+# What is the same for each machine.
+SAME_EVERYWHERE = bindings/c/test_names && tools/guard --check && bindings/c/test_guard
 bindings-c:
 	$(call tested,$(firstword $(CC)),$(LIBRARY),\
-		bindings/c/test_names && tools/guard --check && bindings/c/test_guard && $(MAKE) -s out/proved.a && \
-		$(CC) $(CHECKED) $(HELD) -c -o out/test_heap.o bindings/c/heap.c && \
-		$(CC) $(CHECKED) -o out/test bindings/c/test.c bindings/c/guard.c out/test_heap.o out/proved.a && out/test && \
-		$(CC) $(CHECKED) -o out/test_words bindings/c/test_words.c bindings/c/guard.c bindings/c/heap.c out/proved.a && out/test_words && \
-		$(CC) $(CHECKED) -o out/test_record $(RECORD_TEST:%=bindings/c/%.c) out/test_heap.o out/proved.a && out/test_record && \
-		$(CC) $(CHECKED) -o out/test_dump $(DUMP_TEST:%=bindings/c/%.c) out/test_heap.o out/proved.a && out/test_dump && \
-		$(CC) $(CHECKED) -o out/test_dump_record $(DUMP_RECORD_TEST:%=bindings/c/%.c) out/test_heap.o out/proved.a && out/test_dump_record && \
-		$(CC) $(THREADED) $(HELD) -Dfree=test_free -c -o out/held_heap.o bindings/c/heap.c && \
-		$(CC) $(THREADED) -o out/test_threads $(THREADS_TEST:%=bindings/c/%.c) out/held_heap.o out/proved.a && out/test_threads && \
+		$(SAME_EVERYWHERE) && $(MAKE) -s $(OUT)/proved.a && \
+		$(CC) $(CHECKED) $(HELD) -c -o $(OUT)/test_heap.o bindings/c/heap.c && \
+		$(CC) $(CHECKED) -o $(OUT)/test bindings/c/test.c bindings/c/guard.c $(OUT)/test_heap.o $(OUT)/proved.a && $(RUN) $(OUT)/test && \
+		$(CC) $(CHECKED) -o $(OUT)/test_words bindings/c/test_words.c bindings/c/guard.c bindings/c/heap.c $(OUT)/proved.a && $(RUN) $(OUT)/test_words && \
+		$(CC) $(CHECKED) -o $(OUT)/test_record $(RECORD_TEST:%=bindings/c/%.c) $(OUT)/test_heap.o $(OUT)/proved.a && $(RUN) $(OUT)/test_record && \
+		$(CC) $(CHECKED) -o $(OUT)/test_dump $(DUMP_TEST:%=bindings/c/%.c) $(OUT)/test_heap.o $(OUT)/proved.a && $(RUN) $(OUT)/test_dump && \
+		$(CC) $(CHECKED) -o $(OUT)/test_dump_record $(DUMP_RECORD_TEST:%=bindings/c/%.c) $(OUT)/test_heap.o $(OUT)/proved.a && $(RUN) $(OUT)/test_dump_record && \
+		$(CC) $(THREADED) $(HELD) -Dfree=test_free -c -o $(OUT)/held_heap.o bindings/c/heap.c && \
+		$(CC) $(THREADED) -o $(OUT)/test_threads $(THREADS_TEST:%=bindings/c/%.c) $(OUT)/held_heap.o $(OUT)/proved.a && $(RUN) $(OUT)/test_threads && \
 		for sanitizer in '$(CHECKED)' '$(THREADED)'; do \
-			$(CC) $$sanitizer -o out/test_shared $(SHARED_TEST:%=bindings/c/%.c) out/proved.a && out/test_shared && \
-			$(CC) $$sanitizer -o out/test_saved_threads $(SAVED_THREADS_TEST:%=bindings/c/%.c) out/proved.a && out/test_saved_threads && \
-			$(CC) $$sanitizer -o out/test_saver $(SAVER_TEST:%=bindings/c/%.c) out/proved.a && out/test_saver || exit 1; done && \
-		$(CC) $(CHECKED) -o out/test_saved $(SAVED_TEST:%=bindings/c/%.c) out/proved.a && out/test_saved && \
-		$(CC) $(CHECKED) $(DEVICES) -c -o out/test_devices.o bindings/c/saved_file.c && \
-		$(CC) $(CHECKED) -o out/test_saved_file $(SAVED_FILE_TEST:%=bindings/c/%.c) out/test_heap.o out/test_devices.o out/proved.a && out/test_saved_file)
+			$(CC) $$sanitizer -o $(OUT)/test_shared $(SHARED_TEST:%=bindings/c/%.c) $(OUT)/proved.a && $(RUN) $(OUT)/test_shared && \
+			$(CC) $$sanitizer -o $(OUT)/test_saved_threads $(SAVED_THREADS_TEST:%=bindings/c/%.c) $(OUT)/proved.a && $(RUN) $(OUT)/test_saved_threads && \
+			$(CC) $$sanitizer -o $(OUT)/test_saver $(SAVER_TEST:%=bindings/c/%.c) $(OUT)/proved.a && $(RUN) $(OUT)/test_saver || exit 1; done && \
+		$(CC) $(CHECKED) -o $(OUT)/test_saved $(SAVED_TEST:%=bindings/c/%.c) $(OUT)/proved.a && $(RUN) $(OUT)/test_saved && \
+		$(CC) $(CHECKED) $(DEVICES) -c -o $(OUT)/test_devices.o bindings/c/saved_file.c && \
+		$(CC) $(CHECKED) -o $(OUT)/test_saved_file $(SAVED_FILE_TEST:%=bindings/c/%.c) $(OUT)/test_heap.o $(OUT)/test_devices.o $(OUT)/proved.a && $(RUN) $(OUT)/test_saved_file)
 
 bindings-rust:
 	$(call tested,cargo,out/libpidtab.a,cd bindings/rust && cargo test --offline --quiet)
@@ -289,6 +315,14 @@ bindings-rust:
 bindings-go:
 	$(call tested,go,out/libpidtab.a,export CGO_CFLAGS="-DHEADER_$$(cat $(HEADERS:%=out/%) | cksum | cut -d ' ' -f 1)" && \
 		cd bindings/go && go vet ./... && { ! gofmt -l . | grep .; } && go test -count=1 ./...)
+
+# The package of the sources as they are, beside its built module.
+package:
+	@rm -rf $(PACKAGE)/src && mkdir -p $(PACKAGE)
+	@cp -R bindings/js/package.json bindings/js/README.md bindings/js/pidtab.js bindings/js/pidtab.d.ts bindings/js/src LICENSE $(PACKAGE)
+
+bindings-js: package
+	$(call tested,node,$(PACKAGE)/pidtab.wasm,node --test --test-reporter=tap bindings/js/tests/*.test.js)
 
 .PHONY: replicated
 
@@ -334,11 +368,21 @@ install-service: ## installs the built pidtabd with its units and its manual pag
 	sed -i 's|^ExecStart=/usr/sbin/|ExecStart=$(PREFIX)/sbin/|' '$(DESTDIR)$(UNITS)/pidtabd.service'
 	$(INSTALL) -m 644 man/*.8 '$(DESTDIR)$(MANDIR)/man8'
 
+.PHONY: js
+
+# The proved table as WebAssembly, in a package, over the crates below the library for C. What the tools say is in out/js.log.
+PACKAGE = out/js
+js: lib ## * builds the package for JavaScript, out/js, and first what `make lib` does (3 minutes behind that)
+	@{ tools/module x86_64-unknown-linux-gnu pidtab_c && bindings/js/wasm/build; } > out/js.log 2>&1 || { echo 'make js failed: see out/js.log' >&2; exit 1; }
+	@$(MAKE) -s package
+	@tools/report out/js.txt $(PACKAGE)/pidtab.wasm
+	@echo $(PACKAGE)
+
 .PHONY: page page-test
 
-# The proved table as WebAssembly, and what is around it, over the crates below the library for C. What the tools say is in out/page.log.
-page: lib ## * builds the page in the browser, out/page/pidtab.html, and first what `make lib` does (6 minutes behind that)
-	@{ page/wasm/build && page/build; } > out/page.log 2>&1 || { echo 'make page failed: see out/page.log' >&2; exit 1; }
+# The page in the browser, over the same module. What the tools say is in out/page.log.
+page: js ## * builds the page in the browser, out/page/pidtab.html, and first what `make js` does
+	@page/build > out/page.log 2>&1 || { echo 'make page failed: see out/page.log' >&2; exit 1; }
 	@tools/report out/page.txt out/page/pidtab.html
 	@echo out/page/pidtab.html
 

@@ -1,69 +1,37 @@
-// The list of a table, as `pidtab list` writes it (docs/SCRIPT.md, "The list").
-//
-// Numbers of processes are numbers. Ids of namespaces and control groups are the words of the list: they go up to 2^64 - 1.
+// The list of a table as the page draws it: the rows of bindings/js, each with its kind, its line, and its ids as words, which name elements of the page.
 
-const TASK = new RegExp(
-  "^task (?<numbers>\\d+(?:,\\d+)*) space (?<space>\\d+) parent (?<parent>\\d+) group (?<group>\\d+) session (?<session>\\d+)" +
-    " control (?<control>\\d+) (?<life>live|killed|exit (?<status>\\d+))" +
-    "(?<executed> executed)?(?: children (?<children>\\d+))?(?<subreaper> subreaper)?$",
-);
-const SPACE = /^space (?<id>\d+) parent (?<parent>-|\d+) cursor (?<cursor>\d+)(?<fallen> fallen)?$/;
-const CONTROL = /^control (?<id>\d+) parent (?<parent>-|\d+) limit (?<limit>max|\d+) count (?<count>\d+)$/;
+import { readListing } from "../bindings/js/src/listing.js";
 
-/** The word, but null for the one that stands for none. */
-function unless(word, none) {
-  return word === undefined || word === none ? null : word;
+/** The id as a word, but null where there is none. */
+function word(id) {
+  return id === null ? null : String(id);
 }
 
-function readTask(line) {
-  const found = TASK.exec(line)?.groups;
-  if (!found) return null;
-  const numbers = found.numbers.split(",").map(Number);
-  return {
-    kind: "task",
-    id: String(numbers[0]),
-    line,
-    numbers,
-    root: numbers[0],
-    own: numbers.at(-1),
-    space: found.space,
-    parent: Number(found.parent),
-    group: Number(found.group),
-    session: Number(found.session),
-    control: found.control,
-    live: found.life === "live",
-    status: found.status === undefined ? null : Number(found.status),
-    executed: found.executed !== undefined,
-    children: unless(found.children),
-    subreaper: found.subreaper !== undefined,
-  };
+function pageTask(task, line) {
+  const { numbers, root, space, control, children } = task;
+  const ids = { id: String(root), space: word(space), control: word(control), children: word(children) };
+  return { kind: "task", line, own: numbers.at(-1), ...task, ...ids };
 }
 
-function readSpace(line) {
-  const found = SPACE.exec(line)?.groups;
-  if (!found) return null;
-  const { id, cursor } = found;
-  return { kind: "space", id, line, parent: unless(found.parent, "-"), cursor: Number(cursor), fallen: found.fallen !== undefined };
+function pageSpace(space, line) {
+  return { kind: "space", line, ...space, id: word(space.id), parent: word(space.parent) };
 }
 
-function readControl(line) {
-  const found = CONTROL.exec(line)?.groups;
-  if (!found) return null;
-  const { id, count } = found;
-  const limit = unless(found.limit, "max");
-  return { kind: "control", id, line, parent: unless(found.parent, "-"), limit: limit && Number(limit), count: Number(count) };
+function pageControl(control, line) {
+  return { kind: "control", line, ...control, id: word(control.id), parent: word(control.parent) };
 }
 
 /** What the text of a list says; an Error names the first line that is none of a list. */
 export function readList(text) {
-  if (text === "") throw new Error("line 1: no list");
+  const { tasks, spaces, controls } = readListing(text);
   const lines = text.split("\n");
-  if (lines.pop() !== "") throw new Error(`line ${lines.length + 1}: cut off, without a newline`);
-  const rows = lines.map((line, place) => {
-    const row = readTask(line) ?? readSpace(line) ?? readControl(line);
-    if (!row) throw new Error(`line ${place + 1}: not a line of a list`);
-    return row;
-  });
-  const those = (kind) => rows.filter((row) => row.kind === kind);
-  return { tasks: those("task"), spaces: those("space"), controls: those("control") };
+  const withLines = (rows, kind, rowOf) => {
+    const those = lines.filter((line) => line.startsWith(`${kind} `));
+    return rows.map((row, place) => rowOf(row, those[place]));
+  };
+  return {
+    tasks: withLines(tasks, "task", pageTask),
+    spaces: withLines(spaces, "space", pageSpace),
+    controls: withLines(controls, "control", pageControl),
+  };
 }

@@ -7,11 +7,11 @@ import { whyBad } from "./language.js";
 import { hashOf, scriptOf } from "./link.js";
 import { readList } from "./list.js";
 import { kindOf, lineAt, linesOf, MOST_LINES, Player } from "./play.js";
-import { newTable } from "./table.js";
+import { PlayedTable } from "./table.js";
 import { kindOfText, listOfText } from "./text.js";
+import { GREATEST_PID_MAX, LEAST_PID_MAX } from "../bindings/js/src/header.js";
+import { useModule } from "../bindings/js/src/instance.js";
 
-const LEAST_PID_MAX = 301;
-const GREATEST_PID_MAX = 4194304;
 const LEAST_ROWS = 8;
 // A script of more lines is played once nobody has typed for so many milliseconds.
 const SHORT_SCRIPT = 500;
@@ -42,13 +42,17 @@ const shown = {
 };
 // A script of one's own, which stays while an example is shown.
 const own = { script: "", pidMax: "32768" };
-let module;
 let player;
 let waiting;
 
 function compileModule() {
   const text = atob(find("module").textContent.trim());
   return WebAssembly.compile(Uint8Array.from(text, (byte) => byte.charCodeAt(0)));
+}
+
+/** A player over tables of their own. */
+function newPlayer() {
+  return new Player((pidMax) => new PlayedTable({ pidMax }));
 }
 
 /** The bound that the field says, or null where it is out of range. */
@@ -73,7 +77,7 @@ function guarded(work) {
   try {
     work(bound);
   } catch (fault) {
-    player = new Player(newTable(module));
+    player = newPlayer();
     sayFault(`The table stopped: ${fault.message}.`);
   }
 }
@@ -371,8 +375,8 @@ function listen() {
 async function begin() {
   fields.example.append(...examples.map(({ name }) => make("option", { value: name }, name)));
   try {
-    module = await compileModule();
-    player = new Player(newTable(module));
+    useModule(await compileModule());
+    player = newPlayer();
   } catch (fault) {
     return sayFault(`This browser does not run the table (${fault.message}). It needs WebAssembly.`);
   }

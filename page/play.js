@@ -26,9 +26,9 @@ function commonLines(one, other) {
 
 /** Plays a script over a table, and shows the table around any of its lines. What was played before is not played again. */
 export class Player {
-  constructor(table) {
-    this.table = table;
-    this.blank = table.save();
+  /** A table with a bound is opened by the function. */
+  constructor(openTable) {
+    this.openTable = openTable;
     this.forget(null);
   }
 
@@ -45,8 +45,7 @@ export class Player {
   /** A new table, which is the state before the first line. */
   begin(pidMax) {
     this.forget(null);
-    this.table.restore(this.blank);
-    this.table.open(pidMax);
+    this.table = this.openTable(pidMax);
     this.forget(pidMax);
     this.place = 0;
     this.keep();
@@ -67,9 +66,9 @@ export class Player {
   /** The list before and after one of the lines, which are counted from 1; the list after line 0 is that of a new table. */
   listsAround(place) {
     this.goTo(Math.max(place - 1, 0));
-    const before = place > 0 ? this.table.list() : null;
+    const before = place > 0 ? this.table.listText() : null;
     this.goTo(place);
-    return { before, after: this.table.list() };
+    return { before, after: this.table.listText() };
   }
 
   /** Has the table be that after the line, from the nearest state before it. */
@@ -87,14 +86,14 @@ export class Player {
     const at = this.place;
     // Where the table stops, it is that of no line.
     this.place = -1;
-    this.answers[at] = this.table.line(this.lines[at]);
+    this.answers[at] = this.table.answerTo(this.lines[at]);
     this.place = at + 1;
     if (this.place % KEPT_EVERY === 0 && !this.states.has(this.place)) this.keep();
   }
 
   keep() {
     const state = this.table.save();
-    if ((this.states.size + 1) * state.size > MOST_KEPT) return;
+    if ((this.states.size + 1) * state.byteLength > MOST_KEPT) return;
     this.states.set(this.place, state);
   }
 }

@@ -1,8 +1,11 @@
-//! Finds the library: in the folder that PIDTAB_LIB_DIR names; where none is named, in out/ of the repository, where `make lib` builds it, or
-//! else where pkg-config finds an installed one. Where there is none it warns, and links what is not there: so all works but linking.
+//! Finds the library: in the folder that PIDTAB_LIB_DIR names; where none is named, in out/ of the repository, where `make lib` builds it. A release
+//! builds it of its sources. Else it is where pkg-config finds an installed one. Where there is none it warns, and links what is not there: so all
+//! works but linking.
 use std::env;
 use std::path::{Path, PathBuf};
 use std::process::Command;
+
+mod source;
 
 fn main() {
     let variables = [
@@ -23,6 +26,9 @@ fn main() {
     );
     if let Some(kind) = kind_in(&folder) {
         return link(&folder, kind);
+    }
+    if named.is_none() && source::build() {
+        return;
     }
     if let Some(installed) = installed().filter(|_| named.is_none()) {
         return link(&installed, "dylib");

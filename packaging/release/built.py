@@ -9,8 +9,16 @@ import sys
 from release import elf
 from release.faults import Fault, run
 from release.files import sha256
+from release.machines import HOST, MACHINES, Machine
 
 ARCHIVE, SHARED = "libpidtab.a", "libpidtab.so.1"
+# What is left out where it is not built: the report on it, and what builds it.
+PARTS = {
+    "page": ("page.txt", "page"),
+    "daemon": ("service.txt", "service"),
+    "module": ("js.txt", "js"),
+    "assembler": ("machines/source.txt", "machines"),
+}
 
 
 def read_report(file, target):
@@ -48,29 +56,44 @@ def check_headers(source, library):
 
 @dataclasses.dataclass
 class Built:
-    """The program, the folder of the library, the page and the daemon if there are these, and the text of GATE.txt."""
+    """What was built for a machine: the program and the folder of the library; where they are built, the page, the daemon, the WebAssembly of the package
+    for JavaScript, and the assembler of the library; and the text of GATE.txt, which all machines have in common."""
 
+    machine: Machine
     program: pathlib.Path
     library: pathlib.Path
-    page: pathlib.Path | None
-    daemon: pathlib.Path | None
-    gate: str
+    gate: str = ""
+    page: pathlib.Path | None = None
+    daemon: pathlib.Path | None = None
+    module: pathlib.Path | None = None
+    assembler: pathlib.Path | None = None
 
     @classmethod
     def find(cls, source, given):
-        """What was built of a source, or a fault."""
+        """What was built of a source, first for this machine and then for others, or a fault."""
         program, library = given.program.resolve(), given.library.resolve()
-        libraries = [library / ARCHIVE, library / SHARED]
-        for path, target in ((program, "test"), (libraries[0], "lib"), (libraries[1], "lib")):
+        more = {name: getattr(given, name).resolve() for name in PARTS if getattr(given, name).is_file()}
+        host = cls(HOST, program, library, **more)
+        found = [host, *(cls(it, given.machines / it.name / "pidtab", given.machines / it.name, page=host.page) for it in MACHINES)]
+        found = [it for it in found if it.machine is HOST or it.program.is_file()]
+        for it in found:
+            it.check(source)
+        reports = [("gate.txt", "test", [program]), ("library.txt", "lib", host.libraries)]
+        reports += [(*PARTS[name], sorted(path.parent.glob("pidtab.[Sc]")) if name == "assembler" else [path]) for name, path in more.items()]
+        reports += [(f"machines/{it.machine.name}.txt", "machines", [it.program, *it.libraries]) for it in found[1:]]
+        gate = gate_text(source, given, reports)
+        return [dataclasses.replace(it, gate=gate) for it in found]
+
+    def check(self, source):
+        """Finds that all files are there, and the headers those of the source."""
+        for path, target in ((self.program, "test"), *((it, "lib") for it in self.libraries)):
             if not path.is_file():
-                raise Fault(f"no {path}: `make {target}` builds it")
-        check_headers(source, library)
-        page = given.page.resolve() if given.page.is_file() else None
-        daemon = given.daemon.resolve() if given.daemon.is_file() else None
-        reports = [("gate.txt", "test", [program]), ("library.txt", "lib", libraries)]
-        reports += [("page.txt", "page", [page])] if page else []
-        reports += [("service.txt", "service", [daemon])] if daemon else []
-        return cls(program, library, page, daemon, gate_text(source, given, reports))
+                raise Fault(f"no {path}: `make {target if self.machine is HOST else 'machines'}` builds it")
+        check_headers(source, self.library)
+
+    @property
+    def libraries(self):
+        return [self.library / ARCHIVE, self.library / SHARED]
 
     @property
     def shared(self):

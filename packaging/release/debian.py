@@ -11,6 +11,7 @@ from release import elf
 from release.built import SHARED, install
 from release.faults import Fault, run
 from release.files import compress, files_below, settle, write_text
+from release.machines import HOST
 from release.tarball import add_pages
 
 PACKAGES = ("pidtab", "libpidtab1", "libpidtab-dev", "python3-pidtab")
@@ -20,7 +21,7 @@ MAIN = "pidtab"
 # Without an address, as long as there is none that is read.
 MAINTAINER = "The pidtab authors"
 INTERPRETER = "#!/usr/bin/python3"
-FOLDERS = {"PREFIX": "/usr", "LIBDIR": "/usr/lib/x86_64-linux-gnu", "PYTHONDIR": "/usr/lib/python3/dist-packages"}
+FOLDERS = {"PREFIX": "/usr", "PYTHONDIR": "/usr/lib/python3/dist-packages"}
 # What `make install` installs and each package has in a place of its own.
 ELSEWHERE = ("usr/share/pidtab/LICENSE",)
 SCRIPTS = ("postinst", "prerm")
@@ -34,6 +35,8 @@ class Maker:
         self.words = source.folder / "packaging/debian"
         self.values = {"VERSION": source.debian_version, "MAINTAINER": MAINTAINER, "NEEDED": built.packages(built.program)}
         self.values["LIBRARYNEEDS"] = built.packages(built.shared)
+        self.values.update(ARCHITECTURE=built.machine.debian, LEVEL=built.machine.level)
+        self.folders = {**FOLDERS, "LIBDIR": f"/usr/lib/{built.machine.multiarch}"}
         self.names = PACKAGES
         if built.daemon:
             self.names += (SERVICE,)
@@ -49,9 +52,9 @@ class Maker:
     def split(self):
         """Installs, and gives each file to the one package whose patterns it has."""
         stage = self.work / "all"
-        install(self.source, self.built, stage, **FOLDERS)
+        install(self.source, self.built, stage, **self.folders)
         if self.built.daemon:
-            install(self.source, self.built, stage, "install-service", **FOLDERS)
+            install(self.source, self.built, stage, "install-service", **self.folders)
         patterns = {name: self.filled(f"{name}.files").split() for name in self.names}
         for file in files_below(stage):
             place = file.relative_to(stage)
@@ -63,6 +66,10 @@ class Maker:
                 target.parent.mkdir(parents=True, exist_ok=True)
                 shutil.move(file, target)
 
+    def architecture(self, name):
+        """For which machines a package is: for this one, or for all."""
+        return re.search(r"^Architecture: (.*)$", self.filled(f"{name}.control", SIZE=""), re.MULTILINE)[1]
+
     def make_package(self, name, parts):
         """Builds one package of its files."""
         tree = self.work / name
@@ -72,7 +79,7 @@ class Maker:
         compress_manuals(tree)
         add_control(self, name, tree)
         settle(tree, self.source.time)
-        architecture = re.search(r"^Architecture: (.*)$", self.filled(f"{name}.control", SIZE=""), re.MULTILINE)[1]
+        architecture = self.architecture(name)
         file = parts / f"{name}_{self.source.debian_version}_{architecture}.deb"
         times = {**os.environ, "SOURCE_DATE_EPOCH": str(self.source.time)}
         run(["dpkg-deb", "--root-owner-group", "-Zxz", "--threads-max=1", "--build", tree, file], env=times)
@@ -149,10 +156,11 @@ def add_control(maker, name, tree):
 
 
 def make(source, built, parts):
-    """Builds the packages."""
-    work = parts.parent / "debian"
+    """Builds the packages. Those for all machines are built with those of the first."""
+    work = parts.parent / f"debian-{built.machine.debian}"
     work.mkdir()
     maker = Maker(source, built, work)
     maker.split()
     for name in maker.names:
-        maker.make_package(name, parts)
+        if built.machine is HOST or maker.architecture(name) != "all":
+            maker.make_package(name, parts)

@@ -5,7 +5,7 @@ import re
 from release.faults import Fault, run
 
 # What every system with the GNU C library has, and what a package of Debian has; wheels of all systems may need both.
-KNOWN = {"libc.so.6", "libm.so.6", "libpthread.so.0", "libdl.so.2", "ld-linux-x86-64.so.2"}
+KNOWN = {"libc.so.6", "libm.so.6", "libpthread.so.0", "libdl.so.2", "ld-linux-x86-64.so.2", "ld-linux-aarch64.so.1"}
 PACKAGES = {"libgcc_s.so.1": "libgcc-s1"}
 
 

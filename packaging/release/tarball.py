@@ -1,10 +1,11 @@
-"""The tarball: what `make install` installs, in a folder that works where it lies."""
+"""The tarball: what `make install` installs, in a folder that works where it lies; and the static program, a file that runs where it lies."""
 
+import os
 import re
 import shutil
 
 from release.built import install
-from release.files import settle, sums_of, write_tarball, write_text
+from release.files import RUNNABLE, settle, sums_of, write_tarball, write_text
 
 PREFIX = "/usr/local"
 
@@ -25,9 +26,9 @@ def add_pages(source, built, folder):
 
 
 def make(source, built, parts):
-    """Packs pidtab-VERSION-linux-x86_64.tar.gz."""
-    name = f"pidtab-{source.version}-linux-x86_64"
-    stage = parts.parent / "tarball"
+    """Packs pidtab-VERSION-linux-MACHINE.tar.gz."""
+    name = f"pidtab-{source.version}-linux-{built.machine.name}"
+    stage = parts.parent / f"tarball-{built.machine.name}"
     install(source, built, stage, PREFIX=PREFIX)
     folder = stage / PREFIX.lstrip("/")
     for described in folder.rglob("*.pc"):
@@ -39,3 +40,11 @@ def make(source, built, parts):
     write_text(folder / "SHA256SUMS", sums_of(folder))
     settle(folder, source.time)
     write_tarball(parts / f"{name}.tar.gz", folder, name, source.time)
+
+
+def make_static(source, built, parts):
+    """Copies the program as pidtab-VERSION-linux-MACHINE."""
+    file = parts / f"pidtab-{source.version}-linux-{built.machine.name}"
+    shutil.copyfile(built.program, file)
+    file.chmod(RUNNABLE)
+    os.utime(file, (source.time, source.time))

@@ -13,8 +13,7 @@ OLDEST = (2, 5)
 
 def tag_of(built):
     """The tag of a wheel that needs this C library."""
-    major, minor = max(built.glibc(), OLDEST)[:2]
-    return f"py3-none-manylinux_{major}_{minor}_x86_64"
+    return f"py3-none-{built.machine.wheel.format(*max(built.glibc(), OLDEST)[:2])}"
 
 
 def metadata(project, readme):

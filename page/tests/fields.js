@@ -49,23 +49,25 @@ export class Element {
   }
 }
 
+/** The functions of bindings/js/wasm/around.c that the page needs, each of whose places has a KiB. */
 function standIn() {
   const memory = new WebAssembly.Memory({ initial: 16 });
-  let top = 1024;
-  const write = (text, room, told) => {
-    new Uint8Array(memory.buffer).set(new TextEncoder().encode(text), Number(room));
-    new DataView(memory.buffer).setBigUint64(Number(told), BigInt(text.length), true);
+  const place_of = (what) => 1024 * (what + 1);
+  const [size, line, answer] = [5, 6, 7].map(place_of);
+  const write = (text, room) => {
+    new Uint8Array(memory.buffer).set(new TextEncoder().encode(text), room);
+    new DataView(memory.buffer).setUint32(size, text.length, true);
     return 0;
   };
-  const read = (at, length) => new TextDecoder().decode(new Uint8Array(memory.buffer, Number(at), Number(length)));
+  const read = (length) => new TextDecoder().decode(new Uint8Array(memory.buffer, line, length));
   return {
     memory,
-    page_alloc: (size) => BigInt((top += Number(size)) - Number(size)),
-    page_free: () => undefined,
-    pidtab_open: () => 0,
-    pidtab_line: (_table, line, length, room, _size, told) =>
-      length === 0n ? 61 : read(line, length).startsWith("FORK") ? 71 : write("1", room, told),
-    pidtab_list: (_table, room, _size, told) => write(LIST, room, told),
+    place_of,
+    take: () => 65536,
+    give: () => undefined,
+    open: () => 0,
+    line: (length) => (read(length).startsWith("FORK") ? 71 : write("1", answer)),
+    list: (room) => write(LIST, room),
   };
 }
 

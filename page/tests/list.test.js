@@ -25,6 +25,7 @@ test("a task has its numbers, root first", () => {
     control: "0",
     live: true,
     status: null,
+    killed: false,
     executed: false,
     children: null,
     subreaper: false,

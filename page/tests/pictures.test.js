@@ -25,7 +25,7 @@ function check(top, program = NO_PROGRAM) {
 function checkChanged(change) {
   const top = mkdtempSync(join(tmpdir(), "pictures-"));
   try {
-    for (const name of ["tools", "page", "examples", "docs/pictures", "bindings/python"]) {
+    for (const name of ["tools", "page", "examples", "docs/pictures", "bindings/python", "bindings/js"]) {
       cpSync(join(REPOSITORY, name), join(top, name), { recursive: true });
     }
     return check(top, change(top));
@@ -49,7 +49,8 @@ test("a picture that differs, one too many and one that is missing", NEEDED, () 
 
 test("a page that draws otherwise", NEEDED, () => {
   const change = (top) => writeFileSync(join(top, "page/draw.js"), read("page/draw.js").replaceAll("NSpid", "numbers"));
-  assert.deepEqual(checkChanged(change), [1, `docs/pictures/container.svg: ${NOT_MADE}\n`]);
+  const found = ["bash", "container"].map((name) => `docs/pictures/${name}.svg: ${NOT_MADE}\n`);
+  assert.deepEqual(checkChanged(change), [1, found.join("")]);
 });
 
 test("a program that writes another list", NEEDED, () => {
@@ -60,7 +61,7 @@ test("a program that writes another list", NEEDED, () => {
     return program;
   });
   assert.equal(status, 1);
-  assert.match(said, /^examples\/container\.list: not what .*pidtab list writes\n$/);
+  assert.match(said, /^examples\/bash\.list: not what .*pidtab list writes\nexamples\/container\.list: not what .*pidtab list writes\n$/);
 });
 
 // By examples/container.list: a line for each namespace, task and control group, in the order of the page.

@@ -15,12 +15,20 @@ function noting() {
   };
   return {
     asked,
-    save: () => ({ made: [...made], size: 1 }),
+    save: () => ({ made: [...made], byteLength: 1 }),
     restore: (state) => note("restore", void (made = [...state.made])),
     open: (pidMax) => note(`open ${pidMax}`, void (made = [pidMax])),
-    line: (text) => note(text, `answer ${made.push(text) - 1}`),
-    list: () => note("list", `list of ${made.join(" ")}`),
+    answerTo: (text) => note(text, `answer ${made.push(text) - 1}`),
+    listText: () => note("list", `list of ${made.join(" ")}`),
   };
+}
+
+/** A player over such a table. */
+function playerOf(table) {
+  return new Player((pidMax) => {
+    table.open(pidMax);
+    return table;
+  });
 }
 
 /** As many lines, which all differ. */
@@ -37,32 +45,32 @@ test("lines end at newlines", () => {
 
 test("each line is asked once, of a table with the bound", () => {
   const table = noting();
-  assert.deepEqual(new Player(table).play(301, ["fork 1", "exit 2 0"]), ["answer 1", "answer 2"]);
-  assert.deepEqual(table.asked, ["restore", "open 301", "fork 1", "exit 2 0"]);
+  assert.deepEqual(playerOf(table).play(301, ["fork 1", "exit 2 0"]), ["answer 1", "answer 2"]);
+  assert.deepEqual(table.asked, ["open 301", "fork 1", "exit 2 0"]);
 });
 
 test("the list before a line and after it", () => {
-  const player = new Player(noting());
+  const player = playerOf(noting());
   player.play(400, ["a", "b", "c"]);
   assert.deepEqual(player.listsAround(2), { before: "list of 400 a", after: "list of 400 a b" });
   assert.deepEqual(player.listsAround(3), { before: "list of 400 a b", after: "list of 400 a b c" });
 });
 
 test("before the first line there is one list, and no earlier one", () => {
-  const player = new Player(noting());
+  const player = playerOf(noting());
   player.play(400, ["a"]);
   assert.deepEqual(player.listsAround(0), { before: null, after: "list of 400" });
 });
 
 test("another bound is another table", () => {
-  const player = new Player(noting());
+  const player = playerOf(noting());
   player.play(400, ["a"]);
   player.play(500, ["a"]);
   assert.equal(player.listsAround(1).after, "list of 500 a");
 });
 
 test("a script that was changed is played from the change on", () => {
-  const player = new Player(noting());
+  const player = playerOf(noting());
   for (const lines of [["a", "b", "c"], ["a", "x", "c"], ["a", "x"], [], ["b"], manyLines(350), [...manyLines(210), "y"], manyLines(300)]) {
     assert.deepEqual(player.play(400, lines), lines.map((_, at) => `answer ${at + 1}`));
     for (const place of [lines.length, 0, Math.floor(lines.length / 2)]) {
@@ -73,7 +81,7 @@ test("a script that was changed is played from the change on", () => {
 
 test("no step of a long script plays more than the lines behind a kept state, nor does a key at its end", () => {
   const table = noting();
-  const player = new Player(table);
+  const player = playerOf(table);
   const lines = manyLines(MOST_LINES);
   player.play(400, lines);
   const asks = (work) => {
@@ -89,15 +97,15 @@ test("no step of a long script plays more than the lines behind a kept state, no
 
 test("where the table stops, the next look begins at a kept state", () => {
   const table = noting();
-  const player = new Player(table);
+  const player = playerOf(table);
   player.play(400, ["a", "b"]);
-  const { line } = table;
-  table.line = () => {
-    line("half");
+  const { answerTo } = table;
+  table.answerTo = () => {
+    answerTo("half");
     throw new Error("stopped");
   };
   assert.throws(() => player.play(400, ["a", "b", "c"]), { message: "stopped" });
-  table.line = line;
+  table.answerTo = answerTo;
   assert.equal(player.listsAround(2).after, "list of 400 a b");
 });
 

@@ -12,6 +12,7 @@ VERSIONS = {
     "bindings/python/pyproject.toml": r'^version = "(.*)"$',
     "bindings/rust/Cargo.toml": rf'^version = "{VERSION}"$',
     "service/Cargo.toml": rf'^version = "{VERSION}"$',
+    "bindings/js/package.json": rf'^  "version": "{VERSION}",$',
     "README.md": rf"\bversion {VERSION}[ ,]",
 }
 

@@ -1,0 +1,278 @@
+// Linux process identifiers as one table, in this process.
+//
+// A caller is a root number. Every other process number is the caller's own, as in the script language of docs/SCRIPT.md. Process numbers are 0 to
+// 2^32 - 1, those of setpgid -2^31 to 2^31 - 1. What has 64 bits is answered as a BigInt: ids of namespaces and control groups, ordinals, stamps and
+// counts of calls. Such a number is taken as a BigInt, or as a number up to 2^53 - 1. What is no number is a TypeError, and one that is out of range
+// a RangeError; then no call was made.
+//
+// A call that the table refuses throws a Refusal; each method names the words that it may have. Where there is no memory, `fork`, `mk`, `list`, `dump`
+// and each call of a Record throw NoMemory. After 2^64 - 2 calls each throws Spent. What throws has changed nothing, but that a refused call uses a
+// stamp, or is recorded. After `close` all throw TableClosed.
+
+/** The `pidMax` where none is given: numbers are below it. */
+export const DEFAULT_PID_MAX: number;
+export const LEAST_PID_MAX: number;
+export const GREATEST_PID_MAX: number;
+
+/** A number of 64 bits as it is taken. */
+export type Long = bigint | number;
+
+/** What `next` looks for. */
+export type Use = "task" | "group" | "session";
+
+/** A new task: its number in the caller's namespace, and in the root namespace. */
+export interface Forked {
+  child: number;
+  root: number;
+}
+
+/** A child that was waited for: its number in the caller's namespace, and its status, null where the fall of its namespace killed it. */
+export interface Reaped {
+  child: number;
+  status: number | null;
+  killed: boolean;
+}
+
+/** Which children a wait means: one by its number, those of the caller's own group, or of another; with none of these, any. */
+export interface Which {
+  pid?: number;
+  own?: boolean;
+  group?: number;
+}
+
+/** A task as the caller's namespace sees it. Numbers of processes are those there, 0 where there is none. */
+export interface Stat {
+  /** From the caller's namespace inwards. */
+  numbers: number[];
+  parent: number;
+  group: number;
+  session: number;
+  /** The id of its own namespace. */
+  space: bigint;
+  /** The id of its control group. */
+  control: bigint;
+  live: boolean;
+  /** 0 to 255 for a task that has ended and was not killed. */
+  status: number | null;
+  killed: boolean;
+  executed: boolean;
+  subreaper: boolean;
+}
+
+/** A task of the list: its numbers, the root's first, and root numbers of parent (0 for none), group and session. */
+export interface Task {
+  numbers: number[];
+  root: number;
+  space: bigint;
+  parent: number;
+  group: number;
+  session: number;
+  control: bigint;
+  live: boolean;
+  status: number | null;
+  killed: boolean;
+  executed: boolean;
+  /** The namespace of its children, where that is not its own. */
+  children: bigint | null;
+  subreaper: boolean;
+}
+
+/** A namespace; the root has no parent. */
+export interface Space {
+  id: bigint;
+  parent: bigint | null;
+  cursor: number;
+  fallen: boolean;
+}
+
+/** A control group with the count of its subtree; a limit of null is `max`. */
+export interface Control {
+  id: bigint;
+  parent: bigint | null;
+  limit: number | null;
+  count: number;
+}
+
+/** All that stands in a table. */
+export interface Listing {
+  tasks: Task[];
+  spaces: Space[];
+  controls: Control[];
+}
+
+/** Reads a list as `listText`, or `pidtab list`, writes it. An Error names the first line that is none of a list. */
+export function readListing(text: string): Listing;
+
+/** What may be asked and changes nothing. */
+export interface Queries {
+  /** getpid(2): the caller's number in its namespace. no-caller. */
+  getpid(caller: number): number;
+  /** getppid(2): its parent's number, 0 for one that it cannot see. no-caller. */
+  getppid(caller: number): number;
+  /** getpgid(2): the group of the task, where 0 is the caller; 0 where it cannot be seen. no-caller, no-task. */
+  getpgid(caller: number, pid?: number): number;
+  /** getsid(2): the session of the task, where 0 is the caller; 0 where it cannot be seen. no-caller, no-task. */
+  getsid(caller: number, pid?: number): number;
+  /** NSpid of proc(5): the task's numbers from the caller's namespace inwards, 1 to 33 of them. no-caller, no-task. */
+  nspid(caller: number, pid: number): number[];
+  /** The least number from the start on that is in use so, or null. no-caller. */
+  next(caller: number, use?: Use, start?: number): number | null;
+  /** How many tasks the control group and those below it have. no-control. */
+  count(control?: Long): number;
+}
+
+/** Queries as what is no call: they use no stamp, and are not recorded. */
+export interface Ask extends Queries {
+  /** Reads the task with the number in the caller's namespace, where 0 is the caller, and a zombie too. no-caller, no-task. */
+  stat(caller: number, pid?: number): Stat;
+}
+
+/** The calls on a table. It begins with one task, the root init, number 1. */
+export interface Calls extends Queries {
+  /** Numbers are below it. */
+  readonly pidMax: number;
+  /** The queries that are no calls. */
+  readonly ask: Ask;
+  /** The answer to a raw line. A refusal is thrown, a line of another language is a BadLine, and an empty one a RangeError. */
+  line(text: string): string;
+  /** The answers to many raw lines: refusals, "bad line", "no memory" and "spent" are answers here. */
+  answers(texts: Iterable<string>): string[];
+  /** fork(2), or clone(2) with CLONE_NEWPID: a child. no-caller, too-deep, elsewhere, space-fallen, no-number, pids-limit. */
+  fork(caller: number, options?: { newSpace?: boolean }): Forked;
+  /** execve(2). no-caller. */
+  exec(caller: number): void;
+  /** _exit(2) with a status of 0 to 255; the namespace of an init falls. no-caller, root-init. */
+  exit(caller: number, status?: number): void;
+  /** waitpid(2) with WNOHANG: takes an ended child away. null where children match and none has ended. no-caller, no-child. */
+  wait(caller: number, which?: Which): Reaped | null;
+  /** setpgid(2); 0 is the caller, and the task. no-caller, bad-group, no-task, other-session, executed, is-leader, no-group. */
+  setpgid(caller: number, pid?: number, group?: number): void;
+  /** setsid(2): the number of the new session. no-caller, is-leader. */
+  setsid(caller: number): number;
+  /** setns(2) with CLONE_NEWPID: later children go into the namespace of the task. no-caller, no-task. */
+  join(caller: number, pid: number): void;
+  /** PR_SET_CHILD_SUBREAPER of prctl(2). no-caller. */
+  subreaper(caller: number, on?: boolean): void;
+  /** The id of a new control group below the one with the id, by default the root, 0. no-control, control-depth. */
+  mk(parent?: Long): bigint;
+  /** Removes a control group without live tasks and children. no-control, root-control, control-busy. */
+  rm(control: Long): void;
+  /** How many tasks a control group may have, 0 to 4194304; null is no limit. no-control, root-control, bad-limit. */
+  limit(control: Long, most?: number | null): void;
+  /** The task, by its root number, goes into the control group. no-task, no-control. */
+  move(task: number, control: Long): void;
+  /** The table as it stands now. It costs a copy of the table, and so does `listText`. */
+  list(): Listing;
+  /** The same as text, as `pidtab list` writes it. */
+  listText(): string;
+  /** Ends it: all methods throw TableClosed from then on. A second time nothing is done. */
+  close(): void;
+}
+
+/** A table. One that nobody has any more is freed, closed or not. */
+export class Table implements Calls {
+  /** A table with process 1 alone; `pidMax` is 301 to 4194304. */
+  constructor(options?: { pidMax?: number });
+  /** A table as a text of `dump` says: each later call has the answer that it would have had there. Any text may be given: BadText says why it is none. */
+  static load(text: string | Uint8Array): Table;
+  /** All that there is to know of the table, as text (docs/SCRIPT.md). It costs a copy of the table. */
+  dump(): string;
+}
+export interface Table extends Calls {}
+
+/** The calls of one worker of a record. They are recorded, each with its reply. */
+export interface Seat extends Calls {
+  readonly worker: number;
+  /** The place of the seat's latest call in the history, from 0 on; null before the first. */
+  readonly ordinal: bigint | null;
+}
+
+/** A recorded call: its place, the worker that made it, its line, and the answer to the line. */
+export interface Entry {
+  ordinal: bigint;
+  worker: number;
+  line: string;
+  answer: string;
+}
+
+/** The ordinal of the first kept entry, and how many calls were recorded, the cut ones too. */
+export interface Counts {
+  firstKept: bigint;
+  recorded: bigint;
+}
+
+/** A table with its history, for 1 to 16 workers. The history takes 184 bytes a call until a checkpoint cuts it. */
+export class Record {
+  /** The first call has the first stamp, 1 to 2^64 - 1, as the id of what it makes; each later one has the next. By default 4 workers and 1n. */
+  constructor(options?: { workers?: number; pidMax?: number; firstStamp?: Long });
+  /** A record as a text of `dump` says, whose history begins there. `recorded` says how many calls of each worker there were before; their sum is the
+   * ordinal of the next. BadText, and a RangeError where they are as many as the stamp of the text. */
+  static load(text: string | Uint8Array, options?: { workers?: number; recorded?: Iterable<Long> }): Record;
+  readonly workers: number;
+  readonly pidMax: number;
+  readonly firstStamp: bigint;
+  /** The queries that are no calls. */
+  readonly ask: Ask;
+  /** The seat of the next worker, from 0 on. SeatsTaken where each has its own. */
+  seat(): Seat;
+  counts(): Counts;
+  /** How many calls of the worker were recorded, the cut ones too. */
+  worker(number: number): bigint;
+  /** The recorded call with the ordinal. NotKept where it was cut away, or is not reached yet. */
+  entry(ordinal: Long): Entry;
+  /** The recorded calls from the ordinal on, by default from the first kept one, to the last that there is at the first step. NotKept. */
+  entries(start?: Long): IterableIterator<Entry>;
+  /** Makes the calls of entries, each for its worker: how many. It stops at the first with another answer, which was made: Differs. */
+  replay(entries: Iterable<{ worker: number; line: string; answer: string }>): number;
+  /** Cuts the history: no entry is kept, and ordinals go on. It costs a copy of the table. */
+  checkpoint(): void;
+  /** The same where exactly so many calls were recorded. Whether it was cut. */
+  checkpointAt(seen: Long): boolean;
+  list(): Listing;
+  listText(): string;
+  dump(): string;
+  /** Ends it, with its seats. */
+  close(): void;
+}
+
+/** What all faults of a table are. */
+export class PidtabError extends Error {
+  /** The name of an errno of Linux, as "ESRCH". */
+  readonly code: string;
+}
+
+/** A call that the table refused. */
+export class Refusal extends PidtabError {
+  readonly errno: number;
+  /** Why, as "pids-limit". */
+  readonly word: string;
+  /** The id of the namespace of a "no-number", and of the control group of a "pids-limit"; else null. */
+  readonly id: bigint | null;
+}
+
+/** EPROTO: a line that is none of the script language. */
+export class BadLine extends PidtabError {}
+/** ENOMEM: there is no memory, and the table is as it was. */
+export class NoMemory extends PidtabError {}
+/** EOVERFLOW: the table has made 2^64 - 2 calls. */
+export class Spent extends PidtabError {}
+/** EBADF: the table, or the seat, was closed. */
+export class TableClosed extends PidtabError {}
+/** ENOENT: the history has no such entry. */
+export class NotKept extends PidtabError {}
+/** EUSERS: each worker has its seat. */
+export class SeatsTaken extends PidtabError {}
+
+/** EUCLEAN: a text that is that of no table. */
+export class BadText extends PidtabError {
+  /** From 1 on. */
+  readonly line: number;
+  /** What is wrong with the line, in the words of docs/SCRIPT.md. */
+  readonly why: string;
+}
+
+/** EBADMSG: an entry whose call has another answer now. */
+export class Differs extends PidtabError {
+  /** Its place among those that were given, from 0 on. */
+  readonly place: number;
+}

@@ -1,0 +1,205 @@
+// The calls: a method for each, raw lines, and the list. pidtab.d.ts says what each takes, answers and throws.
+//
+// What has these methods says by `_open` which instance it is, by `_call` and `_line` how a call is made there, and by `_ask` whether it is one.
+
+import { checkLong, checkNumber, checkRange, checkSigned } from "./bounds.js";
+import { faultOf, readRefusal, Refusal, shorten } from "./faults.js";
+import { KIND, OPERATION, REPLY, STATUS, TASK, USES, WHICH } from "./header.js";
+import { readListing } from "./listing.js";
+import { aChild, anEndedChild, anId, aNumber, aTask, nothing, refusalAt, theNext, theNumbers } from "./replies.js";
+
+/** What the program answers to a line that no call was made of, by the status of the library. */
+const NOT_MADE = { [STATUS.BAD_LINE]: "bad line", [STATUS.NO_MEMORY]: "no memory", [STATUS.SPENT]: "spent" };
+
+/** The text, if it is a line that has an answer. */
+function checkLine(text) {
+  if (typeof text !== "string") throw new TypeError(`a line is a string, not a ${typeof text}`);
+  if (text === "") throw new RangeError("an empty line has no answer");
+  if (text.includes("\n")) throw new RangeError(`more than one line: ${shorten(text)}`);
+  return text;
+}
+
+/** Which children a wait means: the choice with its number. */
+function select({ pid, own = false, group }) {
+  if ((pid !== undefined) + Boolean(own) + (group !== undefined) > 1) throw new TypeError("at most one of pid, own and group");
+  if (own) return [WHICH.OWN_GROUP, 0];
+  if (pid !== undefined) return [WHICH.CHILD, checkNumber("pid", pid)];
+  return group === undefined ? [WHICH.ANY, 0] : [WHICH.GROUP, checkNumber("group", group)];
+}
+
+/** What may be asked of a table and changes nothing. On a table each is a call, which uses a stamp; those of its `ask` are none. */
+export class Queries {
+  /** Makes the call that was written: what it is answered, in its form. */
+  _made(instance, form) {
+    const status = this._call(instance);
+    if (status !== STATUS.DONE) throw faultOf(status, instance.callLine());
+    instance.refresh();
+    const at = instance.at.reply.word;
+    if (instance.words[at + REPLY.kind] !== KIND.REFUSED) return form(instance, at);
+    throw new Refusal(instance.words[at + REPLY.error], ...refusalAt(instance, at), instance.callLine());
+  }
+
+  _make(form, operation, caller, number = 0, choice = 0) {
+    const instance = this._open();
+    instance.writeCall(operation, checkNumber("caller", caller), number, choice);
+    return this._made(instance, form);
+  }
+
+  /** The same of a call that takes the id of a control group. */
+  _makeOf(form, operation, id, caller = 0, number = 0, choice = 0) {
+    const instance = this._open();
+    instance.writeId(checkLong("control", id));
+    instance.writeCall(operation, caller, number, choice);
+    return this._made(instance, form);
+  }
+
+  getpid(caller) {
+    return this._make(aNumber, OPERATION.GETPID, caller);
+  }
+
+  getppid(caller) {
+    return this._make(aNumber, OPERATION.GETPPID, caller);
+  }
+
+  getpgid(caller, pid = 0) {
+    return this._make(aNumber, OPERATION.GETPGID, caller, checkNumber("pid", pid));
+  }
+
+  getsid(caller, pid = 0) {
+    return this._make(aNumber, OPERATION.GETSID, caller, checkNumber("pid", pid));
+  }
+
+  nspid(caller, pid) {
+    return this._make(theNumbers, OPERATION.NSPID, caller, checkNumber("pid", pid));
+  }
+
+  next(caller, use = "task", start = 0) {
+    const choice = USES.indexOf(use);
+    if (choice < 0) throw new RangeError(`a use is "task", "group" or "session", not ${shorten(String(use))}`);
+    return this._make(theNext, OPERATION.NEXT, caller, checkNumber("start", start), choice);
+  }
+
+  count(control = 0n) {
+    return this._makeOf(aNumber, OPERATION.COUNT, control);
+  }
+}
+
+/** The queries of a table as what is no call: they use no stamp, and are not recorded. */
+export class Ask extends Queries {
+  constructor(owner) {
+    super();
+    this._owner = owner;
+  }
+
+  _open() {
+    return this._owner._open();
+  }
+
+  _call(instance) {
+    return instance.ask();
+  }
+
+  stat(caller, pid = 0) {
+    const instance = this._open();
+    const status = instance.stat(checkNumber("caller", caller), checkNumber("pid", pid));
+    if (status !== STATUS.DONE) throw faultOf(status, `stat ${caller} ${pid}`);
+    instance.refresh();
+    const at = instance.at.task.word;
+    if (instance.words[at + TASK.error] === 0) return aTask(instance, at);
+    throw new Refusal(instance.words[at + TASK.error], instance.words[at + TASK.refusal] === 1 ? "no-caller" : "no-task", null, `stat ${caller} ${pid}`);
+  }
+}
+
+export class Calls extends Queries {
+  /** The status of the line, whose answer is in the instance then. */
+  _asked(instance, text) {
+    const status = this._line(instance, instance.writeLine(checkLine(text)));
+    if (status !== STATUS.DONE && !NOT_MADE[status]) throw faultOf(status, shorten(text));
+    return status;
+  }
+
+  /** The answer, of a call that was made. */
+  _answerOfCall(text) {
+    const instance = this._open();
+    const status = this._asked(instance, text);
+    if (status !== STATUS.DONE) throw faultOf(status, shorten(text));
+    return instance.answer();
+  }
+
+  _answer(text) {
+    const instance = this._open();
+    const status = this._asked(instance, text);
+    return status === STATUS.DONE ? instance.answer() : NOT_MADE[status];
+  }
+
+  line(text) {
+    const answer = this._answerOfCall(text);
+    // No other answer begins so: all others are lower case or digits.
+    if (answer.startsWith("E")) throw readRefusal(text, answer);
+    return answer;
+  }
+
+  answers(texts) {
+    if (typeof texts === "string") throw new TypeError("answers takes many lines, not one string");
+    return Array.from(texts, (text) => this._answer(text));
+  }
+
+  fork(caller, { newSpace = false } = {}) {
+    return this._make(aChild, OPERATION.FORK, caller, 0, newSpace ? 1 : 0);
+  }
+
+  exec(caller) {
+    this._make(nothing, OPERATION.EXEC, caller);
+  }
+
+  exit(caller, status = 0) {
+    this._make(nothing, OPERATION.EXIT, caller, checkRange("status", status, 0, 255));
+  }
+
+  wait(caller, which = {}) {
+    const [choice, number] = select(which);
+    return this._make(anEndedChild, OPERATION.WAIT, caller, number, choice);
+  }
+
+  setpgid(caller, pid = 0, group = 0) {
+    this._open().writeGroups(checkSigned("pid", pid), checkSigned("group", group));
+    this._make(nothing, OPERATION.SETPGID, caller);
+  }
+
+  setsid(caller) {
+    return this._make(aNumber, OPERATION.SETSID, caller);
+  }
+
+  join(caller, pid) {
+    this._make(nothing, OPERATION.JOIN, caller, checkNumber("pid", pid));
+  }
+
+  subreaper(caller, on = true) {
+    this._make(nothing, OPERATION.SUBREAPER, caller, 0, on ? 1 : 0);
+  }
+
+  mk(parent = 0n) {
+    return this._makeOf(anId, OPERATION.MK, parent);
+  }
+
+  rm(control) {
+    this._makeOf(nothing, OPERATION.RM, control);
+  }
+
+  limit(control, most = null) {
+    this._makeOf(nothing, OPERATION.LIMIT, control, 0, most === null ? 0 : checkNumber("most", most), most === null ? 0 : 1);
+  }
+
+  move(task, control) {
+    this._makeOf(nothing, OPERATION.MOVE, control, checkNumber("task", task));
+  }
+
+  list() {
+    return readListing(this.listText());
+  }
+
+  listText() {
+    const instance = this._open();
+    return instance.written(instance.list, "list");
+  }
+}

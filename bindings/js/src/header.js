@@ -1,0 +1,76 @@
+// bindings/c/pidtab.h by hand: its numbers, and where the fields of its structs stand. A test compares them.
+
+export const DEFAULT_PID_MAX = 32768;
+export const LEAST_PID_MAX = 301;
+export const GREATEST_PID_MAX = 4194304;
+export const MOST_WORKERS = 16;
+export const KILLED = 256;
+
+export const STATUS = {
+  DONE: 0,
+  NOT_KEPT: 2,
+  AGAIN: 11,
+  NO_MEMORY: 12,
+  OUT_OF_RANGE: 22,
+  NO_ROOM: 34,
+  BAD_LINE: 71,
+  SPENT: 75,
+  BAD_TEXT: 117,
+};
+
+const OPERATIONS =
+  "FORK GETPID NSPID EXEC EXIT WAIT GETPPID SETPGID SETSID MK RM LIMIT MOVE COUNT GETPGID GETSID NEXT JOIN SUBREAPER".split(" ");
+export const OPERATION = Object.fromEntries(OPERATIONS.map((name, number) => [name, number]));
+
+/** Of a wait: whom it means. */
+export const WHICH = { ANY: 0, CHILD: 1, OWN_GROUP: 2, GROUP: 3 };
+
+/** Of a next, in the order of their numbers. */
+export const USES = ["task", "group", "session"];
+
+export const KIND = { FORKED: 0, OK: 1, NUMBER: 2, LEVELS: 3, REAPED: 4, NONE_YET: 5, COUNTED: 6, CONTROL: 7, END: 8, REFUSED: 9 };
+
+/** The words of the refusals, by their numbers from 1 on. */
+export const REFUSALS = (
+  "no-caller no-task no-child no-number pids-limit space-fallen too-deep elsewhere bad-group other-session is-leader no-group executed " +
+  "root-init no-control control-busy root-control bad-limit control-depth"
+).split(" ");
+
+/** The errnos of Linux that a refusal may have. */
+export const ERRNOS = { 1: "EPERM", 2: "ENOENT", 3: "ESRCH", 10: "ECHILD", 11: "EAGAIN", 12: "ENOMEM", 13: "EACCES", 16: "EBUSY", 22: "EINVAL", 28: "ENOSPC" };
+
+/** Why a text is that of no table, by the numbers of the faults from 1 on. */
+export const TEXT_FAULTS = [
+  "bad line",
+  "wrong digest",
+  "bad settings",
+  "out of order",
+  "unknown parent",
+  "unknown namespace",
+  "unknown control group",
+  "bad name",
+  "number in use twice",
+  "namespace without an init",
+  "no number left",
+  "impossible line",
+];
+
+// The fields by their places, in words of 32 bits. One of 64 bits, as an id, has two words.
+export const CALL = { operation: 0, caller: 1, id: 2, number: 4, choice: 5, pid: 6, pgid: 7 };
+export const REPLY = { kind: 0, error: 1, refusal: 2, count: 3, first: 4, second: 6, levels: 8 };
+export const TASK = {
+  error: 0,
+  refusal: 1,
+  count: 2,
+  parent: 3,
+  group: 4,
+  session: 5,
+  ended: 6,
+  status: 7,
+  executed: 8,
+  subreaper: 9,
+  space: 10,
+  control: 12,
+  levels: 14,
+};
+export const FAULT = { line: 0, kind: 2 };

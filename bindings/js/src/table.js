@@ -1,0 +1,74 @@
+// A table without a history.
+
+import { checkRange } from "./bounds.js";
+import { Ask, Calls } from "./calls.js";
+import { BadText, faultOf } from "./faults.js";
+import { DEFAULT_PID_MAX, FAULT, GREATEST_PID_MAX, LEAST_PID_MAX, STATUS } from "./header.js";
+import { ANSWER_ROOM, Instance, opened } from "./instance.js";
+
+/** The bound, if it is one. */
+export function checkPidMax(pidMax) {
+  return checkRange("pidMax", pidMax, LEAST_PID_MAX, GREATEST_PID_MAX);
+}
+
+/** Throws what says why nothing was opened, or of what text. */
+export function checkOpened(instance, status, what) {
+  if (status === STATUS.BAD_TEXT) {
+    instance.refresh();
+    const { word, long } = instance.at.fault;
+    throw new BadText(Number(instance.longs[long]), instance.words[word + FAULT.kind]);
+  }
+  if (status !== STATUS.DONE) throw faultOf(status, what);
+}
+
+/** `pidMax` and the stamp of the next call, of a text that was loaded: `pidtab table 1 pid-max N stamp S`. */
+export function headOf(text) {
+  const head = typeof text === "string" ? text : new TextDecoder().decode(text.subarray(0, 99));
+  const [, , , , pidMax, , stamp] = head.split("\n", 1)[0].split(" ");
+  return { pidMax: Number(pidMax), stamp: BigInt(stamp) };
+}
+
+export class Table extends Calls {
+  constructor({ pidMax = DEFAULT_PID_MAX } = {}) {
+    super();
+    const bound = checkPidMax(pidMax);
+    const instance = new Instance("");
+    checkOpened(instance, instance.exports.open(bound), "open");
+    this._begin(instance, bound);
+  }
+
+  static load(text) {
+    const instance = new Instance("");
+    checkOpened(instance, instance.given(text, instance.load), "load");
+    const table = Object.create(this.prototype);
+    table._begin(instance, headOf(text).pidMax);
+    return table;
+  }
+
+  _begin(instance, pidMax) {
+    this._instance = instance;
+    this.pidMax = pidMax;
+    this.ask = new Ask(this);
+  }
+
+  _open() {
+    return opened(this._instance);
+  }
+
+  _call(instance) {
+    return instance.exports.call();
+  }
+
+  _line(instance, length) {
+    return instance.exports.line(length, ANSWER_ROOM);
+  }
+
+  dump() {
+    const instance = this._open();
+    return instance.written(instance.dump, "dump");
+  }
+
+  close() {
+    this._instance = null;
+  }
+}

@@ -1,0 +1,148 @@
+// A table with its history, and tables as text.
+
+import assert from "node:assert/strict";
+import { test } from "node:test";
+
+import { pidtab, skip } from "./package.js";
+
+const { Record, Table } = pidtab;
+
+/** A record of three calls by two workers, with their seats. */
+function recorded() {
+  const record = new Record({ workers: 2 });
+  const seats = [record.seat(), record.seat()];
+  seats[0].fork(1, { newSpace: true });
+  seats[1].line("fork 2");
+  assert.throws(() => seats[0].getpid(99), { code: "ESRCH" });
+  return { record, seats };
+}
+
+const ENTRIES = [
+  { ordinal: 0n, worker: 0, line: "fork 1 new", answer: "child 2 root 2" },
+  { ordinal: 1n, worker: 1, line: "fork 2", answer: "child 2 root 3" },
+  { ordinal: 2n, worker: 0, line: "getpid 99", answer: "ESRCH no-caller" },
+];
+
+test("calls are entries, refused ones too", { skip }, () => {
+  const { record, seats } = recorded();
+  assert.deepEqual([...record.entries()], ENTRIES);
+  assert.deepEqual(record.entry(1), ENTRIES[1]);
+  assert.deepEqual(record.counts(), { firstKept: 0n, recorded: 3n });
+  assert.deepEqual([record.worker(0), record.worker(1)], [2n, 1n]);
+  assert.deepEqual(seats.map(({ ordinal }) => ordinal), [2n, 1n]);
+  assert.throws(() => record.seat(), { name: "SeatsTaken", message: "each of the 2 workers has its seat" });
+});
+
+test("each kind of an answer stands in its entry", { skip }, () => {
+  const record = new Record({ workers: 1, pidMax: 301 });
+  const lines = "fork 1|fork 1 new|nspid 1 3|wait 1 any|setpgid 1 2 2|exit 2 7|wait 1 pid 2|wait 1 own|wait 1 group 9|mk 0|limit 10 1|move 3 10|fork 3";
+  const more = "limit 10 max|limit 10 4194305|count 10|exit 3 0|wait 1 any|next 1 task 2|next 1 session 1|join 1 1|subreaper 1 on|subreaper 1 off|rm 10|getsid 1 0";
+  const seat = record.seat();
+  const asked = [...lines.split("|"), ...more.split("|")];
+  const answers = seat.answers(asked);
+  const table = new Table({ pidMax: 301 });
+  assert.deepEqual(answers, table.answers(asked));
+  assert.deepEqual([...record.entries()].map(({ line, answer }) => [line, answer]), asked.map((line, at) => [line, answers[at]]));
+  assert.equal(record.listText(), table.listText());
+});
+
+test("queries that are no calls are not recorded", { skip }, () => {
+  const { record, seats } = recorded();
+  assert.equal(record.ask.count(), 3);
+  assert.equal(seats[0].ask.getpid(3), 2);
+  assert.deepEqual(record.ask.stat(1, 3).numbers, [3, 2]);
+  assert.equal(record.counts().recorded, 3n);
+});
+
+test("a line that is none, and one without a call, are not recorded", { skip }, () => {
+  const record = new Record();
+  const seat = record.seat();
+  assert.throws(() => seat.line("fork"), { name: "BadLine" });
+  assert.throws(() => seat.getpid(-1), RangeError);
+  assert.equal(seat.ordinal, null);
+  assert.equal(record.counts().recorded, 0n);
+});
+
+test("the entries are made again on another table", { skip }, () => {
+  const { record } = recorded();
+  const again = new Record({ workers: 2 });
+  assert.equal(again.replay(record.entries()), 3);
+  assert.equal(again.listText(), record.listText());
+  assert.deepEqual([again.worker(0), again.worker(1)], [2n, 1n]);
+  const changed = ENTRIES.map((entry, place) => (place === 1 ? { ...entry, answer: "child 2 root 4" } : entry));
+  assert.throws(() => new Record({ workers: 2 }).replay(changed), {
+    name: "Differs",
+    code: "EBADMSG",
+    place: 1,
+    message: "entry 1: fork 2 was answered child 2 root 4, and is now answered child 2 root 3",
+  });
+  assert.throws(() => new Record({ workers: 1 }).replay(ENTRIES), RangeError);
+});
+
+test("a checkpoint cuts the history", { skip }, () => {
+  const { record, seats } = recorded();
+  assert.equal(record.checkpointAt(2), false);
+  assert.equal(record.checkpointAt(3n), true);
+  assert.deepEqual(record.counts(), { firstKept: 3n, recorded: 3n });
+  assert.deepEqual([...record.entries()], []);
+  seats[1].getpid(1);
+  assert.deepEqual([...record.entries()].map(({ ordinal }) => ordinal), [3n]);
+  for (const ordinal of [2, 4]) assert.throws(() => record.entry(ordinal), { name: "NotKept", code: "ENOENT" });
+  assert.throws(() => record.entries(0).next(), { name: "NotKept" });
+  record.checkpoint();
+  assert.equal(record.counts().firstKept, 4n);
+});
+
+test("the text of a table makes it again", { skip }, () => {
+  const table = new Table({ pidMax: 400 });
+  table.answers(["fork 1", "fork 2 new", "setpgid 3 0 0", "setpgid 2 0 3", "exit 3 0", "wait 2 any"]);
+  const text = table.dump();
+  for (const given of [text, new TextEncoder().encode(text)]) {
+    const again = Table.load(given);
+    assert.equal(again.pidMax, 400);
+    assert.equal(again.dump(), text);
+    assert.deepEqual([again.getpgid(2), again.mk()], [3, 8n]);
+  }
+});
+
+test("a text that is that of no table", { skip }, () => {
+  const text = new Table().dump();
+  const wrong = text.replace("group 1@0", "group 2@0");
+  assert.throws(() => Table.load(wrong), { name: "BadText", code: "EUCLEAN", why: "wrong digest", line: text.split("\n").length - 1 });
+  assert.throws(() => Table.load(""), { name: "BadText", why: "bad line", line: 1 });
+  assert.throws(() => Table.load(5), TypeError);
+  assert.throws(() => Record.load("x"), { name: "BadText", line: 1 });
+});
+
+test("a record goes on where a text ends", { skip }, () => {
+  const { record } = recorded();
+  const text = record.dump();
+  const again = Record.load(text, { recorded: [record.worker(0), record.worker(1)] });
+  assert.deepEqual(again.counts(), { firstKept: 3n, recorded: 3n });
+  assert.deepEqual([again.workers, again.firstStamp, again.worker(0)], [2, 1n, 2n]);
+  assert.deepEqual(again.seat().fork(1), { child: 4, root: 4 });
+  assert.deepEqual(Record.load(text, { workers: 3 }).counts(), { firstKept: 0n, recorded: 0n });
+  assert.throws(() => Record.load(text, { recorded: [4n] }), RangeError);
+  assert.throws(() => Record.load(text, { recorded: Array(17).fill(0) }), RangeError);
+});
+
+test("a record's first stamp, and its last", { skip }, () => {
+  const record = new Record({ workers: 1, firstStamp: 2n ** 64n - 2n });
+  const seat = record.seat();
+  assert.equal(seat.mk(), 2n ** 64n - 2n);
+  assert.throws(() => seat.mk(), { name: "Spent", code: "EOVERFLOW" });
+  assert.deepEqual(seat.answers(["getpid 1"]), ["spent"]);
+  assert.throws(() => new Record({ firstStamp: 0 }), RangeError);
+  for (const workers of [0, 17]) assert.throws(() => new Record({ workers }), RangeError);
+});
+
+test("a closed record, and a closed seat", { skip }, () => {
+  const { record, seats } = recorded();
+  seats[0].close();
+  assert.throws(() => seats[0].getpid(1), { name: "TableClosed", message: "the seat was closed" });
+  assert.equal(seats[1].getpid(1), 1);
+  record.close();
+  for (const call of [() => seats[1].getpid(1), () => record.counts(), () => record.list(), () => record.seat(), () => record.checkpointAt(0)]) {
+    assert.throws(call, { name: "TableClosed" });
+  }
+});

@@ -1,0 +1,50 @@
+// What a user of the types writes, and what the compiler has to refuse. Nothing here is run.
+
+import { BadText, Entry, Forked, Listing, Queries, Reaped, Record, Refusal, Stat, Table } from "../pidtab.js";
+
+const table = new Table({ pidMax: 400 });
+const child: Forked = table.fork(1, { newSpace: true });
+const reaped: Reaped | null = table.wait(1, { pid: child.child });
+const numbers: number[] = table.nspid(1, child.root);
+const group: bigint = table.mk();
+table.limit(group, null);
+table.move(child.root, Number(group));
+const listing: Listing = Table.load(table.dump()).list();
+const stat: Stat = table.ask.stat(1);
+
+function count(queries: Queries): number {
+  return queries.count();
+}
+count(table);
+count(table.ask);
+
+const record = new Record({ workers: 2, firstStamp: 5 });
+const seat = record.seat();
+count(seat);
+const ordinal: bigint | null = seat.ordinal;
+for (const entry of record.entries()) {
+  const same: Entry = entry;
+  record.replay([same]);
+}
+
+try {
+  table.line("fork 1");
+} catch (fault) {
+  if (fault instanceof Refusal) console.log(fault.code, fault.word, fault.id);
+  if (fault instanceof BadText) console.log(fault.line, fault.why);
+}
+
+console.log(reaped?.status, numbers, listing, stat, ordinal);
+
+// @ts-expect-error: a number of a process is no text
+table.getpid("1");
+// @ts-expect-error: there is no such use
+table.next(1, "thread");
+// @ts-expect-error: what is asked is no call
+table.ask.fork(1);
+// @ts-expect-error: a status may be null
+const status: number = table.wait(1)!.status;
+// @ts-expect-error: a record has no calls, its seats have
+record.fork(1);
+// @ts-expect-error: nobody sets it
+seat.ordinal = 1n;

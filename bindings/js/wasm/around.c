@@ -1,0 +1,176 @@
+/* One table, or one record, for callers in another memory. Each number that passes has 32 bits: one of 64 would be a BigInt in JavaScript, and each call
+ * would make some.
+ *
+ * What is longer stands at fixed places of the memory, which `place_of` tells. The functions of pidtab.h are the proved ones, without the guard of
+ * bindings/c, as an instance of the module has one thread. None is closed: all of it goes with its instance.
+ */
+#include <pidtab.h>
+
+/* No line of the language is longer than 200 bytes: one that fills this room is bad. */
+enum { LINE_ROOM = 208, ANSWER_ROOM = PIDTAB_LONGEST_ANSWER };
+
+void *heap_alloc(size_t size);
+void heap_free(void *at);
+
+/* A function that the build exports. By an attribute, the compiler would ask for a table of functions, which wasm-opt cannot lower. */
+#define EXPORTED(name) name
+
+static union {
+	struct pidtab table;
+	struct pidtab_record record;
+} held;
+
+static struct {
+	struct pidtab_call call;
+	struct pidtab_reply reply;
+	struct pidtab_task task;
+	struct pidtab_fault fault;
+	uint64_t numbers[PIDTAB_MOST_WORKERS];
+	size_t size;
+	char line[LINE_ROOM], answer[ANSWER_ROOM];
+} at;
+
+static void *pointer(uint32_t address)
+{
+	return (void *)(size_t)address;
+}
+
+/* The places in the order in which instance.js names them. */
+uint32_t EXPORTED(place_of)(uint32_t what)
+{
+	void *const places[] = { &at.call, &at.reply, &at.task, &at.fault, at.numbers, &at.size, at.line, at.answer };
+	return (uint32_t)(size_t)places[what];
+}
+
+/* Room for a text, or 0 where there is none. */
+uint32_t EXPORTED(take)(uint32_t size)
+{
+	return (uint32_t)(size_t)heap_alloc(size);
+}
+
+void EXPORTED(give)(uint32_t address)
+{
+	heap_free(pointer(address));
+}
+
+uint32_t EXPORTED(open)(uint32_t pid_max)
+{
+	return pidtab_open(&held.table, pid_max);
+}
+
+uint32_t EXPORTED(load)(uint32_t text, uint32_t length)
+{
+	return pidtab_load(&held.table, pointer(text), length, &at.fault);
+}
+
+uint32_t EXPORTED(call)(void)
+{
+	return pidtab_call(&held.table, &at.call, &at.reply);
+}
+
+/* A room for the answer that is short is refused. */
+uint32_t EXPORTED(line)(uint32_t length, uint32_t room)
+{
+	return pidtab_line(&held.table, at.line, length, at.answer, room < ANSWER_ROOM ? room : ANSWER_ROOM, &at.size);
+}
+
+uint32_t EXPORTED(ask)(void)
+{
+	return pidtab_ask(&held.table, &at.call, &at.reply);
+}
+
+uint32_t EXPORTED(stat)(uint32_t caller, uint32_t number)
+{
+	return pidtab_stat(&held.table, caller, number, &at.task);
+}
+
+uint32_t EXPORTED(list)(uint32_t room, uint32_t size)
+{
+	return pidtab_list(&held.table, pointer(room), size, &at.size);
+}
+
+uint32_t EXPORTED(dump)(uint32_t room, uint32_t size)
+{
+	return pidtab_dump(&held.table, pointer(room), size, &at.size);
+}
+
+/* The line of the call, which then stands in the place of lines. */
+uint32_t EXPORTED(call_line)(void)
+{
+	return pidtab_call_line(&at.call, at.line, LINE_ROOM, &at.size);
+}
+
+/* The first stamp is the first of the numbers. */
+uint32_t EXPORTED(record_open)(uint32_t pid_max, uint32_t workers)
+{
+	return pidtab_record_open(&held.record, pid_max, at.numbers[0], workers);
+}
+
+/* The numbers are how many calls of each worker were recorded before. */
+uint32_t EXPORTED(record_load)(uint32_t text, uint32_t length, uint32_t workers)
+{
+	return pidtab_record_load(&held.record, pointer(text), length, at.numbers, workers, &at.fault);
+}
+
+/* The ordinal is the first of the numbers afterwards. */
+uint32_t EXPORTED(record_call)(uint32_t worker)
+{
+	return pidtab_record_call(&held.record, worker, &at.call, &at.reply, at.numbers);
+}
+
+uint32_t EXPORTED(record_line)(uint32_t worker, uint32_t length, uint32_t room)
+{
+	return pidtab_record_line(&held.record, worker, at.line, length, at.answer, room < ANSWER_ROOM ? room : ANSWER_ROOM, &at.size, at.numbers);
+}
+
+uint32_t EXPORTED(record_ask)(void)
+{
+	return pidtab_record_ask(&held.record, &at.call, &at.reply);
+}
+
+uint32_t EXPORTED(record_stat)(uint32_t caller, uint32_t number)
+{
+	return pidtab_record_stat(&held.record, caller, number, &at.task);
+}
+
+uint32_t EXPORTED(record_counts)(void)
+{
+	return pidtab_record_counts(&held.record, &at.numbers[0], &at.numbers[1]);
+}
+
+uint32_t EXPORTED(record_worker)(uint32_t worker)
+{
+	return pidtab_record_worker(&held.record, worker, at.numbers);
+}
+
+/* The entry with the ordinal that is the first of the numbers, which is its worker afterwards. */
+uint32_t EXPORTED(record_entry)(void)
+{
+	return pidtab_record_entry(&held.record, at.numbers[0], at.numbers, &at.call, &at.reply);
+}
+
+uint32_t EXPORTED(record_checkpoint)(void)
+{
+	return pidtab_record_checkpoint(&held.record);
+}
+
+/* Where as many calls were recorded as the first of the numbers says. */
+uint32_t EXPORTED(record_checkpoint_at)(void)
+{
+	return pidtab_record_checkpoint_at(&held.record, at.numbers[0]);
+}
+
+uint32_t EXPORTED(record_list)(uint32_t room, uint32_t size)
+{
+	return pidtab_record_list(&held.record, pointer(room), size, &at.size);
+}
+
+uint32_t EXPORTED(record_opening)(uint32_t room, uint32_t size)
+{
+	return pidtab_record_opening(&held.record, pointer(room), size, &at.size);
+}
+
+uint32_t EXPORTED(record_dump)(uint32_t room, uint32_t size)
+{
+	return pidtab_record_dump(&held.record, pointer(room), size, &at.size);
+}

@@ -1,0 +1,428 @@
+/* The functions that guard.c and guard_record.c call, over an instance of the module. What a function takes is written into the memory of the instance
+ * at the places of bindings/js/wasm/around.c, and what it tells is read from there. */
+#if defined(__GNUC__) && !defined(__TINYC__)
+#pragma GCC diagnostic pop
+#endif
+
+typedef Z_pidtab_instance_t instance;
+
+enum place { CALL, REPLY, TASK, FAULT, NUMBERS, SIZE, LINE, ANSWER };
+enum { LINE_ROOM = 208 };
+
+static uint8_t *at_place(instance *it, enum place what)
+{
+	return it->w2c_memory.data + Z_pidtabZ_place_of(it, what);
+}
+
+static void put(instance *it, enum place what, const void *from, size_t size)
+{
+	memcpy(at_place(it, what), from, size);
+}
+
+static void get(instance *it, enum place what, void *to, size_t size)
+{
+	memcpy(to, at_place(it, what), size);
+}
+
+static size_t told_size(instance *it)
+{
+	uint64_t size;
+
+	get(it, SIZE, &size, sizeof size);
+	return (size_t)size;
+}
+
+/* A new instance, or null. */
+static instance *new_instance(void)
+{
+	instance *it = PIDTAB_MALLOC(sizeof *it);
+
+	if (!it)
+		return NULL;
+	memset(it, 0, sizeof *it);
+	Z_pidtab_instantiate(it);
+	if (it->w2c_memory.data)
+		return it;
+	PIDTAB_FREE(it);
+	return NULL;
+}
+
+static void free_instance(instance *it)
+{
+	wasm_rt_free_memory(&it->w2c_memory);
+	PIDTAB_FREE(it);
+}
+
+/* Keeps the instance where its table was opened, and frees it where not. */
+static uint32_t kept(void **at, bool *is_open, instance *it, uint32_t status)
+{
+	if (status != PIDTAB_DONE) {
+		free_instance(it);
+		return status;
+	}
+	*at = it;
+	*is_open = true;
+	return status;
+}
+
+static void closed(void **at, bool *is_open)
+{
+	if (*is_open)
+		free_instance(*at);
+	*at = NULL;
+	*is_open = false;
+}
+
+/* A function of the module that writes a text into a room of its memory. */
+typedef uint32_t write_text(instance *it, uint32_t room, uint32_t size);
+
+/* The text in a room of the caller: first its length is asked. */
+static uint32_t written(instance *it, write_text *write, void *bytes, size_t room, size_t *size)
+{
+	uint32_t status = write(it, 0, 0), address;
+
+	if (status != PIDTAB_NO_ROOM)
+		return status;
+	*size = told_size(it);
+	if (*size > room)
+		return PIDTAB_NO_ROOM;
+	address = Z_pidtabZ_take(it, (uint32_t)*size);
+	if (!address)
+		return PIDTAB_NO_MEMORY;
+	status = write(it, address, (uint32_t)*size);
+	if (status == PIDTAB_DONE)
+		memcpy(bytes, it->w2c_memory.data + address, *size);
+	Z_pidtabZ_give(it, address);
+	return status;
+}
+
+/* The address of a copy of a text in the memory of the instance, or 0. */
+static uint32_t copied(instance *it, const void *text, size_t length)
+{
+	uint32_t address = length < UINT32_MAX ? Z_pidtabZ_take(it, (uint32_t)length) : 0;
+
+	if (address)
+		memcpy(it->w2c_memory.data + address, text, length);
+	return address;
+}
+
+/* How much of a line is handed over: one that is too long stays so. */
+static uint32_t put_line(instance *it, const void *line, size_t length)
+{
+	uint32_t size = length < LINE_ROOM ? (uint32_t)length : LINE_ROOM;
+
+	put(it, LINE, line, size);
+	return size;
+}
+
+static uint32_t short_room(size_t room)
+{
+	return room < PIDTAB_LONGEST_ANSWER ? (uint32_t)room : PIDTAB_LONGEST_ANSWER;
+}
+
+static uint32_t answered(instance *it, uint32_t status, void *answer, size_t *size)
+{
+	if (status == PIDTAB_DONE) {
+		*size = told_size(it);
+		get(it, ANSWER, answer, *size);
+	}
+	return status;
+}
+
+static uint32_t fetched(instance *it, uint32_t status, enum place what, void *to, size_t size)
+{
+	if (status == PIDTAB_DONE)
+		get(it, what, to, size);
+	return status;
+}
+
+uint32_t pidtab_version(void)
+{
+	return PIDTAB_VERSION;
+}
+
+/* The call's line needs no table, and so an instance of its own. */
+uint32_t pidtab_call_line(const struct pidtab_call *call, void *line, size_t room, size_t *size)
+{
+	instance *it = new_instance();
+	uint32_t status;
+
+	if (!it)
+		return PIDTAB_NO_MEMORY;
+	put(it, CALL, call, sizeof *call);
+	status = Z_pidtabZ_call_line(it);
+	if (status == PIDTAB_DONE) {
+		*size = told_size(it);
+		if (*size > room)
+			status = PIDTAB_NO_ROOM;
+		else
+			get(it, LINE, line, *size);
+	}
+	free_instance(it);
+	return status;
+}
+
+uint32_t proved_open(struct pidtab *table, uint32_t pid_max)
+{
+	instance *it;
+
+	if (table->is_open)
+		return PIDTAB_BUSY;
+	it = new_instance();
+	return it ? kept(&table->at, &table->is_open, it, Z_pidtabZ_open(it, pid_max)) : PIDTAB_NO_MEMORY;
+}
+
+void proved_close(struct pidtab *table)
+{
+	closed(&table->at, &table->is_open);
+}
+
+uint32_t proved_load(struct pidtab *table, const void *text, size_t length, struct pidtab_fault *fault)
+{
+	instance *it;
+	uint32_t address, status = PIDTAB_NO_MEMORY;
+
+	*fault = (struct pidtab_fault){ 0, 0 };
+	if (table->is_open)
+		return PIDTAB_BUSY;
+	it = new_instance();
+	if (!it)
+		return status;
+	address = copied(it, text, length);
+	if (address) {
+		status = Z_pidtabZ_load(it, address, (uint32_t)length);
+		get(it, FAULT, fault, sizeof *fault);
+		Z_pidtabZ_give(it, address);
+	}
+	return kept(&table->at, &table->is_open, it, status);
+}
+
+uint32_t proved_line(struct pidtab *table, const void *line, size_t length, void *answer, size_t room, size_t *size)
+{
+	instance *it = table->at;
+
+	if (!table->is_open)
+		return PIDTAB_CLOSED;
+	return answered(it, Z_pidtabZ_line(it, put_line(it, line, length), short_room(room)), answer, size);
+}
+
+uint32_t proved_list(struct pidtab *table, void *bytes, size_t room, size_t *size)
+{
+	return table->is_open ? written(table->at, Z_pidtabZ_list, bytes, room, size) : PIDTAB_CLOSED;
+}
+
+uint32_t proved_dump(struct pidtab *table, void *bytes, size_t room, size_t *size)
+{
+	return table->is_open ? written(table->at, Z_pidtabZ_dump, bytes, room, size) : PIDTAB_CLOSED;
+}
+
+uint32_t proved_call(struct pidtab *table, const struct pidtab_call *call, struct pidtab_reply *reply)
+{
+	instance *it = table->at;
+
+	if (!table->is_open)
+		return PIDTAB_CLOSED;
+	put(it, CALL, call, sizeof *call);
+	return fetched(it, Z_pidtabZ_call(it), REPLY, reply, sizeof *reply);
+}
+
+uint32_t proved_ask(struct pidtab *table, const struct pidtab_call *call, struct pidtab_reply *reply)
+{
+	instance *it = table->at;
+
+	if (!table->is_open)
+		return PIDTAB_CLOSED;
+	put(it, CALL, call, sizeof *call);
+	return fetched(it, Z_pidtabZ_ask(it), REPLY, reply, sizeof *reply);
+}
+
+uint32_t proved_stat(struct pidtab *table, uint32_t caller, uint32_t number, struct pidtab_task *task)
+{
+	instance *it = table->at;
+
+	return table->is_open ? fetched(it, Z_pidtabZ_stat(it, caller, number), TASK, task, sizeof *task) : PIDTAB_CLOSED;
+}
+
+uint32_t proved_record_open(struct pidtab_record *record, uint32_t pid_max, uint64_t first_stamp, uint32_t workers)
+{
+	instance *it;
+
+	if (record->is_open)
+		return PIDTAB_BUSY;
+	it = new_instance();
+	if (!it)
+		return PIDTAB_NO_MEMORY;
+	put(it, NUMBERS, &first_stamp, sizeof first_stamp);
+	return kept(&record->at, &record->is_open, it, Z_pidtabZ_record_open(it, pid_max, workers));
+}
+
+void proved_record_close(struct pidtab_record *record)
+{
+	closed(&record->at, &record->is_open);
+}
+
+/* The counts have room for as many workers as there may be; more are out of range whatever they are. */
+uint32_t proved_record_load(struct pidtab_record *record, const void *text, size_t length, const uint64_t *counts, size_t workers, struct pidtab_fault *fault)
+{
+	size_t known = workers < PIDTAB_MOST_WORKERS ? workers : PIDTAB_MOST_WORKERS;
+	instance *it;
+	uint32_t address, status = PIDTAB_NO_MEMORY;
+
+	*fault = (struct pidtab_fault){ 0, 0 };
+	if (record->is_open)
+		return PIDTAB_BUSY;
+	if (workers > known)
+		return PIDTAB_OUT_OF_RANGE;
+	it = new_instance();
+	if (!it)
+		return status;
+	address = copied(it, text, length);
+	if (address) {
+		put(it, NUMBERS, counts, known * sizeof *counts);
+		status = Z_pidtabZ_record_load(it, address, (uint32_t)length, (uint32_t)workers);
+		get(it, FAULT, fault, sizeof *fault);
+		Z_pidtabZ_give(it, address);
+	}
+	return kept(&record->at, &record->is_open, it, status);
+}
+
+uint32_t proved_record_call(struct pidtab_record *record, uint32_t worker, const struct pidtab_call *call, struct pidtab_reply *reply, uint64_t *ordinal)
+{
+	instance *it = record->at;
+
+	if (!record->is_open)
+		return PIDTAB_CLOSED;
+	put(it, CALL, call, sizeof *call);
+	return fetched(it, fetched(it, Z_pidtabZ_record_call(it, worker), REPLY, reply, sizeof *reply), NUMBERS, ordinal, sizeof *ordinal);
+}
+
+uint32_t proved_record_line(struct pidtab_record *record, uint32_t worker, const void *line, size_t length, void *answer, size_t room, size_t *size, uint64_t *ordinal)
+{
+	instance *it = record->at;
+	uint32_t status;
+
+	if (!record->is_open)
+		return PIDTAB_CLOSED;
+	status = Z_pidtabZ_record_line(it, worker, put_line(it, line, length), short_room(room));
+	return fetched(it, answered(it, status, answer, size), NUMBERS, ordinal, sizeof *ordinal);
+}
+
+uint32_t proved_record_ask(struct pidtab_record *record, const struct pidtab_call *call, struct pidtab_reply *reply)
+{
+	instance *it = record->at;
+
+	if (!record->is_open)
+		return PIDTAB_CLOSED;
+	put(it, CALL, call, sizeof *call);
+	return fetched(it, Z_pidtabZ_record_ask(it), REPLY, reply, sizeof *reply);
+}
+
+uint32_t proved_record_stat(struct pidtab_record *record, uint32_t caller, uint32_t number, struct pidtab_task *task)
+{
+	instance *it = record->at;
+
+	return record->is_open ? fetched(it, Z_pidtabZ_record_stat(it, caller, number), TASK, task, sizeof *task) : PIDTAB_CLOSED;
+}
+
+uint32_t proved_record_counts(struct pidtab_record *record, uint64_t *first_kept, uint64_t *recorded)
+{
+	instance *it = record->at;
+	uint64_t counts[2] = { 0, 0 };
+	uint32_t status = record->is_open ? fetched(it, Z_pidtabZ_record_counts(it), NUMBERS, counts, sizeof counts) : PIDTAB_CLOSED;
+
+	if (status == PIDTAB_DONE) {
+		*first_kept = counts[0];
+		*recorded = counts[1];
+	}
+	return status;
+}
+
+uint32_t proved_record_worker(struct pidtab_record *record, uint32_t worker, uint64_t *calls)
+{
+	instance *it = record->at;
+
+	return record->is_open ? fetched(it, Z_pidtabZ_record_worker(it, worker), NUMBERS, calls, sizeof *calls) : PIDTAB_CLOSED;
+}
+
+uint32_t proved_record_entry(struct pidtab_record *record, uint64_t ordinal, uint64_t *worker, struct pidtab_call *call, struct pidtab_reply *reply)
+{
+	instance *it = record->at;
+	uint32_t status;
+
+	if (!record->is_open)
+		return PIDTAB_CLOSED;
+	put(it, NUMBERS, &ordinal, sizeof ordinal);
+	status = fetched(it, Z_pidtabZ_record_entry(it), NUMBERS, worker, sizeof *worker);
+	return fetched(it, fetched(it, status, CALL, call, sizeof *call), REPLY, reply, sizeof *reply);
+}
+
+uint32_t proved_record_read(struct pidtab_record *record, uint64_t from, struct pidtab_entry *entries, size_t room, size_t *count)
+{
+	uint64_t first = 0, recorded = 0;
+	uint32_t status = proved_record_counts(record, &first, &recorded);
+
+	if (status != PIDTAB_DONE)
+		return status;
+	if (from < first || from > recorded)
+		return PIDTAB_NOT_KEPT;
+	for (*count = 0; *count < room && from + *count < recorded; ++*count) {
+		struct pidtab_entry *it = &entries[*count];
+		status = proved_record_entry(record, from + *count, &it->worker, &it->call, &it->reply);
+		if (status != PIDTAB_DONE)
+			return status;
+	}
+	return PIDTAB_DONE;
+}
+
+static bool is_same(const struct pidtab_reply *one, const struct pidtab_reply *other)
+{
+	return one->kind == other->kind && one->error == other->error && one->refusal == other->refusal && one->count == other->count &&
+		one->first == other->first && one->second == other->second && memcmp(one->levels, other->levels, sizeof one->levels) == 0;
+}
+
+uint32_t proved_record_replay(struct pidtab_record *record, const struct pidtab_entry *saved, size_t count, size_t *place)
+{
+	if (!record->is_open)
+		return PIDTAB_CLOSED;
+	for (*place = 0; *place < count; ++*place) {
+		struct pidtab_reply reply;
+		uint64_t ordinal;
+		uint32_t worker = saved[*place].worker < PIDTAB_MOST_WORKERS ? (uint32_t)saved[*place].worker : PIDTAB_MOST_WORKERS;
+		uint32_t status = proved_record_call(record, worker, &saved[*place].call, &reply, &ordinal);
+		if (status != PIDTAB_DONE)
+			return status;
+		if (!is_same(&reply, &saved[*place].reply))
+			return PIDTAB_DIFFERS;
+	}
+	return PIDTAB_DONE;
+}
+
+uint32_t proved_record_checkpoint(struct pidtab_record *record)
+{
+	return record->is_open ? Z_pidtabZ_record_checkpoint(record->at) : PIDTAB_CLOSED;
+}
+
+uint32_t proved_record_checkpoint_at(struct pidtab_record *record, uint64_t seen)
+{
+	instance *it = record->at;
+
+	if (!record->is_open)
+		return PIDTAB_CLOSED;
+	put(it, NUMBERS, &seen, sizeof seen);
+	return Z_pidtabZ_record_checkpoint_at(it);
+}
+
+uint32_t proved_record_list(struct pidtab_record *record, void *bytes, size_t room, size_t *size)
+{
+	return record->is_open ? written(record->at, Z_pidtabZ_record_list, bytes, room, size) : PIDTAB_CLOSED;
+}
+
+uint32_t proved_record_opening(struct pidtab_record *record, void *bytes, size_t room, size_t *size)
+{
+	return record->is_open ? written(record->at, Z_pidtabZ_record_opening, bytes, room, size) : PIDTAB_CLOSED;
+}
+
+uint32_t proved_record_dump(struct pidtab_record *record, void *bytes, size_t room, size_t *size)
+{
+	return record->is_open ? written(record->at, Z_pidtabZ_record_dump, bytes, room, size) : PIDTAB_CLOSED;
+}
