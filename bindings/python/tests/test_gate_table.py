@@ -58,6 +58,7 @@ COMMANDS = [
     (["rattle", "build", "--crate-name", "low", "src/lib.rt", "--test", "-o", "out/low_tests.o"], "/top/crates/low", "low", "tests"),
     (["rattle", "check", "--crate-name", "low", "--incremental", "/tmp/rt-edits-12-ab/seed"], "/tmp/rt-edit-12-cd", "low", "edits"),
     (["rattle", "check", "--crate-name", "low", "src/lib.rt"], "/tmp/rt-edit-12-cd", "low", "edits"),
+    (["rattle", "check", "--crate-name", "low", "src/lib.rt"], "/tmp/rt-edit-h8_iw", "low", "edits"),
     (["clang", "-o", "out/low"], "/top/crates/low", "low", "proofs"),
     (["/tmp/rt-run-12-ef/bin/low"], "/tmp/rt-run-12-ef/data", "low", "proofs"),
     (["/tmp/rt-run-12-ef/bin/low_tests"], "/tmp/rt-run-12-ef/data", "low", "tests"),
