@@ -16,7 +16,7 @@ use Rattle.task_table.specs.View.{parent_id, space_of, spaces_of, state_of}
 use Rattle.task_table.specs.Lawful.{HasLaws, IsLawful}
 use Rattle.task_table.proofs.Keys.{id_for, own_id, only, on_path, path-is, space_at-key, number-is_key}
 use Rattle.fork_calls.proofs.Draws.{IsPlanned, draw-key, beside-map}
-use Rattle.fork_calls.proofs.Born.{KeepsNamespaces}
+use Rattle.task_table.proofs.Newborn.{KeepsNamespaces}
 
 -- a store's own state is planned so
 pub IsPlanned-own : (s : Store) → IsLawful s → IsPlanned s (state_of s)

@@ -23,7 +23,8 @@ use Rattle.task_table.specs.Whole.{IsWhole}
 use Rattle.task_table.proofs.Keys.{id_for}
 use Rattle.fork_calls.specs.Outcomes.{forked_into}
 use Rattle.fork_calls.proofs.Draws.{draw-key}
-use Rattle.fork_calls.proofs.Born.{KeepsNamespaces, state-born, reply-born}
+use Rattle.task_table.proofs.Newborn.{KeepsNamespaces}
+use Rattle.fork_calls.proofs.Born.{state-born, reply-born}
 use Rattle.fork_calls.proofs.Cursors.{contains-ids, space-moved, gives}
 use Rattle.fork_calls.proofs.Inside as inside
 

@@ -16,7 +16,8 @@ use Rattle.task_table.specs.Whole.{HasParents}
 use Rattle.task_table.proofs.Keys.{path-is}
 use Rattle.fork_calls.specs.Outcomes.{forked_into}
 use Rattle.fork_calls.proofs.Draws.{map-draws}
-use Rattle.fork_calls.proofs.Born.{KeepsNamespaces, state-born, reply-born}
+use Rattle.task_table.proofs.Newborn.{KeepsNamespaces}
+use Rattle.fork_calls.proofs.Born.{state-born, reply-born}
 use Rattle.fork_calls.proofs.Cursors.{IsPlanned-own, spaces-moved}
 
 module _ (s s' : Store) (l : IsLawful s) (l' : IsLawful s') (kin : HasParents s) (key from : ℕ) (task caller : Task) (at : task_at s.tree from ≡ Some caller) (space t : ℕ) (numbers : List ℕ)

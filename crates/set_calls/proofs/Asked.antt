@@ -31,7 +31,7 @@ use Rattle.task_table.proofs.Keys.{number-is_key}
 use Rattle.task_table.proofs.LookUps.{named, group-named, session-named, same-name, rows-in}
 use Rattle.task_table.proofs.InUse.{member}
 use Rattle.set_calls.specs.Asked.{IsTarget, IsNamed, MayJoin}
-use Rattle.set_calls.proofs.Members.{group-name, session-name, who, one-key}
+use Rattle.task_table.proofs.Seated.{group-name, session-name, who, one-key}
 use Rattle.set_calls.proofs.InSession.{session-group-is}
 
 -- nobody asks

@@ -19,7 +19,7 @@ use Rattle.task_table.specs.Lawful.{IsLawful}
 use Rattle.task_table.proofs.Keys.{number-is_key}
 use Rattle.task_table.proofs.LookUps.{group-named, session-named, same-name, in-rows, rows-in}
 use Rattle.task_table.proofs.InUse.{member}
-use Rattle.set_calls.proofs.Members.{group-name, session-name, who}
+use Rattle.task_table.proofs.Seated.{group-name, session-name, who}
 
 -- the row of who asks, whose session and namespace have these keys
 module _ (s : Store) (l : IsLawful s) (row : Row) (session space : ℕ) (here : row.session ≡ name_at s.numbering session) (there : IsSome (identifier_at s.numbering session))

@@ -19,31 +19,17 @@ use Rattle.task_table.specs.View.{name_at, row_of, state_of}
 use Rattle.task_table.specs.Lawful.{IsLawful}
 use Rattle.task_table.proofs.LookUps.{named, group-named, same-name, in-rows, rows-in}
 use Rattle.task_table.proofs.InUse.{member}
+use Rattle.task_table.proofs.Seated.{group-name, who, one-key}
 
 module _ (s : Store) (l : IsLawful s) where
-  -- the names of a row's group and session
-  pub group-name : (k : ℕ) (t : Task) (m : Membership) → membership_at s.members k ≡ Some m → (row_of s k t).group ≡ name_at s.numbering m.group
-  group-name k t m at = ap (λ o. option_map_or (name_at s.numbering) (option_map (λ (i : Membership). i.group) o) root_name) at
-
-  pub session-name : (k : ℕ) (t : Task) (m : Membership) → membership_at s.members k ≡ Some m → (row_of s k t).session ≡ name_at s.numbering m.session
-  session-name k t m at = ap (λ o. option_map_or (name_at s.numbering) (option_map (λ (i : Membership). i.session) o) root_name) at
-
-  -- who is in a group is a task
-  pub who : (k : ℕ) (m : Membership) → membership_at s.members k ≡ Some m → (t : Task) × (task_at s.tree k ≡ Some t)
-  who k m at = held (task_at s.tree k) (sym (l.agree.members k) ∙ ap is_some at)
-
-  -- one name has one key
-  pub one-key : (j k : ℕ) → IsSome (identifier_at s.numbering j) → IsSome (identifier_at s.numbering k) → name_at s.numbering j ≡ name_at s.numbering k → j ≡ k
-  one-key j k at_j at_k e = eqb-true j k (sym (same-name s l j k at_j at_k) ∙ same_name-refl (name_at s.numbering j) (name_at s.numbering k) e)
-
   -- whether somebody is in a task's group
   module _ (k : ℕ) (t : Task) (at : task_at s.tree k ≡ Some t) where
     pub some-members : HasMembers s.members k → has_members (state_of s) (name_at s.numbering k) ≡ true
     some-members some =
         let m = in_group s.members some.0 k some.1 in
-        let v = who some.0 m.0 m.1 in
+        let v = who s l some.0 m.0 m.1 in
         list_any-from_one (λ row. same_name row.group (name_at s.numbering k)) (state_of s).rows (row_of s some.0 v.0) (rows-in s l some.0 v.0 v.1)
-        (same_name-refl (row_of s some.0 v.0).group (name_at s.numbering k) (group-name some.0 v.0 m.0 m.1 ∙ ap (name_at s.numbering) m.2))
+        (same_name-refl (row_of s some.0 v.0).group (name_at s.numbering k) (group-name s l some.0 v.0 m.0 m.1 ∙ ap (name_at s.numbering) m.2))
 
     pub no-members : ((j : ℕ) → group_of s.members j ≢ Some k) → has_members (state_of s) (name_at s.numbering k) ≡ false
     no-members none = go (has_members (state_of s) (name_at s.numbering k)) refl
@@ -57,6 +43,6 @@ module _ (s : Store) (l : IsLawful s) where
             let g = group-named s l f.0 m.0 m.1 in
             let u = named s l k t at in
             let names : name_at s.numbering m.0.group ≡ name_at s.numbering k =
-            sym (ap (λ (row : Row). row.group) f.3 ∙ group-name f.0 f.1 m.0 m.1) ∙ same_name-true (r.0).group (name_at s.numbering k) r.2 in
-            let same : m.0.group ≡ k = one-key m.0.group k (ap is_some g.1) (ap is_some u.1) names in
+            sym (ap (λ (row : Row). row.group) f.3 ∙ group-name s l f.0 f.1 m.0 m.1) ∙ same_name-true (r.0).group (name_at s.numbering k) r.2 in
+            let same : m.0.group ≡ k = one-key s l m.0.group k (ap is_some g.1) (ap is_some u.1) names in
             absurd (none f.0 (ap (option_map (λ (i : Membership). i.group)) m.1 ∙ ap Some same))

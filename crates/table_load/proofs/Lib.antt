@@ -1,4 +1,3 @@
 pub mod LowIds
 pub mod SameControls
 pub mod States
-pub mod Alone

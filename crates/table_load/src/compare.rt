@@ -3,10 +3,10 @@ ghost use Rattle.std.specs.Prelude.{◌≡◌, IfOk, IsTrue, map};
 ghost use Rattle.table_text.specs.Texts.{without_count};
 ghost use Rattle.table_text.specs.Reading.{saved_state};
 
-use crate::lines::{control_line, space_line, task_line};
 use pid_table::PidTable;
 use pid_types::plain::{Control, ControlRow, Plain, Row, Space};
 use std::alloc::AllocError;
+use table_build::lines::{control_line, space_line, task_line};
 use table_text::read::Saved;
 use translate::shown::blank_row;
 

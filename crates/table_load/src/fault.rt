@@ -1,6 +1,7 @@
 //! Why no table is loaded from a text.
 
 use std::alloc::AllocError;
+use table_build::fault::BuildFault;
 use table_text::fault::LoadFault;
 use thiserror::Error;
 
@@ -46,6 +47,10 @@ pub enum RestoreFault {
 }
 
 impl From<AllocError> for RestoreFault {
+    ghost use Rattle.std.specs.Prelude.{◌≡◌};
+
+    ghost from_gives = { λ refused given. given ≡ RestoreFault.NoMemory };
+
     fn from(_refused: AllocError) -> RestoreFault {
         RestoreFault::NoMemory
     }
@@ -62,6 +67,26 @@ impl From<LoadFault> for RestoreFault {
             LoadFault::NoMemory => RestoreFault::NoMemory,
             LoadFault::BadLine(line) => RestoreFault::BadLine(line),
             LoadFault::WrongDigest(line) => RestoreFault::WrongDigest(line),
+        }
+    }
+}
+
+impl From<BuildFault> for RestoreFault {
+    ghost use Rattle.table_load.specs.Faults.{IsOfForm};
+
+    ghost from_gives = { λ fault given. IsOfForm given → ⊥ };
+
+    fn from(fault: BuildFault) -> RestoreFault {
+        match fault {
+            BuildFault::NoMemory => RestoreFault::NoMemory,
+            BuildFault::BadSettings(line) => RestoreFault::BadSettings(line),
+            BuildFault::Unsorted(line) => RestoreFault::Unsorted(line),
+            BuildFault::UnknownParent(line) => RestoreFault::UnknownParent(line),
+            BuildFault::UnknownNamespace(line) => RestoreFault::UnknownNamespace(line),
+            BuildFault::UnknownGroup(line) => RestoreFault::UnknownGroup(line),
+            BuildFault::BadName(line) => RestoreFault::BadName(line),
+            BuildFault::TakenNumber(line) => RestoreFault::TakenNumber(line),
+            BuildFault::Impossible(line) => RestoreFault::Impossible(line),
         }
     }
 }

@@ -1,9 +1,10 @@
 //! The lines of what makes a state unsound.
+ghost use Rattle.table_load.specs.Faults.{IsOfForm};
 
 use crate::fault::RestoreFault;
-use crate::lines::{control_line, space_line, task_line};
 use pid_types::keys::Pid;
 use sound_store::Flaw;
+use table_build::lines::{control_line, space_line, task_line};
 use table_text::read::Saved;
 
 /// The line of the task with the number in the root namespace.
@@ -37,7 +38,9 @@ fn line_of_control(saved: &Saved, id: u64) -> u64 {
 }
 
 /// The fault that a flaw is, with its line.
-pub fn fault_of(saved: &Saved, flaw: Flaw) -> RestoreFault {
+pub fn fault_of(saved: &Saved, flaw: Flaw) -> RestoreFault
+    ensures { IsOfForm result → ⊥ }
+{
     match flaw {
         Flaw::NoMemory => RestoreFault::NoMemory,
         Flaw::NoInit(id) => RestoreFault::NoInit(line_of_space(saved, id)),

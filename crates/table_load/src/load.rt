@@ -6,13 +6,13 @@ ghost use Rattle.table_text.specs.Reading.{IsNoText, saved_state};
 ghost use Rattle.table_text.specs.Texts.{text_of};
 
 use crate::below::is_below;
-use crate::build::build;
 use crate::compare::{first_unlike, is_same};
 use crate::fault::RestoreFault;
 use crate::flaws::fault_of;
 use pid_table::PidTable;
 use sound_store::check_sound;
 use std::alloc::Global;
+use table_build::build::build;
 use table_text::read::{Saved, read_text};
 
 /// A table that was loaded from a text.
@@ -43,24 +43,12 @@ pub fn load(alloc: Global, text: &[u8]) -> Result<Loaded, RestoreFault>
 }
 
 /// The table that a text says which was read. It is the second half of [`load`], for whoever looks at what was read
-/// before a table is made.
+/// before a table is made. The store is made, found to be sound, and compared with what the text says.
 pub fn table_of(alloc: Global, saved: &Saved) -> Result<Loaded, RestoreFault>
     ensures state { IfOk result (λ l. l.table ≡ saved_state saved.now) }
     ensures stamp { IfOk result (λ l. l.stamp ≡ saved.now.stamp) }
     ensures sound { IfOk result (λ l. IsSound l.table × IsBelow l.stamp l.table) }
     ensures form { IfErr result (λ fault. IsOfForm fault → ⊥) }
-{
-    match make_as_said(alloc, saved) {
-        Ok(loaded) => Ok(loaded),
-        Err(fault) => Err(beside_form(fault)),
-    }
-}
-
-/// The store is made, found to be sound, and compared with what the text says.
-fn make_as_said(alloc: Global, saved: &Saved) -> Result<Loaded, RestoreFault>
-    ensures state { IfOk result (λ l. l.table ≡ saved_state saved.now) }
-    ensures stamp { IfOk result (λ l. l.stamp ≡ saved.now.stamp) }
-    ensures sound { IfOk result (λ l. IsSound l.table × IsBelow l.stamp l.table) }
 {
     if !is_below(saved) {
         return Err(RestoreFault::BadSettings(1));
@@ -72,25 +60,13 @@ fn make_as_said(alloc: Global, saved: &Saved) -> Result<Loaded, RestoreFault>
     let table = PidTable::of(store);
     table.laws();
     if !is_same(&table, saved)? {
-        let plain = table.snapshot()?;
-        return Err(RestoreFault::Impossible(first_unlike(&plain, saved)));
+        return Err(RestoreFault::Impossible(first_unlike(
+            &table.snapshot()?,
+            saved,
+        )));
     }
     Ok(Loaded {
         table,
         stamp: saved.stamp,
     })
-}
-
-/// A fault of what a text says. It is none of the text's form, which was read.
-fn beside_form(fault: RestoreFault) -> RestoreFault
-    ensures form { IsOfForm result → ⊥ }
-    ensures other { (IsOfForm fault → ⊥) → result ≡ fault }
-{
-    match fault {
-        // Never so: nothing behind the reading says this.
-        RestoreFault::BadLine(line) | RestoreFault::WrongDigest(line) => {
-            RestoreFault::Impossible(line)
-        }
-        other => other,
-    }
 }

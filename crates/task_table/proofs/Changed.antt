@@ -107,14 +107,14 @@ module _ (s s' : Store) (l : IsLawful s) (l' : IsLawful s') (k : ℕ) (t t' : Ta
   pub task-others : (j : ℕ) → j ≢ k → task_at s'.tree j ≡ task_at s.tree j
   task-others j m = ap (λ ts. get_or ts j None) r.tasks ∙ get_or-set_other s.tree.tasks k j (Some t') None m
 
-  row-same : (j : ℕ) (v : Task) → row_of s' j v ≡ row_of s j v
+  pub row-same : (j : ℕ) (v : Task) → row_of s' j v ≡ row_of s j v
   row-same j v = row-ext (row_of s' j v) (row_of s j v) (ap (λ b. name_at b j) r.numbering)
       (ap (λ b. option_map (name_at b) (parent_of s'.tree j)) r.numbering ∙ ap (option_map (name_at s.numbering)) (r.parents j))
       (ap (λ b. option_map_or (name_at b) (group_of s'.members j) root_name) r.numbering ∙ ap (λ ms. option_map_or (name_at s.numbering) (group_of ms j) root_name) r.members)
       (ap (λ b. option_map_or (name_at b) (session_of s'.members j) root_name) r.numbering ∙ ap (λ ms. option_map_or (name_at s.numbering) (session_of ms j) root_name) r.members)
       refl refl (r.homes v.home) refl refl
 
-  others_same : (j : ℕ) → j ≢ k → row_with s' j ≡ row_with s j
+  pub others_same : (j : ℕ) → j ≢ k → row_with s' j ≡ row_with s j
   others_same j m = ap (option_map (row_of s' j)) (task-others j m) ∙ ap (λ (f : Task → Row). option_map f (task_at s.tree j)) (λ i v. row-same j v i)
 
   -- the model's row of the task is changed, and nothing else

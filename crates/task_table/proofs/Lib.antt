@@ -14,3 +14,7 @@ pub mod UseCounts
 pub mod Groups
 pub mod Rest
 pub mod Births
+pub mod Seated
+pub mod Newborn
+pub mod Regrouped
+pub mod Gone

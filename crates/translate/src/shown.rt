@@ -21,9 +21,9 @@ use std::alloc::AllocError;
 use task_table::Tasks;
 use task_table::view::{Found, find_task, laws};
 
-/// Writes the name of an identifier.
+/// Writes the name of an identifier over another.
 #[inline(always)]
-fn write_name(store: &Tasks, key: IdentKey, name: &mut Name)
+pub fn write_name(store: &Tasks, key: IdentKey, name: &mut Name)
     requires { IsSome (identifier_at store.now.numbering key) }
     ensures { name.new ≡ name_at store.now.numbering key }
 {

@@ -1,36 +1,23 @@
 -- What is left in the model when a zombie without children is gone.
-use Rattle.std.proofs.Common.{◌≡◌, ◌≢◌, ◌⊎◌, inl, inr, ℕ, ◌+◌, ◌-◌, Bool, true, false, not, ◌||◌, nat_lt, filter, get_or, Option, Some, None, is_some, if◌then◌else◌, refl, sym, ap, ◌∙◌, arith, option_map, option_and_then}
-use Rattle.std.specs.Prelude.{slice_set}
-use Rattle.std.specs.Option.{option_map_or}
-use Rattle.std.proofs.lemmas.Bool.{cases_eq, eqb-true}
-use Rattle.std.proofs.lemmas.List.{get_or-set_same, get_or-set_other}
+use Rattle.std.proofs.Common.{◌≡◌, ◌≢◌, ℕ, true, false, not, filter, Option, Some, None, is_some, sym, ap, ◌∙◌, option_map}
+use Rattle.std.proofs.lemmas.Bool.{eqb-true}
 use Rattle.pid_types.specs.declared.plain.Row.{Row}
 use Rattle.pid_types.specs.Names.{same_name, is_live}
 use Rattle.pid_types.specs.Outcome.{sweep}
 use Rattle.pid_types.specs.Wait.{without_row}
 use Rattle.model_laws.proofs.Names.{same_name-refl}
-use Rattle.pids_charge.specs.Charges.{Home, home_at, live_at, zombies_at, kept, ChangesHome, id_at as home_id}
 use Rattle.task_tree.specs.declared.Task.{Task}
 use Rattle.task_tree.specs.Tree.{task_at, parent_of, lives}
-use Rattle.task_table.specs.Store.{Store, IsLess, home_without}
+use Rattle.task_table.specs.Store.{Store}
 use Rattle.task_table.proofs.Less.{number-less}
-use Rattle.task_table.proofs.Changes.{in_range, live_some, zombie_some}
-use Rattle.task_table.specs.View.{name_at, row_of, row_with, state_of}
+use Rattle.task_table.specs.View.{name_at, row_of, state_of}
 use Rattle.task_table.specs.Lawful.{IsLawful}
 use Rattle.task_table.specs.Whole.{HasParents, IsWhole}
 use Rattle.task_table.proofs.LookUps.{named, same-name, in-rows, rows-in}
 use Rattle.task_table.proofs.Rows.{rows-without}
-use Rattle.task_table.proofs.Sweeps.{name-less}
-use Rattle.task_table.proofs.Changed.{swept, row-left}
-
--- where a task is home there is a control group's key
-home-there : (s : Store) → IsLawful s → (k : ℕ) (t : Task) → task_at s.tree k ≡ Some t → (h : Home) × (home_at s.charges t.home ≡ Some h)
-home-there s l k t at = go (home_at s.charges t.home) refl (lives t) refl
-  where
-    go : (o : Option Home) → home_at s.charges t.home ≡ o → (b : Bool) → lives t ≡ b → (h : Home) × (home_at s.charges t.home ≡ Some h)
-    go (Some h) e b is = (h, e)
-    go None e true is = absurd (let some = live_some s l.agree k t at is in let z : live_at s.charges t.home ≡ 0 = ap (λ o. option_map_or (λ h. h.live) o 0) e in omega (arith, some, z))
-    go None e false is = absurd (let some = zombie_some s l.agree k t at is in let z : zombies_at s.charges t.home ≡ 0 = ap (λ o. option_map_or (λ h. h.zombies) o 0) e in omega (arith, some, z))
+use Rattle.task_table.proofs.Changed.{swept}
+use Rattle.task_table.proofs.Gone as left
+use Rattle.task_table.proofs.Gone.{IsGone}
 
 -- in a sound state no zombie has children
 pub childless : (s : Store) → IsLawful s → IsWhole s → (k : ℕ) (t : Task) → task_at s.tree k ≡ Some t → lives t ≡ false → (j : ℕ) → parent_of s.tree j ≢ Some k
@@ -50,68 +37,12 @@ childless s l w k t at ended j child = go (task_at s.tree j) refl
         let is : f.1 ≡ t = cc in
         absurd (let z : false ≡ true = sym ended ∙ ap lives (sym is) ∙ sym (ap is_live f.3) ∙ r.3 in cc)
 
--- a task is gone
-pub record IsGone (s s' : Store) (k : ℕ) (t : Task) : Type 0 where
-  pub tasks : s'.tree.tasks ≡ slice_set s.tree.tasks k None
-  pub parent : parent_of s'.tree k ≡ None
-  pub parents : (j : ℕ) → j ≢ k → parent_of s'.tree j ≡ parent_of s.tree j
-  pub members : s'.members ≡ slice_set s.members k None
-  pub home : ChangesHome s.charges s'.charges t.home (option_and_then (λ (h : Home). kept (home_without t h)) (home_at s.charges t.home))
-  pub numbers : IsLess s.numbering s'.numbering
-
 module _ (s s' : Store) (l : IsLawful s) (l' : IsLawful s') (w : IsWhole s) (k : ℕ) (t : Task) (at : task_at s.tree k ≡ Some t) (ended : lives t ≡ false) (g : IsGone s s' k t) where
-  gone : task_at s'.tree k ≡ None
-  gone = ap (λ ts. get_or ts k None) g.tasks ∙ get_or-set_same s.tree.tasks k None None (in_range s.tree.tasks k (ap is_some at))
-
-  others : (j : ℕ) → j ≢ k → task_at s'.tree j ≡ task_at s.tree j
-  others j m = ap (λ ts. get_or ts j None) g.tasks ∙ get_or-set_other s.tree.tasks k j None None m
-
-  -- who is left had another key
-  other : (j : ℕ) (v : Task) → task_at s'.tree j ≡ Some v → j ≢ k
-  other j v e same = let z : None ≡ Some v = sym gone ∙ ap (task_at s'.tree) (sym same) ∙ e in cc
+  alone : (j : ℕ) → parent_of s.tree j ≢ Some k
+  alone = childless s l w k t at ended
 
   pub parents-left : HasParents s'
-  parents-left j p e = elim (cases_eq j k) [
-    | inl same ↦ absurd (let z : None ≡ Some p = sym g.parent ∙ ap (parent_of s'.tree) (sym same) ∙ e in cc)
-    | inr differs ↦
-        let old : parent_of s.tree j ≡ Some p = sym (g.parents j differs) ∙ e in
-        let not : p ≢ k = λ same. childless s l w k t at ended j (old ∙ ap Some same) in
-        ap is_some (others p not) ∙ w.parents j p old
-  ]
-
-  same_id : (h h' : Home) → kept (home_without t h) ≡ Some h' → h'.id ≡ h.id
-  same_id h h' e = go ((home_without t h).stands || nat_lt 0 ((home_without t h).live + (home_without t h).zombies)) refl e ∙ ap (λ (b : Bool). (if b then record h { live = h.live - 1 } else record h { zombies = h.zombies - 1 }).id) ended
-    where
-      go : (b : Bool) → ((home_without t h).stands || nat_lt 0 ((home_without t h).live + (home_without t h).zombies)) ≡ b → (if b then Some (home_without t h) else None) ≡ Some h' → h'.id ≡ (home_without t h).id
-      go false is e = absurd (cc)
-      go true is e = ap (λ (o : Option Home). option_map_or (λ x. x.id) o 0) (sym e)
-
-  -- a control group's key keeps its id as long as a task has it as home
-  home-left : (j : ℕ) (v : Task) → task_at s'.tree j ≡ Some v → home_id s'.charges v.home ≡ home_id s.charges v.home
-  home-left j v e = go (cases_eq v.home t.home)
-    where
-      old : (h' : Home) → (o : Option Home) → home_at s.charges t.home ≡ o → option_and_then (λ (h : Home). kept (home_without t h)) o ≡ Some h' → h'.id ≡ home_id s.charges t.home
-      old h' None is e = absurd (cc)
-      old h' (Some h) is e = same_id h h' e ∙ sym (ap (λ (o : Option Home). option_map_or (λ x. x.id) o 0) is)
-
-      go : (v.home ≡ t.home) ⊎ (v.home ≢ t.home) → home_id s'.charges v.home ≡ home_id s.charges v.home
-      go (inr differs) = ap (λ (o : Option Home). option_map_or (λ x. x.id) o 0) (g.home.others v.home differs)
-      go (inl same) =
-          let h = home-there s' l' j v e in
-          ap (λ (o : Option Home). option_map_or (λ x. x.id) o 0) h.1
-          ∙ old h.0 (home_at s.charges t.home) refl (sym g.home.here ∙ sym (ap (home_at s'.charges) same) ∙ h.1)
-          ∙ sym (ap (home_id s.charges) same)
-
-  row_left : (j : ℕ) → j ≢ k → row_with s' j ≡ row_with s j
-  row_left j m = go (task_at s'.tree j) refl
-    where
-      go : (o : Option Task) → task_at s'.tree j ≡ o → row_with s' j ≡ row_with s j
-      go None e = ap (option_map (row_of s' j)) e ∙ sym (ap (option_map (row_of s j)) (sym (others j m) ∙ e))
-      go (Some v) e =
-          ap (option_map (row_of s' j)) e
-          ∙ ap Some (row-left s s' l' (name-less s.numbering s'.numbering l.numbering g.numbers) j v e (g.parents j m) (λ p f. parents-left j p f)
-          (ap (λ ms. get_or ms j None) g.members ∙ get_or-set_other s.members k j None None m) (home-left j v e))
-          ∙ sym (ap (option_map (row_of s j)) (sym (others j m) ∙ e))
+  parents-left = left.parents-left s s' l l' w.parents k t at alone g
 
   -- the model's state without its row
   pub reaped : sweep (without_row (state_of s) (row_of s k t)) ≡ state_of s'
@@ -119,5 +50,5 @@ module _ (s s' : Store) (l : IsLawful s) (l' : IsLawful s') (w : IsWhole s) (k :
   reaped =
       swept s.numbering l.numbering s' l' g.numbers (record (state_of s) { rows = filter (λ row. not (same_name row.name (name_at s.numbering k))) (state_of s).rows })
       (sym (rows-without s s' l l' g.numbers.bound
-      (λ j v e. let u = named s' l' j v e in number-less s.numbering l.numbering.full l.numbering.own s'.numbering g.numbers j u.0 u.1 0) k t at gone row_left))
+      (λ j v e. let u = named s' l' j v e in number-less s.numbering l.numbering.full l.numbering.own s'.numbering g.numbers j u.0 u.1 0) k t at (left.gone s s' l l' w.parents k t at alone g) (left.row_left s s' l l' w.parents k t at alone g)))
       refl (sym g.home.controls) (sym g.numbers.bound)

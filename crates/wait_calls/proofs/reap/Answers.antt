@@ -1,5 +1,6 @@
 use Rattle.std.proofs.Common.{rules, sym}
-use Rattle.wait_calls.proofs.Gone.{IsGone, reaped, parents-left}
+use Rattle.task_table.proofs.Gone.{IsGone}
+use Rattle.wait_calls.proofs.Gone.{reaped, parents-left}
 use Rattle.wait_calls.proofs.reap.Goals as goal
 
 pub returns-in-Zombie : goal.returns-in-Zombie

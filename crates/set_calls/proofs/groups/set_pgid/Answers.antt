@@ -9,7 +9,8 @@ use Rattle.pid_types.specs.Groups.{set_group, set_pgid}
 use Rattle.task_tree.specs.Tree.{task_at}
 use Rattle.groups_sessions.specs.Membership.{Membership, membership_at}
 use Rattle.task_table.specs.View.{name_at, state_of}
-use Rattle.set_calls.proofs.Regrouped.{IsRegrouped, joined, parents-regrouped}
+use Rattle.task_table.proofs.Regrouped.{IsRegrouped, parents-regrouped}
+use Rattle.set_calls.proofs.Regrouped.{joined}
 use Rattle.set_calls.proofs.groups.set_pgid.Goals as goal
 
 pub returns-in-Ok : goal.returns-in-Ok

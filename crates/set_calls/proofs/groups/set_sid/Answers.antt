@@ -5,7 +5,7 @@ use Rattle.pid_types.specs.Outcome.{Outcome, refused}
 use Rattle.pid_types.specs.Groups.{start_session}
 use Rattle.groups_sessions.specs.Membership.{Membership}
 use Rattle.task_table.specs.View.{state_of}
-use Rattle.set_calls.proofs.Regrouped.{IsRegrouped, regrouped, parents-regrouped}
+use Rattle.task_table.proofs.Regrouped.{IsRegrouped, regrouped, parents-regrouped}
 use Rattle.set_calls.proofs.Led.{refuses, leads}
 use Rattle.set_calls.proofs.groups.set_sid.Goals as goal
 

@@ -1,0 +1,111 @@
+-- The rows of a store, of which those of the lines are known.
+use Rattle.std.proofs.Common.{◌≡◌, ◌≢◌, inl, inr, ℕ, zero, suc, ◌+◌, ◌<◌, ◌≤◌, Bool, true, false, List, [], ◌∷◌, length, map, slice_get, Option, Some, None, refl, sym, ap, subst, ◌∙◌, arith, option_map}
+use Rattle.std.specs.Option.{option_map_or}
+use Rattle.pid_types.specs.declared.plain.Row.{Row}
+use Rattle.pid_types.specs.Membership.{IsIn}
+use Rattle.pid_types.specs.Names.{root_number}
+use Rattle.pid_types.specs.Sound.{IsRising}
+use Rattle.task_tree.specs.declared.Task.{Task}
+use Rattle.task_tree.specs.Tree.{task_at}
+use Rattle.task_table.specs.Store.{Store}
+use Rattle.task_table.specs.Collect.{collect}
+use Rattle.task_table.specs.View.{name_at, row_of, row_with, row_numbered, state_of}
+use Rattle.task_table.specs.Lawful.{IsLawful}
+use Rattle.task_table.proofs.LookUps.{row-from, rooted, keyed}
+use Rattle.table_build.proofs.Steps.{task-of}
+use Rattle.table_build.specs.declared.placed.Placed.{Placed}
+use Rattle.table_build.specs.Lines.{AreLines, IsLine, is_held}
+
+abbrev number_of_row : Row → ℕ
+number_of_row r = root_number r.name
+
+in_map : (r : Row) (rows : List Row) → IsIn r rows → IsIn (number_of_row r) (map number_of_row rows)
+in_map r [] i = absurd i
+in_map r (x ∷ xs) (inl same) = inl (ap number_of_row same)
+in_map r (x ∷ xs) (inr i) = inr (in_map r xs i)
+
+-- what is found at the numbers of a rising list, and at no other number, is that list
+pub gathered : (f : ℕ → Option Row) (rows : List Row) (from len : ℕ) → IsRising (map number_of_row rows)
+    → ((r : Row) → IsIn r rows → (from ≤ number_of_row r) × (number_of_row r < from + len) × (f (number_of_row r) ≡ Some r))
+    → ((n : ℕ) (r : Row) → from ≤ n → f n ≡ Some r → IsIn r rows × (number_of_row r ≡ n))
+    → collect f from len ≡ rows
+gathered f [] from zero rise there back = refl
+gathered f (r ∷ rs) from zero rise there back = absurd (let t = there r (inl refl) in let a = t.0 in let b = t.1 in omega (arith, a, b))
+gathered f rows from (suc len) rise there back = go (f from) refl
+  where
+    none : f from ≡ None → (r : Row) → IsIn r rows → (from + 1 ≤ number_of_row r) × (number_of_row r < from + 1 + len) × (f (number_of_row r) ≡ Some r)
+    none e r i =
+        let t = there r i in
+        let not : from ≢ number_of_row r = (λ same. let z : None ≡ Some r = sym e ∙ ap f same ∙ t.2 in cc) in
+        (let a = t.0 in omega (arith, a, not), let b = t.1 in omega (arith, b), t.2)
+
+    found : (x : Row) → f from ≡ Some x → (rows : List Row) → IsRising (map number_of_row rows)
+        → ((r : Row) → IsIn r rows → (from ≤ number_of_row r) × (number_of_row r < from + suc len) × (f (number_of_row r) ≡ Some r))
+        → ((n : ℕ) (r : Row) → from ≤ n → f n ≡ Some r → IsIn r rows × (number_of_row r ≡ n)) → x ∷ collect f (from + 1) len ≡ rows
+    found x e [] rise there back = absurd (back from x (omega arith) e).0
+    found x e (r ∷ rs) rise there back =
+        let b = back from x (omega arith) e in
+        let same = head b.0 b.1 in
+        ap (λ y. y ∷ collect f (from + 1) len) same
+        ∙ ap (λ ys. r ∷ ys) (gathered f rs (from + 1) len rise.1
+        (λ y i. let t = there y (inr i) in let up = rise.0 (number_of_row y) (in_map y rs i) in let low = (there r (inl refl)).0 in
+        (omega (arith, up, low), let c = t.1 in omega (arith, c), t.2))
+        (λ n y above at. let d = back n y (omega (arith, above)) at in (later n y above d.0 d.1 (sym (ap number_of_row same) ∙ b.1), d.1)))
+      where
+        head : IsIn x (r ∷ rs) → number_of_row x ≡ from → x ≡ r
+        head (inl same) at = same
+        head (inr i) at = absurd (let up = rise.0 (number_of_row x) (in_map x rs i) in let low = (there r (inl refl)).0 in omega (arith, up, low, at))
+
+        later : (n : ℕ) (y : Row) → from + 1 ≤ n → IsIn y (r ∷ rs) → number_of_row y ≡ n → number_of_row r ≡ from → IsIn y rs
+        later n y above (inr i) at first = i
+        later n y above (inl same) at first = absurd (let z = sym (ap number_of_row same) ∙ at in omega (arith, above, z, first))
+
+    go : (o : Option Row) → f from ≡ o → option_map_or (λ x. x ∷ collect f (from + 1) len) o (collect f (from + 1) len) ≡ rows
+    go None e = gathered f rows (from + 1) len rise (none e) (λ n r above at. back n r (omega (arith, above)) at)
+    go (Some x) e = found x e rows rise there back
+
+place_of : (rows : List Row) (r : Row) → IsIn r rows → (j : ℕ) × (slice_get rows j ≡ Some r) × (j < length rows)
+place_of [] r i = absurd i
+place_of (x ∷ xs) r (inl same) = (zero, ap Some (sym same), omega arith)
+place_of (x ∷ xs) r (inr i) = let p = place_of xs r i in (suc p.0, p.1, let lt = p.2 in omega (arith, lt))
+
+at_place : (rows : List Row) (j : ℕ) (r : Row) → slice_get rows j ≡ Some r → IsIn r rows
+at_place [] j r e = absurd (cc)
+at_place (x ∷ xs) zero r e = inl (let z : r ≡ x = cc in z)
+at_place (x ∷ xs) (suc j) r e = inr (at_place xs j r e)
+
+key_in : (keys : List ℕ) (j : ℕ) → j < length keys → (k : ℕ) × (slice_get keys j ≡ Some k)
+key_in [] j lt = absurd (omega (arith, lt))
+key_in (k ∷ ks) zero lt = (k, refl)
+key_in (k ∷ ks) (suc j) lt = key_in ks j (omega (arith, lt))
+
+module _ (s : Store) (l : IsLawful s) (p : Placed) (rows : List Row) (lines : AreLines s p (slice_get rows)) (few : length p.keys.items ≡ length rows)
+    (gone : (k : ℕ) → is_held p k ≡ true → row_with s k ≡ None) (rise : IsRising (map number_of_row rows)) where
+  there : (r : Row) → IsIn r rows → (0 ≤ number_of_row r) × (number_of_row r < 0 + s.numbering.pid_max) × (row_numbered s 0 (number_of_row r) ≡ Some r)
+  there r i =
+      let j = place_of rows r i in
+      let k = key_in p.keys.items j.0 (let lt = j.2 in omega (arith, lt, few)) in
+      let line = lines.each j.0 k.0 k.1 in
+      let same : line.0 ≡ r = (let z = sym line.1 ∙ j.1 in let y : line.0 ≡ r = cc in y) in
+      let t = task-of s k.0 r (line.2.shown ∙ ap Some same) in
+      let at = rooted s l k.0 t.0 t.1 in
+      let name : root_number (name_at s.numbering k.0) ≡ number_of_row r = ap number_of_row t.2 in
+      (omega arith, (let b = at.1 in omega (arith, b, name)), ap (row_numbered s 0) (sym name) ∙ at.0 ∙ ap Some t.2)
+
+  back : (n : ℕ) (r : Row) → 0 ≤ n → row_numbered s 0 n ≡ Some r → IsIn r rows × (number_of_row r ≡ n)
+  back n r above e =
+      let f = row-from s l 0 n r e in
+      let shown : row_with s f.0 ≡ Some r = ap (option_map (row_of s f.0)) f.2 ∙ ap Some (sym f.4) in
+      (listed f.0 shown (is_held p f.0) refl, keyed s l n r e)
+    where
+      listed : (k : ℕ) → row_with s k ≡ Some r → (b : Bool) → is_held p k ≡ b → IsIn r rows
+      listed k shown true held = absurd (let z : None ≡ Some r = sym (gone k held) ∙ shown in cc)
+      listed k shown false real =
+          let j = lines.all k r (record { shown = shown; real = real }) in
+          let line = lines.each j.0 k j.1 in
+          let same : line.0 ≡ r = (let z = sym line.2.shown ∙ shown in let y : line.0 ≡ r = cc in y) in
+          at_place rows j.0 r (line.1 ∙ ap Some same)
+
+  -- they are all its rows
+  pub rows-are : (state_of s).rows ≡ rows
+  rows-are = gathered (row_numbered s 0) rows 0 s.numbering.pid_max rise there back

@@ -1,0 +1,7 @@
+pub mod Alone
+pub mod ControlLists
+pub mod SpaceLists
+pub mod Steps
+pub mod Moves
+pub mod Gathered
+pub mod LineSteps

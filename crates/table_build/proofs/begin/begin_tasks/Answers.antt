@@ -1,0 +1,28 @@
+use Rattle.std.proofs.Common.{◌≡◌, ℕ, ◌+◌, ◌<◌, Some, arith, [], ◌∷◌, Bool, List, length, ap, sym, ◌∙◌, length-append, option_map, slice_get}
+use Rattle.std.specs.declared.vec.Vec.{Vec}
+use Rattle.std.specs.declared.alloc.Global.{Global}
+use Rattle.pid_numbers.specs.Restore.{is_flagged}
+use Rattle.table_build.specs.Stages.{begun}
+use Rattle.table_build.proofs.Steps.{places-both}
+use Rattle.table_build.proofs.LineSteps.{get-is, lines-push}
+use Rattle.table_build.proofs.begin.begin_tasks.Goals as goal
+
+row-here : (c : goal.In_ok-add_key) → slice_get c.args.saved.now.rows.items c.loop-index.index ≡ Some c.index.result.now
+row-here c =
+    let lt : c.loop-index.index < length c.args.saved.now.rows.items = (let a = c.loop-index-test.true in let b = c.len-index-end.ensures in omega (arith, a, b)) in
+    get-is c.args.saved.now.rows.items c.loop-index.index c.index.result.now lt ∙ ap Some (sym c.index.ensures)
+
+pub loop-index-preserved : goal.loop-index-preserved
+loop-index-preserved c =
+    let b = c.in_ok-key.ensures in
+    let p = c.in_ok-add_key.ensures in
+    let i = c.loop-index.invariant in
+    record {
+      ungrouped = b.ungrouped;
+      places = places-both c.args.store.now c.loop-index.store c.begin_task.new.store i.places b.places;
+      lines = lines-push c.loop-index.store c.begin_task.new.store c.loop-index.placed c.add_key.new.self (λ j. option_map begun (slice_get c.args.saved.now.rows.items j)) c.in_ok-key.key _ i.lines b.added
+          (ap (λ n. option_map begun (slice_get c.args.saved.now.rows.items n)) i.keys ∙ ap (option_map begun) (row-here c)) p.keys p.placeholders (ap (λ (l : List Bool). is_flagged l c.in_ok-key.key) i.placeholders);
+      keys = ap length p.keys ∙ length-append c.loop-index.placed.keys.items (c.in_ok-key.key ∷ []) ∙ ap (λ n. n + 1) i.keys;
+      groups = ap (λ (v : Vec ℕ Global). v.items) p.groups ∙ i.groups;
+      placeholders = ap (λ (v : Vec Bool Global). v.items) p.placeholders ∙ i.placeholders;
+    }

@@ -1,0 +1,15 @@
+use Rattle.std.proofs.Common.{◌≡◌, length, [], option_map, slice_get}
+use Rattle.table_build.specs.Ungrouped.{IsUngrouped}
+use Rattle.table_build.specs.Stages.{KeepsPlaces, begun}
+use Rattle.table_build.specs.Lines.{AreLines}
+use Rattle.table_build.proofs.begin.begin_tasks.Given as goal
+
+abbrev pub invariant-loop-index : goal.invariant-loop-index
+invariant-loop-index l = record {
+  ungrouped : IsUngrouped l.store;
+  places : KeepsPlaces l.initial.store l.store;
+  lines : AreLines l.store l.placed (λ j. option_map begun (slice_get l.saved.rows.items j));
+  keys : length l.placed.keys.items ≡ l.index;
+  groups : l.placed.groups.items ≡ [];
+  placeholders : l.placed.placeholders.items ≡ [];
+}

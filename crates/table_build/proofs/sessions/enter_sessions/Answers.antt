@@ -1,0 +1,71 @@
+use Rattle.std.proofs.Common.{◌≡◌, ℕ, ◌+◌, ◌≤◌, ◌<◌, [], ◌∷◌, length, Some, refl, ap, sym, ◌∙◌, arith, length-append, slice_get, option_map}
+use Rattle.table_build.specs.Lines.{AreLines, stage}
+use Rattle.table_build.specs.Stages.{begun, seated}
+use Rattle.table_build.proofs.Steps.{places-both, places-none}
+use Rattle.table_build.proofs.LineSteps.{get-is, groups-none, groups-push, line-at, lines-set, lines-shown, stage-begin, stage-end, stage-here, stage-others, stage-todo}
+use Rattle.table_build.proofs.sessions.enter_sessions.Goals as goal
+
+pub loop-index-init : goal.loop-index-init
+loop-index-init c = record {
+  ungrouped = c.requires.ungrouped;
+  places = places-none c.args.store.now;
+  recent = record { session = λ k e. let z = sym c.none.ensures ∙ e in absurd (cc); group = λ k e. let z = sym c.none-2.ensures ∙ e in absurd (cc) };
+  lines = lines-shown c.args.store.now c.args.placed.now (λ j. option_map begun (slice_get c.args.saved.now.rows.items j)) (stage seated begun c.args.saved.now.rows.items 0) c.requires.lines
+      (λ j k e. stage-begin seated begun c.args.saved.now.rows.items j);
+  groups = groups-none c.args.store.now c.args.placed.now c.args.saved.now.rows.items c.requires.groups;
+  count = ap length c.requires.groups;
+  keys = refl;
+}
+
+row-here : (c : goal.In_ok-put_in_session) → slice_get c.args.saved.now.rows.items c.loop-index.index ≡ Some c.row-item.result
+row-here c =
+    ap (λ l. slice_get l c.loop-index.index) (sym c.deref-row-items.ensures.value)
+    ∙ get-is c.deref-row-items.result.now c.loop-index.index c.row-item.result c.loop-index-test.true ∙ ap Some (sym c.row-item.is)
+
+key-here : (c : goal.In_ok-put_in_session) → slice_get c.loop-index.placed.keys.items c.loop-index.index ≡ Some c.in-Some.key.now
+key-here c =
+    ap (λ l. slice_get l c.loop-index.index) (sym c.deref.ensures.value)
+    ∙ get-is c.deref.result.now c.loop-index.index c.in-Some.key.now c.in-Some.ensures.lookup.3.0 ∙ ap Some (sym c.in-Some.ensures.lookup.1)
+
+pub put_in_session-requires-clause-begun : goal.put_in_session-requires-clause-begun
+put_in_session-requires-clause-begun c =
+    let row : slice_get c.args.saved.now.rows.items c.loop-index.index ≡ Some c.row-item.result =
+    ap (λ l. slice_get l c.loop-index.index) (sym c.deref-row-items.ensures.value)
+    ∙ get-is c.deref-row-items.result.now c.loop-index.index c.row-item.result c.loop-index-test.true ∙ ap Some (sym c.row-item.is) in
+    let key : slice_get c.loop-index.placed.keys.items c.loop-index.index ≡ Some c.in-Some.key.now =
+    ap (λ l. slice_get l c.loop-index.index) (sym c.deref.ensures.value)
+    ∙ get-is c.deref.result.now c.loop-index.index c.in-Some.key.now c.in-Some.ensures.lookup.3.0 ∙ ap Some (sym c.in-Some.ensures.lookup.1) in
+    line-at c.loop-index.store c.loop-index.placed (stage seated begun c.args.saved.now.rows.items c.loop-index.index) c.loop-index.index c.in-Some.key.now (begun c.row-item.result) c.loop-index.invariant.lines key
+    (stage-todo seated begun c.args.saved.now.rows.items c.loop-index.index c.row-item.result row)
+
+pub loop-index-preserved : goal.loop-index-preserved
+loop-index-preserved c =
+    let e = c.in_ok-put_in_session.ensures in
+    let i = c.loop-index.invariant in
+    let rows = c.args.saved.now.rows.items in
+    record {
+      ungrouped = e.ungrouped;
+      places = places-both c.args.store.now c.loop-index.store c.put_in_session.new.store i.places e.places;
+      recent = e.recent;
+      lines = lines-set c.loop-index.store c.put_in_session.new.store c.loop-index.placed c.put_in_session.new.placed (stage seated begun rows c.loop-index.index) (stage seated begun rows (c.loop-index.index + 1))
+          c.loop-index.index c.in-Some.key.now (seated c.row-item.result) i.lines e.set e.group.keys (key-here c) (stage-here seated begun rows c.loop-index.index c.row-item.result (row-here c))
+          (λ j not. stage-others seated begun rows c.loop-index.index j not);
+      groups = groups-push c.loop-index.store c.put_in_session.new.store c.loop-index.placed c.put_in_session.new.placed rows c.row-item.result i.groups e.names e.group
+          (ap (slice_get rows) i.count ∙ row-here c);
+      count = ap length e.group.added ∙ length-append c.loop-index.placed.groups.items (e.group.group ∷ []) ∙ ap (λ n. n + 1) i.count;
+      keys = e.group.keys ∙ i.keys;
+    }
+
+pub returns : goal.returns
+returns c =
+    let i = c.loop-index.invariant in
+    let rows = c.args.saved.now.rows.items in
+    let all : length rows ≤ c.loop-index.index = (let a = c.loop-index-test.false in let b = ap length c.deref-row-items.ensures.value in omega (arith, a, b)) in
+    record {
+      ungrouped = i.ungrouped;
+      lines = lines-shown c.loop-index.store c.loop-index.placed (stage seated begun rows c.loop-index.index) (λ j. option_map seated (slice_get rows j)) i.lines
+          (λ j k e. sym (stage-end seated begun rows c.loop-index.index all j));
+      groups = i.groups;
+      keys = ap (λ v. length v.items) i.keys ∙ c.requires.keys;
+      places = i.places;
+    }

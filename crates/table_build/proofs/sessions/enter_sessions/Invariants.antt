@@ -1,0 +1,17 @@
+use Rattle.std.proofs.Common.{◌≡◌, length}
+use Rattle.table_build.specs.Lines.{AreGroups, AreLines, stage}
+use Rattle.table_build.specs.Sessions.{AreRecent}
+use Rattle.table_build.specs.Stages.{KeepsPlaces, begun, seated}
+use Rattle.table_build.specs.Ungrouped.{IsUngrouped}
+use Rattle.table_build.proofs.sessions.enter_sessions.Given as goal
+
+abbrev pub invariant-loop-index : goal.invariant-loop-index
+invariant-loop-index l = record {
+  ungrouped : IsUngrouped l.store;
+  places : KeepsPlaces l.initial.store l.store;
+  recent : AreRecent l.store l.last;
+  lines : AreLines l.store l.placed (stage seated begun l.saved.rows.items l.index);
+  groups : AreGroups l.store l.placed l.saved.rows.items;
+  count : length l.placed.groups.items ≡ l.index;
+  keys : l.placed.keys ≡ l.initial.placed.keys;
+}

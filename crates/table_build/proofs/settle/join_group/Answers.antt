@@ -1,0 +1,41 @@
+use Rattle.std.proofs.Common.{◌≡◌, Some, ap, sym, subst, ◌∙◌, is_some, option_map}
+use Rattle.pid_types.specs.declared.plain.Name.{Name}
+use Rattle.pid_types.specs.declared.plain.Row.{Row}
+use Rattle.groups_sessions.specs.Membership.{Membership, session_of}
+use Rattle.task_tree.specs.Tree.{task_at, parent_of}
+use Rattle.task_table.specs.View.{name_at, row_with}
+use Rattle.task_table.proofs.Regrouped.{IsRegrouped}
+use Rattle.task_table.proofs.Seated.{session-name}
+use Rattle.task_table.proofs.InUse.{member}
+use Rattle.table_build.specs.Stages.{SetsRow}
+use Rattle.table_build.proofs.Steps.{task-of}
+use Rattle.table_build.proofs.Moves.{bearers-stay, borne-less, places-less, regrouped-row, standing-less}
+use Rattle.table_build.proofs.settle.join_group.Goals as goal
+
+went : (c : goal.After-laws-2) → IsRegrouped c.args.store.now c.move_to.new.self c.args.key (record { group = c.args.group; session = c.session-session.result })
+went c = record { members = c.move_to.ensures.members; numbers = c.move_to.ensures.numbers; tree = c.move_to.ensures.rest.0; charges = c.move_to.ensures.rest.1 }
+
+pub returns-clause-grouping : goal.returns-clause-grouping
+returns-clause-grouping c = record {
+  kin = λ k p e. ap (λ x. is_some (task_at x p)) c.move_to.ensures.rest.0 ∙ c.requires.grouping.kin k p (sym (ap (λ x. parent_of x k) c.move_to.ensures.rest.0) ∙ e);
+  borne = borne-less c.args.store.now c.move_to.new.self c.move_to.ensures.rest.0 c.move_to.ensures.numbers c.requires.grouping.borne;
+  standing = standing-less c.args.store.now.numbering c.move_to.new.self.numbering c.laws.ensures.numbering c.requires.grouping.standing c.move_to.ensures.numbers;
+}
+
+pub returns-clause-joined : goal.returns-clause-joined
+returns-clause-joined c = λ row e.
+    let v = task-of c.args.store.now c.args.key row e in
+    let m = member c.args.store.now c.laws.ensures c.args.key v.0 v.1 in
+    let found : Some m.0.session ≡ Some c.session-session.result =
+    sym (ap (option_map (λ (i : Membership). i.session)) m.1) ∙ sym (ap (λ ms. session_of ms c.args.key) c.members.ensures) ∙ c.session-session.ensures in
+    let same : m.0.session ≡ c.session-session.result = cc in
+    let name : name_at c.args.store.now.numbering c.session-session.result ≡ row.session =
+    ap (name_at c.args.store.now.numbering) (sym same) ∙ sym (session-name c.args.store.now c.laws.ensures c.args.key v.0 m.0 m.1) ∙ ap (λ (r : Row). r.session) v.2 in
+    subst (λ (n : Name). SetsRow c.args.store.now c.move_to.new.self c.args.key (record row { group = name_at c.args.store.now.numbering c.args.group; session = n })) name
+    (regrouped-row c.args.store.now c.move_to.new.self c.laws.ensures c.laws-2.ensures c.requires.grouping.kin c.args.key (record { group = c.args.group; session = c.session-session.result }) (went c) row e)
+
+pub returns-clause-names : goal.returns-clause-names
+returns-clause-names c = bearers-stay c.args.store.now c.move_to.new.self c.laws.ensures c.laws-2.ensures c.move_to.ensures.rest.0 c.move_to.ensures.numbers
+
+pub returns-clause-places : goal.returns-clause-places
+returns-clause-places c = places-less c.args.store.now c.move_to.new.self c.laws.ensures.numbering c.requires.grouping.standing c.move_to.ensures.numbers c.move_to.ensures.rest.1

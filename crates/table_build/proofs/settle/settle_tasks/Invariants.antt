@@ -1,0 +1,15 @@
+use Rattle.table_build.specs.Grouping.{HasRealParents, IsGrouping}
+use Rattle.table_build.specs.Lines.{AreGroups, AreLines, stage}
+use Rattle.table_build.specs.Recent.{IsRecent}
+use Rattle.table_build.specs.Stages.{KeepsPlaces, seated}
+use Rattle.table_build.proofs.settle.settle_tasks.Given as goal
+
+abbrev pub invariant-loop-index : goal.invariant-loop-index
+invariant-loop-index l = record {
+  grouping : IsGrouping l.store;
+  recent : IsRecent l.store l.last;
+  places : KeepsPlaces l.initial.store l.store;
+  lines : AreLines l.store l.placed (stage (λ r. r) seated l.saved.rows.items l.index);
+  groups : AreGroups l.store l.placed l.saved.rows.items;
+  real : HasRealParents l.store l.placed;
+}

@@ -1,0 +1,15 @@
+use Rattle.std.proofs.Common.{◌≡◌, ◌<◌, map, take, length}
+use Rattle.task_table.specs.View.{spaces_of}
+use Rattle.table_build.specs.Bare.{bare}
+use Rattle.table_build.specs.Ungrouped.{IsUngrouped}
+use Rattle.table_build.proofs.spaces.put_spaces.Given as goal
+
+abbrev pub invariant-loop-index : goal.invariant-loop-index
+invariant-loop-index l = record {
+  ungrouped : IsUngrouped l.store;
+  put : spaces_of l.store.numbering ≡ map bare (take l.index l.saved.spaces.items);
+  names : l.store.numbering.names ≡ l.initial.store.numbering.names;
+  bound : l.store.numbering.pid_max ≡ l.initial.store.numbering.pid_max;
+  rest : l.store ≡ record l.initial.store { numbering = l.store.numbering };
+  some : 0 < length l.saved.spaces.items;
+}

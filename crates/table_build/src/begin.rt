@@ -1,0 +1,70 @@
+//! The tasks of a text begin. Each is live, without a parent, and in a group and a session of its own name.
+ghost use Rattle.std.specs.Prelude.{◌≡◌, ◌<◌, ℕ, [], length, None, OnOk, IfOk, option_map, slice_get};
+ghost use Rattle.task_table.specs.View.{row_with};
+ghost use Rattle.table_build.specs.Lines.{AreLines};
+ghost use Rattle.table_build.specs.Ungrouped.{IsUngrouped};
+ghost use Rattle.table_build.specs.Stages.{AddsRow, KeepsBearers, KeepsPlaces, begun};
+
+use crate::fault::BuildFault;
+use crate::lines::task_line;
+use crate::names::put_name;
+use crate::placed::Placed;
+use pid_types::keys::TaskKey;
+use pid_types::plain::{Life, Row};
+use std::alloc::Global;
+use table_text::read::Saved;
+use task_table::Tasks;
+use task_tree::Task;
+
+/// Whether the line's number is below that of the line before.
+fn is_unsorted(saved: &Saved, index: usize) -> bool
+    requires { index < length saved.now.rows.items }
+{
+    if index == 0 {
+        return false;
+    }
+    saved.rows[index].name.numbers.first() < saved.rows[index - 1].name.numbers.first()
+}
+
+/// The task of a line begins.
+fn begin_task(store: &mut Tasks, row: &Row, line: u64) -> Result<TaskKey, BuildFault>
+    requires ungrouped { IsUngrouped store.old }
+    ensures ungrouped { OnOk result (IsUngrouped store.new) }
+    ensures added { IfOk result (λ key. AddsRow store.old store.new key (begun row.now)) }
+    ensures places { OnOk result (KeepsPlaces store.old store.new) }
+    ensures names { OnOk result (KeepsBearers store.old store.new) }
+{
+    let Some(home) = store.controls().find(row.home) else {
+        return Err(BuildFault::UnknownGroup(line));
+    };
+    let task = Task {
+        children_space: row.children_space,
+        home,
+        executed: row.executed,
+        subreaper: row.subreaper,
+        life: Life::Live,
+    };
+    put_name(store, &row.name, task, line)
+}
+
+/// The tasks of all lines begin.
+pub fn begin_tasks(alloc: Global, store: &mut Tasks, saved: &Saved) -> Result<Placed, BuildFault>
+    requires ungrouped { IsUngrouped store.old }
+    requires nobody { (k : ℕ) → row_with store.old k ≡ None }
+    ensures ungrouped { OnOk result (IsUngrouped store.new) }
+    ensures places { OnOk result (KeepsPlaces store.old store.new) }
+    ensures lines { IfOk result (λ placed. AreLines store.new placed
+        (λ j. option_map begun (slice_get saved.now.rows.items j))) }
+    ensures keys { IfOk result (λ placed. length placed.keys.items ≡ length saved.now.rows.items) }
+    ensures groups { IfOk result (λ placed. placed.groups.items ≡ []) }
+{
+    let mut placed = Placed::new(alloc);
+    for index in 0..saved.rows.len() {
+        if is_unsorted(saved, index) {
+            return Err(BuildFault::Unsorted(task_line(index)));
+        }
+        let key = begin_task(store, &saved.rows[index], task_line(index))?;
+        placed.add_key(key)?;
+    }
+    Ok(placed)
+}

@@ -1,0 +1,188 @@
+//! The tasks of a text go to their sessions, each still in the group of its own name. Names of groups and sessions that
+//! no line has are borne by placeholders.
+ghost use Rattle.std.specs.Prelude.{◌≡◌, [], true, length, OnOk, IfOk, Some, IsSome, option_map, slice_get};
+ghost use Rattle.task_tree.specs.Tree.{task_at};
+ghost use Rattle.pid_types.specs.declared.plain.Row.{Row};
+ghost use Rattle.task_table.specs.View.{name_at, row_with};
+ghost use Rattle.table_build.specs.Lines.{AreGroups, AreLines, IsLine, SameLines, SetsLine, is_held};
+ghost use Rattle.table_build.specs.Recent.{Bears, IsRecent};
+ghost use Rattle.table_build.specs.Sessions.{AddsGroup, AreRecent};
+ghost use Rattle.table_build.specs.Stages.{KeepsBearers, KeepsPlaces, SetsRow, begun, seated};
+ghost use Rattle.table_build.specs.Ungrouped.{IsUngrouped};
+
+use crate::fault::BuildFault;
+use crate::lines::task_line;
+use crate::names::{RecentName, find_name, put_name};
+use crate::placed::Placed;
+use pid_types::keys::TaskKey;
+use pid_types::plain::{Life, Name, Row};
+use table_text::read::Saved;
+use task_table::Tasks;
+use task_table::view::laws;
+use task_tree::Task;
+
+/// A task that bears a name which no line has.
+fn begin_placeholder(
+    store: &mut Tasks,
+    placed: &mut Placed,
+    name: &Name,
+    line: u64,
+) -> Result<TaskKey, BuildFault>
+    requires ungrouped { IsUngrouped store.old }
+    ensures ungrouped { OnOk result (IsUngrouped store.new) }
+    ensures bears { IfOk result (λ key. Bears store.new key name.now) }
+    ensures held { IfOk result (λ key. is_held placed.new key ≡ true) }
+    ensures lines { OnOk result (SameLines store.old store.new placed.old placed.new) }
+    ensures lists { (placed.new.keys ≡ placed.old.keys) × (placed.new.groups ≡ placed.old.groups) }
+    ensures names { OnOk result (KeepsBearers store.old store.new) }
+    ensures places { OnOk result (KeepsPlaces store.old store.new) }
+{
+    let Some(home) = store.controls().find(0) else {
+        return Err(BuildFault::UnknownGroup(line));
+    };
+    let task = Task {
+        children_space: 0,
+        home,
+        executed: false,
+        subreaper: false,
+        life: Life::Live,
+    };
+    let key = put_name(store, name, task, line)?;
+    placed.add_placeholder(key)?;
+    Ok(key)
+}
+
+/// The task that bears the name of a group or a session: one of a line, or else a placeholder.
+fn bearer(
+    store: &mut Tasks,
+    placed: &mut Placed,
+    name: &Name,
+    last: &mut RecentName,
+    line: u64,
+) -> Result<TaskKey, BuildFault>
+    requires ungrouped { IsUngrouped store.old }
+    requires recent { IsRecent store.old last.old }
+    ensures ungrouped { OnOk result (IsUngrouped store.new) }
+    ensures recent { OnOk result (IsRecent store.new last.new) }
+    ensures bears { IfOk result (λ key. Bears store.new key name.now) }
+    ensures lines { OnOk result (SameLines store.old store.new placed.old placed.new) }
+    ensures lists { (placed.new.keys ≡ placed.old.keys) × (placed.new.groups ≡ placed.old.groups) }
+    ensures names { OnOk result (KeepsBearers store.old store.new) }
+    ensures places { OnOk result (KeepsPlaces store.old store.new) }
+{
+    match find_name(store, name, last, line)? {
+        Some(key) => Ok(key),
+        None => begin_placeholder(store, placed, name, line),
+    }
+}
+
+/// A task in a group of its own goes to the session of another one's name.
+fn enter_session(
+    store: &mut Tasks,
+    key: TaskKey,
+    session: TaskKey,
+    line: u64,
+) -> Result<(), BuildFault>
+    requires ungrouped { IsUngrouped store.old }
+    ensures ungrouped { OnOk result (IsUngrouped store.new) }
+    ensures entered { (row : Row) → row_with store.old key ≡ Some row → OnOk result (SetsRow store.old store.new key
+        (record row { group = row.name; session = name_at store.old.numbering session })) }
+    ensures names { OnOk result (KeepsBearers store.old store.new) }
+    ensures places { OnOk result (KeepsPlaces store.old store.new) }
+{
+    if store.tree().task(key).is_none() || store.tree().task(session).is_none() {
+        return Err(BuildFault::Impossible(line));
+    }
+    laws(store);
+    store.move_to(key, key, session);
+    laws(store);
+    Ok(())
+}
+
+/// Who bears a group's name goes to a session, if it is a placeholder.
+fn seat_placeholder(
+    store: &mut Tasks,
+    placed: &Placed,
+    group: TaskKey,
+    session: TaskKey,
+    line: u64,
+) -> Result<(), BuildFault>
+    requires ungrouped { IsUngrouped store.old }
+    requires there { IsSome (task_at store.old.tree group) }
+    ensures ungrouped { OnOk result (IsUngrouped store.new) }
+    ensures lines { OnOk result (SameLines store.old store.new placed.now placed.now) }
+    ensures names { OnOk result (KeepsBearers store.old store.new) }
+    ensures places { OnOk result (KeepsPlaces store.old store.new) }
+{
+    if !placed.is_placeholder(group) {
+        return Ok(());
+    }
+    enter_session(store, group, session, line)?;
+    Ok(())
+}
+
+/// The names of a session and of a group that were found last.
+#[derive(Drop)]
+struct RecentNames {
+    session: RecentName,
+    group: RecentName,
+}
+
+/// The task of a line goes to its session, and so does who bears its group's name without a line.
+fn put_in_session(
+    store: &mut Tasks,
+    placed: &mut Placed,
+    key: TaskKey,
+    row: &Row,
+    last: &mut RecentNames,
+    line: u64,
+) -> Result<(), BuildFault>
+    requires ungrouped { IsUngrouped store.old }
+    requires recent { AreRecent store.old last.old }
+    requires begun { IsLine store.old placed.old key (begun row.now) }
+    ensures ungrouped { OnOk result (IsUngrouped store.new) }
+    ensures recent { OnOk result (AreRecent store.new last.new) }
+    ensures set { OnOk result (SetsLine store.old store.new placed.old placed.new key (seated row.now)) }
+    ensures group { OnOk result (AddsGroup store.new placed.old placed.new row.now.group) }
+    ensures names { OnOk result (KeepsBearers store.old store.new) }
+    ensures places { OnOk result (KeepsPlaces store.old store.new) }
+{
+    let session = bearer(store, placed, &row.session, &mut last.session, line)?;
+    enter_session(store, key, session, line)?;
+    let group = bearer(store, placed, &row.group, &mut last.group, line)?;
+    seat_placeholder(store, placed, group, session, line)?;
+    placed.add_group(group)?;
+    Ok(())
+}
+
+/// All names of groups and sessions are put, and all tasks go to their sessions.
+pub fn enter_sessions(
+    store: &mut Tasks,
+    placed: &mut Placed,
+    saved: &Saved,
+) -> Result<(), BuildFault>
+    requires ungrouped { IsUngrouped store.old }
+    requires lines { AreLines store.old placed.old (λ j. option_map begun (slice_get saved.now.rows.items j)) }
+    requires groups { placed.old.groups.items ≡ [] }
+    requires keys { length placed.old.keys.items ≡ length saved.now.rows.items }
+    ensures ungrouped { OnOk result (IsUngrouped store.new) }
+    ensures lines { OnOk result (AreLines store.new placed.new
+        (λ j. option_map seated (slice_get saved.now.rows.items j))) }
+    ensures groups { OnOk result (AreGroups store.new placed.new saved.now.rows.items) }
+    ensures keys { OnOk result (length placed.new.keys.items ≡ length saved.now.rows.items) }
+    ensures places { OnOk result (KeepsPlaces store.old store.new) }
+{
+    let mut last = RecentNames {
+        session: RecentName::none(),
+        group: RecentName::none(),
+    };
+    for (index, row) in saved.rows.iter().enumerate() {
+        let line = task_line(index);
+        let Some(key) = placed.keys.get(index) else {
+            return Err(BuildFault::Impossible(line));
+        };
+        let key = *key;
+        put_in_session(store, placed, key, row, &mut last, line)?;
+    }
+    Ok(())
+}

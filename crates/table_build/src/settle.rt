@@ -1,0 +1,235 @@
+//! The tasks of a text get their groups and parents, those that have ended end, and the placeholders go.
+ghost use Rattle.std.specs.Prelude.{◌≡◌, ◌≢◌, ℕ, ◌<◌, true, false, length, None, Some, IsSome, IsTrue, OnOk, IfOk, option_map, slice_get};
+ghost use Rattle.pid_types.specs.declared.plain.Row.{Row};
+ghost use Rattle.pid_numbers.specs.Numbering.{Identifier, has_fallen_at, identifier_at, number_of};
+ghost use Rattle.task_tree.specs.Tree.{parent_of};
+ghost use Rattle.task_table.specs.View.{name_at, row_with};
+ghost use Rattle.task_table.specs.Whole.{HasParents};
+ghost use Rattle.table_build.specs.Grouping.{HasRealParents, IsGrouping};
+ghost use Rattle.table_build.specs.Lines.{AreGroups, AreLines, SameLines, is_held};
+ghost use Rattle.table_build.specs.Recent.{AreBorne, Bears, IsRecent};
+ghost use Rattle.table_build.specs.Stages.{KeepsBearers, KeepsPlaces, SetsRow, seated};
+
+use crate::fault::BuildFault;
+use crate::lines::task_line;
+use crate::names::{RecentName, find_name};
+use crate::placed::Placed;
+use pid_types::keys::TaskKey;
+use pid_types::plain::{Ended, Life, Name, Row};
+use table_text::read::Saved;
+use task_table::Tasks;
+use task_table::view::{is_live, laws};
+
+/// The task goes to its group, all of whose members are in its session.
+fn join_group(
+    store: &mut Tasks,
+    key: TaskKey,
+    group: TaskKey,
+    line: u64,
+) -> Result<(), BuildFault>
+    requires grouping { IsGrouping store.old }
+    ensures grouping { OnOk result (IsGrouping store.new) }
+    ensures joined { (row : Row) → row_with store.old key ≡ Some row → OnOk result (SetsRow store.old store.new key
+        (record row { group = name_at store.old.numbering group })) }
+    ensures tree { store.new.tree ≡ store.old.tree }
+    ensures names { OnOk result (KeepsBearers store.old store.new) }
+    ensures places { OnOk result (KeepsPlaces store.old store.new) }
+{
+    if store.tree().task(key).is_none() || store.tree().task(group).is_none() {
+        return Err(BuildFault::Impossible(line));
+    }
+    laws(store);
+    let session = store.members().session(key);
+    match store.members().session_of_group(group) {
+        Some(found) if found != session => return Err(BuildFault::Impossible(line)),
+        _ => {}
+    }
+    store.move_to(key, group, session);
+    laws(store);
+    Ok(())
+}
+
+/// The task becomes a child of its parent.
+fn adopt(store: &mut Tasks, key: TaskKey, parent: TaskKey, line: u64) -> Result<(), BuildFault>
+    requires grouping { IsGrouping store.old }
+    ensures grouping { OnOk result (IsGrouping store.new) }
+    ensures adopted { (row : Row) → row_with store.old key ≡ Some row → OnOk result (SetsRow store.old store.new key
+        (record row { parent = Some (name_at store.old.numbering parent) })) }
+    ensures parent { OnOk result (parent_of store.new.tree key ≡ Some parent) }
+    ensures parents { (k : ℕ) → k ≢ key → parent_of store.new.tree k ≡ parent_of store.old.tree k }
+    ensures rest { store.new ≡ record store.old { tree = store.new.tree } }
+    ensures names { OnOk result (KeepsBearers store.old store.new) }
+{
+    let Some(task) = store.tree().task(key) else {
+        return Err(BuildFault::Impossible(line));
+    };
+    if !is_live(&task)
+        || store.tree().parent(key).is_some()
+        || store.tree().task(parent).is_none()
+    {
+        return Err(BuildFault::Impossible(line));
+    }
+    laws(store);
+    store.adopt(key, parent);
+    laws(store);
+    Ok(())
+}
+
+/// Whether the task's parent sees it, if it has one.
+fn is_seen_by_parent(store: &Tasks, key: TaskKey) -> bool
+    requires { key < length store.now.tree.tasks }
+    ensures { IsTrue result → (p : ℕ) → parent_of store.now.tree key ≡ Some p
+        → (u : Identifier) × (identifier_at store.now.numbering p ≡ Some u)
+        × IsSome (number_of store.now.numbering key u.space) }
+{
+    let Some(parent) = store.tree().parent(key) else {
+        return true;
+    };
+    match store.numbers().space_of(parent) {
+        Some(space) => store.numbers().number_in(key, space).is_some(),
+        None => false,
+    }
+}
+
+/// The task ends, and waits for its parent.
+fn end_task(store: &mut Tasks, key: TaskKey, end: Ended, line: u64) -> Result<(), BuildFault>
+    requires grouping { IsGrouping store.old }
+    ensures grouping { OnOk result (IsGrouping store.new) }
+    ensures ended { (row : Row) → row_with store.old key ≡ Some row → OnOk result (SetsRow store.old store.new key
+        (record row { life = Life.Zombie end })) }
+    ensures parents { (k : ℕ) → parent_of store.new.tree k ≡ parent_of store.old.tree k }
+    ensures rest { (store.new.numbering ≡ store.old.numbering) × (store.new.members ≡ store.old.members)
+        × (store.new.charges.controls ≡ store.old.charges.controls) }
+    ensures names { OnOk result (KeepsBearers store.old store.new) }
+{
+    let Some(task) = store.tree().task(key) else {
+        return Err(BuildFault::Impossible(line));
+    };
+    if !is_live(&task) || !is_seen_by_parent(store, key) {
+        return Err(BuildFault::Impossible(line));
+    }
+    laws(store);
+    store.finish(key, task, end);
+    laws(store);
+    Ok(())
+}
+
+/// The task that the line names as a parent.
+fn named_parent(
+    store: &Tasks,
+    placed: &Placed,
+    name: &Name,
+    last: &mut RecentName,
+    line: u64,
+) -> Result<TaskKey, BuildFault>
+    requires borne { AreBorne store.now }
+    requires recent { IsRecent store.now last.old }
+    ensures recent { OnOk result (IsRecent store.now last.new) }
+    ensures named { IfOk result (λ key. Bears store.now key name.now) }
+    ensures real { IfOk result (λ key. is_held placed.now key ≡ false) }
+{
+    match find_name(store, name, last, line)? {
+        Some(key) if !placed.is_placeholder(key) => Ok(key),
+        _ => Err(BuildFault::UnknownParent(line)),
+    }
+}
+
+/// The task of a line gets its parent. Number 1 alone has none.
+fn give_parent(
+    store: &mut Tasks,
+    placed: &Placed,
+    key: TaskKey,
+    row: &Row,
+    last: &mut RecentName,
+    line: u64,
+) -> Result<(), BuildFault>
+    requires grouping { IsGrouping store.old }
+    requires recent { IsRecent store.old last.old }
+    requires joined { row_with store.old key ≡ Some (record row.now { parent = None; life = Life.Live }) }
+    requires real { HasRealParents store.old placed.now }
+    ensures grouping { OnOk result (IsGrouping store.new) }
+    ensures recent { OnOk result (IsRecent store.new last.new) }
+    ensures given { OnOk result (SetsRow store.old store.new key (record row.now { life = Life.Live })) }
+    ensures real { OnOk result (HasRealParents store.new placed.now) }
+    ensures names { OnOk result (KeepsBearers store.old store.new) }
+    ensures places { OnOk result (KeepsPlaces store.old store.new) }
+{
+    let Some(name) = &row.parent else {
+        if row.name.numbers.first() == Some(&1) {
+            return Ok(());
+        }
+        return Err(BuildFault::UnknownParent(line));
+    };
+    let parent = named_parent(store, placed, name, last, line)?;
+    adopt(store, key, parent, line)?;
+    Ok(())
+}
+
+/// The task of a line gets its parent, and ends if it has ended.
+fn settle_task(
+    store: &mut Tasks,
+    placed: &Placed,
+    key: TaskKey,
+    row: &Row,
+    last: &mut RecentName,
+    line: u64,
+) -> Result<(), BuildFault>
+    requires grouping { IsGrouping store.old }
+    requires recent { IsRecent store.old last.old }
+    requires joined { row_with store.old key ≡ Some (record row.now { parent = None; life = Life.Live }) }
+    requires real { HasRealParents store.old placed.now }
+    ensures grouping { OnOk result (IsGrouping store.new) }
+    ensures recent { OnOk result (IsRecent store.new last.new) }
+    ensures settled { OnOk result (SetsRow store.old store.new key row.now) }
+    ensures real { OnOk result (HasRealParents store.new placed.now) }
+    ensures names { OnOk result (KeepsBearers store.old store.new) }
+    ensures places { OnOk result (KeepsPlaces store.old store.new) }
+{
+    give_parent(store, placed, key, row, last, line)?;
+    let Life::Zombie(end) = row.life else {
+        return Ok(());
+    };
+    end_task(store, key, end, line)?;
+    Ok(())
+}
+
+/// All tasks of lines go to their groups, get their parents, and end if they have ended.
+pub fn settle_tasks(store: &mut Tasks, placed: &Placed, saved: &Saved) -> Result<(), BuildFault>
+    requires grouping { IsGrouping store.old }
+    requires lines { AreLines store.old placed.now (λ j. option_map seated (slice_get saved.now.rows.items j)) }
+    requires groups { AreGroups store.old placed.now saved.now.rows.items }
+    requires real { HasRealParents store.old placed.now }
+    requires keys { length placed.now.keys.items ≡ length saved.now.rows.items }
+    ensures grouping { OnOk result (IsGrouping store.new) }
+    ensures lines { OnOk result (AreLines store.new placed.now (slice_get saved.now.rows.items)) }
+    ensures real { OnOk result (HasRealParents store.new placed.now) }
+    ensures places { OnOk result (KeepsPlaces store.old store.new) }
+{
+    let mut last = RecentName::none();
+    for (index, row) in saved.rows.iter().enumerate() {
+        let line = task_line(index);
+        let (Some(key), Some(group)) = (placed.keys.get(index), placed.groups.get(index)) else {
+            return Err(BuildFault::Impossible(line));
+        };
+        join_group(store, *key, *group, line)?;
+        settle_task(store, placed, *key, row, &mut last, line)?;
+    }
+    Ok(())
+}
+
+/// The placeholders go. Their names stay, as groups and sessions.
+pub fn remove_placeholders(store: &mut Tasks, placed: &Placed) {
+    for (place, flag) in placed.placeholders.iter().enumerate() {
+        let Ok(key) = u32::try_from(place) else {
+            return;
+        };
+        if !*flag {
+            continue;
+        }
+        if let Some(task) = store.tree().task(key) {
+            laws(store);
+            store.remove(key, task);
+            laws(store);
+        }
+    }
+}

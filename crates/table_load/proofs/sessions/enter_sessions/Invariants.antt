@@ -1,5 +1,0 @@
-use Rattle.table_load.specs.Ungrouped.{IsUngrouped}
-use Rattle.table_load.proofs.sessions.enter_sessions.Given as goal
-
-abbrev pub invariant-loop-index : goal.invariant-loop-index
-invariant-loop-index l = IsUngrouped l.store
