@@ -24,30 +24,37 @@ in_map r [] i = absurd i
 in_map r (x ∷ xs) (inl same) = inl (ap number_of_row same)
 in_map r (x ∷ xs) (inr i) = inr (in_map r xs i)
 
+-- the rows of a list have numbers from the one on, so many at most, and the look-up finds them there
+abbrev AreFound : (ℕ → Option Row) → ℕ → ℕ → List Row → Type 0
+AreFound f from len rows = (r : Row) → IsIn r rows → (from ≤ number_of_row r) × (number_of_row r < from + len) × (f (number_of_row r) ≡ Some r)
+
+-- and it finds no others from there on
+abbrev AreAll : (ℕ → Option Row) → ℕ → List Row → Type 0
+AreAll f from rows = (n : ℕ) (r : Row) → from ≤ n → f n ≡ Some r → IsIn r rows × (number_of_row r ≡ n)
+
+-- so the list is what is collected
+abbrev IsGathered : (ℕ → Option Row) → ℕ → ℕ → Type 0
+IsGathered f from len = (rows : List Row) → IsRising (map number_of_row rows) → AreFound f from len rows → AreAll f from rows → collect f from len ≡ rows
+
 -- what is found at the numbers of a rising list, and at no other number, is that list
-pub gathered : (f : ℕ → Option Row) (rows : List Row) (from len : ℕ) → IsRising (map number_of_row rows)
-    → ((r : Row) → IsIn r rows → (from ≤ number_of_row r) × (number_of_row r < from + len) × (f (number_of_row r) ≡ Some r))
-    → ((n : ℕ) (r : Row) → from ≤ n → f n ≡ Some r → IsIn r rows × (number_of_row r ≡ n))
-    → collect f from len ≡ rows
+pub gathered : (f : ℕ → Option Row) (rows : List Row) (from len : ℕ) → IsRising (map number_of_row rows) → AreFound f from len rows → AreAll f from rows → collect f from len ≡ rows
 gathered f [] from zero rise there back = refl
 gathered f (r ∷ rs) from zero rise there back = absurd (let t = there r (inl refl) in let a = t.0 in let b = t.1 in omega (arith, a, b))
-gathered f rows from (suc len) rise there back = go (f from) refl
+gathered f rows from (suc len) rise there back = go (λ rs r t b. gathered f rs (from + 1) len r t b) (f from) refl
   where
-    none : f from ≡ None → (r : Row) → IsIn r rows → (from + 1 ≤ number_of_row r) × (number_of_row r < from + 1 + len) × (f (number_of_row r) ≡ Some r)
+    none : f from ≡ None → AreFound f (from + 1) len rows
     none e r i =
         let t = there r i in
         let not : from ≢ number_of_row r = (λ same. let z : None ≡ Some r = sym e ∙ ap f same ∙ t.2 in cc) in
         (let a = t.0 in omega (arith, a, not), let b = t.1 in omega (arith, b), t.2)
 
-    found : (x : Row) → f from ≡ Some x → (rows : List Row) → IsRising (map number_of_row rows)
-        → ((r : Row) → IsIn r rows → (from ≤ number_of_row r) × (number_of_row r < from + suc len) × (f (number_of_row r) ≡ Some r))
-        → ((n : ℕ) (r : Row) → from ≤ n → f n ≡ Some r → IsIn r rows × (number_of_row r ≡ n)) → x ∷ collect f (from + 1) len ≡ rows
-    found x e [] rise there back = absurd (back from x (omega arith) e).0
-    found x e (r ∷ rs) rise there back =
+    found : IsGathered f (from + 1) len → (x : Row) → f from ≡ Some x → (rows : List Row) → IsRising (map number_of_row rows) → AreFound f from (suc len) rows → AreAll f from rows → x ∷ collect f (from + 1) len ≡ rows
+    found again x e [] rise there back = absurd (back from x (omega arith) e).0
+    found again x e (r ∷ rs) rise there back =
         let b = back from x (omega arith) e in
         let same = head b.0 b.1 in
         ap (λ y. y ∷ collect f (from + 1) len) same
-        ∙ ap (λ ys. r ∷ ys) (gathered f rs (from + 1) len rise.1
+        ∙ ap (λ ys. r ∷ ys) (again rs rise.1
         (λ y i. let t = there y (inr i) in let up = rise.0 (number_of_row y) (in_map y rs i) in let low = (there r (inl refl)).0 in
         (omega (arith, up, low), let c = t.1 in omega (arith, c), t.2))
         (λ n y above at. let d = back n y (omega (arith, above)) at in (later n y above d.0 d.1 (sym (ap number_of_row same) ∙ b.1), d.1)))
@@ -60,9 +67,9 @@ gathered f rows from (suc len) rise there back = go (f from) refl
         later n y above (inr i) at first = i
         later n y above (inl same) at first = absurd (let z = sym (ap number_of_row same) ∙ at in omega (arith, above, z, first))
 
-    go : (o : Option Row) → f from ≡ o → option_map_or (λ x. x ∷ collect f (from + 1) len) o (collect f (from + 1) len) ≡ rows
-    go None e = gathered f rows (from + 1) len rise (none e) (λ n r above at. back n r (omega (arith, above)) at)
-    go (Some x) e = found x e rows rise there back
+    go : IsGathered f (from + 1) len → (o : Option Row) → f from ≡ o → option_map_or (λ x. x ∷ collect f (from + 1) len) o (collect f (from + 1) len) ≡ rows
+    go again None e = again rows rise (none e) (λ n r above at. back n r (omega (arith, above)) at)
+    go again (Some x) e = found again x e rows rise there back
 
 place_of : (rows : List Row) (r : Row) → IsIn r rows → (j : ℕ) × (slice_get rows j ≡ Some r) × (j < length rows)
 place_of [] r i = absurd i
@@ -81,7 +88,7 @@ key_in (k ∷ ks) (suc j) lt = key_in ks j (omega (arith, lt))
 
 module _ (s : Store) (l : IsLawful s) (p : Placed) (rows : List Row) (lines : AreLines s p (slice_get rows)) (few : length p.keys.items ≡ length rows)
     (gone : (k : ℕ) → is_held p k ≡ true → row_with s k ≡ None) (rise : IsRising (map number_of_row rows)) where
-  there : (r : Row) → IsIn r rows → (0 ≤ number_of_row r) × (number_of_row r < 0 + s.numbering.pid_max) × (row_numbered s 0 (number_of_row r) ≡ Some r)
+  there : AreFound (row_numbered s 0) 0 s.numbering.pid_max rows
   there r i =
       let j = place_of rows r i in
       let k = key_in p.keys.items j.0 (let lt = j.2 in omega (arith, lt, few)) in
@@ -92,7 +99,7 @@ module _ (s : Store) (l : IsLawful s) (p : Placed) (rows : List Row) (lines : Ar
       let name : root_number (name_at s.numbering k.0) ≡ number_of_row r = ap number_of_row t.2 in
       (omega arith, (let b = at.1 in omega (arith, b, name)), ap (row_numbered s 0) (sym name) ∙ at.0 ∙ ap Some t.2)
 
-  back : (n : ℕ) (r : Row) → 0 ≤ n → row_numbered s 0 n ≡ Some r → IsIn r rows × (number_of_row r ≡ n)
+  back : AreAll (row_numbered s 0) 0 rows
   back n r above e =
       let f = row-from s l 0 n r e in
       let shown : row_with s f.0 ≡ Some r = ap (option_map (row_of s f.0)) f.2 ∙ ap Some (sym f.4) in

@@ -55,11 +55,12 @@ spaces-stay b c h standing less = record {
 
 -- who bears a name bears it still where no task went
 pub bearers-stay : (s t : Store) → IsLawful s → IsLawful t → t.tree ≡ s.tree → IsLess s.numbering t.numbering → KeepsBearers s t
-bearers-stay s t l l' tree less = record { each = λ k some.
-  let task = ap (λ x. task_at x k) tree in
-  let v = held (task_at t.tree k) (ap is_some task ∙ some) in
-  let u = named t l' k v.0 v.1 in
-  (ap is_some task ∙ some, name-less s.numbering t.numbering l.numbering less k u.0 u.1);
+bearers-stay s t l l' tree less = record {
+  each = λ k some.
+      let task = ap (λ x. task_at x k) tree in
+      let v = held (task_at t.tree k) (ap is_some task ∙ some) in
+      let u = named t l' k v.0 v.1 in
+      (ap is_some task ∙ some, name-less s.numbering t.numbering l.numbering less k u.0 u.1);
 }
 
 -- a task went to another group or session

@@ -152,11 +152,12 @@ ungrouped-come {s} {t} {key} c k u = record {
 
 -- who bears a name bears it still
 pub bearers-come : {s t : Store} {key : ℕ} {from : Option ℕ} {task : Task} {space : ℕ} {numbers : List ℕ} → Comes s t key from task space numbers → KeepsBearers s t
-bearers-come {s} {t} {key} c = record { each = λ k some.
-  let v = held (task_at s.tree k) some in
-  let u = named s c.before k v.0 v.1 in
-  let not : k ≢ key = (λ same. let z : None ≡ Some v.0 = sym c.begun.fresh.0 ∙ ap (task_at s.tree) (sym same) ∙ v.1 in cc) in
-  (ap is_some (c.begun.tasks k not) ∙ some, name-kept c k u.0 u.1);
+bearers-come {s} {t} {key} c = record {
+  each = λ k some.
+      let v = held (task_at s.tree k) some in
+      let u = named s c.before k v.0 v.1 in
+      let not : k ≢ key = (λ same. let z : None ≡ Some v.0 = sym c.begun.fresh.0 ∙ ap (task_at s.tree) (sym same) ∙ v.1 in cc) in
+      (ap is_some (c.begun.tasks k not) ∙ some, name-kept c k u.0 u.1);
 }
 
 pub bearers-moved : (s t : Store) → MovesCursors s t → KeepsBearers s t

@@ -8,11 +8,15 @@ use Rattle.task_table.specs.Whole.{HasParents}
 use Rattle.table_build.specs.declared.placed.Placed.{Placed}
 use Rattle.table_build.specs.Lines.{is_held}
 
+-- each namespace stands
+abbrev pub AllStand : Store → Type 0
+AllStand s = (p : ℕ) → has_fallen_at s.numbering p ≡ false
+
 -- parents are tasks, each name is a task's, and each namespace stands
 pub record IsGrouping (s : Store) : Type 0 where
   pub kin : HasParents s
   pub borne : AreBorne s
-  pub standing : (p : ℕ) → has_fallen_at s.numbering p ≡ false
+  pub standing : AllStand s
 
 -- no parent is a placeholder
 abbrev pub HasRealParents : Store → Placed → Type 0

@@ -1,5 +1,5 @@
 -- Which tasks are those of a text's lines, and which rows they have.
-use Rattle.std.specs.Prelude.{◌≡◌, ◌≢◌, ℕ, Bool, false, List, nat_lt, Option, Some, option_map, slice_get, if◌then◌else◌}
+use Rattle.std.specs.Prelude.{◌≡◌, ◌≢◌, ℕ, ◌≤◌, ◌^◌, length, Bool, false, List, nat_lt, Option, Some, option_map, slice_get, if◌then◌else◌}
 use Rattle.pid_types.specs.declared.plain.Row.{Row}
 use Rattle.pid_numbers.specs.Restore.{is_flagged}
 use Rattle.task_table.specs.Store.{Store}
@@ -10,6 +10,13 @@ use Rattle.table_build.specs.Recent.{Bears}
 -- whether the key is a placeholder's
 abbrev pub is_held : Placed → ℕ → Bool
 is_held p k = is_flagged p.placeholders.items k
+
+-- there is no more than one flag for each key
+abbrev pub HasFew : Placed → Type 0
+HasFew p = length p.placeholders.items ≤ 2 ^ 32
+
+abbrev pub KeepsFew : Placed → Placed → Type 0
+KeepsFew before after = HasFew before → HasFew after
 
 -- the task with the key has the row, and is no placeholder
 pub record IsLine (s : Store) (p : Placed) (key : ℕ) (row : Row) : Type 0 where

@@ -57,6 +57,7 @@ pub fn begin_tasks(alloc: Global, store: &mut Tasks, saved: &Saved) -> Result<Pl
         (λ j. option_map begun (slice_get saved.now.rows.items j))) }
     ensures keys { IfOk result (λ placed. length placed.keys.items ≡ length saved.now.rows.items) }
     ensures groups { IfOk result (λ placed. placed.groups.items ≡ []) }
+    ensures nobody { IfOk result (λ placed. placed.placeholders.items ≡ []) }
 {
     let mut placed = Placed::new(alloc);
     for index in 0..saved.rows.len() {

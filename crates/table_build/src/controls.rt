@@ -51,12 +51,7 @@ fn make_control(
 }
 
 /// Puts a control group behind those that are there, whose ids are up to the last one.
-fn put_control(
-    store: &mut Tasks,
-    control: &Control,
-    last: u64,
-    line: u64,
-) -> Result<(), BuildFault>
+fn put_control(store: &mut Tasks, control: &Control, last: u64, line: u64) -> Result<(), BuildFault>
     requires ungrouped { IsUngrouped store.old }
     requires below { AllByRecursion (λ g. g.id ≤ last) store.old.charges.controls }
     ensures ungrouped { OnOk result (IsUngrouped store.new) }

@@ -1,5 +1,5 @@
 //! Flags by key: none where there is no place for one.
-ghost use Rattle.std.specs.Prelude.{◌≡◌, ◌≢◌, ℕ, true, OnOk};
+ghost use Rattle.std.specs.Prelude.{◌≡◌, ◌≢◌, ◌≤◌, ◌^◌, ℕ, true, length, OnOk};
 ghost use Rattle.pid_numbers.specs.Restore.{is_flagged};
 
 use std::alloc::AllocError;
@@ -8,6 +8,7 @@ use std::alloc::AllocError;
 pub fn set_flag(flags: &mut Vec<bool>, key: u32) -> Result<(), AllocError>
     ensures set { OnOk result (is_flagged flags.new.items key ≡ true) }
     ensures others { (k : ℕ) → k ≢ key → is_flagged flags.new.items k ≡ is_flagged flags.old.items k }
+    ensures few { length flags.old.items ≤ 2 ^ 32 → length flags.new.items ≤ 2 ^ 32 }
 {
     let place = key as usize;
     if place >= flags.len() {

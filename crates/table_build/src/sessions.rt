@@ -4,7 +4,7 @@ ghost use Rattle.std.specs.Prelude.{◌≡◌, [], true, length, OnOk, IfOk, Som
 ghost use Rattle.task_tree.specs.Tree.{task_at};
 ghost use Rattle.pid_types.specs.declared.plain.Row.{Row};
 ghost use Rattle.task_table.specs.View.{name_at, row_with};
-ghost use Rattle.table_build.specs.Lines.{AreGroups, AreLines, IsLine, SameLines, SetsLine, is_held};
+ghost use Rattle.table_build.specs.Lines.{AreGroups, AreLines, IsLine, KeepsFew, SameLines, SetsLine, is_held};
 ghost use Rattle.table_build.specs.Recent.{Bears, IsRecent};
 ghost use Rattle.table_build.specs.Sessions.{AddsGroup, AreRecent};
 ghost use Rattle.table_build.specs.Stages.{KeepsBearers, KeepsPlaces, SetsRow, begun, seated};
@@ -33,6 +33,7 @@ fn begin_placeholder(
     ensures bears { IfOk result (λ key. Bears store.new key name.now) }
     ensures held { IfOk result (λ key. is_held placed.new key ≡ true) }
     ensures lines { OnOk result (SameLines store.old store.new placed.old placed.new) }
+    ensures few { KeepsFew placed.old placed.new }
     ensures lists { (placed.new.keys ≡ placed.old.keys) × (placed.new.groups ≡ placed.old.groups) }
     ensures names { OnOk result (KeepsBearers store.old store.new) }
     ensures places { OnOk result (KeepsPlaces store.old store.new) }
@@ -66,6 +67,7 @@ fn bearer(
     ensures recent { OnOk result (IsRecent store.new last.new) }
     ensures bears { IfOk result (λ key. Bears store.new key name.now) }
     ensures lines { OnOk result (SameLines store.old store.new placed.old placed.new) }
+    ensures few { KeepsFew placed.old placed.new }
     ensures lists { (placed.new.keys ≡ placed.old.keys) × (placed.new.groups ≡ placed.old.groups) }
     ensures names { OnOk result (KeepsBearers store.old store.new) }
     ensures places { OnOk result (KeepsPlaces store.old store.new) }
@@ -144,6 +146,7 @@ fn put_in_session(
     ensures recent { OnOk result (AreRecent store.new last.new) }
     ensures set { OnOk result (SetsLine store.old store.new placed.old placed.new key (seated row.now)) }
     ensures group { OnOk result (AddsGroup store.new placed.old placed.new row.now.group) }
+    ensures few { OnOk result (KeepsFew placed.old placed.new) }
     ensures names { OnOk result (KeepsBearers store.old store.new) }
     ensures places { OnOk result (KeepsPlaces store.old store.new) }
 {
@@ -170,6 +173,7 @@ pub fn enter_sessions(
         (λ j. option_map seated (slice_get saved.now.rows.items j))) }
     ensures groups { OnOk result (AreGroups store.new placed.new saved.now.rows.items) }
     ensures keys { OnOk result (length placed.new.keys.items ≡ length saved.now.rows.items) }
+    ensures few { OnOk result (KeepsFew placed.old placed.new) }
     ensures places { OnOk result (KeepsPlaces store.old store.new) }
 {
     let mut last = RecentNames {

@@ -1,12 +1,12 @@
 //! The tasks of a text get their groups and parents, those that have ended end, and the placeholders go.
 ghost use Rattle.std.specs.Prelude.{◌≡◌, ◌≢◌, ℕ, ◌<◌, true, false, length, None, Some, IsSome, IsTrue, OnOk, IfOk, option_map, slice_get};
 ghost use Rattle.pid_types.specs.declared.plain.Row.{Row};
-ghost use Rattle.pid_numbers.specs.Numbering.{Identifier, has_fallen_at, identifier_at, number_of};
+ghost use Rattle.pid_numbers.specs.Numbering.{Identifier, identifier_at, number_of};
 ghost use Rattle.task_tree.specs.Tree.{parent_of};
 ghost use Rattle.task_table.specs.View.{name_at, row_with};
 ghost use Rattle.task_table.specs.Whole.{HasParents};
-ghost use Rattle.table_build.specs.Grouping.{HasRealParents, IsGrouping};
-ghost use Rattle.table_build.specs.Lines.{AreGroups, AreLines, SameLines, is_held};
+ghost use Rattle.table_build.specs.Grouping.{AllStand, HasRealParents, IsGrouping};
+ghost use Rattle.table_build.specs.Lines.{AreGroups, AreLines, HasFew, SameLines, is_held};
 ghost use Rattle.table_build.specs.Recent.{AreBorne, Bears, IsRecent};
 ghost use Rattle.table_build.specs.Stages.{KeepsBearers, KeepsPlaces, SetsRow, seated};
 
@@ -21,12 +21,7 @@ use task_table::Tasks;
 use task_table::view::{is_live, laws};
 
 /// The task goes to its group, all of whose members are in its session.
-fn join_group(
-    store: &mut Tasks,
-    key: TaskKey,
-    group: TaskKey,
-    line: u64,
-) -> Result<(), BuildFault>
+fn join_group(store: &mut Tasks, key: TaskKey, group: TaskKey, line: u64) -> Result<(), BuildFault>
     requires grouping { IsGrouping store.old }
     ensures grouping { OnOk result (IsGrouping store.new) }
     ensures joined { (row : Row) → row_with store.old key ≡ Some row → OnOk result (SetsRow store.old store.new key
@@ -217,19 +212,44 @@ pub fn settle_tasks(store: &mut Tasks, placed: &Placed, saved: &Saved) -> Result
     Ok(())
 }
 
+/// The task with the key goes, if it is a placeholder.
+fn drop_placeholder(store: &mut Tasks, placed: &Placed, key: TaskKey)
+    requires kin { HasParents store.old }
+    requires standing { AllStand store.old }
+    requires real { HasRealParents store.old placed.now }
+    ensures kin { HasParents store.new }
+    ensures standing { AllStand store.new }
+    ensures real { HasRealParents store.new placed.now }
+    ensures lines { SameLines store.old store.new placed.now placed.now }
+    ensures gone { is_held placed.now key ≡ true → row_with store.new key ≡ None }
+    ensures stays { (k : ℕ) → row_with store.old k ≡ None → row_with store.new k ≡ None }
+    ensures places { KeepsPlaces store.old store.new }
+{
+    if !placed.is_placeholder(key) {
+        return;
+    }
+    let Some(task) = store.tree().task(key) else {
+        return;
+    };
+    laws(store);
+    store.remove(key, task);
+    laws(store);
+}
+
 /// The placeholders go. Their names stay, as groups and sessions.
-pub fn remove_placeholders(store: &mut Tasks, placed: &Placed) {
-    for (place, flag) in placed.placeholders.iter().enumerate() {
-        let Ok(key) = u32::try_from(place) else {
-            return;
-        };
-        if !*flag {
-            continue;
-        }
-        if let Some(task) = store.tree().task(key) {
-            laws(store);
-            store.remove(key, task);
-            laws(store);
+pub fn remove_placeholders(store: &mut Tasks, placed: &Placed)
+    requires kin { HasParents store.old }
+    requires standing { AllStand store.old }
+    requires real { HasRealParents store.old placed.now }
+    requires few { HasFew placed.now }
+    ensures standing { AllStand store.new }
+    ensures lines { SameLines store.old store.new placed.now placed.now }
+    ensures gone { (k : ℕ) → is_held placed.now k ≡ true → row_with store.new k ≡ None }
+    ensures places { KeepsPlaces store.old store.new }
+{
+    for place in 0..placed.placeholders.len() {
+        if let Ok(key) = u32::try_from(place) {
+            drop_placeholder(store, placed, key);
         }
     }
 }

@@ -60,10 +60,7 @@ pub fn table_of(alloc: Global, saved: &Saved) -> Result<Loaded, RestoreFault>
     let table = PidTable::of(store);
     table.laws();
     if !is_same(&table, saved)? {
-        return Err(RestoreFault::Impossible(first_unlike(
-            &table.snapshot()?,
-            saved,
-        )));
+        return Err(RestoreFault::Impossible(first_unlike(&table.snapshot()?, saved)));
     }
     Ok(Loaded {
         table,

@@ -1,5 +1,5 @@
 -- What is left in the model when a zombie without children is gone.
-use Rattle.std.proofs.Common.{◌≡◌, ◌≢◌, ℕ, true, false, not, filter, Option, Some, None, is_some, sym, ap, ◌∙◌, option_map}
+use Rattle.std.proofs.Common.{◌≡◌, ◌≢◌, ℕ, true, false, not, filter, Option, Some, None, is_some, refl, sym, ap, ◌∙◌, option_map}
 use Rattle.std.proofs.lemmas.Bool.{eqb-true}
 use Rattle.pid_types.specs.declared.plain.Row.{Row}
 use Rattle.pid_types.specs.Names.{same_name, is_live}

@@ -2,7 +2,7 @@ use Rattle.std.proofs.Common.{◌≡◌, ℕ, ◌+◌, ◌≤◌, ◌<◌, [], �
 use Rattle.table_build.specs.Lines.{AreLines, stage}
 use Rattle.table_build.specs.Stages.{begun, seated}
 use Rattle.table_build.proofs.Steps.{places-both, places-none}
-use Rattle.table_build.proofs.LineSteps.{get-is, groups-none, groups-push, line-at, lines-set, lines-shown, stage-begin, stage-end, stage-here, stage-others, stage-todo}
+use Rattle.table_build.proofs.LineSteps.{get-found, groups-none, groups-push, line-at, lines-set, lines-shown, stage-begin, stage-end, stage-here, stage-others, stage-todo}
 use Rattle.table_build.proofs.sessions.enter_sessions.Goals as goal
 
 pub loop-index-init : goal.loop-index-init
@@ -14,27 +14,24 @@ loop-index-init c = record {
       (λ j k e. stage-begin seated begun c.args.saved.now.rows.items j);
   groups = groups-none c.args.store.now c.args.placed.now c.args.saved.now.rows.items c.requires.groups;
   count = ap length c.requires.groups;
+  few = λ few. few;
   keys = refl;
 }
 
 row-here : (c : goal.In_ok-put_in_session) → slice_get c.args.saved.now.rows.items c.loop-index.index ≡ Some c.row-item.result
 row-here c =
-    ap (λ l. slice_get l c.loop-index.index) (sym c.deref-row-items.ensures.value)
-    ∙ get-is c.deref-row-items.result.now c.loop-index.index c.row-item.result c.loop-index-test.true ∙ ap Some (sym c.row-item.is)
+    get-found c.args.saved.now.rows.items c.deref-row-items.result.now c.loop-index.index c.row-item.result c.deref-row-items.ensures.value c.loop-index-test.true c.row-item.is
 
 key-here : (c : goal.In_ok-put_in_session) → slice_get c.loop-index.placed.keys.items c.loop-index.index ≡ Some c.in-Some.key.now
 key-here c =
-    ap (λ l. slice_get l c.loop-index.index) (sym c.deref.ensures.value)
-    ∙ get-is c.deref.result.now c.loop-index.index c.in-Some.key.now c.in-Some.ensures.lookup.3.0 ∙ ap Some (sym c.in-Some.ensures.lookup.1)
+    get-found c.loop-index.placed.keys.items c.deref.result.now c.loop-index.index c.in-Some.key.now c.deref.ensures.value c.in-Some.ensures.lookup.3.0 c.in-Some.ensures.lookup.1
 
 pub put_in_session-requires-clause-begun : goal.put_in_session-requires-clause-begun
 put_in_session-requires-clause-begun c =
     let row : slice_get c.args.saved.now.rows.items c.loop-index.index ≡ Some c.row-item.result =
-    ap (λ l. slice_get l c.loop-index.index) (sym c.deref-row-items.ensures.value)
-    ∙ get-is c.deref-row-items.result.now c.loop-index.index c.row-item.result c.loop-index-test.true ∙ ap Some (sym c.row-item.is) in
+    get-found c.args.saved.now.rows.items c.deref-row-items.result.now c.loop-index.index c.row-item.result c.deref-row-items.ensures.value c.loop-index-test.true c.row-item.is in
     let key : slice_get c.loop-index.placed.keys.items c.loop-index.index ≡ Some c.in-Some.key.now =
-    ap (λ l. slice_get l c.loop-index.index) (sym c.deref.ensures.value)
-    ∙ get-is c.deref.result.now c.loop-index.index c.in-Some.key.now c.in-Some.ensures.lookup.3.0 ∙ ap Some (sym c.in-Some.ensures.lookup.1) in
+    get-found c.loop-index.placed.keys.items c.deref.result.now c.loop-index.index c.in-Some.key.now c.deref.ensures.value c.in-Some.ensures.lookup.3.0 c.in-Some.ensures.lookup.1 in
     line-at c.loop-index.store c.loop-index.placed (stage seated begun c.args.saved.now.rows.items c.loop-index.index) c.loop-index.index c.in-Some.key.now (begun c.row-item.result) c.loop-index.invariant.lines key
     (stage-todo seated begun c.args.saved.now.rows.items c.loop-index.index c.row-item.result row)
 
@@ -53,6 +50,7 @@ loop-index-preserved c =
       groups = groups-push c.loop-index.store c.put_in_session.new.store c.loop-index.placed c.put_in_session.new.placed rows c.row-item.result i.groups e.names e.group
           (ap (slice_get rows) i.count ∙ row-here c);
       count = ap length e.group.added ∙ length-append c.loop-index.placed.groups.items (e.group.group ∷ []) ∙ ap (λ n. n + 1) i.count;
+      few = λ few. e.few (i.few few);
       keys = e.group.keys ∙ i.keys;
     }
 
@@ -67,5 +65,6 @@ returns c =
           (λ j k e. sym (stage-end seated begun rows c.loop-index.index all j));
       groups = i.groups;
       keys = ap (λ v. length v.items) i.keys ∙ c.requires.keys;
+      few = i.few;
       places = i.places;
     }

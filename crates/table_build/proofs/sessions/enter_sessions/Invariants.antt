@@ -1,5 +1,5 @@
 use Rattle.std.proofs.Common.{◌≡◌, length}
-use Rattle.table_build.specs.Lines.{AreGroups, AreLines, stage}
+use Rattle.table_build.specs.Lines.{AreGroups, AreLines, KeepsFew, stage}
 use Rattle.table_build.specs.Sessions.{AreRecent}
 use Rattle.table_build.specs.Stages.{KeepsPlaces, begun, seated}
 use Rattle.table_build.specs.Ungrouped.{IsUngrouped}
@@ -13,5 +13,6 @@ invariant-loop-index l = record {
   lines : AreLines l.store l.placed (stage seated begun l.saved.rows.items l.index);
   groups : AreGroups l.store l.placed l.saved.rows.items;
   count : length l.placed.groups.items ≡ l.index;
+  few : KeepsFew l.initial.placed l.placed;
   keys : l.placed.keys ≡ l.initial.placed.keys;
 }

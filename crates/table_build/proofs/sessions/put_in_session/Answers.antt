@@ -1,6 +1,6 @@
 use Rattle.std.proofs.Common.{◌≡◌, ap, sym, subst, ◌∙◌, ◌++◌, ◌∷◌, []}
 use Rattle.pid_types.specs.declared.plain.Name.{Name}
-use Rattle.table_build.specs.Lines.{SetsLine}
+use Rattle.table_build.specs.Lines.{HasFew, SetsLine}
 use Rattle.table_build.specs.Stages.{SetsRow, begun, seated}
 use Rattle.table_build.proofs.Steps.{bearers-both, bears-kept, places-both, recent-kept}
 use Rattle.table_build.proofs.LineSteps.{line-set, same-both, same-held, same-set, set-same}
@@ -45,6 +45,7 @@ returns c =
         added = f.groups ∙ ap (λ v. v.items ++ c.in_ok-group.group ∷ []) (d.lists.1 ∙ a.lists.1);
         keys = f.keys ∙ d.lists.0 ∙ a.lists.0;
       };
+      few = λ few. subst (λ v. HasFew (record c.bearer-2.new.placed { placeholders = v })) (sym f.placeholders) (d.few (a.few few));
       names = bearers-both c.args.store.now c.bearer.new.store c.seat_placeholder.new.store a.names later;
       places = places-both c.args.store.now c.bearer.new.store c.seat_placeholder.new.store a.places
           (places-both c.bearer.new.store c.enter_session.new.store c.seat_placeholder.new.store b.places moves);
