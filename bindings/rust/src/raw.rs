@@ -374,7 +374,7 @@ pub(crate) struct Table {
 }
 
 // SAFETY: the table's memory is reached by this owner alone, the library has no state beside it, and it comes from malloc, which any
-// thread may free. That the handle may go to another thread is proved: crates/pidtab_c/proofs/handle/Handle/TheSendSync. It
+// thread may free. That the handle may go to another thread is proved: crates/foreign_calls/proofs/handle/Handle/TheSendSync. It
 // is not `Sync`: what is proved is of one function at a time, and no call is proved to leave the table unwritten.
 unsafe impl Send for Table {}
 
@@ -450,8 +450,8 @@ pub(crate) struct Record {
     held: Box<Held>,
 }
 
-// SAFETY: as a table. That the handle may go to another thread is proved: crates/pidtab_c/proofs/record_handle. It is not `Sync`: a lock is
-// around it.
+// SAFETY: as a table. That the handle may go to another thread is proved: crates/foreign_calls/proofs/record_handle. It is not
+// `Sync`: a lock is around it.
 unsafe impl Send for Record {}
 
 impl Record {

@@ -1,51 +1,20 @@
 //! Queries for C: they are answered as calls are, and change nothing.
 //!
 //! A query is a getpid, getppid, getpgid, getsid, nspid, next or count.
-ghost use Rattle.std.specs.Prelude.{◌≡◌, ◌≢◌, ◌↔◌, ◌⊎◌, true, IsSome, IsTrue, Some, None, IfSome};
+ghost use Rattle.std.specs.Prelude.{◌≡◌, ◌≢◌, ◌↔◌, ◌⊎◌, IsSome, Some, None};
 ghost use Rattle.pid_types.specs.declared.call.Call.{Call};
 ghost use Rattle.kept_table.specs.Calls.{outcome};
-ghost use Rattle.kept_table.specs.Queries.{is_query};
-ghost use Rattle.pidtab_c.specs.Asked.{only_query, query_of};
-ghost use Rattle.pidtab_c.specs.Numbers.{numbers_of};
-ghost use Rattle.pidtab_c.specs.Records.{Has};
-ghost use Rattle.pidtab_c.specs.Stamped.{reply_to};
+ghost use Rattle.foreign_calls.specs.Asked.{query_of};
+ghost use Rattle.foreign_calls.specs.Numbers.{numbers_of};
+ghost use Rattle.foreign_calls.specs.Records.{Has};
+ghost use Rattle.foreign_calls.specs.Stamped.{reply_to};
 
-use crate::Pidtab;
-use crate::numbers::{CallNumbers, ReplyNumbers, put_reply, read_call};
-use crate::record::PidtabRecord;
-use crate::status::{CLOSED, DONE, OUT_OF_RANGE};
-use pid_types::call::Call;
-use pid_types::reply::Reply;
+use foreign_calls::ask::{ask_record, ask_table};
+use foreign_calls::numbers::{CallNumbers, ReplyNumbers};
+use foreign_calls::record::PidtabRecord;
+use foreign_calls::status::{CLOSED, DONE, OUT_OF_RANGE};
+use foreign_calls::table::Pidtab;
 use std::alloc::Global;
-
-/// Whether the call is a query.
-fn asks(call: &Call) -> bool
-    ensures { result ≡ is_query call.now }
-{
-    match call {
-        Call::GetPid { caller: _ } | Call::GetPpid { caller: _ } | Call::Count { id: _ } => true,
-        Call::GetPgid { caller: _, pid: _ } | Call::GetSid { caller: _, pid: _ } => true,
-        Call::NsPid {
-            caller: _,
-            target: _,
-        } => true,
-        Call::Next {
-            caller: _,
-            kind: _,
-            from: _,
-        } => true,
-        _ => false,
-    }
-}
-
-/// The query that the numbers say; none where they say no call, or another one.
-fn read_query(n: &CallNumbers) -> Option<Call>
-    ensures query { result ≡ query_of n.now }
-    ensures asks { IfSome result (λ call. IsTrue (is_query call)) }
-{
-    let call = read_call(n)?;
-    if asks(&call) { Some(call) } else { None }
-}
 
 /// Answers the query that the numbers say, as the table's next call would be answered. It is no call: it uses no stamp,
 /// and changes nothing.
@@ -71,13 +40,9 @@ pub extern "C" fn pidtab_ask(
     let Some(mut held) = table.take(alloc) else {
         return CLOSED;
     };
-    let Some(asked) = read_query(call) else {
-        table.put(held);
-        return OUT_OF_RANGE;
-    };
-    put_reply(&held.ask(asked), reply);
+    let status = ask_table(&mut held, call, reply);
     table.put(held);
-    DONE
+    status
 }
 
 /// Answers the query that the numbers say, as [`pidtab_ask`] does, on a record: it is neither recorded nor counted for
@@ -102,13 +67,7 @@ pub extern "C" fn pidtab_record_ask(
     let Some(mut held) = table.take(alloc) else {
         return CLOSED;
     };
-    let Some(asked) = read_query(call) else {
-        table.put(held);
-        return OUT_OF_RANGE;
-    };
-    let mut told = Reply::Done;
-    held.ask(asked, &mut told);
-    put_reply(&told, reply);
+    let status = ask_record(&mut held, call, reply);
     table.put(held);
-    DONE
+    status
 }

@@ -1,22 +1,17 @@
 //! The history of a record, for C: how many calls were recorded, the kept entries, and cutting them away.
-ghost use Rattle.std.specs.Prelude.{◌≡◌, ◌≢◌, ◌<◌, ◌≤◌, ◌↔◌, ◌⊎◌, ℕ, Option, Some, None};
-ghost use Rattle.std.specs.Prelude.{IfOk, IfSome, length, take, drop};
-ghost use Rattle.std.specs.Option.{option_copied};
+ghost use Rattle.std.specs.Prelude.{◌≡◌, ◌≢◌, ◌<◌, ◌≤◌, ◌↔◌, ◌⊎◌, None, IfSome, length, take, drop};
 ghost use Rattle.kept_table.specs.Chronicle.{total, recorded, recorded_by_all, kept_entry};
 ghost use Rattle.kept_table.specs.Promise.{KeepsPromise};
-ghost use Rattle.pidtab_c.specs.Entries.{IsEntry};
+ghost use Rattle.foreign_calls.specs.Entries.{IsEntry};
 ghost use Rattle.table_lines.specs.Listed.{list_of_state};
-ghost use Rattle.pidtab_c.specs.Records.{Has, IsCut, Cuts};
+ghost use Rattle.foreign_calls.specs.Records.{Has, Cuts};
 
-use crate::call_numbers::tell_call;
-use crate::numbers::{CallNumbers, ReplyNumbers, put_reply};
-use crate::record::PidtabRecord;
-use crate::status::{AGAIN, CLOSED, DONE, NO_MEMORY, NO_ROOM, NOT_KEPT, OUT_OF_RANGE};
-use crate::texts::write_text;
-use kept_table::Kept;
-use pid_script::list::list_text;
-use std::alloc::{AllocError, Global};
-use table_lines::list::list_table;
+use foreign_calls::history::{cut_at, cut_on, opening_text, present_text, tell_entry};
+use foreign_calls::numbers::{CallNumbers, ReplyNumbers};
+use foreign_calls::record::PidtabRecord;
+use foreign_calls::status::{AGAIN, CLOSED, DONE, NO_MEMORY, NO_ROOM, NOT_KEPT, OUT_OF_RANGE};
+use foreign_calls::texts::write_text;
+use std::alloc::Global;
 
 /// Tells the ordinal of the first kept entry, and how many calls were recorded, the cut ones among them: so the kept
 /// entries have the ordinals from the first number up to below the second.
@@ -79,29 +74,6 @@ pub extern "C" fn pidtab_record_worker(
     DONE
 }
 
-/// Tells the kept entry with the ordinal. The result is the status.
-fn tell_entry(
-    held: &Kept,
-    ordinal: u64,
-    worker: &mut u64,
-    call: &mut CallNumbers,
-    reply: &mut ReplyNumbers,
-) -> u32
-    ensures done { result ≡ DONE → IsEntry held.now ordinal worker.new call.new reply.new }
-    ensures not_done { result ≢ DONE
-        → (worker.new ≡ worker.old) × (call.new ≡ call.old) × (reply.new ≡ reply.old) }
-    ensures not_kept { (result ≡ NOT_KEPT) ↔ (kept_entry held.now ordinal ≡ None) }
-    ensures statuses { (result ≡ DONE) ⊎ (result ≡ NOT_KEPT) }
-{
-    let Some(entry) = held.entry(ordinal) else {
-        return NOT_KEPT;
-    };
-    *worker = entry.worker as u64;
-    *call = tell_call(&entry.call);
-    put_reply(&entry.reply, reply);
-    DONE
-}
-
 /// Tells the kept entry with the ordinal: whose call it was, the call and its reply, as numbers. What the call does not
 /// take is 0.
 ///
@@ -132,18 +104,6 @@ pub extern "C" fn pidtab_record_entry(
     let status = tell_entry(&held, ordinal, worker, call, reply);
     table.put(held);
     status
-}
-
-/// Cuts the record's history. The result is the status.
-fn cut_on(held: &mut Kept) -> u32
-    ensures done { result ≡ DONE → IsCut held.old held.new }
-    ensures not_done { result ≢ DONE → held.new ≡ held.old }
-    ensures statuses { (result ≡ DONE) ⊎ (result ≡ NO_MEMORY) }
-{
-    match held.checkpoint() {
-        Ok(()) => DONE,
-        Err(_) => NO_MEMORY,
-    }
 }
 
 /// Cuts the history: the present state becomes the opening, and no entry is kept. Stamps and ordinals go on.
@@ -185,28 +145,9 @@ pub extern "C" fn pidtab_record_checkpoint_at(
     let Some(mut held) = table.take(alloc) else {
         return CLOSED;
     };
-    if held.total() != seen {
-        table.put(held);
-        return AGAIN;
-    }
-    let status = cut_on(&mut held);
+    let status = cut_at(&mut held, seen);
     table.put(held);
     status
-}
-
-/// The text of the present state's list. The error is want of memory.
-fn present_text(alloc: Global, held: &Kept) -> Result<Vec<u8>, AllocError>
-    ensures { IfOk result (λ text. text.items ≡ list_of_state held.now.present) }
-{
-    list_table(alloc, held.present())
-}
-
-/// The text of the list of the state that the kept history begins in. The error is want of memory.
-fn opening_text(alloc: Global, held: &Kept) -> Result<Vec<u8>, AllocError>
-    ensures { IfOk result (λ text. text.items ≡ list_of_state held.now.opening) }
-{
-    let plain = held.opening()?;
-    list_text(alloc, &plain)
 }
 
 /// Puts the list of the present state at the front of the room, each line with its newline; `size` is the list's length

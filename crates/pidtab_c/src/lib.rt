@@ -1,151 +1,54 @@
 //! The table for C, in the user's own process: calls as lines of the script language, and their answers as text.
 //!
 //! A table has no history, so a long-lived process does not grow with its calls. C holds a [`Pidtab`], which is two
-//! words and begins as zeroes. A [`record::PidtabRecord`] is a table with its history, of as many words. No exported
-//! function asks anything of its caller but that the pointers are good, that no two of them overlap, and that one
-//! function at a time works on a table or a record.
+//! words and begins as zeroes. A [`foreign_calls::record::PidtabRecord`] is a table with its history, of as many words.
+//! No exported function asks anything of its caller but that the pointers are good, that no two of them overlap, and
+//! that one function at a time works on a table or a record. The work is done in `foreign_calls`.
 //!
 //! Each function answers with a status, `DONE` or a number of Linux's errno. Any status but `DONE` says that the table
 //! is as it was. A function tests for its statuses in the order in which its comment names them.
 #![tactic(auto)]
 
-ghost use Rattle.std.specs.Prelude.{◌≡◌, ◌≢◌, ◌<◌, ◌≤◌, ◌↔◌, ◌⊎◌, ℕ, IsSome, IsTrue, Option, Some, None, Err};
-ghost use Rattle.std.specs.Prelude.{IfOk, IfSome, OnOk, OnErr, is_some, length, take, drop};
+ghost use Rattle.std.specs.Prelude.{◌≡◌, ◌≢◌, ◌<◌, ◌≤◌, ◌↔◌, ◌⊎◌, IsSome, IsTrue, Some, None};
+ghost use Rattle.std.specs.Prelude.{IfSome, length, take, drop};
 ghost use Rattle.pid_types.specs.Settings.{HasGoodPidMax};
 ghost use Rattle.pid_types.specs.State.{root_state};
 ghost use Rattle.pid_types.specs.Step.{may_grow};
 ghost use Rattle.pid_types.specs.declared.call.Call.{Call};
 ghost use Rattle.pid_types.specs.declared.reply.Reply.{Reply};
-ghost use Rattle.pid_types.specs.declared.reply.CallFault.TheVariants as fault;
 ghost use Rattle.pid_script.specs.Answers.{reply_text};
 ghost use Rattle.pid_script.specs.Reading.{parsed};
 ghost use Rattle.pid_script.specs.declared.line.Line.TheVariants as says;
 ghost use Rattle.table_lines.specs.Listed.{list_of_state};
-ghost use Rattle.pidtab_c.specs.Numbers.{call_of, numbers_of};
-ghost use Rattle.pidtab_c.specs.Lines.{IsCall};
-ghost use Rattle.pidtab_c.specs.Records.{Has};
-ghost use Rattle.pidtab_c.specs.Stamped.{IsInOrder, Makes};
+ghost use Rattle.foreign_calls.specs.Numbers.{call_of, numbers_of};
+ghost use Rattle.foreign_calls.specs.Lines.{IsCall};
+ghost use Rattle.foreign_calls.specs.Records.{Has};
+ghost use Rattle.foreign_calls.specs.Stamped.{IsInOrder, Makes};
 
 mod ask;
-mod call_numbers;
-mod handle;
 mod history;
-mod loose;
-pub mod numbers;
 mod read;
-pub mod record;
+mod record;
 mod record_calls;
-mod record_handle;
 mod replay;
-pub mod saved_record;
-pub mod saved_table;
-pub mod stamped;
-pub mod status;
-pub mod task;
+mod saved_record;
+mod saved_table;
+mod task;
 mod texts;
 
-use handle::{Handle, null};
-use loose::Loose;
-use numbers::{CallNumbers, ReplyNumbers, put_reply, read_call};
+use foreign_calls::numbers::{CallNumbers, ReplyNumbers, read_call};
+use foreign_calls::status::{
+    BAD_LINE, BUSY, CLOSED, DONE, EMPTY_LINE, NO_MEMORY, NO_ROOM, OUT_OF_RANGE, SPENT,
+};
+use foreign_calls::table::{Pidtab, new_table};
+use foreign_calls::table_calls::{call_table, line_table};
+use foreign_calls::texts::write_text;
 use pid_script::answer::LONGEST_ANSWER;
 use pid_script::line::{Line, parse_line};
-use pid_types::call::Call;
-use pid_types::config::Config;
-use pid_types::reply::{CallFault, Reply};
-use stamped::StampedTable;
-use status::{
-    BAD_LINE, BUSY, CLOSED, DONE, EMPTY_LINE, NO_MEMORY, NO_ROOM, OUT_OF_RANGE, SPENT, status_of,
-};
-use std::alloc::{AllocError, Global};
-use std::mem;
-use texts::{write_reply, write_text};
+use std::alloc::Global;
 
 /// The number of this interface. It changes where a program that was compiled for another one would go wrong.
 pub const VERSION: u32 = 1;
-
-/// A table for C, or none: zeroes are none.
-#[repr(C)]
-#[derive(Drop)]
-pub struct Pidtab {
-    handle: Handle,
-    is_open: bool,
-    ghost linked: { is_some handle.held ≡ is_open },
-}
-
-impl Pidtab {
-    /// What is held, which the handle has no more.
-    fn take(&mut self, alloc: Global) -> Option<Box<StampedTable>>
-        ensures held { IfSome result (λ held. self.old.handle.held ≡ Some held.value) }
-        ensures none { result ≡ None → self.old.handle.held ≡ None }
-        ensures new { self.new.handle.held ≡ None }
-    {
-        let Pidtab { handle, is_open } = mem::replace(
-            self,
-            Pidtab {
-                handle: Handle::empty(alloc, null()),
-                is_open: false,
-            },
-        );
-        if is_open {
-            Some(handle.into_loose(alloc).into_box())
-        } else {
-            None
-        }
-    }
-
-    /// Holds the table.
-    fn put(&mut self, held: Box<StampedTable>)
-        ensures { self.new.handle.held ≡ Some held.value }
-    {
-        *self = Pidtab {
-            handle: Handle::of(Loose::of(held)),
-            is_open: true,
-        };
-    }
-
-    /// Makes the call on what is held, as [`StampedTable::make`] does.
-    fn make(&mut self, alloc: Global, call: Call) -> Result<Reply, CallFault>
-        requires { IsSome self.old.handle.held }
-        ensures made { IfOk result (λ reply. Makes self.old.handle.held call reply self.new.handle.held) }
-        ensures err { OnErr result (self.new.handle.held ≡ self.old.handle.held) }
-        ensures spent { (result ≡ Err fault.Spent) ↔ Has self.old.handle.held (λ s. s.stamp ≡ u64.MAX) }
-        ensures no_memory { result ≡ Err fault.NoMemory → IsTrue (may_grow call) }
-    {
-        let Some(mut held) = self.take(alloc) else {
-            unreachable!()
-        };
-        let answer = held.make(call);
-        self.put(held);
-        answer
-    }
-
-    /// The list of what is held, as [`StampedTable::list`] does it.
-    fn list(&mut self, alloc: Global) -> Result<Vec<u8>, AllocError>
-        requires { IsSome self.old.handle.held }
-        ensures text { IfOk result (λ text. IfSome self.old.handle.held (λ s. text.items ≡ list_of_state s.state)) }
-        ensures sound { IfSome self.old.handle.held (λ s. IsInOrder s) }
-        ensures same { self.new.handle.held ≡ self.old.handle.held }
-    {
-        let Some(held) = self.take(alloc) else {
-            unreachable!()
-        };
-        let text = held.list(alloc);
-        self.put(held);
-        text
-    }
-}
-
-/// A new table on the heap. The error is want of memory.
-fn boxed_table(alloc: Global, config: &Config) -> Result<Box<StampedTable>, AllocError>
-    ensures { IfOk result (λ held.
-        held.value ≡ record { state = root_state config.now.pid_max; stamp = config.now.first_stamp }) }
-{
-    let held = StampedTable::new(alloc, config)?;
-    match Box::new(alloc, held) {
-        Ok(held) => Ok(held),
-        Err(_) => Err(AllocError),
-    }
-}
 
 /// The number of this interface, which is 1.
 #[unsafe(no_mangle)]
@@ -170,14 +73,13 @@ pub extern "C" fn pidtab_open(alloc: Global, table: &mut Pidtab, pid_max: u32) -
     if table.is_open {
         return BUSY;
     }
-    let Ok(config) = Config::new(pid_max, 1) else {
-        return OUT_OF_RANGE;
-    };
-    let Ok(held) = boxed_table(alloc, &config) else {
-        return NO_MEMORY;
-    };
-    table.put(held);
-    DONE
+    match new_table(alloc, pid_max) {
+        Ok(held) => {
+            table.put(held);
+            DONE
+        }
+        Err(status) => status,
+    }
 }
 
 /// Frees the table, if there is one, and leaves zeroes.
@@ -185,7 +87,7 @@ pub extern "C" fn pidtab_open(alloc: Global, table: &mut Pidtab, pid_max: u32) -
 pub extern "C" fn pidtab_close(alloc: Global, table: &mut Pidtab)
     ensures { table.new.handle.held ≡ None }
 {
-    let _held = table.take(alloc);
+    table.close(alloc);
 }
 
 /// Makes the call that is written on the line, and puts its answer at the front of the room, without a newline; `size`
@@ -234,13 +136,12 @@ pub extern "C" fn pidtab_line(
         *size = LONGEST_ANSWER;
         return NO_ROOM;
     }
-    match table.make(alloc, call) {
-        Ok(reply) => {
-            *size = write_reply(answer, call, reply);
-            DONE
-        }
-        Err(fault) => status_of(fault),
-    }
+    let Some(mut held) = table.take(alloc) else {
+        unreachable!()
+    };
+    let status = line_table(&mut held, call, answer, size);
+    table.put(held);
+    status
 }
 
 /// Puts the list of the table at the front of the room, each line with its newline; `size` is the list's length.
@@ -268,13 +169,15 @@ pub extern "C" fn pidtab_list(
     ensures no_room { result ≡ NO_ROOM → length room.old < size.new }
     ensures statuses { (result ≡ DONE) ⊎ ((result ≡ CLOSED) ⊎ ((result ≡ NO_ROOM) ⊎ (result ≡ NO_MEMORY))) }
 {
-    if !table.is_open {
+    let Some(held) = table.take(alloc) else {
         return CLOSED;
-    }
-    let Ok(text) = table.list(alloc) else {
-        return NO_MEMORY;
     };
-    write_text(text.as_slice(), room, size)
+    let text = held.list(alloc);
+    table.put(held);
+    match text {
+        Ok(text) => write_text(text.as_slice(), room, size),
+        Err(_) => NO_MEMORY,
+    }
 }
 
 /// Makes the call that the numbers say, and tells its reply as numbers.
@@ -300,17 +203,14 @@ pub extern "C" fn pidtab_call(
     ensures statuses { (result ≡ DONE) ⊎ ((result ≡ CLOSED) ⊎ ((result ≡ OUT_OF_RANGE)
         ⊎ ((result ≡ SPENT) ⊎ (result ≡ NO_MEMORY)))) }
 {
-    if !table.is_open {
+    let Some(mut held) = table.take(alloc) else {
         return CLOSED;
-    }
+    };
     let Some(made) = read_call(call) else {
+        table.put(held);
         return OUT_OF_RANGE;
     };
-    match table.make(alloc, made) {
-        Ok(told) => {
-            put_reply(&told, reply);
-            DONE
-        }
-        Err(fault) => status_of(fault),
-    }
+    let status = call_table(&mut held, made, reply);
+    table.put(held);
+    status
 }

@@ -6,73 +6,13 @@
 //!
 //! The history grows by 184 bytes with each recorded call, until a checkpoint cuts it. Any status but `DONE` says that
 //! the record is as it was, but for the room that it keeps for entries, which nothing shows.
-ghost use Rattle.std.specs.Prelude.{◌≡◌, ◌≢◌, ◌↔◌, ◌⊎◌, IsSome, Some, None, IfOk, IfSome, is_some};
-ghost use Rattle.pidtab_c.specs.Records.{roomless, without_room, CanOpen, opened};
+ghost use Rattle.std.specs.Prelude.{◌≡◌, ◌≢◌, ◌↔◌, ◌⊎◌, IsSome, Some, None};
+ghost use Rattle.foreign_calls.specs.Records.{without_room, CanOpen, opened};
 
-use crate::handle::null;
-use crate::loose::Loose;
-use crate::record_handle::RecordHandle;
-use crate::status::{BUSY, DONE, NO_MEMORY, OUT_OF_RANGE};
-use kept_table::Kept;
+use foreign_calls::record::{MOST_WORKERS, PidtabRecord, boxed_record};
+use foreign_calls::status::{BUSY, DONE, NO_MEMORY, OUT_OF_RANGE};
 use pid_types::config::Config;
-use std::alloc::{AllocError, Global};
-use std::mem;
-
-/// The most workers that a record has.
-pub const MOST_WORKERS: u32 = 16;
-
-/// A record for C, or none: zeroes are none.
-#[repr(C)]
-#[derive(Drop)]
-pub struct PidtabRecord {
-    pub(crate) handle: RecordHandle,
-    pub(crate) is_open: bool,
-    ghost linked: { is_some handle.held ≡ is_open },
-}
-
-impl PidtabRecord {
-    /// What is held, which the handle has no more.
-    pub(crate) fn take(&mut self, alloc: Global) -> Option<Box<Kept>>
-        ensures held { IfSome result (λ held. self.old.handle.held ≡ Some held.value) }
-        ensures none { result ≡ None → self.old.handle.held ≡ None }
-        ensures new { self.new.handle.held ≡ None }
-    {
-        let PidtabRecord { handle, is_open } = mem::replace(
-            self,
-            PidtabRecord {
-                handle: RecordHandle::empty(alloc, null()),
-                is_open: false,
-            },
-        );
-        if is_open {
-            Some(handle.into_loose(alloc).into_box())
-        } else {
-            None
-        }
-    }
-
-    /// Holds the record.
-    pub(crate) fn put(&mut self, held: Box<Kept>)
-        ensures { self.new.handle.held ≡ Some held.value }
-    {
-        *self = PidtabRecord {
-            handle: RecordHandle::of(Loose::of(held)),
-            is_open: true,
-        };
-    }
-}
-
-/// A new record on the heap. The error is want of memory.
-fn boxed_record(alloc: Global, config: &Config, workers: usize) -> Result<Box<Kept>, AllocError>
-    ensures { IfOk result (λ held.
-        roomless held.value ≡ opened config.now.pid_max config.now.first_stamp workers) }
-{
-    let held = Kept::new(alloc, config, workers)?;
-    match Box::new(alloc, held) {
-        Ok(held) => Ok(held),
-        Err(_) => Err(AllocError),
-    }
-}
+use std::alloc::Global;
 
 /// Opens a record with the root init alone, whose numbers are below `pid_max`, for so many workers. The first recorded
 /// call has `first_stamp`, and each one the next.
@@ -117,5 +57,5 @@ pub extern "C" fn pidtab_record_open(
 pub extern "C" fn pidtab_record_close(alloc: Global, table: &mut PidtabRecord)
     ensures { table.new.handle.held ≡ None }
 {
-    let _held = table.take(alloc);
+    table.close(alloc);
 }

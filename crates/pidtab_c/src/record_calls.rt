@@ -6,72 +6,20 @@ ghost use Rattle.pid_script.specs.Answers.{reply_text};
 ghost use Rattle.pid_script.specs.Reading.{parsed};
 ghost use Rattle.pid_script.specs.declared.line.Line.TheVariants as says;
 ghost use Rattle.kept_table.specs.Calls.{outcome};
-ghost use Rattle.kept_table.specs.Chronicle.{total, next_stamp, last_reply};
-ghost use Rattle.pidtab_c.specs.Lines.{IsCall};
-ghost use Rattle.pidtab_c.specs.Numbers.{call_of, numbers_of};
-ghost use Rattle.pidtab_c.specs.Records.{Has, roomless, without_room, IsRecorded};
+ghost use Rattle.kept_table.specs.Chronicle.{next_stamp};
+ghost use Rattle.foreign_calls.specs.Lines.{IsCall};
+ghost use Rattle.foreign_calls.specs.Numbers.{call_of, numbers_of};
+ghost use Rattle.foreign_calls.specs.Records.{Has, without_room, IsRecorded};
 
-use crate::numbers::{CallNumbers, ReplyNumbers, put_reply, read_call};
-use crate::record::PidtabRecord;
-use crate::status::{
-    BAD_LINE, CLOSED, DONE, EMPTY_LINE, NO_MEMORY, NO_ROOM, OUT_OF_RANGE, SPENT, status_of,
+use foreign_calls::numbers::{CallNumbers, ReplyNumbers, read_call};
+use foreign_calls::record::PidtabRecord;
+use foreign_calls::record_calls::{call_on, line_on};
+use foreign_calls::status::{
+    BAD_LINE, CLOSED, DONE, EMPTY_LINE, NO_MEMORY, NO_ROOM, OUT_OF_RANGE, SPENT,
 };
-use crate::texts::{copy_reply, write_reply};
-use kept_table::Kept;
 use pid_script::answer::LONGEST_ANSWER;
 use pid_script::line::{Line, parse_line};
-use pid_types::call::Call;
 use std::alloc::Global;
-
-/// Makes the worker's call on the record, and tells its place in the history. The result is the status.
-#[inline(always)]
-pub(crate) fn make_on(held: &mut Kept, worker: usize, made: Call, ordinal: &mut u64) -> u32
-    ensures done { result ≡ DONE → IsRecorded held.old worker made ordinal.new (Some held.new) }
-    ensures reply { result ≡ DONE → last_reply held.new ≡ Some (outcome held.old made).reply }
-    ensures not_done { result ≢ DONE → (roomless held.new ≡ roomless held.old) × (ordinal.new ≡ ordinal.old) }
-    ensures out_of_range { (result ≡ OUT_OF_RANGE) ↔ (length held.old.cut ≤ worker) }
-    ensures spent { (result ≡ SPENT) ↔ (worker < length held.old.cut) × (next_stamp held.old ≡ u64.MAX) }
-    ensures no_memory { result ≡ NO_MEMORY → 0 < held.old.room → IsTrue (may_grow made) }
-    ensures statuses { (result ≡ DONE) ⊎ ((result ≡ OUT_OF_RANGE) ⊎ ((result ≡ SPENT) ⊎ (result ≡ NO_MEMORY))) }
-{
-    if worker >= held.workers() {
-        return OUT_OF_RANGE;
-    }
-    let place = held.total();
-    if let Err(fault) = held.make_call(worker, made) {
-        return status_of(fault);
-    }
-    *ordinal = place;
-    DONE
-}
-
-/// Makes the call as [`make_on`] does, and tells its reply as numbers.
-fn call_on(
-    held: &mut Kept,
-    worker: u32,
-    made: Call,
-    reply: &mut ReplyNumbers,
-    ordinal: &mut u64,
-) -> u32
-    ensures done { result ≡ DONE → IsRecorded held.old worker made ordinal.new (Some held.new) }
-    ensures reply { result ≡ DONE → reply.new ≡ numbers_of (outcome held.old made).reply }
-    ensures not_done { result ≢ DONE
-        → (roomless held.new ≡ roomless held.old) × (reply.new ≡ reply.old) × (ordinal.new ≡ ordinal.old) }
-    ensures out_of_range { (result ≡ OUT_OF_RANGE) ↔ (length held.old.cut ≤ worker) }
-    ensures spent { (result ≡ SPENT) ↔ (worker < length held.old.cut) × (next_stamp held.old ≡ u64.MAX) }
-    ensures no_memory { result ≡ NO_MEMORY → 0 < held.old.room → IsTrue (may_grow made) }
-    ensures statuses { (result ≡ DONE) ⊎ ((result ≡ OUT_OF_RANGE) ⊎ ((result ≡ SPENT) ⊎ (result ≡ NO_MEMORY))) }
-{
-    let status = make_on(held, worker as usize, made, ordinal);
-    if status != DONE {
-        return status;
-    }
-    let Some(told) = held.last_reply() else {
-        unreachable!()
-    };
-    put_reply(told, reply);
-    DONE
-}
 
 /// Makes the call that the numbers say for the worker, records it with its reply, and tells the reply as numbers, and
 /// the call's place in the history, counted from 0.
@@ -118,38 +66,6 @@ pub extern "C" fn pidtab_record_call(
     let status = call_on(&mut held, worker, made, reply, ordinal);
     table.put(held);
     status
-}
-
-/// Makes the call as [`make_on`] does, and puts the text of its reply at the front of the room.
-fn line_on(
-    held: &mut Kept,
-    worker: u32,
-    made: Call,
-    answer: &mut [u8],
-    size: &mut usize,
-    ordinal: &mut u64,
-) -> u32
-    requires { LONGEST_ANSWER ≤ length answer.old }
-    ensures done { result ≡ DONE → IsRecorded held.old worker made ordinal.new (Some held.new) }
-    ensures reply { result ≡ DONE → take size.new answer.new ≡ reply_text (outcome held.old made).reply }
-    ensures fits { result ≡ DONE → size.new ≤ length answer.new }
-    ensures behind { result ≡ DONE → drop size.new answer.new ≡ drop size.new answer.old }
-    ensures not_done { result ≢ DONE → (roomless held.new ≡ roomless held.old)
-        × (answer.new ≡ answer.old) × (size.new ≡ size.old) × (ordinal.new ≡ ordinal.old) }
-    ensures out_of_range { (result ≡ OUT_OF_RANGE) ↔ (length held.old.cut ≤ worker) }
-    ensures spent { (result ≡ SPENT) ↔ (worker < length held.old.cut) × (next_stamp held.old ≡ u64.MAX) }
-    ensures no_memory { result ≡ NO_MEMORY → 0 < held.old.room → IsTrue (may_grow made) }
-    ensures statuses { (result ≡ DONE) ⊎ ((result ≡ OUT_OF_RANGE) ⊎ ((result ≡ SPENT) ⊎ (result ≡ NO_MEMORY))) }
-{
-    let status = make_on(held, worker as usize, made, ordinal);
-    if status != DONE {
-        return status;
-    }
-    let Some(told) = held.last_reply() else {
-        unreachable!()
-    };
-    *size = write_reply(answer, made, copy_reply(told));
-    DONE
 }
 
 /// Makes the call that is written on the line for the worker, records it with its reply, and puts its answer at the

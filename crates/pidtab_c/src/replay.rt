@@ -1,73 +1,14 @@
 //! Saved entries on a record, for C: their calls are made again, and their replies compared.
-ghost use Rattle.std.specs.Prelude.{◌≡◌, ◌≢◌, ◌<◌, ◌≤◌, ◌↔◌, ◌⊎◌, IsTrue, Some, None, length, slice_get};
+ghost use Rattle.std.specs.Prelude.{◌≡◌, ◌≢◌, ◌<◌, ◌≤◌, ◌↔◌, ◌⊎◌, None, length, slice_get};
 ghost use Rattle.kept_table.specs.Chronicle.{next_stamp};
-ghost use Rattle.pidtab_c.specs.Records.{Has, roomless};
-ghost use Rattle.pidtab_c.specs.Replays.{IsSameAgain, IsOtherNow, Replays, CannotMake, StopsBefore, StopsAt};
+ghost use Rattle.foreign_calls.specs.Records.{Has, roomless};
+ghost use Rattle.foreign_calls.specs.Replays.{Replays, CannotMake, StopsBefore, StopsAt};
 
-use crate::numbers::{ReplyNumbers, read_call, tell_reply};
-use crate::read::EntryNumbers;
-use crate::record::PidtabRecord;
-use crate::record_calls::make_on;
-use crate::status::{CLOSED, DIFFERS, DONE, NO_MEMORY, OUT_OF_RANGE, SPENT};
-use kept_table::Kept;
+use foreign_calls::read::EntryNumbers;
+use foreign_calls::record::PidtabRecord;
+use foreign_calls::replay::replay_on;
+use foreign_calls::status::{CLOSED, DIFFERS, DONE, NO_MEMORY, OUT_OF_RANGE, SPENT};
 use std::alloc::Global;
-
-/// Whether the replies are the same.
-fn is_same(a: &ReplyNumbers, b: &ReplyNumbers) -> bool
-    ensures { IsTrue result ↔ (a.now ≡ b.now) }
-{
-    a == b
-}
-
-/// Makes the call of the saved entry, and compares its reply. The result is the status.
-fn replay_one(held: &mut Kept, saved: &EntryNumbers) -> u32
-    ensures done { result ≡ DONE → IsSameAgain (roomless held.old) saved.now (roomless held.new) }
-    ensures differs { result ≡ DIFFERS → IsOtherNow (roomless held.old) saved.now (roomless held.new) }
-    ensures not_made { result ≢ DONE → result ≢ DIFFERS → roomless held.new ≡ roomless held.old }
-    ensures out_of_range { (result ≡ OUT_OF_RANGE) ↔ CannotMake held.old saved.now }
-    ensures spent { result ≢ OUT_OF_RANGE → (result ≡ SPENT) ↔ (next_stamp held.old ≡ u64.MAX) }
-    ensures statuses { (result ≡ DONE) ⊎ ((result ≡ DIFFERS) ⊎ ((result ≡ OUT_OF_RANGE)
-        ⊎ ((result ≡ SPENT) ⊎ (result ≡ NO_MEMORY)))) }
-{
-    let Some(made) = read_call(&saved.call) else {
-        return OUT_OF_RANGE;
-    };
-    let mut ordinal = 0u64;
-    let step = make_on(held, saved.worker as usize, made, &mut ordinal);
-    if step != DONE {
-        return step;
-    }
-    let Some(told) = held.last_reply() else {
-        unreachable!()
-    };
-    let same = is_same(&tell_reply(told), &saved.reply);
-    if same { DONE } else { DIFFERS }
-}
-
-/// Makes the calls of the saved entries until one is not made, or has another reply: `place` is then its place. The
-/// result is the status.
-fn replay_on(held: &mut Kept, saved: &[EntryNumbers], place: &mut usize) -> u32
-    ensures done { result ≡ DONE
-        → (place.new ≡ length saved.now) × Replays (roomless held.old) saved.now (roomless held.new) }
-    ensures differs { result ≡ DIFFERS → StopsAt held.old saved.now place.new held.new }
-    ensures not_made { result ≢ DONE → result ≢ DIFFERS → StopsBefore held.old saved.now place.new held.new }
-    ensures out_of_range { result ≢ DONE → result ≢ DIFFERS → (result ≡ OUT_OF_RANGE)
-        ↔ Has (slice_get saved.now place.new) (λ n. CannotMake held.new n) }
-    ensures spent { result ≢ DONE → result ≢ DIFFERS → result ≢ OUT_OF_RANGE
-        → (result ≡ SPENT) ↔ (next_stamp held.new ≡ u64.MAX) }
-    ensures statuses { (result ≡ DONE) ⊎ ((result ≡ DIFFERS) ⊎ ((result ≡ OUT_OF_RANGE)
-        ⊎ ((result ≡ SPENT) ⊎ (result ≡ NO_MEMORY)))) }
-{
-    for i in 0..saved.len() {
-        let status = replay_one(held, &saved[i]);
-        if status != DONE {
-            *place = i;
-            return status;
-        }
-    }
-    *place = saved.len();
-    DONE
-}
 
 /// Makes the calls of the saved entries, in order, and compares their replies with the saved ones. `place` is then the
 /// number of entries.

@@ -1,55 +1,17 @@
 //! A record as a text, for C: the text of its present state is written, and a record goes on from such a text.
-ghost use Rattle.std.specs.Prelude.{◌≡◌, ◌≢◌, ◌<◌, ◌≤◌, ◌↔◌, ◌⊎◌, IsSome, None, IfOk, length, sum, take, drop};
-ghost use Rattle.pid_types.specs.Sound.{IsBelow};
+ghost use Rattle.std.specs.Prelude.{◌≡◌, ◌≢◌, ◌<◌, ◌≤◌, ◌↔◌, ◌⊎◌, IsSome, None, length, take, drop};
 ghost use Rattle.table_text.specs.Reading.{IsNoText};
 ghost use Rattle.table_text.specs.Texts.{text_of};
-ghost use Rattle.kept_table.specs.Calls.{resumed};
 ghost use Rattle.kept_table.specs.Chronicle.{next_stamp};
-ghost use Rattle.pidtab_c.specs.Records.{Has};
-ghost use Rattle.pidtab_c.specs.Saved.{no_fault, HasWorkers, HasTooManyCalls, TellsTooManyCalls, IsResumed};
+ghost use Rattle.foreign_calls.specs.Records.{Has};
+ghost use Rattle.foreign_calls.specs.Saved.{no_fault, HasWorkers, HasTooManyCalls, TellsTooManyCalls, IsResumed};
 
-use crate::record::{MOST_WORKERS, PidtabRecord};
-use crate::saved_table::{FaultNumbers, put_fault};
-use crate::status::{BAD_TEXT, BUSY, CLOSED, DONE, NO_MEMORY, NO_ROOM, OUT_OF_RANGE};
-use crate::texts::write_text;
-use kept_table::Kept;
-use std::alloc::{AllocError, Global};
-use table_lines::dump::dump_table;
-use table_load::fault::RestoreFault;
-use table_load::load::{Loaded, table_of};
-use table_text::laws::{texts_tell_states, what_fits_is_of_words};
-use table_text::read::read_text;
-
-/// The stamp of the next call; where the stamps are used up, the one that no call has.
-fn stamp_of(held: &Kept) -> u64
-    ensures { result ≡ next_stamp held.now }
-{
-    match held.next_stamp() {
-        Some(stamp) => stamp,
-        None => u64::MAX,
-    }
-}
-
-/// The text of the present state, with the stamp of the next call. The error is want of memory.
-fn present_dump(alloc: Global, held: &Kept) -> Result<Vec<u8>, AllocError>
-    ensures { IfOk result (λ text. text.items ≡ text_of (next_stamp held.now) held.now.present) }
-{
-    dump_table(alloc, held.present(), stamp_of(held))
-}
-
-/// A record on the heap that goes on from what was loaded. The error is want of memory.
-fn boxed_resume(alloc: Global, loaded: Loaded, counts: &[u64]) -> Result<Box<Kept>, AllocError>
-    requires below { IsBelow loaded.stamp loaded.table }
-    requires before { sum counts.now < loaded.stamp }
-    ensures { IfOk result (λ held. held.value ≡ resumed loaded.table loaded.stamp counts.now held.value.room) }
-{
-    let Loaded { table, stamp } = loaded;
-    let held = Kept::resume(alloc, table, stamp, counts)?;
-    match Box::new(alloc, held) {
-        Ok(held) => Ok(held),
-        Err(_) => Err(AllocError),
-    }
-}
+use foreign_calls::record::PidtabRecord;
+use foreign_calls::saved_record::present_dump;
+use foreign_calls::saved_table::FaultNumbers;
+use foreign_calls::status::{BAD_TEXT, BUSY, CLOSED, DONE, NO_MEMORY, NO_ROOM, OUT_OF_RANGE};
+use foreign_calls::texts::write_text;
+use std::alloc::Global;
 
 /// Puts the text of the present state, with the stamp of the next call, at the front of the room; `size` is the text's
 /// length. Bytes of the room behind it stay as they are. [`pidtab_record_load`] opens a record that goes on from there.
@@ -118,29 +80,5 @@ pub extern "C" fn pidtab_record_load(
     ensures statuses { (result ≡ DONE) ⊎ ((result ≡ BUSY) ⊎ ((result ≡ OUT_OF_RANGE)
         ⊎ ((result ≡ BAD_TEXT) ⊎ (result ≡ NO_MEMORY)))) }
 {
-    *fault = FaultNumbers { line: 0, kind: 0 };
-    if table.is_open {
-        return BUSY;
-    }
-    if counts.is_empty() || counts.len() > MOST_WORKERS as usize {
-        return OUT_OF_RANGE;
-    }
-    texts_tell_states();
-    what_fits_is_of_words();
-    let saved = match read_text(alloc, text) {
-        Ok(saved) => saved,
-        Err(found) => return put_fault(RestoreFault::from(found), fault),
-    };
-    if !Kept::can_resume(saved.stamp, counts) {
-        return OUT_OF_RANGE;
-    }
-    let loaded = match table_of(alloc, &saved) {
-        Ok(loaded) => loaded,
-        Err(found) => return put_fault(found, fault),
-    };
-    let Ok(held) = boxed_resume(alloc, loaded, counts) else {
-        return NO_MEMORY;
-    };
-    table.put(held);
-    DONE
+    table.load(alloc, text, counts, fault)
 }

@@ -1,66 +1,12 @@
-//! Text in the room that C gives for it.
-ghost use Rattle.std.specs.Prelude.{◌≡◌, ◌≢◌, ◌<◌, ◌≤◌, ◌↔◌, ◌⊎◌, length, take, drop};
-ghost use Rattle.std.specs.Prelude.{Some, None};
+//! The line of a call, in the room that C gives for it.
+ghost use Rattle.std.specs.Prelude.{◌≡◌, ◌≢◌, ◌<◌, ◌≤◌, ◌↔◌, ◌⊎◌, Some, None, length, take, drop};
 ghost use Rattle.pid_types.specs.declared.call.Call.{Call};
-ghost use Rattle.pid_script.specs.Answers.{reply_text};
 ghost use Rattle.pid_script.specs.Lines.{line_of};
-ghost use Rattle.pidtab_c.specs.Numbers.{call_of};
+ghost use Rattle.foreign_calls.specs.Numbers.{call_of};
 
-use crate::numbers::{CallNumbers, read_call};
-use crate::status::{DONE, NO_ROOM, OUT_OF_RANGE};
-use pid_script::answer::{LONGEST_ANSWER, answer_text};
-use pid_script::call::line_text;
-use pid_types::call::Call;
-use pid_types::entry::Receipt;
-use pid_types::reply::Reply;
-
-/// A copy, which needs no memory.
-pub(crate) fn copy_reply(reply: &Reply) -> Reply
-    ensures { result ≡ reply.now }
-{
-    match reply.clone() {
-        Ok(copy) => copy,
-        Err(_) => unreachable!(),
-    }
-}
-
-/// Puts the text of the reply at the front of the room for it. The result is its length; what is behind stays.
-pub(crate) fn write_reply(answer: &mut [u8], call: Call, reply: Reply) -> usize
-    requires { LONGEST_ANSWER ≤ length answer.old }
-    ensures text { take result answer.new ≡ reply_text reply }
-    ensures behind { drop result answer.new ≡ drop result answer.old }
-    ensures fits { result ≤ length answer.new }
-{
-    // The text of an answer is that of a receipt, and does not depend on whose receipt it is.
-    let receipt = Receipt {
-        ordinal: 0,
-        worker: 0,
-        call,
-        reply,
-    };
-    let text = answer_text(&Ok(receipt));
-    answer[..text.len()].copy_from_slice(text.as_slice());
-    text.len()
-}
-
-/// Puts the text at the front of the room, where it fits; what is behind stays. `size` is its length, also where it
-/// does not fit. The result is the status.
-pub(crate) fn write_text(text: &[u8], room: &mut [u8], size: &mut usize) -> u32
-    ensures size { size.new ≡ length text.now }
-    ensures done { result ≡ DONE → take size.new room.new ≡ text.now }
-    ensures fits { result ≡ DONE → size.new ≤ length room.new }
-    ensures behind { result ≡ DONE → drop size.new room.new ≡ drop size.new room.old }
-    ensures not_done { result ≢ DONE → room.new ≡ room.old }
-    ensures no_room { (result ≡ NO_ROOM) ↔ (length room.old < length text.now) }
-    ensures statuses { (result ≡ DONE) ⊎ (result ≡ NO_ROOM) }
-{
-    *size = text.len();
-    if room.len() < text.len() {
-        return NO_ROOM;
-    }
-    room[..text.len()].copy_from_slice(text);
-    DONE
-}
+use foreign_calls::numbers::CallNumbers;
+use foreign_calls::status::{DONE, NO_ROOM, OUT_OF_RANGE};
+use foreign_calls::texts::write_call_line;
 
 /// Puts the line of the script language that says the call at the front of the room, without a newline; `size` is the
 /// line's length.
@@ -81,8 +27,5 @@ pub extern "C" fn pidtab_call_line(call: &CallNumbers, room: &mut [u8], size: &m
     ensures same_size { result ≡ OUT_OF_RANGE → size.new ≡ size.old }
     ensures statuses { (result ≡ DONE) ⊎ ((result ≡ OUT_OF_RANGE) ⊎ (result ≡ NO_ROOM)) }
 {
-    let Some(said) = read_call(call) else {
-        return OUT_OF_RANGE;
-    };
-    write_text(line_text(&said).as_slice(), room, size)
+    write_call_line(call, room, size)
 }

@@ -1,0 +1,14 @@
+use Rattle.std.proofs.Common.{rules}
+use Rattle.foreign_calls.proofs.table.new_table.Goals as goal
+
+pub returns-in-Ok-boxed_table-clause-new : goal.returns-in-Ok-boxed_table-clause-new
+returns-in-Ok-boxed_table-clause-new c = search rules
+
+pub returns-in-Ok-boxed_table-clause-good : goal.returns-in-Ok-boxed_table-clause-good
+returns-in-Ok-boxed_table-clause-good c = search rules
+
+pub returns-in-Ok-boxed_table-clause-out_of_range : goal.returns-in-Ok-boxed_table-clause-out_of_range
+returns-in-Ok-boxed_table-clause-out_of_range c = search rules
+
+pub returns-in-Err-clause-out_of_range : goal.returns-in-Err-clause-out_of_range
+returns-in-Err-clause-out_of_range c = search rules

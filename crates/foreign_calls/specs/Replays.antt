@@ -1,0 +1,44 @@
+-- Saved entries, whose calls are made again.
+use Rattle.std.specs.Prelude.{◌≡◌, ◌≢◌, ◌<◌, ◌≤◌, ◌⊎◌, ℕ, List, [], ◌∷◌, length, take, slice_get, Some, None}
+use Rattle.pid_types.specs.declared.call.Call.{Call}
+use Rattle.kept_table.specs.Calls.{outcome}
+use Rattle.kept_table.specs.Chronicle.{Chronicle}
+use Rattle.foreign_calls.specs.declared.numbers.ReplyNumbers.{ReplyNumbers}
+use Rattle.foreign_calls.specs.declared.read.EntryNumbers.{EntryNumbers}
+use Rattle.foreign_calls.specs.Numbers.{call_of, numbers_of}
+use Rattle.foreign_calls.specs.Records.{Has, roomless, after_call}
+
+-- the saved entry's call was made for its worker and recorded, once; the reply is this one
+pub record IsMadeAgain (c : Chronicle) (saved : EntryNumbers) (reply : ReplyNumbers) (d : Chronicle) : Type 0 where
+  pub call : Call
+  pub read : call_of saved.call ≡ Some call
+  pub known : saved.worker < length c.cut
+  pub left : d ≡ after_call c saved.worker call
+  pub answer : reply ≡ numbers_of (outcome c call).reply
+
+-- the reply is the saved one
+abbrev pub IsSameAgain : Chronicle → EntryNumbers → Chronicle → Type 0
+IsSameAgain c saved d = IsMadeAgain c saved saved.reply d
+
+-- the reply is another one
+abbrev pub IsOtherNow : Chronicle → EntryNumbers → Chronicle → Type 0
+IsOtherNow c saved d = (reply : ReplyNumbers) × IsMadeAgain c saved reply d × (reply ≢ saved.reply)
+
+-- the calls of the saved entries, made one after another, had the saved replies, and leave this
+abbrev pub Replays : Chronicle → List EntryNumbers → Chronicle → Type 0
+Replays c [] d = d ≡ c
+Replays c (saved ∷ rest) d = (m : Chronicle) × IsSameAgain c saved m × Replays m rest d
+
+-- the numbers say no call, or there is no such worker
+abbrev pub CannotMake : Chronicle → EntryNumbers → Type 0
+CannotMake c saved = (call_of saved.call ≡ None) ⊎ (length c.cut ≤ saved.worker)
+
+-- those before the place had the saved replies, and nothing else was made
+abbrev pub StopsBefore : Chronicle → List EntryNumbers → ℕ → Chronicle → Type 0
+StopsBefore c saved place d = (place < length saved) × Replays (roomless c) (take place saved) (roomless d)
+
+-- so had they, and the one at the place was made, had another reply, and is the last one made
+abbrev pub StopsAt : Chronicle → List EntryNumbers → ℕ → Chronicle → Type 0
+StopsAt c saved place d =
+    (m : Chronicle) × Replays (roomless c) (take place saved) m
+    × Has (slice_get saved place) (λ n. IsOtherNow m n (roomless d))

@@ -1,0 +1,50 @@
+-- What C is told of a text that no table is loaded from, and what a record is that goes on from one.
+use Rattle.std.specs.Prelude.{◌≡◌, ◌<◌, ◌≤◌, ℕ, List, length, sum}
+use Rattle.pid_types.specs.State.{State}
+use Rattle.table_text.specs.Texts.{text_of}
+use Rattle.table_text.specs.Ranges.{IsWord}
+use Rattle.table_text.specs.Reading.{IsHeldState}
+use Rattle.table_load.specs.declared.fault.RestoreFault.{RestoreFault}
+use Rattle.table_load.specs.declared.fault.RestoreFault.TheVariants as why
+use Rattle.kept_table.specs.Calls.{resumed}
+use Rattle.kept_table.specs.Chronicle.{Chronicle, next_stamp}
+use Rattle.foreign_calls.specs.declared.saved_table.FaultNumbers.{FaultNumbers}
+
+-- no fault of a text
+abbrev pub no_fault : FaultNumbers
+no_fault = record { line = 0; kind = 0 }
+
+-- the line of the fault, and its kind, a number from 1 to 12 without 11, which once was a fault
+abbrev pub fault_numbers : RestoreFault → FaultNumbers
+fault_numbers why.NoMemory = no_fault
+fault_numbers (why.BadLine n) = record { line = n; kind = 1 }
+fault_numbers (why.WrongDigest n) = record { line = n; kind = 2 }
+fault_numbers (why.BadSettings n) = record { line = n; kind = 3 }
+fault_numbers (why.Unsorted n) = record { line = n; kind = 4 }
+fault_numbers (why.UnknownParent n) = record { line = n; kind = 5 }
+fault_numbers (why.UnknownNamespace n) = record { line = n; kind = 6 }
+fault_numbers (why.UnknownGroup n) = record { line = n; kind = 7 }
+fault_numbers (why.BadName n) = record { line = n; kind = 8 }
+fault_numbers (why.TakenNumber n) = record { line = n; kind = 9 }
+fault_numbers (why.NoInit n) = record { line = n; kind = 10 }
+fault_numbers (why.Impossible n) = record { line = n; kind = 12 }
+
+-- a count for each worker of a record
+pub record HasWorkers (counts : List ℕ) : Type 0 where
+  pub some : 0 < length counts
+  pub few : length counts ≤ 16
+
+-- the text says a state and a stamp, and the counts add up to that stamp or more
+abbrev pub HasTooManyCalls : List ℕ → List ℕ → Type 0
+HasTooManyCalls text counts = (stamp : ℕ) × (state : State) × (text ≡ text_of stamp state) × (stamp ≤ sum counts)
+
+-- the same of a state and a stamp whose numbers fit
+abbrev pub TellsTooManyCalls : List ℕ → List ℕ → Type 0
+TellsTooManyCalls text counts =
+    (stamp : ℕ) × (state : State) × IsWord stamp × IsHeldState state × (text ≡ text_of stamp state) × (stamp ≤ sum counts)
+
+-- the record goes on as the text says, behind so many calls of each worker
+pub record IsResumed (text counts : List ℕ) (c : Chronicle) : Type 0 where
+  pub says : text ≡ text_of (next_stamp c) c.present
+  pub left : c ≡ resumed c.present (next_stamp c) counts c.room
+  pub before : sum counts < next_stamp c

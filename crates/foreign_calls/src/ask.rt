@@ -1,0 +1,80 @@
+//! Queries: they are answered as calls are, and change nothing.
+//!
+//! A query is a getpid, getppid, getpgid, getsid, nspid, next or count.
+ghost use Rattle.std.specs.Prelude.{◌≡◌, ◌≢◌, ◌↔◌, ◌⊎◌, IsTrue, Some, None, IfSome};
+ghost use Rattle.pid_types.specs.declared.call.Call.{Call};
+ghost use Rattle.kept_table.specs.Calls.{outcome};
+ghost use Rattle.kept_table.specs.Queries.{is_query};
+ghost use Rattle.foreign_calls.specs.Asked.{query_of};
+ghost use Rattle.foreign_calls.specs.Numbers.{numbers_of};
+ghost use Rattle.foreign_calls.specs.Stamped.{reply_to};
+
+use crate::numbers::{CallNumbers, ReplyNumbers, put_reply, read_call};
+use crate::stamped::StampedTable;
+use crate::status::{DONE, OUT_OF_RANGE};
+use kept_table::Kept;
+use pid_types::call::Call;
+use pid_types::reply::Reply;
+
+/// Whether the call is a query.
+fn asks(call: &Call) -> bool
+    ensures { result ≡ is_query call.now }
+{
+    match call {
+        Call::GetPid { caller: _ } | Call::GetPpid { caller: _ } | Call::Count { id: _ } => true,
+        Call::GetPgid { caller: _, pid: _ } | Call::GetSid { caller: _, pid: _ } => true,
+        Call::NsPid {
+            caller: _,
+            target: _,
+        } => true,
+        Call::Next {
+            caller: _,
+            kind: _,
+            from: _,
+        } => true,
+        _ => false,
+    }
+}
+
+/// The query that the numbers say; none where they say no call, or another one.
+fn read_query(n: &CallNumbers) -> Option<Call>
+    ensures query { result ≡ query_of n.now }
+    ensures asks { IfSome result (λ call. IsTrue (is_query call)) }
+{
+    let call = read_call(n)?;
+    if asks(&call) { Some(call) } else { None }
+}
+
+/// Answers the query that the numbers say on the table. The result is the status.
+pub fn ask_table(held: &mut StampedTable, call: &CallNumbers, reply: &mut ReplyNumbers) -> u32
+    ensures same { held.new ≡ held.old }
+    ensures done { result ≡ DONE → (asked : Call) × (query_of call.now ≡ Some asked)
+        × (reply.new ≡ numbers_of (reply_to held.old asked)) }
+    ensures not_done { result ≢ DONE → reply.new ≡ reply.old }
+    ensures out_of_range { (result ≡ OUT_OF_RANGE) ↔ (query_of call.now ≡ None) }
+    ensures statuses { (result ≡ DONE) ⊎ (result ≡ OUT_OF_RANGE) }
+{
+    let Some(asked) = read_query(call) else {
+        return OUT_OF_RANGE;
+    };
+    put_reply(&held.ask(asked), reply);
+    DONE
+}
+
+/// Answers the query that the numbers say on the record, which is not recorded. The result is the status.
+pub fn ask_record(held: &mut Kept, call: &CallNumbers, reply: &mut ReplyNumbers) -> u32
+    ensures same { held.new ≡ held.old }
+    ensures done { result ≡ DONE → (asked : Call) × (query_of call.now ≡ Some asked)
+        × (reply.new ≡ numbers_of (outcome held.old asked).reply) }
+    ensures not_done { result ≢ DONE → reply.new ≡ reply.old }
+    ensures out_of_range { (result ≡ OUT_OF_RANGE) ↔ (query_of call.now ≡ None) }
+    ensures statuses { (result ≡ DONE) ⊎ (result ≡ OUT_OF_RANGE) }
+{
+    let Some(asked) = read_query(call) else {
+        return OUT_OF_RANGE;
+    };
+    let mut told = Reply::Done;
+    held.ask(asked, &mut told);
+    put_reply(&told, reply);
+    DONE
+}

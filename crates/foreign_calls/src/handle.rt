@@ -1,0 +1,62 @@
+//! The handle that crosses to C.
+ghost use Rattle.std.specs.Prelude.{◌≡◌, Option, Some, None, IsSome};
+ghost use Rattle.std.specs.Global.{Global};
+ghost use Rattle.foreign_calls.specs.Stamped.{Stamped};
+
+use crate::loose::Loose;
+use crate::stamped::StampedTable;
+use std::alloc::{Allocator, Global};
+use std::marker::Model;
+use std::ptr;
+
+/// The address of a table on the heap, which it owns, or of none.
+#[repr(C)]
+#[derive(Drop)]
+pub struct Handle {
+    at: *mut u8,
+    pub ghost held: { Option Stamped },
+    pub ghost heap: { Global },
+}
+
+impl Model for Handle {
+    ghost use Rattle.std.specs.Box.Ownership.{box_owns};
+    ghost use Rattle.foreign_calls.specs.contracts.stamped.StampedTable.{the_row};
+    ghost use Rattle.foreign_calls.specs.Owned.{IfHeld};
+
+    ghost also_owns = { λ h. IfHeld h.held (box_owns (⟦<Global as Allocator>⟧.dealloc_token h.heap) the_row h.at) };
+}
+
+impl Handle {
+    /// No table.
+    pub fn empty(_alloc: Global, at: *mut u8) -> Handle
+        ensures { result.held ≡ None }
+    {
+        Handle { at }
+    }
+
+    pub fn of(loose: Loose<StampedTable, Global>) -> Handle
+        ensures { result.held ≡ Some loose.value }
+    {
+        let Loose { at, alloc: _ } = loose;
+        Handle { at: at as *mut u8 }
+    }
+
+    pub fn into_loose(self, alloc: Global) -> Loose<StampedTable, Global>
+        requires { IsSome self.held }
+        ensures { Some result.value ≡ self.held }
+    {
+        let Handle { at } = self;
+        Loose {
+            at: at as *mut StampedTable,
+            alloc,
+        }
+    }
+}
+
+/// The pointer to nothing.
+pub fn null() -> *mut u8 {
+    ptr::null_mut()
+}
+
+// A handle goes to another thread with its table.
+unsafe impl Send for Handle {}

@@ -1,0 +1,78 @@
+//! The history of a record: its kept entries, cutting them away, and the lists of its states.
+ghost use Rattle.std.specs.Prelude.{◌≡◌, ◌≢◌, ◌↔◌, ◌⊎◌, None, IfOk};
+ghost use Rattle.kept_table.specs.Chronicle.{total, kept_entry};
+ghost use Rattle.foreign_calls.specs.Entries.{IsEntry};
+ghost use Rattle.table_lines.specs.Listed.{list_of_state};
+ghost use Rattle.foreign_calls.specs.Records.{IsCut};
+
+use crate::call_numbers::tell_call;
+use crate::numbers::{CallNumbers, ReplyNumbers, put_reply};
+use crate::status::{AGAIN, DONE, NO_MEMORY, NOT_KEPT};
+use kept_table::Kept;
+use pid_script::list::list_text;
+use std::alloc::{AllocError, Global};
+use table_lines::list::list_table;
+
+/// Tells the kept entry with the ordinal. The result is the status.
+pub fn tell_entry(
+    held: &Kept,
+    ordinal: u64,
+    worker: &mut u64,
+    call: &mut CallNumbers,
+    reply: &mut ReplyNumbers,
+) -> u32
+    ensures done { result ≡ DONE → IsEntry held.now ordinal worker.new call.new reply.new }
+    ensures not_done { result ≢ DONE
+        → (worker.new ≡ worker.old) × (call.new ≡ call.old) × (reply.new ≡ reply.old) }
+    ensures not_kept { (result ≡ NOT_KEPT) ↔ (kept_entry held.now ordinal ≡ None) }
+    ensures statuses { (result ≡ DONE) ⊎ (result ≡ NOT_KEPT) }
+{
+    let Some(entry) = held.entry(ordinal) else {
+        return NOT_KEPT;
+    };
+    *worker = entry.worker as u64;
+    *call = tell_call(&entry.call);
+    put_reply(&entry.reply, reply);
+    DONE
+}
+
+/// Cuts the record's history. The result is the status.
+pub fn cut_on(held: &mut Kept) -> u32
+    ensures done { result ≡ DONE → IsCut held.old held.new }
+    ensures not_done { result ≢ DONE → held.new ≡ held.old }
+    ensures statuses { (result ≡ DONE) ⊎ (result ≡ NO_MEMORY) }
+{
+    match held.checkpoint() {
+        Ok(()) => DONE,
+        Err(_) => NO_MEMORY,
+    }
+}
+
+/// Cuts the record's history, but only where exactly so many calls were recorded. The result is the status.
+pub fn cut_at(held: &mut Kept, seen: u64) -> u32
+    ensures done { result ≡ DONE → IsCut held.old held.new }
+    ensures seen { result ≡ DONE → total held.old ≡ seen }
+    ensures not_done { result ≢ DONE → held.new ≡ held.old }
+    ensures again { (result ≡ AGAIN) ↔ (total held.old ≢ seen) }
+    ensures statuses { (result ≡ DONE) ⊎ ((result ≡ AGAIN) ⊎ (result ≡ NO_MEMORY)) }
+{
+    if held.total() != seen {
+        return AGAIN;
+    }
+    cut_on(held)
+}
+
+/// The text of the present state's list. The error is want of memory.
+pub fn present_text(alloc: Global, held: &Kept) -> Result<Vec<u8>, AllocError>
+    ensures { IfOk result (λ text. text.items ≡ list_of_state held.now.present) }
+{
+    list_table(alloc, held.present())
+}
+
+/// The text of the list of the state that the kept history begins in. The error is want of memory.
+pub fn opening_text(alloc: Global, held: &Kept) -> Result<Vec<u8>, AllocError>
+    ensures { IfOk result (λ text. text.items ≡ list_of_state held.now.opening) }
+{
+    let plain = held.opening()?;
+    list_text(alloc, &plain)
+}

@@ -1,0 +1,35 @@
+//! A box as its address.
+ghost use Rattle.std.specs.Prelude.{◌≡◌};
+ghost use Rattle.std.specs.Box.Ownership.{box_owns};
+
+use std::alloc::Allocator;
+use std::marker::Model;
+
+/// The address of a value that was boxed, which it owns, and the allocator that the box was from.
+pub struct Loose<T, A: Allocator> {
+    pub at: *mut T,
+    pub alloc: A,
+    pub ghost value: { T },
+}
+
+impl<T, A: Allocator> Model for Loose<T, A> {
+    ghost also_owns = { λ l. box_owns (A.dealloc_token l.alloc) T.row l.at l.value };
+}
+
+impl<T: Drop, A: Allocator> Loose<T, A> {
+    /// The box as its address.
+    pub fn of(value: Box<T, A>) -> Loose<T, A>
+        ensures { result.value ≡ value.value }
+    {
+        let (at, alloc) = Box::into_raw_with_allocator(value);
+        Loose { at, alloc }
+    }
+
+    /// The box again.
+    pub fn into_box(self) -> Box<T, A>
+        ensures { result.value ≡ self.value }
+    {
+        let Loose { at, alloc } = self;
+        unsafe { Box::from_raw(alloc, at) }
+    }
+}

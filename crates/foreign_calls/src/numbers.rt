@@ -1,0 +1,290 @@
+//! Calls and replies as numbers, for callers who would rather not read text. The numbers stay the same from release to
+//! release.
+ghost use Rattle.std.specs.Prelude.{◌≡◌};
+ghost use Rattle.foreign_calls.specs.Numbers.{switch_of, which_of, kind_of, limit_of, status_of, call_of};
+ghost use Rattle.foreign_calls.specs.Numbers.{control_call_of, later_call_of, blank, with_zeroes, levels_numbers};
+ghost use Rattle.foreign_calls.specs.Numbers.{refusal_numbers, numbers_of};
+
+use arrayvec::ArrayVec;
+use pid_types::call::{Call, Kind, Which};
+use pid_types::plain::{Ended, LEVELS};
+use pid_types::reply::{Refusal, Reply};
+
+/// A call: its operation, which is its place in [`Call`] from 0 on, who makes it, and what else it takes. What a call
+/// does not take is not looked at.
+///
+/// | Operation | Call | Takes |
+/// |---|---|---|
+/// | 0 | `fork` | `caller`, `choice`: 0, or 1 for a new namespace |
+/// | 1 | `getpid` | `caller` |
+/// | 2 | `nspid` | `caller`, `number` |
+/// | 3 | `exec` | `caller` |
+/// | 4 | `exit` | `caller`, `number` from 0 to 255 |
+/// | 5 | `wait` | `caller`, `choice`: 0 any child, 1 the child `number`, 2 the own group, 3 the group `number` |
+/// | 6 | `getppid` | `caller` |
+/// | 7 | `setpgid` | `caller`, `pid`, `pgid` |
+/// | 8 | `setsid` | `caller` |
+/// | 9 | `mk` | `id` |
+/// | 10 | `rm` | `id` |
+/// | 11 | `limit` | `id`, `choice`: 0 for no limit, 1 for `number` |
+/// | 12 | `move` | `caller`, `id` |
+/// | 13 | `count` | `id` |
+/// | 14, 15 | `getpgid`, `getsid` | `caller`, `number` |
+/// | 16 | `next` | `caller`, `choice`: 0 task, 1 group, 2 session, and `number` |
+/// | 17 | `join` | `caller`, `number` |
+/// | 18 | `subreaper` | `caller`, `choice`: 0 for off, 1 for on |
+#[repr(C)]
+#[derive(Clone, Copy)]
+pub struct CallNumbers {
+    pub operation: u32,
+    pub caller: u32,
+    pub id: u64,
+    pub number: u32,
+    pub choice: u32,
+    pub pid: i32,
+    pub pgid: i32,
+}
+
+/// A reply: its kind, which is its place in [`Reply`] from 0 on, and what it tells; what it does not tell is 0.
+///
+/// | Kind | Reply | Tells |
+/// |---|---|---|
+/// | 0 | `Forked` | `first` the child's number to the caller, `second` its root number |
+/// | 1 | `Done` | |
+/// | 2 | `Number` | `first` |
+/// | 3 | `Levels` | the first `count` of `levels` |
+/// | 4 | `Reaped` | `first` the child's number, `second` its status, or 256 where it was killed |
+/// | 5 | `NoneYet` | |
+/// | 6 | `Counted` | `first` |
+/// | 7 | `Control` | `first` the id |
+/// | 8 | `End` | |
+/// | 9 | `Refused` | `errno`, `refusal` its number, `first` the id of what refused |
+#[repr(C)]
+#[derive(Clone, Copy, PartialEq)]
+pub struct ReplyNumbers {
+    pub kind: u32,
+    pub errno: u32,
+    pub refusal: u32,
+    pub count: u32,
+    pub first: u64,
+    pub second: u64,
+    pub levels: [u32; LEVELS],
+}
+
+/// A switch.
+fn read_switch(choice: u32) -> Option<bool>
+    ensures { result ≡ switch_of choice }
+{
+    match choice {
+        0 => Some(false),
+        1 => Some(true),
+        _ => None,
+    }
+}
+
+/// The children that a wait selects.
+fn read_which(choice: u32, number: u32) -> Option<Which>
+    ensures { result ≡ which_of choice number }
+{
+    match choice {
+        0 => Some(Which::Any),
+        1 => Some(Which::Pid(number)),
+        2 => Some(Which::OwnGroup),
+        3 => Some(Which::Group(number)),
+        _ => None,
+    }
+}
+
+/// What a number is in use as.
+fn read_kind(choice: u32) -> Option<Kind>
+    ensures { result ≡ kind_of choice }
+{
+    match choice {
+        0 => Some(Kind::Task),
+        1 => Some(Kind::Group),
+        2 => Some(Kind::Session),
+        _ => None,
+    }
+}
+
+/// A limit, or none.
+fn read_limit(choice: u32, number: u32) -> Option<Option<u32>>
+    ensures { result ≡ limit_of choice number }
+{
+    match choice {
+        0 => Some(None),
+        1 => Some(Some(number)),
+        _ => None,
+    }
+}
+
+/// An exit status.
+fn read_status(number: u32) -> Option<u8>
+    ensures { result ≡ status_of number }
+{
+    if number < 256 {
+        Some(number as u8)
+    } else {
+        None
+    }
+}
+
+/// The call that the numbers say; none where the operation, or what it takes, is outside its range.
+#[tactic(auto, unfolding(crate::specs::Numbers::call_of))]
+#[inline(always)]
+pub fn read_call(n: &CallNumbers) -> Option<Call>
+    ensures { result ≡ call_of n.now }
+{
+    let caller = n.caller;
+    match n.operation {
+        0 => read_switch(n.choice).map(|new_space| Call::Fork { caller, new_space }),
+        1 => Some(Call::GetPid { caller }),
+        2 => Some(Call::NsPid {
+            caller,
+            target: n.number,
+        }),
+        3 => Some(Call::Exec { caller }),
+        4 => read_status(n.number).map(|status| Call::Exit { caller, status }),
+        5 => read_which(n.choice, n.number).map(|which| Call::Wait { caller, which }),
+        6 => Some(Call::GetPpid { caller }),
+        7 => Some(Call::SetPgid {
+            caller,
+            pid: n.pid,
+            pgid: n.pgid,
+        }),
+        8 => Some(Call::SetSid { caller }),
+        _ => read_control_call(n),
+    }
+}
+
+/// The call from operation 9 on.
+#[tactic(auto, unfolding(crate::specs::Numbers::control_call_of))]
+fn read_control_call(n: &CallNumbers) -> Option<Call>
+    ensures { result ≡ control_call_of n.now }
+{
+    let id = n.id;
+    match n.operation {
+        9 => Some(Call::MakeControl { parent: id }),
+        10 => Some(Call::RemoveControl { id }),
+        11 => read_limit(n.choice, n.number).map(|limit| Call::SetLimit { id, limit }),
+        12 => Some(Call::Move { task: n.caller, id }),
+        13 => Some(Call::Count { id }),
+        _ => read_later_call(n),
+    }
+}
+
+/// The call from operation 14 on.
+#[tactic(auto, unfolding(crate::specs::Numbers::later_call_of))]
+fn read_later_call(n: &CallNumbers) -> Option<Call>
+    ensures { result ≡ later_call_of n.now }
+{
+    let (caller, number) = (n.caller, n.number);
+    match n.operation {
+        14 => Some(Call::GetPgid {
+            caller,
+            pid: number,
+        }),
+        15 => Some(Call::GetSid {
+            caller,
+            pid: number,
+        }),
+        16 => read_kind(n.choice).map(|kind| Call::Next {
+            caller,
+            kind,
+            from: number,
+        }),
+        17 => Some(Call::Join {
+            caller,
+            target: number,
+        }),
+        18 => read_switch(n.choice).map(|on| Call::SetSubreaper { caller, on }),
+        _ => None,
+    }
+}
+
+/// Writes a reply of the kind that tells one value or two.
+fn put_values(reply: &mut ReplyNumbers, kind: u32, first: u64, second: u64)
+    ensures { reply.new ≡ record (blank kind) { first = first; second = second } }
+{
+    reply.kind = kind;
+    reply.errno = 0;
+    reply.refusal = 0;
+    reply.count = 0;
+    reply.first = first;
+    reply.second = second;
+    reply.levels = [0; LEVELS];
+}
+
+/// The numbers, and zeroes behind them.
+pub fn padded(numbers: &ArrayVec<u32, LEVELS>) -> [u32; LEVELS]
+    ensures { result ≡ with_zeroes numbers.now.items }
+{
+    let mut levels = [0u32; LEVELS];
+    levels[..numbers.len()].copy_from_slice(numbers.as_slice());
+    levels
+}
+
+/// Writes the reply with a task's numbers.
+fn put_levels(reply: &mut ReplyNumbers, numbers: &ArrayVec<u32, LEVELS>)
+    ensures { reply.new ≡ levels_numbers numbers.now.items }
+{
+    put_values(reply, 3, 0, 0);
+    reply.count = numbers.len() as u32;
+    reply.levels = padded(numbers);
+}
+
+/// Writes the reply of a refused call.
+fn put_refusal(reply: &mut ReplyNumbers, refusal: Refusal)
+    ensures { reply.new ≡ refusal_numbers refusal }
+{
+    let first = match refusal {
+        Refusal::NoNumber(id) | Refusal::PidsLimit(id) => id,
+        _ => 0,
+    };
+    put_values(reply, 9, first, 0);
+    reply.errno = refusal.errno();
+    reply.refusal = u32::from(refusal.number());
+}
+
+/// Writes the reply as numbers where they go: a reply that is told and then copied would cost twice.
+#[tactic(auto, unfolding(crate::specs::Numbers::numbers_of))]
+pub fn put_reply(told: &Reply, reply: &mut ReplyNumbers)
+    ensures { reply.new ≡ numbers_of told.now }
+{
+    match told {
+        Reply::Forked { child, root } => put_values(reply, 0, u64::from(*child), u64::from(*root)),
+        Reply::Done => put_values(reply, 1, 0, 0),
+        Reply::Number(number) => put_values(reply, 2, u64::from(*number), 0),
+        Reply::Levels(numbers) => put_levels(reply, numbers),
+        Reply::Reaped {
+            child,
+            ended: Ended::Exited(status),
+        } => put_values(reply, 4, u64::from(*child), u64::from(*status)),
+        Reply::Reaped {
+            child,
+            ended: Ended::Killed,
+        } => put_values(reply, 4, u64::from(*child), 256),
+        Reply::NoneYet => put_values(reply, 5, 0, 0),
+        Reply::Counted(count) => put_values(reply, 6, *count, 0),
+        Reply::Control(id) => put_values(reply, 7, *id, 0),
+        Reply::End => put_values(reply, 8, 0, 0),
+        Reply::Refused(refusal) => put_refusal(reply, *refusal),
+    }
+}
+
+/// The reply as numbers.
+pub fn tell_reply(told: &Reply) -> ReplyNumbers
+    ensures { result ≡ numbers_of told.now }
+{
+    let mut reply = ReplyNumbers {
+        kind: 1,
+        errno: 0,
+        refusal: 0,
+        count: 0,
+        first: 0,
+        second: 0,
+        levels: [0; LEVELS],
+    };
+    put_reply(told, &mut reply);
+    reply
+}

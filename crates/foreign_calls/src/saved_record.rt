@@ -1,0 +1,104 @@
+//! A record as a text: the text of its present state is made, and a record goes on from such a text.
+ghost use Rattle.std.specs.Prelude.{◌≡◌, ◌≢◌, ◌<◌, ◌≤◌, ◌↔◌, ◌⊎◌, IsSome, None, IfOk, sum};
+ghost use Rattle.pid_types.specs.Sound.{IsBelow};
+ghost use Rattle.table_text.specs.Reading.{IsNoText};
+ghost use Rattle.table_text.specs.Texts.{text_of};
+ghost use Rattle.kept_table.specs.Calls.{resumed};
+ghost use Rattle.kept_table.specs.Chronicle.{next_stamp};
+ghost use Rattle.foreign_calls.specs.Records.{Has};
+ghost use Rattle.foreign_calls.specs.Saved.{no_fault, HasWorkers, HasTooManyCalls, TellsTooManyCalls, IsResumed};
+
+use crate::record::{MOST_WORKERS, PidtabRecord};
+use crate::saved_table::{FaultNumbers, put_fault};
+use crate::status::{BAD_TEXT, BUSY, DONE, NO_MEMORY, OUT_OF_RANGE};
+use kept_table::Kept;
+use std::alloc::{AllocError, Global};
+use table_lines::dump::dump_table;
+use table_load::fault::RestoreFault;
+use table_load::load::{Loaded, table_of};
+use table_text::laws::{texts_tell_states, what_fits_is_of_words};
+use table_text::read::read_text;
+
+/// The stamp of the next call; where the stamps are used up, the one that no call has.
+fn stamp_of(held: &Kept) -> u64
+    ensures { result ≡ next_stamp held.now }
+{
+    match held.next_stamp() {
+        Some(stamp) => stamp,
+        None => u64::MAX,
+    }
+}
+
+/// The text of the present state, with the stamp of the next call. The error is want of memory.
+pub fn present_dump(alloc: Global, held: &Kept) -> Result<Vec<u8>, AllocError>
+    ensures { IfOk result (λ text. text.items ≡ text_of (next_stamp held.now) held.now.present) }
+{
+    dump_table(alloc, held.present(), stamp_of(held))
+}
+
+/// A record on the heap that goes on from what was loaded. The error is want of memory.
+fn boxed_resume(alloc: Global, loaded: Loaded, counts: &[u64]) -> Result<Box<Kept>, AllocError>
+    requires below { IsBelow loaded.stamp loaded.table }
+    requires before { sum counts.now < loaded.stamp }
+    ensures { IfOk result (λ held. held.value ≡ resumed loaded.table loaded.stamp counts.now held.value.room) }
+{
+    let Loaded { table, stamp } = loaded;
+    let held = Kept::resume(alloc, table, stamp, counts)?;
+    match Box::new(alloc, held) {
+        Ok(held) => Ok(held),
+        Err(_) => Err(AllocError),
+    }
+}
+
+impl PidtabRecord {
+    /// Opens a record that goes on as the text says, behind so many recorded calls of each worker. The result is the
+    /// status: `BUSY`; `OUT_OF_RANGE` for the number of workers; `BAD_TEXT` for the form, and `fault` says why;
+    /// `OUT_OF_RANGE` for the sum of the counts; `BAD_TEXT` for the table; `NO_MEMORY`.
+    pub fn load(
+        &mut self,
+        alloc: Global,
+        text: &[u8],
+        counts: &[u64],
+        fault: &mut FaultNumbers,
+    ) -> u32
+        ensures done { result ≡ DONE → Has self.new.handle.held (λ c. IsResumed text.now counts.now c) }
+        ensures workers { result ≡ DONE → HasWorkers counts.now }
+        ensures not_done { result ≢ DONE → self.new.handle.held ≡ self.old.handle.held }
+        ensures busy { (result ≡ BUSY) ↔ IsSome self.old.handle.held }
+        ensures no_workers { self.old.handle.held ≡ None → (HasWorkers counts.now → ⊥) → result ≡ OUT_OF_RANGE }
+        ensures out_of_range { result ≡ OUT_OF_RANGE → HasWorkers counts.now → HasTooManyCalls text.now counts.now }
+        ensures too_many { self.old.handle.held ≡ None → HasWorkers counts.now → TellsTooManyCalls text.now counts.now
+            → (result ≡ OUT_OF_RANGE) ⊎ (result ≡ NO_MEMORY) }
+        ensures bad_text { result ≡ BAD_TEXT → (1 ≤ fault.new.kind) × (fault.new.kind ≤ 12) }
+        ensures form { result ≡ BAD_TEXT → fault.new.kind ≤ 2 → IsNoText text.now }
+        ensures no_fault { result ≢ BAD_TEXT → fault.new ≡ no_fault }
+        ensures statuses { (result ≡ DONE) ⊎ ((result ≡ BUSY) ⊎ ((result ≡ OUT_OF_RANGE)
+            ⊎ ((result ≡ BAD_TEXT) ⊎ (result ≡ NO_MEMORY)))) }
+    {
+        *fault = FaultNumbers { line: 0, kind: 0 };
+        if self.is_open {
+            return BUSY;
+        }
+        if counts.is_empty() || counts.len() > MOST_WORKERS as usize {
+            return OUT_OF_RANGE;
+        }
+        texts_tell_states();
+        what_fits_is_of_words();
+        let saved = match read_text(alloc, text) {
+            Ok(saved) => saved,
+            Err(found) => return put_fault(RestoreFault::from(found), fault),
+        };
+        if !Kept::can_resume(saved.stamp, counts) {
+            return OUT_OF_RANGE;
+        }
+        let loaded = match table_of(alloc, &saved) {
+            Ok(loaded) => loaded,
+            Err(found) => return put_fault(found, fault),
+        };
+        let Ok(held) = boxed_resume(alloc, loaded, counts) else {
+            return NO_MEMORY;
+        };
+        self.put(held);
+        DONE
+    }
+}

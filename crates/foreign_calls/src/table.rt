@@ -1,0 +1,88 @@
+//! A table without a history, which a caller holds.
+ghost use Rattle.std.specs.Prelude.{◌≡◌, ◌↔◌, ◌⊎◌, Some, None, Err, IfOk, IfErr, OnOk, IfSome, is_some};
+ghost use Rattle.pid_types.specs.Settings.{HasGoodPidMax};
+ghost use Rattle.pid_types.specs.State.{root_state};
+
+use crate::handle::{Handle, null};
+use crate::loose::Loose;
+use crate::stamped::StampedTable;
+use crate::status::{NO_MEMORY, OUT_OF_RANGE};
+use pid_types::config::Config;
+use std::alloc::{AllocError, Global};
+use std::mem;
+
+/// A table for C, or none: zeroes are none.
+#[repr(C)]
+#[derive(Drop)]
+pub struct Pidtab {
+    pub handle: Handle,
+    pub is_open: bool,
+    ghost linked: { is_some handle.held ≡ is_open },
+}
+
+impl Pidtab {
+    /// What is held, which the handle has no more.
+    pub fn take(&mut self, alloc: Global) -> Option<Box<StampedTable>>
+        ensures held { IfSome result (λ held. self.old.handle.held ≡ Some held.value) }
+        ensures none { result ≡ None → self.old.handle.held ≡ None }
+        ensures new { self.new.handle.held ≡ None }
+    {
+        let Pidtab { handle, is_open } = mem::replace(
+            self,
+            Pidtab {
+                handle: Handle::empty(alloc, null()),
+                is_open: false,
+            },
+        );
+        if is_open {
+            Some(handle.into_loose(alloc).into_box())
+        } else {
+            None
+        }
+    }
+
+    /// Holds the table.
+    pub fn put(&mut self, held: Box<StampedTable>)
+        ensures { self.new.handle.held ≡ Some held.value }
+    {
+        *self = Pidtab {
+            handle: Handle::of(Loose::of(held)),
+            is_open: true,
+        };
+    }
+
+    /// Frees the table, if there is one, and leaves zeroes.
+    pub fn close(&mut self, alloc: Global)
+        ensures { self.new.handle.held ≡ None }
+    {
+        let _held = self.take(alloc);
+    }
+}
+
+/// A new table on the heap. The error is want of memory.
+fn boxed_table(alloc: Global, config: &Config) -> Result<Box<StampedTable>, AllocError>
+    ensures { IfOk result (λ held.
+        held.value ≡ record { state = root_state config.now.pid_max; stamp = config.now.first_stamp }) }
+{
+    let held = StampedTable::new(alloc, config)?;
+    match Box::new(alloc, held) {
+        Ok(held) => Ok(held),
+        Err(_) => Err(AllocError),
+    }
+}
+
+/// A new table on the heap, with the root init alone, whose numbers are below `pid_max`. The error is the status.
+pub fn new_table(alloc: Global, pid_max: u32) -> Result<Box<StampedTable>, u32>
+    ensures new { IfOk result (λ held. held.value ≡ record { state = root_state pid_max; stamp = 1 }) }
+    ensures good { OnOk result (HasGoodPidMax pid_max) }
+    ensures out_of_range { (result ≡ Err OUT_OF_RANGE) ↔ (HasGoodPidMax pid_max → ⊥) }
+    ensures err { IfErr result (λ status. (status ≡ OUT_OF_RANGE) ⊎ (status ≡ NO_MEMORY)) }
+{
+    let Ok(config) = Config::new(pid_max, 1) else {
+        return Err(OUT_OF_RANGE);
+    };
+    match boxed_table(alloc, &config) {
+        Ok(held) => Ok(held),
+        Err(_) => Err(NO_MEMORY),
+    }
+}

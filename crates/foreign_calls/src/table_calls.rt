@@ -1,0 +1,52 @@
+//! Calls on a table without a history, as numbers and as lines.
+ghost use Rattle.std.specs.Prelude.{◌≡◌, ◌≢◌, ◌≤◌, ◌↔◌, ◌⊎◌, IsTrue, length, take, drop};
+ghost use Rattle.pid_types.specs.Step.{may_grow};
+ghost use Rattle.pid_script.specs.Answers.{reply_text};
+ghost use Rattle.foreign_calls.specs.Numbers.{numbers_of};
+ghost use Rattle.foreign_calls.specs.Stamped.{after_call, reply_to};
+
+use crate::numbers::{ReplyNumbers, put_reply};
+use crate::stamped::StampedTable;
+use crate::status::{DONE, NO_MEMORY, SPENT, status_of};
+use crate::texts::write_reply;
+use pid_script::answer::LONGEST_ANSWER;
+use pid_types::call::Call;
+
+/// Makes the call, and tells its reply as numbers. The result is the status.
+pub fn call_table(held: &mut StampedTable, made: Call, reply: &mut ReplyNumbers) -> u32
+    ensures done { result ≡ DONE → held.new ≡ after_call held.old made }
+    ensures reply { result ≡ DONE → reply.new ≡ numbers_of (reply_to held.old made) }
+    ensures not_done { result ≢ DONE → (held.new ≡ held.old) × (reply.new ≡ reply.old) }
+    ensures spent { (result ≡ SPENT) ↔ (held.old.stamp ≡ u64.MAX) }
+    ensures no_memory { result ≡ NO_MEMORY → IsTrue (may_grow made) }
+    ensures statuses { (result ≡ DONE) ⊎ ((result ≡ SPENT) ⊎ (result ≡ NO_MEMORY)) }
+{
+    match held.make(made) {
+        Ok(told) => {
+            put_reply(&told, reply);
+            DONE
+        }
+        Err(fault) => status_of(fault),
+    }
+}
+
+/// Makes the call, and puts the text of its reply at the front of the room. The result is the status.
+pub fn line_table(held: &mut StampedTable, made: Call, answer: &mut [u8], size: &mut usize) -> u32
+    requires { LONGEST_ANSWER ≤ length answer.old }
+    ensures done { result ≡ DONE → held.new ≡ after_call held.old made }
+    ensures reply { result ≡ DONE → take size.new answer.new ≡ reply_text (reply_to held.old made) }
+    ensures fits { result ≡ DONE → size.new ≤ length answer.new }
+    ensures behind { result ≡ DONE → drop size.new answer.new ≡ drop size.new answer.old }
+    ensures not_done { result ≢ DONE
+        → (held.new ≡ held.old) × (answer.new ≡ answer.old) × (size.new ≡ size.old) }
+    ensures spent { (result ≡ SPENT) ↔ (held.old.stamp ≡ u64.MAX) }
+    ensures no_memory { result ≡ NO_MEMORY → IsTrue (may_grow made) }
+    ensures statuses { (result ≡ DONE) ⊎ ((result ≡ SPENT) ⊎ (result ≡ NO_MEMORY)) }
+{
+    let reply = match held.make(made) {
+        Ok(reply) => reply,
+        Err(fault) => return status_of(fault),
+    };
+    *size = write_reply(answer, made, reply);
+    DONE
+}

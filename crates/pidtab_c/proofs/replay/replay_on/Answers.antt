@@ -1,6 +1,0 @@
-use Rattle.pidtab_c.proofs.Replaying.{replays_next}
-use Rattle.pidtab_c.proofs.replay.replay_on.Goals as goal
-
-pub loop-i-preserved : goal.loop-i-preserved
-loop-i-preserved c =
-    replays_next _ c.args.saved.now _ _ c.loop-i.i _ c.loop-i-test.true c.loop-i.invariant (c.replay_one-status.ensures.done c.if-status-ne-DONE.false)
