@@ -14,7 +14,7 @@ use Rattle.script_session.specs.Session.{ended_at, Finishes, Leaves}
 use Rattle.script_session.specs.declared.job.JobFault.{JobFault}
 use Rattle.script_session.specs.declared.tally.RunScriptFault.{RunScriptFault}
 use Rattle.script_session.specs.declared.tally.Tally.{Tally}
-use Rattle.pid_workers.specs.declared.threads.RunFault.{RunFault}
+use Rattle.worker_jobs.specs.declared.fault.RunFault.{RunFault}
 use Rattle.pid_words.specs.declared.words.Command.{Command}
 use Rattle.pid_words.specs.declared.words.Command.TheVariants as command
 use Rattle.pid_words.specs.declared.words.WordsFault.{WordsFault}

@@ -10,9 +10,9 @@ use Rattle.pid_types.specs.declared.entry.Receipt.{Receipt}
 use Rattle.pid_types.specs.declared.reply.Reply.{Reply}
 use Rattle.kept_table.specs.Chronicle.{Chronicle}
 use Rattle.kept_table.specs.Promise.{KeepsPromise}
-use Rattle.pid_workers.specs.Job.{Fulfils}
-use Rattle.pid_workers.specs.Receipts.{IsAudited}
-use Rattle.pid_workers.specs.declared.result.Work.{Work}
+use Rattle.worker_jobs.specs.Job.{Fulfils}
+use Rattle.worker_jobs.specs.Receipts.{IsAudited}
+use Rattle.worker_jobs.specs.declared.result.Work.{Work}
 use Rattle.pid_script.specs.Script.{with_newline}
 use Rattle.script_session.specs.Progress.{start_of}
 use Rattle.script_session.specs.Session.{ended_at, Finishes, Leaves}

@@ -1,5 +1,5 @@
 use Rattle.std.proofs.Common.{rules, sym, ◌∙◌}
-use Rattle.pid_workers.proofs.Parts.{same_settings}
+use Rattle.pid_workers.proofs.Settings.{same_settings}
 use Rattle.pid_workers.proofs.threads.check_finished.Goals as goal
 
 pub returns-in-Ok-clause-kept : goal.returns-in-Ok-clause-kept
