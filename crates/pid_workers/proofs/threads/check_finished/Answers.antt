@@ -10,3 +10,6 @@ returns-in-Ok-clause-config g c = sym c.config.ensures ∙ same_settings c.confi
 
 pub returns-in-Ok-clause-audited : goal.returns-in-Ok-clause-audited
 returns-in-Ok-clause-audited g c = search rules
+
+pub returns-in-Ok-clause-fresh : goal.returns-in-Ok-clause-fresh
+returns-in-Ok-clause-fresh g c = search rules

@@ -1,0 +1,5 @@
+use Rattle.std.proofs.Common.{rules}
+use Rattle.pid_workers.proofs.threads.finish_all.Goals as goal
+
+pub returns-clause-jobs : goal.returns-clause-jobs
+returns-clause-jobs g c = search rules
