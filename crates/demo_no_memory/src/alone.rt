@@ -7,13 +7,13 @@ use crate::tell::{MOST_TRIES, tell, tell_answers};
 use anyhow::{Context, Result, bail, ensure};
 use locked_table::{Receipt, Record, Shared};
 use pid_script::answer::answer_text;
-use pid_script::job::{JobFault, read_job};
 use pid_types::call::Call;
 use pid_types::config::Config;
 use pid_types::device::{FromReader, ToWriter};
 use pid_workers::{
     OpenGate, RunFault, SeatDesk, Tally, Work, run, run_limited, run_state, run_workers, work,
 };
+use script_session::job::{JobFault, read_job};
 use std::alloc::{AllocError, Global};
 use std::marker::Brand;
 use std::sync::Wait;

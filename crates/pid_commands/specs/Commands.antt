@@ -8,13 +8,13 @@ use Rattle.pid_types.specs.State.{State}
 use Rattle.pid_types.specs.Step.{may_grow}
 use Rattle.pid_types.specs.declared.call.Call.{Call}
 use Rattle.pid_types.specs.declared.reply.Reply.{Reply}
-use Rattle.pid_script.specs.Job.{Refuses, Yields}
-use Rattle.pid_script.specs.Script.{start_of}
-use Rattle.pid_script.specs.Session.{ended_at, Finishes, Leaves}
-use Rattle.pid_script.specs.declared.job.JobFault.{JobFault}
-use Rattle.pid_script.specs.declared.tally.RunScriptFault.{RunScriptFault}
-use Rattle.pid_script.specs.declared.tally.Tally.{Tally}
-use Rattle.pid_workers.specs.declared.threads.RunFault.{RunFault}
+use Rattle.script_session.specs.Job.{Refuses, Yields}
+use Rattle.script_session.specs.Progress.{start_of}
+use Rattle.script_session.specs.Session.{ended_at, Finishes, Leaves}
+use Rattle.script_session.specs.declared.job.JobFault.{JobFault}
+use Rattle.script_session.specs.declared.tally.RunScriptFault.{RunScriptFault}
+use Rattle.script_session.specs.declared.tally.Tally.{Tally}
+use Rattle.worker_jobs.specs.declared.fault.RunFault.{RunFault}
 use Rattle.pid_words.specs.declared.words.Command.{Command}
 use Rattle.pid_words.specs.declared.words.Command.TheVariants as command
 use Rattle.pid_words.specs.declared.words.WordsFault.{WordsFault}

@@ -3,12 +3,12 @@ use Rattle.std.specs.Prelude.{ℕ, List, ◌++◌, codes, decimal, String, strin
 use Rattle.std.specs.declared.alloc.Global.{Global}
 use Rattle.pid_commands.specs.declared.fault.Fault.{Fault}
 use Rattle.pid_commands.specs.declared.fault.Fault.TheVariants.{Unreadable, TooLong, BadLine, Read, Write, TooManyTurns, NoMemory, Start, Audit}
-use Rattle.pid_workers.specs.declared.threads.RunFault.{RunFault}
-use Rattle.pid_workers.specs.declared.threads.RunFault.TheVariants as run
-use Rattle.pid_script.specs.declared.job.JobFault.{JobFault}
-use Rattle.pid_script.specs.declared.job.JobFault.TheVariants as job
-use Rattle.pid_script.specs.declared.tally.RunScriptFault.{RunScriptFault}
-use Rattle.pid_script.specs.declared.tally.RunScriptFault.TheVariants as script
+use Rattle.worker_jobs.specs.declared.fault.RunFault.{RunFault}
+use Rattle.worker_jobs.specs.declared.fault.RunFault.TheVariants as run
+use Rattle.script_session.specs.declared.job.JobFault.{JobFault}
+use Rattle.script_session.specs.declared.job.JobFault.TheVariants as job
+use Rattle.script_session.specs.declared.tally.RunScriptFault.{RunScriptFault}
+use Rattle.script_session.specs.declared.tally.RunScriptFault.TheVariants as script
 
 -- of a script
 abbrev pub of_script : RunScriptFault → Fault

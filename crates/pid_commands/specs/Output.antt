@@ -10,16 +10,17 @@ use Rattle.pid_types.specs.declared.entry.Receipt.{Receipt}
 use Rattle.pid_types.specs.declared.reply.Reply.{Reply}
 use Rattle.kept_table.specs.Chronicle.{Chronicle}
 use Rattle.kept_table.specs.Promise.{KeepsPromise}
-use Rattle.pid_workers.specs.Job.{Fulfils}
-use Rattle.pid_workers.specs.Receipts.{IsAudited}
-use Rattle.pid_workers.specs.declared.result.Work.{Work}
-use Rattle.pid_script.specs.Script.{with_newline, start_of}
-use Rattle.pid_script.specs.Session.{ended_at, Finishes, Leaves}
-use Rattle.pid_script.specs.declared.tally.RunScriptFault.{RunScriptFault}
+use Rattle.worker_jobs.specs.Job.{Fulfils}
+use Rattle.worker_jobs.specs.Receipts.{IsAudited}
+use Rattle.worker_jobs.specs.declared.result.Work.{Work}
+use Rattle.pid_script.specs.Script.{with_newline}
+use Rattle.script_session.specs.Progress.{start_of}
+use Rattle.script_session.specs.Session.{ended_at, Finishes, Leaves}
+use Rattle.script_session.specs.declared.tally.RunScriptFault.{RunScriptFault}
 use Rattle.pid_commands.specs.declared.fault.Fault.{Fault}
 use Rattle.pid_commands.specs.declared.fault.Fault.TheVariants.{NoMemory}
 use Rattle.pid_commands.specs.Faults.{of_script}
-use Rattle.pid_script.specs.declared.tally.Tally.{Tally}
+use Rattle.script_session.specs.declared.tally.Tally.{Tally}
 use Rattle.pid_script.specs.Answers.{reply_text}
 use Rattle.table_lines.specs.Listed.{list_of_state}
 

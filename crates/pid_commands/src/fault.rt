@@ -4,9 +4,9 @@ ghost use Rattle.std.specs.Io.KnownBytes.{Appends};
 ghost use Rattle.pid_script.specs.Script.{with_newline};
 ghost use Rattle.pid_commands.specs.Faults.{fault_line, of_job};
 
-use pid_script::job::JobFault;
-use pid_script::tally::RunScriptFault;
 use pid_workers::RunFault;
+use script_session::job::JobFault;
+use script_session::tally::RunScriptFault;
 use std::alloc::AllocError;
 use std::error::Error;
 use std::io::Write;
@@ -18,7 +18,7 @@ use std::{fmt, io};
 pub enum Fault {
     /// The job file cannot be opened, or a read of it failed.
     Unreadable(String),
-    /// The job file has more than [`pid_script::job::MOST_JOB_BYTES`] bytes.
+    /// The job file has more than [`script_session::job::MOST_JOB_BYTES`] bytes.
     TooLong(String),
     /// The line of the job file, counted from 1, is bad.
     BadLine(String, u64),

@@ -3,10 +3,10 @@ ghost use Rattle.std.specs.Prelude.{IfOk, IfErr};
 ghost use Rattle.pid_commands.specs.Commands.{AreRead, FailsToRead, FailsToReadFile, IsReadFrom};
 
 use crate::fault::Fault;
-use pid_script::job::read_job;
 use pid_types::call::Call;
 use pid_types::device::FromReader;
 use pid_workers::JobFiles;
+use script_session::job::read_job;
 use std::alloc::Global;
 use std::io::Read;
 use std::rt::Files;

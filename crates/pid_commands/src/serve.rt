@@ -6,7 +6,7 @@ ghost use Rattle.std.specs.Io.KnownBytes.{Appends};
 ghost use Rattle.pid_script.specs.Script.{with_newline};
 ghost use Rattle.pid_words.specs.declared.words.Command.{Command};
 ghost use Rattle.pid_words.specs.declared.words.WordsFault.{WordsFault};
-ghost use Rattle.pid_workers.specs.declared.threads.RunFault.{RunFault};
+ghost use Rattle.worker_jobs.specs.declared.fault.RunFault.{RunFault};
 ghost use Rattle.pid_commands.specs.Faults.{of_run};
 ghost use Rattle.pid_commands.specs.Output.{ListsScript, FailsToList, ShowsRun};
 ghost use Rattle.pid_commands.specs.Commands.{RunsInput, FailsToRunInput, WritesList};

@@ -1,4 +1,3 @@
-pub mod Names
 pub mod Cuts
 pub mod Digits
 pub mod Numbers
@@ -8,12 +7,7 @@ pub mod Commands
 pub mod Room
 pub mod Joined
 pub mod Kept
-pub mod Sent
-pub mod Progress
 pub mod Within
 pub mod Said
-pub mod Ends
-pub mod Turns
-pub mod Jobs
 pub mod Search
 pub mod Signed

@@ -1,9 +1,9 @@
 -- Numbers with their sign before a space.
-use Rattle.std.proofs.Common.{◌≡◌, ◌≢◌, ℕ, ◌^◌, ◌<◌, List, ◌∷◌, [], length, get_or, drop, Option, Some, None, sym, ap, ◌∙◌, arith, lit≤, ℤ, pos, option_and_then, option_map, refl, subst}
+use Rattle.std.proofs.Common.{◌≡◌, ℕ, ◌^◌, ◌<◌, List, ◌∷◌, [], length, get_or, drop, Option, Some, None, sym, ap, ◌∙◌, arith, lit≤, ℤ, option_and_then, option_map, refl, subst}
 use Rattle.std.proofs.lemmas.Grind.{common_steps}
 use Rattle.pid_script.specs.Reading.{cut, before, process_of, negative_of, signed_of, signed_then, IsUnsigned}
 use Rattle.pid_script.proofs.Cuts.{cut-Some}
-use Rattle.pid_script.proofs.Numbers.{number_below-missing, negative_of-missing, signed_of-plain, none-some, same_Some, option_and_then_some, get_or_append_left}
+use Rattle.pid_script.proofs.Numbers.{number_below-missing, signed_of-plain, none-some, same_Some, option_and_then_some, get_or_append_left}
 
 -- what begins with a minus sign
 pub minus_first : (words : List ℕ) → 0 < length words → get_or words 0 0 ≡ 45 → words ≡ 45 ∷ drop 1 words

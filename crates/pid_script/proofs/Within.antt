@@ -2,8 +2,8 @@
 use Rattle.std.proofs.Common.{◌≡◌, ℕ, ◌<◌, Bool, true, false, cond, eqb, leb, List, [], ◌∷◌, ◌++◌, length, length-append, Option, Some, None, refl, sym, ap, ◌∙◌, append_assoc, option_map, arith, leb-false, subst}
 use Rattle.std.proofs.lemmas.Bool.Decides.{nat_tests}
 use Rattle.std.proofs.lemmas.Option.{none-some, same_Some}
-use Rattle.pid_script.specs.Script.{said_by}
-use Rattle.pid_script.proofs.Names.{Line, kept_line, kept_more, said_within, kept_after}
+use Rattle.pid_script.specs.declared.line.Line.{Line}
+use Rattle.pid_script.specs.Script.{kept_line, kept_more, said_by, said_within, kept_after}
 use Rattle.pid_script.specs.Reading.{cut}
 use Rattle.pid_script.proofs.Cuts.{by_test, option_map_some}
 

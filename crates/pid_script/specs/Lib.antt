@@ -3,6 +3,3 @@ pub mod Reading
 pub mod Answers
 pub mod Script
 pub mod Lists
-pub mod Session
-pub mod Dialogue
-pub mod Job

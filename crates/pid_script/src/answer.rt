@@ -287,10 +287,7 @@ fn push_reply<const N: usize>(text: &mut ArrayVec<u8, N>, reply: &Reply)
 
 /// Appends the answer to a call, without its newline, as [`answer_text`] says it.
 #[inline(always)]
-pub(crate) fn push_answer<const N: usize>(
-    text: &mut ArrayVec<u8, N>,
-    answer: Result<&Reply, CallFault>,
-)
+pub fn push_answer<const N: usize>(text: &mut ArrayVec<u8, N>, answer: Result<&Reply, CallFault>)
     requires { length text.old.items + 362 ≤ N }
     ensures items { text.new.items ≡ text.old.items ++ answer_of (lent answer.entry) }
     ensures len { length text.new.items ≤ length text.old.items + 362 }

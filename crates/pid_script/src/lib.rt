@@ -2,20 +2,14 @@
 //! `docs/SCRIPT.md` says it for users.
 //!
 //! [`line::parse_line`], [`answer::answer_text`] and [`list::list_text`] are its three tables.
-//! [`session::run_script`] answers a script line by line, from any source to any sink on any table,
-//! and [`job::read_job`] reads one to its end before any call is made. Only lists and jobs take
-//! memory. The crate knows no table and starts no thread.
+//! [`part::PartLine`] is a line that comes in parts. Only lists take memory.
 #![tactic(auto)]
 
 pub mod answer;
-mod bytes;
+pub mod bytes;
 pub mod call;
-pub mod job;
 pub mod laws;
 pub mod line;
 pub mod list;
 pub mod number;
-mod outbox;
 pub mod part;
-pub mod session;
-pub mod tally;

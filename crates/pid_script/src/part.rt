@@ -68,7 +68,7 @@ impl PartLine {
 
     /// The same of a line of which something has come.
     #[tactic(auto, using(crate::proofs::Kept::said_by_kept))]
-    pub(crate) fn finish_kept(&mut self, end: &[u8]) -> Line
+    pub fn finish_kept(&mut self, end: &[u8]) -> Line
         ensures value { result ≡ said_by (kept_more self.old end.now) }
         ensures line { (part : List ℕ) → self.old ≡ kept_line part → result ≡ parsed (part ++ end.now) }
         ensures next { self.new ≡ Some [] }

@@ -1,5 +1,2 @@
-pub mod AtSeat
-pub mod Job
-pub mod Receipts
 pub mod Made
 pub mod MadeLaws

@@ -4,10 +4,10 @@ ghost use Rattle.kept_table.specs.Chronicle.{next_stamp};
 ghost use Rattle.pid_types.specs.State.{root_state};
 
 use locked_table::{Record, Seat};
-use pid_script::session::Table;
 use pid_types::call::Call;
 use pid_types::config::Config;
 use pid_types::reply::{CallFault, Reply};
+use script_session::session::Table;
 use std::alloc::{AllocError, Global};
 use std::sync::ledger::{Blank, Ledger};
 
@@ -42,7 +42,7 @@ impl<L: Ledger> OneSeat<L> {
 impl<L: Ledger> Table for OneSeat<L> {
     ghost use Rattle.std.specs.Prelude.{◌++◌};
     ghost use Rattle.kept_table.specs.Chronicle.{next_stamp, last_reply};
-    ghost use Rattle.pid_script.specs.Session.{any_call};
+    ghost use Rattle.script_session.specs.Session.{any_call};
     ghost use Rattle.pid_workers.specs.Made.{Makes};
     ghost use Rattle.pid_workers.specs.MadeLaws.{makes_nothing, makes_more};
 

@@ -6,19 +6,19 @@ ghost use Rattle.pid_types.specs.Step.{may_grow};
 ghost use Rattle.pid_types.specs.declared.call.Call.{Call};
 ghost use Rattle.pid_types.specs.declared.reply.Reply.{Reply};
 ghost use Rattle.pid_workers.specs.Made.{calls_of};
-ghost use Rattle.pid_script.specs.Script.{start_of, HasStopped};
-ghost use Rattle.pid_script.specs.declared.tally.RunScriptFault.TheVariants.{Write};
+ghost use Rattle.script_session.specs.Progress.{start_of, HasStopped};
+ghost use Rattle.script_session.specs.declared.tally.RunScriptFault.TheVariants.{Write};
 ghost use Rattle.pid_types.specs.Devices.{DidBoth};
-ghost use Rattle.pid_script.specs.Dialogue.{Converses};
-ghost use Rattle.pid_script.specs.Session.{any_call, ended_at, Finishes, Leaves};
+ghost use Rattle.script_session.specs.Dialogue.{Converses};
+ghost use Rattle.script_session.specs.Session.{any_call, ended_at, Finishes, Leaves};
 
 use crate::one_seat::OneSeat;
 use crate::short_seat::ShortSeat;
 use locked_table::Record;
-use pid_script::session::run_script;
-use pid_script::tally::{RunScriptFault, Tally};
 use pid_types::config::Config;
 use pid_types::device::{Sink, Source};
+use script_session::session::run_script;
+use script_session::tally::{RunScriptFault, Tally};
 use std::alloc::Global;
 use std::sync::ledger::{Blank, Ledger};
 

@@ -5,10 +5,10 @@ ghost use Rattle.pid_types.specs.State.{root_state};
 
 use crate::one_seat::OneSeat;
 use locked_table::{Record, Seat};
-use pid_script::session::Table;
 use pid_types::call::Call;
 use pid_types::config::Config;
 use pid_types::reply::{CallFault, Reply};
+use script_session::session::Table;
 use std::alloc::{AllocError, Global};
 use std::sync::ledger::{Blank, Ledger};
 

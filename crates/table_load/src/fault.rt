@@ -47,9 +47,9 @@ pub enum RestoreFault {
 }
 
 impl From<AllocError> for RestoreFault {
-    ghost use Rattle.std.specs.Prelude.{◌≡◌};
+    ghost use Rattle.table_load.specs.Faults.{IsOfForm};
 
-    ghost from_gives = { λ refused given. given ≡ RestoreFault.NoMemory };
+    ghost from_gives = { λ refused given. IsOfForm given → ⊥ };
 
     fn from(_refused: AllocError) -> RestoreFault {
         RestoreFault::NoMemory

@@ -2,11 +2,11 @@
 ghost use Rattle.std.specs.Prelude.{⊤, None, false, refl};
 
 use arrayvec::ArrayVec;
-use pid_script::session::{Table, run_dialogue};
-use pid_script::tally::{RunScriptFault, Tally};
 use pid_types::call::Call;
 use pid_types::device::{DeviceFault, Dialogue, Sink, Source};
 use pid_types::reply::{CallFault, Reply};
+use script_session::session::{Table, run_dialogue};
+use script_session::tally::{RunScriptFault, Tally};
 use std::process::Abort;
 use std::test::Fail;
 
@@ -17,7 +17,7 @@ struct Starved;
 impl Table for Starved {
     ghost use Rattle.std.specs.Prelude.{None};
     ghost use Rattle.pid_types.specs.State.{root_state};
-    ghost use Rattle.pid_script.specs.Session.{any_call};
+    ghost use Rattle.script_session.specs.Session.{any_call};
 
     ghost state = { λ _. root_state 300 };
 

@@ -2,9 +2,9 @@
 
 ghost use Rattle.std.specs.Prelude.{Some};
 
-use pid_script::job::{JobFault, MOST_JOB_BYTES, read_job};
 use pid_types::call::Call;
 use pid_types::device::{DeviceFault, FromReader, Source};
+use script_session::job::{JobFault, MOST_JOB_BYTES, read_job};
 use std::alloc::Global;
 use std::process::Abort;
 use std::test::Fail;

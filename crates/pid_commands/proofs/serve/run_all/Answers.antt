@@ -1,6 +1,6 @@
 use Rattle.std.proofs.Common.{sym, subst, ap, ◌∙◌, arith}
 use Rattle.pid_types.specs.State.{root_state}
-use Rattle.pid_workers.specs.Receipts.{IsAudited}
+use Rattle.worker_jobs.specs.Receipts.{IsAudited}
 use Rattle.pid_commands.proofs.serve.run_all.Goals as goal
 
 -- what the workers had, and the list

@@ -1,4 +1,4 @@
-use Rattle.std.proofs.Common.{sym, ◌∙◌, Some, None, rules}
+use Rattle.std.proofs.Common.{sym, Some, None, rules}
 use Rattle.pid_script.specs.Reading.{signed_of}
 use Rattle.pid_script.proofs.Signed.{unsigned_missed, found}
 use Rattle.pid_script.proofs.number.read_unsigned_then.Goals as goal

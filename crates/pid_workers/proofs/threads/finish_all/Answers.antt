@@ -1,40 +1,5 @@
-use Rattle.std.proofs.Common.{rules, arith, ◌≡◌, ◌<◌, length, vec_len, get_or, ap, ◌∙◌, subst}
-use Rattle.std.specs.Prelude.{IfOk}
-use Rattle.pid_workers.specs.Job.{Fulfils}
-use Rattle.pid_workers.proofs.Parts.{some_element}
+use Rattle.std.proofs.Common.{rules}
 use Rattle.pid_workers.proofs.threads.finish_all.Goals as goal
 
-pub close-kept-requires : goal.close-kept-requires
-close-kept-requires g c =
-    let dones = c.in_ok-dones.dones in
-    let many : vec_len dones ≡ g.row.N = search rules in
-    let some : 0 < length dones.items = omega (arith, many, dones.ok.0, c.requires.parts) in
-    let e = some_element dones.items some in
-    let j = some_element c.args.jobs.now (omega (arith, c.requires.jobs, c.requires.parts)) in (
-      search rules,
-      (
-        search rules,
-        (
-          search rules,
-          (
-            record {
-              len = omega (arith, c.in_ok-seats.ensures.len, many, c.in_ok-seats.seats.ok.0);
-              in_order = λ w d lt. ap (λ p. p.worker) (c.in_ok-seats.ensures.seats w d e (omega (arith, lt, many))) ∙ (c.in_ok-dones.ensures.each w e j lt).0;
-            },
-            (c.requires.parts.1, c.requires.parts.2),
-          ),
-        ),
-      ),
-    )
-
-pub returns-clause-works : goal.returns-clause-works
-returns-clause-works g c = search rules
-
 pub returns-clause-jobs : goal.returns-clause-jobs
-returns-clause-jobs g c =
-    let dones = c.in_ok-dones.dones in
-    let many : vec_len dones ≡ g.row.N = search rules in
-    let some : 0 < length dones.items = omega (arith, many, dones.ok.0, c.requires.parts) in
-    let e = some_element dones.items some in
-    λ w d j lt.
-    subst (λ (r : _). IfOk r (λ x. Fulfils (get_or c.args.jobs.now w j).items x.receipts.items x.refused)) (c.in_ok-seats.ensures.works w d e (omega (arith, lt, many))) (c.in_ok-dones.ensures.each w e j lt).1
+returns-clause-jobs g c = search rules

@@ -1,5 +1,0 @@
-use Rattle.std.proofs.Common.{rules}
-use Rattle.pid_script.proofs.session.answer_read.Goals as goal
-
-pub returns-then-is_empty-clause-told : goal.returns-then-is_empty-clause-told
-returns-then-is_empty-clause-told g c = search rules

@@ -1,6 +1,0 @@
-use Rattle.std.proofs.Common.{ℕ, ◌<◌}
-use Rattle.pid_workers.specs.Receipts.{IsAuditedAt}
-use Rattle.pid_workers.proofs.audits.audit.Given as goal
-
-abbrev pub invariant-loop-worker : goal.invariant-loop-worker
-invariant-loop-worker g l = (w : ℕ) → w < l.worker → IsAuditedAt l.kept l.works w

@@ -1,7 +1,0 @@
-use Rattle.std.proofs.Common.{◌≡◌, ◌≤◌, length, take}
-use Rattle.pid_workers.specs.Receipts.{receipts_kept}
-use Rattle.pid_workers.proofs.audits.skip_cut.Given as goal
-
-abbrev pub invariant-loop-i : goal.invariant-loop-i
-invariant-loop-i l =
-    (l.from ≤ l.i) × (l.i ≤ length l.receipts) × (receipts_kept l.first (take l.i l.receipts) ≡ receipts_kept l.first (take l.from l.receipts))

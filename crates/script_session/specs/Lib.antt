@@ -1,0 +1,4 @@
+pub mod Progress
+pub mod Session
+pub mod Dialogue
+pub mod Job

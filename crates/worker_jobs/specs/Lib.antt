@@ -1,0 +1,3 @@
+pub mod AtSeat
+pub mod Job
+pub mod Receipts
