@@ -52,9 +52,15 @@ class Service:
         return self._ask(POSITION, ":")
 
     def list_text(self) -> str:
-        """The list, as `pidtab list` writes it. One that the end of the service cuts off is none."""
+        """The list, as `pidtab list` writes it."""
         size = self._ask(LIST, "$")
-        return self._answers.read(size + 2)[:size].decode("latin-1")
+        try:
+            text = self._answers.read(size + 2)
+        except OSError:
+            text = b""
+        if len(text) < size:
+            raise self._fault("the service has ended")
+        return text[:size].decode("latin-1")
 
     def each_list(self, pause: float) -> Iterator[str]:
         """The list of now, and then each time that calls were recorded, with so many seconds between two looks."""

@@ -325,6 +325,11 @@ class Services(unittest.TestCase):
         path = self.serve(b"-NOPERM this user may not\r\n")
         self.assertEqual(launch("", "--socket", path).stderr, f"pidtab-tree: {path}: the service says NOPERM this user may not\n")
 
+    def test_one_that_ends_amid_its_list(self) -> None:
+        path = self.serve(b"$%d\r\n%s" % (len(WIDE_LIST), WIDE_LIST[:100].encode()))
+        done = launch("", "--socket", path)
+        self.assertEqual((done.returncode, done.stdout, done.stderr), (1, "", f"pidtab-tree: {path}: the service has ended\n"))
+
     def test_what_cannot_be_followed(self) -> None:
         for words, fault in ((("--follow",), "--follow is of a service"), (("--socket", "a", "--every", "0"), "a number of seconds above 0, not 0")):
             done = launch(WIDE_LIST, *words)
