@@ -1,12 +1,16 @@
 """The command that answers a script by real processes. Skipped where the machine makes none."""
 
+import importlib.util
 import subprocess
 import sys
 import unittest
 from pathlib import Path
 
 from harness.machine import Unable, look
+from pidtab.faults import ProgramMissing
+from pidtab.program import find_program
 
+COMPARE = Path(__file__).resolve().parent.parent.parent / "bindings/python/bin/pidtab-compare"
 COMMAND = [sys.executable, str(Path(__file__).resolve().parent.parent / "on_linux")]
 LINES = {"fork 1 new": "child 2 root 2", "fork 2": "child 2 root 3", "nspid 1 3": "3 2", "hello": "bad line", "getpid 9": "ESRCH no-caller"}
 
@@ -31,6 +35,17 @@ class OnLinux(unittest.TestCase):
                 self.assertEqual(world.stdout.readline(), f"{answer}\n", line)
             world.stdin.close()
             self.assertEqual((world.stdout.read(), world.wait(10)), ("", 0))
+
+    def test_by_the_test_kit(self) -> None:
+        if importlib.util.find_spec("hypothesis") is None:
+            self.skipTest("no Hypothesis")
+        try:
+            find_program()
+        except ProgramMissing as reason:
+            self.skipTest(str(reason))
+        words = ["--cases", "10", "--calls", "fork,getpid,getppid,exit,wait"]
+        done = subprocess.run([sys.executable, COMPARE, *words, *COMMAND, "--each"], capture_output=True, text=True, check=False)
+        self.assertRegex(done.stdout, r"\A10 cases, [0-9]+ calls: no difference\n\Z")
 
 
 if __name__ == "__main__":
