@@ -58,9 +58,14 @@ function belongs(word, number, task) {
   return found;
 }
 
+/** What somebody has called it, if somebody has. */
+function labelOf(task) {
+  return task.label ? [" ", span("label", `(${task.label})`)] : [];
+}
+
 function numbersOf(task) {
   const all = task.numbers.length > 1 ? span("nspid", `NSpid ${task.numbers.join(" ")}`) : null;
-  return span("numbers", make("b", {}, String(task.own)), " ", all);
+  return span("numbers", make("b", {}, String(task.own)), " ", all, ...labelOf(task));
 }
 
 function wordsOf(task) {
@@ -196,7 +201,8 @@ function homesOf(tasks) {
   if (tasks.length === 0) return null;
   const left = tasks.length - MOST_HOMES;
   const more = left > 0 ? ` and ${left.toLocaleString("en")} more` : "";
-  return span("fact homes", "tasks ", make("b", {}, tasks.slice(0, MOST_HOMES).map((task) => task.root).join(" ")), more);
+  const named = tasks.slice(0, MOST_HOMES).map((task) => (task.label ? `${task.root} (${task.label})` : task.root));
+  return span("fact homes", "tasks ", make("b", {}, named.join(" ")), more);
 }
 
 function controlRow({ control, depth, tasks }, marks) {

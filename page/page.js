@@ -3,6 +3,7 @@
 import { changesBetween, sayChanges } from "./changes.js";
 import { Controls, make, sayInside, Spaces } from "./draw.js";
 import { readFilter } from "./filter.js";
+import { labelText, readLabels, withLabels } from "./labels.js";
 import { whyBad } from "./language.js";
 import { hashOf, scriptOf } from "./link.js";
 import { readList } from "./list.js";
@@ -23,17 +24,20 @@ const ROWS_BEYOND = 200;
 const MOST_BYTES = 2 ** 26;
 
 const find = (id) => document.getElementById(id);
-const IDS = "example about pid-max editor gutter script answers back place on now spaces controls list fault link file filter found";
+const IDS = "example about pid-max editor gutter script answers back place on now spaces controls list fault link file filter found labels named";
 const fields = Object.fromEntries(IDS.split(" ").map((id) => [id, find(id)]));
 const examples = JSON.parse(find("examples").textContent);
 // What is shown: the lines with their answers, which of them has the first row that is drawn, and the table after one, counted from 1, where 0
-// is before the first, or that of a file: its list, what has changed in it, its drawings, and which namespaces somebody has opened or folded.
+// is before the first, or that of a file: its list as text, without labels and with them, what has changed in it, its drawings, and which namespaces
+// somebody has opened or folded.
 const shown = {
   lines: [],
   answers: [],
   place: 0,
   firstRow: 0,
   isFile: false,
+  text: "",
+  bare: null,
   listing: null,
   changes: null,
   spaces: null,
@@ -181,14 +185,33 @@ function drawNamespaces() {
   if (filter) fields.found.textContent = sayInside(shown.spaces.root);
 }
 
-/** Draws a table: its list, how that differs from the one before, and what is said of it. */
-function drawTable(list, before, words, more) {
-  shown.listing = readList(list);
-  shown.changes = changesBetween(before && readList(before), shown.listing);
+/** The labels that stand in their field; none where a line is no label, which is told below it. */
+function labelsOf() {
+  let [labels, words] = [new Map(), ""];
+  try {
+    labels = readLabels(fields.labels.value);
+  } catch (fault) {
+    words = fault.message;
+  }
+  fields.labels.setAttribute("aria-invalid", String(words !== ""));
+  fields.named.textContent = words;
+  return labels;
+}
+
+/** Draws the list with its labels. */
+function drawListing() {
+  shown.listing = withLabels(shown.bare, labelsOf());
   drawNamespaces();
   shown.controls = new Controls(shown.listing, shown.changes);
   fields.controls.replaceChildren(shown.controls.draw());
-  fields.list.textContent = list;
+  fields.list.textContent = labelText(shown.text, shown.listing);
+}
+
+/** Draws a table: its list, how that differs from the one before, and what is said of it. */
+function drawTable(list, before, words, more) {
+  Object.assign(shown, { text: list, bare: readList(list) });
+  shown.changes = changesBetween(before && readList(before), shown.bare);
+  drawListing();
   fields.now.replaceChildren(make("b", {}, words), make("span", {}, more(shown.changes)));
 }
 
@@ -365,6 +388,7 @@ function listen() {
   fields.editor.addEventListener("scroll", scrollRows);
   fields.file.addEventListener("change", openFile);
   fields.filter.addEventListener("input", drawNamespaces);
+  fields.labels.addEventListener("input", drawListing);
   fields.spaces.addEventListener("toggle", (event) => shown.spaces.toggle(event.target), true);
   fields.spaces.addEventListener("click", drawMore);
   fields.controls.addEventListener("click", drawMore);

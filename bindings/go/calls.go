@@ -5,8 +5,8 @@ import "C"
 
 // Child has the numbers of a new task.
 type Child struct {
-	Number uint32 // in the caller's namespace
-	Root   uint32 // in the root namespace, by which it is named as a caller
+	Number uint32 `json:"child"` // in the caller's namespace
+	Root   uint32 `json:"root"`  // in the root namespace, by which it is named as a caller
 }
 
 // Reaped is an ended child that a wait has taken away.
@@ -114,10 +114,7 @@ func (it calls) Wait(caller uint32, which Which) (*Reaped, error) {
 	if err != nil || reply.kind == C.PIDTAB_NONE_YET {
 		return nil, err
 	}
-	if reply.second == C.PIDTAB_KILLED {
-		return &Reaped{Child: uint32(reply.first), Killed: true}, nil
-	}
-	return &Reaped{Child: uint32(reply.first), Status: uint8(reply.second)}, nil
+	return reapedOf(uint64(reply.first), uint64(reply.second)), nil
 }
 
 // Getppid is the number of the caller's parent, 0 for one that it cannot see. Refused as no-caller.

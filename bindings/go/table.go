@@ -25,8 +25,9 @@ type Table struct {
 
 // A heldTable is a table of the library, with its lock. It stays where it is, and is never copied.
 type heldTable struct {
-	lock sync.Mutex
-	raw  C.struct_pidtab
+	lock   sync.Mutex
+	raw    C.struct_pidtab
+	labels map[uint32]string // of tasks by their root numbers
 }
 
 // Open makes a table with the root init alone, whose numbers are below pidMax. ErrOutOfRange for a pidMax outside 301 to 4194304,
@@ -75,9 +76,11 @@ func (table *Table) Line(line string) (string, error) {
 	held := table.held()
 	held.lock.Lock()
 	defer held.lock.Unlock()
-	return answer(line, func(line unsafe.Pointer, length C.size_t, room unsafe.Pointer, size *C.size_t) C.uint32_t {
+	said, err := answer(line, func(line unsafe.Pointer, length C.size_t, room unsafe.Pointer, size *C.size_t) C.uint32_t {
 		return C.pidtab_line(&held.raw, line, length, room, C.PIDTAB_LONGEST_ANSWER, size)
 	})
+	held.answered(said)
+	return said, err
 }
 
 // List is the list of the table, as `pidtab list` writes it. It costs the text, and twice that where it is longer than 4,096 bytes.
@@ -86,14 +89,19 @@ func (table *Table) List() (string, error) {
 	held := table.held()
 	held.lock.Lock()
 	defer held.lock.Unlock()
-	return wholeText(func(room unsafe.Pointer, most C.size_t, size *C.size_t) C.uint32_t {
-		return C.pidtab_list(&held.raw, room, most, size)
-	})
+	return held.list()
 }
 
-// Listing is the same list, read: the tasks, the namespaces and the control groups. ErrClosed, ErrNoMemory, ErrBusy.
+// Listing is the same list, read: the tasks with their labels, the namespaces and the control groups. ErrClosed, ErrNoMemory, ErrBusy.
 func (table *Table) Listing() (Listing, error) {
-	return readListOf(table.List())
+	held := table.held()
+	held.lock.Lock()
+	defer held.lock.Unlock()
+	listing, err := readListOf(held.list())
+	if err != nil || len(held.labels) == 0 {
+		return listing, err
+	}
+	return listing.WithLabels(held.labels), nil
 }
 
 // held is the table of the library; one that is not open where nobody has opened it.
@@ -108,7 +116,18 @@ func (table *Table) held() *heldTable {
 func (held *heldTable) step(call *C.struct_pidtab_call, reply *C.struct_pidtab_reply) C.uint32_t {
 	held.lock.Lock()
 	defer held.lock.Unlock()
-	return C.pidtab_call(&held.raw, call, reply)
+	status := C.pidtab_call(&held.raw, call, reply)
+	if len(held.labels) > 0 && status == C.PIDTAB_DONE && reply.kind == C.PIDTAB_FORKED {
+		held.forked(uint32(reply.second))
+	}
+	return status
+}
+
+// list is the list as text.
+func (held *heldTable) list() (string, error) {
+	return wholeText(func(room unsafe.Pointer, most C.size_t, size *C.size_t) C.uint32_t {
+		return C.pidtab_list(&held.raw, room, most, size)
+	})
 }
 
 func (held *heldTable) close() {

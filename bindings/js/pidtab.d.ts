@@ -75,6 +75,8 @@ export interface Task {
   /** The namespace of its children, where that is not its own. */
   children: bigint | null;
   subreaper: boolean;
+  /** A name from outside of the table, which `label` gives. */
+  label?: string;
 }
 
 /** A namespace; the root has no parent. */
@@ -102,6 +104,9 @@ export interface Listing {
 
 /** Reads a list as `listText`, or `pidtab list`, writes it. An Error names the first line that is none of a list. */
 export function readListing(text: string): Listing;
+
+/** A list, a task, the answer of a call or a Refusal as JSON in one line, as docs/list.schema.json has it; null where a call tells nothing. */
+export function toJson(value: Listing | Task | Space | Control | Stat | Forked | Reaped | Refusal | number | bigint | number[] | null | void): string;
 
 /** What may be asked and changes nothing. */
 export interface Queries {
@@ -177,6 +182,9 @@ export class Table implements Calls {
   static load(text: string | Uint8Array): Table;
   /** All that there is to know of the table, as text (docs/SCRIPT.md). It costs a copy of the table. */
   dump(): string;
+  /** Names a task, by its root number, in `list`; null takes the name away. It is no call, and the text of the table does not have it. The name goes
+   * when the number is another task's. A label is printable text of one line: else a RangeError. no-task. */
+  label(task: number, text: string | null): void;
 }
 export interface Table extends Calls {}
 

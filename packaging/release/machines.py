@@ -1,6 +1,7 @@
 """The machines that a release is for: how each is compiled for, tried, and named."""
 
 import dataclasses
+import os
 import platform
 import shutil
 
@@ -36,6 +37,7 @@ class Machine:
     def lacks(self):
         """What is not there of what it is compiled with, or nothing."""
         missing = [it for it in (self.compiler[0], f"{self.tools}objcopy") if shutil.which(it) is None]
+        missing += [file for word, _, file in (it.partition("=") for it in self.compiler) if word == "-specs" and not os.path.isfile(file)]
         return missing[0] if missing else ""
 
     def command(self, *words):

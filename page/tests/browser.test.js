@@ -69,6 +69,16 @@ describe("the page", { skip: missing() }, () => {
     }
   });
 
+  test("a label stands at its task, as a text", async () => {
+    const label = (text) =>
+      browser.value(`(() => { const it = document.getElementById("labels"); it.value = ${JSON.stringify(text)}; it.dispatchEvent(new Event("input"));
+        return [...document.querySelectorAll("#spaces .label")].map((it) => [it.closest(".task").dataset.root, it.textContent]); })()`);
+    await choose("container");
+    assert.deepEqual(await label("1 systemd\n2 <b>web</b>\n4194303 nobody"), [["1", "(systemd)"], ["2", "(<b>web</b>)"]]);
+    assert.ok((await browser.value(LIST)).includes(" (<b>web</b>)\n"));
+    assert.deepEqual(await label(""), []);
+  });
+
   test("the slider shows the table after each line", async () => {
     await choose("container");
     await focus("place");

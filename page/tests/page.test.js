@@ -162,3 +162,18 @@ test("a filter shows the tasks that it lets through, and says how many", async (
   fire("filter", "input", "");
   assert.deepEqual([find("found").textContent, find("filter").attributes["aria-invalid"]], ["", "false"]);
 });
+
+test("a label stands at its task in the drawing, beside its control group and in the list, as long as it is there", async () => {
+  const { find, fire, choose } = await loadPage(EXAMPLES, "");
+  await choose("web.list", LIST);
+  fire("labels", "input", "2 nginx\n9 nobody");
+  assert.ok(find("spaces").said.includes("1 NSpid 2 1 (nginx) "), find("spaces").said);
+  assert.ok(find("controls").said.includes("tasks 1 2 (nginx) 3"), find("controls").said);
+  assert.equal(find("list").textContent, LIST.replace(/^task 2,.*$/m, "$& (nginx)"));
+  fire("labels", "input", "2 nginx\nnginx 3");
+  assert.equal(find("named").textContent, "Line 2 of the labels is no root number with its label.");
+  assert.deepEqual([find("labels").attributes["aria-invalid"], find("list").textContent], ["true", LIST]);
+  fire("labels", "input", "1 systemd");
+  fire("script", "click");
+  assert.deepEqual([find("named").textContent, find("list").textContent.split("\n")[0].endsWith(" live (systemd)")], ["", true]);
+});

@@ -1,7 +1,7 @@
 //! What the service must know of the table and cannot ask it: who is whose child, who has ended and was not waited for, which namespaces and
 //! cgroups stand in which. Each call is noted with its reply, and the table is asked for the tasks that the call may have changed.
 use pidtab::{Call, Ended, Listing, Reply, Table};
-use std::collections::{BTreeMap, BTreeSet, HashMap};
+use std::collections::{BTreeSet, HashMap};
 use std::hash::{BuildHasherDefault, Hasher};
 
 /// The root init, which never ends, and so may always ask.
@@ -47,6 +47,24 @@ pub struct Kin {
     first_child: u32,
     before: u32,
     after: u32,
+    /// So many of its children have ended.
+    ended: u32,
+}
+
+impl Kin {
+    /// A task without children, in front of a sibling.
+    fn new(parent: u32, number: u32, space: u64, children: u64, after: u32) -> Kin {
+        let (is_zombie, born, first_child, before, ended) = (false, 0, 0, 0, 0);
+        Kin { parent, number, space, children, is_zombie, born, first_child, before, after, ended }
+    }
+
+    pub fn has_children(&self) -> bool {
+        self.first_child != 0
+    }
+
+    pub fn has_ended_children(&self) -> bool {
+        self.ended != 0
+    }
 }
 
 /// A namespace but the root's.
@@ -84,7 +102,7 @@ struct Doomed {
 pub struct Book {
     tasks: Numbers<u32, Kin>,
     /// Those that have ended, by their parents and their numbers there.
-    zombies: BTreeMap<(u32, u32), u32>,
+    zombies: Numbers<(u32, u32), u32>,
     spaces: Numbers<u64, Space>,
     /// Each cgroup but the root's, and the one above it.
     controls: Numbers<u64, u64>,
@@ -117,17 +135,9 @@ impl Book {
         let depths: Numbers<u32, usize> = listing.tasks.iter().map(|it| (it.root(), it.numbers.len())).collect();
         for task in &listing.tasks {
             let depth = depths.get(&task.parent).copied().unwrap_or(1);
-            let kin = Kin {
-                parent: task.parent,
-                number: task.numbers[depth - 1],
-                space: task.space,
-                children: task.children.unwrap_or(task.space),
-                is_zombie: task.ended.is_some(),
-                born: 0,
-                first_child: 0,
-                before: 0,
-                after: 0,
-            };
+            let children = task.children.unwrap_or(task.space);
+            let mut kin = Kin::new(task.parent, task.numbers[depth - 1], task.space, children, 0);
+            kin.is_zombie = task.ended.is_some();
             book.add(task.root(), kin, task.numbers.last() == Some(&1));
         }
         let all: Vec<_> = book.tasks.iter().map(|it| (*it.0, it.1.parent)).collect();
@@ -180,22 +190,22 @@ impl Book {
     pub fn children(&self, task: u32) -> impl Iterator<Item = (u32, &Kin)> {
         let mut at = self.tasks.get(&task).map_or(0, |it| it.first_child);
         std::iter::from_fn(move || {
-            let (this, kin) = (at, self.tasks.get(&at)?);
+            let this = Some(at).filter(|it| *it != 0)?;
+            let kin = self.tasks.get(&this)?;
             at = kin.after;
             Some((this, kin))
         })
     }
 
-    /// The ended children of a task, by their numbers in its namespace.
-    pub fn zombies(&self, task: u32) -> impl Iterator<Item = u32> + '_ {
-        let those = self.zombies.range((task, 0)..=(task, u32::MAX));
-        those.map(|it| it.0 .1)
+    /// Whether that child of a task has ended.
+    pub fn is_ended_child(&self, task: u32, number: u32) -> bool {
+        self.zombies.contains_key(&(task, number))
     }
 
     /// Who goes if the task ends: the members of its namespace and of those inside, where it is the init there.
     pub fn falls_with(&self, task: u32) -> Vec<u32> {
         let Some(space) = self.tasks.get(&task).map(|it| it.space) else { return Vec::new() };
-        if self.spaces.get(&space).is_none_or(|it| it.init != task) {
+        if space == 0 || self.spaces.get(&space).is_none_or(|it| it.init != task) {
             return Vec::new();
         }
         let inside = self.spaces.iter().filter(|it| self.is_inside(*it.0, space));
@@ -258,29 +268,27 @@ impl Book {
     }
 
     fn note_fork(&mut self, caller: u32, new_space: bool, child: &pidtab::Child, stamp: u64) {
-        let around = self.tasks.get(&caller).map_or(0, |it| it.children);
+        let Some(parent) = self.tasks.get_mut(&caller) else { return };
+        let around = parent.children;
+        let first = std::mem::replace(&mut parent.first_child, child.root);
+        if let Some(it) = self.sibling(first) {
+            it.before = child.root;
+        }
         let space = if new_space { stamp } else { around };
         if new_space {
             let (parent, init, members) = (around, child.root, BTreeSet::new());
             self.spaces.insert(space, Space { parent, init, members });
         }
-        let kin = Kin {
-            parent: caller,
-            number: child.number,
-            space,
-            children: space,
-            is_zombie: false,
-            born: stamp,
-            first_child: 0,
-            before: 0,
-            after: 0,
-        };
+        let mut kin = Kin::new(caller, child.number, space, space, first);
+        kin.born = stamp;
         self.add(child.root, kin, new_space);
-        self.link(child.root, caller);
     }
 
     fn tell_fork(&mut self, table: &mut Table, parent: u32, child: u32) {
-        let Some(space) = self.tasks.get(&child).map(|it| it.space).filter(|_| self.is_watched) else { return };
+        if !self.is_watched {
+            return;
+        }
+        let Some(space) = self.tasks.get(&child).map(|it| it.space) else { return };
         let control = table.stat(INIT, child).map_or(0, |it| it.control());
         let (spaces, controls) = (self.spaces_around(space), self.controls_above(control));
         self.events.push(Event { what: What::Forked { parent, child }, spaces, controls });
@@ -311,8 +319,16 @@ impl Book {
     fn become_zombie(&mut self, task: u32) {
         let Some(kin) = self.tasks.get_mut(&task) else { return };
         kin.is_zombie = true;
-        self.zombies.insert((kin.parent, kin.number), task);
-        self.stirred.push(kin.parent);
+        let (parent, number) = (kin.parent, kin.number);
+        self.add_zombie(parent, number, task);
+    }
+
+    fn add_zombie(&mut self, parent: u32, number: u32, task: u32) {
+        self.zombies.insert((parent, number), task);
+        if let Some(it) = self.tasks.get_mut(&parent) {
+            it.ended += 1;
+        }
+        self.stirred.push(parent);
     }
 
     /// The events of those that have ended; a namespace falls behind its init.
@@ -334,7 +350,9 @@ impl Book {
         }
         let Ok(stat) = table.stat(INIT, task) else { return self.remove(task) };
         let depth = table.stat(INIT, stat.parent()).map_or(1, |it| it.numbers().len());
-        self.unlink(task);
+        if let Some(kin) = self.tasks.get(&task).copied() {
+            self.unlink(&kin);
+        }
         if let Some(kin) = self.tasks.get_mut(&task) {
             kin.is_zombie = stat.ended().is_some();
             kin.number = stat.numbers()[depth - 1];
@@ -343,7 +361,7 @@ impl Book {
     }
 
     fn add(&mut self, task: u32, kin: Kin, is_init: bool) {
-        if let Some(space) = self.spaces.get_mut(&kin.space) {
+        if let Some(space) = self.space(kin.space) {
             space.members.insert(task);
             if is_init {
                 space.init = task;
@@ -353,42 +371,59 @@ impl Book {
     }
 
     fn remove(&mut self, task: u32) {
-        self.unlink(task);
         let Some(kin) = self.tasks.remove(&task) else { return };
+        self.unlink(&kin);
         if self.tells_gone {
             self.gone.push(task);
         }
-        if let Some(space) = self.spaces.get_mut(&kin.space) {
+        if let Some(space) = self.space(kin.space) {
             space.members.remove(&task);
         }
     }
 
+    /// A namespace; none for the root's, which is most often meant, and is not looked for.
+    fn space(&mut self, space: u64) -> Option<&mut Space> {
+        if space == 0 {
+            return None;
+        }
+        self.spaces.get_mut(&space)
+    }
+
+    /// A sibling, where the number is that of one.
+    fn sibling(&mut self, task: u32) -> Option<&mut Kin> {
+        if task == 0 {
+            return None;
+        }
+        self.tasks.get_mut(&task)
+    }
+
     /// Makes the task a child of the parent: the first one, and a zombie where it is one.
     fn link(&mut self, task: u32, parent: u32) {
-        let first = self.tasks.get(&parent).map_or(0, |it| it.first_child);
-        if let Some(it) = self.tasks.get_mut(&first) {
+        let first = self.tasks.get_mut(&parent).map_or(0, |it| std::mem::replace(&mut it.first_child, task));
+        if let Some(it) = self.sibling(first) {
             it.before = task;
-        }
-        if let Some(it) = self.tasks.get_mut(&parent) {
-            it.first_child = task;
         }
         let Some(kin) = self.tasks.get_mut(&task) else { return };
         (kin.parent, kin.before, kin.after) = (parent, 0, first);
         if kin.is_zombie {
-            self.zombies.insert((parent, kin.number), task);
-            self.stirred.push(parent);
+            let number = kin.number;
+            self.add_zombie(parent, number, task);
         }
     }
 
-    fn unlink(&mut self, task: u32) {
-        let Some(kin) = self.tasks.get(&task).copied() else { return };
-        if let Some(it) = self.tasks.get_mut(&kin.after) {
+    /// Takes a task from among its siblings.
+    fn unlink(&mut self, kin: &Kin) {
+        if let Some(it) = self.sibling(kin.after) {
             it.before = kin.before;
         }
-        if let Some(it) = self.tasks.get_mut(&kin.before) {
+        if let Some(it) = self.sibling(kin.before) {
             it.after = kin.after;
-        } else if let Some(it) = self.tasks.get_mut(&kin.parent) {
-            it.first_child = kin.after;
+        }
+        if let Some(parent) = self.tasks.get_mut(&kin.parent) {
+            parent.ended -= u32::from(kin.is_zombie);
+            if kin.before == 0 {
+                parent.first_child = kin.after;
+            }
         }
         if kin.is_zombie {
             self.zombies.remove(&(kin.parent, kin.number));
@@ -401,11 +436,12 @@ impl Book {
 mod tests {
     use super::*;
     use pidtab::{Calls, Which};
+    use std::collections::BTreeMap;
 
     /// What two books of one table must agree on.
     type Facts = (
         Vec<(u32, u32, u32, u64, u64, bool)>,
-        BTreeMap<(u32, u32), u32>,
+        Numbers<(u32, u32), u32>,
         BTreeMap<u64, (u64, u32, BTreeSet<u32>)>,
         BTreeMap<u64, u64>,
     );
@@ -466,6 +502,8 @@ mod tests {
                 let wanted = facts(&Book::of(&table.listing().expect("a list")));
                 assert_eq!(facts(&book), wanted, "seed {seed}, call {stamp}: {call:?} {reply:?}");
                 assert!(tasks.iter().all(|it| book.children(*it).all(|child| child.1.parent == *it)));
+                let ended = |it| book.children(it).filter(|child| child.1.is_zombie).count();
+                assert!(book.tasks.iter().all(|(task, kin)| ended(*task) == kin.ended as usize));
                 let children: usize = tasks.iter().map(|it| book.children(*it).count()).sum();
                 assert_eq!(children + 1, book.tasks().max(1));
             }
@@ -496,7 +534,7 @@ mod tests {
         ];
         let wanted = wanted.map(|what| Event { what, spaces: vec![1, 0], controls: vec![0] });
         assert_eq!(book.events, wanted);
-        assert_eq!(book.zombies(1).collect::<Vec<_>>(), [2]);
+        assert!(book.is_ended_child(1, 2) && !book.is_ended_child(1, 3));
     }
 
     #[test]

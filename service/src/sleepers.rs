@@ -46,11 +46,12 @@ impl Sleepers {
 /// Whether a wait would find nobody now, and may find somebody later.
 pub fn must_sleep(engine: &mut Engine, caller: u32, which: Which) -> bool {
     let Engine { book, table, .. } = engine;
-    if book.kin(caller).is_none_or(|it| it.is_zombie) {
-        return false;
-    }
+    let Some(kin) = book.kin(caller).filter(|it| !it.is_zombie) else { return false };
     if which == Which::Any {
-        return book.zombies(caller).next().is_none() && book.children(caller).next().is_some();
+        return kin.has_children() && !kin.has_ended_children();
+    }
+    if matches!(which, Which::Pid(number) if book.is_ended_child(caller, number)) {
+        return false;
     }
     let own = group_of(table, caller, 0);
     let mut is_meant = |number| match which {
@@ -59,12 +60,13 @@ pub fn must_sleep(engine: &mut Engine, caller: u32, which: Which) -> bool {
         // A group that the caller does not see is not told from others.
         _ => own == Some(0) || group_of(table, caller, number) == own,
     };
-    let ended: Vec<_> = book.zombies(caller).collect();
-    !ended.into_iter().any(&mut is_meant) && has_child(book, caller, is_meant)
+    !(kin.has_ended_children() && has_child(book, caller, true, &mut is_meant))
+        && has_child(book, caller, false, is_meant)
 }
 
-fn has_child(book: &Book, caller: u32, is_meant: impl FnMut(u32) -> bool) -> bool {
-    book.children(caller).map(|it| it.1.number).any(is_meant)
+/// Whether one of the children is meant, or one of those that have ended.
+fn has_child(book: &Book, caller: u32, is_ended: bool, mut is_meant: impl FnMut(u32) -> bool) -> bool {
+    book.children(caller).any(|it| (it.1.is_zombie || !is_ended) && is_meant(it.1.number))
 }
 
 fn group_of(table: &mut Table, caller: u32, pid: u32) -> Option<u32> {

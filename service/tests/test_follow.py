@@ -1,5 +1,7 @@
 """A follower has the leader's table, serves what is asked, and takes over; the viewer draws it."""
+import json
 import random
+import signal
 import subprocess
 import time
 import unittest
@@ -116,6 +118,13 @@ class Drawn(Case):
         by_list = subprocess.run(tree, input=client.say("LIST"), capture_output=True, text=True, check=True).stdout
         by_socket = subprocess.run([*tree, "--socket", one.socket], capture_output=True, text=True, check=True).stdout
         self.assertEqual(by_socket, by_list)
+        words = [*tree, "--socket", one.socket, "--follow", "--every", "0.02", "--json"]
+        with subprocess.Popen(words, stdout=subprocess.PIPE, text=True) as follows:
+            for tasks in (2, 3, 4):
+                self.assertEqual(len(json.loads(follows.stdout.readline())["tasks"]), tasks)
+                client.say("FORK 1")
+            follows.send_signal(signal.SIGINT)
+            self.assertEqual(follows.wait(10), 0)
         none = subprocess.run([*tree, "--socket", self.folder / "none"], capture_output=True, text=True, check=False)
         self.assertEqual((none.returncode, len(none.stderr.splitlines())), (1, 1))
 

@@ -156,7 +156,9 @@ export class Calls extends Queries {
     this._make(nothing, OPERATION.EXIT, caller, checkRange("status", status, 0, 255));
   }
 
-  wait(caller, which = {}) {
+  wait(caller, which) {
+    // As this is what most waits mean, it takes no object apart.
+    if (which === undefined) return this._make(anEndedChild, OPERATION.WAIT, caller);
     const [choice, number] = select(which);
     return this._make(anEndedChild, OPERATION.WAIT, caller, number, choice);
   }

@@ -28,6 +28,16 @@ export function headOf(text) {
   return { pidMax: Number(pidMax), stamp: BigInt(stamp) };
 }
 
+/** What is not printed, or ends a line. */
+const UNPRINTABLE = /(?! )[\p{C}\p{Z}]/u;
+
+/** The text, if it is a label. */
+function checkLabel(text) {
+  if (typeof text !== "string") throw new TypeError(`a label is a string, or null for none, not a ${typeof text}`);
+  if (text === "" || UNPRINTABLE.test(text)) throw new RangeError(`a label is some printable text of one line, not ${JSON.stringify(text)}`);
+  return text;
+}
+
 export class Table extends Calls {
   constructor({ pidMax = DEFAULT_PID_MAX } = {}) {
     super();
@@ -47,6 +57,7 @@ export class Table extends Calls {
 
   _begin(instance, pidMax) {
     this._instance = instance;
+    this._labels = new Map();
     this.pidMax = pidMax;
     this.ask = new Ask(this);
   }
@@ -61,6 +72,38 @@ export class Table extends Calls {
 
   _line(instance, length) {
     return instance.exports.line(length, ANSWER_ROOM);
+  }
+
+  fork(caller, options) {
+    const child = super.fork(caller, options);
+    if (this._labels.size > 0) this._labels.delete(child.root);
+    return child;
+  }
+
+  _answerOfCall(text) {
+    return this._noted(super._answerOfCall(text));
+  }
+
+  _answer(text) {
+    return this._noted(super._answer(text));
+  }
+
+  /** The answer, of which a fork, as `child 2 root 3`, is noted: nobody has named its task. */
+  _noted(answer) {
+    if (this._labels.size > 0 && answer.startsWith("child ")) this._labels.delete(Number(answer.split(" ")[3]));
+    return answer;
+  }
+
+  label(task, text) {
+    const [root] = this.ask.stat(1, task).numbers;
+    if (text === null) this._labels.delete(root);
+    else this._labels.set(root, checkLabel(text));
+  }
+
+  list() {
+    const listing = super.list();
+    for (const task of listing.tasks) if (this._labels.has(task.root)) task.label = this._labels.get(task.root);
+    return listing;
   }
 
   dump() {

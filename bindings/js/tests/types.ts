@@ -1,6 +1,6 @@
 // What a user of the types writes, and what the compiler has to refuse. Nothing here is run.
 
-import { BadText, Entry, Forked, Listing, Queries, Reaped, Record, Refusal, Stat, Table } from "../pidtab.js";
+import { BadText, Entry, Forked, Listing, Queries, Reaped, Record, Refusal, Stat, Table, toJson } from "../pidtab.js";
 
 const table = new Table({ pidMax: 400 });
 const child: Forked = table.fork(1, { newSpace: true });
@@ -11,6 +11,10 @@ table.limit(group, null);
 table.move(child.root, Number(group));
 const listing: Listing = Table.load(table.dump()).list();
 const stat: Stat = table.ask.stat(1);
+table.label(child.root, "nginx");
+table.label(child.root, null);
+const label: string | undefined = listing.tasks[0].label;
+const json: string[] = [toJson(listing), toJson(stat), toJson(child), toJson(reaped), toJson(group), toJson(numbers), toJson(table.rm(group))];
 
 function count(queries: Queries): number {
   return queries.count();
@@ -34,7 +38,7 @@ try {
   if (fault instanceof BadText) console.log(fault.line, fault.why);
 }
 
-console.log(reaped?.status, numbers, listing, stat, ordinal);
+console.log(reaped?.status, numbers, listing, stat, ordinal, label, json);
 
 // @ts-expect-error: a number of a process is no text
 table.getpid("1");
@@ -46,5 +50,9 @@ table.ask.fork(1);
 const status: number = table.wait(1)!.status;
 // @ts-expect-error: a record has no calls, its seats have
 record.fork(1);
+// @ts-expect-error: a name is a text
+table.label(1, 5);
+// @ts-expect-error: a table tells no functions
+toJson(count);
 // @ts-expect-error: nobody sets it
 seat.ordinal = 1n;

@@ -179,7 +179,7 @@ class Calls(Queries, Listed, Owner):
 
         no-caller, too-deep, elsewhere, space-fallen, no-number, pids-limit.
         """
-        return self._make(Call(raw.FORK, index(caller), choice=bool(new)), A_CHILD)
+        return self._make(Call(raw.FORK, index(caller), 0, 0, bool(new)), A_CHILD)
 
     def exec(self, caller: int) -> None:
         """execve(2): the caller executes a program. no-caller."""
@@ -187,7 +187,7 @@ class Calls(Queries, Listed, Owner):
 
     def exit(self, caller: int, status: int = 0) -> None:
         """_exit(2) with a status of 0 to 255: the caller ends, and its namespace falls if it is the init there. no-caller, root-init."""
-        self._make(Call(raw.EXIT, index(caller), number=index(status)), NOTHING)
+        self._make(Call(raw.EXIT, index(caller), 0, index(status)), NOTHING)
 
     def wait(
         self, caller: int, pid: int | None = None, *, own: bool = False, group: int | None = None
@@ -197,7 +197,7 @@ class Calls(Queries, Listed, Owner):
         None where children match and none of them has ended. no-caller, no-child.
         """
         choice, number = select(pid, own, group)
-        return self._make(Call(raw.WAIT, index(caller), number=index(number), choice=choice), AN_ENDED_CHILD)
+        return self._make(Call(raw.WAIT, index(caller), 0, index(number), choice), AN_ENDED_CHILD)
 
     def setpgid(self, caller: int, pid: int = 0, group: int = 0) -> None:
         """setpgid(2): the task goes into the group; 0 is the caller, and the task.

@@ -8,6 +8,8 @@ from collections.abc import Callable
 from contextlib import AbstractContextManager, nullcontext
 from typing import BinaryIO
 
+from pidtab.bounds import check_seconds
+
 STANDARD_INPUT = "-"
 
 STATUS_DONE = 0
@@ -15,10 +17,21 @@ STATUS_FAULT = 1
 STATUS_USAGE = 2
 STATUS_INTERRUPTED = 130
 
+# What a terminal takes for an empty screen.
+CLEAR = "\x1b[H\x1b[2J"
+
 
 def parser_of(name: str, about: str) -> argparse.ArgumentParser:
     """Reads the words of a command line; wrong ones end the program with status 2."""
     return argparse.ArgumentParser(prog=name, description=about, allow_abbrev=False)
+
+
+def seconds_of(word: str) -> float:
+    """A number of seconds of the command line."""
+    try:
+        return check_seconds("--every", float(word))
+    except ValueError:
+        raise argparse.ArgumentTypeError(f"a number of seconds above 0, not {word}") from None
 
 
 def open_script(name: str) -> AbstractContextManager[BinaryIO]:

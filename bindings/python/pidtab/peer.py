@@ -18,6 +18,9 @@ PATIENCE = 10.0
 
 ROOM = 65536
 
+# What a command answers, perhaps with a reason behind it, where it has made no such call.
+NOT_ASKED = "n/a"
+
 # The commands whose first number is the id of a control group, and the place of the id among the arguments where it is not the first.
 OF_CONTROL = ("mk", "rm", "limit", "count")
 
@@ -161,12 +164,15 @@ class CommandPeer:
     def answer(self, line: str) -> str:
         """Its answer, or how it ended, or that it did not answer."""
         assert self._child.stdin
-        self._asked.append(line)
         try:
             os.write(self._child.stdin.fileno(), f"{line}\n".encode())
         except BrokenPipeError:
             return self._end()
-        return self._receive()
+        answer = self._receive()
+        if answer.partition(" ")[0] == NOT_ASKED:
+            raise LeftOut
+        self._asked.append(line)
+        return answer
 
     def _receive(self) -> str:
         """The next line that it writes."""

@@ -10,8 +10,7 @@ from dataclasses import dataclass
 
 from pidtab.accounts import Accounts
 from pidtab.blocks import Followed, follow_file, follow_service
-from pidtab.bounds import check_seconds
-from pidtab.command import STATUS_DONE, STATUS_FAULT, STATUS_USAGE, complain, finish, parser_of
+from pidtab.command import CLEAR, STATUS_DONE, STATUS_FAULT, STATUS_USAGE, complain, finish, parser_of, seconds_of
 from pidtab.faults import BadHistory, BadText, LibraryFault
 from pidtab.listing import Control, Listing
 
@@ -19,9 +18,6 @@ ABOUT = """Shows the namespaces and control groups of a table that others use: t
 anew each second, until an interrupt; else once."""
 
 STANDARD_OUTPUT = "-"
-
-# What a terminal takes for an empty screen.
-CLEAR = "\x1b[H\x1b[2J"
 
 
 @dataclass(frozen=True)
@@ -127,14 +123,6 @@ def watch(followed: Followed, given: argparse.Namespace) -> None:
         if not given.again:
             break
         time.sleep(given.every)
-
-
-def seconds_of(word: str) -> float:
-    """A number of seconds of the command line."""
-    try:
-        return check_seconds("--every", float(word))
-    except ValueError:
-        raise argparse.ArgumentTypeError(f"a number of seconds above 0, not {word}") from None
 
 
 def read_command_line() -> argparse.Namespace:

@@ -3,14 +3,14 @@
 import argparse
 import gc
 import re
-import socket
 import sys
 from collections import Counter
-from collections.abc import Mapping, Sequence
+from collections.abc import Iterator, Mapping, Sequence
 from dataclasses import dataclass, field
 
-from pidtab.command import STATUS_DONE, STATUS_FAULT, STATUS_USAGE, complain, finish, open_script, parser_of
+from pidtab.command import CLEAR, STATUS_DONE, STATUS_FAULT, STATUS_USAGE, complain, finish, open_script, parser_of, seconds_of
 from pidtab.listing import BadList, Control, Listing, Space, Task, read_list
+from pidtab.service import Service
 
 ABOUT = "Reads on standard input what `pidtab list` writes, and draws its processes, namespaces and control groups as trees."
 COMMENT = "#"
@@ -271,6 +271,8 @@ def read_command_line() -> argparse.Namespace:
     parser.add_argument("--counts", action="store_true", help="with the tasks and the zombies of each namespace")
     parser.add_argument("--labels", metavar="FILE", help="with labels of tasks, from lines NUMBER WORD ..")
     parser.add_argument("--socket", metavar="PATH", help="the table of the service there, in the place of standard input")
+    parser.add_argument("--follow", action="store_true", help="draw the table of the service anew when it has changed, until an interrupt")
+    parser.add_argument("--every", type=seconds_of, default=1.0, metavar="SECONDS", help="how long a drawing stays at least, 1 by default")
     parser.add_argument("--json", action="store_true", help="write JSON in the place of a drawing")
     parser.add_argument("--diff", nargs=2, metavar=("BEFORE", "NOW"), help="write what has changed between the lists of two files; - is standard input")
     given = parser.parse_args()
@@ -282,29 +284,21 @@ def read_command_line() -> argparse.Namespace:
         parser.error("--diff has no labels")
     if given.diff and given.socket:
         parser.error("--diff is of two files, and --socket of none")
+    if given.follow and not given.socket:
+        parser.error("--follow is of a service: --socket names it")
     return given
 
 
-def ask_service(path: str) -> str:
-    """The list of the service with that socket, by one bulk string of Redis's protocol."""
-    with socket.socket(socket.AF_UNIX) as service:
-        service.connect(path)
-        service.sendall(b"*1\r\n$11\r\nPIDTAB.LIST\r\n")
-        with service.makefile("rb") as answers:
-            head = answers.readline()
-            if not re.fullmatch(rb"\$[0-9]+\r\n", head):
-                raise BadList(f"{path}: the service says {head[1:].strip().decode('latin-1') or 'nothing'}")
-            return answers.read(int(head[1:])).decode("latin-1")
-
-
-def read_text(path: str | None) -> str:
-    """The list that is to be drawn: of a service, or of standard input."""
-    if path is None:
-        return sys.stdin.buffer.read().decode("latin-1")
-    try:
-        return ask_service(path)
-    except OSError as fault:
-        raise BadList(f"{path}: {fault.strerror or fault}") from None
+def read_texts(given: argparse.Namespace) -> Iterator[str]:
+    """The lists that are to be drawn: that of standard input, or of a service, where there may be more to come."""
+    if given.socket is None:
+        yield sys.stdin.buffer.read().decode("latin-1")
+        return
+    with Service(given.socket) as service:
+        if given.follow:
+            yield from service.each_list(given.every)
+        else:
+            yield service.list_text()
 
 
 def read_file(name: str) -> Listing:
@@ -316,34 +310,51 @@ def read_file(name: str) -> Listing:
         raise BadList(f"{name}: {fault}") from None
 
 
-def written(given: argparse.Namespace) -> list[str]:
-    """The lines that are asked for."""
-    if given.diff:
-        changes = read_file(given.diff[1]) - read_file(given.diff[0])
-        return [f"{changes.to_json()}\n" if given.json else str(changes)]
-    labels = read_labels(given.labels) if given.labels else {}
+def drawn(text: str, labels: Mapping[str, str], given: argparse.Namespace) -> list[str]:
+    """The lines of a list, as they are asked for."""
     if given.json:
-        named = read_list(read_text(given.socket)).with_names({int(root): label for root, label in labels.items()})
+        named = read_list(text).with_names({int(root): label for root, label in labels.items()})
         return [f"{named.to_json()}\n"]
     wishes = Wishes(ASCII if given.ascii else INDENTED, given.depth, given.root, given.counts, labels)
-    return draw_trees(read_trees(read_text(given.socket)), wishes)
+    return draw_trees(read_trees(text), wishes)
+
+
+def written(given: argparse.Namespace) -> Iterator[list[str]]:
+    """The lines that are asked for, of one list behind the other."""
+    if given.diff:
+        changes = read_file(given.diff[1]) - read_file(given.diff[0])
+        yield [f"{changes.to_json()}\n" if given.json else str(changes)]
+        return
+    labels = read_labels(given.labels) if given.labels else {}
+    # A terminal is cleared; elsewhere drawings have an empty line between them, and lines of JSON have none.
+    before = CLEAR if given.follow and sys.stdout.isatty() else ""
+    for text in read_texts(given):
+        yield [before, *drawn(text, labels, given)]
+        before = before or "\n" * (not given.json)
 
 
 def run() -> int:
     """Draws standard input, or the table of a service."""
     given = read_command_line()
-    # All that is made here is kept to the end.
-    gc.disable()
+    if not given.follow:
+        # All that is made here is kept to the end.
+        gc.disable()
     try:
-        lines = written(given)
+        for lines in written(given):
+            # By lines, as Python without buffers loses what one long write leaves over.
+            sys.stdout.writelines(lines)
+            sys.stdout.flush()
+    except KeyboardInterrupt:
+        if not given.follow:
+            raise
+    except BrokenPipeError:
+        raise
     except OSError as fault:
         return complain(f"pidtab-tree: cannot read {fault.filename}: {fault.strerror}", STATUS_USAGE)
     except BadLabels as fault:
         return complain(f"pidtab-tree: {fault}", STATUS_USAGE)
     except BadList as fault:
         return complain(f"pidtab-tree: {fault}", STATUS_FAULT)
-    # By lines, as Python without buffers loses what one long write leaves over.
-    sys.stdout.writelines(lines)
     return STATUS_DONE
 
 

@@ -239,7 +239,8 @@ class Statuses(unittest.TestCase):
 
     def test_no_memory_for_a_table(self) -> None:
         functions = SimpleNamespace(pidtab_open=mock.Mock(return_value=raw.NO_MEMORY))
-        with mock.patch("pidtab.table.load_library", return_value=functions), self.assertRaises(MemoryError):
+        found = mock.patch.multiple("pidtab.table", find_library=lambda named: "none", load_library=lambda path: functions)
+        with found, self.assertRaises(MemoryError):
             Table()
 
 

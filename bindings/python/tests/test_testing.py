@@ -221,6 +221,13 @@ class Commands(unittest.TestCase):
             self.assertEqual(peer.answer("fork 1"), "no answer in 0.2 s")
             peer.close()
 
+    def test_one_that_leaves_a_call_out(self) -> None:
+        peer = CommandPeer(["sh", "-c", "read line; echo n/a too hard; read line; echo ok"], ["cat"])
+        self.addCleanup(peer.close)
+        with self.assertRaises(LeftOut):
+            peer.answer("fork 1")
+        self.assertEqual((peer.answer("exec 1"), peer.list_text()), ("ok", "exec 1\n"))
+
     def test_one_that_is_not_there(self) -> None:
         with self.assertRaisesRegex(RuntimeError, "^cannot start /no/such: No such file or directory$"):
             CommandPeer(["/no/such"])

@@ -1,12 +1,15 @@
 """The list as the stored run and docs/SCRIPT.md have it, and its drawing."""
 
 import os
+import socket
 import subprocess
 import sys
 import tempfile
+import threading
 import unittest
 
 from pidtab import BadList, Control, Listing, Space, Task, draw_list, read_list
+from pidtab.service import LIST, POSITION
 from tests.pages import REPOSITORY, blocks, read_page, section, stored_scripts
 
 # So many tasks are drawn in so many seconds, with room for a slow machine.
@@ -278,6 +281,60 @@ class Trees(unittest.TestCase):
         command = f"'{sys.executable}' '{LAUNCHER}' | head -1"
         done = subprocess.run(["sh", "-c", command], input="".join(lines), capture_output=True, text=True, check=False)
         self.assertEqual((done.stdout, done.stderr), ("processes\n", ""))
+
+
+class Services(unittest.TestCase):
+    """By a stand-in of the service."""
+
+    def serve(self, *answers: bytes) -> str:
+        """A socket at which each request gets the next of these answers, and which then ends: its path."""
+        folder = tempfile.TemporaryDirectory()
+        self.addCleanup(folder.cleanup)
+        path = f"{folder.name}/socket"
+        listening = socket.socket(socket.AF_UNIX)
+        listening.bind(path)
+        listening.listen()
+
+        def serve() -> None:
+            served, _ = listening.accept()
+            with served, listening:
+                for answer in answers:
+                    wanted = POSITION if answer.startswith(b":") else LIST
+                    self.assertEqual(served.recv(100), wanted)
+                    served.sendall(answer)
+
+        thread = threading.Thread(target=serve)
+        thread.start()
+        self.addCleanup(thread.join)
+        return path
+
+    def test_it_draws_anew_what_has_changed(self) -> None:
+        lists = [WIDE_LIST, WIDE_LIST.replace("cursor 10", "cursor 11")]
+        texts = [b"$%d\r\n%s\r\n" % (len(it), it.encode()) for it in lists]
+        path = self.serve(b":3\r\n", texts[0], b":3\r\n", b":3\r\n", b":5\r\n", texts[1])
+        done = launch("", "--socket", path, "--follow", "--every", "0.01")
+        self.assertEqual(done.stdout, f"{WIDE_TREE}\n{WIDE_TREE.replace('cursor 10', 'cursor 11')}")
+        self.assertEqual((done.returncode, done.stderr), (1, f"pidtab-tree: {path}: the service has ended\n"))
+
+    def test_it_writes_a_line_of_json_for_each_change(self) -> None:
+        text = b"$%d\r\n%s\r\n" % (len(WIDE_LIST), WIDE_LIST.encode())
+        done = launch("", "--socket", self.serve(b":0\r\n", text, b":1\r\n", text), "--follow", "--every", "0.01", "--json")
+        self.assertEqual(done.stdout, 2 * f"{read_list(WIDE_LIST).to_json()}\n")
+
+    def test_one_that_refuses(self) -> None:
+        path = self.serve(b"-NOPERM this user may not\r\n")
+        self.assertEqual(launch("", "--socket", path).stderr, f"pidtab-tree: {path}: the service says NOPERM this user may not\n")
+
+    def test_one_that_ends_amid_its_list(self) -> None:
+        path = self.serve(b"$%d\r\n%s" % (len(WIDE_LIST), WIDE_LIST[:100].encode()))
+        done = launch("", "--socket", path)
+        self.assertEqual((done.returncode, done.stdout, done.stderr), (1, "", f"pidtab-tree: {path}: the service has ended\n"))
+
+    def test_what_cannot_be_followed(self) -> None:
+        for words, fault in ((("--follow",), "--follow is of a service"), (("--socket", "a", "--every", "0"), "a number of seconds above 0, not 0")):
+            done = launch(WIDE_LIST, *words)
+            self.assertEqual((done.returncode, done.stdout), (2, ""))
+            self.assertIn(fault, done.stderr)
 
 
 if __name__ == "__main__":

@@ -174,6 +174,8 @@ pub enum Error {
     /// As many calls are recorded and not saved as the bound lets there be, and the saver has failed or ended:
     /// [`Shared::wait_saved`](crate::Shared::wait_saved) says why.
     Unsaved,
+    /// A label is printable text of one line, and this one is not.
+    BadLabel,
 }
 
 impl Error {
@@ -211,6 +213,7 @@ impl fmt::Display for Error {
             Error::Again => to.write_str("another number of calls was recorded by now"),
             Error::Differs => to.write_str("a reply is not the saved one"),
             Error::Unsaved => to.write_str("too many calls are not saved, and the saver has failed or ended"),
+            Error::BadLabel => to.write_str("a label is printable text of one line"),
         }
     }
 }
@@ -224,7 +227,7 @@ impl From<Error> for io::Error {
         let kind = match error {
             Error::Refused { errno, .. } => kind_of(errno),
             Error::NoMemory => io::ErrorKind::OutOfMemory,
-            Error::OutOfRange => io::ErrorKind::InvalidInput,
+            Error::OutOfRange | Error::BadLabel => io::ErrorKind::InvalidInput,
             Error::Busy => kind_of(raw::BUSY as i32),
             Error::NotKept => kind_of(raw::NOT_KEPT as i32),
             Error::Again => kind_of(raw::AGAIN as i32),

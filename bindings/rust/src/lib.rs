@@ -27,6 +27,8 @@ mod calls;
 mod fault;
 #[cfg(test)]
 mod header;
+mod json;
+mod labels;
 mod listing;
 mod numbers;
 mod raw;
@@ -44,6 +46,7 @@ pub use saved::{Saved, SavedError, SavedFault};
 pub use shared::{Counts, Entry, Locked, Options, Record, Seat, Shared, Turn};
 pub use stat::Stat;
 
+use labels::Labels;
 use std::fmt;
 
 /// The numbers of a new task.
@@ -78,7 +81,7 @@ pub struct Reaped {
 /// ```compile_fail,E0004
 /// use pidtab::Error::*;
 /// fn all(it: pidtab::Error) {
-///     match it { Refused { .. } | NoMemory | Spent | OutOfRange | Busy | NotKept | Again | Differs | Unsaved => {} }
+///     match it { Refused { .. } | NoMemory | Spent | OutOfRange | Busy | NotKept | Again | Differs | Unsaved | BadLabel => {} }
 /// }
 /// ```
 ///
@@ -173,6 +176,7 @@ struct MoreMayCome;
 /// ```
 pub struct Table {
     raw: raw::Table,
+    labels: Labels,
 }
 
 impl Table {
@@ -185,7 +189,7 @@ impl Table {
     /// Where the library that was linked has another interface than this crate is written for.
     pub fn open(pid_max: u32) -> Result<Table, Error> {
         let raw = raw::Table::open(pid_max).map_err(Error::of)?;
-        Ok(Table { raw })
+        Ok(Table::over(raw))
     }
 
     /// A table as a text of [`Table::dump`] says: each later call has the answer that it would have had there. Any bytes may be given.
@@ -215,7 +219,13 @@ impl Table {
         let mut fault = raw::Fault::default();
         let loaded = raw::Table::load(text.as_ref(), &mut fault);
         let raw = loaded.map_err(|status| TextError::of(status, fault))?;
-        Ok(Table { raw })
+        Ok(Table::over(raw))
+    }
+
+    /// A table of which no task has a name.
+    fn over(raw: raw::Table) -> Table {
+        let labels = Labels::default();
+        Table { raw, labels }
     }
 
     /// All that there is to know of the table, as text: `docs/SCRIPT.md` has the form. One table has one text, on every machine. It costs a copy
@@ -244,7 +254,9 @@ impl Table {
     /// # Errors
     /// `Empty`, `Bad`; `NoMemory` for `fork` and `mk`, `Spent`, `Busy`.
     pub fn line(&mut self, line: impl AsRef<[u8]>) -> Result<String, LineError> {
-        texts::answer(|room, size| self.raw.line(line.as_ref(), room, size))
+        let answer = texts::answer(|room, size| self.raw.line(line.as_ref(), room, size))?;
+        self.labels.answered(&answer);
+        Ok(answer)
     }
 
     /// The list of the table, as `pidtab list` writes it. It costs the text, and twice that where it is longer than 4,096 bytes.
@@ -255,12 +267,12 @@ impl Table {
         texts::whole(|room, size| self.raw.list(room, size))
     }
 
-    /// The same list, read: the tasks, the namespaces and the control groups.
+    /// The same list, read: the tasks with their labels, the namespaces and the control groups.
     ///
     /// # Errors
     /// `NoMemory`, `Busy`.
     pub fn listing(&mut self) -> Result<Listing, Error> {
-        Ok(Listing::of(&self.list()?))
+        Ok(Listing::of(&self.list()?).with_labels(self.labels.iter()))
     }
 }
 
@@ -270,7 +282,9 @@ impl Calls for Table {
     fn call(&mut self, call: Call) -> Result<Reply, Error> {
         let mut reply = raw::Reply::BLANK;
         Error::unless_done(self.raw.call(&call.numbers(), &mut reply))?;
-        Ok(Reply::of(&reply))
+        let reply = Reply::of(&reply);
+        self.labels.replied(&reply);
+        Ok(reply)
     }
 }
 

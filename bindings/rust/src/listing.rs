@@ -1,4 +1,5 @@
 //! The list of a table, read.
+use crate::json::{array, or_null, quote, state};
 use crate::Ended;
 use std::collections::HashMap;
 use std::fmt;
@@ -249,34 +250,9 @@ fn read_control(words: &[&str]) -> Option<Control> {
     })
 }
 
-/// The items of an array of JSON.
-fn array<T>(items: &[T], object: fn(&T) -> String) -> String {
-    let objects: Vec<_> = items.iter().map(object).collect();
-    format!("[{}]", objects.join(","))
-}
-
-/// A number of JSON, or its word for none.
-fn or_null<T: fmt::Display>(number: Option<T>) -> String {
-    number.map_or_else(|| "null".into(), |it| it.to_string())
-}
-
-/// A string of JSON.
-fn quote(text: &str) -> String {
-    let escape = |it| match it {
-        '"' | '\\' => format!("\\{it}"),
-        '\0'..='\x1f' => format!("\\u{:04x}", it as u32),
-        _ => it.to_string(),
-    };
-    format!("\"{}\"", text.chars().map(escape).collect::<String>())
-}
-
 /// The fields of a task, as docs/list.schema.json has them.
 fn task_object(task: &Task) -> String {
-    let (state, status) = match task.ended {
-        None => ("live", None),
-        Some(Ended::Killed) => ("killed", None),
-        Some(Ended::Exited(status)) => ("exited", Some(status)),
-    };
+    let (state, status) = state(task.ended);
     format!(
         r#"{{"numbers":{},"space":{},"parent":{},"group":{},"session":{},"control":{},"state":"{state}","status":{},"executed":{},"children":{},"subreaper":{}{}}}"#,
         array(&task.numbers, u32::to_string),

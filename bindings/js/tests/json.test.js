@@ -1,0 +1,99 @@
+// What a table tells as JSON, which is that of all languages, and labels of its tasks.
+
+import assert from "node:assert/strict";
+import { test } from "node:test";
+
+import { readListing } from "../src/listing.js";
+import { toJson } from "../src/json.js";
+import { pidtab, skip } from "./package.js";
+import { read } from "../../../page/tests/stored.js";
+
+/** The answer of a call, or its refusal. */
+function replyTo(call) {
+  try {
+    return call();
+  } catch (refusal) {
+    assert.ok(refusal instanceof pidtab.Refusal, String(refusal));
+    return refusal;
+  }
+}
+
+/** The labels of all tasks that have one, by their root numbers. */
+const labelsOf = (table) => Object.fromEntries(table.list().tasks.filter(({ label }) => label).map(({ root, label }) => [root, label]));
+
+test("a list", () => {
+  assert.equal(`${toJson(readListing(read("bindings/example.list")))}\n`, read("bindings/example.json"));
+});
+
+test("what is none", () => {
+  assert.throws(() => toJson(() => 1), { name: "TypeError", message: "a table tells no function" });
+});
+
+test("replies", { skip }, () => {
+  const { Table, toJson } = pidtab;
+  const calls = [
+    (it) => it.fork(1, { newSpace: true }),
+    (it) => it.fork(2),
+    (it) => it.nspid(1, 3),
+    (it) => it.getpid(3),
+    (it) => it.mk(),
+    (it) => it.limit(5n, 0),
+    (it) => it.move(3, 5n),
+    (it) => it.fork(3),
+    (it) => it.count(5n),
+    (it) => it.next(1, "task", 9),
+    (it) => it.getpid(9),
+    (it) => it.wait(1),
+    (it) => it.join(1, 2),
+    (it) => it.fork(1),
+    (it) => it.exit(2, 7),
+    (it) => it.wait(1, { pid: 2 }),
+    (it) => it.wait(1, { pid: 4 }),
+  ];
+  const table = new Table();
+  assert.equal(calls.map((call) => `${toJson(replyTo(() => call(table)))}\n`).join(""), read("bindings/replies.json"));
+  const task =
+    '{"numbers":[1],"parent":0,"group":1,"session":1,"space":0,"control":0,"state":"live","status":null,"executed":false,"subreaper":false}';
+  assert.equal(toJson(table.ask.stat(1)), task);
+});
+
+test("a label is in the list and in its JSON, and not in the table", { skip }, () => {
+  const table = new pidtab.Table();
+  table.fork(1);
+  const [text, dump] = [table.listText(), table.dump()];
+  table.label(2, "x");
+  table.label(2, 'web "1"');
+  assert.deepEqual(labelsOf(table), { 2: 'web "1"' });
+  assert.ok(pidtab.toJson(table.list()).includes('"subreaper":false,"label":"web \\"1\\""}'), pidtab.toJson(table.list()));
+  assert.deepEqual([table.listText(), table.dump()], [text, dump]);
+  table.label(2, null);
+  assert.deepEqual(labelsOf(table), {});
+});
+
+test("a label goes when the number is another task's", { skip }, () => {
+  const table = new pidtab.Table({ pidMax: 301 });
+  // From the last number on the search for one begins there again.
+  for (let child = 0; child !== 300; ) {
+    if (child > 0) {
+      table.exit(child);
+      table.wait(1);
+    }
+    child = table.fork(1).root;
+  }
+  for (const fork of [() => table.fork(1), () => table.line("fork 1"), () => table.answers(["fork 1"])]) {
+    table.label(300, "short");
+    table.exit(300);
+    assert.deepEqual(labelsOf(table), { 300: "short" });
+    table.wait(1);
+    fork();
+    assert.equal(table.getpid(300), 300);
+    assert.deepEqual(labelsOf(table), {});
+  }
+});
+
+test("what is no label, and who is nobody", { skip }, () => {
+  const table = new pidtab.Table();
+  for (const text of ["", "a\nb", "\x07", "\u2028"]) assert.throws(() => table.label(1, text), RangeError, JSON.stringify(text));
+  for (const text of [5, undefined]) assert.throws(() => table.label(1, text), TypeError);
+  assert.throws(() => table.label(9, "x"), { word: "no-task" });
+});
