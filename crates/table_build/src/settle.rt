@@ -1,5 +1,6 @@
 //! The tasks of a text get their groups and parents, those that have ended end, and the placeholders go.
-ghost use Rattle.std.specs.Prelude.{◌≡◌, ◌≢◌, ℕ, ◌<◌, true, false, length, None, Some, IsSome, IsTrue, OnOk, IfOk, option_map, slice_get};
+ghost use Rattle.std.specs.Prelude.{◌≡◌, ◌≢◌, ℕ, ◌<◌, true, false, length};
+ghost use Rattle.std.specs.Prelude.{None, Some, IsSome, IsTrue, OnOk, IfOk, option_map, slice_get};
 ghost use Rattle.pid_types.specs.declared.plain.Row.{Row};
 ghost use Rattle.pid_numbers.specs.Numbering.{Identifier, identifier_at, number_of};
 ghost use Rattle.task_tree.specs.Tree.{parent_of};
